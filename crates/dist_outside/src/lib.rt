@@ -1,0 +1,25 @@
+//! The outside: sinks that take text, desks that have files, what can go wrong there, and the limits of a run.
+#![tactic(auto)]
+
+mod desk;
+mod limits;
+mod memory_desk;
+mod memory_sink;
+mod real_desk;
+mod sink;
+mod std_sink;
+mod trouble;
+mod whole;
+
+pub use desk::Desk;
+pub use limits::Limits;
+pub use memory_desk::MemoryDesk;
+pub use memory_sink::MemorySink;
+pub use real_desk::RealDesk;
+pub use sink::Sink;
+pub use std_sink::StdSink;
+pub use trouble::{Trouble, What, WorkError};
+pub use whole::{read_whole, write_whole};
+
+#[cfg(test)]
+mod tests;
