@@ -1,3 +1,5 @@
+pub mod FieldsRead
+pub mod Place
 pub mod Lines
 pub mod RawStanza
 pub mod FieldText

@@ -1,14 +1,14 @@
-ghost use Rattle.std.specs.Prelude.{◌≡◌, ◌<◌, ◌↔◌, Some, length, slice_get, IfSome, IsNone, All, Contains};
+ghost use Rattle.std.specs.Prelude.{◌≡◌, ◌<◌, ◌↔◌, [], ◌∷◌, ◌++◌, Some, length, map, slice_get, IsTrue, IfSome, IsNone, OnOk, All, Contains};
 
 use smallvec::SmallVec;
-use std::alloc::Global;
+use std::alloc::{AllocError, Global};
 use std::marker::Model;
 
 /// How many fields a stanza holds without an allocation. Nearly all stanzas of an archive have fewer.
 const INLINE_FIELDS: usize = 24;
 
 /// One field: its name and its value are slices of the text, and lines count from 1.
-#[derive(Clone, Copy)]
+#[derive(Clone, Copy, Debug, Default)]
 pub struct Field<'a> {
     pub name: &'a [u8],
     pub value: &'a [u8],
@@ -39,6 +39,29 @@ pub struct Stanza<'a> {
 
 impl<'a> Fields<'a> {
     ghost use Rattle.dist_control.specs.FieldText.{field_text};
+    ghost use Rattle.dist_control.specs.FieldsRead.{HasName};
+
+    pub(crate) fn new(alloc: Global) -> Fields<'a>
+        ensures { result ≡ [] }
+    {
+        Fields {
+            items: SmallVec::new(alloc),
+        }
+    }
+
+    pub(crate) fn push(&mut self, field: Field<'a>) -> Result<(), AllocError>
+        ensures ok { OnOk result (self.new ≡ self.old ++ field_text field.entry ∷ []) }
+    {
+        self.items.push(field)?;
+        Ok(())
+    }
+
+    /// Whether a field has this name, ASCII case apart.
+    pub(crate) fn has_name(&self, name: &[u8]) -> bool
+        ensures { IsTrue result ↔ HasName self.now name.now }
+    {
+        field_named(self.items.as_slice(), name).is_some()
+    }
 
     /// How many fields there are.
     pub fn len(&self) -> usize
@@ -66,11 +89,22 @@ impl<'a> Stanza<'a> {
         ensures named { IfSome result (λ field. IsSameName field.now.name.now name.now) }
         ensures missing { IsNone result ↔ All (λ field. ¬ IsSameName field.name name.now) self.now.fields }
     {
-        for field in self.fields.items.as_slice() {
-            if field.name.eq_ignore_ascii_case(name) {
-                return Some(field);
-            }
-        }
-        None
+        field_named(self.fields.items.as_slice(), name)
     }
+}
+
+ghost use Rattle.dist_control.specs.FieldText.{field_text};
+ghost use Rattle.dist_control.specs.Plain.{IsSameName};
+
+fn field_named<'f, 'a>(fields: &'f [Field<'a>], name: &[u8]) -> Option<&'f Field<'a>>
+    ensures found { IfSome result (λ field. Contains (map field_text fields.now) (field_text field.now)) }
+    ensures named { IfSome result (λ field. IsSameName field.now.name.now name.now) }
+    ensures missing { IsNone result ↔ All (λ field. ¬ IsSameName field.name name.now) (map field_text fields.now) }
+{
+    for field in fields {
+        if field.name.eq_ignore_ascii_case(name) {
+            return Some(field);
+        }
+    }
+    None
 }

@@ -6,6 +6,7 @@
 
 mod error;
 mod field_list;
+mod line;
 mod reader;
 
 pub use error::ControlError;
