@@ -1,12 +1,12 @@
 -- One step of a reader.
-use Rattle.std.proofs.Common.{◌≡◌, ◌≢◌, ℕ, ◌+◌, ◌<◌, Bool, true, false, List, [], ◌∷◌, ◌++◌, length, get_or, refl, sym, ap, ◌∙◌, subst, append_assoc}
+use Rattle.std.proofs.Common.{◌≡◌, ◌≢◌, ℕ, ◌+◌, ◌<◌, Bool, true, false, List, [], ◌∷◌, ◌++◌, length, get_or, refl, sym, ap, ◌∙◌, subst, append_assoc, arith}
 use Rattle.dist_control.specs.FieldText.{FieldText}
 use Rattle.dist_control.specs.FieldsRead.{IsOnlyReading, HasNoReading}
 use Rattle.dist_control.specs.Lines.{lines}
 use Rattle.dist_control.specs.Place.{IsAtStanza}
 use Rattle.dist_control.specs.Plain.{IsPlainReading, ArePlainReadings, PlainStanzas, IsReadSoFar}
 use Rattle.dist_control.specs.RawStanza.{RawStanza, run, raw_stanzas_from}
-use Rattle.dist_control.specs.Reader.{Takes, Refuses, ReadsOn}
+use Rattle.dist_control.specs.Reader.{HasNext, Takes, Refuses, ReadsOn}
 use Rattle.dist_control.specs.Unread.{Unread}
 use Rattle.dist_control.specs.declared.field_list.Stanza.{Stanza}
 use Rattle.dist_control.proofs.StanzaLemmas.{raw-begins}
@@ -22,6 +22,21 @@ raw_here line bytes = record { line = line; lines = run (lines bytes) }
 abbrev pub after_here : ℕ → List ℕ → List RawStanza
 after_here line bytes = raw_stanzas_from line false (lines bytes)
 
+some-left : (line : ℕ) (bytes : List ℕ) → raw_stanzas_from line true (lines bytes) ≢ [] → 0 < length bytes
+some-left line [] left = absurd (left refl)
+some-left line (byte ∷ bytes) left = omega arith
+
+-- what is known where a reader at a place has a next stanza
+record Goes (line : ℕ) (bytes : List ℕ) (refused : Bool) : Type 0 where
+  some : 0 < length bytes
+  going : refused ≡ false
+
+goes : (old : Unread) (line : ℕ) (bytes : List ℕ) (refused : Bool) → state line bytes refused ≡ old → HasNext old → Goes line bytes refused
+goes old line bytes refused is next = record {
+  some = some-left line bytes (λ none. next.left (ap (λ (reader : Unread). reader.left) (sym is) ∙ none));
+  going = ap (λ (reader : Unread). reader.refused) is ∙ next.going;
+}
+
 left-here : (old : Unread) (line : ℕ) (bytes : List ℕ) (refused : Bool) → state line bytes refused ≡ old → 0 < length bytes → IsAtStanza bytes →
     old.left ≡ raw_here line bytes ∷ after_here line bytes
 left-here old line bytes refused is some at = ap (λ (reader : Unread). reader.left) (sym is) ∙ raw-begins line bytes some (at some)
@@ -33,25 +48,25 @@ same_stanza stanza line fields on with =
     ap first on ∙ ap second with
 
 pub takes : (old : Unread) (line : ℕ) (bytes : List ℕ) (refused : Bool) (fields : List FieldText) (left : List RawStanza) →
-    state line bytes refused ≡ old → refused ≡ false → 0 < length bytes → IsAtStanza bytes →
+    state line bytes refused ≡ old → HasNext old → IsAtStanza bytes →
     IsOnlyReading line (run (lines bytes)) fields → left ≡ after_here line bytes →
     Takes old (record { left = left; refused = refused }) (record { line = line; fields = fields })
-takes old line bytes refused fields left is going some at reading left_is = record {
+takes old line bytes refused fields left is next at reading left_is = record {
   raw = raw_here line bytes;
-  left = left-here old line bytes refused is some at ∙ ap (λ raws. raw_here line bytes ∷ raws) (sym left_is);
-  going = (ap (λ (reader : Unread). reader.refused) (sym is) ∙ going, going);
+  left = left-here old line bytes refused is (goes old line bytes refused is next).some at ∙ ap (λ raws. raw_here line bytes ∷ raws) (sym left_is);
+  going = (next.going, (goes old line bytes refused is next).going);
   reading = record { line = refl; fields = reading.spelled; distinct = reading.distinct };
   only = λ other reads. same_stanza other line fields reads.line (reading.only other.fields reads.fields);
 }
 
 pub refuses : (old : Unread) (line : ℕ) (bytes : List ℕ) (refused : Bool) →
-    state line bytes refused ≡ old → refused ≡ false → 0 < length bytes → IsAtStanza bytes →
+    state line bytes refused ≡ old → HasNext old → IsAtStanza bytes →
     HasNoReading line (run (lines bytes)) → Refuses old (state line bytes true)
-refuses old line bytes refused is going some at none = record {
+refuses old line bytes refused is next at none = record {
   raw = raw_here line bytes;
   rest = after_here line bytes;
-  left = left-here old line bytes refused is some at;
-  going = ap (λ (reader : Unread). reader.refused) (sym is) ∙ going;
+  left = left-here old line bytes refused is (goes old line bytes refused is next).some at;
+  going = next.going;
   none = λ stanza reads. none stanza.fields reads.fields reads.distinct;
   stops = ap (λ (reader : Unread). record reader { refused = true }) is;
 }

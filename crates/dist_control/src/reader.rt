@@ -64,7 +64,7 @@ impl<'a> Stanzas<'a> {
         ensures not_plain { IsErrOf result ControlError.NotPlain → Refuses self.old self.new }
         ensures no_memory { IsErrOf result ControlError.NoMemory → self.new ≡ self.old }
     {
-        if self.refused || self.rest.is_empty() {
+        if !self.has_next() {
             return Ok(None);
         }
         match read_fields(alloc, self.rest, self.line) {
