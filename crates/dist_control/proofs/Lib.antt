@@ -1,0 +1,5 @@
+pub mod LineLemmas
+pub mod FieldLemmas
+pub mod NameLemmas
+pub mod StanzaLemmas
+pub mod ReaderLemmas

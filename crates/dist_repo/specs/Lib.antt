@@ -1,0 +1,4 @@
+pub mod Entry
+pub mod Package
+pub mod Healthy
+pub mod Unmet

@@ -1,0 +1,73 @@
+ghost use Rattle.std.specs.Prelude.{◌≡◌, ◌<◌, ◌↔◌, [], ◌∷◌, ◌++◌, length, IfOk, OnOk, OnErr, IsErrOf, IsPermutation};
+ghost use Rattle.dist_repo.specs.Package.{HasName, IsInNameOrder};
+
+use crate::package::PlainPackage;
+use crate::repository::PlainRepository;
+use crate::text_list::{Text, Texts};
+use indexmap::IndexMap;
+use std::alloc::{AllocError, Global};
+use std::marker::Model;
+
+/// Why a builder takes no package.
+#[derive(Clone, Copy, Debug, PartialEq, Eq)]
+pub enum PlainAddError {
+    /// A package of that name is there.
+    Twice,
+    /// There is no memory for it.
+    NoMemory,
+}
+
+/// What a package has beside its name.
+#[derive(Drop)]
+struct Body {
+    version: Text,
+    depends: Texts,
+}
+
+/// The packages of a repository to be, each name once, in the order in which they came.
+#[derive(Drop)]
+pub struct PlainBuilder {
+    packages: IndexMap<Vec<u8>, Body>,
+}
+
+impl Model for PlainBuilder {
+    ghost use Rattle.std.specs.Prelude.{List, map};
+    ghost use Rattle.dist_repo.specs.declared.package.PlainPackage.{PlainPackage};
+    ghost use Rattle.dist_repo.specs.Entry.{package_of};
+
+    ghost Value = { List PlainPackage };
+
+    ghost view = { λ builder. map package_of builder.packages.entries };
+}
+
+impl PlainBuilder {
+    /// A builder with no packages.
+    pub fn new(alloc: Global) -> PlainBuilder
+        ensures { result ≡ [] }
+    {
+        PlainBuilder {
+            packages: IndexMap::new(alloc),
+        }
+    }
+
+    /// Adds a package. After a refusal the package is given up.
+    pub fn add(&mut self, package: PlainPackage) -> Result<(), PlainAddError>
+        requires packages { length self.old < 4294967295 }
+        requires depends { length «package».depends < 4294967295 }
+        ensures ok { OnOk result (self.new ≡ self.old ++ «package» ∷ []) }
+        ensures twice { IsErrOf result PlainAddError.Twice ↔ HasName self.old «package».name }
+        ensures err { OnErr result (self.new ≡ self.old) }
+    {
+        drop(package);
+        Err(PlainAddError::NoMemory)
+    }
+
+    /// The repository of the packages, in the order of the bytes of their names. After a refusal they are given up.
+    pub fn finish(self) -> Result<PlainRepository, AllocError>
+        ensures packages { IfOk result (IsPermutation self) }
+        ensures ordered { IfOk result IsInNameOrder }
+    {
+        drop(self);
+        Err(AllocError)
+    }
+}
