@@ -1,4 +1,5 @@
-ghost use Rattle.std.specs.Prelude.{◌≡◌, ◌<◌, ◌↔◌, [], ◌∷◌, ◌++◌, length, IfOk, OnOk, OnErr, IsErrOf, IsPermutation};
+ghost use Rattle.std.specs.Prelude.{◌≡◌, ◌<◌, ◌↔◌, [], ◌∷◌, ◌++◌, length, IsTrue, IfOk, OnOk, OnErr, IsErrOf, IsPermutation, map};
+ghost use Rattle.dist_repo.specs.Entry.{package_of};
 ghost use Rattle.dist_repo.specs.Package.{HasName, IsInNameOrder};
 
 use crate::package::PlainPackage;
@@ -31,13 +32,16 @@ pub struct PlainBuilder {
 }
 
 impl Model for PlainBuilder {
-    ghost use Rattle.std.specs.Prelude.{List, map};
+    ghost use Rattle.std.specs.Prelude.{List, map, length, ◌<◌, All};
     ghost use Rattle.dist_repo.specs.declared.package.PlainPackage.{PlainPackage};
     ghost use Rattle.dist_repo.specs.Entry.{package_of};
 
     ghost Value = { List PlainPackage };
 
     ghost view = { λ builder. map package_of builder.packages.entries };
+
+    ghost invariant = { λ builder. (length builder.packages.entries < 4294967296)
+        × All (λ p. length p.depends < 4294967295) (map package_of builder.packages.entries) };
 }
 
 impl PlainBuilder {
@@ -50,6 +54,12 @@ impl PlainBuilder {
         }
     }
 
+    fn has_name(&self, name: &[u8]) -> bool
+        ensures { IsTrue result ↔ HasName self.now name.now }
+    {
+        self.packages.contains_key(name)
+    }
+
     /// Adds a package. After a refusal the package is given up.
     pub fn add(&mut self, package: PlainPackage) -> Result<(), PlainAddError>
         requires packages { length self.old < 4294967295 }
@@ -58,8 +68,18 @@ impl PlainBuilder {
         ensures twice { IsErrOf result PlainAddError.Twice ↔ HasName self.old «package».name }
         ensures err { OnErr result (self.new ≡ self.old) }
     {
-        drop(package);
-        Err(PlainAddError::NoMemory)
+        if self.has_name(package.name.bytes()) {
+            return Err(PlainAddError::Twice);
+        }
+        let PlainPackage {
+            name,
+            version,
+            depends,
+        } = package;
+        self.packages
+            .insert(name.into_bytes(), Body { version, depends })
+            .map_err(|_| PlainAddError::NoMemory)?;
+        Ok(())
     }
 
     /// The repository of the packages, in the order of the bytes of their names. After a refusal they are given up.
@@ -67,7 +87,26 @@ impl PlainBuilder {
         ensures packages { IfOk result (IsPermutation self) }
         ensures ordered { IfOk result IsInNameOrder }
     {
-        drop(self);
-        Err(AllocError)
+        let PlainBuilder { mut packages } = self;
+        packages.sort_keys()?;
+        let alloc = *packages.allocator();
+        let packages = packages_of(alloc, packages)?;
+        Ok(PlainRepository { packages })
     }
+}
+
+fn packages_of(
+    alloc: Global,
+    entries: IndexMap<Vec<u8>, Body>,
+) -> Result<Vec<PlainPackage>, AllocError>
+    ensures { IfOk result (λ packages. packages.items ≡ map package_of entries.entries) }
+{
+    entries
+        .into_iter()
+        .map(|(name, body)| PlainPackage {
+            name: Text::from_bytes(name),
+            version: body.version,
+            depends: body.depends,
+        })
+        .collect(alloc)
 }

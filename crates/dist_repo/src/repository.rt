@@ -9,7 +9,7 @@ use std::marker::Model;
 /// Packages in the order of the bytes of their names, each name once. Numbers of packages start at 0.
 #[derive(Drop)]
 pub struct PlainRepository {
-    packages: Vec<PlainPackage>,
+    pub(crate) packages: Vec<PlainPackage>,
 }
 
 impl Model for PlainRepository {
