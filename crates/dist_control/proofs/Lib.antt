@@ -3,3 +3,4 @@ pub mod FieldLemmas
 pub mod NameLemmas
 pub mod StanzaLemmas
 pub mod ReaderLemmas
+pub mod Bounds

@@ -11,4 +11,5 @@ mod reader;
 
 pub use error::ControlError;
 pub use field_list::{Field, Fields, Stanza};
+pub use line::split_line;
 pub use reader::Stanzas;

@@ -20,7 +20,7 @@ pub(crate) fn is_in_stanza(bytes: &[u8]) -> bool
 }
 
 /// The first line, without its LF, and what comes after it.
-pub(crate) fn split_line(bytes: &[u8]) -> (&[u8], &[u8])
+pub fn split_line(bytes: &[u8]) -> (&[u8], &[u8])
     requires { 0 < length bytes.now }
     ensures lines { lines bytes.now ≡ result.0.now ∷ lines result.1.now }
     ensures shorter { length result.1.now < length bytes.now }

@@ -1,4 +1,4 @@
-ghost use Rattle.std.specs.Prelude.{◌≡◌, ◌+◌, ◌<◌, ◌^◌, ◌↔◌, Ok, None, true, false, length, IsTrue, IfOk, IfSome, IfNone, OnOk, IsErrOf};
+ghost use Rattle.std.specs.Prelude.{◌≡◌, ◌+◌, ◌<◌, ◌≤◌, ◌^◌, ◌↔◌, Ok, None, true, false, length, IsTrue, All, IfOk, IfSome, IfNone, OnOk, IsErrOf};
 ghost use Rattle.dist_control.specs.FieldsRead.{AddsLine, IsNoNewField, IsOnlyReading, HasNoReading};
 ghost use Rattle.dist_control.specs.Lines.{lines};
 ghost use Rattle.dist_control.specs.RawStanza.{run, raw_stanzas_from};
@@ -38,7 +38,9 @@ impl<'a> Stanzas<'a> {
 
     /// A reader at the start of a text.
     pub fn new(bytes: &'a [u8]) -> Stanzas<'a>
-        ensures { result ≡ record { left = raw_stanzas bytes.now; refused = false } }
+        ensures left { result ≡ record { left = raw_stanzas bytes.now; refused = false } }
+        ensures fewer { length result.left ≤ length bytes.now }
+        ensures shorter { All (λ raw. All (λ line. length line ≤ length bytes.now) raw.lines) result.left }
     {
         let (rest, line) = skip_empty_lines(bytes, 1);
         Stanzas {

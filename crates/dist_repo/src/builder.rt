@@ -1,6 +1,7 @@
-ghost use Rattle.std.specs.Prelude.{◌≡◌, ◌<◌, ◌↔◌, [], ◌∷◌, ◌++◌, length, IsTrue, IfOk, OnOk, OnErr, IsErrOf, IsPermutation, map};
+ghost use Rattle.std.specs.Prelude.{◌≡◌, ◌<◌, ◌↔◌, List, [], ◌∷◌, ◌++◌, length, IsTrue, IfOk, OnOk, OnErr, IsErrOf, IsPermutation, map};
 ghost use Rattle.dist_repo.specs.Entry.{package_of};
 ghost use Rattle.dist_repo.specs.Package.{HasName, IsInNameOrder};
+ghost use Rattle.dist_repo.specs.declared.package.PlainPackage.{PlainPackage};
 
 use crate::package::PlainPackage;
 use crate::repository::PlainRepository;
@@ -86,6 +87,7 @@ impl PlainBuilder {
     pub fn finish(self) -> Result<PlainRepository, AllocError>
         ensures packages { IfOk result (IsPermutation self) }
         ensures ordered { IfOk result IsInNameOrder }
+        ensures one { IfOk result (λ repository. (other : List PlainPackage) → IsPermutation self other → IsInNameOrder other → other ≡ repository) }
     {
         let PlainBuilder { mut packages } = self;
         packages.sort_keys()?;

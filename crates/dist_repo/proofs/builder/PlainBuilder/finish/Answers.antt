@@ -6,6 +6,7 @@ use Rattle.dist_repo.specs.Entry.{package_of}
 use Rattle.dist_repo.specs.Package.{IsInNameOrder}
 use Rattle.dist_repo.specs.declared.package.PlainPackage.{PlainPackage}
 use Rattle.dist_repo.proofs.EntryLemmas.{IsWithin}
+use Rattle.dist_repo.proofs.OneOrder.{one_order}
 use Rattle.dist_repo.proofs.OrderLemmas.{in-order, within-permuted}
 use Rattle.dist_repo.proofs.builder.PlainBuilder.finish.Goals as goal
 
@@ -27,3 +28,6 @@ invariant_of-result c =
     (omega (arith, c.self.invariant.0, length-map c.self.inside.packages.entries package_of), c.self.invariant.1) in
     let within = subst P (sym c.in_ok-packages.ensures) (within-permuted _ _ (IsPermutation-map package_of _ _ c.in_ok-sort_keys.ensures.reordered.0) before) in
     (returns-clause-ordered c, within.0, within.1)
+
+pub returns-clause-one : goal.returns-clause-one
+returns-clause-one c = λ other to ordered. one_order c.args.self _ other (returns-clause-packages c) to (returns-clause-ordered c) ordered
