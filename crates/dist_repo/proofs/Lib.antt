@@ -1,2 +1,4 @@
 pub mod EntryLemmas
 pub mod OrderLemmas
+pub mod PlaceLemmas
+pub mod MemberLemmas
