@@ -1,3 +1,5 @@
 pub mod EntryLemmas
 pub mod OrderLemmas
+pub mod PlaceLemmas
+pub mod MemberLemmas
 pub mod OneOrder

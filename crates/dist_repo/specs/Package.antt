@@ -18,3 +18,7 @@ IsInNameOrder packages = AllPairs (λ earlier later. slice_cmp nat_cmp earlier.n
 abbrev pub IsPackageAt : List PlainPackage → ℕ → (name version : List ℕ) → Type 0
 IsPackageAt packages number name version =
     IsSomeAnd (slice_get packages number) (λ p. (p.name ≡ name) × (p.version ≡ version))
+
+-- the package at this place, from 0, has this name
+abbrev pub IsNamedAt : List PlainPackage → ℕ → List ℕ → Type 0
+IsNamedAt packages place name = IsSomeAnd (slice_get packages place) (λ p. p.name ≡ name)

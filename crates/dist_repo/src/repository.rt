@@ -1,9 +1,13 @@
-ghost use Rattle.std.specs.Prelude.{◌≡◌, ◌<◌, ◌↔◌, ℕ, Some, length, slice_get, IsNone, IfSome};
-ghost use Rattle.dist_repo.specs.Healthy.{IsHealthy, members_of};
-ghost use Rattle.dist_repo.specs.Package.{IsInNameOrder, IsPackageAt};
-ghost use Rattle.dist_repo.specs.Unmet.{IsFirstUnmet};
+ghost use Rattle.std.specs.Prelude.{◌≡◌, ◌<◌, ◌↔◌, ℕ, Some, length, slice_get, All, IsTrue, IsNone, IfSome, MatchOption};
+ghost use Rattle.std.specs.Cmp.Lexicographic.{slice_cmp};
+ghost use Rattle.std.specs.Ordering.{nat_cmp};
+ghost use Rattle.dist_repo.specs.Healthy.{IsHealthy, IsMet, members_of};
+ghost use Rattle.dist_repo.specs.Package.{IsInNameOrder, IsNamedAt, IsPackageAt};
+ghost use Rattle.dist_repo.specs.Unmet.{IsFirstUnmet, IsFirstUnmetOf};
 
 use crate::package::PlainPackage;
+use crate::text_list::Texts;
+use std::cmp::Ordering;
 use std::marker::Model;
 
 /// Packages in the order of the bytes of their names, each name once. Numbers of packages start at 0.
@@ -46,10 +50,14 @@ impl PlainRepository {
     pub fn find(&self, name: &[u8], version: &[u8]) -> Option<u32>
         ensures { (number : ℕ) → (result ≡ Some number) ↔ IsPackageAt self.now number name.now version.now }
     {
-        let _ = &self.packages;
-        let _ = name;
-        let _ = version;
-        None
+        let Some(place) = self.place_of(name) else {
+            return None;
+        };
+        if self.packages[place].version.bytes() == version {
+            Some(place as u32)
+        } else {
+            None
+        }
     }
 
     /// Where a set of packages, one truth value per package, is not healthy: the number of the least member
@@ -59,8 +67,51 @@ impl PlainRepository {
         ensures healthy { IsNone result ↔ IsHealthy (members_of self.now members.now) }
         ensures first { IfSome result (λ found. IsFirstUnmet self.now members.now found.0 found.1) }
     {
-        let _ = &self.packages;
-        let _ = members;
+        for number in 0..members.len() {
+            if members[number] {
+                if let Some(place) = self.first_unmet(members, &self.packages[number].depends) {
+                    return Some((number as u32, place as u32));
+                }
+            }
+        }
+        None
+    }
+
+    /// The place of the package of a name.
+    fn place_of(&self, name: &[u8]) -> Option<usize>
+        ensures found { (place : ℕ) → (result ≡ Some place) ↔ IsNamedAt self.now place name.now }
+        ensures within { IfSome result (λ place. place < length self.now) }
+    {
+        let by_name = |p: &PlainPackage| -> Ordering
+            ensures { result ≡ slice_cmp nat_cmp p.now.name name.entry.now }
+        { p.name.bytes().cmp(name) };
+        match self.packages.as_slice().binary_search_by(by_name) {
+            Ok(place) => Some(place),
+            Err(_) => None,
+        }
+    }
+
+    /// Whether some member has the name.
+    fn is_met(&self, members: &[bool], dependency: &[u8]) -> bool
+        requires { length members.now ≡ length self.now }
+        ensures { IsTrue result ↔ IsMet (members_of self.now members.now) dependency.now }
+    {
+        match self.place_of(dependency) {
+            Some(place) => members[place],
+            None => false,
+        }
+    }
+
+    /// The place of the first dependency that no member meets.
+    fn first_unmet(&self, members: &[bool], depends: &Texts) -> Option<usize>
+        requires { length members.now ≡ length self.now }
+        ensures { MatchOption result (All (IsMet (members_of self.now members.now)) depends.now) (IsFirstUnmetOf (members_of self.now members.now) depends.now) }
+    {
+        for place in 0..depends.len() {
+            if !self.is_met(members, depends.get(place).bytes()) {
+                return Some(place);
+            }
+        }
         None
     }
 }
