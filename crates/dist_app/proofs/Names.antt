@@ -74,8 +74,8 @@ peel (name ∷ names) first [] rest names_are others_are is =
     absurd (not_cut 44 first name (32 ∷ begun names ++ rest) (name-no_comma first (All-head IsName first [] others_are)) (is ∙ append_assoc name (44 ∷ 32 ∷ begun names) rest))
 peel (name ∷ names) first (second ∷ more) rest names_are others_are is =
     let parts = cut_same 44 first name (32 ∷ joined (second ∷ more)) (32 ∷ begun names ++ rest)
-        (name-no_comma first (All-head IsName first (second ∷ more) others_are)) (name-no_comma name (All-head IsName name names names_are))
-        (is ∙ append_assoc name (44 ∷ 32 ∷ begun names) rest) in
+    (name-no_comma first (All-head IsName first (second ∷ more) others_are)) (name-no_comma name (All-head IsName name names names_are))
+    (is ∙ append_assoc name (44 ∷ 32 ∷ begun names) rest) in
     let tail : joined (second ∷ more) ≡ begun names ++ rest = let e = parts.1 in cc in
     let later = peel names second more rest (All-tail IsName name names names_are) (All-tail IsName first (second ∷ more) others_are) tail in
     record {
@@ -132,5 +132,9 @@ pub length-joined : (names : List (List ℕ)) → All IsName names → length na
 length-joined [] each = omega arith
 length-joined (name ∷ []) each = omega (arith, (All-head IsName name [] each).some)
 length-joined (name ∷ next ∷ names) each =
-    omega (arith, (All-head IsName name (next ∷ names) each).some, length-joined (next ∷ names) (All-tail IsName name (next ∷ names) each),
-        length-append name (44 ∷ 32 ∷ joined (next ∷ names)))
+    omega (
+      arith,
+      (All-head IsName name (next ∷ names) each).some,
+      length-joined (next ∷ names) (All-tail IsName name (next ∷ names) each),
+      length-append name (44 ∷ 32 ∷ joined (next ∷ names)),
+    )

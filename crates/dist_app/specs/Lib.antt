@@ -6,3 +6,4 @@ pub mod Outcome
 pub mod Status
 pub mod Refused
 pub mod PackagesSoFar
+pub mod Stages

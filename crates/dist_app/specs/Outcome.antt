@@ -66,7 +66,7 @@ HealthDecides told packages list BadList line =
     (repository : List PlainPackage) × HasPackages told packages repository × HasBadList told list repository × (line ≡ [])
 HealthDecides told packages list TooLarge line =
     (IsLonger told packages most_bytes
-      ⊎ ((repository : List PlainPackage) × HasPackages told packages repository × IsLonger told list most_bytes))
+    ⊎ ((repository : List PlainPackage) × HasPackages told packages repository × IsLonger told list most_bytes))
     × (line ≡ [])
 HealthDecides told packages list BadWords line = ⊥
 HealthDecides told packages list DoneWithUndecided line = ⊥
@@ -75,31 +75,50 @@ HealthDecides told packages list ReadFault line = ⊥
 HealthDecides told packages list WriteFault line = ⊥
 HealthDecides told packages list NoMemory line = ⊥
 
--- The status that a command comes to where nothing fails, and the line that it prints.
+-- the words are of no command
+abbrev pub IsBadWords : List (List ℕ) → Type 0
+IsBadWords words = (packages list : List ℕ) → ¬ IsHealth words packages list
+
+-- The status that the words come to where nothing fails, and the line that is printed with it.
 abbrev pub Decides : List (List ℕ) → Option Files → Status → List ℕ → Type 0
 Decides words told status line =
-    (((packages list : List ℕ) → ¬ IsHealth words packages list) × (status ≡ BadWords) × (line ≡ []))
+    (IsBadWords words × (status ≡ BadWords) × (line ≡ []))
     ⊎ ((packages : List ℕ) × (list : List ℕ) × IsHealth words packages list × HealthDecides told packages list status line)
 
--- a front of a line that the command prints at some status
+-- a line is printed at these statuses alone
+abbrev pub IsPrinted : Status → Type 0
+IsPrinted Done = Unit {0}
+IsPrinted NotHealthy = Unit {0}
+IsPrinted DoneWithUndecided = ⊥
+IsPrinted BadWords = ⊥
+IsPrinted BadPackages = ⊥
+IsPrinted CertificateRefused = ⊥
+IsPrinted ReadFault = ⊥
+IsPrinted WriteFault = ⊥
+IsPrinted NoMemory = ⊥
+IsPrinted TooLarge = ⊥
+IsPrinted BadList = ⊥
+
+-- a front of the line of a status that was decided
 pub record IsFrontOfLine (words : List (List ℕ)) (told : Option Files) (front : List ℕ) : Type 0 where
   pub status : Status
   pub line : List ℕ
   pub decided : Decides words told status line
+  pub printed : IsPrinted status
   pub count : ℕ
-  pub front_is : front ≡ take count line
+  pub is : front ≡ take count line
 
--- What `out` may have grown by at each status: the line that was decided, nothing after a fault of reading,
--- and a front of the line after a fault of writing. Want of memory may come at any time.
+-- When each status comes, and what `out` has grown by: the line that was decided, nothing after a fault of reading,
+-- a front of the line after a fault of writing. Want of memory may come at any time but for bad words.
 abbrev pub Comes : List (List ℕ) → Option Files → Status → List ℕ → Type 0
-Comes words told ReadFault printed = printed ≡ []
-Comes words told WriteFault printed = IsFrontOfLine words told printed
-Comes words told NoMemory printed = (printed ≡ []) ⊎ IsFrontOfLine words told printed
 Comes words told Done printed = Decides words told Done printed
 Comes words told DoneWithUndecided printed = Decides words told DoneWithUndecided printed
 Comes words told BadWords printed = Decides words told BadWords printed
 Comes words told BadPackages printed = Decides words told BadPackages printed
 Comes words told CertificateRefused printed = Decides words told CertificateRefused printed
+Comes words told ReadFault printed = printed ≡ []
+Comes words told WriteFault printed = IsFrontOfLine words told printed
+Comes words told NoMemory printed = (printed ≡ []) ⊎ IsFrontOfLine words told printed
 Comes words told TooLarge printed = Decides words told TooLarge printed
 Comes words told NotHealthy printed = Decides words told NotHealthy printed
 Comes words told BadList printed = Decides words told BadList printed

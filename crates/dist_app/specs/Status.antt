@@ -1,5 +1,7 @@
 -- The number of each status, and the text that it writes to `err`.
 use Rattle.std.specs.Prelude.{ℕ, List, [], codes}
+use Rattle.dist_outside.specs.declared.trouble.WorkError.{WorkError}
+use Rattle.dist_outside.specs.declared.trouble.WorkError.TheVariants as work
 use Rattle.dist_app.specs.declared.status.Status.{Status}
 use Rattle.dist_app.specs.declared.status.Status.TheVariants.{Done, DoneWithUndecided, BadWords, BadPackages, CertificateRefused, ReadFault, WriteFault, NoMemory, TooLarge, NotHealthy, BadList}
 
@@ -29,3 +31,10 @@ err_text NoMemory = codes "distfuture: no memory\n"
 err_text TooLarge = codes "distfuture: too large: Bytes\n"
 err_text NotHealthy = []
 err_text BadList = codes "distfuture: list not plain\n"
+
+-- the status that an error of reading or writing comes to
+abbrev pub work_status_of : WorkError → Status
+work_status_of work.ReadFault = ReadFault
+work_status_of work.WriteFault = WriteFault
+work_status_of (work.TooLarge what) = TooLarge
+work_status_of work.NoMemory = NoMemory

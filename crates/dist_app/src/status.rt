@@ -1,6 +1,8 @@
 //! How a run ends.
 ghost use Rattle.std.specs.Prelude.{◌≡◌};
-ghost use Rattle.dist_app.specs.Status.{number_of, err_text};
+ghost use Rattle.dist_app.specs.Status.{number_of, err_text, work_status_of};
+
+use dist_outside::WorkError;
 
 /// The status of a run.
 #[derive(Clone, Copy, Debug, PartialEq, Eq)]
@@ -41,5 +43,17 @@ impl Status {
             Status::TooLarge => b"distfuture: too large: Bytes\n",
             Status::BadList => b"distfuture: list not plain\n",
         }
+    }
+}
+
+/// The status that an error of reading or writing comes to.
+pub(crate) fn work_status(error: WorkError) -> Status
+    ensures { result ≡ work_status_of error }
+{
+    match error {
+        WorkError::ReadFault => Status::ReadFault,
+        WorkError::WriteFault => Status::WriteFault,
+        WorkError::TooLarge(_) => Status::TooLarge,
+        WorkError::NoMemory => Status::NoMemory,
     }
 }

@@ -3,7 +3,7 @@ ghost use Rattle.std.specs.Cmp.Lexicographic.{slice_cmp};
 ghost use Rattle.std.specs.Ordering.{nat_cmp};
 ghost use Rattle.dist_repo.specs.Healthy.{IsHealthy, IsMet, members_of};
 ghost use Rattle.dist_repo.specs.Package.{IsInNameOrder, IsNamedAt, IsPackageAt};
-ghost use Rattle.dist_repo.specs.Unmet.{IsFirstUnmet, IsFirstUnmetOf};
+ghost use Rattle.dist_repo.specs.Unmet.{IsUnmetAt, IsFirstUnmet, IsFirstUnmetOf};
 
 use crate::package::PlainPackage;
 use crate::text_list::Texts;
@@ -66,6 +66,7 @@ impl PlainRepository {
         requires { length members.now ≡ length self.now }
         ensures healthy { IsNone result ↔ IsHealthy (members_of self.now members.now) }
         ensures first { IfSome result (λ found. IsFirstUnmet self.now members.now found.0 found.1) }
+        ensures apart { (number place : ℕ) → IsUnmetAt self.now members.now number place → ¬ IsHealthy (members_of self.now members.now) }
     {
         for number in 0..members.len() {
             if members[number] {

@@ -16,7 +16,7 @@ loop-place-preserved c =
     let none : FieldText = record { name = []; value = []; line = 0 } in
     let at = get_or_from_slice_get fields c.loop-place.place _ none c.get.ensures in
     All-more Known fields c.loop-place.place none (omega (arith, c.len-place-end.ensures)) c.loop-place.invariant
-        (subst Known (sym at) (c.is_known.ensures.0 c.if-not-is_known.false))
+    (subst Known (sym at) (c.is_known.ensures.0 c.if-not-is_known.false))
 
 pub returns : goal.returns
 returns c =

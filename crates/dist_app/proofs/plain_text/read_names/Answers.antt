@@ -21,7 +21,7 @@ pub loop-name-preserved : goal.loop-name-preserved
 loop-name-preserved c =
     let P : List (List ℕ) → Type 0 = λ names. NamesSoFar c.args.value.now names c.in_ok-rest.rest.now in
     subst P (sym c.in_ok-push_name.ensures.ok.0)
-      (NamesSoFar-more _ _ _ _ _ _ c.loop-name.invariant c.in-Some.ensures.cut c.in_ok-rest.ensures.ok c.in_ok-push_name.ensures.ok.1)
+    (NamesSoFar-more _ _ _ _ _ _ c.loop-name.invariant c.in-Some.ensures.cut c.in_ok-rest.ensures.ok c.in_ok-push_name.ensures.ok.1)
 
 pub returns-in_err-push_name-2-clause-not_plain : goal.returns-in_err-push_name-2-clause-not_plain
 returns-in_err-push_name-2-clause-not_plain c = λ is names reading.

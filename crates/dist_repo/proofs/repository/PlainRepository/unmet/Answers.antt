@@ -37,3 +37,9 @@ loop-number-preserved c =
       | else-members-number w ↦
           absurd (false≢true (sym w.if-members-number.false ∙ get_or_from_slice_get c.args.members.now number true _ flag))
     ])
+
+pub returns-in-Some-clause-apart : goal.returns-in-Some-clause-apart
+returns-in-Some-clause-apart c = λ number place. unmet-unhealthy _ _ number place
+
+pub returns-clause-apart : goal.returns-clause-apart
+returns-clause-apart c = λ number place. unmet-unhealthy _ _ number place
