@@ -1,10 +1,10 @@
 -- One step of a reader.
-use Rattle.std.proofs.Common.{◌≡◌, ◌≢◌, ℕ, ◌+◌, ◌<◌, Bool, true, false, List, [], ◌∷◌, ◌++◌, length, get_or, refl, sym, ap, ◌∙◌, subst, append_assoc, arith}
+use Rattle.std.proofs.Common.{◌≡◌, ◌≢◌, ℕ, ◌<◌, Bool, true, false, List, [], ◌∷◌, ◌++◌, length, refl, sym, ap, ◌∙◌, subst, append_assoc, arith}
 use Rattle.dist_control.specs.FieldText.{FieldText}
 use Rattle.dist_control.specs.FieldsRead.{IsOnlyReading, HasNoReading}
 use Rattle.dist_control.specs.Lines.{lines}
 use Rattle.dist_control.specs.Place.{IsAtStanza}
-use Rattle.dist_control.specs.Plain.{IsPlainReading, ArePlainReadings, PlainStanzas, IsReadSoFar}
+use Rattle.dist_control.specs.Plain.{IsPlainReading, ArePlainReadings, IsReadSoFar}
 use Rattle.dist_control.specs.RawStanza.{RawStanza, run, raw_stanzas_from}
 use Rattle.dist_control.specs.Reader.{HasNext, Takes, Refuses, ReadsOn}
 use Rattle.dist_control.specs.Unread.{Unread}

@@ -1,6 +1,6 @@
 -- Plain stanzas, a part of the control text of Debian Policy 5.1: one field a line, a name of letters,
 -- one space after the colon, and no name twice.
-use Rattle.std.specs.Prelude.{◌≡◌, ◌≢◌, ℕ, ◌+◌, ◌-◌, ◌<◌, ◌⊎◌, List, [], ◌∷◌, ◌++◌, length, map, All, AllPairs, slice_index}
+use Rattle.std.specs.Prelude.{◌≡◌, ℕ, ◌+◌, ◌-◌, ◌<◌, ◌⊎◌, List, [], ◌∷◌, ◌++◌, length, map, All, AllPairs, slice_index}
 use Rattle.std.specs.Char.{IsAsciiAlphabetic, to_ascii_lowercase}
 use Rattle.dist_control.specs.FieldText.{FieldText}
 use Rattle.dist_control.specs.RawStanza.{RawStanza, raw_stanzas}

@@ -12,3 +12,6 @@ mod reader;
 pub use error::ControlError;
 pub use field_list::{Field, Fields, Stanza};
 pub use reader::Stanzas;
+
+#[cfg(test)]
+mod tests;

@@ -88,8 +88,8 @@ impl PlainBuilder {
         ensures ordered { IfOk result IsInNameOrder }
     {
         let PlainBuilder { mut packages } = self;
-        packages.sort_keys()?;
         let alloc = *packages.allocator();
+        packages.sort_keys()?;
         let packages = packages_of(alloc, packages)?;
         Ok(PlainRepository { packages })
     }

@@ -6,7 +6,6 @@ ghost use Rattle.dist_repo.specs.Package.{IsInNameOrder, IsNamedAt, IsPackageAt}
 ghost use Rattle.dist_repo.specs.Unmet.{IsFirstUnmet, IsFirstUnmetOf};
 
 use crate::package::PlainPackage;
-use crate::text_list::Texts;
 use std::cmp::Ordering;
 use std::marker::Model;
 
@@ -69,7 +68,7 @@ impl PlainRepository {
     {
         for number in 0..members.len() {
             if members[number] {
-                if let Some(place) = self.first_unmet(members, &self.packages[number].depends) {
+                if let Some(place) = self.first_unmet(members, &self.packages[number]) {
                     return Some((number as u32, place as u32));
                 }
             }
@@ -102,13 +101,13 @@ impl PlainRepository {
         }
     }
 
-    /// The place of the first dependency that no member meets.
-    fn first_unmet(&self, members: &[bool], depends: &Texts) -> Option<usize>
+    /// The place of a package's first dependency that no member meets.
+    fn first_unmet(&self, members: &[bool], dependent: &PlainPackage) -> Option<usize>
         requires { length members.now ≡ length self.now }
-        ensures { MatchOption result (All (IsMet (members_of self.now members.now)) depends.now) (IsFirstUnmetOf (members_of self.now members.now) depends.now) }
+        ensures { MatchOption result (All (IsMet (members_of self.now members.now)) dependent.now.depends) (IsFirstUnmetOf (members_of self.now members.now) dependent.now.depends) }
     {
-        for place in 0..depends.len() {
-            if !self.is_met(members, depends.get(place).bytes()) {
+        for place in 0..dependent.depends.len() {
+            if !self.is_met(members, dependent.depends.get(place).bytes()) {
                 return Some(place);
             }
         }
