@@ -1,18 +1,16 @@
 -- Places in lists, and the place of a name.
-use Rattle.std.proofs.Common.{◌≡◌, ℕ, zero, suc, ◌+◌, ◌<◌, ◌≤◌, Bool, true, false, List, [], ◌∷◌, length, get_or, refl, sym, ap, ◌∙◌, subst, arith, inl, inr, ◌⊎◌, nat_cmp, is_lt, is_eq, Less, Equal, Greater, Ordering, slice_get, Some, None, Option}
-use Rattle.std.specs.Prelude.{Any, IsSomeAnd, Err, ◌↔◌}
+use Rattle.std.proofs.Common.{◌≡◌, ℕ, zero, suc, ◌+◌, ◌<◌, List, [], ◌∷◌, length, get_or, refl, sym, ap, ◌∙◌, subst, arith, inl, inr, nat_cmp, is_lt, is_eq, Less, Equal, Greater, slice_get, Some, None, Option}
+use Rattle.std.specs.Prelude.{IsSomeAnd, Err, ◌↔◌}
 use Rattle.std.specs.Cmp.Lexicographic.{slice_cmp}
-use Rattle.std.proofs.lemmas.Bool.{false≢true, cases_lt}
+use Rattle.std.proofs.lemmas.Bool.{cases_lt}
 use Rattle.std.specs.List.Sorted.{IsSortedBy, IsBinarySearchResult}
 use Rattle.std.specs.Ordering.{ordering_reverse}
 use Rattle.std.proofs.lemmas.Cmp.{nat_list_cmp_total, tied_itself}
 use Rattle.std.proofs.lemmas.List.Sorted.{searchable_from_sorted}
 use Rattle.std.proofs.lemmas.Map.Text.{is_eq-slice_cmp}
 use Rattle.std.proofs.lemmas.Slice.Eq.{bytes_eq-Decides}
-use Rattle.dist_repo.specs.Healthy.{members_of}
 use Rattle.dist_repo.specs.Package.{IsInNameOrder, IsNamedAt}
 use Rattle.dist_repo.specs.declared.package.PlainPackage.{PlainPackage}
-use Rattle.dist_repo.proofs.EntryLemmas.{any-head, any-later, any-cases}
 
 -- what stands at a place, with any default
 pub record StandsAt {X : Type 0} (P : X → Type 0) (xs : List X) (k : ℕ) (d : X) : Type 0 where

@@ -1,4 +1,4 @@
-use Rattle.std.proofs.Common.{◌≡◌, List, nat_cmp, Ordering, rules, sym, ◌∙◌, subst, ◌<◌, length}
+use Rattle.std.proofs.Common.{List, nat_cmp, Ordering, rules, sym, ◌∙◌, subst, ◌<◌, length}
 use Rattle.std.specs.Prelude.{Some, None}
 use Rattle.std.specs.Cmp.Lexicographic.{slice_cmp}
 use Rattle.std.proofs.lemmas.Fn.{always_returns_same}
