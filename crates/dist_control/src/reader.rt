@@ -98,10 +98,7 @@ fn add_line<'a>(fields: &mut Fields<'a>, line: &'a [u8], number: u64) -> Result<
     if fields.has_name(field.name) {
         return Err(ControlError::NotPlain);
     }
-    match fields.push(field) {
-        Ok(()) => Ok(()),
-        Err(_) => Err(ControlError::NoMemory),
-    }
+    fields.push(field).map_err(|_| ControlError::NoMemory)
 }
 
 /// The fields of the stanza at the front, what comes after its last line, and the number of the line there.

@@ -2,3 +2,4 @@ pub mod EntryLemmas
 pub mod OrderLemmas
 pub mod PlaceLemmas
 pub mod MemberLemmas
+pub mod HealthyExamples

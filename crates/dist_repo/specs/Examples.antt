@@ -5,10 +5,10 @@ use Rattle.dist_repo.specs.Package.{IsPackageAt}
 use Rattle.dist_repo.specs.declared.package.PlainPackage.{PlainPackage}
 
 -- a of version 1, which depends on b, and b of version 1
-abbrev a : PlainPackage
+abbrev pub a : PlainPackage
 a = record { name = codes "a"; version = codes "1"; depends = codes "b" ∷ [] }
 
-abbrev b : PlainPackage
+abbrev pub b : PlainPackage
 b = record { name = codes "b"; version = codes "1"; depends = [] }
 
 pub the_set_of_b : members_of (a ∷ b ∷ []) (false ∷ true ∷ []) ≡ b ∷ []

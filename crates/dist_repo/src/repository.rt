@@ -66,11 +66,11 @@ impl PlainRepository {
         ensures healthy { IsNone result ↔ IsHealthy (members_of self.now members.now) }
         ensures first { IfSome result (λ found. IsFirstUnmet self.now members.now found.0 found.1) }
     {
-        for number in 0..members.len() {
-            if members[number] {
-                if let Some(place) = self.first_unmet(members, &self.packages[number]) {
-                    return Some((number as u32, place as u32));
-                }
+        for (number, dependent) in self.packages.iter().enumerate() {
+            if members[number]
+                && let Some(place) = self.first_unmet(members, dependent)
+            {
+                return Some((number as u32, place as u32));
             }
         }
         None
@@ -84,10 +84,7 @@ impl PlainRepository {
         let by_name = |p: &PlainPackage| -> Ordering
             ensures { result ≡ slice_cmp nat_cmp p.now.name name.entry.now }
         { p.name.bytes().cmp(name) };
-        match self.packages.as_slice().binary_search_by(by_name) {
-            Ok(place) => Some(place),
-            Err(_) => None,
-        }
+        self.packages.as_slice().binary_search_by(by_name).ok()
     }
 
     /// Whether some member has the name.
