@@ -66,3 +66,8 @@ PlainStanzas text stanzas = ArePlainReadings (raw_stanzas text) stanzas
 pub record IsReadSoFar (text : List ℕ) (so_far : List Stanza) (left : List RawStanza) : Type 0 where
   pub whole : (rest : List Stanza) → ArePlainReadings left rest → PlainStanzas text (so_far ++ rest)
   pub only : (all : List Stanza) → PlainStanzas text all → (rest : List Stanza) × (all ≡ so_far ++ rest) × ArePlainReadings left rest
+
+-- these are the stanzas of the text, and no others are
+pub record IsWholeReading (text : List ℕ) (stanzas : List Stanza) : Type 0 where
+  pub plain : PlainStanzas text stanzas
+  pub only : (all : List Stanza) → PlainStanzas text all → all ≡ stanzas

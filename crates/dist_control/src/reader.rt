@@ -1,4 +1,4 @@
-ghost use Rattle.std.specs.Prelude.{◌≡◌, ◌+◌, ◌<◌, ◌^◌, ◌↔◌, Ok, None, true, false, length, IsTrue, IfOk, IfSome, IfNone, OnOk, IsErrOf};
+ghost use Rattle.std.specs.Prelude.{◌≡◌, ◌+◌, ◌<◌, ◌^◌, ◌↔◌, Ok, None, [], true, false, length, IsTrue, IfOk, IfSome, IfNone, OnOk, IsErrOf};
 ghost use Rattle.dist_control.specs.FieldsRead.{AddsLine, IsNoNewField, IsOnlyReading, HasNoReading};
 ghost use Rattle.dist_control.specs.Lines.{lines};
 ghost use Rattle.dist_control.specs.RawStanza.{run, raw_stanzas_from};
@@ -34,11 +34,13 @@ impl<'a> Model for Stanzas<'a> {
 
 impl<'a> Stanzas<'a> {
     ghost use Rattle.dist_control.specs.RawStanza.{raw_stanzas};
-    ghost use Rattle.dist_control.specs.Reader.{HasNext, Takes, Refuses, ReadsOn};
+    ghost use Rattle.dist_control.specs.Reader.{HasNext, Takes, Refuses, ReadsOn, ReadsAll, ReadsNone};
+    ghost use Rattle.dist_control.specs.Plain.{IsReadSoFar};
 
     /// A reader at the start of a text.
     pub fn new(bytes: &'a [u8]) -> Stanzas<'a>
-        ensures { result ≡ record { left = raw_stanzas bytes.now; refused = false } }
+        ensures start { result ≡ record { left = raw_stanzas bytes.now; refused = false } }
+        ensures nothing_read { IsReadSoFar bytes.now [] result.left }
     {
         let (rest, line) = skip_empty_lines(bytes, 1);
         Stanzas {
@@ -61,7 +63,9 @@ impl<'a> Stanzas<'a> {
         ensures end { IfOk result (λ next. IfNone next (self.new ≡ self.old)) }
         ensures stanza { IfOk result (λ next. IfSome next (Takes self.old self.new)) }
         ensures reads_on { IfOk result (λ next. IfSome next (ReadsOn self.old self.new)) }
+        ensures reads_all { IfOk result (λ next. IfNone next (ReadsAll self.old)) }
         ensures not_plain { IsErrOf result ControlError.NotPlain → Refuses self.old self.new }
+        ensures reads_none { IsErrOf result ControlError.NotPlain → ReadsNone self.old }
         ensures no_memory { IsErrOf result ControlError.NoMemory → self.new ≡ self.old }
     {
         if !self.has_next() {
