@@ -1,5 +1,5 @@
 -- The lines of a text by the place of its first LF.
-use Rattle.std.proofs.Common.{◌≡◌, ◌≢◌, ℕ, zero, suc, ◌+◌, ◌<◌, ◌≤◌, Bool, true, false, cond, eqb, List, [], ◌∷◌, length, get_or, take, drop, refl, sym, ap, ◌∙◌, arith, add-one}
+use Rattle.std.proofs.Common.{◌≡◌, ◌≢◌, ℕ, zero, suc, ◌<◌, List, [], ◌∷◌, length, get_or, take, drop, refl, ap, ◌∙◌, arith}
 use Rattle.dist_control.specs.Lines.{lines, in_front}
 
 pub lines-end : (byte : ℕ) (bytes : List ℕ) → byte ≡ 10 → lines (byte ∷ bytes) ≡ [] ∷ lines bytes

@@ -1,6 +1,5 @@
 -- A search for a name among fields.
-use Rattle.std.proofs.Common.{◌≡◌, ℕ, ◌+◌, ◌<◌, ◌≤◌, List, All, map, take, length, get_or, arith, sym, ◌∙◌, ap, subst}
-use Rattle.std.specs.Char.{to_ascii_lowercase}
+use Rattle.std.proofs.Common.{ℕ, ◌+◌, ◌<◌, ◌≤◌, List, All, map, take, length, get_or, arith, sym, subst}
 use Rattle.std.proofs.lemmas.List.{take_all, get_or-map, length-map}
 use Rattle.std.proofs.lemmas.List.Elements.{All-more}
 use Rattle.dist_control.specs.FieldText.{FieldText, field_text}

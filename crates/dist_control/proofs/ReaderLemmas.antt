@@ -1,12 +1,13 @@
 -- One step of a reader.
-use Rattle.std.proofs.Common.{◌≡◌, ◌≢◌, ℕ, ◌+◌, ◌<◌, Bool, true, false, List, [], ◌∷◌, ◌++◌, length, get_or, refl, sym, ap, ◌∙◌, subst, append_assoc, arith}
+use Rattle.std.proofs.Common.{◌≡◌, ◌≢◌, ℕ, ◌<◌, Bool, true, false, List, [], ◌∷◌, ◌++◌, length, refl, sym, ap, ◌∙◌, subst, append_assoc, arith}
+use Rattle.std.proofs.lemmas.List.{append-nil}
 use Rattle.dist_control.specs.FieldText.{FieldText}
 use Rattle.dist_control.specs.FieldsRead.{IsOnlyReading, HasNoReading}
 use Rattle.dist_control.specs.Lines.{lines}
 use Rattle.dist_control.specs.Place.{IsAtStanza}
 use Rattle.dist_control.specs.Plain.{IsPlainReading, ArePlainReadings, PlainStanzas, IsReadSoFar}
 use Rattle.dist_control.specs.RawStanza.{RawStanza, run, raw_stanzas_from}
-use Rattle.dist_control.specs.Reader.{HasNext, Takes, Refuses, ReadsOn}
+use Rattle.dist_control.specs.Reader.{HasNext, Takes, Refuses, ReadsOn, ReadsAll, ReadsNone}
 use Rattle.dist_control.specs.Unread.{Unread}
 use Rattle.dist_control.specs.declared.field_list.Stanza.{Stanza}
 use Rattle.dist_control.proofs.StanzaLemmas.{raw-begins}
@@ -89,3 +90,31 @@ reads-on old new stanza takes text so_far at =
           let is : first.0 ≡ stanza = takes.only first.0 first.3 in
           (first.1, rw append_assoc (cut.1 ∙ ap (λ rest. so_far ++ rest) (first.2 ∙ ap (λ s. s ∷ first.1) is)), first.4);
     }
+
+-- a list that is not other than empty is empty
+none-left : (left : List RawStanza) → ¬ (left ≢ []) → left ≡ []
+none-left [] none = refl
+none-left (raw ∷ left) none = absurd (none (λ is. cc))
+
+none-read : (rest : List Stanza) → ArePlainReadings [] rest → rest ≡ []
+none-read [] reads = refl
+none-read (stanza ∷ rest) reads = absurd reads
+
+pub reads-all : (reader : Unread) → ¬ HasNext reader → ReadsAll reader
+reads-all reader none text so_far at going =
+    let empty : reader.left ≡ [] = none-left reader.left (λ left. none (record { left = left; going = going })) in
+    let P : List RawStanza → Type 0 = IsReadSoFar text so_far in
+    let here : IsReadSoFar text so_far [] = subst P empty at in
+    let Q : List Stanza → Type 0 = PlainStanzas text in
+    record {
+      plain = subst Q (append-nil so_far) (here.whole [] tt);
+      only = λ all reads. let cut = here.only all reads in cut.1 ∙ ap (λ rest. so_far ++ rest) (none-read cut.0 cut.2) ∙ append-nil so_far;
+    }
+
+pub reads-none : (old new : Unread) → Refuses old new → ReadsNone old
+reads-none old new refuses text so_far at all reads =
+    let P : List RawStanza → Type 0 = IsReadSoFar text so_far in
+    let here : IsReadSoFar text so_far (refuses.raw ∷ refuses.rest) = subst P refuses.left at in
+    let cut = here.only all reads in
+    let first = first-read refuses.raw refuses.rest cut.0 cut.2 in
+    refuses.none first.0 first.3

@@ -1,6 +1,5 @@
 -- The lines of one stanza, and the stanzas after it.
-use Rattle.std.proofs.Common.{◌≡◌, ◌≢◌, ℕ, zero, suc, ◌+◌, ◌<◌, ◌≤◌, Bool, true, false, List, [], ◌∷◌, ◌++◌, length, get_or, refl, sym, ap, ◌∙◌, arith, subst, append_assoc, length-append}
-use Rattle.std.specs.Prelude.{AllPairs, Any}
+use Rattle.std.proofs.Common.{◌≡◌, ◌≢◌, ℕ, ◌+◌, ◌<◌, true, false, List, [], ◌∷◌, ◌++◌, length, get_or, refl, sym, ap, ◌∙◌, arith, subst, append_assoc, length-append}
 use Rattle.std.proofs.lemmas.List.{append-nil, get_or_default}
 use Rattle.std.proofs.lemmas.List.Quantifiers.{all_pairs_push}
 use Rattle.std.proofs.Math.ListN.{get_or-append}
@@ -8,9 +7,8 @@ use Rattle.std.proofs.Math.Seq.{get_or-append_seam}
 use Rattle.dist_control.specs.FieldText.{FieldText}
 use Rattle.dist_control.specs.FieldsRead.{HasName, AddsLine, IsNoNewField, IsOnlyReading, HasNoReading}
 use Rattle.dist_control.specs.Lines.{lines, in_front}
-use Rattle.dist_control.specs.Place.{IsAtStanza}
 use Rattle.dist_control.specs.Plain.{IsSameName, IsFieldLine, AreFieldLines, HaveDistinctNames}
-use Rattle.dist_control.specs.RawStanza.{RawStanza, run, raw_stanzas_from}
+use Rattle.dist_control.specs.RawStanza.{run, raw_stanzas_from}
 use Rattle.dist_control.proofs.LineLemmas.{lines-end, lines-within}
 
 -- ---- the fields so far

@@ -1,7 +1,7 @@
 -- Worked examples.
-use Rattle.std.specs.Prelude.{◌≡◌, ◌<◌, true, [], ◌∷◌, codes, refl}
+use Rattle.std.specs.Prelude.{◌≡◌, [], ◌∷◌, codes, refl}
 use Rattle.dist_control.specs.Lines.{lines}
-use Rattle.dist_control.specs.RawStanza.{RawStanza, raw_stanzas}
+use Rattle.dist_control.specs.RawStanza.{raw_stanzas}
 use Rattle.dist_control.specs.Plain.{IsSameName}
 
 pub the_last_line_may_lack_its_end : lines (codes "a\n\nbc") ≡ codes "a" ∷ [] ∷ codes "bc" ∷ []

@@ -1,5 +1,5 @@
 -- What reading the lines of one stanza gives, line by line.
-use Rattle.std.specs.Prelude.{◌≡◌, ℕ, List, [], ◌∷◌, ◌++◌, All, Any}
+use Rattle.std.specs.Prelude.{◌≡◌, ℕ, List, [], ◌∷◌, ◌++◌, Any}
 use Rattle.dist_control.specs.FieldText.{FieldText}
 use Rattle.dist_control.specs.Plain.{IsSameName, IsFieldLine, AreFieldLines, HaveDistinctNames}
 

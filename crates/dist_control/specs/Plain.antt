@@ -1,6 +1,6 @@
 -- Plain stanzas, a part of the control text of Debian Policy 5.1: one field a line, a name of letters,
 -- one space after the colon, and no name twice.
-use Rattle.std.specs.Prelude.{◌≡◌, ◌≢◌, ℕ, ◌+◌, ◌-◌, ◌<◌, ◌⊎◌, List, [], ◌∷◌, ◌++◌, length, map, All, AllPairs, slice_index}
+use Rattle.std.specs.Prelude.{◌≡◌, ℕ, ◌+◌, ◌-◌, ◌<◌, ◌⊎◌, List, [], ◌∷◌, ◌++◌, length, map, All, AllPairs, slice_index}
 use Rattle.std.specs.Char.{IsAsciiAlphabetic, to_ascii_lowercase}
 use Rattle.dist_control.specs.FieldText.{FieldText}
 use Rattle.dist_control.specs.RawStanza.{RawStanza, raw_stanzas}
@@ -66,3 +66,8 @@ PlainStanzas text stanzas = ArePlainReadings (raw_stanzas text) stanzas
 pub record IsReadSoFar (text : List ℕ) (so_far : List Stanza) (left : List RawStanza) : Type 0 where
   pub whole : (rest : List Stanza) → ArePlainReadings left rest → PlainStanzas text (so_far ++ rest)
   pub only : (all : List Stanza) → PlainStanzas text all → (rest : List Stanza) × (all ≡ so_far ++ rest) × ArePlainReadings left rest
+
+-- these are the stanzas of the text, and no others are
+pub record IsWholeReading (text : List ℕ) (stanzas : List Stanza) : Type 0 where
+  pub plain : PlainStanzas text stanzas
+  pub only : (all : List Stanza) → PlainStanzas text all → all ≡ stanzas

@@ -2,7 +2,7 @@
 use Rattle.std.specs.Prelude.{◌≡◌, ◌≢◌, ℕ, true, false, List, [], ◌∷◌, ◌++◌}
 use Rattle.dist_control.specs.RawStanza.{RawStanza}
 use Rattle.dist_control.specs.Unread.{Unread}
-use Rattle.dist_control.specs.Plain.{IsPlainReading, IsReadSoFar}
+use Rattle.dist_control.specs.Plain.{IsPlainReading, PlainStanzas, IsReadSoFar, IsWholeReading}
 use Rattle.dist_control.specs.declared.field_list.Stanza.{Stanza}
 
 -- a stanza is left, and no earlier call refused for good
@@ -31,3 +31,14 @@ pub record Refuses (old new : Unread) : Type 0 where
 abbrev pub ReadsOn : (old new : Unread) → Stanza → Type 0
 ReadsOn old new stanza =
     (text : List ℕ) (so_far : List Stanza) → IsReadSoFar text so_far old.left → IsReadSoFar text (so_far ++ stanza ∷ []) new.left
+
+-- A loop that has read the text as far as this reader, which has not refused and gives no more, has read it all:
+-- the stanzas so far are its stanzas, and no others are.
+abbrev pub ReadsAll : Unread → Type 0
+ReadsAll reader =
+    (text : List ℕ) (so_far : List Stanza) → IsReadSoFar text so_far reader.left → reader.refused ≡ false → IsWholeReading text so_far
+
+-- A text that a loop has read as far as this reader, which now refuses, has no plain stanzas.
+abbrev pub ReadsNone : Unread → Type 0
+ReadsNone reader =
+    (text : List ℕ) (so_far : List Stanza) → IsReadSoFar text so_far reader.left → (all : List Stanza) → ¬ PlainStanzas text all

@@ -13,3 +13,6 @@ pub use error::ControlError;
 pub use field_list::{Field, Fields, Stanza};
 pub use line::split_line;
 pub use reader::Stanzas;
+
+#[cfg(test)]
+mod tests;

@@ -1,4 +1,4 @@
-ghost use Rattle.std.specs.Prelude.{◌≡◌, ◌+◌, ◌<◌, ◌≤◌, ◌^◌, ◌↔◌, Ok, None, true, false, length, IsTrue, All, IfOk, IfSome, IfNone, OnOk, IsErrOf};
+ghost use Rattle.std.specs.Prelude.{◌≡◌, ◌+◌, ◌<◌, ◌≤◌, ◌^◌, ◌↔◌, Ok, None, [], true, false, length, IsTrue, All, IfOk, IfSome, IfNone, OnOk, IsErrOf};
 ghost use Rattle.dist_control.specs.FieldsRead.{AddsLine, IsNoNewField, IsOnlyReading, HasNoReading};
 ghost use Rattle.dist_control.specs.Lines.{lines};
 ghost use Rattle.dist_control.specs.RawStanza.{run, raw_stanzas_from};
@@ -34,13 +34,15 @@ impl<'a> Model for Stanzas<'a> {
 
 impl<'a> Stanzas<'a> {
     ghost use Rattle.dist_control.specs.RawStanza.{raw_stanzas};
-    ghost use Rattle.dist_control.specs.Reader.{HasNext, Takes, Refuses, ReadsOn};
+    ghost use Rattle.dist_control.specs.Reader.{HasNext, Takes, Refuses, ReadsOn, ReadsAll, ReadsNone};
+    ghost use Rattle.dist_control.specs.Plain.{IsReadSoFar};
 
     /// A reader at the start of a text.
     pub fn new(bytes: &'a [u8]) -> Stanzas<'a>
-        ensures left { result ≡ record { left = raw_stanzas bytes.now; refused = false } }
+        ensures start { result ≡ record { left = raw_stanzas bytes.now; refused = false } }
         ensures fewer { length result.left ≤ length bytes.now }
         ensures shorter { All (λ raw. All (λ line. length line ≤ length bytes.now) raw.lines) result.left }
+        ensures nothing_read { IsReadSoFar bytes.now [] result.left }
     {
         let (rest, line) = skip_empty_lines(bytes, 1);
         Stanzas {
@@ -63,7 +65,9 @@ impl<'a> Stanzas<'a> {
         ensures end { IfOk result (λ next. IfNone next (self.new ≡ self.old)) }
         ensures stanza { IfOk result (λ next. IfSome next (Takes self.old self.new)) }
         ensures reads_on { IfOk result (λ next. IfSome next (ReadsOn self.old self.new)) }
+        ensures reads_all { IfOk result (λ next. IfNone next (ReadsAll self.old)) }
         ensures not_plain { IsErrOf result ControlError.NotPlain → Refuses self.old self.new }
+        ensures reads_none { IsErrOf result ControlError.NotPlain → ReadsNone self.old }
         ensures no_memory { IsErrOf result ControlError.NoMemory → self.new ≡ self.old }
     {
         if !self.has_next() {
@@ -100,10 +104,7 @@ fn add_line<'a>(fields: &mut Fields<'a>, line: &'a [u8], number: u64) -> Result<
     if fields.has_name(field.name) {
         return Err(ControlError::NotPlain);
     }
-    match fields.push(field) {
-        Ok(()) => Ok(()),
-        Err(_) => Err(ControlError::NoMemory),
-    }
+    fields.push(field).map_err(|_| ControlError::NoMemory)
 }
 
 /// The fields of the stanza at the front, what comes after its last line, and the number of the line there.

@@ -3,3 +3,4 @@ pub mod OrderLemmas
 pub mod PlaceLemmas
 pub mod MemberLemmas
 pub mod OneOrder
+pub mod HealthyExamples

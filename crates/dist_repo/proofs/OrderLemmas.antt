@@ -1,5 +1,5 @@
 -- Entries that are sorted by their keys, seen as packages in the order of their names.
-use Rattle.std.proofs.Common.{◌≡◌, ℕ, ◌+◌, ◌<◌, ◌≤◌, Bool, true, false, List, [], ◌∷◌, length, get_or, map, refl, sym, ap, ◌∙◌, subst, arith, nat_cmp, is_lt, is_eq, Less, Equal, Greater, Ordering}
+use Rattle.std.proofs.Common.{◌≡◌, ℕ, ◌<◌, false, List, [], ◌∷◌, length, get_or, map, refl, sym, ap, ◌∙◌, arith, nat_cmp, is_lt, is_eq, Less, Equal, Greater, Ordering}
 use Rattle.std.specs.Prelude.{Vec, IsPermutation}
 use Rattle.std.specs.Cmp.Lexicographic.{slice_cmp}
 use Rattle.std.specs.List.{IsDistinct}
@@ -11,14 +11,14 @@ use Rattle.std.specs.declared.alloc.Global.{Global}
 use Rattle.std.proofs.lemmas.Bool.{false≢true}
 use Rattle.std.proofs.lemmas.Cmp.{nat_list_cmp_total}
 use Rattle.std.proofs.lemmas.List.{get_or_default, length-map}
-use Rattle.std.proofs.lemmas.List.Sorted.{All-permutation, ranks_by, sorted_far, IsPermutation-map, length_permutation}
+use Rattle.std.proofs.lemmas.List.Sorted.{All-permutation, ranks_by, sorted_far, length_permutation}
 use Rattle.std.proofs.lemmas.Map.Keys.{apart_from_distinct}
 use Rattle.std.proofs.lemmas.Map.Text.{is_eq-slice_cmp}
 use Rattle.std.proofs.Math.ListN.{get_or-map}
 use Rattle.dist_repo.specs.Entry.{package_of}
 use Rattle.dist_repo.specs.Package.{IsInNameOrder}
 use Rattle.dist_repo.specs.declared.package.PlainPackage.{PlainPackage}
-use Rattle.dist_repo.proofs.EntryLemmas.{Entry, IsWithin, AllPlaces, HasPlaces}
+use Rattle.dist_repo.proofs.EntryLemmas.{Entry, IsWithin, HasPlaces}
 
 -- of two names that differ, the one that is not above the other is below it
 pub less-from : (a b : List ℕ) → is_lt (slice_cmp nat_cmp b a) ≡ false → bytes_eq a b ≡ false → slice_cmp nat_cmp a b ≡ Less

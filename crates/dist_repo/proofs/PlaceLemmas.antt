@@ -1,18 +1,17 @@
 -- Places in lists, and the place of a name.
-use Rattle.std.proofs.Common.{◌≡◌, ℕ, zero, suc, ◌+◌, ◌<◌, ◌≤◌, Bool, true, false, List, [], ◌∷◌, length, get_or, refl, sym, ap, ◌∙◌, subst, arith, inl, inr, ◌⊎◌, nat_cmp, is_lt, is_eq, Less, Equal, Greater, Ordering, slice_get, Some, None, Option}
-use Rattle.std.specs.Prelude.{Any, IsSomeAnd, Err, ◌↔◌}
+use Rattle.std.proofs.Common.{◌≡◌, ℕ, zero, suc, ◌+◌, ◌<◌, List, [], ◌∷◌, length, get_or, refl, sym, ap, ◌∙◌, subst, arith, inl, inr, nat_cmp, is_lt, is_eq, Less, Equal, Greater, slice_get, Some, None, Option}
+use Rattle.std.specs.Prelude.{Ok, Result, IfSome, IsSomeAnd, Err, ◌↔◌}
 use Rattle.std.specs.Cmp.Lexicographic.{slice_cmp}
-use Rattle.std.proofs.lemmas.Bool.{false≢true, cases_lt}
-use Rattle.std.specs.List.Sorted.{IsSortedBy, IsBinarySearchResult}
+use Rattle.std.proofs.lemmas.Bool.{cases_lt}
+use Rattle.std.specs.List.Sorted.{IsSortedBy, IsBinarySearchResult, IsSearchInRange}
 use Rattle.std.specs.Ordering.{ordering_reverse}
+use Rattle.std.specs.Result.{result_ok}
 use Rattle.std.proofs.lemmas.Cmp.{nat_list_cmp_total, tied_itself}
 use Rattle.std.proofs.lemmas.List.Sorted.{searchable_from_sorted}
 use Rattle.std.proofs.lemmas.Map.Text.{is_eq-slice_cmp}
 use Rattle.std.proofs.lemmas.Slice.Eq.{bytes_eq-Decides}
-use Rattle.dist_repo.specs.Healthy.{members_of}
 use Rattle.dist_repo.specs.Package.{IsInNameOrder, IsNamedAt}
 use Rattle.dist_repo.specs.declared.package.PlainPackage.{PlainPackage}
-use Rattle.dist_repo.proofs.EntryLemmas.{any-head, any-later, any-cases}
 
 -- what stands at a place, with any default
 pub record StandsAt {X : Type 0} (P : X → Type 0) (xs : List X) (k : ℕ) (d : X) : Type 0 where
@@ -78,7 +77,7 @@ same-names a b is = (bytes_eq-Decides a b).0 (sym (is_eq-slice_cmp a b) ∙ ap i
 abbrev pub FindsPlace : List PlainPackage → List ℕ → Option ℕ → Type 0
 FindsPlace packages name found = (place : ℕ) → (found ≡ Some place) ↔ IsNamedAt packages place name
 
-pub found-place : (packages : List PlainPackage) (place : ℕ) (name : List ℕ) → IsInNameOrder packages → place < length packages →
+found-place : (packages : List PlainPackage) (place : ℕ) (name : List ℕ) → IsInNameOrder packages → place < length packages →
     ((d : PlainPackage) → slice_cmp nat_cmp (get_or packages place d).name name ≡ Equal) → FindsPlace packages name (Some place)
 found-place [] place name ordered short equal = absurd (omega arith)
 found-place (p ∷ packages) place name ordered short equal =
@@ -90,7 +89,7 @@ sorted-by-name : (packages : List PlainPackage) → IsInNameOrder packages → I
 sorted-by-name packages ordered k d low short =
     ap is_lt (nat_list_cmp_total.antisymm (get_or packages (k + 1) d).name (get_or packages k d).name ∙ ap ordering_reverse (ordered k (k + 1) d (omega arith) short))
 
-pub missing-place : (packages : List PlainPackage) (name : List ℕ) (i : ℕ) → IsInNameOrder packages →
+missing-place : (packages : List PlainPackage) (name : List ℕ) (i : ℕ) → IsInNameOrder packages →
     IsBinarySearchResult (λ (p : PlainPackage). slice_cmp nat_cmp p.name name) packages (Err i) → FindsPlace packages name None
 missing-place packages name i ordered search_is place =
     let parts = search_is (searchable_from_sorted nat_list_cmp_total (λ (p : PlainPackage). p.name) packages name (sorted-by-name packages ordered)) in (
@@ -103,3 +102,13 @@ missing-place packages name i ordered search_is place =
             | inr h ↦ above-differs _ _ name here.holds refl (parts.1 place d h here.within)
           ]),
     )
+
+-- what the search answers, as an option
+pub searched-place : (packages : List PlainPackage) (name : List ℕ) (found : Result ℕ ℕ) → IsInNameOrder packages → IsSearchInRange found (length packages) →
+    IsBinarySearchResult (λ (p : PlainPackage). slice_cmp nat_cmp p.name name) packages found → FindsPlace packages name (result_ok found)
+searched-place packages name (Ok place) ordered within search_is = found-place packages place name ordered within search_is
+searched-place packages name (Err i) ordered within search_is = missing-place packages name i ordered search_is
+
+pub searched-within : (found : Result ℕ ℕ) (count : ℕ) → IsSearchInRange found count → IfSome (result_ok found) (λ place. place < count)
+searched-within (Ok place) count within = within
+searched-within (Err i) count within = tt

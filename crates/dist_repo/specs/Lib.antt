@@ -1,3 +1,4 @@
+pub mod Examples
 pub mod Entry
 pub mod Package
 pub mod Healthy

@@ -1,8 +1,7 @@
 -- Packages of a repository in a plain form, each with a name, a version and names that it depends on.
-use Rattle.std.specs.Prelude.{◌≡◌, ℕ, ◌<◌, List, length, map, All, Any, AllPairs, IsSomeAnd, slice_get}
+use Rattle.std.specs.Prelude.{◌≡◌, ℕ, List, Any, AllPairs, IsSomeAnd, slice_get}
 use Rattle.std.specs.Cmp.Lexicographic.{slice_cmp}
 use Rattle.std.specs.Ordering.{nat_cmp}
-use Rattle.std.specs.declared.cmp.Ordering.{Ordering}
 use Rattle.std.specs.declared.cmp.Ordering.TheVariants.{Less}
 use Rattle.dist_repo.specs.declared.package.PlainPackage.{PlainPackage}
 

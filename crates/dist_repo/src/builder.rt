@@ -90,8 +90,8 @@ impl PlainBuilder {
         ensures one { IfOk result (λ repository. (other : List PlainPackage) → IsPermutation self other → IsInNameOrder other → other ≡ repository) }
     {
         let PlainBuilder { mut packages } = self;
-        packages.sort_keys()?;
         let alloc = *packages.allocator();
+        packages.sort_keys()?;
         let packages = packages_of(alloc, packages)?;
         Ok(PlainRepository { packages })
     }

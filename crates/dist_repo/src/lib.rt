@@ -10,3 +10,6 @@ pub use builder::{PlainAddError, PlainBuilder};
 pub use package::PlainPackage;
 pub use repository::PlainRepository;
 pub use text_list::{Text, Texts};
+
+#[cfg(test)]
+mod tests;

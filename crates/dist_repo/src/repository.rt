@@ -6,7 +6,6 @@ ghost use Rattle.dist_repo.specs.Package.{IsInNameOrder, IsNamedAt, IsPackageAt}
 ghost use Rattle.dist_repo.specs.Unmet.{IsUnmetAt, IsFirstUnmet, IsFirstUnmetOf};
 
 use crate::package::PlainPackage;
-use crate::text_list::Texts;
 use std::cmp::Ordering;
 use std::marker::Model;
 
@@ -68,11 +67,11 @@ impl PlainRepository {
         ensures first { IfSome result (λ found. IsFirstUnmet self.now members.now found.0 found.1) }
         ensures apart { (number place : ℕ) → IsUnmetAt self.now members.now number place → ¬ IsHealthy (members_of self.now members.now) }
     {
-        for number in 0..members.len() {
-            if members[number] {
-                if let Some(place) = self.first_unmet(members, &self.packages[number].depends) {
-                    return Some((number as u32, place as u32));
-                }
+        for (number, dependent) in self.packages.iter().enumerate() {
+            if members[number]
+                && let Some(place) = self.first_unmet(members, dependent)
+            {
+                return Some((number as u32, place as u32));
             }
         }
         None
@@ -86,10 +85,7 @@ impl PlainRepository {
         let by_name = |p: &PlainPackage| -> Ordering
             ensures { result ≡ slice_cmp nat_cmp p.now.name name.entry.now }
         { p.name.bytes().cmp(name) };
-        match self.packages.as_slice().binary_search_by(by_name) {
-            Ok(place) => Some(place),
-            Err(_) => None,
-        }
+        self.packages.as_slice().binary_search_by(by_name).ok()
     }
 
     /// Whether some member has the name.
@@ -103,13 +99,13 @@ impl PlainRepository {
         }
     }
 
-    /// The place of the first dependency that no member meets.
-    fn first_unmet(&self, members: &[bool], depends: &Texts) -> Option<usize>
+    /// The place of a package's first dependency that no member meets.
+    fn first_unmet(&self, members: &[bool], dependent: &PlainPackage) -> Option<usize>
         requires { length members.now ≡ length self.now }
-        ensures { MatchOption result (All (IsMet (members_of self.now members.now)) depends.now) (IsFirstUnmetOf (members_of self.now members.now) depends.now) }
+        ensures { MatchOption result (All (IsMet (members_of self.now members.now)) dependent.now.depends) (IsFirstUnmetOf (members_of self.now members.now) dependent.now.depends) }
     {
-        for place in 0..depends.len() {
-            if !self.is_met(members, depends.get(place).bytes()) {
+        for place in 0..dependent.depends.len() {
+            if !self.is_met(members, dependent.depends.get(place).bytes()) {
                 return Some(place);
             }
         }

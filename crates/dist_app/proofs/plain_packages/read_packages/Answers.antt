@@ -10,8 +10,8 @@ use Rattle.dist_app.proofs.plain_packages.read_packages.Goals as goal
 
 pub loop-builder-init : goal.loop-builder-init
 loop-builder-init c = record {
-  so_far = rw (c.new-stanzas.ensures.left, c.new-builder.ensures) (PackagesSoFar-start c.args.bytes.now);
-  going = rw c.new-stanzas.ensures.left refl;
+  so_far = rw (c.new-stanzas.ensures.start, c.new-builder.ensures) (PackagesSoFar-start c.args.bytes.now);
+  going = rw c.new-stanzas.ensures.start refl;
   room = omega (arith, c.new-stanzas.ensures.fewer, ap length c.new-builder.ensures);
   small = All-weaker (λ (raw : RawStanza). All (λ line. length line ≤ length c.args.bytes.now) raw.lines)
       (λ (raw : RawStanza). All (λ line. length line < 4294967295) raw.lines)

@@ -1,7 +1,7 @@
-use Rattle.std.proofs.Common.{◌≡◌, ◌≢◌, ℕ, ◌+◌, ◌-◌, ◌<◌, List, ◌∷◌, length, get_or, take, drop, arith, sym, ap, ◌∙◌, length-drop}
+use Rattle.std.proofs.Common.{◌≡◌, ◌+◌, ◌-◌, ◌∷◌, length, take, drop, arith, sym, ◌∙◌, length-drop}
 use Rattle.std.proofs.lemmas.List.{take_all}
 use Rattle.std.proofs.lemmas.Bool.{eqb-true, eq-eqb}
-use Rattle.dist_control.proofs.FieldLemmas.{IsFirstColon, IsCutAt, cut-at-colon, no-colon}
+use Rattle.dist_control.proofs.FieldLemmas.{IsFirstColon, cut-at-colon, no-colon}
 use Rattle.dist_control.proofs.line.split_field.Goals as goal
 
 pub returns-in_default-clause-none : goal.returns-in_default-clause-none

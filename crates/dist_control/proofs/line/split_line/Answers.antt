@@ -1,7 +1,6 @@
-use Rattle.std.proofs.Common.{◌≡◌, ℕ, ◌+◌, ◌-◌, ◌<◌, ◌≤◌, List, [], ◌∷◌, length, get_or, take, drop, arith, refl, ap, ◌∙◌, length-drop, add-one}
+use Rattle.std.proofs.Common.{◌≡◌, ◌+◌, ◌-◌, length, take, drop, arith, length-drop, add-one}
 use Rattle.std.proofs.lemmas.List.{take_all}
 use Rattle.std.proofs.lemmas.Bool.{eqb-true, eq-eqb}
-use Rattle.dist_control.specs.Lines.{lines}
 use Rattle.dist_control.proofs.LineLemmas.{lines-at, lines-alone}
 use Rattle.dist_control.proofs.line.split_line.Goals as goal
 

@@ -1,6 +1,7 @@
-use Rattle.std.proofs.Common.{ap, ◌∙◌}
+use Rattle.std.proofs.Common.{ap, sym, ◌∙◌}
+use Rattle.std.proofs.lemmas.Bool.{false≢true}
 use Rattle.std.specs.Prelude.{Err}
-use Rattle.dist_control.proofs.ReaderLemmas.{takes, refuses, reads-on}
+use Rattle.dist_control.proofs.ReaderLemmas.{takes, refuses, reads-on, reads-all, reads-none}
 use Rattle.dist_control.proofs.reader.Stanzas.next.Goals as goal
 
 pub returns-in-Ok-clause-stanza : goal.returns-in-Ok-clause-stanza
@@ -17,3 +18,10 @@ pub returns-in-Err-NotPlain-clause-not_plain : goal.returns-in-Err-NotPlain-clau
 returns-in-Err-NotPlain-clause-not_plain c _ =
     refuses _ _ _ _ c.self.view_is (c.has_next.ensures.0 c.if-not-has_next.false) c.self.invariant.1
     (c.in-Err-NotPlain.ensures.not_plain (ap (λ e. Err e) c.in-Err-NotPlain.field-0-is))
+
+pub returns-then-not-has_next-clause-reads_all : goal.returns-then-not-has_next-clause-reads_all
+returns-then-not-has_next-clause-reads_all c =
+    reads-all c.args.self.now (λ next. false≢true (sym c.if-not-has_next.true ∙ c.has_next.ensures.1 next))
+
+pub returns-in-Err-NotPlain-clause-reads_none : goal.returns-in-Err-NotPlain-clause-reads_none
+returns-in-Err-NotPlain-clause-reads_none c is = reads-none _ _ (returns-in-Err-NotPlain-clause-not_plain c is)

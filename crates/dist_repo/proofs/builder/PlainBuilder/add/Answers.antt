@@ -1,10 +1,10 @@
-use Rattle.std.proofs.Common.{◌≡◌, ℕ, ◌<◌, ◌∷◌, [], ◌++◌, List, map, length, arith, subst, sym, ap, ◌∙◌}
+use Rattle.std.proofs.Common.{◌≡◌, ℕ, ◌∷◌, [], ◌++◌, List, map, arith, subst, sym}
 use Rattle.std.proofs.lemmas.Bool.{false≢true}
 use Rattle.std.proofs.lemmas.List.{length-map}
 use Rattle.dist_repo.specs.Entry.{package_of}
 use Rattle.dist_repo.specs.Package.{HasName}
 use Rattle.dist_repo.specs.declared.package.PlainPackage.{PlainPackage}
-use Rattle.dist_repo.proofs.EntryLemmas.{added, on-ok, within-more, IsWithin, HasPlaces, AllPlaces}
+use Rattle.dist_repo.proofs.EntryLemmas.{added, on-ok, within-more, IsWithin, AllPlaces}
 use Rattle.dist_repo.proofs.builder.PlainBuilder.add.Goals as goal
 
 pub returns-clause-ok : goal.returns-clause-ok

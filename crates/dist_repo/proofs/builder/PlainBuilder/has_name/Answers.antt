@@ -1,4 +1,4 @@
-use Rattle.std.proofs.Common.{◌≡◌, List, subst, sym, ◌∙◌}
+use Rattle.std.proofs.Common.{List, subst, sym, ◌∙◌}
 use Rattle.dist_repo.specs.Package.{HasName}
 use Rattle.dist_repo.specs.declared.package.PlainPackage.{PlainPackage}
 use Rattle.dist_repo.proofs.EntryLemmas.{found-named, named-found}

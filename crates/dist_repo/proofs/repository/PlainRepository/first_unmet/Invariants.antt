@@ -5,4 +5,4 @@ use Rattle.dist_repo.proofs.repository.PlainRepository.first_unmet.Given as goal
 
 -- each dependency so far is met
 abbrev pub invariant-loop-place : goal.invariant-loop-place
-invariant-loop-place l = (k : ℕ) → k < l.place → IsSomeAnd (slice_get l.depends k) (IsMet (members_of l.self l.members))
+invariant-loop-place l = (k : ℕ) → k < l.place → IsSomeAnd (slice_get l.dependent.depends k) (IsMet (members_of l.self l.members))
