@@ -1,5 +1,5 @@
 -- Each way that `health` goes decides one status.
-use Rattle.std.proofs.Common.{◌≡◌, ℕ, ◌+◌, ◌^◌, ◌<◌, ◌≤◌, ◌⊎◌, inl, inr, Bool, List, [], length, Option, Some, None, refl, sym, ap, subst, ◌∙◌, arith}
+use Rattle.std.proofs.Common.{◌≡◌, ℕ, ◌≤◌, inl, inr, Bool, List, length, Option, refl, ap, subst, arith}
 use Rattle.std.proofs.lemmas.Bool.{cases_lt}
 use Rattle.dist_outside.specs.Files.{Files}
 use Rattle.dist_outside.specs.Counts.{Rose}
@@ -7,9 +7,8 @@ use Rattle.dist_outside.specs.Reading.{IsFile, IsLonger}
 use Rattle.dist_repo.specs.Healthy.{IsHealthy, members_of}
 use Rattle.dist_repo.specs.declared.package.PlainPackage.{PlainPackage}
 use Rattle.dist_app.specs.PlainPackages.{PlainPackages}
-use Rattle.dist_app.specs.PlainList.{PlainList}
 use Rattle.dist_app.specs.HealthLine.{healthy_line, IsUnmetLine, IsHealthAnswer}
-use Rattle.dist_app.specs.Outcome.{most_bytes, HasText, HasPackages, HasBadPackages, HasList, HasBadList, HasBoth, HealthDecides}
+use Rattle.dist_app.specs.Outcome.{most_bytes, HasText, HasList, HasBadList, HasBoth, HealthDecides}
 use Rattle.dist_app.specs.Stages.{IsTold, OnlyPackages, OnlyBadPackages, OnlyLargePackages, OnlyList, OnlyBadList, OnlyLargeList, PackagesRefused, ListRefused, HealthRefused, OnlyDecides}
 use Rattle.dist_app.specs.declared.status.Status.{Status}
 use Rattle.dist_app.specs.declared.status.Status.TheVariants.{Done, DoneWithUndecided, BadWords, BadPackages, CertificateRefused, ReadFault, WriteFault, NoMemory, TooLarge, NotHealthy, BadList}

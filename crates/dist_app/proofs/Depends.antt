@@ -1,11 +1,11 @@
 -- The dependencies of a stanza whose field Depends is known, and packages that have the same parts.
-use Rattle.std.proofs.Common.{◌≡◌, ℕ, ◌<◌, ◌≤◌, List, [], length, ◌⊎◌, inl, inr, refl, sym, ap, subst, ◌∙◌, arith}
-use Rattle.std.specs.Prelude.{codes, All}
+use Rattle.std.proofs.Common.{◌≡◌, ℕ, ◌<◌, List, length, inl, inr, ap, subst, ◌∙◌, arith}
+use Rattle.std.specs.Prelude.{codes}
 use Rattle.std.proofs.lemmas.List.Elements.{All-contains}
 use Rattle.dist_control.specs.FieldText.{FieldText}
 use Rattle.dist_repo.specs.declared.package.PlainPackage.{PlainPackage}
-use Rattle.dist_app.specs.PlainText.{IsDependsValue, joined}
-use Rattle.dist_app.specs.PlainPackages.{HasField, LacksField, IsDepends}
+use Rattle.dist_app.specs.PlainText.{IsDependsValue}
+use Rattle.dist_app.specs.PlainPackages.{HasField, IsDepends}
 use Rattle.dist_app.specs.PackagesSoFar.{HasSmallValues}
 use Rattle.dist_app.proofs.Fields.{no_value}
 use Rattle.dist_app.proofs.Names.{length-joined}

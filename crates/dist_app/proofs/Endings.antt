@@ -1,14 +1,13 @@
 -- How a run ends, from how its parts end.
-use Rattle.std.proofs.Common.{◌≡◌, ℕ, ◌≤◌, ◌⊎◌, inl, inr, List, [], length, take, Option, Some, None, refl, sym, ap, subst, ◌∙◌}
+use Rattle.std.proofs.Common.{◌≡◌, ℕ, inl, inr, List, [], Option, Some, None, refl, sym, ap, subst}
 use Rattle.std.proofs.lemmas.List.{append-nil}
 use Rattle.dist_outside.specs.Files.{Files}
-use Rattle.dist_outside.specs.Counts.{Rose}
-use Rattle.dist_outside.specs.Told.{grown, GrewByFront}
+use Rattle.dist_outside.specs.Told.{grown}
 use Rattle.dist_outside.specs.Reading.{WriteCause}
 use Rattle.dist_outside.specs.declared.trouble.WorkError.{WorkError}
 use Rattle.dist_outside.specs.declared.trouble.WorkError.TheVariants as work
-use Rattle.dist_app.specs.Outcome.{IsHealth, IsBadWords, Decides, IsPrinted, IsFrontOfLine, Comes, HealthDecides}
-use Rattle.dist_app.specs.Stages.{IsTold, OnlyDecides, IsCutLine, Prints, IsFrontOfHealth, HealthEnds, Decided, Unread, Unwritten, Unstored, HealthRefused}
+use Rattle.dist_app.specs.Outcome.{IsHealth, Decides, IsPrinted, IsFrontOfLine, Comes, HealthDecides}
+use Rattle.dist_app.specs.Stages.{OnlyDecides, IsCutLine, Prints, IsFrontOfHealth, HealthEnds, Decided, Unread, Unwritten, Unstored, HealthRefused}
 use Rattle.dist_app.specs.Status.{work_status_of}
 use Rattle.dist_app.specs.declared.status.Status.{Status}
 use Rattle.dist_app.specs.declared.status.Status.TheVariants.{Done, DoneWithUndecided, BadWords, BadPackages, CertificateRefused, ReadFault, WriteFault, NoMemory, TooLarge, NotHealthy, BadList}

@@ -1,13 +1,13 @@
 -- Reading a plain Packages file stanza by stanza.
-use Rattle.std.proofs.Common.{◌≡◌, ◌≢◌, ℕ, zero, suc, ◌+◌, ◌<◌, ◌≤◌, Bool, true, false, List, [], ◌∷◌, ◌++◌, ◌⊎◌, inl, inr, length, get_or, refl, sym, ap, subst, ◌∙◌, arith, append_assoc, length-append}
-use Rattle.std.specs.Prelude.{All, AllPairs, Any, Contains, IsPermutation}
+use Rattle.std.proofs.Common.{◌≡◌, ◌≢◌, ℕ, ◌+◌, ◌<◌, List, [], ◌∷◌, ◌++◌, length, get_or, refl, sym, ap, subst, ◌∙◌, arith, length-append}
+use Rattle.std.specs.Prelude.{All, AllPairs, IsPermutation}
 use Rattle.std.proofs.lemmas.List.{append-nil, get_or_default, get_or_append_left}
 use Rattle.std.proofs.lemmas.List.Quantifiers.{all_pairs_push}
 use Rattle.std.proofs.lemmas.List.Elements.{All-nil, All-cons, All-head, All-tail}
 use Rattle.std.proofs.Math.Seq.{get_or-append_seam}
 use Rattle.dist_control.specs.FieldText.{FieldText}
 use Rattle.dist_control.specs.RawStanza.{RawStanza, raw_stanzas}
-use Rattle.dist_control.specs.Plain.{IsPlainReading, ArePlainReadings, PlainStanzas, IsReadSoFar, AreFieldLines, IsFieldLine}
+use Rattle.dist_control.specs.Plain.{IsPlainReading, ArePlainReadings, PlainStanzas, IsReadSoFar, AreFieldLines}
 use Rattle.dist_control.specs.declared.field_list.Stanza.{Stanza}
 use Rattle.dist_repo.specs.Package.{IsInNameOrder, HasName}
 use Rattle.dist_repo.specs.declared.package.PlainPackage.{PlainPackage}

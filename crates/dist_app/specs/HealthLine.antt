@@ -1,5 +1,5 @@
 -- The one line that `health` prints.
-use Rattle.std.specs.Prelude.{◌≡◌, ℕ, Bool, List, [], ◌∷◌, ◌++◌, Some, slice_get, codes}
+use Rattle.std.specs.Prelude.{◌≡◌, ℕ, Bool, List, ◌++◌, Some, slice_get, codes}
 use Rattle.dist_repo.specs.Healthy.{IsHealthy, members_of}
 use Rattle.dist_repo.specs.Unmet.{IsFirstUnmet}
 use Rattle.dist_app.specs.declared.status.Status.{Status}

@@ -1,5 +1,5 @@
 -- What a command comes to: a table over the words, the files that the desk tells, and the limits.
-use Rattle.std.specs.Prelude.{◌≡◌, ℕ, ◌<◌, ◌≤◌, ◌⊎◌, Bool, List, [], ◌∷◌, length, take, Option, codes}
+use Rattle.std.specs.Prelude.{◌≡◌, ℕ, ◌≤◌, ◌⊎◌, Bool, List, [], ◌∷◌, length, take, Option, codes}
 use Rattle.dist_outside.specs.Files.{Files}
 use Rattle.dist_outside.specs.Reading.{IsFile, IsLonger}
 use Rattle.dist_repo.specs.Healthy.{IsHealthy, members_of}

@@ -1,5 +1,5 @@
 -- A plain list of packages of a repository: which of them it names.
-use Rattle.std.specs.Prelude.{◌≡◌, ℕ, ◌↔◌, true, Bool, List, [], ◌∷◌, ◌++◌, ◌<◌, length, All, Contains, Some, slice_get, slice_set}
+use Rattle.std.specs.Prelude.{◌≡◌, ℕ, ◌↔◌, true, Bool, List, ◌∷◌, ◌++◌, ◌<◌, length, All, Contains, Some, slice_get, slice_set}
 use Rattle.dist_control.specs.Lines.{lines}
 use Rattle.dist_app.specs.PlainText.{Lacks}
 use Rattle.dist_repo.specs.Package.{IsPackageAt}

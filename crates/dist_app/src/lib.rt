@@ -13,3 +13,6 @@ mod words;
 
 pub use status::Status;
 pub use top_call::run;
+
+#[cfg(test)]
+mod tests;

@@ -1,4 +1,3 @@
-use Rattle.std.proofs.Common.{◌≡◌, subst, sym, ◌∙◌, arith}
 use Rattle.std.proofs.lemmas.Result.{err_from_is_err_and}
 use Rattle.dist_app.proofs.Decisions.{packages_refused, list_refused, only_decides}
 use Rattle.dist_app.proofs.decide.decide.Goals as goal

@@ -1,4 +1,3 @@
-use Rattle.std.proofs.Common.{◌≡◌, subst, sym, ◌∙◌, arith}
 use Rattle.dist_app.proofs.Decisions.{only_packages, only_bad_packages}
 use Rattle.dist_app.proofs.decide.repository_of.Goals as goal
 

@@ -1,4 +1,4 @@
-use Rattle.std.proofs.Common.{◌≡◌, refl}
+use Rattle.std.proofs.Common.{refl}
 use Rattle.dist_app.proofs.Lists.{no_space, names_at}
 use Rattle.dist_app.proofs.plain_list.named_package.Goals as goal
 

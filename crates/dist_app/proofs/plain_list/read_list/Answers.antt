@@ -1,8 +1,8 @@
-use Rattle.std.proofs.Common.{◌≡◌, ◌++◌, ◌∷◌, [], List, ℕ, Bool, true, eqb, length, refl, subst, sym, ap, ◌∙◌, arith}
+use Rattle.std.proofs.Common.{◌≡◌, [], List, ℕ, Bool, true, eqb, length, refl, subst, sym, ◌∙◌, arith}
 use Rattle.std.proofs.lemmas.Bool.{eqb-true}
 use Rattle.std.proofs.lemmas.List.{nil_from_length}
 use Rattle.dist_repo.specs.declared.package.PlainPackage.{PlainPackage}
-use Rattle.dist_app.specs.PlainList.{PlainList, ListSoFar, Marks}
+use Rattle.dist_app.specs.PlainList.{ListSoFar}
 use Rattle.dist_app.proofs.Lists.{ListSoFar-start, ListSoFar-more, PlainList-end, PlainList-one, not_plain-line, at_within}
 use Rattle.dist_app.proofs.plain_list.read_list.Goals as goal
 

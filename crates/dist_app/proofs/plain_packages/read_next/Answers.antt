@@ -1,9 +1,8 @@
-use Rattle.std.proofs.Common.{◌≡◌, ◌++◌, ◌∷◌, [], List, ℕ, Err, sym, subst, ◌∙◌}
+use Rattle.std.proofs.Common.{List, sym, subst}
 use Rattle.std.proofs.lemmas.Result.{err_from_is_err_and}
-use Rattle.dist_repo.specs.Package.{HasName}
 use Rattle.dist_repo.specs.declared.package.PlainPackage.{PlainPackage}
 use Rattle.dist_app.specs.PackagesSoFar.{PackagesSoFar}
-use Rattle.dist_app.proofs.Reading.{PackagesSoFar-more, not_plain-stanza, not_plain-package, not_plain-twice, small_stanza, small_later}
+use Rattle.dist_app.proofs.Reading.{PackagesSoFar-more, not_plain-package, not_plain-twice, small_stanza, small_later}
 use Rattle.dist_app.proofs.Refusals.{twice_refused}
 use Rattle.dist_app.proofs.plain_packages.read_next.Goals as goal
 

@@ -1,4 +1,3 @@
-use Rattle.std.proofs.Common.{◌≡◌, List, ℕ}
 use Rattle.std.proofs.lemmas.Result.{err_from_is_err_and}
 use Rattle.dist_app.proofs.Depends.{same_package}
 use Rattle.dist_app.proofs.plain_packages.read_package.Goals as goal

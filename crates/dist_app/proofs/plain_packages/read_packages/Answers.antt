@@ -1,4 +1,4 @@
-use Rattle.std.proofs.Common.{◌≡◌, ◌<◌, ◌≤◌, List, ℕ, length, arith, refl, ap, subst}
+use Rattle.std.proofs.Common.{◌<◌, ◌≤◌, List, ℕ, length, arith, refl, ap, subst}
 use Rattle.std.specs.Prelude.{All}
 use Rattle.std.proofs.lemmas.List.Elements.{All-weaker}
 use Rattle.std.proofs.lemmas.Result.{err_from_is_err_and}

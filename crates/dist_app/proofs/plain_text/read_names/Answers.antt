@@ -1,6 +1,6 @@
-use Rattle.std.proofs.Common.{◌≡◌, ◌++◌, ◌∷◌, [], List, ℕ, Err, refl, sym, subst, ap, ◌∙◌}
+use Rattle.std.proofs.Common.{List, ℕ, refl, sym, subst, ◌∙◌}
 use Rattle.std.proofs.lemmas.Result.{err_from_is_err_and}
-use Rattle.dist_app.specs.PlainText.{IsName, IsDependsValue}
+use Rattle.dist_app.specs.PlainText.{IsDependsValue}
 use Rattle.dist_app.proofs.Names.{NamesSoFar, NamesSoFar-more, names_end, names_one, names_cut}
 use Rattle.dist_app.proofs.plain_text.read_names.Goals as goal
 

@@ -1,6 +1,4 @@
-use Rattle.std.proofs.Common.{◌≡◌, List, [], ℕ, map, string_bytes, refl, inl, inr, sym, ap, subst, ◌∙◌}
-use Rattle.dist_outside.specs.Told.{grown}
-use Rattle.dist_app.specs.Outcome.{Comes}
+use Rattle.std.proofs.Common.{[], refl, inl, sym}
 use Rattle.dist_app.proofs.Endings.{health_comes, grown-nil}
 use Rattle.dist_app.proofs.top_call.run.Goals as goal
 use Rattle.dist_app.proofs.top_call.run.Goals.{in-None, in-Some}

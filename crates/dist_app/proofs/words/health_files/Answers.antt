@@ -1,4 +1,4 @@
-use Rattle.std.proofs.Common.{◌≡◌, ◌∷◌, [], List, ℕ, map, string_bytes, arith, ap, sym, ◌∙◌}
+use Rattle.std.proofs.Common.{◌≡◌, string_bytes, arith, sym, ◌∙◌}
 use Rattle.std.specs.Prelude.{codes}
 use Rattle.std.proofs.lemmas.Slice.Eq.{bytes_eq-Decides}
 use Rattle.dist_app.proofs.Three.{three}

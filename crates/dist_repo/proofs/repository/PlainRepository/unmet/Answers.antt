@@ -42,8 +42,8 @@ loop-number-preserved c =
           (search rules)
     ])
 
-pub returns-in-Some-clause-apart : goal.returns-in-Some-clause-apart
-returns-in-Some-clause-apart c = λ number place. unmet-unhealthy _ _ number place
+pub returns-in-loop-number-clause-apart : goal.returns-in-loop-number-clause-apart
+returns-in-loop-number-clause-apart c = λ number place. unmet-unhealthy _ _ number place
 
 pub returns-clause-apart : goal.returns-clause-apart
 returns-clause-apart c = λ number place. unmet-unhealthy _ _ number place
