@@ -36,7 +36,8 @@ pub fn split_line(bytes: &[u8]) -> (&[u8], &[u8])
 pub(crate) fn skip_empty_lines(bytes: &[u8], number: u64) -> (&[u8], u64)
     requires { number + length bytes.now < 2 ^ 64 }
     ensures room { result.1 + length result.0.now < 2 ^ 64 }
-    ensures stanzas { raw_stanzas_from result.1 true (lines result.0.now) ≡ raw_stanzas_from number true (lines bytes.now) }
+    ensures stanzas { raw_stanzas_from result.1 true (lines result.0.now)
+        ≡ raw_stanzas_from number true (lines bytes.now) }
     ensures at_stanza { IsAtStanza result.0.now }
 {
     let mut rest = bytes;
@@ -71,7 +72,8 @@ fn is_plain_value(value: &[u8]) -> bool
 
 /// What follows a space.
 fn after_space(bytes: &[u8]) -> Option<&[u8]>
-    ensures { MatchOption result ((rest : List ℕ) → bytes.now ≢ 32 ∷ rest) (λ rest. bytes.now ≡ 32 ∷ rest.now) }
+    ensures { MatchOption result ((rest : List ℕ) → bytes.now ≢ 32 ∷ rest)
+        (λ rest. bytes.now ≡ 32 ∷ rest.now) }
 {
     match bytes.split_first() {
         Some((b' ', rest)) => Some(rest),
@@ -82,8 +84,10 @@ fn after_space(bytes: &[u8]) -> Option<&[u8]>
 /// What stands before the first colon of a line, and what stands after it and a space.
 fn split_field(line: &[u8]) -> Option<(&[u8], &[u8])>
     ensures some { IfSome result (λ parts. line.now ≡ parts.0.now ++ 58 ∷ 32 ∷ parts.1.now) }
-    ensures only { IfSome result (λ parts. (name value : List ℕ) → IsPlainName name → line.now ≡ name ++ 58 ∷ 32 ∷ value → (name ≡ parts.0.now) × (value ≡ parts.1.now)) }
-    ensures none { IfNone result ((name value : List ℕ) → IsPlainName name → line.now ≢ name ++ 58 ∷ 32 ∷ value) }
+    ensures only { IfSome result (λ parts. (name value : List ℕ) → IsPlainName name →
+        line.now ≡ name ++ 58 ∷ 32 ∷ value → (name ≡ parts.0.now) × (value ≡ parts.1.now)) }
+    ensures none { IfNone result ((name value : List ℕ) → IsPlainName name →
+        line.now ≢ name ++ 58 ∷ 32 ∷ value) }
 {
     let Some(colon) = memchr(b':', line) else {
         return None;
@@ -97,7 +101,8 @@ fn split_field(line: &[u8]) -> Option<(&[u8], &[u8])>
 /// The field that a line of this number spells.
 pub(crate) fn field_of(line: &[u8], number: u64) -> Option<Field<'_>>
     ensures some { IfSome result (λ field. IsFieldLine number line.now (field_text field)) }
-    ensures only { IfSome result (λ field. (other : FieldText) → IsFieldLine number line.now other → other ≡ field_text field) }
+    ensures only { IfSome result (λ field. (other : FieldText) →
+        IsFieldLine number line.now other → other ≡ field_text field) }
     ensures none { IfNone result ((other : FieldText) → ¬ IsFieldLine number line.now other) }
 {
     let Some((name, value)) = split_field(line) else {

@@ -25,7 +25,10 @@ impl<'a> Model for Stanzas<'a> {
 
     ghost Value = { Unread };
 
-    ghost view = { λ reader. record { left = raw_stanzas_from reader.line true (lines reader.rest.now); refused = reader.refused } };
+    ghost view = { λ reader. record {
+      left = raw_stanzas_from reader.line true (lines reader.rest.now);
+      refused = reader.refused;
+    } };
 
     ghost use Rattle.dist_control.specs.Place.{IsAtStanza};
 
@@ -96,7 +99,8 @@ impl<'a> Stanzas<'a> {
 /// Adds the field that a line spells.
 fn add_line<'a>(fields: &mut Fields<'a>, line: &'a [u8], number: u64) -> Result<(), ControlError>
     ensures ok { OnOk result (AddsLine number line.now fields.old fields.new) }
-    ensures not_plain { IsErrOf result ControlError.NotPlain → IsNoNewField number line.now fields.old }
+    ensures not_plain { IsErrOf result ControlError.NotPlain →
+        IsNoNewField number line.now fields.old }
 {
     let Some(field) = field_of(line, number) else {
         return Err(ControlError::NotPlain);
@@ -116,8 +120,10 @@ fn read_fields<'a>(
     requires { number + length bytes.now < 2 ^ 64 }
     ensures room { IfOk result (λ read. read.2 + length read.1.now < 2 ^ 64) }
     ensures reading { IfOk result (λ read. IsOnlyReading number (run (lines bytes.now)) read.0) }
-    ensures stanzas { IfOk result (λ read. raw_stanzas_from read.2 true (lines read.1.now) ≡ raw_stanzas_from number false (lines bytes.now)) }
-    ensures not_plain { IsErrOf result ControlError.NotPlain → HasNoReading number (run (lines bytes.now)) }
+    ensures stanzas { IfOk result (λ read. raw_stanzas_from read.2 true (lines read.1.now)
+        ≡ raw_stanzas_from number false (lines bytes.now)) }
+    ensures not_plain { IsErrOf result ControlError.NotPlain →
+        HasNoReading number (run (lines bytes.now)) }
 {
     let mut fields = Fields::new(alloc);
     let mut rest = bytes;

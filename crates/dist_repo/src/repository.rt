@@ -24,7 +24,8 @@ impl Model for PlainRepository {
 
     ghost view = { λ repository. repository.packages.items };
 
-    ghost invariant = { λ repository. IsInNameOrder repository.packages.items × (length repository.packages.items < 4294967296)
+    ghost invariant = { λ repository. IsInNameOrder repository.packages.items
+        × (length repository.packages.items < 4294967296)
         × All (λ p. length p.depends < 4294967295) repository.packages.items };
 }
 
@@ -102,7 +103,9 @@ impl PlainRepository {
     /// The place of a package's first dependency that no member meets.
     fn first_unmet(&self, members: &[bool], dependent: &PlainPackage) -> Option<usize>
         requires { length members.now ≡ length self.now }
-        ensures { MatchOption result (All (IsMet (members_of self.now members.now)) dependent.now.depends) (IsFirstUnmetOf (members_of self.now members.now) dependent.now.depends) }
+        ensures { let set = members_of self.now members.now in
+            MatchOption result (All (IsMet set) dependent.now.depends)
+            (IsFirstUnmetOf set dependent.now.depends) }
     {
         for place in 0..dependent.depends.len() {
             if !self.is_met(members, dependent.depends.get(place).bytes()) {
