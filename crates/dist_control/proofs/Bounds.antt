@@ -1,5 +1,5 @@
 -- How many lines and stanzas a text has, and how long its lines are.
-use Rattle.std.proofs.Common.{◌≡◌, ℕ, suc, ◌+◌, ◌≤◌, Bool, true, false, cond, eqb, List, [], ◌∷◌, length, arith}
+use Rattle.std.proofs.Common.{ℕ, suc, ◌+◌, ◌≤◌, Bool, true, false, cond, eqb, List, [], ◌∷◌, length, arith}
 use Rattle.std.specs.List.{All}
 use Rattle.std.proofs.lemmas.List.Elements.{All-nil, All-cons, All-head, All-tail, All-weaker}
 use Rattle.dist_control.specs.Lines.{lines, in_front}
@@ -26,13 +26,13 @@ within-in_front most byte [] h = All-cons (IsWithin (most + 1)) (byte ∷ []) []
 within-in_front most byte (line ∷ ls) h =
     let head = All-head (IsWithin most) line ls h in
     All-cons (IsWithin (most + 1)) (byte ∷ line) ls (omega (arith, head))
-        (All-weaker (IsWithin most) (IsWithin (most + 1)) (λ x w. omega (arith, w)) ls (All-tail (IsWithin most) line ls h))
+    (All-weaker (IsWithin most) (IsWithin (most + 1)) (λ x w. omega (arith, w)) ls (All-tail (IsWithin most) line ls h))
 
 within-step : (same : Bool) (byte : ℕ) (bytes : List ℕ) → All (IsWithin (length bytes)) (lines bytes)
     → All (IsWithin (length bytes + 1)) (cond same ([] ∷ lines bytes) (in_front byte (lines bytes)))
 within-step true byte bytes h =
     All-cons (IsWithin (length bytes + 1)) [] (lines bytes) (omega arith)
-        (All-weaker (IsWithin (length bytes)) (IsWithin (length bytes + 1)) (λ x w. omega (arith, w)) (lines bytes) h)
+    (All-weaker (IsWithin (length bytes)) (IsWithin (length bytes + 1)) (λ x w. omega (arith, w)) (lines bytes) h)
 within-step false byte bytes h = within-in_front (length bytes) byte (lines bytes) h
 
 suc_is : (n : ℕ) (ls : List (List ℕ)) → All (IsWithin (n + 1)) ls → All (IsWithin (suc n)) ls
@@ -65,8 +65,8 @@ module _ (P : List ℕ → Type 0) where
   All-raw_stanzas_from number apart ([] ∷ rest) h = All-raw_stanzas_from (number + 1) true rest (All-tail P [] rest h)
   All-raw_stanzas_from number true ((byte ∷ bytes) ∷ rest) h =
       All-cons HasAll (record { line = number; lines = (byte ∷ bytes) ∷ run rest }) (raw_stanzas_from (number + 1) false rest)
-        (All-run ((byte ∷ bytes) ∷ rest) h)
-        (All-raw_stanzas_from (number + 1) false rest (All-tail P (byte ∷ bytes) rest h))
+      (All-run ((byte ∷ bytes) ∷ rest) h)
+      (All-raw_stanzas_from (number + 1) false rest (All-tail P (byte ∷ bytes) rest h))
   All-raw_stanzas_from number false ((byte ∷ bytes) ∷ rest) h = All-raw_stanzas_from (number + 1) false rest (All-tail P (byte ∷ bytes) rest h)
 
 pub within-raw_stanzas : (text : List ℕ) → All (λ raw. All (λ line. length line ≤ length text) raw.lines) (raw_stanzas text)

@@ -28,7 +28,7 @@ enum Open {
 pub struct MemoryDesk {
     alloc: Global,
     files: Vec<NamedFile>,
-    open: Open,
+    state: Open,
     read_faults: u64,
     calls: u64,
     step: usize,
@@ -45,7 +45,7 @@ impl Model for MemoryDesk {
 
     ghost use Rattle.dist_outside.specs.Kept.{files_of, mode_of};
 
-    ghost view = { λ s. record { files = files_of s.files.items; mode = mode_of s.open; read_faults = s.read_faults; calls = s.calls; step = s.step; fails = s.fails.items } };
+    ghost view = { λ s. record { files = files_of s.files.items; mode = mode_of s.state; read_faults = s.read_faults; calls = s.calls; step = s.step; fails = s.fails.items } };
 
     ghost invariant = { λ s. 0 < s.step };
 }
@@ -61,7 +61,7 @@ impl MemoryDesk {
         Ok(MemoryDesk {
             alloc,
             files: Vec::new(alloc),
-            open: Open::Nothing,
+            state: Open::Nothing,
             read_faults: 0,
             calls: 0,
             step,
@@ -75,7 +75,7 @@ impl MemoryDesk {
         ensures ok { OnOk result (self.new ≡ record self.old { files = map.insert self.old.files name.now bytes.now; mode = Idle }) }
         ensures err { OnErr result (self.new ≡ record self.old { mode = Idle }) }
     {
-        self.open = Open::Nothing;
+        self.state = Open::Nothing;
         put_front(self.alloc, &mut self.files, name, bytes)
     }
 
@@ -120,7 +120,7 @@ impl Desk for MemoryDesk {
         ensures calls { self.new.calls ≡ counted self.old.calls }
         ensures setting { (self.new.step ≡ self.old.step) × (self.new.fails ≡ self.old.fails) }
     {
-        self.open = Open::Nothing;
+        self.state = Open::Nothing;
         self.calls = self.calls.saturating_add(1);
         if self.fails.contains(&self.calls) || newest(&self.files, name).is_none() {
             self.read_faults = self.read_faults.saturating_add(1);
@@ -128,7 +128,7 @@ impl Desk for MemoryDesk {
         }
         match String::from_str(self.alloc, name) {
             Ok(name) => {
-                self.open = Open::Reading(name, 0);
+                self.state = Open::Reading(name, 0);
                 Ok(())
             }
             Err(_) => Err(Trouble::NoMemory),
@@ -159,7 +159,7 @@ impl Desk for MemoryDesk {
             self.read_faults = self.read_faults.saturating_add(1);
             return Err(Trouble::Failed);
         }
-        match &mut self.open {
+        match &mut self.state {
             Open::Nothing => unreachable!(),
             Open::Reading(name, place) => {
                 let count = copy_next(&self.files, name.as_str(), *place, self.step, buffer);

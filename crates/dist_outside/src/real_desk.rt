@@ -18,7 +18,7 @@ enum Open<F> {
 #[derive(Drop)]
 pub struct RealDesk<R: Files + Drop> {
     runtime: R,
-    open: Open<R::File>,
+    state: Open<R::File>,
     read_faults: u64,
 }
 
@@ -31,7 +31,7 @@ impl<R: Files + Drop> Model for RealDesk<R> {
 
     ghost use Rattle.dist_outside.specs.RealOpen.{real_mode};
 
-    ghost view = { λ s. record { mode = real_mode s.open; read_faults = s.read_faults } };
+    ghost view = { λ s. record { mode = real_mode s.state; read_faults = s.read_faults } };
 }
 
 impl<R: Files + Drop> RealDesk<R> {
@@ -40,7 +40,7 @@ impl<R: Files + Drop> RealDesk<R> {
     {
         RealDesk {
             runtime,
-            open: Open::Nothing,
+            state: Open::Nothing,
             read_faults: 0,
         }
     }
@@ -58,11 +58,11 @@ impl<R: Files + Drop> Desk for RealDesk<R> {
     fn start_read(&mut self, name: &str) -> Result<(), Trouble> {
         match File::open(&self.runtime, name) {
             Ok(file) => {
-                self.open = Open::Reading(file);
+                self.state = Open::Reading(file);
                 Ok(())
             }
             Err(_) => {
-                self.open = Open::Nothing;
+                self.state = Open::Nothing;
                 self.read_faults = self.read_faults.saturating_add(1);
                 Err(Trouble::Failed)
             }
@@ -70,7 +70,7 @@ impl<R: Files + Drop> Desk for RealDesk<R> {
     }
 
     fn read(&mut self, buffer: &mut [u8]) -> Result<usize, Trouble> {
-        match &mut self.open {
+        match &mut self.state {
             Open::Nothing => unreachable!(),
             Open::Reading(file) => match file.read(buffer) {
                 Ok(count) => Ok(count),

@@ -68,11 +68,11 @@ same_list (p ∷ ps) [] a_ordered b_ordered to from = absurd (omega (arith, (to 
 same_list (p ∷ ps) (q ∷ qs) a_ordered b_ordered to from =
     let same : p ≡ q = same_head p q ps qs a_ordered b_ordered to from in
     let rest : ps ≡ qs = same_list ps qs (ordered-tail p ps a_ordered) (ordered-tail q qs b_ordered)
-        (within-tail p q ps qs same a_ordered to) (within-tail q p qs ps (sym same) b_ordered from) in
+    (within-tail p q ps qs same a_ordered to) (within-tail q p qs ps (sym same) b_ordered from) in
     cc
 
 pub one_order : (packages a b : List PlainPackage) → IsPermutation packages a → IsPermutation packages b → IsInNameOrder a → IsInNameOrder b → b ≡ a
 one_order packages a b to_a to_b a_ordered b_ordered =
     same_list b a b_ordered a_ordered
-        (λ q there. Contains-permutation packages a q to_a (Contains-permutation b packages q (IsPermutation-sym packages b to_b) there))
-        (λ q there. Contains-permutation packages b q to_b (Contains-permutation a packages q (IsPermutation-sym packages a to_a) there))
+    (λ q there. Contains-permutation packages a q to_a (Contains-permutation b packages q (IsPermutation-sym packages b to_b) there))
+    (λ q there. Contains-permutation packages b q to_b (Contains-permutation a packages q (IsPermutation-sym packages a to_a) there))
