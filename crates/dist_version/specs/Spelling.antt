@@ -1,9 +1,9 @@
 -- Version texts, by Debian Policy 5.6.12: `[epoch:]upstream_version[-debian_revision]`. Which text spells which version, and where a text is cut.
 use Rattle.std.specs.Prelude.{◌≡◌, ◌≢◌, ℕ, ◌<◌, ◌≤◌, Bool, true, ◌||◌, ◌==◌, ◌⊎◌, List, [], ◌∷◌, ◌++◌, length, Option, None, Some, IfSome, IsSome, IsTrue, if◌then◌else◌, codes}
-use Rattle.std.specs.Char.{is_ascii_alphanumeric}
+use Rattle.std.specs.Char.{is_ascii_alphanumeric, is_ascii_digit}
 use Rattle.std.specs.List.{list_any, list_all}
 use Rattle.std.specs.Option.{option_map, option_map_or, option_or}
-use Rattle.std.specs.Str.Parse.{IsNumeral, digits_value}
+use Rattle.std.specs.Str.Parse.{digits_value}
 
 abbrev pub colon : ℕ
 colon = 58
@@ -29,20 +29,20 @@ pub record Parts : Type 0 where
   pub upstream : List ℕ
   pub revision : Option (List ℕ)
 
+-- one byte or more, and each of them passes
+abbrev pub IsMadeOf : (ℕ → Bool) → List ℕ → Type 0
+IsMadeOf test bytes = (0 < length bytes) × IsTrue (list_all test bytes)
+
 -- the epoch, written as one or more digits of that value and a colon, or not at all where it is 0
 abbrev pub SpellsEpoch : List ℕ → ℕ → Type 0
 SpellsEpoch front epoch =
-    ((digits : List ℕ) × (front ≡ digits ++ colon ∷ []) × IsNumeral 10 digits × (digits_value 10 digits ≡ epoch))
+    ((digits : List ℕ) × (front ≡ digits ++ colon ∷ []) × IsMadeOf is_ascii_digit digits × (digits_value 10 digits ≡ epoch))
     ⊎ ((front ≡ []) × (epoch ≡ 0))
 
 -- the revision after a hyphen, where there is one
 abbrev pub revision_text : Option (List ℕ) → List ℕ
 revision_text None = []
 revision_text (Some revision) = hyphen ∷ revision
-
--- one byte or more, and each of them passes
-abbrev pub IsMadeOf : (ℕ → Bool) → List ℕ → Type 0
-IsMadeOf test bytes = (0 < length bytes) × IsTrue (list_all test bytes)
 
 -- The text is an epoch as it may be written, the upstream version and the revision.
 pub record Spells (text : List ℕ) (version : Parts) : Type 0 where
