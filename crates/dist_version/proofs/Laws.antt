@@ -1,10 +1,11 @@
 -- What holds of all texts: which spell a version, and that each spells one at most.
-use Rattle.std.proofs.Common.{◌≡◌, ◌≢◌, ℕ, ◌+◌, ◌<◌, ◌≤◌, Bool, true, false, true≢false, cond, not, ◌&&◌, ◌==◌, nat_lt, ne_eqb, ltb-false, le-ltb, List, [], ◌∷◌, ◌++◌, append_assoc, append-nil, length, length-append, Option, None, Some, option_map, IfSome, IsSome, MatchOption, refl, sym, ap, ◌∙◌, subst, ◌⊎◌, inl, inr, arith}
+use Rattle.std.proofs.Common.{◌≡◌, ◌≢◌, ℕ, ◌+◌, ◌<◌, ◌≤◌, Bool, true, false, true≢false, cond, not, ◌&&◌, ◌==◌, nat_lt, ne_eqb, ltb-false, le-ltb, lt-ltb, List, [], ◌∷◌, ◌++◌, append_assoc, append-nil, length, length-append, Option, None, Some, option_map, position, add_assoc, add-zero, IfSome, IsSome, MatchOption, refl, sym, ap, ◌∙◌, subst, ◌⊎◌, inl, inr, arith}
 use Rattle.std.specs.Char.{is_ascii_digit}
 use Rattle.std.specs.List.{list_all, position_from}
 use Rattle.std.specs.Option.{option_map_or, option_or}
 use Rattle.std.specs.Str.Parse.{digits_value}
 use Rattle.std.proofs.lemmas.Bool.{false≢true, and_parts, and_from, or_parts, or_from, false_from_ne_true, cases_Bool, cond-true, cond-false}
+use Rattle.std.proofs.lemmas.Iterator.Adapters.{position_from-zero}
 use Rattle.dist_version.specs.declared.error.VersionError.{VersionError}
 use Rattle.dist_version.specs.declared.error.VersionError.TheVariants.{BadEpoch, EpochTooLarge, BadByte}
 use Rattle.dist_version.specs.Spelling.{colon, hyphen, has, is_upstream_byte, is_revision_byte, IsMadeOf, Parts, Spells, SpellsEpoch, revision_text, IsVersion, split_once, rsplit_once, epoch_digits, after_epoch, epoch_of, upstream_of, revision_of, parts_of}
@@ -51,6 +52,15 @@ epoch_fault-none_is (d ∷ ds) e =
     let p = chosen (list_all is_ascii_digit (d ∷ ds)) (nat_lt 2147483647 (digits_value 10 (d ∷ ds))) e in
     ((omega arith, p.0), ltb-false 2147483647 (digits_value 10 (d ∷ ds)) p.1)
 
+pub epoch_fault-bad : (ds : List ℕ) → (length ds ≡ 0) ⊎ (list_all is_ascii_digit ds ≡ false) → epoch_fault ds ≡ Some BadEpoch
+epoch_fault-bad [] h = refl
+epoch_fault-bad (d ∷ ds) (inl h) = absurd (omega (arith, h))
+epoch_fault-bad (d ∷ ds) (inr h) = rw h refl
+
+pub epoch_fault-large : (ds : List ℕ) → 0 < length ds → list_all is_ascii_digit ds ≡ true → 2147483647 < digits_value 10 ds → epoch_fault ds ≡ Some EpochTooLarge
+epoch_fault-large [] some all large = absurd (omega arith)
+epoch_fault-large (d ∷ ds) some all large = rw (all, lt-ltb 2147483647 (digits_value 10 (d ∷ ds)) large) refl
+
 -- ---- the epoch's colon
 
 -- what stands after the epoch, and the epoch's value
@@ -62,6 +72,10 @@ pub record StartsWith (text after : List ℕ) (value : ℕ) : Type 0 where
 pub with_colon : (text digits after : List ℕ) → split_once colon text ≡ Some (digits, after) → epoch_fault digits ≡ None → StartsWith text after (digits_value 10 digits)
 unfolding after_epoch epoch_of epoch_digits
 with_colon text digits after e f = record { rest = rw e refl; epoch = rw e refl; fault = rw e f }
+
+pub fault_with_colon : (text digits after : List ℕ) (fault : VersionError) → split_once colon text ≡ Some (digits, after) → epoch_fault digits ≡ Some fault → option_map_or epoch_fault (epoch_digits text) None ≡ Some fault
+unfolding epoch_digits
+fault_with_colon text digits after fault e f = rw e f
 
 pub without_colon : (text : List ℕ) → split_once colon text ≡ None → StartsWith text text 0
 unfolding after_epoch epoch_of epoch_digits
@@ -149,6 +163,27 @@ bad_byte-none_is test start [] e = refl
 bad_byte-none_is test start (x ∷ xs) e = elim (cases_Bool (test x)) [
     inl pass ↦ and_from (test x) (list_all test xs) pass (bad_byte-none_is test (start + 1) xs (rw pass at e))
   | inr fail ↦ absurd (some-none (BadByte start) (rw fail at e)) ]
+
+-- by the first place that fails
+position_from-add : (test : ℕ → Bool) (start i : ℕ) (bytes : List ℕ) → position_from test (start + i) bytes ≡ option_map (λ k. start + k) (position_from test i bytes)
+position_from-add test start i [] = refl
+position_from-add test start i (x ∷ xs) = elim (cases_Bool (test x)) [
+    inl pass ↦ rw pass refl
+  | inr fail ↦ rw fail (ap (λ n. position_from test n xs) (add_assoc start i 1) ∙ position_from-add test start (i + 1) xs) ]
+
+option_map-map : (start : ℕ) (o : Option ℕ) → option_map (λ place. BadByte place) (option_map (λ k. start + k) o) ≡ option_map (λ k. BadByte (start + k)) o
+option_map-map start None = refl
+option_map-map start (Some k) = refl
+
+pub bad_byte-position : (test : ℕ → Bool) (start : ℕ) (bytes : List ℕ) → bad_byte test start bytes ≡ option_map (λ k. BadByte (start + k)) (position (λ b. not (test b)) bytes)
+bad_byte-position test start bytes =
+    let fails : ℕ → Bool = λ b. not (test b) in
+    ap (option_map (λ place. BadByte place)) (
+      ap (λ n. position_from fails n bytes) (sym (add-zero start))
+      ∙ position_from-add fails start 0 bytes
+      ∙ ap (option_map (λ k. start + k)) (sym (position_from-zero fails bytes))
+    )
+    ∙ option_map-map start (position fails bytes)
 
 byte_fault-none : (text : List ℕ) → list_all is_upstream_byte (upstream_of text) ≡ true → (revision : Option (List ℕ)) → revision_of text ≡ revision → IfSome revision (IsMadeOf is_revision_byte) → byte_fault text ≡ None
 byte_fault-none text all None e made = or-none _ _ (bad_byte-none is_upstream_byte (upstream_start text) (upstream_of text) all) (rw e refl)

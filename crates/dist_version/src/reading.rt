@@ -1,5 +1,7 @@
 // The parts of a version text, and its first fault, by Debian Policy 5.6.12.
-ghost use Rattle.std.specs.Prelude.{◌≡◌, ℕ, ◌+◌, ◌^◌, ◌<◌, None, Some, MatchResult, length};
+ghost use Rattle.std.specs.Prelude.{◌≡◌, ℕ, ◌+◌, ◌^◌, ◌<◌, None, Some, MatchResult, length, not, position};
+ghost use Rattle.std.specs.Char.{is_ascii_digit};
+ghost use Rattle.std.specs.List.{list_all};
 ghost use Rattle.std.specs.Option.{option_map, option_map_or};
 ghost use Rattle.std.specs.Str.Parse.{digits_value};
 ghost use Rattle.dist_version.specs.Spelling.{split_once, rsplit_once, is_upstream_byte, is_revision_byte, epoch_digits, after_epoch, epoch_of};
@@ -45,24 +47,44 @@ fn is_revision_byte(byte: u8) -> bool
     byte.is_ascii_alphanumeric() || matches!(byte, b'.' | b'+' | b'~')
 }
 
+fn bad_upstream_byte(upstream: &[u8]) -> Option<usize>
+    ensures { result ≡ position (λ byte. not (is_upstream_byte byte)) upstream.now }
+{
+    upstream.iter().position(|byte| !is_upstream_byte(*byte))
+}
+
+fn bad_revision_byte(revision: &[u8]) -> Option<usize>
+    ensures { result ≡ position (λ byte. not (is_revision_byte byte)) revision.now }
+{
+    revision.iter().position(|byte| !is_revision_byte(*byte))
+}
+
+/// Refuses an upstream version by its first bad byte, where it begins at a place of the text.
 fn check_upstream(upstream: &[u8], start: usize) -> Result<(), VersionError>
     requires { start + length upstream.now < 2 ^ 64 }
     ensures { MatchResult result (λ _. bad_byte is_upstream_byte start upstream.now ≡ None) (λ error. bad_byte is_upstream_byte start upstream.now ≡ Some error) }
 {
-    match upstream.iter().position(|byte| !is_upstream_byte(*byte)) {
+    match bad_upstream_byte(upstream) {
         Some(at) => Err(VersionError::BadByte(start + at)),
         None => Ok(()),
     }
 }
 
+/// The same for a revision.
 fn check_revision(revision: &[u8], start: usize) -> Result<(), VersionError>
     requires { start + length revision.now < 2 ^ 64 }
     ensures { MatchResult result (λ _. bad_byte is_revision_byte start revision.now ≡ None) (λ error. bad_byte is_revision_byte start revision.now ≡ Some error) }
 {
-    match revision.iter().position(|byte| !is_revision_byte(*byte)) {
+    match bad_revision_byte(revision) {
         Some(at) => Err(VersionError::BadByte(start + at)),
         None => Ok(()),
     }
+}
+
+fn are_digits(bytes: &[u8]) -> bool
+    ensures { result ≡ list_all is_ascii_digit bytes.now }
+{
+    bytes.iter().all(|byte| byte.is_ascii_digit())
 }
 
 /// The number that an epoch's digits write.
@@ -71,7 +93,7 @@ fn epoch_value(digits: &[u8]) -> Result<u32, VersionError>
         (λ value. (epoch_fault digits.now ≡ None) × (digits_value 10 digits.now ≡ value))
         (λ error. epoch_fault digits.now ≡ Some error) }
 {
-    if digits.is_empty() || !digits.iter().all(|byte| byte.is_ascii_digit()) {
+    if digits.is_empty() || !are_digits(digits) {
         return Err(VersionError::BadEpoch);
     }
     let mut value: u64 = 0;
