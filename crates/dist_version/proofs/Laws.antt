@@ -2,7 +2,7 @@
 use Rattle.std.proofs.Common.{◌≡◌, ◌≢◌, ℕ, ◌+◌, ◌<◌, ◌≤◌, Bool, true, false, true≢false, cond, not, ◌&&◌, ◌==◌, nat_lt, ne_eqb, ltb-false, le-ltb, lt-ltb, List, [], ◌∷◌, ◌++◌, append_assoc, append-nil, length, length-append, Option, None, Some, option_map, position, add_assoc, add-zero, IfSome, IsSome, MatchOption, refl, sym, ap, ◌∙◌, subst, ◌⊎◌, inl, inr, arith}
 use Rattle.std.specs.Char.{is_ascii_digit}
 use Rattle.std.specs.List.{list_all, position_from}
-use Rattle.std.specs.Option.{option_map_or, option_or}
+use Rattle.std.specs.Option.{option_map_or, option_or, unwrap_or}
 use Rattle.std.specs.Str.Parse.{digits_value}
 use Rattle.std.proofs.lemmas.Bool.{false≢true, and_parts, and_from, or_parts, or_from, false_from_ne_true, cases_Bool, cond-true, cond-false}
 use Rattle.std.proofs.lemmas.Iterator.Adapters.{position_from-zero}
@@ -139,7 +139,7 @@ faultless text none =
     let d = or-none_is _ _ c.1 in
     record { empty = a.0; epoch = b.0; upstream = c.0; revision = d.0; byte = d.1 }
 
-empty_fault-none : (text : List ℕ) → 0 < length text → empty_fault text ≡ None
+pub empty_fault-none : (text : List ℕ) → 0 < length text → empty_fault text ≡ None
 empty_fault-none [] h = absurd (omega arith)
 empty_fault-none (b ∷ bs) h = refl
 
@@ -175,7 +175,7 @@ option_map-map : (start : ℕ) (o : Option ℕ) → option_map (λ place. BadByt
 option_map-map start None = refl
 option_map-map start (Some k) = refl
 
-pub bad_byte-position : (test : ℕ → Bool) (start : ℕ) (bytes : List ℕ) → bad_byte test start bytes ≡ option_map (λ k. BadByte (start + k)) (position (λ b. not (test b)) bytes)
+bad_byte-position : (test : ℕ → Bool) (start : ℕ) (bytes : List ℕ) → bad_byte test start bytes ≡ option_map (λ k. BadByte (start + k)) (position (λ b. not (test b)) bytes)
 bad_byte-position test start bytes =
     let fails : ℕ → Bool = λ b. not (test b) in
     ap (option_map (λ place. BadByte place)) (
@@ -184,6 +184,12 @@ bad_byte-position test start bytes =
       ∙ ap (option_map (λ k. start + k)) (sym (position_from-zero fails bytes))
     )
     ∙ option_map-map start (position fails bytes)
+
+pub bad_byte-found : (test : ℕ → Bool) (start : ℕ) (bytes : List ℕ) (k : ℕ) → position (λ b. not (test b)) bytes ≡ Some k → bad_byte test start bytes ≡ Some (BadByte (start + k))
+bad_byte-found test start bytes k e = bad_byte-position test start bytes ∙ ap (option_map (λ k. BadByte (start + k))) e
+
+pub bad_byte-passed : (test : ℕ → Bool) (start : ℕ) (bytes : List ℕ) → position (λ b. not (test b)) bytes ≡ None → bad_byte test start bytes ≡ None
+bad_byte-passed test start bytes e = bad_byte-position test start bytes ∙ ap (option_map (λ k. BadByte (start + k))) e
 
 byte_fault-none : (text : List ℕ) → list_all is_upstream_byte (upstream_of text) ≡ true → (revision : Option (List ℕ)) → revision_of text ≡ revision → IfSome revision (IsMadeOf is_revision_byte) → byte_fault text ≡ None
 byte_fault-none text all None e made = or-none _ _ (bad_byte-none is_upstream_byte (upstream_start text) (upstream_of text) all) (rw e refl)
@@ -248,7 +254,7 @@ upstream_fault-none_is : (upstream : List ℕ) → upstream_fault upstream ≡ N
 upstream_fault-none_is [] e = absurd (some-none _ e)
 upstream_fault-none_is (b ∷ bs) e = omega arith
 
-revision_from : (revision : Option (List ℕ)) (start : ℕ) → revision_fault revision ≡ None → option_map_or (λ r. r) (option_map (bad_byte is_revision_byte start) revision) None ≡ None → IfSome revision (IsMadeOf is_revision_byte)
+revision_from : (revision : Option (List ℕ)) (start : ℕ) → revision_fault revision ≡ None → bad_byte is_revision_byte start (unwrap_or revision []) ≡ None → IfSome revision (IsMadeOf is_revision_byte)
 revision_from None start e f = tt
 revision_from (Some []) start e f = absurd (some-none _ e)
 revision_from (Some (b ∷ bs)) start e f = (omega arith, bad_byte-none_is is_revision_byte start (b ∷ bs) f)
@@ -257,7 +263,7 @@ pub version_from_no_fault : (text : List ℕ) → fault_of text ≡ None → IsV
 unfolding epoch_digits
 version_from_no_fault text none =
     let f = faultless text none in
-    let e = or-none_is (bad_byte is_upstream_byte (upstream_start text) (upstream_of text)) (option_map_or (λ r. r) (option_map (bad_byte is_revision_byte (revision_start text)) (revision_of text)) None) f.byte in
+    let e = or-none_is (bad_byte is_upstream_byte (upstream_start text) (upstream_of text)) (bad_byte is_revision_byte (revision_start text) (unwrap_or (revision_of text) [])) f.byte in
     let s = epoch_from text (split_once colon text) refl (cases_split colon text) f.epoch in
     let t = ending_from text s.after s.start.rest (rsplit_once hyphen s.after) refl (cases_rsplit hyphen s.after) in
     let upstream : IsMadeOf is_upstream_byte t.upstream =
