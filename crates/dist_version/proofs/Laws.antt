@@ -1,5 +1,5 @@
 -- What holds of all texts: which spell a version, and that each spells one at most.
-use Rattle.std.proofs.Common.{◌≡◌, ◌≢◌, ℕ, ◌+◌, ◌<◌, ◌≤◌, Bool, true, false, true≢false, cond, not, ◌&&◌, ◌==◌, nat_lt, ne_eqb, ltb-false, le-ltb, lt-ltb, List, [], ◌∷◌, ◌++◌, append_assoc, append-nil, length, length-append, Option, None, Some, option_map, position, add_assoc, add-zero, IfSome, IsSome, MatchOption, refl, sym, ap, ◌∙◌, subst, ◌⊎◌, inl, inr, arith}
+use Rattle.std.proofs.Common.{◌≡◌, ◌↔◌, ◌≢◌, ℕ, ◌+◌, ◌<◌, ◌≤◌, Bool, true, false, true≢false, cond, not, ◌&&◌, ◌==◌, nat_lt, ne_eqb, ltb-false, le-ltb, lt-ltb, List, [], ◌∷◌, ◌++◌, append_assoc, append-nil, length, length-append, Option, None, Some, option_map, position, add_assoc, add-zero, IfSome, IsSome, MatchOption, refl, sym, ap, ◌∙◌, subst, ◌⊎◌, inl, inr, arith}
 use Rattle.std.specs.Char.{is_ascii_digit}
 use Rattle.std.specs.List.{list_all, position_from}
 use Rattle.std.specs.Option.{option_map_or, option_or, unwrap_or}
@@ -279,6 +279,9 @@ version_from_no_fault text none =
       written = λ h e. true≢false (sym h ∙ has-append_left colon t.upstream (revision_text t.revision) (rw t.whole at (s.lacking e)));
       revised = t.revised;
     })
+
+pub exactly_versions : (text : List ℕ) → (fault_of text ≡ None) ↔ IsVersion text
+exactly_versions text = (version_from_no_fault text, no_fault_from_version text)
 
 pub spells_parts : (text : List ℕ) → fault_of text ≡ None → Spells text (parts_of text)
 spells_parts text none =

@@ -1,7 +1,7 @@
 // The order of two parts of versions, by turns: a start without digits, and then a run of digits, which is never computed.
-ghost use Rattle.std.specs.Prelude.{◌≡◌, ℕ, ◌<◌, ◌≤◌, IsTrue, length, map};
+ghost use Rattle.std.specs.Prelude.{◌≡◌, IsTrue, map, drop, not, ◌==◌};
 ghost use Rattle.std.specs.Char.{is_ascii_digit};
-ghost use Rattle.std.specs.List.{list_all};
+ghost use Rattle.std.specs.List.{list_all, prefix_len};
 ghost use Rattle.std.specs.Ordering.{nat_cmp};
 ghost use Rattle.std.specs.Str.Parse.{digits_value};
 ghost use Rattle.dist_version.specs.Order.{weight_of, weight_at, text_start, digit_start, after_text, after_turn, weights_cmp, part_cmp};
@@ -16,21 +16,27 @@ struct Turn<'a> {
     rest: &'a [u8],
 }
 
+/// How many bytes stand before the first digit.
+fn text_len(part: &[u8]) -> usize
+    ensures { result ≡ prefix_len (λ byte. not (is_ascii_digit byte)) part.now }
+{
+    part.iter().take_while(|byte| !byte.is_ascii_digit()).count()
+}
+
+/// How many digits stand at the start.
+fn digits_len(part: &[u8]) -> usize
+    ensures { result ≡ prefix_len is_ascii_digit part.now }
+{
+    part.iter().take_while(|byte| byte.is_ascii_digit()).count()
+}
+
 fn next_turn(part: &[u8]) -> Turn<'_>
     ensures text { result.text.now ≡ text_start part.now }
     ensures digits { result.digits.now ≡ digit_start (after_text part.now) }
     ensures rest { result.rest.now ≡ after_turn part.now }
 {
-    let text_end = part
-        .iter()
-        .position(|byte| byte.is_ascii_digit())
-        .unwrap_or(part.len());
-    let (text, after) = part.split_at(text_end);
-    let digits_end = after
-        .iter()
-        .position(|byte| !byte.is_ascii_digit())
-        .unwrap_or(after.len());
-    let (digits, rest) = after.split_at(digits_end);
+    let (text, after) = part.split_at(text_len(part));
+    let (digits, rest) = after.split_at(digits_len(after));
     Turn { text, digits, rest }
 }
 
