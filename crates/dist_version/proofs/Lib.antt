@@ -2,3 +2,6 @@ pub mod Cuts
 pub mod Digits
 pub mod Laws
 pub mod Steps
+pub mod Then
+pub mod Total
+pub mod Turns
