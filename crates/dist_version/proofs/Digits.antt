@@ -1,5 +1,5 @@
 -- The numbers that digits write: how they grow, and how they compare.
-use Rattle.std.proofs.Common.{◌≡◌, ◌≢◌, ℕ, zero, suc, ◌+◌, ◌-◌, ◌*◌, ◌^◌, ◌<◌, ◌≤◌, Bool, true, false, cond, List, [], ◌∷◌, ◌++◌, length, get_or, take, drop, take-append-drop, Ordering, Less, Equal, Greater, nat_cmp, ◌==◌, eqb-true, one-add, inl, inr, refl, sym, ap, ap₂, ◌∙◌, arith, le_trans, lt_of_lt_of_le}
+use Rattle.std.proofs.Common.{◌≡◌, ◌≢◌, ℕ, zero, suc, ◌+◌, ◌-◌, ◌*◌, ◌<◌, ◌≤◌, Bool, true, false, List, [], ◌∷◌, ◌++◌, length, get_or, take, drop, take-append-drop, nat_cmp, ◌==◌, eqb-true, one-add, inl, inr, refl, sym, ap, ap₂, ◌∙◌, arith, le_trans, lt_of_lt_of_le}
 use Rattle.std.specs.Char.{is_ascii_digit, digit_value}
 use Rattle.std.specs.Cmp.Lexicographic.{slice_cmp}
 use Rattle.std.specs.List.{list_all, prefix_len}
@@ -31,7 +31,7 @@ value_after-append n (x ∷ xs) ys = value_after-append (n * 10 + digit_value x)
 pub value_of_start : (ds : List ℕ) (i : ℕ) → digits_value 10 (take i ds) ≤ digits_value 10 ds
 value_of_start ds i =
     let e : digits_value 10 ds ≡ digits_value_after 10 (digits_value 10 (take i ds)) (drop i ds) =
-        ap (digits_value 10) (sym (take-append-drop i ds)) ∙ value_after-append 0 (take i ds) (drop i ds) in
+    ap (digits_value 10) (sym (take-append-drop i ds)) ∙ value_after-append 0 (take i ds) (drop i ds) in
     rw e (value_grows (digits_value 10 (take i ds)) (drop i ds))
 
 -- one more digit
@@ -55,33 +55,40 @@ HasNoZero (d ∷ ds) = is_zero d ≡ false
 pub without_zeros-value : (ds : List ℕ) → digits_value 10 (without_zeros ds) ≡ digits_value 10 ds
 without_zeros-value [] = refl
 without_zeros-value (d ∷ ds) = elim (cases_Bool (is_zero d)) [
-    inl zero_digit ↦ rw (zero_digit, one-add, without_zeros-value ds, eqb-true d 48 zero_digit) refl
-  | inr other ↦ rw other refl ]
+  | inl zero_digit ↦ rw (zero_digit, one-add, without_zeros-value ds, eqb-true d 48 zero_digit) refl
+  | inr other ↦ rw other refl
+]
 
 pub without_zeros-all : (ds : List ℕ) → list_all is_ascii_digit ds ≡ true → list_all is_ascii_digit (without_zeros ds) ≡ true
 without_zeros-all [] all = refl
 without_zeros-all (d ∷ ds) all = elim (cases_Bool (is_zero d)) [
-    inl zero_digit ↦ rw (zero_digit, one-add) (without_zeros-all ds (and_parts (is_ascii_digit d) (list_all is_ascii_digit ds) all).1)
-  | inr other ↦ rw other all ]
+  | inl zero_digit ↦ rw (zero_digit, one-add) (without_zeros-all ds (and_parts (is_ascii_digit d) (list_all is_ascii_digit ds) all).1)
+  | inr other ↦ rw other all
+]
 
 pub without_zeros-first : (ds : List ℕ) → HasNoZero (without_zeros ds)
 without_zeros-first [] = tt
 without_zeros-first (d ∷ ds) = elim (cases_Bool (is_zero d)) [
-    inl zero_digit ↦ rw (zero_digit, one-add) (without_zeros-first ds)
-  | inr other ↦ rw other other ]
+  | inl zero_digit ↦ rw (zero_digit, one-add) (without_zeros-first ds)
+  | inr other ↦ rw other other
+]
 
 -- ---- numbers of equally many digits
 
 step_cmp : (n m p q x y : ℕ) → p < 10 → q < 10 → x ≡ p + 48 → y ≡ q + 48 → nat_cmp (n * 10 + p) (m * 10 + q) ≡ ordering_then (nat_cmp n m) (nat_cmp x y)
 step_cmp n m p q x y a b e f = elim (cases_order n m) [
-    inl same ↦ rw (nat_cmp-same n m same) (elim (cases_order p q) [
-        inl g ↦ nat_cmp-same (n * 10 + p) (m * 10 + q) (omega arith) ∙ sym (nat_cmp-same x y (omega arith))
-      | inr g ↦ elim g [
-            inl g ↦ nat_cmp-less (n * 10 + p) (m * 10 + q) (omega arith) ∙ sym (nat_cmp-less x y (omega arith))
-          | inr g ↦ nat_cmp-greater (n * 10 + p) (m * 10 + q) (omega arith) ∙ sym (nat_cmp-greater x y (omega arith)) ] ])
+  | inl same ↦ rw (nat_cmp-same n m same) (elim (cases_order p q) [
+    | inl g ↦ nat_cmp-same (n * 10 + p) (m * 10 + q) (omega arith) ∙ sym (nat_cmp-same x y (omega arith))
+    | inr g ↦ elim g [
+      | inl g ↦ nat_cmp-less (n * 10 + p) (m * 10 + q) (omega arith) ∙ sym (nat_cmp-less x y (omega arith))
+      | inr g ↦ nat_cmp-greater (n * 10 + p) (m * 10 + q) (omega arith) ∙ sym (nat_cmp-greater x y (omega arith))
+    ]
+  ])
   | inr apart ↦ elim apart [
-        inl less ↦ rw (nat_cmp-less n m less) (nat_cmp-less (n * 10 + p) (m * 10 + q) (omega arith))
-      | inr more ↦ rw (nat_cmp-greater n m more) (nat_cmp-greater (n * 10 + p) (m * 10 + q) (omega arith)) ] ]
+    | inl less ↦ rw (nat_cmp-less n m less) (nat_cmp-less (n * 10 + p) (m * 10 + q) (omega arith))
+    | inr more ↦ rw (nat_cmp-greater n m more) (nat_cmp-greater (n * 10 + p) (m * 10 + q) (omega arith))
+  ]
+]
 
 digit_cmp : (n m x y : ℕ) → is_ascii_digit x ≡ true → is_ascii_digit y ≡ true → nat_cmp (n * 10 + digit_value x) (m * 10 + digit_value y) ≡ ordering_then (nat_cmp n m) (nat_cmp x y)
 digit_cmp n m x y a b =
@@ -122,14 +129,16 @@ shorter_is_less xs (y ∷ ys) a b first h =
 pub digits_cmp : (xs ys : List ℕ) → list_all is_ascii_digit xs ≡ true → list_all is_ascii_digit ys ≡ true → HasNoZero xs → HasNoZero ys →
     nat_cmp (digits_value 10 xs) (digits_value 10 ys) ≡ ordering_then (nat_cmp (length xs) (length ys)) (slice_cmp nat_cmp xs ys)
 digits_cmp xs ys a b f g = elim (cases_order (length xs) (length ys)) [
-    inl same ↦ rw (nat_cmp-same (length xs) (length ys) same) (same_length_cmp xs ys 0 0 a b same)
+  | inl same ↦ rw (nat_cmp-same (length xs) (length ys) same) (same_length_cmp xs ys 0 0 a b same)
   | inr apart ↦ elim apart [
-        inl less ↦ rw (nat_cmp-less (length xs) (length ys) less) (nat_cmp-less (digits_value 10 xs) (digits_value 10 ys) (shorter_is_less xs ys a b g less))
-      | inr more ↦ rw (nat_cmp-greater (length xs) (length ys) more) (nat_cmp-greater (digits_value 10 xs) (digits_value 10 ys) (shorter_is_less ys xs b a f more)) ] ]
+    | inl less ↦ rw (nat_cmp-less (length xs) (length ys) less) (nat_cmp-less (digits_value 10 xs) (digits_value 10 ys) (shorter_is_less xs ys a b g less))
+    | inr more ↦ rw (nat_cmp-greater (length xs) (length ys) more) (nat_cmp-greater (digits_value 10 xs) (digits_value 10 ys) (shorter_is_less ys xs b a f more))
+  ]
+]
 
 -- the same of digits with leading zeros, by what the code has left of them
 pub trimmed_cmp : (a b xs ys : List ℕ) → list_all is_ascii_digit a ≡ true → list_all is_ascii_digit b ≡ true → xs ≡ without_zeros a → ys ≡ without_zeros b →
     ordering_then (nat_cmp (length xs) (length ys)) (slice_cmp nat_cmp xs ys) ≡ nat_cmp (digits_value 10 a) (digits_value 10 b)
 trimmed_cmp a b xs ys all all' e f =
     rw (e, f) (sym (digits_cmp (without_zeros a) (without_zeros b) (without_zeros-all a all) (without_zeros-all b all') (without_zeros-first a) (without_zeros-first b))
-      ∙ ap₂ nat_cmp (without_zeros-value a) (without_zeros-value b))
+    ∙ ap₂ nat_cmp (without_zeros-value a) (without_zeros-value b))

@@ -1,10 +1,10 @@
 -- What holds of all texts: which spell a version, and that each spells one at most.
-use Rattle.std.proofs.Common.{◌≡◌, ◌↔◌, ◌≢◌, ℕ, ◌+◌, ◌<◌, ◌≤◌, Bool, true, false, true≢false, cond, not, ◌&&◌, ◌==◌, nat_lt, ne_eqb, ltb-false, le-ltb, lt-ltb, List, [], ◌∷◌, ◌++◌, append_assoc, append-nil, length, length-append, Option, None, Some, option_map, position, add_assoc, add-zero, IfSome, IsSome, MatchOption, refl, sym, ap, ◌∙◌, subst, ◌⊎◌, inl, inr, arith}
+use Rattle.std.proofs.Common.{◌≡◌, ◌↔◌, ℕ, ◌+◌, ◌<◌, ◌≤◌, Bool, true, false, true≢false, cond, not, ◌==◌, nat_lt, ne_eqb, ltb-false, le-ltb, lt-ltb, List, [], ◌∷◌, ◌++◌, append_assoc, append-nil, length, length-append, Option, None, Some, option_map, position, add_assoc, add-zero, IfSome, IsSome, MatchOption, refl, sym, ap, ◌∙◌, subst, ◌⊎◌, inl, inr, arith}
 use Rattle.std.specs.Char.{is_ascii_digit}
 use Rattle.std.specs.List.{list_all, position_from}
 use Rattle.std.specs.Option.{option_map_or, option_or, unwrap_or}
 use Rattle.std.specs.Str.Parse.{digits_value}
-use Rattle.std.proofs.lemmas.Bool.{false≢true, and_parts, and_from, or_parts, or_from, false_from_ne_true, cases_Bool, cond-true, cond-false}
+use Rattle.std.proofs.lemmas.Bool.{false≢true, and_parts, and_from, or_parts, or_from, false_from_ne_true, cases_Bool}
 use Rattle.std.proofs.lemmas.Iterator.Adapters.{position_from-zero}
 use Rattle.dist_version.specs.declared.error.VersionError.{VersionError}
 use Rattle.dist_version.specs.declared.error.VersionError.TheVariants.{BadEpoch, EpochTooLarge, BadByte}
@@ -104,7 +104,7 @@ pub one_version : (text : List ℕ) (version : Parts) → Spells text version �
 one_version text version s =
     let whole : text ≡ s.front ++ (version.upstream ++ revision_text version.revision) = s.whole ∙ append_assoc s.front version.upstream (revision_text version.revision) in
     let lacking : s.front ≡ [] → has colon (version.upstream ++ revision_text version.revision) ≡ false =
-        λ e. revised_lacks version.upstream version.revision (false_from_ne_true (has colon version.upstream) (λ h. s.written h e)) s.revision in
+    λ e. revised_lacks version.upstream version.revision (false_from_ne_true (has colon version.upstream) (λ h. s.written h e)) s.revision in
     let start = starts_with text s.front (version.upstream ++ revision_text version.revision) version.epoch whole s.epoch s.small lacking in
     let cut = cut_at text version.upstream version.revision start.rest s.revision s.revised in
     sym (λ i. record { epoch = start.epoch i; upstream = cut.0 i; revision = cut.1 i })
@@ -161,15 +161,17 @@ bad_byte-none test start (x ∷ xs) all =
 pub bad_byte-none_is : (test : ℕ → Bool) (start : ℕ) (bytes : List ℕ) → bad_byte test start bytes ≡ None → list_all test bytes ≡ true
 bad_byte-none_is test start [] e = refl
 bad_byte-none_is test start (x ∷ xs) e = elim (cases_Bool (test x)) [
-    inl pass ↦ and_from (test x) (list_all test xs) pass (bad_byte-none_is test (start + 1) xs (rw pass at e))
-  | inr fail ↦ absurd (some-none (BadByte start) (rw fail at e)) ]
+  | inl pass ↦ and_from (test x) (list_all test xs) pass (bad_byte-none_is test (start + 1) xs (rw pass at e))
+  | inr fail ↦ absurd (some-none (BadByte start) (rw fail at e))
+]
 
 -- by the first place that fails
 position_from-add : (test : ℕ → Bool) (start i : ℕ) (bytes : List ℕ) → position_from test (start + i) bytes ≡ option_map (λ k. start + k) (position_from test i bytes)
 position_from-add test start i [] = refl
 position_from-add test start i (x ∷ xs) = elim (cases_Bool (test x)) [
-    inl pass ↦ rw pass refl
-  | inr fail ↦ rw fail (ap (λ n. position_from test n xs) (add_assoc start i 1) ∙ position_from-add test start (i + 1) xs) ]
+  | inl pass ↦ rw pass refl
+  | inr fail ↦ rw fail (ap (λ n. position_from test n xs) (add_assoc start i 1) ∙ position_from-add test start (i + 1) xs)
+]
 
 option_map-map : (start : ℕ) (o : Option ℕ) → option_map (λ place. BadByte place) (option_map (λ k. start + k) o) ≡ option_map (λ k. BadByte (start + k)) o
 option_map-map start None = refl
@@ -179,9 +181,9 @@ bad_byte-position : (test : ℕ → Bool) (start : ℕ) (bytes : List ℕ) → b
 bad_byte-position test start bytes =
     let fails : ℕ → Bool = λ b. not (test b) in
     ap (option_map (λ place. BadByte place)) (
-      ap (λ n. position_from fails n bytes) (sym (add-zero start))
-      ∙ position_from-add fails start 0 bytes
-      ∙ ap (option_map (λ k. start + k)) (sym (position_from-zero fails bytes))
+    ap (λ n. position_from fails n bytes) (sym (add-zero start))
+    ∙ position_from-add fails start 0 bytes
+    ∙ ap (option_map (λ k. start + k)) (sym (position_from-zero fails bytes))
     )
     ∙ option_map-map start (position fails bytes)
 
@@ -199,7 +201,7 @@ pub no_fault_from_version : (text : List ℕ) → IsVersion text → fault_of te
 no_fault_from_version text (version, s) =
     let whole : text ≡ s.front ++ (version.upstream ++ revision_text version.revision) = s.whole ∙ append_assoc s.front version.upstream (revision_text version.revision) in
     let lacking : s.front ≡ [] → has colon (version.upstream ++ revision_text version.revision) ≡ false =
-        λ e. revised_lacks version.upstream version.revision (false_from_ne_true (has colon version.upstream) (λ h. s.written h e)) s.revision in
+    λ e. revised_lacks version.upstream version.revision (false_from_ne_true (has colon version.upstream) (λ h. s.written h e)) s.revision in
     let start = starts_with text s.front (version.upstream ++ revision_text version.revision) version.epoch whole s.epoch s.small lacking in
     let cut = cut_at text version.upstream version.revision start.rest s.revision s.revised in
     let some : 0 < length text = omega (arith, s.upstream.0, ap length whole, length-append s.front (version.upstream ++ revision_text version.revision), length-append version.upstream (revision_text version.revision)) in
@@ -224,15 +226,26 @@ record Epoch (text : List ℕ) : Type 0 where
 
 epoch_from : (text : List ℕ) (o : Option (List ℕ × List ℕ)) → split_once colon text ≡ o → MatchOption o (has colon text ≡ false) (CutsFirst colon text) → option_map_or epoch_fault (option_map (λ s. s.0) o) None ≡ None → Epoch text
 epoch_from text None e cut none = record {
-  front = []; after = text; value = 0; whole = refl; spelled = inr (refl, refl); small = omega arith; lacking = λ _. cut; start = without_colon text e }
+  front = [];
+  after = text;
+  value = 0;
+  whole = refl;
+  spelled = inr (refl, refl);
+  small = omega arith;
+  lacking = λ _. cut;
+  start = without_colon text e;
+}
 epoch_from text (Some s) e cut none =
     let p = epoch_fault-none_is s.0 none in record {
-  front = s.0 ++ colon ∷ []; after = s.1; value = digits_value 10 s.0;
-  whole = cut.0 ∙ sym (append_assoc s.0 (colon ∷ []) s.1);
-  spelled = inl (s.0, refl, p.0, refl);
-  small = p.1;
-  lacking = λ h. absurd (omega (arith, ap length h, length-append s.0 (colon ∷ [])));
-  start = with_colon text s.0 s.1 e none }
+      front = s.0 ++ colon ∷ [];
+      after = s.1;
+      value = digits_value 10 s.0;
+      whole = cut.0 ∙ sym (append_assoc s.0 (colon ∷ []) s.1);
+      spelled = inl (s.0, refl, p.0, refl);
+      small = p.1;
+      lacking = λ h. absurd (omega (arith, ap length h, length-append s.0 (colon ∷ [])));
+      start = with_colon text s.0 s.1 e none;
+    }
 
 -- how it ends
 record Ending (text after : List ℕ) : Type 0 where
@@ -246,9 +259,21 @@ record Ending (text after : List ℕ) : Type 0 where
 ending_from : (text after : List ℕ) → after_epoch text ≡ after → (o : Option (List ℕ × List ℕ)) → rsplit_once hyphen after ≡ o → MatchOption o (has hyphen after ≡ false) (CutsLast hyphen after) → Ending text after
 unfolding upstream_of revision_of
 ending_from text after rest None e cut = record {
-  upstream = after; revision = None; whole = sym (append-nil after); revised = λ h. absurd (true≢false (sym h ∙ cut)); upstream_is = rw (rest, e) refl; revision_is = rw (rest, e) refl }
+  upstream = after;
+  revision = None;
+  whole = sym (append-nil after);
+  revised = λ h. absurd (true≢false (sym h ∙ cut));
+  upstream_is = rw (rest, e) refl;
+  revision_is = rw (rest, e) refl;
+}
 ending_from text after rest (Some s) e cut = record {
-  upstream = s.0; revision = Some s.1; whole = cut.0; revised = λ h. refl; upstream_is = rw (rest, e) refl; revision_is = rw (rest, e) refl }
+  upstream = s.0;
+  revision = Some s.1;
+  whole = cut.0;
+  revised = λ h. refl;
+  upstream_is = rw (rest, e) refl;
+  revision_is = rw (rest, e) refl;
+}
 
 upstream_fault-none_is : (upstream : List ℕ) → upstream_fault upstream ≡ None → 0 < length upstream
 upstream_fault-none_is [] e = absurd (some-none _ e)
@@ -267,18 +292,20 @@ version_from_no_fault text none =
     let s = epoch_from text (split_once colon text) refl (cases_split colon text) f.epoch in
     let t = ending_from text s.after s.start.rest (rsplit_once hyphen s.after) refl (cases_rsplit hyphen s.after) in
     let upstream : IsMadeOf is_upstream_byte t.upstream =
-        (upstream_fault-none_is t.upstream (rw t.upstream_is at f.upstream), bad_byte-none_is is_upstream_byte (upstream_start text) t.upstream (rw t.upstream_is at e.0)) in
-    let revision = revision_from t.revision (revision_start text) (rw t.revision_is at f.revision) (rw t.revision_is at e.1) in
-    (record { epoch = s.value; upstream = t.upstream; revision = t.revision }, record {
-      front = s.front;
-      whole = s.whole ∙ ap (λ w. s.front ++ w) t.whole ∙ sym (append_assoc s.front t.upstream (revision_text t.revision));
-      epoch = s.spelled;
-      small = s.small;
-      upstream = upstream;
-      revision = revision;
-      written = λ h e. true≢false (sym h ∙ has-append_left colon t.upstream (revision_text t.revision) (rw t.whole at (s.lacking e)));
-      revised = t.revised;
-    })
+    (upstream_fault-none_is t.upstream (rw t.upstream_is at f.upstream), bad_byte-none_is is_upstream_byte (upstream_start text) t.upstream (rw t.upstream_is at e.0)) in
+    let revision = revision_from t.revision (revision_start text) (rw t.revision_is at f.revision) (rw t.revision_is at e.1) in (
+      record { epoch = s.value; upstream = t.upstream; revision = t.revision },
+      record {
+        front = s.front;
+        whole = s.whole ∙ ap (λ w. s.front ++ w) t.whole ∙ sym (append_assoc s.front t.upstream (revision_text t.revision));
+        epoch = s.spelled;
+        small = s.small;
+        upstream = upstream;
+        revision = revision;
+        written = λ h e. true≢false (sym h ∙ has-append_left colon t.upstream (revision_text t.revision) (rw t.whole at (s.lacking e)));
+        revised = t.revised;
+      },
+    )
 
 pub exactly_versions : (text : List ℕ) → (fault_of text ≡ None) ↔ IsVersion text
 exactly_versions text = (version_from_no_fault text, no_fault_from_version text)

@@ -1,5 +1,5 @@
 -- The steps in which a text is read: which fault each of them finds, and the places that are kept.
-use Rattle.std.proofs.Common.{◌≡◌, ℕ, ◌+◌, ◌-◌, ◌<◌, ◌≤◌, Bool, true, false, cond, not, position, nat_lt, le-ltb, lt-ltb, List, [], ◌∷◌, ◌++◌, append_assoc, append-nil, length, length-append, take, drop, drop_at, take_at, slice_range, Option, None, Some, option_map, MatchOption, option_copied, Bor, true≢false, eqb-true, ◌==◌, refl, sym, ap, ◌∙◌, arith}
+use Rattle.std.proofs.Common.{◌≡◌, ℕ, ◌+◌, ◌-◌, ◌<◌, ◌≤◌, true, false, cond, nat_lt, le-ltb, lt-ltb, List, [], ◌∷◌, ◌++◌, append_assoc, append-nil, length, length-append, take, drop, drop_at, take_at, slice_range, Option, None, Some, option_map, MatchOption, option_copied, Bor, true≢false, eqb-true, ◌==◌, refl, sym, ap, ◌∙◌, arith}
 use Rattle.std.specs.Option.{option_map_or, option_or, unwrap_or}
 use Rattle.std.proofs.lemmas.Bool.{cond-true, cond-false}
 use Rattle.dist_version.specs.declared.error.VersionError.{VersionError}
@@ -111,7 +111,7 @@ placed text front upstream revision start whole begins =
     let tail = revision_text revision in
     let rest : drop start text ≡ upstream ++ tail = ap (drop start) whole ∙ drop_at front (upstream ++ tail) start (sym begins) in
     let cut : take (start + length upstream - start) (drop start text) ≡ upstream =
-        ap (take (start + length upstream - start)) rest ∙ take_at upstream tail (start + length upstream - start) (omega arith) in
+    ap (take (start + length upstream - start)) rest ∙ take_at upstream tail (start + length upstream - start) (omega arith) in
     record {
       within = omega (arith, ap length whole, length-append front (upstream ++ tail), length-append upstream tail);
       upstream_at = sym cut;

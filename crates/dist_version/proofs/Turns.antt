@@ -1,11 +1,10 @@
 -- The order of two parts, turn by turn.
-use Rattle.std.proofs.Common.{◌≡◌, ◌≢◌, ℕ, zero, suc, ◌+◌, ◌-◌, ◌<◌, ◌≤◌, add-zero, add-suc, add-one, one-add, true≢false, lt-ltb, le-ltb, ne_eqb, Bool, true, false, cond, not, ◌==◌, List, [], ◌∷◌, ◌++◌, length, map, take, drop, length-take, length-drop, ℤ, pos, negsuc, Ordering, Less, Equal, Greater, int_cmp, nat_cmp, refl, sym, ap, ◌∙◌, inl, inr, arith}
+use Rattle.std.proofs.Common.{◌≡◌, ◌≢◌, ℕ, zero, suc, ◌+◌, ◌-◌, ◌<◌, ◌≤◌, add-zero, add-suc, add-one, one-add, true≢false, Bool, true, false, not, ◌==◌, List, [], ◌∷◌, ◌++◌, length, map, take, drop, length-take, length-drop, ℤ, pos, Ordering, Less, Equal, Greater, int_cmp, nat_cmp, refl, sym, ap, ◌∙◌, inl, inr, arith}
 use Rattle.std.specs.Char.{is_ascii_digit, is_ascii_alphabetic}
-use Rattle.std.specs.Cmp.{IsTotalOrder}
 use Rattle.std.specs.List.{prefix_len, list_all}
-use Rattle.std.specs.Ordering.{ordering_then, ordering_reverse, is_ne}
+use Rattle.std.specs.Ordering.{ordering_then, ordering_reverse}
 use Rattle.std.specs.Str.Parse.{digits_value}
-use Rattle.std.proofs.lemmas.Bool.{cases_Bool, cond-true, cond-false}
+use Rattle.std.proofs.lemmas.Bool.{cases_Bool}
 use Rattle.std.proofs.lemmas.Bool.Decides.{nat_tests}
 use Rattle.std.proofs.lemmas.List.{drop_all}
 use Rattle.std.proofs.lemmas.List.Sums.{prefix_len-le-length}
@@ -86,14 +85,15 @@ after_turn_shorter x xs =
     let first : length (after_text part) ≡ length part - length (text_start part) = length-drop (length (text_start part)) part in
     let second : length (after_turn part) ≡ length (after_text part) - length (digit_start (after_text part)) = length-drop (length (digit_start (after_text part))) (after_text part) in
     elim (cases_Bool (is_ascii_digit x)) [
-        inl digit ↦
-        let none : length (text_start part) ≡ 0 = length-taken other part ∙ starts_not_by other x xs (rw digit refl) in
-        let whole : after_text part ≡ part = ap (λ n. drop n part) none in
-        let some : 0 < length (digit_start part) = omega (arith, length-taken is_ascii_digit part, starts_by is_ascii_digit x xs digit) in
-        omega (arith, first, second, none, some, ap (λ p. length (digit_start p)) whole, ap length whole)
+      | inl digit ↦
+          let none : length (text_start part) ≡ 0 = length-taken other part ∙ starts_not_by other x xs (rw digit refl) in
+          let whole : after_text part ≡ part = ap (λ n. drop n part) none in
+          let some : 0 < length (digit_start part) = omega (arith, length-taken is_ascii_digit part, starts_by is_ascii_digit x xs digit) in
+          omega (arith, first, second, none, some, ap (λ p. length (digit_start p)) whole, ap length whole)
       | inr letter ↦
-        let some : 0 < length (text_start part) = omega (arith, length-taken other part, starts_by other x xs (rw letter refl)) in
-        omega (arith, first, second, some) ]
+          let some : 0 < length (text_start part) = omega (arith, length-taken other part, starts_by other x xs (rw letter refl)) in
+          omega (arith, first, second, some)
+    ]
 
 after_turn-le : (n : ℕ) (part : List ℕ) → length part ≤ suc n → length (after_turn part) ≤ n
 after_turn-le n [] h = omega arith
@@ -143,10 +143,12 @@ letter_positive (suc b) h = omega arith
 
 weight_nonzero : (b : ℕ) → IsNonzero (weight_of b)
 weight_nonzero b = elim (cases_Bool (b == 126)) [
-    inl tilde ↦ rw tilde (λ e. cc, λ e. cc)
+  | inl tilde ↦ rw tilde (λ e. cc, λ e. cc)
   | inr other ↦ elim (cases_Bool (is_ascii_alphabetic b)) [
-        inl letter ↦ rw (other, letter) (positive_nonzero b (letter_positive b letter))
-      | inr sign ↦ rw (other, sign) (positive_nonzero (b + 256) (omega arith)) ] ]
+    | inl letter ↦ rw (other, letter) (positive_nonzero b (letter_positive b letter))
+    | inr sign ↦ rw (other, sign) (positive_nonzero (b + 256) (omega arith))
+  ]
+]
 
 by_texts : (s t : List ℕ) (m n : ℕ) (xs ys : List ℤ) → weights_cmp (map weight_of s ++ pos 0 ∷ pos m ∷ xs) (map weight_of t ++ pos 0 ∷ pos n ∷ ys)
     ≡ ordering_then (weights_cmp (map weight_of s) (map weight_of t)) (ordering_then (nat_cmp m n) (weights_cmp xs ys))
@@ -173,8 +175,9 @@ part_cmp-empty = refl
 take_while-all : (test : ℕ → Bool) (xs : List ℕ) → list_all test (take (prefix_len test xs) xs) ≡ true
 take_while-all test [] = refl
 take_while-all test (x ∷ xs) = elim (cases_Bool (test x)) [
-    inl pass ↦ rw (pass, one-add, pass) (take_while-all test xs)
-  | inr fail ↦ rw fail refl ]
+  | inl pass ↦ rw (pass, one-add, pass) (take_while-all test xs)
+  | inr fail ↦ rw fail refl
+]
 
 pub digit_start-all : (part : List ℕ) → list_all is_ascii_digit (digit_start part) ≡ true
 digit_start-all part = take_while-all is_ascii_digit part

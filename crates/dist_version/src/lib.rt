@@ -96,14 +96,21 @@ impl Version {
         ensures equal { (result ≡ Ordering.Equal) ↔ ((¬ IsBelow self.now other.now) × (¬ IsBelow other.now self.now)) }
     {
         if self.text == other.text {
-            return Ordering::Equal;
+            Ordering::Equal
+        } else {
+            self.compare_by_parts(other)
         }
+    }
+
+    fn compare_by_parts(&self, other: &Version) -> Ordering
+        ensures { result ≡ version_cmp self.now other.now }
+    {
         let order = self.epoch().cmp(&other.epoch());
-        if order != Ordering::Equal {
+        if order.is_ne() {
             return order;
         }
         let order = compare_parts(self.upstream(), other.upstream());
-        if order != Ordering::Equal {
+        if order.is_ne() {
             return order;
         }
         compare_parts(

@@ -21,7 +21,9 @@ fn text_len(part: &[u8]) -> usize
     ensures value { result ≡ prefix_len (λ byte. not (is_ascii_digit byte)) part.now }
     ensures within { result ≤ length part.now }
 {
-    part.iter().take_while(|byte| !byte.is_ascii_digit()).count()
+    part.iter()
+        .take_while(|byte| !byte.is_ascii_digit())
+        .count()
 }
 
 /// How many digits stand at the start.

@@ -30,5 +30,6 @@ loop-a-smaller c =
     let a = after_turn-shorter_by_one c.loop-a.a.now in
     let b = after_turn-shorter_by_one c.loop-a.b.now in
     elim c.if-not-is_empty.branch [
-        then-not-is_empty w ↦ omega (arith, first, second, a, b, some_bytes c.loop-a.a.now w.if-not-is_empty.ensures)
-      | else-not-is_empty+then-not-is_empty-2 w ↦ omega (arith, first, second, a, b, some_bytes c.loop-a.b.now w.if-not-is_empty-2.ensures) ]
+      | then-not-is_empty w ↦ omega (arith, first, second, a, b, some_bytes c.loop-a.a.now w.if-not-is_empty.ensures)
+      | else-not-is_empty+then-not-is_empty-2 w ↦ omega (arith, first, second, a, b, some_bytes c.loop-a.b.now w.if-not-is_empty-2.ensures)
+    ]

@@ -1,6 +1,6 @@
-use Rattle.std.proofs.Common.{◌≡◌, ◌<◌, ◌≤◌, ◌+◌, [], length, Option, List, ℕ, None, option_copied, unwrap_or, arith, refl, sym, ap, ap₂, ◌∙◌}
+use Rattle.std.proofs.Common.{◌≡◌, [], length, None, option_copied, unwrap_or, arith, refl, sym, ap, ap₂, ◌∙◌}
 use Rattle.std.proofs.lemmas.Result.{err_from_is_err_and}
-use Rattle.dist_version.specs.Spelling.{after_epoch, upstream_of, revision_of}
+use Rattle.dist_version.specs.Spelling.{upstream_of, revision_of}
 use Rattle.dist_version.proofs.Steps.{lengths_fault, some_bytes, no_bytes, now-unwrap_or, byte_fault_found, first_fault-empty, first_fault-epoch, first_fault-lengths, first_fault-bytes, length-after_epoch-le, keeps, parts_found, room, revision_size}
 use Rattle.dist_version.proofs.reading.places_of.Goals as goal
 

@@ -1,4 +1,4 @@
-use Rattle.std.proofs.Common.{◌+◌, sym, ap, ◌∙◌, option_map, refl}
+use Rattle.std.proofs.Common.{◌+◌, sym, ap, ◌∙◌, option_map}
 use Rattle.std.proofs.lemmas.List.{take_rest}
 use Rattle.dist_version.proofs.Cuts.{sides, split_once-first}
 use Rattle.dist_version.proofs.reading.split_once.Goals as goal
