@@ -1,5 +1,5 @@
 -- What holds of all texts: which spell a version, and that each spells one at most.
-use Rattle.std.proofs.Common.{◌≡◌, ◌↔◌, ℕ, ◌+◌, ◌<◌, ◌≤◌, Bool, true, false, true≢false, cond, not, ◌==◌, nat_lt, ne_eqb, ltb-false, le-ltb, lt-ltb, List, [], ◌∷◌, ◌++◌, append_assoc, append-nil, length, length-append, Option, None, Some, option_map, position, add_assoc, add-zero, IfSome, IsSome, MatchOption, refl, sym, ap, ◌∙◌, subst, ◌⊎◌, inl, inr, arith}
+use Rattle.std.proofs.Common.{◌≡◌, ◌≢◌, ◌↔◌, ℕ, ◌+◌, ◌<◌, ◌≤◌, Bool, true, false, true≢false, cond, not, ◌==◌, nat_lt, ne_eqb, ltb-false, le-ltb, lt-ltb, List, [], ◌∷◌, ◌++◌, append_assoc, append-nil, length, length-append, Option, None, Some, option_map, position, add_assoc, add-zero, IfSome, IsSome, MatchOption, refl, sym, ap, ◌∙◌, subst, ◌⊎◌, inl, inr, arith}
 use Rattle.std.specs.Char.{is_ascii_digit}
 use Rattle.std.specs.List.{list_all, position_from}
 use Rattle.std.specs.Option.{option_map_or, option_or, unwrap_or}
@@ -7,7 +7,7 @@ use Rattle.std.specs.Str.Parse.{digits_value}
 use Rattle.std.proofs.lemmas.Bool.{false≢true, and_parts, and_from, or_parts, or_from, false_from_ne_true, cases_Bool}
 use Rattle.std.proofs.lemmas.Iterator.Adapters.{position_from-zero}
 use Rattle.dist_version.specs.declared.error.VersionError.{VersionError}
-use Rattle.dist_version.specs.declared.error.VersionError.TheVariants.{BadEpoch, EpochTooLarge, BadByte}
+use Rattle.dist_version.specs.declared.error.VersionError.TheVariants.{NoMemory, BadEpoch, EpochTooLarge, BadByte}
 use Rattle.dist_version.specs.Spelling.{colon, hyphen, has, is_upstream_byte, is_revision_byte, IsMadeOf, Parts, Spells, SpellsEpoch, revision_text, IsVersion, split_once, rsplit_once, epoch_digits, after_epoch, epoch_of, upstream_of, revision_of, parts_of}
 use Rattle.dist_version.specs.Faults.{empty_fault, epoch_fault, upstream_fault, revision_fault, bad_byte, byte_fault, upstream_start, revision_start, fault_of}
 use Rattle.dist_version.proofs.Cuts.{CutsFirst, CutsLast, split_once-at, split_once-none, cases_split, rsplit_once-at, rsplit_once-none, cases_rsplit}
@@ -314,3 +314,44 @@ pub spells_parts : (text : List ℕ) → fault_of text ≡ None → Spells text 
 spells_parts text none =
     let v = version_from_no_fault text none in
     let P : Parts → Type 0 = Spells text in subst P (one_version text v.0 v.1) v.1
+
+-- ---- want of memory is no fault of a text
+
+or-other : (a b : Option VersionError) → a ≢ Some NoMemory → b ≢ Some NoMemory → option_or a b ≢ Some NoMemory
+or-other None b h k = k
+or-other (Some f) b h k = h
+
+epoch_fault-other : (o : Option (List ℕ)) → option_map_or epoch_fault o None ≢ Some NoMemory
+epoch_fault-other None = λ e. cc
+epoch_fault-other (Some []) = λ e. cc
+epoch_fault-other (Some (d ∷ ds)) = elim (cases_Bool (list_all is_ascii_digit (d ∷ ds))) [
+  | inl all ↦ elim (cases_Bool (nat_lt 2147483647 (digits_value 10 (d ∷ ds)))) [
+    | inl large ↦ rw (all, large) (λ e. cc)
+    | inr small ↦ rw (all, small) (λ e. cc)
+  ]
+  | inr other ↦ rw other (λ e. cc)
+]
+
+empty_fault-other : (text : List ℕ) → empty_fault text ≢ Some NoMemory
+empty_fault-other [] = λ e. cc
+empty_fault-other (b ∷ bs) = λ e. cc
+
+upstream_fault-other : (upstream : List ℕ) → upstream_fault upstream ≢ Some NoMemory
+upstream_fault-other [] = λ e. cc
+upstream_fault-other (b ∷ bs) = λ e. cc
+
+revision_fault-other : (revision : Option (List ℕ)) → revision_fault revision ≢ Some NoMemory
+revision_fault-other None = λ e. cc
+revision_fault-other (Some []) = λ e. cc
+revision_fault-other (Some (b ∷ bs)) = λ e. cc
+
+place-other : (o : Option ℕ) → option_map (λ place. BadByte place) o ≢ Some NoMemory
+place-other None = λ e. cc
+place-other (Some k) = λ e. cc
+
+pub no_memory_fault : (text : List ℕ) → fault_of text ≢ Some NoMemory
+unfolding fault_of
+no_memory_fault text =
+    or-other _ _ (empty_fault-other text) (or-other _ _ (epoch_fault-other (epoch_digits text))
+    (or-other _ _ (upstream_fault-other (upstream_of text)) (or-other _ _ (revision_fault-other (revision_of text))
+    (or-other _ _ (place-other _) (place-other _)))))

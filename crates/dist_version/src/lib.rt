@@ -44,7 +44,8 @@ impl Version {
         ensures sound { OnOk result (fault_of bytes.now ≡ None) }
         ensures fault { IfErr result (λ error. error ≢ VersionError.NoMemory → fault_of bytes.now ≡ Some error) }
 
-        // A text has no fault exactly where it spells a version, and it spells at most one.
+        // Want of memory is no fault of a text. A text has none exactly where it spells a version, and it spells at most one.
+        ensures memory { (text : List ℕ) → fault_of text ≢ Some VersionError.NoMemory }
         ensures exact { (text : List ℕ) → (fault_of text ≡ None) ↔ IsVersion text }
         ensures one { (text : List ℕ) (version : Parts) → Spells text version → version ≡ parts_of text }
     {
@@ -130,3 +131,6 @@ impl Version {
         })
     }
 }
+
+#[cfg(test)]
+mod tests;
