@@ -1,0 +1,5 @@
+pub mod Spelling
+pub mod Faults
+pub mod Order
+pub mod Kept
+pub mod Examples
