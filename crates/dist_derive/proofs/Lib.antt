@@ -1,0 +1,4 @@
+pub mod LogLemmas
+pub mod MarkedLemmas
+pub mod ValuedLemmas
+pub mod OutcomeLemmas

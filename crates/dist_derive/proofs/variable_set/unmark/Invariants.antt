@@ -1,0 +1,8 @@
+use Rattle.std.proofs.Common.{◌≡◌, ℕ, ◌≤◌, true, List, length, drop}
+use Rattle.std.specs.List.{Contains}
+use Rattle.dist_clause.specs.Formula.{value_of}
+use Rattle.dist_derive.proofs.MarkedLemmas.{AreLeft}
+use Rattle.dist_derive.proofs.variable_set.unmark.Given as goal
+
+abbrev pub invariant-loop-member : goal.invariant-loop-member
+invariant-loop-member l = AreLeft l.marks (drop l.member-index l.members) (length l.initial.marks)

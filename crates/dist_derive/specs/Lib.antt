@@ -1,0 +1,5 @@
+pub mod ClauseLog
+pub mod Marked
+pub mod Propagation
+pub mod Follows
+pub mod Valued
