@@ -2,3 +2,5 @@ pub mod LogLemmas
 pub mod MarkedLemmas
 pub mod ValuedLemmas
 pub mod OutcomeLemmas
+pub mod DenyLemmas
+pub mod FollowsLemmas

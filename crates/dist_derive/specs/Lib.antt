@@ -3,3 +3,5 @@ pub mod Marked
 pub mod Propagation
 pub mod Follows
 pub mod Valued
+pub mod Ready
+pub mod Hints

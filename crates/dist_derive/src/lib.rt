@@ -3,8 +3,11 @@
 #![tactic(auto)]
 
 pub use log::{AppendError, Log};
+pub use scratch::Scratch;
 
+mod follows;
 mod log;
+mod scratch;
 mod true_literals;
 mod variable_set;
 

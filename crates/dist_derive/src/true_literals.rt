@@ -1,5 +1,5 @@
-ghost use Rattle.std.specs.Prelude.{◌≡◌, ◌<◌, ◌≤◌, ◌↔◌, [], ◌∷◌, ◌++◌, length, All, Contains, IfOk, IsTrue};
-ghost use Rattle.dist_clause.specs.Formula.{negation};
+ghost use Rattle.std.specs.Prelude.{◌≡◌, ◌<◌, ◌≤◌, ◌↔◌, [], ◌∷◌, ◌++◌, length, map, All, Contains, IfOk, IsTrue};
+ghost use Rattle.dist_clause.specs.Formula.{negation, IsClauseOver};
 ghost use Rattle.dist_derive.specs.Propagation.{IsUnset};
 
 use crate::variable_set::VariableSet;
@@ -78,6 +78,17 @@ impl TrueLiterals {
         let variable = literal.variable();
         self.touched.add(variable);
         self.signs.set(variable, literal.positive());
+    }
+
+    /// Makes the negation of each literal of a clause true, where no literal is true before.
+    pub fn deny(&mut self, clause: &[Lit])
+        requires none { self.old.literals ≡ [] }
+        requires clause { IsClauseOver self.old.variables clause.now }
+        ensures { self.new ≡ record self.old { literals = map negation clause.now } }
+    {
+        for literal in clause {
+            self.make_true(literal.negated());
+        }
     }
 
     /// What a clause is under the true literals.
