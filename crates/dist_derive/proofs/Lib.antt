@@ -4,3 +4,4 @@ pub mod ValuedLemmas
 pub mod OutcomeLemmas
 pub mod DenyLemmas
 pub mod FollowsLemmas
+pub mod Soundness

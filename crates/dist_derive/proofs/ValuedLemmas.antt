@@ -23,7 +23,7 @@ valued-Contains signs members l h =
     let variable : get_or members h.0 l.variable ≡ l.variable = ap (λ (m : Literal). m.variable) same in
     ((h.0, within, variable), ap (value_of signs) (sym variable) ∙ ap (λ (m : Literal). m.positive) same)
 
-not-itself : (b : Bool) → not b ≡ b → ⊥
+pub not-itself : (b : Bool) → not b ≡ b → ⊥
 not-itself true e = false≢true e
 not-itself false e = true≢false e
 

@@ -1,6 +1,6 @@
 -- When a clause follows from numbered clauses by a list of hints (reverse unit propagation with hints, as in the
 -- LRAT format of refutations).
-use Rattle.std.specs.Prelude.{◌≡◌, ℕ, ◌≤◌, ◌⊎◌, List, [], ◌∷◌, ◌++◌, length, map}
+use Rattle.std.specs.Prelude.{◌≡◌, ℕ, ◌-◌, ◌<◌, ◌≤◌, ◌⊎◌, List, [], ◌∷◌, ◌++◌, length, map, take}
 use Rattle.dist_clause.specs.Formula.{Literal, negation}
 use Rattle.dist_clause.specs.ClauseList.{clause_at}
 use Rattle.dist_derive.specs.Propagation.{AllFalse, IsUnit}
@@ -19,3 +19,8 @@ EndsFalse clauses trues (hint ∷ hints) = IsNumberOf clauses hint
 -- the negated literals of the clause are true, and the hints end in a false clause
 abbrev pub Follows : List (List Literal) → List Literal → List ℕ → Type 0
 Follows clauses clause hints = EndsFalse clauses (map negation clause) hints
+
+-- each clause after the inputs follows from the clauses before it, by some hints
+abbrev pub EachLineFollows : ℕ → List (List Literal) → Type 0
+EachLineFollows inputs clauses = (number : ℕ) → inputs < number → number ≤ length clauses
+    → (hints : List ℕ) × Follows (take (number - 1) clauses) (clause_at clauses number) hints

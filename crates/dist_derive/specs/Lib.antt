@@ -5,3 +5,4 @@ pub mod Follows
 pub mod Valued
 pub mod Ready
 pub mod Hints
+pub mod New

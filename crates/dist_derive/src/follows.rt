@@ -1,6 +1,6 @@
-ghost use Rattle.std.specs.Prelude.{◌≡◌, ◌↔◌, IsTrue};
-ghost use Rattle.dist_clause.specs.Formula.{IsClauseOver};
-ghost use Rattle.dist_derive.specs.Follows.{EndsFalse, Follows};
+ghost use Rattle.std.specs.Prelude.{◌≡◌, ◌↔◌, ℕ, Bool, List, take, IsTrue};
+ghost use Rattle.dist_clause.specs.Formula.{Literal, IsClauseOver, MakesTrue, IsModel};
+ghost use Rattle.dist_derive.specs.Follows.{EndsFalse, Follows, EachLineFollows};
 ghost use Rattle.dist_derive.specs.Hints.{TakesHint};
 
 use crate::true_literals::{Outcome, TrueLiterals};
@@ -14,6 +14,7 @@ impl Log {
         requires clause { IsClauseOver self.now.variables clause.now }
         requires scratch { scratch.old ≡ self.now.variables }
         ensures answer { IsTrue result ↔ Follows self.now.clauses clause.now hints.now }
+        ensures sound { IsTrue result → (value : ℕ → Bool) → IsModel value self.now.clauses → MakesTrue value clause.now }
         ensures ready { scratch.new ≡ scratch.old }
     {
         scratch.literals.deny(clause);
@@ -53,4 +54,12 @@ impl Log {
         }
         outcome
     }
+}
+
+/// A law: where each derived line follows from the clauses before it, every model of the input clauses is one of all
+/// clauses.
+pub fn lines_keep_models()
+    ensures { (inputs : ℕ) (clauses : List (List Literal)) (value : ℕ → Bool) → EachLineFollows inputs clauses
+        → IsModel value (take inputs clauses) → IsModel value clauses }
+{
 }

@@ -2,6 +2,7 @@
 //! whether it is new.
 #![tactic(auto)]
 
+pub use follows::lines_keep_models;
 pub use log::{AppendError, Log};
 pub use scratch::Scratch;
 
