@@ -5,3 +5,4 @@ pub mod OutcomeLemmas
 pub mod DenyLemmas
 pub mod FollowsLemmas
 pub mod Soundness
+pub mod GrowingLemmas

@@ -3,7 +3,7 @@ use mathlib.Core.Bool.{beq}
 use Rattle.std.proofs.Common.{◌≡◌, ◌≢◌, ℕ, zero, suc, ◌+◌, ◌-◌, ◌<◌, ◌≤◌, Bool, true, false, not, List, [], ◌∷◌, ◌++◌, length, get_or, set, map, take, refl, ap, sym, ◌∙◌, subst, arith}
 use Rattle.std.specs.List.{All, Contains}
 use Rattle.std.proofs.lemmas.Bool.{false≢true, true≢false}
-use Rattle.std.proofs.lemmas.List.{length-map, get_or-map, take_at, map_push}
+use Rattle.std.proofs.lemmas.List.{length-map, get_or-map, get_or_at, length_push, take_at, take_more, map_push}
 use Rattle.std.proofs.lemmas.List.Elements.{All-take, All-head, All-tail, All-weaker}
 use Rattle.dist_clause.specs.Formula.{Literal, literal, negation, value_of}
 use Rattle.dist_derive.specs.Valued.{valued}
@@ -64,7 +64,7 @@ valued-set_fresh signs (w ∷ ws) v b all from fresh =
     let rest = valued-set_fresh signs ws v b (All-tail (λ w. 1 ≤ w) w ws all) from (λ h. fresh (Contains-cons w ws v h)) in
     ap (λ value. literal w value ∷ valued (set signs (v - 1) b) ws) first ∙ ap (λ others. literal w (value_of signs w) ∷ others) rest
 
-All-front : {X : Type 0} (P : X → Type 0) (xs ys : List X) → All P (xs ++ ys) → All P xs
+pub All-front : {X : Type 0} (P : X → Type 0) (xs ys : List X) → All P (xs ++ ys) → All P xs
 All-front P xs ys h = subst (λ zs. All P zs) (take_at xs ys (length xs) refl) (All-take P (length xs) (xs ++ ys) h)
 
 pub valued-add : (signs : List Bool) (members : List ℕ) (l : Literal) (n : ℕ) → All (λ w. (1 ≤ w) × (w ≤ n)) (members ++ l.variable ∷ []) → 1 ≤ l.variable → l.variable ≤ length signs → (Contains members l.variable → ⊥)
@@ -87,3 +87,13 @@ beq-false true true e h = true≢false e
 beq-false true false e h = true≢false h
 beq-false false true e h = false≢true h
 beq-false false false e h = true≢false e
+
+pub All-last : {X : Type 0} (P : X → Type 0) (xs : List X) (x : X) → All P (xs ++ x ∷ []) → P x
+All-last P xs x h = subst P (get_or_at xs x [] x (length xs) refl) (h (length xs) x (omega (arith, length_push xs x)))
+
+-- one element more, as a loop over a slice reads it
+pub take_item : {X : Type 0} (xs : List X) (i : ℕ) (x : X) → i < length xs → x ≡ get_or xs i x → take (i + 1) xs ≡ take i xs ++ x ∷ []
+take_item xs i x within is = take_more xs i x within ∙ ap (λ y. take i xs ++ y ∷ []) (sym is)
+
+pub All-item : {X : Type 0} (P : X → Type 0) (xs : List X) (i : ℕ) (x : X) → i < length xs → x ≡ get_or xs i x → All P xs → P x
+All-item P xs i x within is all = subst P (sym is) (all i x within)

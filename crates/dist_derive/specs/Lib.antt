@@ -6,3 +6,4 @@ pub mod Valued
 pub mod Ready
 pub mod Hints
 pub mod New
+pub mod Growing

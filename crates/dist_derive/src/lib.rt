@@ -8,6 +8,7 @@ pub use scratch::Scratch;
 
 mod follows;
 mod log;
+mod newness;
 mod scratch;
 mod true_literals;
 mod variable_set;

@@ -1,7 +1,9 @@
-ghost use Rattle.std.specs.Prelude.{◌≡◌, ◌<◌, ◌≤◌, ◌↔◌, true, false, [], ◌∷◌, ◌++◌, ℕ, length, replicate, All, Contains, IfOk, IsTrue};
+ghost use Rattle.std.specs.Prelude.{◌≡◌, ◌<◌, ◌≤◌, ◌↔◌, true, false, [], ◌∷◌, ◌++◌, ℕ, Bool, length, replicate, All, Contains, IfOk, IsTrue};
 ghost use Rattle.dist_clause.specs.Formula.{value_of};
+ghost use Rattle.dist_derive.specs.New.{IsClosedUnder};
+ghost use Rattle.dist_derive.specs.Growing.{Includes, Grows, HasAll, IsClosedAt};
 
-use dist_clause::Assignment;
+use dist_clause::{Assignment, Lit};
 use std::alloc::{AllocError, Global};
 use std::marker::Model;
 
@@ -52,6 +54,72 @@ impl VariableSet {
     {
         let _ = self.members.push(variable);
         self.marks.set(variable, true);
+    }
+
+    /// Puts a variable in, and answers whether it was not in before.
+    pub fn include(&mut self, variable: u32) -> bool
+        requires from_one { 1 ≤ variable }
+        requires in_range { variable ≤ self.old.variables }
+        ensures { Includes self.old self.new variable result }
+    {
+        if self.contains(variable) {
+            return false;
+        }
+        self.add(variable);
+        true
+    }
+
+    /// Puts the variables of a clause in, and answers whether one was not in before.
+    pub fn include_all(&mut self, clause: &[Lit]) -> bool
+        requires { All (λ l. l.variable ≤ self.old.variables) clause.now }
+        ensures grows { Grows self.old self.new result }
+        ensures included { All (λ l. Contains self.new.members l.variable) clause.now }
+        ensures least { (has : ℕ → Bool) → HasAll has self.old.members → All (λ l. has l.variable ≡ true) clause.now
+            → HasAll has self.new.members }
+    {
+        let mut grown = false;
+        for literal in clause {
+            grown |= self.include(literal.variable());
+        }
+        grown
+    }
+
+    /// Where the variables of all negative literals of a clause are in, puts all its variables in, and answers whether
+    /// one was not in before.
+    pub fn close_at(&mut self, clause: &[Lit]) -> bool
+        requires { All (λ l. l.variable ≤ self.old.variables) clause.now }
+        ensures grows { Grows self.old self.new result }
+        ensures closed { result ≡ false → IsClosedAt self.new.members clause.now }
+        ensures least { (has : ℕ → Bool) → HasAll has self.old.members → IsClosedUnder has (clause.now ∷ [])
+            → HasAll has self.new.members }
+    {
+        if self.has_negatives(clause) {
+            self.include_all(clause)
+        } else {
+            false
+        }
+    }
+
+    fn has_negatives(&self, clause: &[Lit]) -> bool
+        requires { All (λ l. l.variable ≤ self.now.variables) clause.now }
+        ensures { IsTrue result ↔ All (λ l. l.positive ≡ false → Contains self.now.members l.variable) clause.now }
+    {
+        clause
+            .iter()
+            .all(|l| l.positive() || self.contains(l.variable()))
+    }
+
+    /// Whether the variables of all literals of a clause are in.
+    pub fn has_clause(&self, clause: &[Lit]) -> bool
+        requires { All (λ l. l.variable ≤ self.now.variables) clause.now }
+        ensures { IsTrue result ↔ All (λ l. Contains self.now.members l.variable) clause.now }
+    {
+        for literal in clause {
+            if !self.contains(literal.variable()) {
+                return false;
+            }
+        }
+        true
     }
 
     /// Takes all members out.
