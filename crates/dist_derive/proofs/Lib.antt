@@ -6,3 +6,6 @@ pub mod DenyLemmas
 pub mod FollowsLemmas
 pub mod Soundness
 pub mod GrowingLemmas
+pub mod AssumeLemmas
+pub mod SweepLemmas
+pub mod NewLemmas

@@ -41,7 +41,7 @@ impl Log {
     }
 
     /// What the hinted clause is; if it is unit, its literal becomes true.
-    fn take_hint(&self, literals: &mut TrueLiterals, hint: u32) -> Outcome
+    pub(crate) fn take_hint(&self, literals: &mut TrueLiterals, hint: u32) -> Outcome
         requires { literals.old.variables ≡ self.now.variables }
         ensures { TakesHint self.now.clauses literals.old literals.new hint result }
     {

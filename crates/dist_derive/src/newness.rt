@@ -20,6 +20,29 @@ pub enum Sweep {
 }
 
 impl Log {
+    /// Whether a clause is new under assumptions over the clauses with numbers below `before`: each of its variables is
+    /// in the assumptions' cone, and unit propagation from the assumptions and the negations of its literals but the
+    /// first gives neither a conflict nor a value of the first.
+    pub fn is_new(&self, scratch: &mut Scratch, assumptions: &[Lit], clause: &[Lit], before: u32) -> bool
+        requires assumptions { IsClauseOver self.now.variables assumptions.now }
+        requires clause { IsClauseOver self.now.variables clause.now }
+        requires scratch { scratch.old ≡ self.now.variables }
+        ensures answer { IsTrue result
+            ↔ IsNew (take (before - 1) self.now.clauses) self.now.inputs assumptions.now clause.now }
+        ensures ready { scratch.new ≡ scratch.old }
+    {
+        let last = before.saturating_sub(1).min(self.len());
+        let inputs = last.min(self.inputs());
+        let reached = self.reaches(&mut scratch.cone, assumptions, clause, inputs);
+        scratch.cone.clear();
+        if !reached {
+            return false;
+        }
+        let unset = self.leaves_unset(&mut scratch.literals, assumptions, clause, last);
+        scratch.literals.clear();
+        unset
+    }
+
     /// Whether the cone of the assumptions has all variables of a clause, where the input clauses are the first `inputs`
     /// ones.
     fn reaches(&self, cone: &mut VariableSet, assumptions: &[Lit], clause: &[Lit], inputs: u32) -> bool
@@ -50,5 +73,71 @@ impl Log {
             grown |= cone.close_at(self.clause(place + 1));
         }
         grown
+    }
+
+    /// Whether some true literals that hold the assumptions and the negations of a clause's literals but the first are
+    /// closed under unit propagation by the first `last` clauses, make none of these false, and leave the clause's first
+    /// literal unset.
+    fn leaves_unset(&self, literals: &mut TrueLiterals, assumptions: &[Lit], clause: &[Lit], last: u32) -> bool
+        requires empty { literals.old ≡ record { variables = self.now.variables; literals = [] } }
+        requires assumptions { All (λ l. l.variable ≤ self.now.variables) assumptions.now }
+        requires clause { IsClauseOver self.now.variables clause.now }
+        requires last { last ≤ length self.now.clauses }
+        ensures answer { IsTrue result ↔ LeavesFirstUnset (take last self.now.clauses) assumptions.now clause.now }
+        ensures same_variables { literals.new.variables ≡ literals.old.variables }
+    {
+        let Some((first, rest)) = clause.split_first() else {
+            return false;
+        };
+        literals.deny(rest);
+        if !literals.assume_all(assumptions) {
+            return false;
+        }
+        if !self.propagate(literals, last) {
+            return false;
+        }
+        literals.is_unset(*first)
+    }
+
+    /// Makes true what unit propagation by the first `last` clauses gives; answers whether none of them is false then.
+    fn propagate(&self, literals: &mut TrueLiterals, last: u32) -> bool
+        requires same_variables { literals.old.variables ≡ self.now.variables }
+        requires last { last ≤ length self.now.clauses }
+        ensures same_variables { literals.new.variables ≡ literals.old.variables }
+        ensures kept { ContainsAll literals.new.literals literals.old.literals }
+        ensures forced { IsForced (take last self.now.clauses) literals.old.literals literals.new.literals }
+        ensures settled { IsTrue result → AllOpen literals.new.literals (take last self.now.clauses) }
+        ensures refuted { result ≡ false → IsRefuted (take last self.now.clauses) literals.old.literals }
+    {
+        loop {
+            match self.sweep(literals, last) {
+                Sweep::Conflict => return false,
+                Sweep::Settled => return true,
+                Sweep::Grown => {}
+            }
+        }
+    }
+
+    /// Walks once over the first `last` clauses; the literal of each unit one becomes true.
+    fn sweep(&self, literals: &mut TrueLiterals, last: u32) -> Sweep
+        requires same_variables { literals.old.variables ≡ self.now.variables }
+        requires last { last ≤ length self.now.clauses }
+        ensures same_variables { literals.new.variables ≡ literals.old.variables }
+        ensures kept { ContainsAll literals.new.literals literals.old.literals }
+        ensures forced { IsForced (take last self.now.clauses) literals.old.literals literals.new.literals }
+        ensures found { Sweeps (take last self.now.clauses) literals.old literals.new result }
+    {
+        let mut grown = false;
+        for place in 0..last {
+            match self.take_hint(literals, place + 1) {
+                Outcome::Conflict => return Sweep::Conflict,
+                Outcome::Unit(_) => grown = true,
+                Outcome::Open => {}
+            }
+        }
+        if grown {
+            return Sweep::Grown;
+        }
+        Sweep::Settled
     }
 }

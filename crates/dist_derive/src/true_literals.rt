@@ -1,6 +1,6 @@
-ghost use Rattle.std.specs.Prelude.{◌≡◌, ◌<◌, ◌≤◌, ◌↔◌, [], ◌∷◌, ◌++◌, length, map, All, Contains, IfOk, IsTrue};
-ghost use Rattle.dist_clause.specs.Formula.{negation, IsClauseOver};
-ghost use Rattle.dist_derive.specs.Propagation.{IsUnset};
+ghost use Rattle.std.specs.Prelude.{◌≡◌, ◌<◌, ◌≤◌, ◌↔◌, [], ◌∷◌, ◌++◌, false, List, length, map, All, Contains, IfOk, IsTrue};
+ghost use Rattle.dist_clause.specs.Formula.{Literal, negation, IsClauseOver};
+ghost use Rattle.dist_derive.specs.Propagation.{IsUnset, IsConsistent};
 
 use crate::variable_set::VariableSet;
 use dist_clause::{Assignment, Lit};
@@ -45,6 +45,7 @@ impl Model for TrueLiterals {
 
 impl TrueLiterals {
     ghost use Rattle.dist_derive.specs.Valued.{HasStatus, HasOutcome};
+    ghost use Rattle.dist_derive.specs.Growing.{ContainsAll, Assumes};
 
     pub fn new(alloc: Global, variables: u32) -> Result<TrueLiterals, AllocError>
         ensures { IfOk result (λ t. t ≡ record { variables = variables; literals = [] }) }
@@ -91,6 +92,49 @@ impl TrueLiterals {
         }
     }
 
+    /// Makes a literal true, unless it is false; answers whether it is true then.
+    pub fn assume(&mut self, literal: Lit) -> bool
+        requires { literal.variable ≤ self.old.variables }
+        ensures { Assumes self.old self.new literal result }
+    {
+        match self.status(literal) {
+            Status::True => true,
+            Status::False => false,
+            Status::Unset => {
+                self.make_true(literal);
+                true
+            }
+        }
+    }
+
+    /// Makes literals true, up to one that is false; answers whether all are true then.
+    pub fn assume_all(&mut self, literals: &[Lit]) -> bool
+        requires { All (λ l. l.variable ≤ self.old.variables) literals.now }
+        ensures same_variables { self.new.variables ≡ self.old.variables }
+        ensures kept { ContainsAll self.new.literals self.old.literals }
+        ensures assumed { IsTrue result → ContainsAll self.new.literals literals.now }
+        ensures least { (trues : List Literal) → ContainsAll trues self.old.literals → ContainsAll trues literals.now
+            → ContainsAll trues self.new.literals }
+        ensures refused { result ≡ false → (trues : List Literal) → ContainsAll trues self.old.literals
+            → ContainsAll trues literals.now → IsConsistent trues → ⊥ }
+    {
+        for literal in literals {
+            if !self.assume(*literal) {
+                return false;
+            }
+        }
+        true
+    }
+
+    /// Whether neither a literal nor its negation is true.
+    pub fn is_unset(&self, literal: Lit) -> bool
+        requires { literal.variable ≤ self.now.variables }
+        ensures answer { IsTrue result ↔ IsUnset self.now.literals literal }
+        ensures consistent { IsConsistent self.now.literals }
+    {
+        !self.touched.contains(literal.variable())
+    }
+
     /// What a clause is under the true literals.
     pub fn outcome(&self, clause: &[Lit]) -> Outcome
         requires { All (λ l. l.variable ≤ self.now.variables) clause.now }
@@ -116,8 +160,6 @@ impl TrueLiterals {
 
 impl Outcome {
     ghost use Rattle.dist_derive.specs.Valued.{HasStatus, HasOutcome};
-    ghost use Rattle.dist_clause.specs.Formula.{Literal};
-    ghost use Rattle.std.specs.Prelude.{List};
 
     /// What a clause is with one more literal.
     fn with(self, literal: Lit, status: Status) -> Outcome
