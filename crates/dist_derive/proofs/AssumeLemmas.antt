@@ -1,12 +1,10 @@
 -- Literals that are made true, and clauses under more true literals.
-use Rattle.std.proofs.Common.{◌≡◌, ℕ, ◌+◌, ◌<◌, ◌≤◌, ◌⊎◌, ⊎_elim, inl, inr, Bool, true, false, List, [], ◌∷◌, ◌++◌, length, get_or, take, refl, ap, sym, subst, ◌∙◌, arith}
-use Rattle.std.specs.List.{All, Contains}
-use Rattle.std.proofs.lemmas.Bool.{false≢true, true≢false}
-use Rattle.std.proofs.lemmas.List.{length_push}
-use Rattle.std.proofs.lemmas.List.Elements.{All-nil, All-cons, All-push, All-weaker, All-contains, All-contains_itself, Contains-append_left, Contains-push}
+use Rattle.std.proofs.Common.{◌≡◌, ℕ, ⊎_elim, true, List, [], ◌∷◌, ◌++◌, get_or, refl, sym, subst}
+use Rattle.std.specs.List.{Contains}
+use Rattle.std.proofs.lemmas.List.Elements.{All-nil, All-push, All-weaker, All-contains, All-contains_itself, Contains-append_left, Contains-push}
 use Rattle.dist_clause.specs.Formula.{Literal, negation}
-use Rattle.dist_derive.specs.Valued.{LiteralList, HasOutcome}
-use Rattle.dist_derive.specs.Propagation.{IsFalse, IsUnset, AllFalse, OthersFalse, IsUnit, IsConsistent}
+use Rattle.dist_derive.specs.Valued.{LiteralList}
+use Rattle.dist_derive.specs.Propagation.{IsFalse, AllFalse, OthersFalse}
 use Rattle.dist_derive.specs.Growing.{ContainsAll, Assumes}
 use Rattle.dist_derive.proofs.ValuedLemmas.{All-front, All-last}
 

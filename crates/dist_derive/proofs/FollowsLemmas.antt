@@ -1,5 +1,5 @@
 -- One hint after another.
-use Rattle.std.proofs.Common.{◌≡◌, ℕ, ◌↔◌, ◌⊎◌, ⊎_elim, inl, inr, Bool, true, false, List, [], ◌∷◌, ◌++◌, ◌+◌, ◌<◌, ◌≤◌, length, get_or, drop, refl, sym, subst, ◌∙◌}
+use Rattle.std.proofs.Common.{◌≡◌, ℕ, ◌↔◌, ◌⊎◌, ⊎_elim, inl, inr, Bool, true, false, List, [], ◌∷◌, ◌++◌, ◌+◌, ◌<◌, ◌≤◌, length, get_or, drop, refl, subst}
 use Rattle.std.proofs.lemmas.List.{drop_more, drop_all}
 use Rattle.std.proofs.lemmas.Bool.{false≢true}
 use Rattle.dist_clause.specs.Formula.{Literal}
@@ -21,14 +21,16 @@ some_left x xs e = cc
 
 module _ (clauses : List (List Literal)) (trues : List Literal) (hint : ℕ) (hints : List ℕ) where
   pub ends_conflict : IsNumberOf clauses hint → AllFalse trues (clause_at clauses hint) → EndsFalse clauses trues (hint ∷ hints) ↔ EndsFrom clauses trues true hints
-  ends_conflict number all =
-      (λ h. ⊎_elim (λ x. ⊎_elim (λ none. inl (refl, none)) (λ more. inr more) x.1) (λ x. absurd (not_unit trues (clause_at clauses hint) all x.0 x.1)) h.1,
-      λ h. (number, inl (all, ⊎_elim (λ x. inl x.1) (λ more. inr more) h)))
+  ends_conflict number all = (
+    λ h. ⊎_elim (λ x. ⊎_elim (λ none. inl (refl, none)) (λ more. inr more) x.1) (λ x. absurd (not_unit trues (clause_at clauses hint) all x.0 x.1)) h.1,
+    λ h. (number, inl (all, ⊎_elim (λ x. inl x.1) (λ more. inr more) h)),
+  )
 
   pub ends_unit : (l : Literal) → IsNumberOf clauses hint → IsUnit trues (clause_at clauses hint) l → EndsFalse clauses trues (hint ∷ hints) ↔ EndsFrom clauses (trues ++ l ∷ []) false hints
-  ends_unit l number u =
-      (λ h. ⊎_elim (λ x. absurd (not_unit trues (clause_at clauses hint) x.0 l u)) (λ x. inr (subst (λ m. EndsFalse clauses (trues ++ m ∷ []) hints) (same_unit trues (clause_at clauses hint) x.0 l x.1 u) x.2)) h.1,
-      λ h. (number, inr (l, u, ⊎_elim (λ x. absurd (false≢true x.0)) (λ more. more) h)))
+  ends_unit l number u = (
+    λ h. ⊎_elim (λ x. absurd (not_unit trues (clause_at clauses hint) x.0 l u)) (λ x. inr (subst (λ m. EndsFalse clauses (trues ++ m ∷ []) hints) (same_unit trues (clause_at clauses hint) x.0 l x.1 u) x.2)) h.1,
+    λ h. (number, inr (l, u, ⊎_elim (λ x. absurd (false≢true x.0)) (λ more. more) h)),
+  )
 
   pub ends_open : (IsNumberOf clauses hint → HasOutcome trues (clause_at clauses hint) Open) → EndsFalse clauses trues (hint ∷ hints) → ⊥
   ends_open is_open h = ⊎_elim (λ x. (is_open h.0).0 x.0) (λ x. (is_open h.0).1 x.0 x.1) h.1

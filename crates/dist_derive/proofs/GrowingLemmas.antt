@@ -2,8 +2,8 @@
 use Rattle.std.proofs.Common.{◌≡◌, ℕ, zero, suc, ◌↔◌, ⊎_elim, eqb, ◌+◌, ◌-◌, ◌<◌, ◌≤◌, Bool, true, false, ◌||◌, List, [], ◌∷◌, ◌++◌, length, get_or, take, refl, ap, sym, subst, ◌∙◌, arith}
 use Rattle.std.specs.List.{All, Contains}
 use Rattle.std.proofs.lemmas.Bool.{false≢true, true≢false, or_cases, or_left, or_right, eq-eqb, eqb-true}
-use Rattle.std.proofs.lemmas.List.{length_push, take_more, take_all}
-use Rattle.std.proofs.lemmas.List.Elements.{All-nil, All-cons, All-head, All-push, All-weaker, All-more, All-contains, All-contains_itself, Contains-append_left, Contains-push}
+use Rattle.std.proofs.lemmas.List.{length_push, take_more}
+use Rattle.std.proofs.lemmas.List.Elements.{All-nil, All-cons, All-head, All-push, All-weaker, All-contains, All-contains_itself, Contains-append_left, Contains-push}
 use Rattle.dist_clause.specs.Formula.{Literal}
 use Rattle.dist_clause.specs.ClauseList.{clause_at}
 use Rattle.dist_derive.proofs.ValuedLemmas.{All-front, All-last}
@@ -91,7 +91,7 @@ includes_more start now next grown more clause l h step =
 pub closed_has : (has : ℕ → Bool) (members : List ℕ) (clause : List Literal) → HasAll has members → IsClosedUnder has (clause ∷ []) → All (λ l. l.positive ≡ false → Contains members l.variable) clause → All (λ l. has l.variable ≡ true) clause
 closed_has has members clause all closed negatives =
     All-head (λ c. All (λ l. l.positive ≡ false → has l.variable ≡ true) c → All (λ l. has l.variable ≡ true) c) clause [] closed
-        (All-weaker (λ l. l.positive ≡ false → Contains members l.variable) (λ l. l.positive ≡ false → has l.variable ≡ true) (λ l h e. All-contains (λ v. has v ≡ true) members l.variable all (h e)) clause negatives)
+    (All-weaker (λ l. l.positive ≡ false → Contains members l.variable) (λ l. l.positive ≡ false → has l.variable ≡ true) (λ l h e. All-contains (λ v. has v ≡ true) members l.variable all (h e)) clause negatives)
 
 -- a walk over the first clauses that puts in what the cone has
 pub record WalksSoFar (clauses : List (List Literal)) (start now : VariableList) (grown : Bool) : Type 0 where
@@ -122,8 +122,8 @@ walks_more clauses clause start now next grown more h grows closed least = recor
   closed = λ e.
       let same = grows.still (or-right grown more e) in
       All-push (IsClosedAt next.members) clauses clause
-          (subst (λ (s : VariableList). All (IsClosedAt s.members) clauses) (sym same) (h.closed (or-left grown more e)))
-          (closed (or-right grown more e));
+      (subst (λ (s : VariableList). All (IsClosedAt s.members) clauses) (sym same) (h.closed (or-left grown more e)))
+      (closed (or-right grown more e));
   least = λ has all under. least has (h.least has all (All-front (ClosedTest has) clauses (clause ∷ []) under))
       (All-cons (ClosedTest has) clause [] (All-last (ClosedTest has) clauses clause under) (All-nil (ClosedTest has)));
 }
@@ -159,14 +159,15 @@ is_member-at (m ∷ ms) v (suc k) within at = or_right (eqb m v) (is_member ms v
 
 -- at the end the members are the cone
 pub InCone-members : (clauses : List (List Literal)) (assumptions : List Literal) (s : VariableList) (v : ℕ) → ReachesSoFar clauses assumptions s → All (IsClosedAt s.members) clauses → InCone clauses assumptions v ↔ Contains s.members v
-InCone-members clauses assumptions s v h closed =
-    (λ cone. is_member-true s.members v (cone (is_member s.members)
-        (All-weaker (λ l. Contains s.members l.variable) (λ l. is_member s.members l.variable ≡ true) (λ l e. is_member-at s.members l.variable e.0 e.1 e.2) assumptions h.assumed)
-        (All-weaker (IsClosedAt s.members) (λ c. All (λ l. l.positive ≡ false → is_member s.members l.variable ≡ true) c → All (λ l. is_member s.members l.variable ≡ true) c)
-            (λ c at negatives. All-weaker (λ l. Contains s.members l.variable) (λ l. is_member s.members l.variable ≡ true) (λ l e. is_member-at s.members l.variable e.0 e.1 e.2) c
-                (at (All-weaker (λ l. l.positive ≡ false → is_member s.members l.variable ≡ true) (λ l. l.positive ≡ false → Contains s.members l.variable) (λ l g e. is_member-true s.members l.variable (g e)) c negatives)))
-            clauses closed)),
-    λ e has assumed under. All-contains (λ w. has w ≡ true) s.members v (h.least has assumed under) e)
+InCone-members clauses assumptions s v h closed = (
+  λ cone. is_member-true s.members v (cone (is_member s.members)
+      (All-weaker (λ l. Contains s.members l.variable) (λ l. is_member s.members l.variable ≡ true) (λ l e. is_member-at s.members l.variable e.0 e.1 e.2) assumptions h.assumed)
+      (All-weaker (IsClosedAt s.members) (λ c. All (λ l. l.positive ≡ false → is_member s.members l.variable ≡ true) c → All (λ l. is_member s.members l.variable ≡ true) c)
+      (λ c at negatives. All-weaker (λ l. Contains s.members l.variable) (λ l. is_member s.members l.variable ≡ true) (λ l e. is_member-at s.members l.variable e.0 e.1 e.2) c
+      (at (All-weaker (λ l. l.positive ≡ false → is_member s.members l.variable ≡ true) (λ l. l.positive ≡ false → Contains s.members l.variable) (λ l g e. is_member-true s.members l.variable (g e)) c negatives)))
+      clauses closed)),
+  λ e has assumed under. All-contains (λ w. has w ≡ true) s.members v (h.least has assumed under) e,
+)
 
 -- one clause more, as a loop over their places reads it
 pub clause_item : (clauses : List (List Literal)) (place : ℕ) (clause : List Literal) → place < length clauses → clause ≡ clause_at clauses (place + 1) → take (place + 1) clauses ≡ take place clauses ++ clause ∷ []

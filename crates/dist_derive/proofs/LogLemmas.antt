@@ -1,11 +1,11 @@
 -- A log made of two clause sets.
-use Rattle.std.proofs.Common.{◌≡◌, ℕ, ◌+◌, ◌≤◌, List, ◌++◌, length, refl, ap, subst, sym, ◌∙◌, arith, length-append, drop}
+use Rattle.std.proofs.Common.{◌≡◌, length, refl, ap, subst, arith, length-append}
 use Rattle.std.specs.List.{All}
 use Rattle.std.proofs.lemmas.List.{drop_at}
 use Rattle.std.proofs.lemmas.List.Elements.{All-append}
-use Rattle.dist_clause.specs.Formula.{Literal, IsClauseOver}
+use Rattle.dist_clause.specs.Formula.{IsClauseOver}
 use Rattle.dist_clause.specs.ClauseList.{ClauseList, IsWithinLimits, literal_count}
-use Rattle.dist_derive.specs.ClauseLog.{ClauseLog, joined, lines_of, IsWithinLineLimits}
+use Rattle.dist_derive.specs.ClauseLog.{joined, lines_of, IsWithinLineLimits}
 
 pub lines_of-joined : (inputs lines : ClauseList) → lines_of (joined inputs lines) ≡ lines.clauses
 lines_of-joined inputs lines = drop_at inputs.clauses lines.clauses (length inputs.clauses) refl

@@ -1,7 +1,7 @@
 -- A set of variables kept as a list and marks: one more member, and no member.
-use Rattle.std.proofs.Common.{◌≡◌, ◌≢◌, ℕ, zero, suc, ◌+◌, ◌-◌, ◌<◌, ◌≤◌, ◌↔◌, Bool, true, false, not, cond, List, [], ◌∷◌, ◌++◌, length, get_or, set, replicate, refl, ap, sym, ◌∙◌, subst, inl, inr, arith, count_by, sum_by, ⊎_elim}
-use Rattle.std.specs.List.{All, Contains}
-use Rattle.std.proofs.lemmas.Bool.{cases_eq, cases_Bool, false≢true, false_from_ne_true}
+use Rattle.std.proofs.Common.{◌≡◌, ◌≢◌, ℕ, zero, suc, ◌+◌, ◌-◌, ◌<◌, ◌≤◌, Bool, true, false, not, cond, List, [], ◌∷◌, ◌++◌, length, get_or, set, replicate, refl, ap, sym, ◌∙◌, subst, inl, inr, arith, count_by, ⊎_elim}
+use Rattle.std.specs.List.{Contains}
+use Rattle.std.proofs.lemmas.Bool.{cases_eq, false≢true, false_from_ne_true}
 use Rattle.std.proofs.lemmas.List.{same_lists, length-set, length-replicate, get_or-replicate, get_or-set_same, get_or-set_other, get_or_default, length_push}
 use Rattle.std.proofs.lemmas.List.Elements.{All-push, All-weaker, Contains-push, Contains-push_cases, Contains-append_left}
 use Rattle.std.proofs.lemmas.List.Sums.{sum_by-set, sum_by-cons, get_or-le-sum_by}
@@ -27,10 +27,9 @@ pub all_false : (marks : List Bool) → ((v : ℕ) → 1 ≤ v → v ≤ length 
 all_false marks none =
     same_lists marks (replicate (length marks) false) (sym (length-replicate (length marks) false))
     (λ k d within.
-        let value : value_of marks (k + 1) ≡ false = false_from_ne_true (value_of marks (k + 1)) (λ e. none (k + 1) (omega arith) (omega arith) e) in
-        let place : k + 1 - 1 ≡ k = omega arith in
-        get_or_default marks k d false within ∙ (ap (λ i. get_or marks i false) (sym place) ∙ (value ∙ sym (get_or-replicate (length marks) k false d within))))
-
+    let value : value_of marks (k + 1) ≡ false = false_from_ne_true (value_of marks (k + 1)) (λ e. none (k + 1) (omega arith) (omega arith) e) in
+    let place : k + 1 - 1 ≡ k = omega arith in
+    get_or_default marks k d false within ∙ (ap (λ i. get_or marks i false) (sym place) ∙ (value ∙ sym (get_or-replicate (length marks) k false d within))))
 
 unmarked_counts : (b : Bool) → b ≡ false → ◌≡◌ {A = ℕ} (cond (not b) 1 0) 1
 unmarked_counts true e = absurd (false≢true (sym e))
@@ -49,12 +48,13 @@ AreMarked-add marks members capacity more v h larger from to fresh =
     record {
       marked = λ w w_from w_to.
           elim (cases_eq w v) [
-            inl same ↦ (λ _. subst (λ u. Contains (members ++ v ∷ []) u) (sym same) (Contains-push members v), λ _. ap (λ u. value_of (set marks (v - 1) true) u) same ∙ value_of-set_same marks v true from to)
+            | inl same ↦ (λ _. subst (λ u. Contains (members ++ v ∷ []) u) (sym same) (Contains-push members v), λ _. ap (λ u. value_of (set marks (v - 1) true) u) same ∙ value_of-set_same marks v true from to)
             | inr other ↦
-              let kept = value_of-set_other marks v w true from w_from other in
-              let was = h.marked w w_from (omega arith) in
-              (λ e. Contains-append_left members (v ∷ []) w (was.0 (sym kept ∙ e)),
-              λ e. kept ∙ was.1 (⊎_elim (λ x. x) (λ x. absurd (other (sym x))) (Contains-push_cases members v w e)))
+                let kept = value_of-set_other marks v w true from w_from other in
+                let was = h.marked w w_from (omega arith) in (
+                  λ e. Contains-append_left members (v ∷ []) w (was.0 (sym kept ∙ e)),
+                  λ e. kept ∙ was.1 (⊎_elim (λ x. x) (λ x. absurd (other (sym x))) (Contains-push_cases members v w e)),
+                )
           ];
       in_range = All-push (λ u. (1 ≤ u) × (u ≤ length (set marks (v - 1) true))) members v
           (All-weaker (λ u. (1 ≤ u) × (u ≤ length marks)) (λ u. (1 ≤ u) × (u ≤ length (set marks (v - 1) true))) (λ u r. (r.0, omega (arith, r.1))) members h.in_range)
@@ -74,8 +74,9 @@ count_by-unmarked (suc n) = sum_by-cons (λ b. cond (not b) 1 0) false (replicat
 pub AreMarked-none : (n capacity : ℕ) → n ≤ capacity → AreMarked (replicate n false) [] capacity
 AreMarked-none n capacity room = record {
   marked = λ v from to. (
-      λ e. absurd (false≢true (sym (get_or-replicate n (v - 1) false false (omega (arith, length-replicate n false))) ∙ e)),
-      λ e. absurd (omega (arith, e.1)));
+    λ e. absurd (false≢true (sym (get_or-replicate n (v - 1) false false (omega (arith, length-replicate n false))) ∙ e)),
+    λ e. absurd (omega (arith, e.1)),
+  );
   in_range = λ k d h. absurd (omega arith);
   counted = omega (arith, count_by-unmarked n, length-replicate n false);
   room = omega (arith, length-replicate n false);
@@ -93,7 +94,7 @@ AreLeft-more marks member left variables h from to =
     record {
       long = long ∙ same_long;
       each = λ v v_from v_to e. elim (cases_eq v member) [
-        inl same ↦ absurd (false≢true (sym (ap (λ u. value_of (set marks (member - 1) false) u) same ∙ value_of-set_same marks member false from (omega arith)) ∙ e))
+        | inl same ↦ absurd (false≢true (sym (ap (λ u. value_of (set marks (member - 1) false) u) same ∙ value_of-set_same marks member false from (omega arith)) ∙ e))
         | inr other ↦ Contains-tail member left v (h.each v v_from (omega arith) (sym (value_of-set_other marks member v false from v_from other) ∙ e)) (λ x. other (sym x))
       ];
     }

@@ -1,5 +1,5 @@
 -- A clause is new where its variables are reached and its first literal is left unset.
-use Rattle.std.proofs.Common.{◌≡◌, ℕ, ◌-◌, ◌<◌, ◌≤◌, ◌↔◌, inl, inr, min, List, [], ◌∷◌, length, take, refl, ap, sym, subst, ◌∙◌, arith, length-take}
+use Rattle.std.proofs.Common.{◌≡◌, ℕ, ◌-◌, ◌↔◌, inl, inr, min, List, [], ◌∷◌, length, take, ap, sym, subst, ◌∙◌, arith, length-take}
 use Rattle.std.specs.List.{All}
 use Rattle.std.proofs.lemmas.Bool.{cases_lt}
 use Rattle.std.proofs.lemmas.List.{take-take, take_all, take_min}
@@ -15,10 +15,10 @@ IsNew-parts n clauses inputs assumptions (first ∷ rest) over = (λ h. (h.1, h.
 -- the inputs among the first clauses
 pub take-inputs : {X : Type 0} (xs : List X) (inputs last few : ℕ) → few ≡ min last inputs → take few xs ≡ take inputs (take last xs)
 take-inputs xs inputs last few e = elim (cases_lt last inputs) [
-    inl less ↦
+  | inl less ↦
       let same : few ≡ last = omega arith in
       ap (λ k. take k xs) same ∙ sym (take_all inputs (take last xs) (omega (arith, length-take last xs)))
-    | inr more ↦
+  | inr more ↦
       let same : few ≡ inputs = omega arith in
       ap (λ k. take k xs) same ∙ sym (take-take inputs last xs more)
 ]
@@ -34,7 +34,8 @@ pub IsNew-computed : (n : ℕ) (clauses : List (List Literal)) (inputs before la
 IsNew-computed n clauses inputs before last few assumptions clause over is_last is_few =
     let below = clauses_below clauses before last is_last in
     let among : take few clauses ≡ take inputs (take (before - 1) clauses) = take-inputs clauses inputs last few is_few ∙ ap (λ cs. take inputs cs) below in
-    let parts = IsNew-parts n (take (before - 1) clauses) inputs assumptions clause over in
-    (λ h. let p = parts.0 h in
-        (subst (λ cs. All (λ l. InCone cs assumptions l.variable) clause) (sym among) p.0, subst (λ cs. LeavesFirstUnset cs assumptions clause) (sym below) p.1),
-    λ h. parts.1 (subst (λ cs. All (λ l. InCone cs assumptions l.variable) clause) among h.0, subst (λ cs. LeavesFirstUnset cs assumptions clause) below h.1))
+    let parts = IsNew-parts n (take (before - 1) clauses) inputs assumptions clause over in (
+      λ h. let p = parts.0 h in
+          (subst (λ cs. All (λ l. InCone cs assumptions l.variable) clause) (sym among) p.0, subst (λ cs. LeavesFirstUnset cs assumptions clause) (sym below) p.1),
+      λ h. parts.1 (subst (λ cs. All (λ l. InCone cs assumptions l.variable) clause) among h.0, subst (λ cs. LeavesFirstUnset cs assumptions clause) below h.1),
+    )

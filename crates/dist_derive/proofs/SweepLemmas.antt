@@ -1,16 +1,16 @@
 -- True literals that grow under the clauses, and what they leave unset.
 use mathlib.Core.Bool.{beq}
-use Rattle.std.proofs.Common.{◌≡◌, ℕ, zero, suc, ◌+◌, ◌-◌, ◌<◌, ◌≤◌, ◌⊎◌, ⊎_elim, inl, inr, ◌↔◌, Bool, true, false, eqb, List, [], ◌∷◌, ◌++◌, length, get_or, take, map, refl, ap, sym, subst, ◌∙◌, arith, length-take}
+use Rattle.std.proofs.Common.{◌≡◌, ℕ, suc, ◌<◌, ◌≤◌, ◌⊎◌, ⊎_elim, inl, inr, Bool, true, false, List, [], ◌∷◌, ◌++◌, length, get_or, take, map, refl, ap, sym, subst, ◌∙◌, arith}
 use Rattle.std.specs.List.{All, Contains}
 use Rattle.std.proofs.lemmas.Bool.{false≢true, true≢false, cases_Bool, cases_eq}
-use Rattle.std.proofs.lemmas.List.{length_push, get_or_default, get_or-take, take-take, take_all}
+use Rattle.std.proofs.lemmas.List.{length_push, get_or_default}
 use Rattle.std.proofs.lemmas.List.Elements.{All-nil, All-cons, All-head, All-tail, All-push, All-weaker, All-contains, All-take, All-map, All-get_or}
 use Rattle.dist_clause.specs.Formula.{Literal, literal, negation}
 use Rattle.dist_derive.specs.Valued.{LiteralList, HasOutcome}
 use Rattle.dist_derive.specs.declared.true_literals.Outcome.TheVariants.{Open}
-use Rattle.dist_derive.specs.Propagation.{IsFalse, IsUnset, AllFalse, OthersFalse, IsUnit, IsConsistent}
+use Rattle.dist_derive.specs.Propagation.{IsFalse, IsUnset, AllFalse, IsUnit, IsConsistent}
 use Rattle.dist_derive.specs.New.{IsPropagated, LeavesUnset}
-use Rattle.dist_derive.specs.Growing.{ContainsAll, IsForced, IsRefuted, AllOpen, LeavesFirstUnset}
+use Rattle.dist_derive.specs.Growing.{ContainsAll, IsForced, IsRefuted, AllOpen}
 use Rattle.dist_derive.proofs.ValuedLemmas.{All-front, All-last, beq-true, beq-false}
 use Rattle.dist_derive.proofs.MarkedLemmas.{Contains-tail}
 use Rattle.dist_derive.proofs.AssumeLemmas.{ContainsAll-itself, ContainsAll-then, ContainsAll-push, AllFalse-more, OthersFalse-more}
@@ -94,18 +94,18 @@ refuted_before clauses start now h refuted = λ trues all propagated no_conflict
 -- a literal is in a list or is not
 same_or_not : (l m : Literal) → (l ≡ m) ⊎ (l ≡ m → ⊥)
 same_or_not l m = elim (cases_eq l.variable m.variable) [
-    inl v ↦ elim (cases_Bool (beq l.positive m.positive)) [
-        inl p ↦ inl (ap (λ n. literal n l.positive) v ∙ ap (λ b. literal m.variable b) (beq-true l.positive m.positive p))
-        | inr p ↦ inr (λ e. beq-false l.positive m.positive p (ap (λ (x : Literal). x.positive) e))
-    ]
-    | inr v ↦ inr (λ e. v (ap (λ (x : Literal). x.variable) e))
+  | inl v ↦ elim (cases_Bool (beq l.positive m.positive)) [
+    | inl p ↦ inl (ap (λ n. literal n l.positive) v ∙ ap (λ b. literal m.variable b) (beq-true l.positive m.positive p))
+    | inr p ↦ inr (λ e. beq-false l.positive m.positive p (ap (λ (x : Literal). x.positive) e))
+  ]
+  | inr v ↦ inr (λ e. v (ap (λ (x : Literal). x.variable) e))
 ]
 
 contains_or_not : (trues : List Literal) (l : Literal) → Contains trues l ⊎ (Contains trues l → ⊥)
 contains_or_not [] l = inr (λ h. absurd (omega (arith, h.1)))
 contains_or_not (m ∷ ms) l = elim (same_or_not m l) [
-    inl same ↦ inl (0, omega arith, same)
-    | inr other ↦ ⊎_elim (λ h. inl (suc h.0, omega (arith, h.1), h.2)) (λ h. inr (λ g. h (Contains-tail m ms l g other))) (contains_or_not ms l)
+  | inl same ↦ inl (0, omega arith, same)
+  | inr other ↦ ⊎_elim (λ h. inl (suc h.0, omega (arith, h.1), h.2)) (λ h. inr (λ g. h (Contains-tail m ms l g other))) (contains_or_not ms l)
 ]
 
 -- where no clause is false or unit, all is propagated
@@ -113,14 +113,14 @@ open_propagated : (trues clause : List Literal) → HasOutcome trues clause Open
 open_propagated trues clause is_open = λ place d within others.
     let l = get_or clause place d in
     elim (contains_or_not trues l) [
-        inl here ↦ here
-        | inr not_true ↦ elim (contains_or_not trues (negation l)) [
-            inl is_false ↦ absurd (is_open.0 (λ k e k_within. elim (cases_eq k place) [
-                inl same ↦ subst (λ m. IsFalse trues m) (get_or_default clause place d e within ∙ ap (λ j. get_or clause j e) (sym same)) is_false
-                | inr other ↦ others k e k_within other
-            ]))
-            | inr not_false ↦ absurd (is_open.1 l (record { place = place; within = within; at_place = get_or_default clause place l d within; unset = (not_true, not_false); others = others }))
-        ]
+      | inl here ↦ here
+      | inr not_true ↦ elim (contains_or_not trues (negation l)) [
+        | inl is_false ↦ absurd (is_open.0 (λ k e k_within. elim (cases_eq k place) [
+          | inl same ↦ subst (λ m. IsFalse trues m) (get_or_default clause place d e within ∙ ap (λ j. get_or clause j e) (sym same)) is_false
+          | inr other ↦ others k e k_within other
+        ]))
+        | inr not_false ↦ absurd (is_open.1 l (record { place = place; within = within; at_place = get_or_default clause place l d within; unset = (not_true, not_false); others = others }))
+      ]
     ]
 
 module _ (clauses : List (List Literal)) (assumptions : List Literal) (first : Literal) (rest denied assumed ended : List Literal) (start : denied ≡ map negation rest) where

@@ -1,6 +1,6 @@
 -- True literals kept as a set of variables with their values.
 use mathlib.Core.Bool.{beq}
-use Rattle.std.proofs.Common.{◌≡◌, ◌≢◌, ℕ, zero, suc, ◌+◌, ◌-◌, ◌<◌, ◌≤◌, Bool, true, false, not, List, [], ◌∷◌, ◌++◌, length, get_or, set, map, take, refl, ap, sym, ◌∙◌, subst, arith}
+use Rattle.std.proofs.Common.{◌≡◌, ◌≢◌, ℕ, suc, ◌+◌, ◌-◌, ◌<◌, ◌≤◌, Bool, true, false, not, List, [], ◌∷◌, ◌++◌, length, get_or, set, take, refl, ap, sym, ◌∙◌, subst, arith}
 use Rattle.std.specs.List.{All, Contains}
 use Rattle.std.proofs.lemmas.Bool.{false≢true, true≢false}
 use Rattle.std.proofs.lemmas.List.{length-map, get_or-map, get_or_at, length_push, take_at, take_more, map_push}
@@ -34,14 +34,16 @@ other-is_not false true h = refl
 other-is_not false false h = absurd (h refl)
 
 pub is_true : (signs : List Bool) (members : List ℕ) (l : Literal) → Contains members l.variable → value_of signs l.variable ≡ l.positive → Contains (valued signs members) l × (IsFalse (valued signs members) l → ⊥)
-is_true signs members l h e =
-    (subst (λ b. Contains (valued signs members) (literal l.variable b)) e (Contains-valued signs members l.variable h),
-    λ g. not-itself l.positive (sym (valued-Contains signs members (negation l) g).1 ∙ e))
+is_true signs members l h e = (
+  subst (λ b. Contains (valued signs members) (literal l.variable b)) e (Contains-valued signs members l.variable h),
+  λ g. not-itself l.positive (sym (valued-Contains signs members (negation l) g).1 ∙ e),
+)
 
 pub is_false : (signs : List Bool) (members : List ℕ) (l : Literal) → Contains members l.variable → (value_of signs l.variable ≡ l.positive → ⊥) → (Contains (valued signs members) l → ⊥) × IsFalse (valued signs members) l
-is_false signs members l h e =
-    (λ g. e (valued-Contains signs members l g).1,
-    subst (λ b. Contains (valued signs members) (literal l.variable b)) (other-is_not (value_of signs l.variable) l.positive e) (Contains-valued signs members l.variable h))
+is_false signs members l h e = (
+  λ g. e (valued-Contains signs members l g).1,
+  subst (λ b. Contains (valued signs members) (literal l.variable b)) (other-is_not (value_of signs l.variable) l.positive e) (Contains-valued signs members l.variable h),
+)
 
 -- a variable of the set is not unset
 pub fresh-from_unset : (signs : List Bool) (members : List ℕ) (l : Literal) → IsUnset (valued signs members) l → Contains members l.variable → ⊥

@@ -14,7 +14,7 @@ abbrev pub EndsFalse : List (List Literal) → List Literal → List ℕ → Typ
 EndsFalse clauses trues [] = ⊥
 EndsFalse clauses trues (hint ∷ hints) = IsNumberOf clauses hint
     × ((AllFalse trues (clause_at clauses hint) × ((hints ≡ []) ⊎ EndsFalse clauses trues hints))
-        ⊎ ((l : Literal) × IsUnit trues (clause_at clauses hint) l × EndsFalse clauses (trues ++ l ∷ []) hints))
+    ⊎ ((l : Literal) × IsUnit trues (clause_at clauses hint) l × EndsFalse clauses (trues ++ l ∷ []) hints))
 
 -- the negated literals of the clause are true, and the hints end in a false clause
 abbrev pub Follows : List (List Literal) → List Literal → List ℕ → Type 0

@@ -3,7 +3,7 @@ use Rattle.std.specs.Prelude.{◌≡◌, ◌⊎◌, ℕ, ◌<◌, ◌≤◌, Boo
 use Rattle.dist_clause.specs.Formula.{Literal}
 use Rattle.dist_derive.specs.Marked.{VariableList}
 use Rattle.dist_derive.specs.Valued.{LiteralList, HasOutcome}
-use Rattle.dist_derive.specs.Propagation.{IsFalse, AllFalse, IsConsistent}
+use Rattle.dist_derive.specs.Propagation.{IsFalse, AllFalse}
 use Rattle.dist_derive.specs.New.{IsPropagated, LeavesUnset}
 use Rattle.dist_derive.specs.declared.true_literals.Outcome.TheVariants.{Open}
 use Rattle.dist_derive.specs.declared.newness.Sweep.{Sweep}

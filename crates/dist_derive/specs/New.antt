@@ -1,6 +1,6 @@
 -- When a clause adds to what unit propagation gives under assumptions, and speaks only of variables that the
 -- assumptions reach.
-use Rattle.std.specs.Prelude.{◌≡◌, ℕ, ◌-◌, ◌<◌, Bool, true, List, [], ◌∷◌, length, take, All, Contains, slice_index_or}
+use Rattle.std.specs.Prelude.{◌≡◌, ℕ, ◌<◌, Bool, true, List, [], ◌∷◌, length, take, All, Contains, slice_index_or}
 use Rattle.dist_clause.specs.Formula.{Literal}
 use Rattle.dist_derive.specs.Propagation.{IsFalse, IsUnset, AllFalse, OthersFalse, IsConsistent}
 use Rattle.std.specs.Prelude.{AllPairs, ◌≢◌, false}

@@ -1,5 +1,5 @@
 -- Clauses under a list of true literals (unit propagation).
-use Rattle.std.specs.Prelude.{◌≡◌, ◌≢◌, ℕ, ◌<◌, ◌≤◌, List, length, All, Contains, slice_index_or}
+use Rattle.std.specs.Prelude.{◌≡◌, ◌≢◌, ℕ, ◌<◌, List, length, All, Contains, slice_index_or}
 use Rattle.dist_clause.specs.Formula.{Literal, negation}
 
 -- a literal is false where its negation is true, and unset where neither is true

@@ -1,5 +1,5 @@
 -- Room for work that is ready for the next call.
-use Rattle.std.specs.Prelude.{◌≡◌, List, []}
+use Rattle.std.specs.Prelude.{◌≡◌, []}
 use Rattle.dist_derive.specs.Marked.{VariableList}
 use Rattle.dist_derive.specs.Valued.{LiteralList}
 

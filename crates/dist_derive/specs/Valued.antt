@@ -1,8 +1,7 @@
 -- True literals, kept as a set of variables and the value of each of them.
-use Rattle.std.specs.Prelude.{◌≡◌, ℕ, Bool, List, length, map, Contains}
-use Rattle.dist_clause.specs.Formula.{Literal, literal, negation, value_of}
-use Rattle.dist_derive.specs.Marked.{VariableList}
-use Rattle.dist_derive.specs.Propagation.{IsFalse, IsUnset, AllFalse, IsUnit, IsConsistent}
+use Rattle.std.specs.Prelude.{ℕ, Bool, List, map, Contains}
+use Rattle.dist_clause.specs.Formula.{Literal, literal, value_of}
+use Rattle.dist_derive.specs.Propagation.{IsFalse, IsUnset, AllFalse, IsUnit}
 use Rattle.dist_derive.specs.declared.true_literals.Status.{Status}
 use Rattle.dist_derive.specs.declared.true_literals.Status.TheVariants.{True, False, Unset}
 use Rattle.dist_derive.specs.declared.true_literals.Outcome.{Outcome}

@@ -61,5 +61,4 @@ impl Log {
 pub fn lines_keep_models()
     ensures { (inputs : ℕ) (clauses : List (List Literal)) (value : ℕ → Bool) → EachLineFollows inputs clauses
         → IsModel value (take inputs clauses) → IsModel value clauses }
-{
-}
+{}

@@ -10,6 +10,8 @@ mod follows;
 mod log;
 mod newness;
 mod scratch;
+#[cfg(test)]
+mod tests;
 mod true_literals;
 mod variable_set;
 

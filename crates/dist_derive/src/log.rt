@@ -3,7 +3,7 @@ ghost use Rattle.dist_clause.specs.Formula.{IsClauseOver};
 ghost use Rattle.dist_clause.specs.ClauseList.{clause_at, literal_count};
 ghost use Rattle.dist_derive.specs.ClauseLog.{lines_of, IsWithinLineLimits};
 
-use crate::{MAX_LINES, MAX_LINE_LITERALS};
+use crate::{MAX_LINE_LITERALS, MAX_LINES};
 use dist_clause::{ClauseSet, Lit, PushError};
 use std::alloc::Global;
 use std::marker::Model;
@@ -42,11 +42,11 @@ impl Log {
         requires lines { lines ≤ MAX_LINES }
         requires line_literals { line_literals ≤ MAX_LINE_LITERALS }
         ensures { result ≡ record {
-            clauses = inputs.clauses;
-            inputs = length inputs.clauses;
-            variables = inputs.variables;
-            line_limit = lines;
-            line_literal_limit = line_literals;
+          clauses = inputs.clauses;
+          inputs = length inputs.clauses;
+          variables = inputs.variables;
+          line_limit = lines;
+          line_literal_limit = line_literals;
         } }
     {
         let lines = ClauseSet::new(alloc, inputs.variables(), lines, line_literals);

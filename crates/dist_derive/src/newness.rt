@@ -23,7 +23,13 @@ impl Log {
     /// Whether a clause is new under assumptions over the clauses with numbers below `before`: each of its variables is
     /// in the assumptions' cone, and unit propagation from the assumptions and the negations of its literals but the
     /// first gives neither a conflict nor a value of the first.
-    pub fn is_new(&self, scratch: &mut Scratch, assumptions: &[Lit], clause: &[Lit], before: u32) -> bool
+    pub fn is_new(
+        &self,
+        scratch: &mut Scratch,
+        assumptions: &[Lit],
+        clause: &[Lit],
+        before: u32,
+    ) -> bool
         requires assumptions { IsClauseOver self.now.variables assumptions.now }
         requires clause { IsClauseOver self.now.variables clause.now }
         requires scratch { scratch.old ≡ self.now.variables }
@@ -45,7 +51,13 @@ impl Log {
 
     /// Whether the cone of the assumptions has all variables of a clause, where the input clauses are the first `inputs`
     /// ones.
-    fn reaches(&self, cone: &mut VariableSet, assumptions: &[Lit], clause: &[Lit], inputs: u32) -> bool
+    fn reaches(
+        &self,
+        cone: &mut VariableSet,
+        assumptions: &[Lit],
+        clause: &[Lit],
+        inputs: u32,
+    ) -> bool
         requires empty { cone.old ≡ record { variables = self.now.variables; members = [] } }
         requires assumptions { All (λ l. l.variable ≤ self.now.variables) assumptions.now }
         requires clause { All (λ l. l.variable ≤ self.now.variables) clause.now }
@@ -78,7 +90,13 @@ impl Log {
     /// Whether some true literals that hold the assumptions and the negations of a clause's literals but the first are
     /// closed under unit propagation by the first `last` clauses, make none of these false, and leave the clause's first
     /// literal unset.
-    fn leaves_unset(&self, literals: &mut TrueLiterals, assumptions: &[Lit], clause: &[Lit], last: u32) -> bool
+    fn leaves_unset(
+        &self,
+        literals: &mut TrueLiterals,
+        assumptions: &[Lit],
+        clause: &[Lit],
+        last: u32,
+    ) -> bool
         requires empty { literals.old ≡ record { variables = self.now.variables; literals = [] } }
         requires assumptions { All (λ l. l.variable ≤ self.now.variables) assumptions.now }
         requires clause { IsClauseOver self.now.variables clause.now }

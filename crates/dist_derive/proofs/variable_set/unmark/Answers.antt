@@ -1,5 +1,4 @@
-use Rattle.std.proofs.Common.{◌≡◌, ℕ, ◌+◌, ◌≤◌, List, ◌∷◌, false, length, get_or, drop, set, replicate, refl, sym, subst, ap, ◌∙◌, arith}
-use Rattle.std.specs.List.{All}
+use Rattle.std.proofs.Common.{◌+◌, ◌≤◌, false, length, get_or, drop, replicate, refl, sym, subst, ap, ◌∙◌, arith}
 use Rattle.std.proofs.lemmas.List.{drop_more, drop_all}
 use Rattle.std.proofs.lemmas.List.Elements.{All-get_or}
 use Rattle.dist_derive.proofs.MarkedLemmas.{AreLeft, AreLeft-more, all_false}
@@ -24,12 +23,12 @@ loop-member-preserved c =
     let here = All-get_or (λ v. (1 ≤ v) × (v ≤ length c.args.marks.now)) c.args.members.now i 0 c.loop-member-test.true c.requires.in_range in
     let left = subst (λ xs. AreLeft c.loop-member.marks xs (length c.args.marks.now)) (drop_more c.args.members.now i 0 c.loop-member-test.true) c.loop-member.invariant in
     subst (λ marks. AreLeft marks (drop (i + 1) c.args.members.now) (length c.args.marks.now)) (sym c.set.ensures)
-        (AreLeft-more c.loop-member.marks member (drop (i + 1) c.args.members.now) (length c.args.marks.now) left here.0 here.1)
+    (AreLeft-more c.loop-member.marks member (drop (i + 1) c.args.members.now) (length c.args.marks.now) left here.0 here.1)
 
 pub returns : goal.returns
 returns c =
     let none = drop_all c.loop-member.member-index c.args.members.now c.loop-member-test.false in
     all_false c.loop-member.marks (λ v from to e.
-        let left = subst (λ xs. AreLeft c.loop-member.marks xs (length c.args.marks.now)) none c.loop-member.invariant in
-        absurd (omega (arith, (left.each v from to e).1)))
+    let left = subst (λ xs. AreLeft c.loop-member.marks xs (length c.args.marks.now)) none c.loop-member.invariant in
+    absurd (omega (arith, (left.each v from to e).1)))
     ∙ ap (λ n. replicate n false) c.loop-member.invariant.long

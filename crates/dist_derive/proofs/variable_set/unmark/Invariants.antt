@@ -1,6 +1,4 @@
-use Rattle.std.proofs.Common.{◌≡◌, ℕ, ◌≤◌, true, List, length, drop}
-use Rattle.std.specs.List.{Contains}
-use Rattle.dist_clause.specs.Formula.{value_of}
+use Rattle.std.proofs.Common.{length, drop}
 use Rattle.dist_derive.proofs.MarkedLemmas.{AreLeft}
 use Rattle.dist_derive.proofs.variable_set.unmark.Given as goal
 

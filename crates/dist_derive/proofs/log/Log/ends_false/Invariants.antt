@@ -1,6 +1,5 @@
-use Rattle.std.proofs.Common.{◌≡◌, ◌↔◌, drop}
-use Rattle.dist_derive.specs.Follows.{EndsFalse}
-use Rattle.dist_derive.proofs.FollowsLemmas.{EndsFrom, HintsSoFar}
+use Rattle.std.proofs.Common.{◌≡◌}
+use Rattle.dist_derive.proofs.FollowsLemmas.{HintsSoFar}
 use Rattle.dist_derive.proofs.log.Log.ends_false.Given as goal
 
 abbrev pub invariant-loop-hint : goal.invariant-loop-hint

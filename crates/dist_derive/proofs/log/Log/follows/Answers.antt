@@ -1,5 +1,4 @@
-use Rattle.std.proofs.Common.{List, ap, subst}
-use Rattle.dist_clause.specs.Formula.{Literal}
+use Rattle.std.proofs.Common.{ap, subst}
 use Rattle.dist_derive.specs.Valued.{LiteralList}
 use Rattle.dist_derive.specs.Follows.{EndsFalse}
 use Rattle.dist_derive.proofs.Soundness.{follows_sound}

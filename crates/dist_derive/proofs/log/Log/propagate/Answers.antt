@@ -1,5 +1,5 @@
-use Rattle.std.proofs.Common.{◌≡◌, List, take}
-use Rattle.dist_derive.proofs.SweepLemmas.{PropagatesSoFar, propagates_none, propagates_more, refuted_before}
+use Rattle.std.proofs.Common.{take}
+use Rattle.dist_derive.proofs.SweepLemmas.{propagates_none, propagates_more}
 use Rattle.dist_derive.proofs.log.Log.propagate.Goals as goal
 
 pub loop-init : goal.loop-init

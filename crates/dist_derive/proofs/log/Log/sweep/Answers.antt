@@ -1,4 +1,4 @@
-use Rattle.std.proofs.Common.{◌≡◌, ℕ, ◌+◌, ◌-◌, ◌<◌, ◌≤◌, List, Bool, true, false, [], ◌∷◌, ◌++◌, length, get_or, take, refl, ap, sym, subst, ◌∙◌, arith, length-take}
+use Rattle.std.proofs.Common.{◌≡◌, ◌+◌, ◌-◌, ◌<◌, List, Bool, [], ◌∷◌, ◌++◌, length, get_or, take, refl, ap, sym, subst, ◌∙◌, arith, length-take}
 use Rattle.std.specs.List.{All}
 use Rattle.std.proofs.lemmas.List.{take-take, get_or-take}
 use Rattle.std.proofs.lemmas.List.Elements.{All-take}
@@ -35,10 +35,10 @@ returns-in-Conflict-clause-found c =
     let whole = take c.args.last clauses in
     let so_far = subst (λ cs. SweepsSoFar cs c.args.literals.now c.loop-place.literals c.loop-place.grown) (sym (take-take place c.args.last clauses (omega arith))) c.loop-place.invariant in
     let at_place : clause_at clauses (place + 1) ≡ get_or whole place [] =
-        ap (λ k. get_or clauses k []) (let e : place + 1 - 1 ≡ place = omega arith in e) ∙ sym (get_or-take c.args.last clauses place [] c.loop-place-test.true) in
+    ap (λ k. get_or clauses k []) (let e : place + 1 - 1 ≡ place = omega arith in e) ∙ sym (get_or-take c.args.last clauses place [] c.loop-place-test.true) in
     let within : place < length whole = omega (arith, length-take c.args.last clauses, c.requires.last) in
     sweeps_conflict whole place c.args.literals.now c.loop-place.literals c.loop-place.grown so_far within
-        (subst (λ clause. AllFalse c.loop-place.literals.literals clause) at_place c.in-Conflict.ensures.2)
+    (subst (λ clause. AllFalse c.loop-place.literals.literals clause) at_place c.in-Conflict.ensures.2)
 
 pub loop-place-preserved : goal.loop-place-preserved
 loop-place-preserved c =
@@ -52,11 +52,11 @@ loop-place-preserved c =
     let item = clause_item clauses place clause within refl in
     let So_far : List (List Literal) → Bool → Type 0 = λ cs grown. SweepsSoFar cs start next grown in
     elim c.match-take_hint.branch [
-        in-Unit w ↦
+      | in-Unit w ↦
           let h = w.in-Unit.ensures in
           let more = sweeps_unit (take place clauses) clause start now next c.loop-place.grown c.loop-place.invariant w.in-Unit.field-0 h.0 h.2 h.3 in
           subst (λ cs. So_far cs c.match-take_hint.grown) (sym item) (subst (λ g. So_far (take place clauses ++ clause ∷ []) g) (sym w.grown-is) more)
-        | in-Open w ↦
+      | in-Open w ↦
           let h = w.in-Open.ensures in
           let more = sweeps_open (take place clauses) clause start now next c.loop-place.grown c.loop-place.invariant h.0 (h.1 (omega arith, omega arith)) in
           subst (λ cs. So_far cs c.match-take_hint.grown) (sym item) (subst (λ g. So_far (take place clauses ++ clause ∷ []) g) (sym w.grown-is) more)

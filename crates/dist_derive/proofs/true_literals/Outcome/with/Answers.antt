@@ -1,6 +1,4 @@
 use Rattle.std.proofs.Common.{subst, [], ◌∷◌, inl, inr}
-use Rattle.dist_clause.specs.Formula.{Literal}
-use Rattle.dist_derive.specs.Propagation.{AllFalse}
 use Rattle.dist_derive.specs.Valued.{HasStatus, HasOutcome}
 use Rattle.dist_derive.proofs.OutcomeLemmas.{conflict_false, conflict_unset, unit_false, true_open, two_unset_open, open-append}
 use Rattle.dist_derive.proofs.true_literals.Outcome.with.Goals as goal
@@ -24,8 +22,8 @@ returns-in-False-status c = λ trues clause h s.
 pub returns-in-Unset-status : goal.returns-in-Unset-status
 returns-in-Unset-status c = λ trues clause h s.
     elim c.in-Unset-status.is [
-        inl unset ↦ two_unset_open trues clause c.args.literal c.in-Unit.only (subst (λ o. HasOutcome trues clause o) c.in-Unit.is h) (subst (λ x. HasStatus trues c.args.literal x) unset s)
-        | inr is_true ↦ let t = subst (λ x. HasStatus trues c.args.literal x) is_true s in true_open trues clause c.args.literal t.0 t.1
+      | inl unset ↦ two_unset_open trues clause c.args.literal c.in-Unit.only (subst (λ o. HasOutcome trues clause o) c.in-Unit.is h) (subst (λ x. HasStatus trues c.args.literal x) unset s)
+      | inr is_true ↦ let t = subst (λ x. HasStatus trues c.args.literal x) is_true s in true_open trues clause c.args.literal t.0 t.1
     ]
 
 pub returns-in-Open : goal.returns-in-Open

@@ -1,8 +1,8 @@
-use Rattle.std.proofs.Common.{◌≡◌, ◌+◌, List, true, false, [], ◌∷◌, ◌++◌, take, ap, sym, subst}
+use Rattle.std.proofs.Common.{◌≡◌, false, take, ap, sym, subst}
 use Rattle.std.specs.List.{Contains}
 use Rattle.std.proofs.lemmas.List.{take_all}
 use Rattle.std.proofs.lemmas.List.Elements.{All-take, All-contains}
-use Rattle.dist_clause.specs.Formula.{Literal, negation}
+use Rattle.dist_clause.specs.Formula.{negation}
 use Rattle.dist_derive.specs.Valued.{LiteralList}
 use Rattle.dist_derive.specs.Growing.{ContainsAll, Assumes}
 use Rattle.dist_derive.proofs.ValuedLemmas.{take_item, All-item}
@@ -24,7 +24,7 @@ returns-then-not-assume-clause-kept c = subst (λ ts. ContainsAll ts c.args.self
 pub returns-then-not-assume-clause-least : goal.returns-then-not-assume-clause-least
 returns-then-not-assume-clause-least c = λ trues all assumed.
     subst (λ ts. ContainsAll trues ts) (same_literals c)
-        (c.loop-literal.invariant.least trues all (All-take (Contains trues) c.loop-literal.literal-index c.args.literals.now assumed))
+    (c.loop-literal.invariant.least trues all (All-take (Contains trues) c.loop-literal.literal-index c.args.literals.now assumed))
 
 pub returns-then-not-assume-clause-refused : goal.returns-then-not-assume-clause-refused
 returns-then-not-assume-clause-refused c = λ _ trues all assumed consistent.

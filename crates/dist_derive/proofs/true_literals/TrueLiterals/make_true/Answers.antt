@@ -1,6 +1,5 @@
-use Rattle.std.proofs.Common.{◌≡◌, ◌-◌, ◌≤◌, ℕ, List, [], ◌∷◌, ◌++◌, length, Bool, set, subst, sym, ap, ◌∙◌, arith}
+use Rattle.std.proofs.Common.{◌≡◌, ◌-◌, ◌≤◌, [], ◌∷◌, ◌++◌, set, subst, sym, ap, ◌∙◌, arith}
 use Rattle.std.specs.List.{All, Contains}
-use Rattle.dist_clause.specs.Formula.{Literal, value_of}
 use Rattle.dist_derive.specs.Marked.{VariableList}
 use Rattle.dist_derive.specs.Valued.{LiteralList, valued}
 use Rattle.dist_derive.specs.Propagation.{IsUnset}
@@ -28,6 +27,6 @@ returns-clause-added c =
     let signs_is : c.set.new.self ≡ set signs (l.variable - 1) l.positive = c.set.ensures ∙ (ap (λ v. set signs (v - 1) c.positive.result) same_variable ∙ ap (λ b. set signs (l.variable - 1) b) c.positive.ensures) in
     let added = valued-add signs members l c.add.new.self.variables in_range (omega (arith, c.variable-variable.ensures.from_one)) (omega (arith, c.self.invariant, c.requires.in_range)) fresh in
     let all : valued c.set.new.self c.add.new.self.members ≡ c.args.self.now.literals ++ l ∷ [] =
-        ap (λ bs. valued bs c.add.new.self.members) signs_is ∙ (ap (λ ms. valued (set signs (l.variable - 1) l.positive) ms) more ∙ (added ∙ ap (λ ts. ts ++ l ∷ []) literals)) in
+    ap (λ bs. valued bs c.add.new.self.members) signs_is ∙ (ap (λ ms. valued (set signs (l.variable - 1) l.positive) ms) more ∙ (added ∙ ap (λ ts. ts ++ l ∷ []) literals)) in
     let same_variables : c.add.new.self.variables ≡ c.args.self.now.variables = ap (λ (s : VariableList). s.variables) c.add.ensures.added ∙ variables in
     cc

@@ -1,7 +1,7 @@
-use Rattle.std.proofs.Common.{◌≡◌, ℕ, List, Bool, subst, sym, ap, ◌∙◌, arith}
+use Rattle.std.proofs.Common.{◌≡◌, subst, sym, ap, ◌∙◌}
 use Rattle.std.specs.List.{Contains}
-use Rattle.dist_clause.specs.Formula.{Literal, value_of}
-use Rattle.dist_derive.specs.Valued.{LiteralList, HasStatus}
+use Rattle.dist_clause.specs.Formula.{value_of}
+use Rattle.dist_derive.specs.Valued.{LiteralList}
 use Rattle.dist_derive.specs.Propagation.{IsFalse}
 use Rattle.dist_derive.proofs.ValuedLemmas.{is_true, is_false, beq-true, beq-false}
 use Rattle.dist_derive.proofs.true_literals.TrueLiterals.status.Goals as goal

@@ -1,7 +1,7 @@
-use Rattle.std.proofs.Common.{◌≡◌, ℕ, ◌-◌, ◌+◌, ◌<◌, ◌≤◌, List, [], ◌∷◌, ◌++◌, true, cond, length, set, sym, subst, ap, ◌∙◌, arith, is_ok}
+use Rattle.std.proofs.Common.{◌≡◌, ◌-◌, [], ◌∷◌, ◌++◌, true, length, set, sym, subst, ap, ◌∙◌, arith, is_ok}
 use Rattle.std.specs.List.{Contains}
-use Rattle.std.specs.Vec.{vec_len, vec_capacity}
-use Rattle.std.proofs.lemmas.List.{length_push, length-set}
+use Rattle.std.specs.Vec.{vec_capacity}
+use Rattle.std.proofs.lemmas.List.{length-set}
 use Rattle.std.proofs.lemmas.Bool.{cond-true}
 use Rattle.dist_derive.specs.Marked.{VariableList, AreMarked}
 use Rattle.dist_derive.proofs.MarkedLemmas.{AreMarked-add, is_room}
@@ -23,12 +23,12 @@ marked c =
     let members = ap (λ (s : VariableList). s.members) c.self.view_is in
     let fresh = subst (λ xs. Contains xs c.args.variable → ⊥) (sym members) c.requires.fresh in
     AreMarked-add c.self.inside.marks c.self.inside.members.items (vec_capacity c.self.inside.members) (vec_capacity c.push.new.self) c.args.variable
-        c.self.invariant c.push.ensures.capacity c.requires.from_one (omega arith) fresh
+    c.self.invariant c.push.ensures.capacity c.requires.from_one (omega arith) fresh
 
 pub invariant_of-self : goal.invariant_of-self
 invariant_of-self c =
     subst (λ marks. AreMarked marks c.push.new.self.items (vec_capacity c.push.new.self)) (sym c.set.ensures)
-        (subst (λ members. AreMarked (set c.self.inside.marks (c.args.variable - 1) true) members (vec_capacity c.push.new.self)) (sym (pushed c)) (marked c))
+    (subst (λ members. AreMarked (set c.self.inside.marks (c.args.variable - 1) true) members (vec_capacity c.push.new.self)) (sym (pushed c)) (marked c))
 
 pub returns-clause-few : goal.returns-clause-few
 returns-clause-few c =
