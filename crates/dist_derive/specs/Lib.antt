@@ -7,3 +7,4 @@ pub mod Ready
 pub mod Hints
 pub mod New
 pub mod Growing
+pub mod Examples
