@@ -9,3 +9,4 @@ pub mod GrowingLemmas
 pub mod AssumeLemmas
 pub mod SweepLemmas
 pub mod NewLemmas
+pub mod ConeLaws

@@ -1,9 +1,8 @@
 -- When a clause adds to what unit propagation gives under assumptions, and speaks only of variables that the
 -- assumptions reach.
-use Rattle.std.specs.Prelude.{◌≡◌, ℕ, ◌<◌, Bool, true, List, [], ◌∷◌, length, take, All, Contains, slice_index_or}
+use Rattle.std.specs.Prelude.{◌≡◌, ◌≢◌, ℕ, ◌<◌, Bool, true, false, List, [], ◌∷◌, length, take, All, AllPairs, Contains, slice_index_or}
 use Rattle.dist_clause.specs.Formula.{Literal}
 use Rattle.dist_derive.specs.Propagation.{IsFalse, IsUnset, AllFalse, OthersFalse, IsConsistent}
-use Rattle.std.specs.Prelude.{AllPairs, ◌≢◌, false}
 
 -- A set of variables is given by its test.
 -- The set has all variables of each input clause of which it has the variables of all negative literals.
@@ -14,6 +13,10 @@ IsClosedUnder has inputs = All (λ clause. All (λ l. l.positive ≡ false → h
 -- is in it where it is in every such set.
 abbrev pub InCone : List (List Literal) → List Literal → ℕ → Type 0
 InCone inputs assumptions variable = (has : ℕ → Bool) → All (λ l. has l.variable ≡ true) assumptions → IsClosedUnder has inputs → has variable ≡ true
+
+-- all variables of the clause are in the cone
+abbrev pub IsWithinCone : List (List Literal) → List Literal → List Literal → Type 0
+IsWithinCone inputs assumptions clause = All (λ l. InCone inputs assumptions l.variable) clause
 
 -- where all literals of a clause but one are false, that one is true
 abbrev pub IsPropagated : List Literal → List Literal → Type 0
@@ -34,5 +37,5 @@ abbrev pub IsNew : List (List Literal) → ℕ → List Literal → List Literal
 IsNew clauses inputs assumptions [] = ⊥
 IsNew clauses inputs assumptions (first ∷ rest) =
     AllPairs (λ l m. l.variable ≢ m.variable) (first ∷ rest)
-    × All (λ l. InCone (take inputs clauses) assumptions l.variable) (first ∷ rest)
+    × IsWithinCone (take inputs clauses) assumptions (first ∷ rest)
     × ((trues : List Literal) × LeavesUnset clauses assumptions first rest trues)

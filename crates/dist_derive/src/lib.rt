@@ -4,6 +4,7 @@
 
 pub use follows::lines_keep_models;
 pub use log::{AppendError, Log};
+pub use newness::{cone_is_closed, cone_models_extend};
 pub use scratch::Scratch;
 
 mod follows;

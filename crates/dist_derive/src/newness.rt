@@ -1,7 +1,7 @@
-ghost use Rattle.std.specs.Prelude.{◌≡◌, ◌≤◌, ◌↔◌, ◌-◌, ℕ, Bool, false, List, [], length, take, min, All, IsTrue};
-ghost use Rattle.dist_clause.specs.Formula.{Literal, IsClauseOver};
+ghost use Rattle.std.specs.Prelude.{◌≡◌, ◌≤◌, ◌↔◌, ◌-◌, ℕ, Bool, false, List, [], length, take, min, All, IsTrue, true, Contains};
+ghost use Rattle.dist_clause.specs.Formula.{Literal, IsClauseOver, MakesTrue, IsModel};
 ghost use Rattle.dist_derive.specs.Propagation.{IsConsistent};
-ghost use Rattle.dist_derive.specs.New.{IsClosedUnder, InCone, IsNew, LeavesUnset};
+ghost use Rattle.dist_derive.specs.New.{IsClosedUnder, InCone, IsWithinCone, IsNew, LeavesUnset};
 ghost use Rattle.dist_derive.specs.Growing.{HasAll, ContainsAll, Grows, IsClosedAt, IsForced, IsRefuted, AllOpen, Sweeps, LeavesFirstUnset};
 
 use crate::true_literals::{Outcome, TrueLiterals};
@@ -159,3 +159,23 @@ impl Log {
         Sweep::Settled
     }
 }
+
+/// A law: the cone has the variables of the assumptions and is closed under the input clauses, so that it is the least
+/// such set.
+pub fn cone_is_closed()
+    ensures assumed { (inputs : List (List Literal)) (assumptions : List Literal)
+        → IsWithinCone inputs assumptions assumptions }
+    ensures closed { (inputs : List (List Literal)) (assumptions clause : List Literal) → Contains inputs clause
+        → All (λ l. l.positive ≡ false → InCone inputs assumptions l.variable) clause
+        → IsWithinCone inputs assumptions clause }
+{}
+
+/// A law: an assignment that makes the input clauses within the cone true and every variable outside it false is a model
+/// of all input clauses. The cone is given by its test.
+pub fn cone_models_extend()
+    ensures { (inputs : List (List Literal)) (assumptions : List Literal) (has value : ℕ → Bool)
+        → ((v : ℕ) → (has v ≡ true) ↔ InCone inputs assumptions v)
+        → All (λ clause. IsWithinCone inputs assumptions clause → MakesTrue value clause) inputs
+        → ((v : ℕ) → has v ≡ false → value v ≡ false)
+        → IsModel value inputs }
+{}

@@ -1,7 +1,7 @@
 ghost use Rattle.std.specs.Prelude.{◌≡◌, ◌≢◌, ◌≤◌, All, IfOk, OnOk, IsTrue};
 ghost use Rattle.dist_clause.specs.Formula.{IsClauseOver};
 
-use crate::{AppendError, Log, Scratch, lines_keep_models};
+use crate::{AppendError, Log, Scratch, cone_is_closed, cone_models_extend, lines_keep_models};
 use dist_clause::{ClauseSet, Lit};
 use std::alloc::Global;
 use std::test::Fail;
@@ -74,6 +74,8 @@ fn a_log_numbers_its_lines_on(rt: HostRuntime) -> Result<(), Fail> {
     assert!(rt; log.clause(2) == clause(alloc, &[-1, -2])?.as_slice());
     assert!(rt; log.clause(3) == line.as_slice());
     lines_keep_models();
+    cone_is_closed();
+    cone_models_extend();
     Ok(())
 }
 
