@@ -1,0 +1,151 @@
+ghost use Rattle.std.specs.Prelude.{◌≡◌, ◌+◌, ◌^◌, ◌<◌, ◌≤◌, ◌↔◌, [], ◌∷◌, ◌++◌, length, slice_index_or, OnOk, OnErr, Err};
+ghost use Rattle.dist_clause.specs.Formula.{IsClauseOver};
+ghost use Rattle.dist_clause.specs.Flat.{pieces, AreEnds, AddsPiece, begin_of};
+ghost use Rattle.dist_clause.specs.ClauseList.{clause_at, literal_count, IsWithinLimits};
+
+use crate::{Lit, MAX_CLAUSES, MAX_LITERALS, MAX_VARIABLES};
+use std::alloc::{AllocError, Global};
+use std::marker::Model;
+
+/// Why a clause was not added.
+#[derive(Clone, Copy, Debug, PartialEq, Eq)]
+pub enum PushError {
+    /// The set has as many clauses as it may have.
+    TooManyClauses,
+    /// With the clause the set would have more literals than it may have.
+    TooManyLiterals,
+    NoMemory,
+}
+
+/// A list of clauses in which the variables are numbered from 1, with a limit on the number of clauses and one on the
+/// number of their literals.
+#[derive(Debug, Drop)]
+pub struct ClauseSet {
+    /// The literals of all clauses, one clause after another.
+    literals: Vec<Lit>,
+    /// For each clause the place in `literals` where it ends.
+    ends: Vec<u32>,
+    variables: u32,
+    clause_limit: u32,
+    literal_limit: u32,
+}
+
+impl Model for ClauseSet {
+    ghost use Rattle.dist_clause.specs.ClauseList.{ClauseList};
+
+    ghost Value = { ClauseList };
+
+    ghost use Rattle.dist_clause.specs.Stored.{stored_clauses, IsStored};
+
+    ghost view = { stored_clauses };
+
+    ghost invariant = { IsStored };
+}
+
+impl ClauseSet {
+    /// An empty set. The limits stay for good.
+    pub fn new(alloc: Global, variables: u32, clauses: u32, literals: u32) -> ClauseSet
+        requires variables { variables ≤ MAX_VARIABLES }
+        requires clauses { clauses ≤ MAX_CLAUSES }
+        requires literals { literals ≤ MAX_LITERALS }
+        ensures { result
+            ≡ record { clauses = []; variables = variables; clause_limit = clauses; literal_limit = literals } }
+    {
+        ClauseSet {
+            literals: Vec::new(alloc),
+            ends: Vec::new(alloc),
+            variables,
+            clause_limit: clauses,
+            literal_limit: literals,
+        }
+    }
+
+    /// The number of variables.
+    pub fn variables(&self) -> u32
+        ensures value { result ≡ self.now.variables }
+        ensures stated { result ≤ MAX_VARIABLES }
+    {
+        self.variables
+    }
+
+    /// The number of clauses.
+    pub fn len(&self) -> u32
+        ensures value { result ≡ length self.now.clauses }
+        ensures stated { result ≤ MAX_CLAUSES }
+        ensures within { IsWithinLimits self.now }
+    {
+        self.ends.len() as u32
+    }
+
+    /// The clause of a number; the first one has the number 1.
+    pub fn clause(&self, number: u32) -> &[Lit]
+        requires from_one { 1 ≤ number }
+        requires to_len { number ≤ length self.now.clauses }
+        ensures value { result.now ≡ clause_at self.now.clauses number }
+        ensures over_variables { IsClauseOver self.now.variables result.now }
+    {
+        piece_at(&self.literals, &self.ends, number as usize - 1)
+    }
+
+    /// Adds a clause as the last one.
+    pub fn push(&mut self, clause: &[Lit]) -> Result<(), PushError>
+        requires { IsClauseOver self.old.variables clause.now }
+        ensures ok { OnOk result (self.new ≡ record self.old { clauses = self.old.clauses ++ clause.now ∷ [] }) }
+        ensures err { OnErr result (self.new ≡ self.old) }
+        ensures too_many_clauses { (result ≡ Err PushError.TooManyClauses)
+            ↔ (length self.old.clauses ≡ self.old.clause_limit) }
+        ensures too_many_literals { (result ≡ Err PushError.TooManyLiterals)
+            ↔ (length self.old.clauses < self.old.clause_limit)
+            × (self.old.literal_limit < literal_count self.old.clauses + length clause.now) }
+    {
+        if self.ends.len() >= self.clause_limit as usize {
+            return Err(PushError::TooManyClauses);
+        }
+        let end = self.literals.len() + clause.len();
+        if end > self.literal_limit as usize {
+            return Err(PushError::TooManyLiterals);
+        }
+        if let Err(AllocError) = add_piece(&mut self.literals, &mut self.ends, clause) {
+            return Err(PushError::NoMemory);
+        }
+        Ok(())
+    }
+}
+
+/// Adds a piece at the end of lists that are kept one after another.
+fn add_piece(items: &mut Vec<Lit>, ends: &mut Vec<u32>, piece: &[Lit]) -> Result<(), AllocError>
+    requires ends { AreEnds 0 ends.old.items (length items.old.items) }
+    requires fits { length items.old.items + length piece.now < 2 ^ 32 }
+    ensures ok { OnOk result (AddsPiece items.old.items ends.old.items piece.now items.new.items ends.new.items) }
+    ensures err_items { OnErr result (items.new.items ≡ items.old.items) }
+    ensures err_ends { OnErr result (ends.new.items ≡ ends.old.items) }
+{
+    let end = (items.len() + piece.len()) as u32;
+    ends.reserve(1)?;
+    items.extend_from_slice(piece)?;
+    let _ = ends.push(end);
+    Ok(())
+}
+
+/// The piece at a place of lists that are kept one after another.
+fn piece_at<'a>(items: &'a [Lit], ends: &[u32], place: usize) -> &'a [Lit]
+    requires ends { AreEnds 0 ends.now (length items.now) }
+    requires place { place < length ends.now }
+    ensures { result.now ≡ slice_index_or (pieces 0 ends.now items.now) place [] }
+{
+    let start = begin_of(ends, place);
+    let end = ends[place] as usize;
+    &items[start..end]
+}
+
+/// Where the piece at a place begins.
+fn begin_of(ends: &[u32], place: usize) -> usize
+    requires { place < length ends.now }
+    ensures { result ≡ begin_of 0 ends.now place }
+{
+    if place == 0 {
+        0
+    } else {
+        ends[place - 1] as usize
+    }
+}

@@ -1,0 +1,12 @@
+pub mod LogLemmas
+pub mod MarkedLemmas
+pub mod ValuedLemmas
+pub mod OutcomeLemmas
+pub mod DenyLemmas
+pub mod FollowsLemmas
+pub mod Soundness
+pub mod GrowingLemmas
+pub mod AssumeLemmas
+pub mod SweepLemmas
+pub mod NewLemmas
+pub mod ConeLaws

@@ -1,0 +1,10 @@
+pub mod ClauseLog
+pub mod Marked
+pub mod Propagation
+pub mod Follows
+pub mod Valued
+pub mod Ready
+pub mod Hints
+pub mod New
+pub mod Growing
+pub mod Examples

@@ -1,0 +1,64 @@
+ghost use Rattle.std.specs.Prelude.{◌≡◌, ◌↔◌, ℕ, Bool, List, take, IsTrue};
+ghost use Rattle.dist_clause.specs.Formula.{Literal, IsClauseOver, MakesTrue, IsModel};
+ghost use Rattle.dist_derive.specs.Follows.{EndsFalse, Follows, EachLineFollows};
+ghost use Rattle.dist_derive.specs.Hints.{TakesHint};
+
+use crate::true_literals::{Outcome, TrueLiterals};
+use crate::{Log, Scratch};
+use dist_clause::Lit;
+
+impl Log {
+    /// Whether a clause follows from the log's clauses by hints, which are numbers of clauses. It costs the literals of
+    /// the clause and of the hinted clauses.
+    pub fn follows(&self, scratch: &mut Scratch, clause: &[Lit], hints: &[u32]) -> bool
+        requires clause { IsClauseOver self.now.variables clause.now }
+        requires scratch { scratch.old ≡ self.now.variables }
+        ensures answer { IsTrue result ↔ Follows self.now.clauses clause.now hints.now }
+        ensures sound { IsTrue result → (value : ℕ → Bool) → IsModel value self.now.clauses → MakesTrue value clause.now }
+        ensures ready { scratch.new ≡ scratch.old }
+    {
+        scratch.literals.deny(clause);
+        let answer = self.ends_false(&mut scratch.literals, hints);
+        scratch.literals.clear();
+        answer
+    }
+
+    /// Takes the hints in order, and answers whether the last one's clause is false.
+    fn ends_false(&self, literals: &mut TrueLiterals, hints: &[u32]) -> bool
+        requires { literals.old.variables ≡ self.now.variables }
+        ensures answer { IsTrue result ↔ EndsFalse self.now.clauses literals.old.literals hints.now }
+        ensures same_variables { literals.new.variables ≡ literals.old.variables }
+    {
+        let mut ended = false;
+        for hint in hints {
+            match self.take_hint(literals, *hint) {
+                Outcome::Conflict => ended = true,
+                Outcome::Unit(_) => ended = false,
+                Outcome::Open => return false,
+            }
+        }
+        ended
+    }
+
+    /// What the hinted clause is; if it is unit, its literal becomes true.
+    pub(crate) fn take_hint(&self, literals: &mut TrueLiterals, hint: u32) -> Outcome
+        requires { literals.old.variables ≡ self.now.variables }
+        ensures { TakesHint self.now.clauses literals.old literals.new hint result }
+    {
+        if hint == 0 || hint > self.len() {
+            return Outcome::Open;
+        }
+        let outcome = literals.outcome(self.clause(hint));
+        if let Outcome::Unit(literal) = outcome {
+            literals.make_true(literal);
+        }
+        outcome
+    }
+}
+
+/// A law: where each derived line follows from the clauses before it, every model of the input clauses is one of all
+/// clauses.
+pub fn lines_keep_models()
+    ensures { (inputs : ℕ) (clauses : List (List Literal)) (value : ℕ → Bool) → EachLineFollows inputs clauses
+        → IsModel value (take inputs clauses) → IsModel value clauses }
+{}

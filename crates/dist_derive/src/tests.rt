@@ -1,0 +1,146 @@
+ghost use Rattle.std.specs.Prelude.{◌≡◌, ◌≢◌, ◌≤◌, All, IfOk, OnOk, IsTrue};
+ghost use Rattle.dist_clause.specs.Formula.{IsClauseOver};
+
+use crate::{AppendError, Log, Scratch, cone_is_closed, cone_models_extend, lines_keep_models};
+use dist_clause::{ClauseSet, Lit};
+use std::alloc::Global;
+use std::test::Fail;
+
+/// The clause of some numbers over five variables, a negative number for a negated variable.
+fn clause(alloc: Global, numbers: &[i32]) -> Result<Vec<Lit>, Fail>
+    ensures { IfOk result (λ c. IsClauseOver 5 c.items) }
+{
+    let mut literals = Vec::new(alloc);
+    for number in numbers {
+        let variable = number.unsigned_abs();
+        if variable < 1 || variable > 5 {
+            Err("not one of the five variables")?;
+        } else {
+            add(&mut literals, Lit::new(variable, *number > 0))?;
+        }
+    }
+    Ok(literals)
+}
+
+fn add(clause: &mut Vec<Lit>, literal: Lit) -> Result<(), Fail>
+    requires clause { IsClauseOver 5 clause.old.items }
+    requires literal { literal.variable ≤ 5 }
+    ensures { OnOk result (IsClauseOver 5 clause.new.items) }
+{
+    if is_fresh(clause, literal.variable()) {
+        clause.push(literal)?;
+        Ok(())
+    } else {
+        Err("a variable stands twice")?
+    }
+}
+
+fn is_fresh(clause: &[Lit], variable: u32) -> bool
+    ensures { IsTrue result → All (λ l. l.variable ≢ variable) clause.now }
+{
+    for literal in clause {
+        if literal.variable() == variable {
+            return false;
+        }
+    }
+    true
+}
+
+/// A log of input clauses over five variables, with room for two lines of four literals together.
+fn log_of(alloc: Global, clauses: &[&[i32]]) -> Result<Log, Fail>
+    ensures { IfOk result (λ log. log.variables ≡ 5) }
+{
+    let mut inputs = ClauseSet::new(alloc, 5, 3, 10);
+    for numbers in clauses {
+        inputs.push(&clause(alloc, numbers)?)?;
+    }
+    Ok(Log::new(alloc, inputs, 2, 4))
+}
+
+#[test]
+fn a_log_numbers_its_lines_on(rt: HostRuntime) -> Result<(), Fail> {
+    let alloc = rt.alloc();
+    let mut log = log_of(alloc, &[&[-1, 2], &[-1, -2]])?;
+    let line = clause(alloc, &[-1])?;
+    let long = clause(alloc, &[1, 2, 3, 4])?;
+    let triple = clause(alloc, &[1, 2, 3])?;
+    assert_eq!(rt; log.variables(), 5);
+    assert_eq!(rt; log.append(&line), Ok(3));
+    assert_eq!(rt; log.append(&long), Err(AppendError::TooManyLiterals));
+    assert_eq!(rt; log.append(&triple), Ok(4));
+    assert_eq!(rt; log.append(&line), Err(AppendError::TooManyLines));
+    assert_eq!(rt; log.inputs(), 2);
+    assert_eq!(rt; log.len(), 4);
+    assert!(rt; log.clause(2) == clause(alloc, &[-1, -2])?.as_slice());
+    assert!(rt; log.clause(3) == line.as_slice());
+    lines_keep_models();
+    cone_is_closed();
+    cone_models_extend();
+    Ok(())
+}
+
+#[test]
+fn a_clause_follows_by_hints_that_end_false(rt: HostRuntime) -> Result<(), Fail> {
+    let alloc = rt.alloc();
+    let log = log_of(alloc, &[&[-1, 2], &[-1, -2]])?;
+    let mut scratch = Scratch::new(alloc, 5)?;
+    let line = clause(alloc, &[-1])?;
+    for (hints, follows) in [
+        ([1, 2].as_slice(), true),
+        ([2, 1].as_slice(), true),
+        ([2].as_slice(), false),
+        ([].as_slice(), false),
+        ([0].as_slice(), false),
+        ([3].as_slice(), false),
+        ([1, 2, 3].as_slice(), false),
+        ([1, 2, 2].as_slice(), true),
+    ] {
+        assert!(rt;
+            log.follows(&mut scratch, &line, hints) == follows,
+            "by {hints:?}"
+        );
+    }
+    Ok(())
+}
+
+/// Whether a clause is new under the assumption of variable 1.
+fn is_new(alloc: Global, log: &Log, numbers: &[i32], before: u32) -> Result<bool, Fail>
+    requires { log.now.variables ≡ 5 }
+{
+    let mut scratch = Scratch::new(alloc, 5)?;
+    let assumption = clause(alloc, &[1])?;
+    let line = clause(alloc, numbers)?;
+    let new = log.is_new(&mut scratch, &assumption, &line, before);
+    let again = log.is_new(&mut scratch, &assumption, &line, before);
+    if new == again {
+        Ok(new)
+    } else {
+        Err("the scratch was not ready")?
+    }
+}
+
+#[test]
+fn what_propagation_gives_is_not_new(rt: HostRuntime) -> Result<(), Fail> {
+    let alloc = rt.alloc();
+    let conflict = log_of(alloc, &[&[-1, 2], &[-1, -2]])?;
+    assert!(rt; !is_new(alloc, &conflict, &[-1], 3)?);
+    assert!(rt; !is_new(alloc, &conflict, &[-1, 2], 3)?);
+    let chain = log_of(alloc, &[&[-1, 2], &[-2, 3]])?;
+    assert!(rt; !is_new(alloc, &chain, &[3, -1], 3)?);
+    Ok(())
+}
+
+#[test]
+fn a_new_clause_lies_in_the_cone(rt: HostRuntime) -> Result<(), Fail> {
+    let alloc = rt.alloc();
+    let mut log = log_of(alloc, &[&[-1, 2, 3], &[-2, 3], &[-4, 5]])?;
+    assert!(rt; is_new(alloc, &log, &[3, -1], 4)?);
+    assert!(rt; !is_new(alloc, &log, &[3, 2, -1], 4)?);
+    assert!(rt; !is_new(alloc, &log, &[3, -2, -1], 4)?, "a lengthened copy");
+    assert!(rt; !is_new(alloc, &log, &[-4, -1], 4)?, "outside the cone");
+    assert!(rt; !is_new(alloc, &log, &[], 4)?);
+    log.append(&clause(alloc, &[3, -1])?)?;
+    assert!(rt; is_new(alloc, &log, &[3, -1], 4)?);
+    assert!(rt; !is_new(alloc, &log, &[3, -1], 5)?);
+    Ok(())
+}

@@ -1,0 +1,182 @@
+ghost use Rattle.std.specs.Prelude.{◌≡◌, ◌<◌, ◌≤◌, ◌↔◌, [], ◌∷◌, ◌++◌, false, List, length, map, All, Contains, IfOk, IsTrue};
+ghost use Rattle.dist_clause.specs.Formula.{Literal, negation, IsClauseOver};
+ghost use Rattle.dist_derive.specs.Propagation.{IsUnset, IsConsistent};
+
+use crate::variable_set::VariableSet;
+use dist_clause::{Assignment, Lit};
+use std::alloc::{AllocError, Global};
+use std::marker::Model;
+
+#[derive(Clone, Copy, Debug)]
+pub enum Status {
+    True,
+    False,
+    Unset,
+}
+
+/// What a clause is under the true literals.
+#[derive(Clone, Copy, Debug)]
+pub enum Outcome {
+    /// All its literals are false.
+    Conflict,
+    /// All its literals but this one are false, and this one is unset.
+    Unit(Lit),
+    Open,
+}
+
+/// Literals that are true for now, never a literal together with its negation.
+#[derive(Debug, Drop)]
+pub struct TrueLiterals {
+    touched: VariableSet,
+    /// The value of each touched variable.
+    signs: Assignment,
+}
+
+impl Model for TrueLiterals {
+    ghost use Rattle.std.specs.Prelude.{◌≡◌, length};
+    ghost use Rattle.dist_derive.specs.Valued.{LiteralList, valued};
+
+    ghost Value = { LiteralList };
+
+    ghost view = { λ a. record { variables = a.touched.variables; literals = valued a.signs a.touched.members } };
+
+    ghost invariant = { λ a. length a.signs ≡ a.touched.variables };
+}
+
+impl TrueLiterals {
+    ghost use Rattle.dist_derive.specs.Valued.{HasStatus, HasOutcome};
+    ghost use Rattle.dist_derive.specs.Growing.{ContainsAll, Assumes};
+
+    pub fn new(alloc: Global, variables: u32) -> Result<TrueLiterals, AllocError>
+        ensures { IfOk result (λ t. t ≡ record { variables = variables; literals = [] }) }
+    {
+        let touched = VariableSet::new(alloc, variables)?;
+        let signs = Assignment::new(alloc, variables)?;
+        Ok(TrueLiterals { touched, signs })
+    }
+
+    pub fn status(&self, literal: Lit) -> Status
+        requires { literal.variable ≤ self.now.variables }
+        ensures { HasStatus self.now.literals literal result }
+    {
+        let variable = literal.variable();
+        if !self.touched.contains(variable) {
+            Status::Unset
+        } else if self.signs.value(variable) == literal.positive() {
+            Status::True
+        } else {
+            Status::False
+        }
+    }
+
+    /// Makes an unset literal true.
+    pub fn make_true(&mut self, literal: Lit)
+        requires in_range { literal.variable ≤ self.old.variables }
+        requires unset { IsUnset self.old.literals literal }
+        ensures added { self.new ≡ record self.old { literals = self.old.literals ++ literal ∷ [] } }
+        ensures few { length self.new.literals ≤ self.new.variables }
+    {
+        let variable = literal.variable();
+        self.touched.add(variable);
+        self.signs.set(variable, literal.positive());
+    }
+
+    /// Makes the negation of each literal of a clause true, where no literal is true before.
+    pub fn deny(&mut self, clause: &[Lit])
+        requires none { self.old.literals ≡ [] }
+        requires clause { IsClauseOver self.old.variables clause.now }
+        ensures { self.new ≡ record self.old { literals = map negation clause.now } }
+    {
+        for literal in clause {
+            self.make_true(literal.negated());
+        }
+    }
+
+    /// Makes a literal true, unless it is false; answers whether it is true then.
+    pub fn assume(&mut self, literal: Lit) -> bool
+        requires { literal.variable ≤ self.old.variables }
+        ensures { Assumes self.old self.new literal result }
+    {
+        match self.status(literal) {
+            Status::True => true,
+            Status::False => false,
+            Status::Unset => {
+                self.make_true(literal);
+                true
+            }
+        }
+    }
+
+    /// Makes literals true, up to one that is false; answers whether all are true then.
+    pub fn assume_all(&mut self, literals: &[Lit]) -> bool
+        requires { All (λ l. l.variable ≤ self.old.variables) literals.now }
+        ensures same_variables { self.new.variables ≡ self.old.variables }
+        ensures kept { ContainsAll self.new.literals self.old.literals }
+        ensures assumed { IsTrue result → ContainsAll self.new.literals literals.now }
+        ensures least { (trues : List Literal) → ContainsAll trues self.old.literals → ContainsAll trues literals.now
+            → ContainsAll trues self.new.literals }
+        ensures refused { result ≡ false → (trues : List Literal) → ContainsAll trues self.old.literals
+            → ContainsAll trues literals.now → IsConsistent trues → ⊥ }
+    {
+        for literal in literals {
+            if !self.assume(*literal) {
+                return false;
+            }
+        }
+        true
+    }
+
+    /// Whether neither a literal nor its negation is true.
+    pub fn is_unset(&self, literal: Lit) -> bool
+        requires { literal.variable ≤ self.now.variables }
+        ensures answer { IsTrue result ↔ IsUnset self.now.literals literal }
+        ensures consistent { IsConsistent self.now.literals }
+    {
+        !self.touched.contains(literal.variable())
+    }
+
+    /// What a clause is under the true literals.
+    pub fn outcome(&self, clause: &[Lit]) -> Outcome
+        requires { All (λ l. l.variable ≤ self.now.variables) clause.now }
+        ensures { HasOutcome self.now.literals clause.now result }
+    {
+        let mut outcome = Outcome::Conflict;
+        for literal in clause {
+            outcome = outcome.with(*literal, self.status(*literal));
+            if let Outcome::Open = outcome {
+                return Outcome::Open;
+            }
+        }
+        outcome
+    }
+
+    /// Makes all literals unset.
+    pub fn clear(&mut self)
+        ensures { self.new ≡ record self.old { literals = [] } }
+    {
+        self.touched.clear();
+    }
+}
+
+impl Outcome {
+    ghost use Rattle.dist_derive.specs.Valued.{HasStatus, HasOutcome};
+
+    /// What a clause is with one more literal.
+    fn with(self, literal: Lit, status: Status) -> Outcome
+        ensures { (trues clause : List Literal) → HasOutcome trues clause self → HasStatus trues literal status
+            → HasOutcome trues (clause ++ literal ∷ []) result }
+    {
+        match self {
+            Outcome::Conflict => match status {
+                Status::False => Outcome::Conflict,
+                Status::Unset => Outcome::Unit(literal),
+                Status::True => Outcome::Open,
+            },
+            Outcome::Unit(only) => match status {
+                Status::False => Outcome::Unit(only),
+                Status::Unset | Status::True => Outcome::Open,
+            },
+            Outcome::Open => Outcome::Open,
+        }
+    }
+}

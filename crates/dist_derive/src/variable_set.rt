@@ -1,0 +1,143 @@
+ghost use Rattle.std.specs.Prelude.{◌≡◌, ◌<◌, ◌≤◌, ◌↔◌, true, false, [], ◌∷◌, ◌++◌, ℕ, Bool, length, replicate, All, Contains, IfOk, IsTrue};
+ghost use Rattle.dist_clause.specs.Formula.{value_of};
+ghost use Rattle.dist_derive.specs.New.{IsClosedUnder};
+ghost use Rattle.dist_derive.specs.Growing.{Includes, Grows, HasAll, IsClosedAt};
+
+use dist_clause::{Assignment, Lit};
+use std::alloc::{AllocError, Global};
+use std::marker::Model;
+
+/// A set of variables that is emptied in time proportional to its members.
+#[derive(Debug, Drop)]
+pub struct VariableSet {
+    marks: Assignment,
+    members: Vec<u32>,
+}
+
+impl Model for VariableSet {
+    ghost use Rattle.std.specs.Prelude.{length};
+    ghost use Rattle.std.specs.Vec.{vec_capacity};
+    ghost use Rattle.dist_derive.specs.Marked.{VariableList, AreMarked};
+
+    ghost Value = { VariableList };
+
+    ghost view = { λ a. record { variables = length a.marks; members = a.members.items } };
+
+    ghost invariant = { λ a. AreMarked a.marks a.members.items (vec_capacity a.members) };
+}
+
+impl VariableSet {
+    pub fn new(alloc: Global, variables: u32) -> Result<VariableSet, AllocError>
+        ensures { IfOk result (λ s. s ≡ record { variables = variables; members = [] }) }
+    {
+        let marks = Assignment::new(alloc, variables)?;
+        let members = Vec::with_capacity(alloc, variables as usize)?;
+        Ok(VariableSet { marks, members })
+    }
+
+    pub fn contains(&self, variable: u32) -> bool
+        requires from_one { 1 ≤ variable }
+        requires in_range { variable ≤ self.now.variables }
+        ensures { IsTrue result ↔ Contains self.now.members variable }
+    {
+        self.marks.value(variable)
+    }
+
+    /// Adds a variable that is no member.
+    pub fn add(&mut self, variable: u32)
+        requires from_one { 1 ≤ variable }
+        requires in_range { variable ≤ self.old.variables }
+        requires fresh { Contains self.old.members variable → ⊥ }
+        ensures added { self.new ≡ record self.old { members = self.old.members ++ variable ∷ [] } }
+        ensures few { length self.new.members ≤ self.new.variables }
+        ensures in_range { All (λ v. (1 ≤ v) × (v ≤ self.new.variables)) self.new.members }
+    {
+        let _ = self.members.push(variable);
+        self.marks.set(variable, true);
+    }
+
+    /// Puts a variable in, and answers whether it was not in before.
+    pub fn include(&mut self, variable: u32) -> bool
+        requires from_one { 1 ≤ variable }
+        requires in_range { variable ≤ self.old.variables }
+        ensures { Includes self.old self.new variable result }
+    {
+        if self.contains(variable) {
+            return false;
+        }
+        self.add(variable);
+        true
+    }
+
+    /// Puts the variables of a clause in, and answers whether one was not in before.
+    pub fn include_all(&mut self, clause: &[Lit]) -> bool
+        requires { All (λ l. l.variable ≤ self.old.variables) clause.now }
+        ensures grows { Grows self.old self.new result }
+        ensures included { All (λ l. Contains self.new.members l.variable) clause.now }
+        ensures least { (has : ℕ → Bool) → HasAll has self.old.members → All (λ l. has l.variable ≡ true) clause.now
+            → HasAll has self.new.members }
+    {
+        let mut grown = false;
+        for literal in clause {
+            grown |= self.include(literal.variable());
+        }
+        grown
+    }
+
+    /// Where the variables of all negative literals of a clause are in, puts all its variables in, and answers whether
+    /// one was not in before.
+    pub fn close_at(&mut self, clause: &[Lit]) -> bool
+        requires { All (λ l. l.variable ≤ self.old.variables) clause.now }
+        ensures grows { Grows self.old self.new result }
+        ensures closed { result ≡ false → IsClosedAt self.new.members clause.now }
+        ensures least { (has : ℕ → Bool) → HasAll has self.old.members → IsClosedUnder has (clause.now ∷ [])
+            → HasAll has self.new.members }
+    {
+        if self.has_negatives(clause) {
+            self.include_all(clause)
+        } else {
+            false
+        }
+    }
+
+    fn has_negatives(&self, clause: &[Lit]) -> bool
+        requires { All (λ l. l.variable ≤ self.now.variables) clause.now }
+        ensures { IsTrue result ↔ All (λ l. l.positive ≡ false → Contains self.now.members l.variable) clause.now }
+    {
+        clause
+            .iter()
+            .all(|l| l.positive() || self.contains(l.variable()))
+    }
+
+    /// Whether the variables of all literals of a clause are in.
+    pub fn has_clause(&self, clause: &[Lit]) -> bool
+        requires { All (λ l. l.variable ≤ self.now.variables) clause.now }
+        ensures { IsTrue result ↔ All (λ l. Contains self.now.members l.variable) clause.now }
+    {
+        for literal in clause {
+            if !self.contains(literal.variable()) {
+                return false;
+            }
+        }
+        true
+    }
+
+    /// Takes all members out.
+    pub fn clear(&mut self)
+        ensures { self.new ≡ record self.old { members = [] } }
+    {
+        unmark(&mut self.marks, &self.members);
+        self.members.clear();
+    }
+}
+
+/// Makes the listed variables false, and so all, since no other is true.
+fn unmark(marks: &mut Assignment, members: &[u32])
+    requires in_range { All (λ v. (1 ≤ v) × (v ≤ length marks.old)) members.now }
+    requires all { (v : ℕ) → 1 ≤ v → v ≤ length marks.old → value_of marks.old v ≡ true → Contains members.now v }
+    ensures { marks.new ≡ replicate (length marks.old) false }
+{
+    for member in members {
+        marks.set(*member, false);
+    }
+}
