@@ -1,0 +1,11 @@
+pub mod Runs
+pub mod ByteFacts
+pub mod Heads
+pub mod Words
+pub mod Bounds
+pub mod AtomReading
+pub mod AtomCases
+pub mod Joining
+pub mod Pieces
+pub mod Values
+pub mod Starts

@@ -1,0 +1,4 @@
+pub mod Bytes
+pub mod Grammar
+pub mod Faults
+pub mod Reading

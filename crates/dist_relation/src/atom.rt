@@ -1,0 +1,72 @@
+//! Atoms of relations, and entries of Provides.
+ghost use Rattle.std.specs.Prelude.{◌≡◌};
+ghost use Rattle.dist_relation.specs.Grammar.{allows_operator};
+ghost use Rattle.dist_relation.specs.Faults.{allows_bar};
+
+use crate::name::Name;
+use dist_version::Version;
+
+/// How a version is compared with a bound: `<<`, `<=`, `=`, `>=`, `>>`.
+#[derive(Clone, Copy, Debug, PartialEq, Eq)]
+pub enum Op {
+    Lt,
+    Le,
+    Eq,
+    Ge,
+    Gt,
+}
+
+/// The versions that an atom allows.
+#[derive(Debug, Drop)]
+pub struct Bound {
+    pub op: Op,
+    pub version: Version,
+}
+
+/// What stands behind a name and a colon, as `any` or an architecture.
+#[derive(Debug, Drop)]
+pub enum Qualifier {
+    Plain,
+    Named(Name),
+}
+
+/// One alternative of a dependency, or one conflict.
+#[derive(Debug, Drop)]
+pub struct Atom {
+    pub name: Name,
+    pub qualifier: Qualifier,
+    pub bound: Option<Bound>,
+}
+
+/// One entry of a Provides field: a name that a package provides, perhaps at a version.
+#[derive(Debug, Drop)]
+pub struct Provide {
+    pub name: Name,
+    pub qualifier: Qualifier,
+    pub version: Option<Version>,
+}
+
+/// What kind of value is read. Alternatives stand in dependencies alone, and Provides compares with `=` alone.
+#[derive(Clone, Copy, Debug, PartialEq, Eq)]
+pub(crate) enum Kind {
+    Depends,
+    Conflicts,
+    Provides,
+}
+
+impl Kind {
+    pub(crate) fn allows(self, op: Op) -> bool
+        ensures { result ≡ allows_operator self op }
+    {
+        match self {
+            Kind::Depends | Kind::Conflicts => true,
+            Kind::Provides => matches!(op, Op::Eq),
+        }
+    }
+
+    pub(crate) fn allows_bar(self) -> bool
+        ensures { result ≡ allows_bar self }
+    {
+        matches!(self, Kind::Depends)
+    }
+}

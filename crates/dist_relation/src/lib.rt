@@ -1,0 +1,14 @@
+//! Relation fields of Debian packages: what Depends, Conflicts and Provides values spell, by Debian Policy 7.1.
+#![tactic(auto)]
+
+mod atom;
+mod bytes;
+mod error;
+mod lists;
+mod name;
+mod reading;
+
+pub use atom::{Atom, Bound, Op, Provide, Qualifier};
+pub use error::RelationError;
+pub use lists::{Alternatives, Atoms, Items, Provides};
+pub use name::Name;
