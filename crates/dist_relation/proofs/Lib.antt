@@ -7,5 +7,6 @@ pub mod AtomReading
 pub mod AtomCases
 pub mod Joining
 pub mod Pieces
-pub mod Values
+pub mod ThreeKinds
 pub mod Starts
+pub mod Loops

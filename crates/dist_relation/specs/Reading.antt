@@ -1,5 +1,5 @@
 -- How the private readers go from left to right, as functions on lists. No public clause cites them: proofs/ shows that they give what Grammar and Faults say.
-use Rattle.std.specs.Prelude.{◌≡◌, ℕ, zero, suc, Bool, true, false, ◌||◌, ◌&&◌, ◌==◌, List, [], ◌∷◌, length, take_while, filter_map, Option, None, Some, Result, Ok, Err, if◌then◌else◌}
+use Rattle.std.specs.Prelude.{◌≡◌, ◌≤◌, ℕ, zero, suc, Bool, true, false, ◌||◌, ◌&&◌, ◌==◌, List, [], ◌∷◌, length, take_while, filter_map, Option, None, Some, Result, Ok, Err, if◌then◌else◌}
 use Rattle.std.specs.Char.{is_ascii_alphanumeric}
 use Rattle.dist_version.specs.Faults.{fault_of}
 use Rattle.dist_version.specs.declared.error.VersionError.{VersionError}
@@ -34,6 +34,10 @@ Fails (stops.Fault f) read = read ≡ Err f
 abbrev pub Gives : {X Y : Type 0} → (X → Y) → Result X ReadError → Result Y Fault → Type 0
 Gives view (Ok x) read = read ≡ Ok (view x)
 Gives view (Err e) read = Fails e read
+
+-- what is left is no more than there was
+abbrev pub Shortens : {X : Type 0} → (List ℕ → Result (X × List ℕ) Fault) → Type 0
+Shortens {X} reading = (text : List ℕ) (x : X) (rest : List ℕ) → reading text ≡ Ok (x, rest) → length rest ≤ length text
 
 abbrev pub refuse : {Y : Type 0} → Problem → List ℕ → Result Y Fault
 refuse problem text = Err (record { problem = problem; left = length text })

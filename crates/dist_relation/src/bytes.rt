@@ -1,7 +1,7 @@
 //! The bytes of relation fields, and the longest starts of them.
-ghost use Rattle.std.specs.Prelude.{◌≡◌, ◌↔◌, IsTrue, length, take_while};
+ghost use Rattle.std.specs.Prelude.{◌≡◌, ◌↔◌, ◌∷◌, ◌==◌, IsTrue, MatchOption, length, take_while};
 ghost use Rattle.std.specs.List.{list_all};
-ghost use Rattle.dist_relation.specs.Bytes.{is_space, is_name_byte, is_operator_byte, is_word_byte, IsName};
+ghost use Rattle.dist_relation.specs.Bytes.{is_space, is_name_byte, is_operator_byte, is_word_byte, IsName, Stops};
 ghost use Rattle.dist_relation.specs.Reading.{past, skip};
 
 fn is_space(byte: u8) -> bool
@@ -101,4 +101,14 @@ pub(crate) fn split_word(text: &[u8]) -> (&[u8], &[u8])
 {
     let length = word_length(text);
     text.split_at(length)
+}
+
+/// The text after the byte that it begins with, if it begins with that byte.
+pub(crate) fn after_byte(text: &[u8], byte: u8) -> Option<&[u8]>
+    ensures { MatchOption result (Stops (λ b. b == byte) text.now) (λ rest. text.now ≡ byte ∷ rest.now) }
+{
+    match text {
+        [first, rest @ ..] if *first == byte => Some(rest),
+        _ => None,
+    }
 }

@@ -7,6 +7,7 @@ mod error;
 mod lists;
 mod name;
 mod reading;
+mod values;
 
 pub use atom::{Atom, Bound, Op, Provide, Qualifier};
 pub use error::RelationError;

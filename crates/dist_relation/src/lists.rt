@@ -21,6 +21,15 @@ impl Model for Alternatives {
     ghost invariant = { λ list. 0 < length list.atoms.items };
 }
 
+impl Alternatives {
+    pub(crate) fn from_atoms(atoms: Vec<Atom>) -> Alternatives
+        requires { 0 < length atoms.items }
+        ensures { result ≡ atoms.items }
+    {
+        Alternatives { atoms }
+    }
+}
+
 /// Dependencies, of each of which one alternative is wanted.
 #[derive(Debug, Drop)]
 pub struct Items {

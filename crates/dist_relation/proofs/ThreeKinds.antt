@@ -1,5 +1,5 @@
 -- The three kinds of values: what is read is spelled, what is refused has that first fault, and each value has one answer.
-use Rattle.std.proofs.Common.{◌≡◌, ℕ, zero, suc, ◌-◌, Bool, true, false, true≢false, ◌||◌, ◌&&◌, ◌⊎◌, inl, inr, eqb, cond, List, [], ◌∷◌, ◌++◌, length, refl, sym, ap, ◌∙◌, subst, append-nil, Option, None, Some}
+use Rattle.std.proofs.Common.{◌≡◌, ℕ, zero, suc, ◌-◌, Bool, true, false, true≢false, ◌||◌, ◌&&◌, ◌⊎◌, inl, inr, eqb, cond, List, [], ◌∷◌, ◌++◌, length, length-append, ◌≤◌, arith, refl, sym, ap, ◌∙◌, subst, append-nil, Option, None, Some}
 use Rattle.std.specs.List.{filter_map, take_while}
 use Rattle.std.specs.Char.{is_ascii_alphanumeric}
 use Rattle.std.specs.Prelude.{Result, Ok, Err, IsTrue}
@@ -24,6 +24,7 @@ use Rattle.dist_relation.proofs.Heads.{done}
 use Rattle.dist_relation.proofs.AtomReading.{ends_atom, atom_again, atom_refused}
 use Rattle.dist_relation.proofs.AtomCases.{AtomRead, AtomFault, atom_cases}
 use Rattle.dist_relation.proofs.Joining.{Found, Reader, EndsBetween, JoinedFaulty, joined_reader}
+use Rattle.dist_relation.proofs.Loops.{left_of}
 use Rattle.dist_relation.proofs.Pieces.{PieceFaulty, ValueLaws, value_laws}
 
 -- ---- readers with other words for where they end and what they refuse
@@ -241,3 +242,26 @@ module _ {X : Type 0} (kind : Kind) (Spells : List ℕ → X → Type 0) (one : 
       by_cases : ((items : List X) × Reads Spells value items) ⊎ ((fault : Fault) × Faulty value fault) → ((items : List X) × Reads Spells value items) ⊎ ((error : RelationError) × FirstFault kind Spells value error)
       by_cases (inl h) = inl h
       by_cases (inr (fault, h)) = inr (placed value fault, first_fault value fault h)
+
+-- ---- a reader leaves no more than was there
+
+reader_shorter : {X : Type 0} (Spells : List ℕ → X → Type 0) (ends : ℕ → Bool) (F : List ℕ → Fault → Type 0) (one : List ℕ → Result (X × List ℕ) Fault) → Reader Spells ends F one → (text : List ℕ) (x : X) (rest : List ℕ) → one text ≡ Ok (x, rest) → length rest ≤ length text
+reader_shorter {X} Spells ends F one r text x rest e = by_cases (r.cases text)
+  where
+    by_cases : Found Spells ends text ⊎ ((fault : Fault) × F text fault) → length rest ≤ length text
+    by_cases (inl f) =
+        let read : one text ≡ done f.item f.rest = ap one f.parts ∙ r.again f.front f.item f.rest f.spelled f.stops in
+        omega (arith, ap (λ y. length (left_of y)) (sym e ∙ read), ap length f.parts, length-append f.front f.rest)
+    by_cases (inr (fault, f)) = let never = r.refused text fault f in absurd (cc (never, e))
+
+pub alternatives_shorter : (text : List ℕ) (x : List Atom) (rest : List ℕ) → alternatives_at text ≡ Ok (x, rest) → length rest ≤ length text
+alternatives_shorter text x rest e = reader_shorter SpellsAlternatives is_comma (ItemFaulty kinds.Depends) alternatives_at alternatives_reader text x rest e
+
+pub atom_shorter : (kind : Kind) (text : List ℕ) (x : Atom) (rest : List ℕ) → atom_at kind text ≡ Ok (x, rest) → length rest ≤ length text
+atom_shorter kind text x rest e = reader_shorter (SpellsAtom kind) (ends_atom kind) (AtomFaulty kind) (atom_at kind) (atom_reader kind) text x rest e
+
+pub conflict_shorter : (text : List ℕ) (x : Atom) (rest : List ℕ) → atom_at kinds.Conflicts text ≡ Ok (x, rest) → length rest ≤ length text
+conflict_shorter text x rest e = atom_shorter kinds.Conflicts text x rest e
+
+pub provide_shorter : (text : List ℕ) (x : Provide) (rest : List ℕ) → provide_at text ≡ Ok (x, rest) → length rest ≤ length text
+provide_shorter text x rest e = reader_shorter SpellsProvide is_comma (ItemFaulty kinds.Provides) provide_at provide_reader text x rest e
