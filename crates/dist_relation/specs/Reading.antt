@@ -1,5 +1,5 @@
 -- How the private readers go from left to right, as functions on lists. No public clause cites them: proofs/ shows that they give what Grammar and Faults say.
-use Rattle.std.specs.Prelude.{◌≡◌, ◌≤◌, ℕ, zero, suc, Bool, true, false, ◌||◌, ◌&&◌, ◌==◌, List, [], ◌∷◌, length, take_while, filter_map, Option, None, Some, Result, Ok, Err, if◌then◌else◌}
+use Rattle.std.specs.Prelude.{◌≡◌, ◌≤◌, ◌-◌, ℕ, zero, suc, Bool, true, false, ◌||◌, ◌&&◌, ◌==◌, List, [], ◌∷◌, length, take_while, filter_map, Option, None, Some, Result, Ok, Err, if◌then◌else◌}
 use Rattle.std.specs.Char.{is_ascii_alphanumeric}
 use Rattle.dist_version.specs.Faults.{fault_of}
 use Rattle.dist_version.specs.declared.error.VersionError.{VersionError}
@@ -17,9 +17,11 @@ use Rattle.dist_relation.specs.declared.error.Problem.{Problem}
 use Rattle.dist_relation.specs.declared.error.Problem.TheVariants.{BadName, BadOp, BadVersion, Unclosed, BarNotAllowed, Trailing, OpInProvides}
 use Rattle.dist_relation.specs.declared.error.ReadError.{ReadError}
 use Rattle.dist_relation.specs.declared.error.ReadError.TheVariants as stops
+use Rattle.dist_relation.specs.declared.error.RelationError.{RelationError}
+use Rattle.dist_relation.specs.declared.error.RelationError.TheVariants as errors
 use Rattle.dist_relation.specs.Bytes.{is_space, is_name_byte, is_operator_byte, is_word_byte, colon, opening, closing, comma, bar}
 use Rattle.dist_relation.specs.Grammar.{allows_operator}
-use Rattle.dist_relation.specs.Faults.{allows_bar}
+use Rattle.dist_relation.specs.Faults.{allows_bar, error_at}
 
 infixl 10 ◌>>=◌
 abbrev pub ◌>>=◌ : {A B : Type 0} → Result A Fault → (A → Result B Fault) → Result B Fault
@@ -160,3 +162,13 @@ piece_at one text = if ends_piece (skip text) then Ok (None, skip text) else (on
 -- the items of a whole value
 unfoldable pub items_of : {X : Type 0} → (List ℕ → Result (X × List ℕ) Fault) → List ℕ → Result (List X) Fault
 items_of one value = joined_at comma (piece_at one) (suc (length value)) value >>= λ x. Ok (filter_map (λ piece. piece) x.0)
+
+-- ---- errors, with their places counted from the start of a value of so many bytes
+
+abbrev pub FitsIn : ℕ → ReadError → Type 0
+FitsIn size stops.NoMemory = Unit {0}
+FitsIn size (stops.Fault fault) = fault.left ≤ size
+
+abbrev pub error_in : ℕ → ReadError → RelationError
+error_in size stops.NoMemory = errors.NoMemory
+error_in size (stops.Fault fault) = error_at fault.problem (size - fault.left)

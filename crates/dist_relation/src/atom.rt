@@ -1,10 +1,11 @@
 //! Atoms of relations, and entries of Provides.
-ghost use Rattle.std.specs.Prelude.{◌≡◌};
+ghost use Rattle.std.specs.Prelude.{◌≡◌, IfOk};
 ghost use Rattle.dist_relation.specs.Grammar.{allows_operator};
 ghost use Rattle.dist_relation.specs.Faults.{allows_bar};
 
 use crate::name::Name;
 use dist_version::Version;
+use std::alloc::{AllocError, Global};
 
 /// How a version is compared with a bound: `<<`, `<=`, `=`, `>=`, `>>`.
 #[derive(Clone, Copy, Debug, PartialEq, Eq)]
@@ -68,5 +69,59 @@ impl Kind {
         ensures { result ≡ allows_bar self }
     {
         matches!(self, Kind::Depends)
+    }
+}
+
+impl Bound {
+    fn copy(&self, alloc: Global) -> Result<Bound, AllocError>
+        ensures { IfOk result (λ bound. bound ≡ self.now) }
+    {
+        Ok(Bound {
+            op: self.op,
+            version: self.version.try_clone(alloc)?,
+        })
+    }
+}
+
+impl Qualifier {
+    fn copy(&self) -> Result<Qualifier, AllocError>
+        ensures { IfOk result (λ qualifier. qualifier ≡ self.now) }
+    {
+        match self {
+            Qualifier::Plain => Ok(Qualifier::Plain),
+            Qualifier::Named(name) => Ok(Qualifier::Named(name.try_clone()?)),
+        }
+    }
+}
+
+impl Atom {
+    pub(crate) fn copy(&self, alloc: Global) -> Result<Atom, AllocError>
+        ensures { IfOk result (λ atom. atom ≡ self.now) }
+    {
+        let bound = match &self.bound {
+            None => None,
+            Some(bound) => Some(bound.copy(alloc)?),
+        };
+        Ok(Atom {
+            name: self.name.try_clone()?,
+            qualifier: self.qualifier.copy()?,
+            bound,
+        })
+    }
+}
+
+impl Provide {
+    pub(crate) fn copy(&self, alloc: Global) -> Result<Provide, AllocError>
+        ensures { IfOk result (λ provide. provide ≡ self.now) }
+    {
+        let version = match &self.version {
+            None => None,
+            Some(version) => Some(version.try_clone(alloc)?),
+        };
+        Ok(Provide {
+            name: self.name.try_clone()?,
+            qualifier: self.qualifier.copy()?,
+            version,
+        })
     }
 }

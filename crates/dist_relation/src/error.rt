@@ -1,4 +1,7 @@
 //! Why a value is no relation.
+ghost use Rattle.std.specs.Prelude.{◌≡◌};
+ghost use Rattle.dist_relation.specs.Faults.{error_at};
+ghost use Rattle.dist_relation.specs.Reading.{FitsIn, error_in};
 
 use dist_version::VersionError;
 use std::alloc::{AllocError, AllocFailed};
@@ -69,6 +72,35 @@ pub(crate) struct Fault {
 pub(crate) enum ReadError {
     NoMemory,
     Fault(Fault),
+}
+
+impl Problem {
+    fn at(self, place: usize) -> RelationError
+        ensures { result ≡ error_at self place }
+    {
+        match self {
+            Problem::BadName => RelationError::BadName(place),
+            Problem::BadOp => RelationError::BadOp(place),
+            Problem::BadVersion(fault) => RelationError::BadVersion(place, fault),
+            Problem::Unclosed => RelationError::Unclosed(place),
+            Problem::BarNotAllowed => RelationError::BarNotAllowed(place),
+            Problem::Trailing => RelationError::Trailing(place),
+            Problem::OpInProvides => RelationError::OpInProvides(place),
+        }
+    }
+}
+
+impl ReadError {
+    /// The error in a value of so many bytes, with its place counted from the start.
+    pub(crate) fn in_value(self, length: usize) -> RelationError
+        requires { FitsIn length self }
+        ensures { result ≡ error_in length self }
+    {
+        match self {
+            ReadError::NoMemory => RelationError::NoMemory,
+            ReadError::Fault(fault) => fault.problem.at(length - fault.left),
+        }
+    }
 }
 
 impl From<AllocError> for ReadError {
