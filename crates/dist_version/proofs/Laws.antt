@@ -1,12 +1,13 @@
 -- What holds of all texts: which spell a version, and that each spells one at most.
-use Rattle.std.proofs.Common.{◌≡◌, ◌≢◌, ℕ, ◌+◌, ◌<◌, ◌≤◌, Bool, true, false, true≢false, cond, not, ◌&&◌, ◌==◌, nat_lt, ne_eqb, ltb-false, le-ltb, List, [], ◌∷◌, ◌++◌, append_assoc, append-nil, length, length-append, Option, None, Some, option_map, IfSome, IsSome, MatchOption, refl, sym, ap, ◌∙◌, subst, ◌⊎◌, inl, inr, arith}
+use Rattle.std.proofs.Common.{◌≡◌, ◌≢◌, ◌↔◌, ℕ, ◌+◌, ◌<◌, ◌≤◌, Bool, true, false, true≢false, cond, not, ◌==◌, nat_lt, ne_eqb, ltb-false, le-ltb, lt-ltb, List, [], ◌∷◌, ◌++◌, append_assoc, append-nil, length, length-append, Option, None, Some, option_map, position, add_assoc, add-zero, IfSome, IsSome, MatchOption, refl, sym, ap, ◌∙◌, subst, ◌⊎◌, inl, inr, arith}
 use Rattle.std.specs.Char.{is_ascii_digit}
 use Rattle.std.specs.List.{list_all, position_from}
-use Rattle.std.specs.Option.{option_map_or, option_or}
+use Rattle.std.specs.Option.{option_map_or, option_or, unwrap_or}
 use Rattle.std.specs.Str.Parse.{digits_value}
-use Rattle.std.proofs.lemmas.Bool.{false≢true, and_parts, and_from, or_parts, or_from, false_from_ne_true, cases_Bool, cond-true, cond-false}
+use Rattle.std.proofs.lemmas.Bool.{false≢true, and_parts, and_from, or_parts, or_from, false_from_ne_true, cases_Bool}
+use Rattle.std.proofs.lemmas.Iterator.Adapters.{position_from-zero}
 use Rattle.dist_version.specs.declared.error.VersionError.{VersionError}
-use Rattle.dist_version.specs.declared.error.VersionError.TheVariants.{BadEpoch, EpochTooLarge, BadByte}
+use Rattle.dist_version.specs.declared.error.VersionError.TheVariants.{NoMemory, BadEpoch, EpochTooLarge, BadByte}
 use Rattle.dist_version.specs.Spelling.{colon, hyphen, has, is_upstream_byte, is_revision_byte, IsMadeOf, Parts, Spells, SpellsEpoch, revision_text, IsVersion, split_once, rsplit_once, epoch_digits, after_epoch, epoch_of, upstream_of, revision_of, parts_of}
 use Rattle.dist_version.specs.Faults.{empty_fault, epoch_fault, upstream_fault, revision_fault, bad_byte, byte_fault, upstream_start, revision_start, fault_of}
 use Rattle.dist_version.proofs.Cuts.{CutsFirst, CutsLast, split_once-at, split_once-none, cases_split, rsplit_once-at, rsplit_once-none, cases_rsplit}
@@ -51,6 +52,15 @@ epoch_fault-none_is (d ∷ ds) e =
     let p = chosen (list_all is_ascii_digit (d ∷ ds)) (nat_lt 2147483647 (digits_value 10 (d ∷ ds))) e in
     ((omega arith, p.0), ltb-false 2147483647 (digits_value 10 (d ∷ ds)) p.1)
 
+pub epoch_fault-bad : (ds : List ℕ) → (length ds ≡ 0) ⊎ (list_all is_ascii_digit ds ≡ false) → epoch_fault ds ≡ Some BadEpoch
+epoch_fault-bad [] h = refl
+epoch_fault-bad (d ∷ ds) (inl h) = absurd (omega (arith, h))
+epoch_fault-bad (d ∷ ds) (inr h) = rw h refl
+
+pub epoch_fault-large : (ds : List ℕ) → 0 < length ds → list_all is_ascii_digit ds ≡ true → 2147483647 < digits_value 10 ds → epoch_fault ds ≡ Some EpochTooLarge
+epoch_fault-large [] some all large = absurd (omega arith)
+epoch_fault-large (d ∷ ds) some all large = rw (all, lt-ltb 2147483647 (digits_value 10 (d ∷ ds)) large) refl
+
 -- ---- the epoch's colon
 
 -- what stands after the epoch, and the epoch's value
@@ -62,6 +72,10 @@ pub record StartsWith (text after : List ℕ) (value : ℕ) : Type 0 where
 pub with_colon : (text digits after : List ℕ) → split_once colon text ≡ Some (digits, after) → epoch_fault digits ≡ None → StartsWith text after (digits_value 10 digits)
 unfolding after_epoch epoch_of epoch_digits
 with_colon text digits after e f = record { rest = rw e refl; epoch = rw e refl; fault = rw e f }
+
+pub fault_with_colon : (text digits after : List ℕ) (fault : VersionError) → split_once colon text ≡ Some (digits, after) → epoch_fault digits ≡ Some fault → option_map_or epoch_fault (epoch_digits text) None ≡ Some fault
+unfolding epoch_digits
+fault_with_colon text digits after fault e f = rw e f
 
 pub without_colon : (text : List ℕ) → split_once colon text ≡ None → StartsWith text text 0
 unfolding after_epoch epoch_of epoch_digits
@@ -90,7 +104,7 @@ pub one_version : (text : List ℕ) (version : Parts) → Spells text version �
 one_version text version s =
     let whole : text ≡ s.front ++ (version.upstream ++ revision_text version.revision) = s.whole ∙ append_assoc s.front version.upstream (revision_text version.revision) in
     let lacking : s.front ≡ [] → has colon (version.upstream ++ revision_text version.revision) ≡ false =
-        λ e. revised_lacks version.upstream version.revision (false_from_ne_true (has colon version.upstream) (λ h. s.written h e)) s.revision in
+    λ e. revised_lacks version.upstream version.revision (false_from_ne_true (has colon version.upstream) (λ h. s.written h e)) s.revision in
     let start = starts_with text s.front (version.upstream ++ revision_text version.revision) version.epoch whole s.epoch s.small lacking in
     let cut = cut_at text version.upstream version.revision start.rest s.revision s.revised in
     sym (λ i. record { epoch = start.epoch i; upstream = cut.0 i; revision = cut.1 i })
@@ -125,7 +139,7 @@ faultless text none =
     let d = or-none_is _ _ c.1 in
     record { empty = a.0; epoch = b.0; upstream = c.0; revision = d.0; byte = d.1 }
 
-empty_fault-none : (text : List ℕ) → 0 < length text → empty_fault text ≡ None
+pub empty_fault-none : (text : List ℕ) → 0 < length text → empty_fault text ≡ None
 empty_fault-none [] h = absurd (omega arith)
 empty_fault-none (b ∷ bs) h = refl
 
@@ -147,8 +161,37 @@ bad_byte-none test start (x ∷ xs) all =
 pub bad_byte-none_is : (test : ℕ → Bool) (start : ℕ) (bytes : List ℕ) → bad_byte test start bytes ≡ None → list_all test bytes ≡ true
 bad_byte-none_is test start [] e = refl
 bad_byte-none_is test start (x ∷ xs) e = elim (cases_Bool (test x)) [
-    inl pass ↦ and_from (test x) (list_all test xs) pass (bad_byte-none_is test (start + 1) xs (rw pass at e))
-  | inr fail ↦ absurd (some-none (BadByte start) (rw fail at e)) ]
+  | inl pass ↦ and_from (test x) (list_all test xs) pass (bad_byte-none_is test (start + 1) xs (rw pass at e))
+  | inr fail ↦ absurd (some-none (BadByte start) (rw fail at e))
+]
+
+-- by the first place that fails
+position_from-add : (test : ℕ → Bool) (start i : ℕ) (bytes : List ℕ) → position_from test (start + i) bytes ≡ option_map (λ k. start + k) (position_from test i bytes)
+position_from-add test start i [] = refl
+position_from-add test start i (x ∷ xs) = elim (cases_Bool (test x)) [
+  | inl pass ↦ rw pass refl
+  | inr fail ↦ rw fail (ap (λ n. position_from test n xs) (add_assoc start i 1) ∙ position_from-add test start (i + 1) xs)
+]
+
+option_map-map : (start : ℕ) (o : Option ℕ) → option_map (λ place. BadByte place) (option_map (λ k. start + k) o) ≡ option_map (λ k. BadByte (start + k)) o
+option_map-map start None = refl
+option_map-map start (Some k) = refl
+
+bad_byte-position : (test : ℕ → Bool) (start : ℕ) (bytes : List ℕ) → bad_byte test start bytes ≡ option_map (λ k. BadByte (start + k)) (position (λ b. not (test b)) bytes)
+bad_byte-position test start bytes =
+    let fails : ℕ → Bool = λ b. not (test b) in
+    ap (option_map (λ place. BadByte place)) (
+    ap (λ n. position_from fails n bytes) (sym (add-zero start))
+    ∙ position_from-add fails start 0 bytes
+    ∙ ap (option_map (λ k. start + k)) (sym (position_from-zero fails bytes))
+    )
+    ∙ option_map-map start (position fails bytes)
+
+pub bad_byte-found : (test : ℕ → Bool) (start : ℕ) (bytes : List ℕ) (k : ℕ) → position (λ b. not (test b)) bytes ≡ Some k → bad_byte test start bytes ≡ Some (BadByte (start + k))
+bad_byte-found test start bytes k e = bad_byte-position test start bytes ∙ ap (option_map (λ k. BadByte (start + k))) e
+
+pub bad_byte-passed : (test : ℕ → Bool) (start : ℕ) (bytes : List ℕ) → position (λ b. not (test b)) bytes ≡ None → bad_byte test start bytes ≡ None
+bad_byte-passed test start bytes e = bad_byte-position test start bytes ∙ ap (option_map (λ k. BadByte (start + k))) e
 
 byte_fault-none : (text : List ℕ) → list_all is_upstream_byte (upstream_of text) ≡ true → (revision : Option (List ℕ)) → revision_of text ≡ revision → IfSome revision (IsMadeOf is_revision_byte) → byte_fault text ≡ None
 byte_fault-none text all None e made = or-none _ _ (bad_byte-none is_upstream_byte (upstream_start text) (upstream_of text) all) (rw e refl)
@@ -158,7 +201,7 @@ pub no_fault_from_version : (text : List ℕ) → IsVersion text → fault_of te
 no_fault_from_version text (version, s) =
     let whole : text ≡ s.front ++ (version.upstream ++ revision_text version.revision) = s.whole ∙ append_assoc s.front version.upstream (revision_text version.revision) in
     let lacking : s.front ≡ [] → has colon (version.upstream ++ revision_text version.revision) ≡ false =
-        λ e. revised_lacks version.upstream version.revision (false_from_ne_true (has colon version.upstream) (λ h. s.written h e)) s.revision in
+    λ e. revised_lacks version.upstream version.revision (false_from_ne_true (has colon version.upstream) (λ h. s.written h e)) s.revision in
     let start = starts_with text s.front (version.upstream ++ revision_text version.revision) version.epoch whole s.epoch s.small lacking in
     let cut = cut_at text version.upstream version.revision start.rest s.revision s.revised in
     let some : 0 < length text = omega (arith, s.upstream.0, ap length whole, length-append s.front (version.upstream ++ revision_text version.revision), length-append version.upstream (revision_text version.revision)) in
@@ -183,15 +226,26 @@ record Epoch (text : List ℕ) : Type 0 where
 
 epoch_from : (text : List ℕ) (o : Option (List ℕ × List ℕ)) → split_once colon text ≡ o → MatchOption o (has colon text ≡ false) (CutsFirst colon text) → option_map_or epoch_fault (option_map (λ s. s.0) o) None ≡ None → Epoch text
 epoch_from text None e cut none = record {
-  front = []; after = text; value = 0; whole = refl; spelled = inr (refl, refl); small = omega arith; lacking = λ _. cut; start = without_colon text e }
+  front = [];
+  after = text;
+  value = 0;
+  whole = refl;
+  spelled = inr (refl, refl);
+  small = omega arith;
+  lacking = λ _. cut;
+  start = without_colon text e;
+}
 epoch_from text (Some s) e cut none =
     let p = epoch_fault-none_is s.0 none in record {
-  front = s.0 ++ colon ∷ []; after = s.1; value = digits_value 10 s.0;
-  whole = cut.0 ∙ sym (append_assoc s.0 (colon ∷ []) s.1);
-  spelled = inl (s.0, refl, p.0, refl);
-  small = p.1;
-  lacking = λ h. absurd (omega (arith, ap length h, length-append s.0 (colon ∷ [])));
-  start = with_colon text s.0 s.1 e none }
+      front = s.0 ++ colon ∷ [];
+      after = s.1;
+      value = digits_value 10 s.0;
+      whole = cut.0 ∙ sym (append_assoc s.0 (colon ∷ []) s.1);
+      spelled = inl (s.0, refl, p.0, refl);
+      small = p.1;
+      lacking = λ h. absurd (omega (arith, ap length h, length-append s.0 (colon ∷ [])));
+      start = with_colon text s.0 s.1 e none;
+    }
 
 -- how it ends
 record Ending (text after : List ℕ) : Type 0 where
@@ -205,15 +259,27 @@ record Ending (text after : List ℕ) : Type 0 where
 ending_from : (text after : List ℕ) → after_epoch text ≡ after → (o : Option (List ℕ × List ℕ)) → rsplit_once hyphen after ≡ o → MatchOption o (has hyphen after ≡ false) (CutsLast hyphen after) → Ending text after
 unfolding upstream_of revision_of
 ending_from text after rest None e cut = record {
-  upstream = after; revision = None; whole = sym (append-nil after); revised = λ h. absurd (true≢false (sym h ∙ cut)); upstream_is = rw (rest, e) refl; revision_is = rw (rest, e) refl }
+  upstream = after;
+  revision = None;
+  whole = sym (append-nil after);
+  revised = λ h. absurd (true≢false (sym h ∙ cut));
+  upstream_is = rw (rest, e) refl;
+  revision_is = rw (rest, e) refl;
+}
 ending_from text after rest (Some s) e cut = record {
-  upstream = s.0; revision = Some s.1; whole = cut.0; revised = λ h. refl; upstream_is = rw (rest, e) refl; revision_is = rw (rest, e) refl }
+  upstream = s.0;
+  revision = Some s.1;
+  whole = cut.0;
+  revised = λ h. refl;
+  upstream_is = rw (rest, e) refl;
+  revision_is = rw (rest, e) refl;
+}
 
 upstream_fault-none_is : (upstream : List ℕ) → upstream_fault upstream ≡ None → 0 < length upstream
 upstream_fault-none_is [] e = absurd (some-none _ e)
 upstream_fault-none_is (b ∷ bs) e = omega arith
 
-revision_from : (revision : Option (List ℕ)) (start : ℕ) → revision_fault revision ≡ None → option_map_or (λ r. r) (option_map (bad_byte is_revision_byte start) revision) None ≡ None → IfSome revision (IsMadeOf is_revision_byte)
+revision_from : (revision : Option (List ℕ)) (start : ℕ) → revision_fault revision ≡ None → bad_byte is_revision_byte start (unwrap_or revision []) ≡ None → IfSome revision (IsMadeOf is_revision_byte)
 revision_from None start e f = tt
 revision_from (Some []) start e f = absurd (some-none _ e)
 revision_from (Some (b ∷ bs)) start e f = (omega arith, bad_byte-none_is is_revision_byte start (b ∷ bs) f)
@@ -222,24 +288,70 @@ pub version_from_no_fault : (text : List ℕ) → fault_of text ≡ None → IsV
 unfolding epoch_digits
 version_from_no_fault text none =
     let f = faultless text none in
-    let e = or-none_is (bad_byte is_upstream_byte (upstream_start text) (upstream_of text)) (option_map_or (λ r. r) (option_map (bad_byte is_revision_byte (revision_start text)) (revision_of text)) None) f.byte in
+    let e = or-none_is (bad_byte is_upstream_byte (upstream_start text) (upstream_of text)) (bad_byte is_revision_byte (revision_start text) (unwrap_or (revision_of text) [])) f.byte in
     let s = epoch_from text (split_once colon text) refl (cases_split colon text) f.epoch in
     let t = ending_from text s.after s.start.rest (rsplit_once hyphen s.after) refl (cases_rsplit hyphen s.after) in
     let upstream : IsMadeOf is_upstream_byte t.upstream =
-        (upstream_fault-none_is t.upstream (rw t.upstream_is at f.upstream), bad_byte-none_is is_upstream_byte (upstream_start text) t.upstream (rw t.upstream_is at e.0)) in
-    let revision = revision_from t.revision (revision_start text) (rw t.revision_is at f.revision) (rw t.revision_is at e.1) in
-    (record { epoch = s.value; upstream = t.upstream; revision = t.revision }, record {
-      front = s.front;
-      whole = s.whole ∙ ap (λ w. s.front ++ w) t.whole ∙ sym (append_assoc s.front t.upstream (revision_text t.revision));
-      epoch = s.spelled;
-      small = s.small;
-      upstream = upstream;
-      revision = revision;
-      written = λ h e. true≢false (sym h ∙ has-append_left colon t.upstream (revision_text t.revision) (rw t.whole at (s.lacking e)));
-      revised = t.revised;
-    })
+    (upstream_fault-none_is t.upstream (rw t.upstream_is at f.upstream), bad_byte-none_is is_upstream_byte (upstream_start text) t.upstream (rw t.upstream_is at e.0)) in
+    let revision = revision_from t.revision (revision_start text) (rw t.revision_is at f.revision) (rw t.revision_is at e.1) in (
+      record { epoch = s.value; upstream = t.upstream; revision = t.revision },
+      record {
+        front = s.front;
+        whole = s.whole ∙ ap (λ w. s.front ++ w) t.whole ∙ sym (append_assoc s.front t.upstream (revision_text t.revision));
+        epoch = s.spelled;
+        small = s.small;
+        upstream = upstream;
+        revision = revision;
+        written = λ h e. true≢false (sym h ∙ has-append_left colon t.upstream (revision_text t.revision) (rw t.whole at (s.lacking e)));
+        revised = t.revised;
+      },
+    )
+
+pub exactly_versions : (text : List ℕ) → (fault_of text ≡ None) ↔ IsVersion text
+exactly_versions text = (version_from_no_fault text, no_fault_from_version text)
 
 pub spells_parts : (text : List ℕ) → fault_of text ≡ None → Spells text (parts_of text)
 spells_parts text none =
     let v = version_from_no_fault text none in
     let P : Parts → Type 0 = Spells text in subst P (one_version text v.0 v.1) v.1
+
+-- ---- want of memory is no fault of a text
+
+or-other : (a b : Option VersionError) → a ≢ Some NoMemory → b ≢ Some NoMemory → option_or a b ≢ Some NoMemory
+or-other None b h k = k
+or-other (Some f) b h k = h
+
+epoch_fault-other : (o : Option (List ℕ)) → option_map_or epoch_fault o None ≢ Some NoMemory
+epoch_fault-other None = λ e. cc
+epoch_fault-other (Some []) = λ e. cc
+epoch_fault-other (Some (d ∷ ds)) = elim (cases_Bool (list_all is_ascii_digit (d ∷ ds))) [
+  | inl all ↦ elim (cases_Bool (nat_lt 2147483647 (digits_value 10 (d ∷ ds)))) [
+    | inl large ↦ rw (all, large) (λ e. cc)
+    | inr small ↦ rw (all, small) (λ e. cc)
+  ]
+  | inr other ↦ rw other (λ e. cc)
+]
+
+empty_fault-other : (text : List ℕ) → empty_fault text ≢ Some NoMemory
+empty_fault-other [] = λ e. cc
+empty_fault-other (b ∷ bs) = λ e. cc
+
+upstream_fault-other : (upstream : List ℕ) → upstream_fault upstream ≢ Some NoMemory
+upstream_fault-other [] = λ e. cc
+upstream_fault-other (b ∷ bs) = λ e. cc
+
+revision_fault-other : (revision : Option (List ℕ)) → revision_fault revision ≢ Some NoMemory
+revision_fault-other None = λ e. cc
+revision_fault-other (Some []) = λ e. cc
+revision_fault-other (Some (b ∷ bs)) = λ e. cc
+
+place-other : (o : Option ℕ) → option_map (λ place. BadByte place) o ≢ Some NoMemory
+place-other None = λ e. cc
+place-other (Some k) = λ e. cc
+
+pub no_memory_fault : (text : List ℕ) → fault_of text ≢ Some NoMemory
+unfolding fault_of
+no_memory_fault text =
+    or-other _ _ (empty_fault-other text) (or-other _ _ (epoch_fault-other (epoch_digits text))
+    (or-other _ _ (upstream_fault-other (upstream_of text)) (or-other _ _ (revision_fault-other (revision_of text))
+    (or-other _ _ (place-other _) (place-other _)))))

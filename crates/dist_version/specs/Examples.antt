@@ -1,8 +1,8 @@
 -- Worked examples of the definitions, computed.
-use Rattle.std.specs.Prelude.{◌≡◌, ℕ, List, [], ◌∷◌, Option, None, Some, ℤ, pos, negsuc, refl, codes}
-use Rattle.std.specs.declared.cmp.Ordering.TheVariants.{Less, Equal, Greater}
-use Rattle.dist_version.specs.declared.error.VersionError.TheVariants.{Empty, BadEpoch, EpochTooLarge, EmptyUpstream, EmptyRevision, BadByte}
-use Rattle.dist_version.specs.Spelling.{Parts, parts_of, epoch_of, epoch_digits, after_epoch, upstream_of, revision_of}
+use Rattle.std.specs.Prelude.{◌≡◌, [], ◌∷◌, None, Some, pos, negsuc, refl, codes}
+use Rattle.std.specs.declared.cmp.Ordering.TheVariants.{Less, Equal}
+use Rattle.dist_version.specs.declared.error.VersionError.TheVariants.{EmptyRevision, BadByte}
+use Rattle.dist_version.specs.Spelling.{parts_of, epoch_of, epoch_digits, after_epoch, upstream_of, revision_of}
 use Rattle.dist_version.specs.Faults.{fault_of}
 use Rattle.dist_version.specs.Order.{weights_of, part_cmp, version_cmp}
 

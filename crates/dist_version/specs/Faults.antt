@@ -1,8 +1,8 @@
 -- Why a text spells no version: its faults, in the order in which they count. The first one decides.
-use Rattle.std.specs.Prelude.{ℕ, ◌+◌, ◌-◌, Bool, not, ◌&&◌, ◌==◌, nat_lt, List, [], ◌∷◌, length, Option, None, Some, is_some, if◌then◌else◌}
+use Rattle.std.specs.Prelude.{ℕ, ◌+◌, ◌-◌, Bool, not, nat_lt, List, [], ◌∷◌, length, Option, None, Some, if◌then◌else◌}
 use Rattle.std.specs.Char.{is_ascii_digit}
 use Rattle.std.specs.List.{list_all, position_from}
-use Rattle.std.specs.Option.{option_map, option_map_or, option_or}
+use Rattle.std.specs.Option.{option_map, option_map_or, option_or, unwrap_or}
 use Rattle.std.specs.Str.Parse.{digits_value}
 use Rattle.dist_version.specs.declared.error.VersionError.{VersionError}
 use Rattle.dist_version.specs.declared.error.VersionError.TheVariants.{Empty, BadEpoch, EpochTooLarge, EmptyUpstream, EmptyRevision, BadByte}
@@ -43,7 +43,7 @@ revision_start text = upstream_start text + length (upstream_of text) + 1
 abbrev pub byte_fault : List ℕ → Option VersionError
 byte_fault text =
     option_or (bad_byte is_upstream_byte (upstream_start text) (upstream_of text))
-    (option_map_or (λ revision. revision) (option_map (bad_byte is_revision_byte (revision_start text)) (revision_of text)) None)
+    (bad_byte is_revision_byte (revision_start text) (unwrap_or (revision_of text) []))
 
 -- the first fault of a text, or none
 unfoldable pub fault_of : List ℕ → Option VersionError

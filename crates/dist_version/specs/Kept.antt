@@ -1,5 +1,5 @@
 -- What a version keeps beside its text.
-use Rattle.std.specs.Prelude.{◌≡◌, ℕ, ◌+◌, ◌≤◌, nat_lt, List, length, drop, Option, None, Some, slice_range, if◌then◌else◌}
+use Rattle.std.specs.Prelude.{◌≡◌, ℕ, ◌+◌, ◌≤◌, nat_lt, List, length, drop, None, Some, slice_range, if◌then◌else◌}
 use Rattle.dist_version.specs.Spelling.{epoch_of, upstream_of, revision_of}
 use Rattle.dist_version.specs.Faults.{fault_of}
 

@@ -1,7 +1,7 @@
 -- The order of versions, by Debian Policy 5.6.12, stated by weights: a part of a version becomes a list of whole numbers, and the first difference decides.
 use Rattle.std.specs.Prelude.{◌≡◌, ℕ, zero, suc, ◌+◌, ◌==◌, not, List, [], ◌∷◌, ◌++◌, length, map, drop, ℤ, pos, negsuc, slice_index_or, if◌then◌else◌}
 use Rattle.std.specs.declared.cmp.Ordering.{Ordering}
-use Rattle.std.specs.declared.cmp.Ordering.TheVariants.{Less, Equal, Greater}
+use Rattle.std.specs.declared.cmp.Ordering.TheVariants.{Less, Equal}
 use Rattle.std.specs.Char.{is_ascii_digit, is_ascii_alphabetic}
 use Rattle.std.specs.List.{take_while}
 use Rattle.std.specs.Option.{unwrap_or}

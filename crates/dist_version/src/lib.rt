@@ -44,7 +44,8 @@ impl Version {
         ensures sound { OnOk result (fault_of bytes.now ≡ None) }
         ensures fault { IfErr result (λ error. error ≢ VersionError.NoMemory → fault_of bytes.now ≡ Some error) }
 
-        // A text has no fault exactly where it spells a version, and it spells at most one.
+        // Want of memory is no fault of a text. A text has none exactly where it spells a version, and it spells at most one.
+        ensures memory { (text : List ℕ) → fault_of text ≢ Some VersionError.NoMemory }
         ensures exact { (text : List ℕ) → (fault_of text ≡ None) ↔ IsVersion text }
         ensures one { (text : List ℕ) (version : Parts) → Spells text version → version ≡ parts_of text }
     {
@@ -96,14 +97,21 @@ impl Version {
         ensures equal { (result ≡ Ordering.Equal) ↔ ((¬ IsBelow self.now other.now) × (¬ IsBelow other.now self.now)) }
     {
         if self.text == other.text {
-            return Ordering::Equal;
+            Ordering::Equal
+        } else {
+            self.compare_by_parts(other)
         }
+    }
+
+    fn compare_by_parts(&self, other: &Version) -> Ordering
+        ensures { result ≡ version_cmp self.now other.now }
+    {
         let order = self.epoch().cmp(&other.epoch());
-        if order != Ordering::Equal {
+        if order.is_ne() {
             return order;
         }
         let order = compare_parts(self.upstream(), other.upstream());
-        if order != Ordering::Equal {
+        if order.is_ne() {
             return order;
         }
         compare_parts(
@@ -123,3 +131,6 @@ impl Version {
         })
     }
 }
+
+#[cfg(test)]
+mod tests;

@@ -1,8 +1,8 @@
 // The order of two parts of versions, by turns: a start without digits, and then a run of digits, which is never computed.
-ghost use Rattle.std.specs.Prelude.{◌≡◌, ℕ, ◌<◌, ◌≤◌, IsTrue, length, map};
+ghost use Rattle.std.specs.Prelude.{◌≡◌, ◌≤◌, IsTrue, length, map, drop, not, ◌==◌};
 ghost use Rattle.std.specs.Char.{is_ascii_digit};
-ghost use Rattle.std.specs.List.{list_all};
-ghost use Rattle.std.specs.Ordering.{nat_cmp};
+ghost use Rattle.std.specs.List.{list_all, prefix_len};
+ghost use Rattle.std.specs.Ordering.{nat_cmp, ordering_then};
 ghost use Rattle.std.specs.Str.Parse.{digits_value};
 ghost use Rattle.dist_version.specs.Order.{weight_of, weight_at, text_start, digit_start, after_text, after_turn, weights_cmp, part_cmp};
 
@@ -16,21 +16,32 @@ struct Turn<'a> {
     rest: &'a [u8],
 }
 
+/// How many bytes stand before the first digit.
+fn text_len(part: &[u8]) -> usize
+    ensures value { result ≡ prefix_len (λ byte. not (is_ascii_digit byte)) part.now }
+    ensures within { result ≤ length part.now }
+{
+    part.iter()
+        .take_while(|byte| !byte.is_ascii_digit())
+        .count()
+}
+
+/// How many digits stand at the start.
+fn digits_len(part: &[u8]) -> usize
+    ensures value { result ≡ prefix_len is_ascii_digit part.now }
+    ensures within { result ≤ length part.now }
+{
+    part.iter().take_while(|byte| byte.is_ascii_digit()).count()
+}
+
 fn next_turn(part: &[u8]) -> Turn<'_>
     ensures text { result.text.now ≡ text_start part.now }
     ensures digits { result.digits.now ≡ digit_start (after_text part.now) }
     ensures rest { result.rest.now ≡ after_turn part.now }
+    ensures only_digits { IsTrue (list_all is_ascii_digit result.digits.now) }
 {
-    let text_end = part
-        .iter()
-        .position(|byte| byte.is_ascii_digit())
-        .unwrap_or(part.len());
-    let (text, after) = part.split_at(text_end);
-    let digits_end = after
-        .iter()
-        .position(|byte| !byte.is_ascii_digit())
-        .unwrap_or(after.len());
-    let (digits, rest) = after.split_at(digits_end);
+    let (text, after) = part.split_at(text_len(part));
+    let (digits, rest) = after.split_at(digits_len(after));
     Turn { text, digits, rest }
 }
 
@@ -60,19 +71,25 @@ fn compare_texts(a: &[u8], b: &[u8]) -> Ordering
 {
     for place in 0..a.len().max(b.len()) {
         let order = weight_in(a, place).cmp(&weight_in(b, place));
-        if order != Ordering::Equal {
+        if order.is_ne() {
             return order;
         }
     }
     Ordering::Equal
 }
 
-fn without_zeros(digits: &[u8]) -> &[u8] {
-    let zeros = digits
-        .iter()
-        .position(|digit| *digit != b'0')
-        .unwrap_or(digits.len());
-    &digits[zeros..]
+/// How many zeros stand at the start.
+fn zeros_len(digits: &[u8]) -> usize
+    ensures value { result ≡ prefix_len (λ digit. digit == 48) digits.now }
+    ensures within { result ≤ length digits.now }
+{
+    digits.iter().take_while(|digit| **digit == b'0').count()
+}
+
+fn without_zeros(digits: &[u8]) -> &[u8]
+    ensures { result.now ≡ drop (prefix_len (λ digit. digit == 48) digits.now) digits.now }
+{
+    &digits[zeros_len(digits)..]
 }
 
 /// Compares two numbers by their digits.
@@ -84,15 +101,21 @@ fn compare_digits(a: &[u8], b: &[u8]) -> Ordering
     let a = without_zeros(a);
     let b = without_zeros(b);
     let order = a.len().cmp(&b.len());
-    if order != Ordering::Equal {
+    if order.is_ne() {
         return order;
     }
     a.cmp(&b)
 }
 
-fn compare_turns(a: &Turn, b: &Turn) -> Ordering {
+fn compare_turns(a: &Turn, b: &Turn) -> Ordering
+    requires a { IsTrue (list_all is_ascii_digit a.now.digits.now) }
+    requires b { IsTrue (list_all is_ascii_digit b.now.digits.now) }
+    ensures { result ≡ ordering_then
+        (weights_cmp (map weight_of a.now.text.now) (map weight_of b.now.text.now))
+        (nat_cmp (digits_value 10 a.now.digits.now) (digits_value 10 b.now.digits.now)) }
+{
     let order = compare_texts(a.text, b.text);
-    if order != Ordering::Equal {
+    if order.is_ne() {
         return order;
     }
     compare_digits(a.digits, b.digits)
@@ -108,7 +131,7 @@ pub(crate) fn compare_parts(a: &[u8], b: &[u8]) -> Ordering
         let first = next_turn(a);
         let second = next_turn(b);
         let order = compare_turns(&first, &second);
-        if order != Ordering::Equal {
+        if order.is_ne() {
             return order;
         }
         a = first.rest;

@@ -1,9 +1,11 @@
 // The parts of a version text, and its first fault, by Debian Policy 5.6.12.
-ghost use Rattle.std.specs.Prelude.{◌≡◌, ℕ, ◌+◌, ◌^◌, ◌<◌, None, Some, MatchResult, length};
-ghost use Rattle.std.specs.Option.{option_map, option_map_or};
+ghost use Rattle.std.specs.Prelude.{◌≡◌, ℕ, ◌+◌, ◌^◌, ◌<◌, None, Some, MatchResult, length, not, position};
+ghost use Rattle.std.specs.Char.{is_ascii_digit};
+ghost use Rattle.std.specs.List.{list_all};
+ghost use Rattle.std.specs.Option.{option_map, option_map_or, option_or, option_copied};
 ghost use Rattle.std.specs.Str.Parse.{digits_value};
-ghost use Rattle.dist_version.specs.Spelling.{split_once, rsplit_once, is_upstream_byte, is_revision_byte, epoch_digits, after_epoch, epoch_of};
-ghost use Rattle.dist_version.specs.Faults.{fault_of, epoch_fault, bad_byte};
+ghost use Rattle.dist_version.specs.Spelling.{hyphen, split_once, rsplit_once, is_upstream_byte, is_revision_byte, epoch_digits, after_epoch, epoch_of};
+ghost use Rattle.dist_version.specs.Faults.{fault_of, epoch_fault, upstream_fault, revision_fault, bad_byte};
 ghost use Rattle.dist_version.specs.Kept.{Keeps};
 
 use crate::error::VersionError;
@@ -45,24 +47,22 @@ fn is_revision_byte(byte: u8) -> bool
     byte.is_ascii_alphanumeric() || matches!(byte, b'.' | b'+' | b'~')
 }
 
-fn check_upstream(upstream: &[u8], start: usize) -> Result<(), VersionError>
-    requires { start + length upstream.now < 2 ^ 64 }
-    ensures { MatchResult result (λ _. bad_byte is_upstream_byte start upstream.now ≡ None) (λ error. bad_byte is_upstream_byte start upstream.now ≡ Some error) }
+fn bad_upstream_byte(upstream: &[u8]) -> Option<usize>
+    ensures { result ≡ position (λ byte. not (is_upstream_byte byte)) upstream.now }
 {
-    match upstream.iter().position(|byte| !is_upstream_byte(*byte)) {
-        Some(at) => Err(VersionError::BadByte(start + at)),
-        None => Ok(()),
-    }
+    upstream.iter().position(|byte| !is_upstream_byte(*byte))
 }
 
-fn check_revision(revision: &[u8], start: usize) -> Result<(), VersionError>
-    requires { start + length revision.now < 2 ^ 64 }
-    ensures { MatchResult result (λ _. bad_byte is_revision_byte start revision.now ≡ None) (λ error. bad_byte is_revision_byte start revision.now ≡ Some error) }
+fn bad_revision_byte(revision: &[u8]) -> Option<usize>
+    ensures { result ≡ position (λ byte. not (is_revision_byte byte)) revision.now }
 {
-    match revision.iter().position(|byte| !is_revision_byte(*byte)) {
-        Some(at) => Err(VersionError::BadByte(start + at)),
-        None => Ok(()),
-    }
+    revision.iter().position(|byte| !is_revision_byte(*byte))
+}
+
+fn are_digits(bytes: &[u8]) -> bool
+    ensures { result ≡ list_all is_ascii_digit bytes.now }
+{
+    bytes.iter().all(|byte| byte.is_ascii_digit())
 }
 
 /// The number that an epoch's digits write.
@@ -71,7 +71,7 @@ fn epoch_value(digits: &[u8]) -> Result<u32, VersionError>
         (λ value. (epoch_fault digits.now ≡ None) × (digits_value 10 digits.now ≡ value))
         (λ error. epoch_fault digits.now ≡ Some error) }
 {
-    if digits.is_empty() || !digits.iter().all(|byte| byte.is_ascii_digit()) {
+    if digits.is_empty() || !are_digits(digits) {
         return Err(VersionError::BadEpoch);
     }
     let mut value: u64 = 0;
@@ -96,6 +96,48 @@ fn split_epoch(text: &[u8]) -> Result<(u32, &[u8]), VersionError>
     }
 }
 
+/// The upstream version and the revision of the text after the epoch.
+fn split_revision(rest: &[u8]) -> (&[u8], Option<&[u8]>)
+    ensures upstream { result.0.now ≡ option_map_or (λ s. s.0) (rsplit_once hyphen rest.now) rest.now }
+    ensures revision { option_copied result.1 ≡ option_map (λ s. s.1) (rsplit_once hyphen rest.now) }
+{
+    match rsplit_once(rest, b'-') {
+        Some((upstream, revision)) => (upstream, Some(revision)),
+        None => (rest, None),
+    }
+}
+
+/// Refuses an empty upstream version, and an empty revision.
+fn check_lengths(upstream: &[u8], revision: Option<&[u8]>) -> Result<(), VersionError>
+    ensures { MatchResult result
+        (λ _. option_or (upstream_fault upstream.now) (revision_fault (option_copied revision.entry)) ≡ None)
+        (λ error. option_or (upstream_fault upstream.now) (revision_fault (option_copied revision.entry)) ≡ Some error) }
+{
+    if upstream.is_empty() {
+        return Err(VersionError::EmptyUpstream);
+    }
+    match revision {
+        Some([]) => Err(VersionError::EmptyRevision),
+        _ => Ok(()),
+    }
+}
+
+/// Refuses an upstream version that begins at `start`, or the revision one place after its end, by the first byte that it may not have.
+fn check_bytes(upstream: &[u8], revision: &[u8], start: usize) -> Result<(), VersionError>
+    requires { start + length upstream.now + 1 + length revision.now < 2 ^ 64 }
+    ensures { MatchResult result
+        (λ _. option_or (bad_byte is_upstream_byte start upstream.now) (bad_byte is_revision_byte (start + length upstream.now + 1) revision.now) ≡ None)
+        (λ error. option_or (bad_byte is_upstream_byte start upstream.now) (bad_byte is_revision_byte (start + length upstream.now + 1) revision.now) ≡ Some error) }
+{
+    if let Some(at) = bad_upstream_byte(upstream) {
+        return Err(VersionError::BadByte(start + at));
+    }
+    if let Some(at) = bad_revision_byte(revision) {
+        return Err(VersionError::BadByte(start + upstream.len() + 1 + at));
+    }
+    Ok(())
+}
+
 /// The places of a version text, or its first fault.
 pub(crate) fn places_of(text: &[u8]) -> Result<Places, VersionError>
     ensures { MatchResult result
@@ -106,30 +148,13 @@ pub(crate) fn places_of(text: &[u8]) -> Result<Places, VersionError>
         return Err(VersionError::Empty);
     }
     let (epoch, rest) = split_epoch(text)?;
+    let (upstream, revision) = split_revision(rest);
+    check_lengths(upstream, revision)?;
     let start = text.len() - rest.len();
-    match rsplit_once(rest, b'-') {
-        None => {
-            if rest.is_empty() {
-                return Err(VersionError::EmptyUpstream);
-            }
-            check_upstream(rest, start)?;
-            Ok(Places {
-                epoch,
-                start,
-                end: text.len(),
-            })
-        }
-        Some((upstream, revision)) => {
-            if upstream.is_empty() {
-                return Err(VersionError::EmptyUpstream);
-            }
-            if revision.is_empty() {
-                return Err(VersionError::EmptyRevision);
-            }
-            let end = start + upstream.len();
-            check_upstream(upstream, start)?;
-            check_revision(revision, end + 1)?;
-            Ok(Places { epoch, start, end })
-        }
-    }
+    check_bytes(upstream, revision.unwrap_or(&[]), start)?;
+    Ok(Places {
+        epoch,
+        start,
+        end: start + upstream.len(),
+    })
 }
