@@ -1,5 +1,5 @@
 -- The three kinds of values: what is read is spelled, what is refused has that first fault, and each value has one answer.
-use Rattle.std.proofs.Common.{◌≡◌, ℕ, zero, suc, ◌-◌, Bool, true, false, true≢false, ◌||◌, ◌&&◌, ◌⊎◌, inl, inr, eqb, cond, List, [], ◌∷◌, ◌++◌, length, length-append, ◌≤◌, arith, refl, sym, ap, ◌∙◌, subst, append-nil, Option, None, Some}
+use Rattle.std.proofs.Common.{◌≡◌, ◌≢◌, ℕ, zero, suc, ◌-◌, Bool, true, false, true≢false, ◌||◌, ◌&&◌, ◌⊎◌, inl, inr, eqb, cond, List, [], ◌∷◌, ◌++◌, length, length-append, ◌≤◌, arith, refl, sym, ap, ◌∙◌, subst, append-nil, Option, None, Some}
 use Rattle.std.specs.List.{filter_map, take_while}
 use Rattle.std.specs.Char.{is_ascii_alphanumeric}
 use Rattle.std.specs.Prelude.{Result, Ok, Err, IsTrue}
@@ -13,12 +13,17 @@ use Rattle.dist_relation.specs.declared.atom.Provide.{Provide}
 use Rattle.dist_relation.specs.declared.atom.Qualifier.{Qualifier}
 use Rattle.dist_relation.specs.declared.error.Fault.{Fault}
 use Rattle.dist_relation.specs.declared.error.Problem.{Problem}
-use Rattle.dist_relation.specs.declared.error.Problem.TheVariants.{BadName}
+use Rattle.dist_relation.specs.declared.error.Problem.TheVariants.{BadName, BadOp, BadVersion, Unclosed, BarNotAllowed, Trailing, OpInProvides}
+use Rattle.dist_relation.specs.declared.error.ReadError.{ReadError}
+use Rattle.dist_relation.specs.declared.error.ReadError.TheVariants as stops
+use Rattle.dist_relation.specs.declared.error.RelationError.TheVariants as errors
+use Rattle.dist_version.specs.declared.error.VersionError.{VersionError}
+use Rattle.dist_version.proofs.Laws.{no_memory_fault}
 use Rattle.dist_relation.specs.declared.error.RelationError.{RelationError}
-use Rattle.dist_relation.specs.Bytes.{is_space, is_comma, comma, bar, IsBlank, Meets, Stops}
+use Rattle.dist_relation.specs.Bytes.{is_space, is_word_byte, is_comma, comma, bar, IsBlank, Meets, Stops}
 use Rattle.dist_relation.specs.Grammar.{allows_operator, SpellsBounded, SpellsAtom, Closed, Joined, Ended, SpellsPiece, Reads, SpellsAlternatives, atom_of, SpellsProvide, ReadsDepends, ReadsAtoms, ReadsProvides}
-use Rattle.dist_relation.specs.Faults.{NameMissing, Has, PassedOver, allows_bar, error_at, FirstFault, FirstDependsFault, FirstAtomsFault, FirstProvidesFault, HasOneAnswer}
-use Rattle.dist_relation.specs.Reading.{◌>>=◌, atom_at, joined_at, alternatives_at, version_of, provide_of, provide_at, items_of}
+use Rattle.dist_relation.specs.Faults.{NameMissing, AfterAtom, Has, Comes, PassedOver, allows_bar, error_at, FirstFault, FirstDependsFault, FirstAtomsFault, FirstProvidesFault, HasOneAnswer}
+use Rattle.dist_relation.specs.Reading.{◌>>=◌, Fails, FitsIn, error_in, atom_at, joined_at, alternatives_at, version_of, provide_of, provide_at, items_of}
 use Rattle.dist_relation.proofs.ByteFacts.{or_true, or_cases, Stops-meets, fails_at}
 use Rattle.dist_relation.proofs.Heads.{done}
 use Rattle.dist_relation.proofs.AtomReading.{ends_atom, atom_again, atom_refused}
@@ -110,7 +115,7 @@ comma_alone b h = elim (or_cases (eqb b comma) (eqb b bar && false) h) [ inl e �
     no_and true e = true≢false (sym e)
     no_and false e = true≢false (sym e)
 
-conflict_reader : Reader (SpellsAtom kinds.Conflicts) is_comma (ItemFaulty kinds.Conflicts) (atom_at kinds.Conflicts)
+pub conflict_reader : Reader (SpellsAtom kinds.Conflicts) is_comma (ItemFaulty kinds.Conflicts) (atom_at kinds.Conflicts)
 conflict_reader =
     refusing (SpellsAtom kinds.Conflicts) is_comma (AtomFaulty kinds.Conflicts) (ItemFaulty kinds.Conflicts) (atom_at kinds.Conflicts) (single_to kinds.Conflicts) (λ text fault h. single_from kinds.Conflicts text fault refl h)
     (ending_at (SpellsAtom kinds.Conflicts) (ends_atom kinds.Conflicts) is_comma (AtomFaulty kinds.Conflicts) (atom_at kinds.Conflicts) comma_alone (λ b h. or_true (eqb b comma) _ h) (atom_reader kinds.Conflicts))
@@ -130,7 +135,7 @@ item_to text fault h = record { alternatives = h.lead; atoms = h.items; rest = h
 item_from : (text : List ℕ) (fault : Fault) → ItemFaulty kinds.Depends text fault → JoinedFaulty bar (SpellsAtom kinds.Depends) (AtomFaulty kinds.Depends) text fault
 item_from text fault h = record { lead = h.alternatives; items = h.atoms; rest = h.rest; is_lead = h.is_alternatives; parts = h.parts; faulty = h.faulty }
 
-alternatives_reader : Reader SpellsAlternatives is_comma (ItemFaulty kinds.Depends) alternatives_at
+pub alternatives_reader : Reader SpellsAlternatives is_comma (ItemFaulty kinds.Depends) alternatives_at
 unfolding alternatives_at
 alternatives_reader =
     refusing SpellsAlternatives is_comma (JoinedFaulty bar (SpellsAtom kinds.Depends) (AtomFaulty kinds.Depends)) (ItemFaulty kinds.Depends) (λ text. joined_at bar (atom_at kinds.Depends) (suc (length text)) text) item_to item_from
@@ -159,7 +164,7 @@ provide_back name qualifier (Some version) = refl
 abbrev provided_at : List ℕ → Provide → Result (Provide × List ℕ) Fault
 provided_at rest provide = Ok (provide, rest)
 
-provide_reader : Reader SpellsProvide is_comma (ItemFaulty kinds.Provides) provide_at
+pub provide_reader : Reader SpellsProvide is_comma (ItemFaulty kinds.Provides) provide_at
 unfolding provide_at
 provide_reader =
     record {
@@ -181,6 +186,41 @@ provide_reader =
 -- the fault with its place counted from the start
 abbrev pub placed : List ℕ → Fault → RelationError
 placed value fault = error_at fault.problem (length value - fault.left)
+
+after_left : (kind : Kind) (text here : List ℕ) → AfterAtom kind text here → length here ≤ length text
+after_left kind text here (inl h) = omega (arith, ap length h.parts, length-append h.head (h.space ++ here), length-append h.space here)
+after_left kind text here (inr h) = omega (arith, ap length h.parts, length-append h.versioned (41 ∷ (h.space ++ here)), length-append h.space here)
+
+abbrev some_fault : VersionError → Option VersionError
+some_fault fault = Some fault
+
+-- what follows a fault's place is a part of the text
+has_left : (kind : Kind) (text here : List ℕ) (problem : Problem) → Has kind text here problem → length here ≤ length text
+has_left kind text here BadName (inl h) = omega (arith, ap length h.parts, length-append h.space here)
+has_left kind text here BadName (inr h) = omega (arith, ap length h.parts, length-append h.head (58 ∷ here))
+has_left kind text here BadOp h = omega (arith, ap length h.parts, length-append h.opened here)
+has_left kind text here (BadVersion fault) h = omega (arith, ap length h.parts, length-append h.compared here)
+has_left kind text here Unclosed h = omega (arith, ap length h.parts, length-append h.versioned here)
+has_left kind text here BarNotAllowed h = after_left kind text here h.after_atom
+has_left kind text here Trailing h = after_left kind text here h.after_atom
+has_left kind text here OpInProvides h = omega (arith, ap length h.parts, length-append h.opened here)
+
+no_bar : (kind : Kind) → allows_bar kind ≡ false → kind ≢ kinds.Depends
+no_bar kind h e = true≢false (sym (ap allows_bar e) ∙ h)
+
+only_provides : (kind : Kind) (op : Op) → allows_operator kind op ≡ false → kind ≡ kinds.Provides
+only_provides kinds.Depends op h = absurd (true≢false h)
+only_provides kinds.Conflicts op h = absurd (true≢false h)
+only_provides kinds.Provides op h = refl
+
+has_comes : (kind : Kind) (text here : List ℕ) (problem : Problem) (place : ℕ) → Has kind text here problem → Comes kind (error_at problem place)
+has_comes kind text here BadName place h = tt
+has_comes kind text here BadOp place h = tt
+has_comes kind text here (BadVersion fault) place h = λ e. no_memory_fault (take_while is_word_byte here) (h.missing ∙ ap some_fault e)
+has_comes kind text here Unclosed place h = tt
+has_comes kind text here BarNotAllowed place h = no_bar kind h.forbidden
+has_comes kind text here Trailing place h = tt
+has_comes kind text here OpInProvides place h = only_provides kind h.op h.forbidden
 
 module _ {X : Type 0} (kind : Kind) (Spells : List ℕ → X → Type 0) (one : List ℕ → Result (X × List ℕ) Fault) (reader : Reader Spells is_comma (ItemFaulty kind) one) where
   needed : (text : List ℕ) → PassedOver text → (fault : Fault) × (one text ≡ Err fault)
@@ -225,7 +265,6 @@ module _ {X : Type 0} (kind : Kind) (Spells : List ℕ → X → Type 0) (one : 
       by_cases (inl (others, h)) = let never = laws.again value others h in absurd (cc (never, e))
       by_cases (inr (other, h)) = let same : other ≡ fault = cc (laws.refused value other h, e) in subst (λ (f : Fault). FirstFault kind Spells value (placed value f)) same (first_fault value other h)
 
-  -- how much is left from a fault on is no more than the value
   pub one_answer : (value : List ℕ) → HasOneAnswer (Reads Spells) (FirstFault kind Spells) value
   one_answer value =
       record {
@@ -242,6 +281,31 @@ module _ {X : Type 0} (kind : Kind) (Spells : List ℕ → X → Type 0) (one : 
       by_cases : ((items : List X) × Reads Spells value items) ⊎ ((fault : Fault) × Faulty value fault) → ((items : List X) × Reads Spells value items) ⊎ ((error : RelationError) × FirstFault kind Spells value error)
       by_cases (inl h) = inl h
       by_cases (inr (fault, h)) = inr (placed value fault, first_fault value fault h)
+
+
+  -- what is left from the fault on is no more than the value
+  pub value_left : (value : List ℕ) (fault : Fault) → items_of one value ≡ Err fault → fault.left ≤ length value
+  value_left value fault e = by_cases (laws.cases value)
+    where
+      by_cases : ((items : List X) × Reads Spells value items) ⊎ ((fault : Fault) × Faulty value fault) → fault.left ≤ length value
+      by_cases (inl (others, h)) = let never = laws.again value others h in absurd (cc (never, e))
+      by_cases (inr (other, h)) =
+          let same : other ≡ fault = cc (laws.refused value other h, e) in
+          let i = h.faulty.faulty in
+          let left : length i.faulty.here ≤ length i.rest = has_left kind i.rest i.faulty.here i.faulty.problem i.faulty.has in
+          omega (arith, left, ap (λ (f : Fault). f.left) (sym same ∙ i.faulty.is_fault), ap length h.parts, length-append h.lead h.rest, ap length i.parts, length-append i.alternatives i.rest)
+
+  pub read_fits : (error : ReadError) (value : List ℕ) → Fails error (items_of one value) → FitsIn (length value) error
+  read_fits stops.NoMemory value h = tt
+  read_fits (stops.Fault fault) value h = value_left value fault h
+
+  pub read_fault : (error : ReadError) (value : List ℕ) → Fails error (items_of one value) → error_in (length value) error ≢ errors.NoMemory → FirstFault kind Spells value (error_in (length value) error)
+  read_fault stops.NoMemory value h other = absurd (other refl)
+  read_fault (stops.Fault fault) value h other = value_fault value fault h
+
+  pub read_comes : (error : ReadError) (value : List ℕ) → Fails error (items_of one value) → Comes kind (error_in (length value) error)
+  read_comes stops.NoMemory value h = tt
+  read_comes (stops.Fault fault) value h = let f = value_fault value fault h in subst (Comes kind) (sym f.is_error) (has_comes kind f.text f.here f.problem (length value - length f.here) f.has)
 
 -- ---- a reader leaves no more than was there
 

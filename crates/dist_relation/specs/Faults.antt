@@ -1,9 +1,10 @@
 -- The first fault of a value that is no relation: everything before its place is a correct start, and the value doesn't go on from there as it must.
 -- Names, operators and versions are the longest runs of their bytes, and white space is skipped.
-use Rattle.std.specs.Prelude.{◌≡◌, ◌⊎◌, ℕ, ◌-◌, Bool, true, false, ◌||◌, ◌==◌, List, [], ◌∷◌, ◌++◌, length, take_while, Option, None, Some, IsTrue}
+use Rattle.std.specs.Prelude.{◌≡◌, ◌≢◌, ◌⊎◌, ℕ, ◌-◌, Bool, true, false, ◌||◌, ◌==◌, List, [], ◌∷◌, ◌++◌, length, take_while, Option, None, Some, IsTrue}
 use Rattle.std.specs.Char.{is_ascii_alphanumeric}
 use Rattle.dist_version.specs.Faults.{fault_of}
 use Rattle.dist_version.specs.declared.error.VersionError.{VersionError}
+use Rattle.dist_version.specs.declared.error.VersionError.TheVariants as versions
 use Rattle.dist_relation.specs.declared.atom.Atom.{Atom}
 use Rattle.dist_relation.specs.declared.atom.Bound.{Bound}
 use Rattle.dist_relation.specs.declared.atom.Kind.{Kind}
@@ -197,3 +198,14 @@ pub record HasOneAnswer {X : Type 0} (Reading : List ℕ → X → Type 0) (Faul
   pub not_both : (reading : X) (error : RelationError) → Reading value reading → Fault value error → ⊥
   pub one_reading : (first second : X) → Reading value first → Reading value second → first ≡ second
   pub one_fault : (first second : RelationError) → Fault value first → Fault value second → first ≡ second
+
+-- Which errors a value of a kind may have: a bar is allowed in dependencies, and every operator but in Provides. A version's fault is never want of memory.
+abbrev pub Comes : Kind → RelationError → Type 0
+Comes kind (errors.BadVersion place fault) = fault ≢ versions.NoMemory
+Comes kind (errors.BarNotAllowed place) = kind ≢ kinds.Depends
+Comes kind (errors.OpInProvides place) = kind ≡ kinds.Provides
+Comes kind (errors.BadName place) = Unit {0}
+Comes kind (errors.BadOp place) = Unit {0}
+Comes kind (errors.Unclosed place) = Unit {0}
+Comes kind (errors.Trailing place) = Unit {0}
+Comes kind errors.NoMemory = Unit {0}

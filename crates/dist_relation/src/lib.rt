@@ -13,3 +13,4 @@ pub use atom::{Atom, Bound, Op, Provide, Qualifier};
 pub use error::RelationError;
 pub use lists::{Alternatives, Atoms, Items, Provides};
 pub use name::Name;
+pub use values::{read_atoms, read_depends, read_provides};
