@@ -2,3 +2,5 @@ pub mod Bytes
 pub mod Grammar
 pub mod Faults
 pub mod Reading
+pub mod Canonical
+pub mod Written

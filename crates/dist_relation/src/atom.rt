@@ -1,5 +1,6 @@
 //! Atoms of relations, and entries of Provides.
-ghost use Rattle.std.specs.Prelude.{◌≡◌, IfOk};
+ghost use Rattle.std.specs.Prelude.{◌≡◌, ◌↔◌, IsTrue, IfOk};
+ghost use Rattle.dist_relation.specs.Canonical.{Satisfies};
 ghost use Rattle.dist_relation.specs.Grammar.{allows_operator};
 ghost use Rattle.dist_relation.specs.Faults.{allows_bar};
 
@@ -69,6 +70,20 @@ impl Kind {
         ensures { result ≡ allows_bar self }
     {
         matches!(self, Kind::Depends)
+    }
+}
+
+/// Whether a version meets a bound, in the order of versions.
+pub fn satisfies(version: &Version, bound: &Bound) -> bool
+    ensures { IsTrue result ↔ Satisfies version.now bound.now }
+{
+    let order = version.compare(&bound.version);
+    match bound.op {
+        Op::Lt => order.is_lt(),
+        Op::Le => order.is_le(),
+        Op::Eq => order.is_eq(),
+        Op::Ge => order.is_ge(),
+        Op::Gt => order.is_gt(),
     }
 }
 

@@ -6,10 +6,11 @@ mod bytes;
 mod error;
 mod lists;
 mod name;
+mod printing;
 mod reading;
 mod values;
 
-pub use atom::{Atom, Bound, Op, Provide, Qualifier};
+pub use atom::{Atom, Bound, Op, Provide, Qualifier, satisfies};
 pub use error::RelationError;
 pub use lists::{Alternatives, Atoms, Items, Provides};
 pub use name::Name;
