@@ -10,3 +10,4 @@ pub mod Pieces
 pub mod ThreeKinds
 pub mod Starts
 pub mod Loops
+pub mod Canon

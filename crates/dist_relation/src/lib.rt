@@ -14,4 +14,5 @@ pub use atom::{Atom, Bound, Op, Provide, Qualifier, satisfies};
 pub use error::RelationError;
 pub use lists::{Alternatives, Atoms, Items, Provides};
 pub use name::Name;
+pub use printing::print_alternatives;
 pub use values::{read_atoms, read_depends, read_provides};

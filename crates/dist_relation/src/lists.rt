@@ -30,6 +30,13 @@ impl Alternatives {
         Alternatives { atoms }
     }
 
+    pub(crate) fn atoms(&self) -> &[Atom]
+        ensures value { result.now ≡ self.now }
+        ensures some { 0 < length self.now }
+    {
+        self.atoms.as_slice()
+    }
+
     /// At least one.
     pub fn len(&self) -> usize
         ensures value { result ≡ length self.now }
