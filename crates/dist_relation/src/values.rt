@@ -67,7 +67,7 @@ pub(crate) fn entries_of<T: Entry>(alloc: Global, value: &[u8]) -> Result<Vec<T>
 fn alternatives_of(alloc: Global, text: &[u8]) -> Result<(Alternatives, &[u8]), ReadError>
     ensures { Gives (λ x. (x.0, x.1.now)) result (alternatives_at text.now) }
 {
-    let mut atoms = Vec::new(alloc);
+    let mut atoms = Vec::with_capacity(alloc, 1)?;
     let mut text = text;
     loop {
         let (atom, rest) = atom_of(alloc, Kind::Depends, text)?;

@@ -10,11 +10,11 @@ use Rattle.dist_relation.proofs.values.alternatives_of.Goals as goal
 
 pub loop-atoms-init : goal.loop-atoms-init
 unfolding alternatives_at
-loop-atoms-init c = rw c.new-atoms.ensures.items (start bar (atom_at Depends) (atom_shorter Depends) c.args.text.now)
+loop-atoms-init c = rw c.in_ok-atoms.ensures.items (start bar (atom_at Depends) (atom_shorter Depends) c.args.text.now)
 
 pub returns-in_err-atom : goal.returns-in_err-atom
 returns-in_err-atom c =
-    let p = err_from_is_err_and c.from_residual.result c.from_residual.ensures.1 in
+    let p = err_from_is_err_and c.from_residual-in_err-atom.result c.from_residual-in_err-atom.ensures.1 in
     rw (p.1, p.2) (loop_fails bar (atom_at Depends) (atom_shorter Depends) c.in_err-atom.field-0.0 c.loop-atoms.atoms.items c.loop-atoms.text.now (alternatives_at c.args.text.now) c.in_err-atom.ensures c.loop-atoms.invariant)
 
 pub loop-atoms-smaller : goal.loop-atoms-smaller
