@@ -1,7 +1,6 @@
 -- A text begins with an atom and what may follow one, or has a first fault.
-use Rattle.std.proofs.Common.{◌≡◌, ℕ, Bool, true, false, ◌||◌, ◌&&◌, ◌⊎◌, inl, inr, eqb, cond, List, [], ◌∷◌, ◌++◌, length, refl, sym, ap, ◌∙◌, subst, append_assoc, append-nil, Option, None, Some}
-use Rattle.std.specs.List.{list_all, take_while}
-use Rattle.std.specs.Prelude.{Result, Ok, Err, IsTrue}
+use Rattle.std.proofs.Common.{◌≡◌, ℕ, Bool, true, false, ◌||◌, ◌&&◌, ◌⊎◌, inl, inr, eqb, List, [], ◌∷◌, ◌++◌, refl, sym, ap, ◌∙◌, subst, append_assoc, None, Some}
+use Rattle.std.specs.List.{take_while}
 use Rattle.std.proofs.lemmas.Bool.{eqb-true}
 use Rattle.dist_relation.specs.declared.atom.Atom.{Atom}
 use Rattle.dist_relation.specs.declared.atom.Bound.{Bound}
@@ -12,13 +11,13 @@ use Rattle.dist_relation.specs.declared.error.Problem.{Problem}
 use Rattle.dist_relation.specs.declared.error.Problem.TheVariants.{BadName, BadOp, BadVersion, Unclosed, BarNotAllowed, Trailing, OpInProvides}
 use Rattle.dist_relation.specs.Bytes.{is_space, is_operator_byte, is_word_byte, is_opening, opening, closing, comma, bar, IsBlank, Meets, Stops}
 use Rattle.dist_relation.specs.Grammar.{Head, Opened, Compared, Versioned, Bare, Closed, SpellsAtom}
-use Rattle.dist_relation.specs.Faults.{NameMissing, QualifierMissing, OperatorMissing, OperatorForbidden, VersionMissing, ClosingMissing, EndsHead, AfterBare, AfterClosed, AfterAtom, allows_bar, BarForbidden, Leftover, Has}
-use Rattle.dist_relation.specs.Reading.{refuse, past, skip, atom_at}
+use Rattle.dist_relation.specs.Faults.{EndsHead, AfterBare, AfterClosed, AfterAtom, allows_bar, Has}
+use Rattle.dist_relation.specs.Reading.{skip}
 use Rattle.dist_relation.proofs.Runs.{true_both, take_while-past, take_while_all, past_stops}
 use Rattle.dist_relation.proofs.ByteFacts.{or_false, or_true}
 use Rattle.dist_relation.proofs.Heads.{HeadRead, HeadFault, head_cases}
-use Rattle.dist_relation.proofs.Bounds.{BoundStart, BoundVersion, BoundWhole, StartMissing, StartForbidden, WordMissing, EndMissing, BoundHas, BoundRead, BoundFault, bound_cases}
-use Rattle.dist_relation.proofs.AtomReading.{ends_atom, atom_again, atom_refused}
+use Rattle.dist_relation.proofs.Bounds.{BoundStart, BoundVersion, BoundWhole, BoundHas, BoundRead, BoundFault, bound_cases}
+use Rattle.dist_relation.proofs.AtomReading.{ends_atom}
 
 pub record AtomRead (kind : Kind) (text : List ℕ) : Type 0 where
   pub front : List ℕ
@@ -124,11 +123,29 @@ module _ (kind : Kind) (text head gap name : List ℕ) (qualifier : Qualifier) (
   bound_has here BadName h = absurd cc
   bound_has here BadOp h = record { opened = opened_text h.space; name = name; qualifier = qualifier; is_opened = is_opened h.space h.blank; parts = opened_parts h.space here h.parts; skipped = h.skipped; missing = h.missing }
   bound_has here (BadVersion fault) h =
-      record { compared = compared_text h.op h.after h.start h.space; name = name; qualifier = qualifier; op = h.op; is_compared = is_compared h.op h.after h.start h.space h.blank; parts = compared_parts h.op h.after h.start h.space here h.parts;
-               whole_operator = subst (Stops is_operator_byte) h.parts h.start.whole; skipped = h.skipped; missing = h.missing }
+      record {
+        compared = compared_text h.op h.after h.start h.space;
+        name = name;
+        qualifier = qualifier;
+        op = h.op;
+        is_compared = is_compared h.op h.after h.start h.space h.blank;
+        parts = compared_parts h.op h.after h.start h.space here h.parts;
+        whole_operator = subst (Stops is_operator_byte) h.parts h.start.whole;
+        skipped = h.skipped;
+        missing = h.missing;
+      }
   bound_has here Unclosed h =
-      record { versioned = versioned_text h.bound h.after h.version h.space; name = name; qualifier = qualifier; bound = h.bound; is_versioned = is_versioned h.bound h.after h.version h.space h.blank; parts = versioned_parts h.bound h.after h.version h.space here h.parts;
-               whole_version = subst (Stops is_word_byte) h.parts h.version.whole; skipped = h.skipped; missing = h.missing }
+      record {
+        versioned = versioned_text h.bound h.after h.version h.space;
+        name = name;
+        qualifier = qualifier;
+        bound = h.bound;
+        is_versioned = is_versioned h.bound h.after h.version h.space h.blank;
+        parts = versioned_parts h.bound h.after h.version h.space here h.parts;
+        whole_version = subst (Stops is_word_byte) h.parts h.version.whole;
+        skipped = h.skipped;
+        missing = h.missing;
+      }
   bound_has here BarNotAllowed h = absurd cc
   bound_has here Trailing h = absurd cc
   bound_has here OpInProvides h = record { opened = opened_text h.space; name = name; qualifier = qualifier; op = h.op; is_opened = is_opened h.space h.blank; parts = opened_parts h.space here h.parts; is_operator = h.is_operator; forbidden = h.forbidden }

@@ -1,12 +1,10 @@
 -- The reader of an atom gives the atom, or the first fault of one.
-use Rattle.std.proofs.Common.{◌≡◌, ℕ, Bool, true, false, ◌||◌, ◌&&◌, ◌⊎◌, inl, inr, eqb, cond, List, [], ◌∷◌, ◌++◌, length, refl, sym, ap, ◌∙◌, subst, append_assoc, append-nil, Option, None, Some}
-use Rattle.std.specs.List.{list_all, take_while}
-use Rattle.std.specs.Prelude.{Result, Ok, Err, IsTrue}
-use Rattle.std.proofs.lemmas.Bool.{eqb-true}
+use Rattle.std.proofs.Common.{◌≡◌, ℕ, Bool, true, false, ◌||◌, ◌&&◌, inl, inr, eqb, cond, List, [], ◌∷◌, ◌++◌, refl, sym, ap, ◌∙◌, subst, append_assoc, Option, None, Some}
+use Rattle.std.specs.List.{take_while}
+use Rattle.std.specs.Prelude.{Result, Ok}
 use Rattle.dist_relation.specs.declared.atom.Atom.{Atom}
 use Rattle.dist_relation.specs.declared.atom.Bound.{Bound}
 use Rattle.dist_relation.specs.declared.atom.Kind.{Kind}
-use Rattle.dist_relation.specs.declared.atom.Kind.TheVariants as kinds
 use Rattle.dist_relation.specs.declared.atom.Op.{Op}
 use Rattle.dist_relation.specs.declared.atom.Qualifier.{Qualifier}
 use Rattle.dist_relation.specs.declared.atom.Qualifier.TheVariants.{Plain, Named}
@@ -14,14 +12,14 @@ use Rattle.dist_relation.specs.declared.error.Fault.{Fault}
 use Rattle.dist_relation.specs.declared.error.Problem.{Problem}
 use Rattle.dist_relation.specs.declared.error.Problem.TheVariants.{BadName, BadOp, BadVersion, Unclosed, BarNotAllowed, Trailing, OpInProvides}
 use Rattle.dist_relation.specs.Bytes.{is_space, is_name_byte, is_operator_byte, is_word_byte, is_colon, is_opening, opening, closing, comma, bar, IsBlank, Meets, Stops}
-use Rattle.dist_relation.specs.Grammar.{allows_operator, SpellsOperator, Head, Opened, Compared, Versioned, Bare, Closed, SpellsAtom, SpellsBounded}
-use Rattle.dist_relation.specs.Faults.{NameMissing, QualifierMissing, OperatorMissing, OperatorForbidden, VersionMissing, ClosingMissing, EndsHead, AfterBare, AfterClosed, AfterAtom, allows_bar, BarForbidden, Leftover, Has}
-use Rattle.dist_relation.specs.Reading.{◌>>=◌, refuse, past, skip, head_at, bound_at, maybe_bound_at, end_at, atom_at}
-use Rattle.dist_relation.proofs.Runs.{both_true, past-append, take_while-past, take_while_all, past_stops, past_stopped}
-use Rattle.dist_relation.proofs.ByteFacts.{or_false, or_cases, space_fails, fails_at, Stops-blank, Stops-meets}
-use Rattle.dist_relation.proofs.Heads.{done, head_again, head_lacks_name, head_lacks_qualifier, HeadRead, HeadFault, head_cases}
+use Rattle.dist_relation.specs.Grammar.{SpellsOperator, Head, Opened, Compared, Versioned, SpellsAtom, SpellsBounded}
+use Rattle.dist_relation.specs.Faults.{EndsHead, AfterAtom, allows_bar, Has}
+use Rattle.dist_relation.specs.Reading.{◌>>=◌, refuse, past, skip, bound_at, maybe_bound_at, end_at, atom_at}
+use Rattle.dist_relation.proofs.Runs.{both_true, past-append, take_while-past}
+use Rattle.dist_relation.proofs.ByteFacts.{or_cases, fails_at, Stops-blank, Stops-meets}
+use Rattle.dist_relation.proofs.Heads.{done, head_again, head_lacks_name, head_lacks_qualifier}
 use Rattle.dist_relation.proofs.Words.{operator_facts, version_no_operator}
-use Rattle.dist_relation.proofs.Bounds.{follows, BoundStart, BoundVersion, BoundWhole, bound_again, StartMissing, StartForbidden, WordMissing, EndMissing, BoundHas, bound_refused, BoundRead, BoundFault, bound_cases}
+use Rattle.dist_relation.proofs.Bounds.{follows, BoundStart, BoundVersion, BoundWhole, bound_again, BoundHas, bound_refused}
 
 -- ---- what follows an atom
 

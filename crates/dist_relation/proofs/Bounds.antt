@@ -1,7 +1,7 @@
 -- The reader of a bound, behind its opening parenthesis, gives the bound, or the fault of a missing part.
-use Rattle.std.proofs.Common.{◌≡◌, ℕ, Bool, true, false, ◌⊎◌, inl, inr, eqb, cond, List, [], ◌∷◌, ◌++◌, length, refl, sym, ap, ◌∙◌, subst, append_assoc, Option, None, Some}
-use Rattle.std.specs.List.{list_all, take_while}
-use Rattle.std.specs.Prelude.{Result, Ok, Err, IsTrue}
+use Rattle.std.proofs.Common.{◌≡◌, ℕ, Bool, true, false, ◌⊎◌, inl, inr, eqb, cond, List, [], ◌∷◌, ◌++◌, refl, sym, ap, ◌∙◌, subst, Some}
+use Rattle.std.specs.List.{take_while}
+use Rattle.std.specs.Prelude.{Result, Ok, IsTrue}
 use Rattle.std.proofs.lemmas.Bool.{eqb-true}
 use Rattle.dist_version.specs.Spelling.{IsVersion}
 use Rattle.dist_version.specs.Faults.{fault_of}
@@ -12,12 +12,11 @@ use Rattle.dist_relation.specs.declared.atom.Op.{Op}
 use Rattle.dist_relation.specs.declared.error.Fault.{Fault}
 use Rattle.dist_relation.specs.declared.error.Problem.{Problem}
 use Rattle.dist_relation.specs.declared.error.Problem.TheVariants.{BadName, BadOp, BadVersion, Unclosed, BarNotAllowed, Trailing, OpInProvides}
-use Rattle.dist_relation.specs.Bytes.{is_space, is_operator_byte, is_word_byte, is_closing, closing, IsBlank, Meets, Stops}
+use Rattle.dist_relation.specs.Bytes.{is_space, is_operator_byte, is_word_byte, is_closing, closing, IsBlank, Stops}
 use Rattle.dist_relation.specs.Grammar.{allows_operator, SpellsOperator}
-use Rattle.dist_relation.specs.Reading.{◌>>=◌, refuse, past, skip, operator_at, version_at, closing_at, bound_at}
-use Rattle.dist_relation.proofs.Runs.{past-append, take_while-past, take_while_all, past_stops, past_stopped}
-use Rattle.dist_relation.proofs.ByteFacts.{Stops-blank}
-use Rattle.dist_relation.proofs.Words.{operator_facts, operator_again, operator_missing, operator_forbidden, OperatorRead, OperatorFault, operator_cases, version_again, version_refused, VersionRead, version_cases, version_no_operator, version_no_blank}
+use Rattle.dist_relation.specs.Reading.{◌>>=◌, refuse, skip, operator_at, version_at, closing_at, bound_at}
+use Rattle.dist_relation.proofs.Runs.{past-append, take_while-past, take_while_all, past_stops}
+use Rattle.dist_relation.proofs.Words.{operator_facts, operator_again, operator_missing, operator_forbidden, OperatorRead, OperatorFault, operator_cases, version_again, version_refused, VersionRead, version_cases, version_no_blank}
 
 -- what follows is left
 abbrev pub follows : List ℕ → Result (List ℕ) Fault
@@ -193,8 +192,10 @@ end_cases kind text bound after (b ∷ bs) v e = by_first (eqb b closing) refl
   where
     parts : after ≡ spaces after ++ (b ∷ bs)
     parts = spaces_parts after ∙ ap (λ (t : List ℕ). spaces after ++ t) (sym e)
+
     skipped : Stops is_space (b ∷ bs)
     skipped = subst (Stops is_space) (sym e) (past_stops is_space after)
+
     by_first : (t : Bool) → eqb b closing ≡ t → BoundRead kind text ⊎ BoundFault kind text
     by_first false f = inr (record { here = b ∷ bs; problem = Unclosed; has = record { bound = bound; after = after; space = spaces after; version = v; blank = spaces_blank after; parts = parts; skipped = skipped; missing = f } })
     by_first true f =

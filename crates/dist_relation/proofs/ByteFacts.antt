@@ -1,9 +1,9 @@
 -- Which bytes are no bytes of which kind.
-use Rattle.std.proofs.Common.{◌≡◌, ℕ, Bool, true, false, ◌||◌, ◌&&◌, ◌⊎◌, inl, inr, eqb, List, [], ◌∷◌, ◌++◌, refl, sym, ap, ◌∙◌}
+use Rattle.std.proofs.Common.{◌≡◌, ℕ, Bool, true, false, ◌||◌, ◌⊎◌, inl, inr, eqb, List, [], ◌∷◌, ◌++◌, refl, sym, ap, ◌∙◌}
 use Rattle.std.specs.Char.{is_ascii_alphanumeric}
 use Rattle.std.specs.List.{list_all}
 use Rattle.std.proofs.lemmas.Bool.{eqb-true}
-use Rattle.dist_relation.specs.Bytes.{is_space, is_name_byte, is_operator_byte, is_word_byte, comma, bar, IsBlank, IsName, Meets, Stops}
+use Rattle.dist_relation.specs.Bytes.{is_space, is_name_byte, IsBlank, IsName, Meets, Stops}
 use Rattle.dist_relation.proofs.Runs.{both_true, true_both}
 
 pub or_false : (a b : Bool) → a ≡ false → b ≡ false → (a || b) ≡ false

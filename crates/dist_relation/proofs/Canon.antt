@@ -1,16 +1,15 @@
 -- The canonical text of an item is read as this item.
-use Rattle.std.proofs.Common.{◌≡◌, ℕ, List, [], ◌∷◌, ◌++◌, Option, None, Some, refl, sym, ap, ◌∙◌, subst, append_assoc, append-nil, ◌⊎◌, inl, inr}
-use Rattle.std.specs.List.{list_all, flat_map}
+use Rattle.std.proofs.Common.{◌≡◌, ℕ, List, [], ◌∷◌, ◌++◌, Option, None, Some, refl, sym, ap, ◌∙◌, append_assoc, append-nil, inl}
+use Rattle.std.specs.List.{flat_map}
 use Rattle.std.specs.Prelude.{codes, Result, Ok, Err, OnErr}
-use Rattle.dist_version.specs.Spelling.{IsVersion}
 use Rattle.dist_relation.specs.declared.atom.Atom.{Atom}
 use Rattle.dist_relation.specs.declared.atom.Bound.{Bound}
 use Rattle.dist_relation.specs.declared.atom.Kind.TheVariants.{Depends}
 use Rattle.dist_relation.specs.declared.atom.Op.{Op}
 use Rattle.dist_relation.specs.declared.atom.Op.TheVariants.{Lt, Le, Eq, Ge, Gt}
 use Rattle.dist_relation.specs.declared.atom.Qualifier.{Qualifier}
-use Rattle.dist_relation.specs.Bytes.{IsBlank, IsName, bar, opening, closing}
-use Rattle.dist_relation.specs.Grammar.{qualifier_text, IsQualifier, operator_text, SpellsOperator, Head, Opened, Compared, Versioned, Bare, Closed, SpellsBounded, SpellsAtom, Joined, SpellsAlternatives, ReadsDepends}
+use Rattle.dist_relation.specs.Bytes.{IsBlank, IsName, opening}
+use Rattle.dist_relation.specs.Grammar.{qualifier_text, IsQualifier, operator_text, SpellsOperator, Head, Opened, Compared, Versioned, SpellsBounded, SpellsAtom, SpellsAlternatives, ReadsDepends}
 use Rattle.dist_relation.specs.Canonical.{bound_text, atom_text, behind_bar, alternatives_text}
 use Rattle.dist_relation.specs.Written.{Extends, IsBound, IsAtom, AreAtoms}
 use Rattle.dist_relation.specs.Reading.{alternatives_at}

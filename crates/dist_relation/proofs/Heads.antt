@@ -1,21 +1,20 @@
 -- The reader of a name and its qualifier gives the head of an atom, or the fault of a missing name.
-use Rattle.std.proofs.Common.{◌≡◌, subst, ℕ, Bool, true, false, ◌||◌, ◌&&◌, ◌⊎◌, inl, inr, eqb, cond, List, [], ◌∷◌, ◌++◌, refl, sym, ap, ◌∙◌, append_assoc}
+use Rattle.std.proofs.Common.{◌≡◌, subst, ℕ, Bool, true, false, ◌⊎◌, inl, inr, eqb, cond, List, [], ◌∷◌, ◌++◌, refl, sym, ap, ◌∙◌, append_assoc}
 use Rattle.std.specs.Char.{is_ascii_alphanumeric}
 use Rattle.std.specs.List.{list_all, take_while}
-use Rattle.std.specs.Prelude.{Result, Ok, Err}
+use Rattle.std.specs.Prelude.{Result, Ok}
 use Rattle.std.proofs.lemmas.Bool.{eqb-true}
 use Rattle.std.proofs.lemmas.List.{append-nil}
 use Rattle.dist_relation.specs.declared.atom.Qualifier.{Qualifier}
 use Rattle.dist_relation.specs.declared.atom.Qualifier.TheVariants.{Plain, Named}
 use Rattle.dist_relation.specs.declared.error.Fault.{Fault}
-use Rattle.dist_relation.specs.declared.error.Problem.{Problem}
 use Rattle.dist_relation.specs.declared.error.Problem.TheVariants.{BadName}
-use Rattle.dist_relation.specs.Bytes.{is_space, is_name_byte, is_colon, colon, IsBlank, IsName, Meets, Stops}
+use Rattle.dist_relation.specs.Bytes.{is_space, is_name_byte, colon, IsBlank, IsName, Stops}
 use Rattle.dist_relation.specs.Grammar.{qualifier_text, IsQualifier, Head}
 use Rattle.dist_relation.specs.Faults.{NameMissing, QualifierMissing, EndsHead}
 use Rattle.dist_relation.specs.Reading.{◌>>=◌, refuse, past, skip, name_at, qualifier_at, head_at}
-use Rattle.dist_relation.proofs.Runs.{both_true, true_both, take_while-append, past-append, take_while-past, take_while_all, take_while-yes, past_stops}
-use Rattle.dist_relation.proofs.ByteFacts.{or_true, not_at, space_fails, Stops-blank, name_bytes, name_starts, Stops-name}
+use Rattle.dist_relation.proofs.Runs.{true_both, take_while-append, past-append, take_while-past, take_while_all, take_while-yes, past_stops}
+use Rattle.dist_relation.proofs.ByteFacts.{or_true, name_bytes, name_starts, Stops-name}
 
 -- what was read, and what follows
 abbrev pub done : {A B : Type 0} → A → B → Result (A × B) Fault

@@ -1,5 +1,5 @@
 -- Readers of one thing, and of several with a byte between each two.
-use Rattle.std.proofs.Common.{◌≡◌, ℕ, zero, suc, ◌+◌, ◌<◌, ◌≤◌, Bool, true, false, true≢false, ◌⊎◌, inl, inr, eqb, cond, List, [], ◌∷◌, ◌++◌, length, length-append, refl, sym, ap, ◌∙◌, subst, append_assoc, eq-eqb, arith}
+use Rattle.std.proofs.Common.{◌≡◌, ℕ, zero, suc, ◌<◌, Bool, true, false, ◌⊎◌, inl, inr, eqb, cond, List, [], ◌∷◌, ◌++◌, length, length-append, refl, sym, ap, ◌∙◌, append_assoc, eq-eqb, arith}
 use Rattle.std.specs.Prelude.{Result, Ok, Err}
 use Rattle.std.proofs.lemmas.Bool.{eqb-true}
 use Rattle.dist_relation.specs.declared.error.Fault.{Fault}
@@ -74,9 +74,11 @@ module _ {X : Type 0} (Spells : List ℕ → X → Type 0) (one_ends several_end
       by_byte : (t : Bool) (front : List ℕ) (item : X) (b : ℕ) (bs : List ℕ) → eqb b between ≡ t → Spells front item → text ≡ front ++ (b ∷ bs) → one_ends b ≡ true → ((rest : List ℕ) → length rest < n → Several rest) → Several text
       by_byte true front item b bs e h parts stops ih = more_found text front bs item h (parts ∙ ap (λ (c : ℕ). front ++ (c ∷ bs)) (eqb-true b between e)) (ih bs (shorter n text front b bs lt parts))
       by_byte false front item b bs e h parts stops ih = last_found text front (b ∷ bs) item h parts (ends.last b stops e)
+
       by_rest : (front : List ℕ) (item : X) (rest : List ℕ) → Spells front item → text ≡ front ++ rest → Meets one_ends rest → ((rest : List ℕ) → length rest < n → Several rest) → Several text
       by_rest front item [] h parts stops ih = last_found text front [] item h parts tt
       by_rest front item (b ∷ bs) h parts stops ih = by_byte (eqb b between) front item b bs refl h parts stops ih
+
       by_one : Found Spells one_ends text ⊎ ((fault : Fault) × Faulty text fault) → ((rest : List ℕ) → length rest < n → Several rest) → Several text
       by_one (inl found) ih = by_rest found.front found.item found.rest found.spelled found.parts found.stops ih
       by_one (inr (fault, f)) ih = inr (fault, record { lead = []; items = []; rest = text; is_lead = refl; parts = refl; faulty = f })
@@ -129,5 +131,5 @@ module _ {X : Type 0} (Spells : List ℕ → X → Type 0) (one_ends several_end
     cases = λ text. joined_cases (suc (length text)) text (omega arith);
     again = λ front items rest h stops. joined_again items (suc (length (front ++ rest))) front rest (omega arith) h stops;
     refused = λ text fault f.
-      ap (λ (t : List ℕ). joined_at between one (suc (length t)) t) f.parts ∙ joined_refused f.items (suc (length (f.lead ++ f.rest))) f.lead f.rest fault (omega arith) f.is_lead f.faulty;
+        ap (λ (t : List ℕ). joined_at between one (suc (length t)) t) f.parts ∙ joined_refused f.items (suc (length (f.lead ++ f.rest))) f.lead f.rest fault (omega arith) f.is_lead f.faulty;
   }

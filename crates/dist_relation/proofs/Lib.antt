@@ -11,3 +11,4 @@ pub mod ThreeKinds
 pub mod Starts
 pub mod Loops
 pub mod Canon
+pub mod FaultExamples

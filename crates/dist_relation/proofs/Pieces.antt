@@ -1,13 +1,13 @@
 -- The reader of a piece, which is white space alone or one item, and the reader of a value, which is pieces with commas between them.
-use Rattle.std.proofs.Common.{◌≡◌, ℕ, zero, suc, Bool, true, false, true≢false, ◌⊎◌, inl, inr, eqb, cond, List, [], ◌∷◌, ◌++◌, length, refl, sym, ap, ◌∙◌, subst, append-nil, Option, None, Some}
+use Rattle.std.proofs.Common.{◌≡◌, ℕ, suc, Bool, true, false, true≢false, ◌⊎◌, inl, inr, cond, List, [], ◌∷◌, ◌++◌, length, refl, sym, ap, ◌∙◌, subst, append-nil, Option, None, Some}
 use Rattle.std.specs.List.{filter_map, take_while}
 use Rattle.std.specs.Prelude.{Result, Ok, Err}
 use Rattle.dist_relation.specs.declared.error.Fault.{Fault}
 use Rattle.dist_relation.specs.Bytes.{is_space, is_comma, comma, IsBlank, Meets, Stops}
-use Rattle.dist_relation.specs.Grammar.{Joined, Ended, SpellsPiece, Reads}
+use Rattle.dist_relation.specs.Grammar.{Joined, SpellsPiece, Reads}
 use Rattle.dist_relation.specs.Faults.{PassedOver}
-use Rattle.dist_relation.specs.Reading.{◌>>=◌, past, skip, ends_piece, piece_at, joined_at, items_of}
-use Rattle.dist_relation.proofs.Runs.{past-append, take_while-past, take_while_all, past_stops}
+use Rattle.dist_relation.specs.Reading.{◌>>=◌, skip, ends_piece, piece_at, joined_at, items_of}
+use Rattle.dist_relation.proofs.Runs.{past-append, take_while-past, take_while_all}
 use Rattle.dist_relation.proofs.ByteFacts.{Stops-meets, fails_at}
 use Rattle.dist_relation.proofs.Heads.{done}
 use Rattle.dist_relation.proofs.Joining.{Found, Reader, EndsBetween, JoinedFaulty, joined_reader}
@@ -71,6 +71,7 @@ module _ {X : Type 0} (Spells : List ℕ → X → Type 0) (Faulty : List ℕ �
       by_item : (ends_piece (skip text) ≡ false) → Found Spells is_comma text ⊎ ((fault : Fault) × Faulty text fault) → Found (SpellsPiece Spells) is_comma text ⊎ ((fault : Fault) × PieceFaulty Faulty text fault)
       by_item e (inl f) = inl (record { front = f.front; item = Some f.item; rest = f.rest; spelled = f.spelled; parts = f.parts; stops = f.stops })
       by_item e (inr (fault, f)) = inr (fault, record { not_passed_over = λ p. true≢false (sym (ends_passed text p) ∙ e); faulty = f })
+
       by_test : (t : Bool) → ends_piece (skip text) ≡ t → Found (SpellsPiece Spells) is_comma text ⊎ ((fault : Fault) × PieceFaulty Faulty text fault)
       by_test true e =
           let p = passed_over text e in
@@ -80,9 +81,9 @@ module _ {X : Type 0} (Spells : List ℕ → X → Type 0) (Faulty : List ℕ �
   not_passed : (front : List ℕ) (item : X) (rest : List ℕ) → Spells front item → Meets is_comma rest → ends_piece (skip (front ++ rest)) ≡ false
   not_passed front item rest h stops =
       false_from (ends_piece (skip (front ++ rest))) (λ e.
-        let refused = needed (front ++ rest) (passed_over (front ++ rest) e) in
-        let clash : done item rest ≡ Err refused.0 = sym (reader.again front item rest h stops) ∙ refused.1 in
-        absurd cc)
+      let refused = needed (front ++ rest) (passed_over (front ++ rest) e) in
+      let clash : done item rest ≡ Err refused.0 = sym (reader.again front item rest h stops) ∙ refused.1 in
+      absurd cc)
 
   piece_again : (front : List ℕ) (piece : Option X) (rest : List ℕ) → SpellsPiece Spells front piece → Meets is_comma rest → piece_at one (front ++ rest) ≡ done piece rest
   piece_again front None rest h stops =

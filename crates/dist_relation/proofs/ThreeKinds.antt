@@ -1,8 +1,8 @@
 -- The three kinds of values: what is read is spelled, what is refused has that first fault, and each value has one answer.
-use Rattle.std.proofs.Common.{◌≡◌, ◌≢◌, ℕ, zero, suc, ◌-◌, Bool, true, false, true≢false, ◌||◌, ◌&&◌, ◌⊎◌, inl, inr, eqb, cond, List, [], ◌∷◌, ◌++◌, length, length-append, ◌≤◌, arith, refl, sym, ap, ◌∙◌, subst, append-nil, Option, None, Some}
-use Rattle.std.specs.List.{filter_map, take_while}
+use Rattle.std.proofs.Common.{◌≡◌, ◌≢◌, ℕ, suc, ◌-◌, Bool, true, false, true≢false, ◌||◌, ◌&&◌, ◌⊎◌, inl, inr, eqb, List, [], ◌∷◌, ◌++◌, length, length-append, ◌≤◌, arith, refl, sym, ap, ◌∙◌, subst, Option, None, Some}
+use Rattle.std.specs.List.{take_while}
 use Rattle.std.specs.Char.{is_ascii_alphanumeric}
-use Rattle.std.specs.Prelude.{Result, Ok, Err, IsTrue}
+use Rattle.std.specs.Prelude.{Result, Ok, Err}
 use Rattle.dist_relation.specs.declared.atom.Atom.{Atom}
 use Rattle.dist_relation.specs.declared.atom.Bound.{Bound}
 use Rattle.dist_relation.specs.declared.atom.Kind.{Kind}
@@ -20,10 +20,10 @@ use Rattle.dist_relation.specs.declared.error.RelationError.TheVariants as error
 use Rattle.dist_version.specs.declared.error.VersionError.{VersionError}
 use Rattle.dist_version.proofs.Laws.{no_memory_fault}
 use Rattle.dist_relation.specs.declared.error.RelationError.{RelationError}
-use Rattle.dist_relation.specs.Bytes.{is_space, is_word_byte, is_comma, comma, bar, IsBlank, Meets, Stops}
-use Rattle.dist_relation.specs.Grammar.{allows_operator, SpellsBounded, SpellsAtom, Closed, Joined, Ended, SpellsPiece, Reads, SpellsAlternatives, atom_of, SpellsProvide, ReadsDepends, ReadsAtoms, ReadsProvides}
-use Rattle.dist_relation.specs.Faults.{NameMissing, AfterAtom, Has, Comes, PassedOver, allows_bar, error_at, FirstFault, FirstDependsFault, FirstAtomsFault, FirstProvidesFault, HasOneAnswer}
-use Rattle.dist_relation.specs.Reading.{◌>>=◌, Fails, FitsIn, error_in, atom_at, joined_at, alternatives_at, version_of, provide_of, provide_at, items_of}
+use Rattle.dist_relation.specs.Bytes.{is_space, is_word_byte, is_comma, comma, bar, Meets}
+use Rattle.dist_relation.specs.Grammar.{allows_operator, SpellsBounded, SpellsAtom, Closed, Ended, SpellsPiece, Reads, SpellsAlternatives, atom_of, SpellsProvide}
+use Rattle.dist_relation.specs.Faults.{NameMissing, AfterAtom, Has, Comes, PassedOver, allows_bar, error_at, FirstFault, HasOneAnswer}
+use Rattle.dist_relation.specs.Reading.{◌>>=◌, Fails, FitsIn, error_in, atom_at, joined_at, alternatives_at, provide_of, provide_at, items_of}
 use Rattle.dist_relation.proofs.ByteFacts.{or_true, or_cases, Stops-meets, fails_at}
 use Rattle.dist_relation.proofs.Heads.{done}
 use Rattle.dist_relation.proofs.AtomReading.{ends_atom, atom_again, atom_refused}
@@ -177,6 +177,7 @@ provide_reader =
     single =
         refusing (SpellsAtom kinds.Provides) is_comma (AtomFaulty kinds.Provides) (ItemFaulty kinds.Provides) (atom_at kinds.Provides) (single_to kinds.Provides) (λ text fault h. single_from kinds.Provides text fault refl h)
         (ending_at (SpellsAtom kinds.Provides) (ends_atom kinds.Provides) is_comma (AtomFaulty kinds.Provides) (atom_at kinds.Provides) comma_alone (λ b h. or_true (eqb b comma) _ h) (atom_reader kinds.Provides))
+
     by_cases : (text : List ℕ) → Found (SpellsAtom kinds.Provides) is_comma text ⊎ ((fault : Fault) × ItemFaulty kinds.Provides text fault) → Found SpellsProvide is_comma text ⊎ ((fault : Fault) × ItemFaulty kinds.Provides text fault)
     by_cases text (inl f) = inl (record { front = f.front; item = provide_of f.item; rest = f.rest; spelled = provide_bound f.front f.item.name f.item.qualifier f.item.bound f.spelled; parts = f.parts; stops = f.stops })
     by_cases text (inr f) = inr f
@@ -236,10 +237,20 @@ module _ {X : Type 0} (kind : Kind) (Spells : List ℕ → X → Type 0) (one : 
   first_fault value fault h =
       let i = h.faulty.faulty in
       record {
-        before = h.lead; pieces = h.items; alternatives = i.alternatives; atoms = i.atoms; text = i.rest; here = i.faulty.here; problem = i.faulty.problem;
-        parts = h.parts ∙ ap (λ (t : List ℕ). h.lead ++ t) i.parts; is_before = h.is_lead;
+        before = h.lead;
+        pieces = h.items;
+        alternatives = i.alternatives;
+        atoms = i.atoms;
+        text = i.rest;
+        here = i.faulty.here;
+        problem = i.faulty.problem;
+        parts = h.parts ∙ ap (λ (t : List ℕ). h.lead ++ t) i.parts;
+        is_before = h.is_lead;
         not_passed_over = subst (λ (t : List ℕ). PassedOver t → ⊥) i.parts h.faulty.not_passed_over;
-        is_alternatives = i.is_alternatives; barred = i.barred; has = i.faulty.has; is_error = ap (placed value) i.faulty.is_fault;
+        is_alternatives = i.is_alternatives;
+        barred = i.barred;
+        has = i.faulty.has;
+        is_error = ap (placed value) i.faulty.is_fault;
       }
 
   fault_of_first : (value : List ℕ) (error : RelationError) → FirstFault kind Spells value error → (fault : Fault) × Faulty value fault × (error ≡ placed value fault)
@@ -272,16 +283,15 @@ module _ {X : Type 0} (kind : Kind) (Spells : List ℕ → X → Type 0) (one : 
         not_both = λ items error h f. let g = fault_of_first value error f in let clash = sym (laws.again value items h) ∙ laws.refused value g.0 g.1 in absurd cc;
         one_reading = λ first second h k. cc (laws.again value first h, laws.again value second k);
         one_fault = λ first second f g.
-          let a = fault_of_first value first f in
-          let b = fault_of_first value second g in
-          let same : a.0 ≡ b.0 = cc (laws.refused value a.0 a.1, laws.refused value b.0 b.1) in
-          a.2 ∙ ap (placed value) same ∙ sym b.2;
+            let a = fault_of_first value first f in
+            let b = fault_of_first value second g in
+            let same : a.0 ≡ b.0 = cc (laws.refused value a.0 a.1, laws.refused value b.0 b.1) in
+            a.2 ∙ ap (placed value) same ∙ sym b.2;
       }
     where
       by_cases : ((items : List X) × Reads Spells value items) ⊎ ((fault : Fault) × Faulty value fault) → ((items : List X) × Reads Spells value items) ⊎ ((error : RelationError) × FirstFault kind Spells value error)
       by_cases (inl h) = inl h
       by_cases (inr (fault, h)) = inr (placed value fault, first_fault value fault h)
-
 
   -- what is left from the fault on is no more than the value
   pub value_left : (value : List ℕ) (fault : Fault) → items_of one value ≡ Err fault → fault.left ≤ length value

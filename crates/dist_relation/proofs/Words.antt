@@ -1,25 +1,23 @@
 -- The readers of an operator and of a version give them, or the faults of missing ones.
-use Rattle.std.proofs.Common.{◌≡◌, ℕ, ◌<◌, Bool, true, false, true≢false, ◌||◌, ◌&&◌, ◌⊎◌, inl, inr, eqb, cond, List, [], ◌∷◌, ◌++◌, length, refl, sym, ap, ◌∙◌, subst, append_assoc, length-append, Option, None, Some, arith}
+use Rattle.std.proofs.Common.{◌≡◌, ℕ, ◌<◌, Bool, true, false, ◌||◌, ◌&&◌, ◌⊎◌, inl, inr, eqb, cond, List, [], ◌∷◌, ◌++◌, length, refl, sym, ap, ◌∙◌, subst, length-append, Option, None, Some, arith}
 use Rattle.std.specs.Int.{is_in_range}
 use Rattle.std.specs.Char.{is_ascii_alphanumeric, is_ascii_digit}
 use Rattle.std.specs.List.{list_all, take_while}
-use Rattle.std.specs.Prelude.{Result, Ok, Err, IfSome, not, codes, IsTrue}
+use Rattle.std.specs.Prelude.{Ok, IfSome, not, IsTrue}
 use Rattle.std.proofs.lemmas.Bool.{eqb-true}
 use Rattle.std.proofs.lemmas.List.Folds.{list_all-append}
-use Rattle.dist_version.specs.Spelling.{IsVersion, Spells, SpellsEpoch, IsMadeOf, revision_text, is_upstream_byte, is_revision_byte}
+use Rattle.dist_version.specs.Spelling.{IsVersion, SpellsEpoch, IsMadeOf, revision_text, is_upstream_byte, is_revision_byte}
 use Rattle.dist_version.specs.Faults.{fault_of}
 use Rattle.dist_version.specs.declared.error.VersionError.{VersionError}
 use Rattle.dist_version.proofs.Laws.{version_from_no_fault, no_fault_from_version}
 use Rattle.dist_relation.specs.declared.atom.Kind.{Kind}
 use Rattle.dist_relation.specs.declared.atom.Op.{Op}
 use Rattle.dist_relation.specs.declared.atom.Op.TheVariants.{Lt, Le, Eq, Ge, Gt}
-use Rattle.dist_relation.specs.declared.error.Fault.{Fault}
-use Rattle.dist_relation.specs.declared.error.Problem.{Problem}
 use Rattle.dist_relation.specs.declared.error.Problem.TheVariants.{BadOp, BadVersion, OpInProvides}
-use Rattle.dist_relation.specs.Bytes.{is_space, is_operator_byte, is_word_byte, opening, closing, comma, bar, IsBlank, Meets, Stops}
-use Rattle.dist_relation.specs.Grammar.{allows_operator, operator_text, SpellsOperator}
-use Rattle.dist_relation.specs.Reading.{◌>>=◌, refuse, past, skip, operator_of, operator_found, operator_at, version_found, version_at}
-use Rattle.dist_relation.proofs.Runs.{both_true, true_both, take_while-append, past-append, take_while-past, take_while_all, past_stops}
+use Rattle.dist_relation.specs.Bytes.{is_space, is_operator_byte, is_word_byte, opening, closing, comma, bar, Stops}
+use Rattle.dist_relation.specs.Grammar.{allows_operator, SpellsOperator}
+use Rattle.dist_relation.specs.Reading.{refuse, past, operator_of, operator_found, operator_at, version_found, version_at}
+use Rattle.dist_relation.proofs.Runs.{both_true, true_both, take_while-append, past-append, take_while-past, past_stops}
 use Rattle.dist_relation.proofs.ByteFacts.{or_false, or_true, or_cases, not_at, no_space}
 use Rattle.dist_relation.proofs.Heads.{done, ok_pair}
 
@@ -135,12 +133,12 @@ revision_is_upstream b h =
     elim (or_cases (is_ascii_alphanumeric b) _ h) [
       | inl e ↦ or_true (is_ascii_alphanumeric b) _ e
       | inr e ↦ elim (or_cases (eqb 46 b) _ e) [
-          | inl f ↦ ap is_upstream_byte (sym (eqb-true 46 b f))
-          | inr f ↦ elim (or_cases (eqb 43 b) _ f) [
-              | inl g ↦ ap is_upstream_byte (sym (eqb-true 43 b g))
-              | inr g ↦ elim (or_cases (eqb 126 b) false g) [ inl i ↦ ap is_upstream_byte (sym (eqb-true 126 b i)) | inr i ↦ absurd cc ]
-            ]
+        | inl f ↦ ap is_upstream_byte (sym (eqb-true 46 b f))
+        | inr f ↦ elim (or_cases (eqb 43 b) _ f) [
+          | inl g ↦ ap is_upstream_byte (sym (eqb-true 43 b g))
+          | inr g ↦ elim (or_cases (eqb 126 b) false g) [ inl i ↦ ap is_upstream_byte (sym (eqb-true 126 b i)) | inr i ↦ absurd cc ]
         ]
+      ]
     ]
 
 epoch_all : (front : List ℕ) (epoch : ℕ) → SpellsEpoch front epoch → list_all is_upstream_byte front ≡ true
@@ -166,9 +164,9 @@ upstream_is_word : (b : ℕ) → is_upstream_byte b ≡ true → is_word_byte b 
 upstream_is_word b h =
     let space : is_space b ≡ false = no_space is_upstream_byte b refl refl refl h in
     let mark : (eqb b opening || eqb b closing || eqb b comma || eqb b bar) ≡ false =
-        or_false (eqb b opening || eqb b closing || eqb b comma) (eqb b bar)
-        (or_false (eqb b opening || eqb b closing) (eqb b comma) (or_false (eqb b opening) (eqb b closing) (not_at is_upstream_byte b opening h refl) (not_at is_upstream_byte b closing h refl)) (not_at is_upstream_byte b comma h refl))
-        (not_at is_upstream_byte b bar h refl) in
+    or_false (eqb b opening || eqb b closing || eqb b comma) (eqb b bar)
+    (or_false (eqb b opening || eqb b closing) (eqb b comma) (or_false (eqb b opening) (eqb b closing) (not_at is_upstream_byte b opening h refl) (not_at is_upstream_byte b closing h refl)) (not_at is_upstream_byte b comma h refl))
+    (not_at is_upstream_byte b bar h refl) in
     ap not (or_false (is_space b) (eqb b opening || eqb b closing || eqb b comma || eqb b bar) space mark)
 
 pub version_words : (text : List ℕ) → IsVersion text → list_all is_word_byte text ≡ true

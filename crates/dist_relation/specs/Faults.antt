@@ -1,6 +1,6 @@
 -- The first fault of a value that is no relation: everything before its place is a correct start, and the value doesn't go on from there as it must.
 -- Names, operators and versions are the longest runs of their bytes, and white space is skipped.
-use Rattle.std.specs.Prelude.{◌≡◌, ◌≢◌, ◌⊎◌, ℕ, ◌-◌, Bool, true, false, ◌||◌, ◌==◌, List, [], ◌∷◌, ◌++◌, length, take_while, Option, None, Some, IsTrue}
+use Rattle.std.specs.Prelude.{◌≡◌, ◌≢◌, ◌⊎◌, ℕ, ◌-◌, Bool, true, false, ◌||◌, ◌==◌, List, [], ◌∷◌, ◌++◌, length, take_while, Option, Some}
 use Rattle.std.specs.Char.{is_ascii_alphanumeric}
 use Rattle.dist_version.specs.Faults.{fault_of}
 use Rattle.dist_version.specs.declared.error.VersionError.{VersionError}
@@ -10,14 +10,13 @@ use Rattle.dist_relation.specs.declared.atom.Bound.{Bound}
 use Rattle.dist_relation.specs.declared.atom.Kind.{Kind}
 use Rattle.dist_relation.specs.declared.atom.Kind.TheVariants as kinds
 use Rattle.dist_relation.specs.declared.atom.Op.{Op}
-use Rattle.dist_relation.specs.declared.atom.Provide.{Provide}
 use Rattle.dist_relation.specs.declared.atom.Qualifier.{Qualifier}
 use Rattle.dist_relation.specs.declared.atom.Qualifier.TheVariants.{Plain, Named}
 use Rattle.dist_relation.specs.declared.error.Problem.{Problem}
 use Rattle.dist_relation.specs.declared.error.Problem.TheVariants.{BadName, BadOp, BadVersion, Unclosed, BarNotAllowed, Trailing, OpInProvides}
 use Rattle.dist_relation.specs.declared.error.RelationError.{RelationError}
 use Rattle.dist_relation.specs.declared.error.RelationError.TheVariants as errors
-use Rattle.dist_relation.specs.Bytes.{is_space, is_name_byte, is_operator_byte, is_word_byte, is_comma, is_colon, is_opening, is_closing, IsBlank, IsName, Meets, Stops, colon, closing, comma, bar}
+use Rattle.dist_relation.specs.Bytes.{is_space, is_name_byte, is_operator_byte, is_word_byte, is_comma, is_colon, is_opening, is_closing, IsBlank, Meets, Stops, colon, closing, comma, bar}
 use Rattle.dist_relation.specs.Grammar.{allows_operator, SpellsOperator, Head, Opened, Compared, Versioned, SpellsAtom, SpellsAlternatives, SpellsProvide, SpellsPiece, Ended}
 
 -- ---- what an atom may lack: the text is the value from the atom on, and the fault stands where `here` begins

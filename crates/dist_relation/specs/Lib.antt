@@ -4,3 +4,4 @@ pub mod Faults
 pub mod Reading
 pub mod Canonical
 pub mod Written
+pub mod Examples

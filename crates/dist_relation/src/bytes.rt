@@ -59,7 +59,9 @@ fn name_length(text: &[u8]) -> usize
 fn operator_length(text: &[u8]) -> usize
     ensures { result ≡ length (take_while is_operator_byte text.now) }
 {
-    text.iter().take_while(|byte| is_operator_byte(**byte)).count()
+    text.iter()
+        .take_while(|byte| is_operator_byte(**byte))
+        .count()
 }
 
 fn word_length(text: &[u8]) -> usize

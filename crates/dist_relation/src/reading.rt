@@ -144,11 +144,7 @@ fn check_end(kind: Kind, text: &[u8]) -> Result<(), ReadError>
 
 /// An atom and the white space round it.
 #[tactic(auto, unfolding(crate::specs::Reading::atom_at))]
-pub(crate) fn atom_of(
-    alloc: Global,
-    kind: Kind,
-    text: &[u8],
-) -> Result<(Atom, &[u8]), ReadError>
+pub(crate) fn atom_of(alloc: Global, kind: Kind, text: &[u8]) -> Result<(Atom, &[u8]), ReadError>
     ensures { Gives (λ x. (x.0, x.1.now)) result (atom_at kind text.now) }
 {
     let (name, qualifier, rest) = head_of(alloc, text)?;

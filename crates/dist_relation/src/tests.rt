@@ -45,7 +45,7 @@ openuniverse (<< 1.0beta3-7)\n\
 python3-numpy (>= 1:1.22.0), python3-numpy-abi9, python3 (<< 3.12), python3 (>= 3.11~), python3:any\n\
 libc6 (>= 2.34), libgcc-s1 (>= 3.0), libstdc++6 (>= 5.2), zlib1g (>= 1:1.1.4)\n\
 debconf (>= 0.5) | debconf-2.0, init-system-helpers (>= 1.54~)\n\
-dpkg (>= 1.15.6~), install-info\n\
+python3-pkg-resources, python3-colorama | python3 (<< 3.5), python3-colorama | python3 (>> 3.5), python3-future, python3-mando (>= 0.6), python3:any\n\
 base-files (<< 11.1) | linux-headers-amd64 | linux-headers-arm64 | linux-headers-generic\n";
 
 /// The canonical text of a Depends value, with commas between the items.
@@ -119,10 +119,7 @@ fn faults_have_their_places(rt: HostRuntime) {
             "a (= 1_2)",
             RelationError::BadVersion(5, VersionError::BadByte(1)),
         ),
-        (
-            "a (>=)",
-            RelationError::BadVersion(5, VersionError::Empty),
-        ),
+        ("a (>=)", RelationError::BadVersion(5, VersionError::Empty)),
         (
             "b, a (>= :1)",
             RelationError::BadVersion(9, VersionError::BadEpoch),

@@ -1,9 +1,8 @@
-use Rattle.std.proofs.Common.{◌≡◌, ◌<◌, ◌≤◌, List, ℕ, length, ap, subst, arith, Option, ◌∷◌, ◌∙◌, sym}
-use Rattle.std.specs.Prelude.{Ok}
+use Rattle.std.proofs.Common.{◌≡◌, ◌≤◌, length, ap, arith, ◌∷◌, ◌∙◌}
 use Rattle.std.proofs.lemmas.Result.{err_from_is_err_and}
 use Rattle.dist_relation.specs.Bytes.{comma}
 use Rattle.dist_relation.specs.Reading.{piece_at, items_of}
-use Rattle.dist_relation.proofs.Loops.{piece_done, entries_start, entries_more, entries_last, entries_fail, piece_shorter, with_entries}
+use Rattle.dist_relation.proofs.Loops.{piece_done, entries_start, entries_more, entries_last, entries_fail, piece_shorter}
 use Rattle.dist_relation.proofs.values.entries_of.Goals as goal
 
 pub loop-entries-init : goal.loop-entries-init
