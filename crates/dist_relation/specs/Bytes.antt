@@ -50,7 +50,7 @@ is_closing b = b == closing
 abbrev pub IsBlank : List ℕ → Type 0
 IsBlank text = IsTrue (list_all is_space text)
 
--- a letter or a digit, and then bytes of names
+-- a letter or a digit, and then bytes of names; no bytes are no name
 abbrev pub IsName : List ℕ → Type 0
 IsName [] = IsTrue false
 IsName (b ∷ bs) = IsTrue (is_ascii_alphanumeric b && list_all is_name_byte bs)

@@ -1,5 +1,5 @@
--- The first fault of a value that is no relation: everything before its place is a correct start, and the value doesn't go on from there as it must.
--- Names, operators and versions are the longest runs of their bytes, and white space is skipped.
+-- The first fault of a value that is no relation, which is this project's own rule: everything before its place is a correct start by the grammar, and the value doesn't go on from there as it must.
+-- Names, operators and versions are the longest runs of their bytes, and white space is skipped: so `Stops` says that a run couldn't be longer.
 use Rattle.std.specs.Prelude.{◌≡◌, ◌≢◌, ◌⊎◌, ℕ, ◌-◌, Bool, true, false, ◌||◌, ◌==◌, List, [], ◌∷◌, ◌++◌, length, take_while, Option, Some}
 use Rattle.std.specs.Char.{is_ascii_alphanumeric}
 use Rattle.dist_version.specs.Faults.{fault_of}
@@ -167,10 +167,12 @@ error_at OpInProvides place = errors.OpInProvides place
 
 -- The value begins with pieces, each with its comma. The next piece isn't passed over: it begins with atoms, each with its bar, and then an atom has the problem.
 pub record FirstFault {X : Type 0} (kind : Kind) (Spells : List ℕ → X → Type 0) (value : List ℕ) (error : RelationError) : Type 0 where
+  -- what stands before the last comma, and after it before the last bar
   pub before : List ℕ
   pub pieces : List (Option X)
   pub alternatives : List ℕ
   pub atoms : List Atom
+  -- the value from the atom on, and from the fault on
   pub text : List ℕ
   pub here : List ℕ
   pub problem : Problem
