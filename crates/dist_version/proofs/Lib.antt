@@ -1,6 +1,7 @@
 pub mod Cuts
 pub mod Digits
 pub mod Laws
+pub mod Lighter
 pub mod Steps
 pub mod Then
 pub mod Total

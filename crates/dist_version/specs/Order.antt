@@ -1,5 +1,5 @@
 -- The order of versions, by Debian Policy 5.6.12, stated by weights: a part of a version becomes a list of whole numbers, and the first difference decides.
-use Rattle.std.specs.Prelude.{◌≡◌, ℕ, zero, suc, ◌+◌, ◌==◌, not, List, [], ◌∷◌, ◌++◌, length, map, drop, ℤ, pos, negsuc, slice_index_or, if◌then◌else◌}
+use Rattle.std.specs.Prelude.{◌≡◌, ℕ, zero, suc, ◌+◌, ◌<◌, ◌<ℤ◌, ◌==◌, not, List, [], ◌∷◌, ◌++◌, length, map, drop, ℤ, pos, negsuc, slice_index_or, if◌then◌else◌}
 use Rattle.std.specs.declared.cmp.Ordering.{Ordering}
 use Rattle.std.specs.declared.cmp.Ordering.TheVariants.{Less, Equal}
 use Rattle.std.specs.Char.{is_ascii_digit, is_ascii_alphabetic}
@@ -33,7 +33,7 @@ abbrev pub turns : ℕ → List ℕ → List ℤ
 turns zero part = []
 turns (suc n) part = map weight_of (text_start part) ++ pos 0 ∷ pos (digits_value 10 (digit_start (after_text part))) ∷ turns n (after_turn part)
 
--- The weights of a part, which ends after at most as many turns as it has bytes.
+-- The weights of a part: as many turns as it has bytes reach its end, and the turns past the end give zeros alone.
 unfoldable pub weights_of : List ℕ → List ℤ
 weights_of part = turns (length part) part
 
@@ -48,6 +48,12 @@ weights_cmp [] (y ∷ ys) = ordering_then (int_cmp (pos 0) y) (weights_cmp [] ys
 weights_cmp (x ∷ xs) [] = ordering_then (int_cmp x (pos 0)) (weights_cmp xs [])
 weights_cmp (x ∷ xs) (y ∷ ys) = ordering_then (int_cmp x y) (weights_cmp xs ys)
 
+-- At the first place where the two differ, xs has the lesser weight.
+pub record IsLighter (xs ys : List ℤ) : Type 0 where
+  pub place : ℕ
+  pub before : (k : ℕ) → k < place → weight_at xs k ≡ weight_at ys k
+  pub less : weight_at xs place <ℤ weight_at ys place
+
 -- the order of two upstream versions, or of two revisions
 unfoldable pub part_cmp : List ℕ → List ℕ → Ordering
 part_cmp a b = weights_cmp (weights_of a) (weights_of b)
@@ -59,5 +65,6 @@ version_cmp a b =
     (ordering_then (part_cmp (upstream_of a) (upstream_of b))
     (part_cmp (unwrap_or (revision_of a) []) (unwrap_or (revision_of b) [])))
 
+-- a is below b
 abbrev pub IsBelow : List ℕ → List ℕ → Type 0
 IsBelow a b = version_cmp a b ≡ Less

@@ -6,7 +6,7 @@ ghost use Rattle.std.specs.Cmp.{IsTotalOrder};
 ghost use Rattle.std.specs.Option.{option_copied};
 ghost use Rattle.dist_version.specs.Spelling.{Parts, Spells, IsVersion, parts_of, epoch_of, upstream_of, revision_of};
 ghost use Rattle.dist_version.specs.Faults.{fault_of};
-ghost use Rattle.dist_version.specs.Order.{version_cmp, IsBelow};
+ghost use Rattle.dist_version.specs.Order.{weights_of, IsLighter, part_cmp, version_cmp, IsBelow};
 ghost use Rattle.dist_version.specs.Kept.{Keeps};
 
 mod error;
@@ -91,6 +91,9 @@ impl Version {
     /// Compares two versions. Equal versions may differ in their texts, as `1.0` and `0:1.00-0` do.
     pub fn compare(&self, other: &Version) -> Ordering
         ensures order { result ≡ version_cmp self.now other.now }
+
+        // Of two upstream versions or revisions the first difference of their weights decides, with zeros past the end.
+        ensures weights { (a b : List ℕ) → (part_cmp a b ≡ Ordering.Less) ↔ IsLighter (weights_of a) (weights_of b) }
 
         // The order is total and transitive, and versions that are equal compare alike with every other.
         ensures total { IsTotalOrder version_cmp }

@@ -1,5 +1,6 @@
 use Rattle.std.proofs.Common.{sym, ◌∙◌}
 use Rattle.std.proofs.lemmas.Slice.Eq.{bytes_eq-Decides}
+use Rattle.dist_version.proofs.Lighter.{lighter_parts}
 use Rattle.dist_version.proofs.Total.{version_total, version_cmp-same, equal_where_neither_below}
 use Rattle.dist_version.proofs.Version.compare.Goals as goal
 
@@ -21,3 +22,9 @@ returns-else-eq-clause-total c = version_total
 
 pub returns-else-eq-clause-equal : goal.returns-else-eq-clause-equal
 returns-else-eq-clause-equal c = equal_where_neither_below c.args.self.now c.args.other.now c.compare_by_parts.result c.compare_by_parts.ensures
+
+pub returns-then-eq-clause-weights : goal.returns-then-eq-clause-weights
+returns-then-eq-clause-weights c = lighter_parts
+
+pub returns-else-eq-clause-weights : goal.returns-else-eq-clause-weights
+returns-else-eq-clause-weights c = lighter_parts

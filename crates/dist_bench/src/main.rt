@@ -1,0 +1,16 @@
+// Does one job of a library over standard input, for the measurements of bench/. The first word says which.
+#![tactic(auto)]
+
+mod versions;
+
+use anyhow::{Result, bail};
+use std::{env, io};
+
+fn main(rt: HostRuntime) -> Result<()> {
+    let job = env::args(&rt)?.nth(1);
+    let text = io::read_to_string(rt.alloc(), rt.reader())?;
+    match job.as_ref().map(|word| word.as_str()) {
+        Some("sort-versions") => versions::print_sorted(&rt, text.as_bytes()),
+        _ => bail!("the first word is no job"),
+    }
+}
