@@ -1,0 +1,14 @@
+pub mod Runs
+pub mod ByteFacts
+pub mod Heads
+pub mod Words
+pub mod Bounds
+pub mod AtomReading
+pub mod AtomCases
+pub mod Joining
+pub mod Pieces
+pub mod ThreeKinds
+pub mod Starts
+pub mod Loops
+pub mod Canon
+pub mod FaultExamples

@@ -1,0 +1,66 @@
+-- The bytes of relation fields: white space, names and operators, by Debian Policy 5.6.1 and 7.1 (this project also allows capital letters and `_` in names).
+use Rattle.std.specs.Prelude.{◌≡◌, ℕ, Bool, false, true, not, ◌&&◌, ◌||◌, ◌==◌, List, [], ◌∷◌, IsTrue}
+use Rattle.std.specs.Char.{is_ascii_alphanumeric}
+use Rattle.std.specs.List.{list_all}
+
+abbrev pub comma : ℕ
+comma = 44
+
+abbrev pub bar : ℕ
+bar = 124
+
+abbrev pub colon : ℕ
+colon = 58
+
+abbrev pub opening : ℕ
+opening = 40
+
+abbrev pub closing : ℕ
+closing = 41
+
+-- space, tab and line feed
+abbrev pub is_space : ℕ → Bool
+is_space b = b == 32 || b == 9 || b == 10
+
+-- letters, digits and + - . _
+abbrev pub is_name_byte : ℕ → Bool
+is_name_byte b = is_ascii_alphanumeric b || (b == 43 || b == 45 || b == 46 || b == 95)
+
+-- < = >
+abbrev pub is_operator_byte : ℕ → Bool
+is_operator_byte b = b == 60 || b == 61 || b == 62
+
+-- a version ends at white space and at ( ) , |
+abbrev pub is_word_byte : ℕ → Bool
+is_word_byte b = not (is_space b || (b == opening || b == closing || b == comma || b == bar))
+
+abbrev pub is_comma : ℕ → Bool
+is_comma b = b == comma
+
+abbrev pub is_colon : ℕ → Bool
+is_colon b = b == colon
+
+abbrev pub is_opening : ℕ → Bool
+is_opening b = b == opening
+
+abbrev pub is_closing : ℕ → Bool
+is_closing b = b == closing
+
+-- white space alone
+abbrev pub IsBlank : List ℕ → Type 0
+IsBlank text = IsTrue (list_all is_space text)
+
+-- a letter or a digit, and then bytes of names; no bytes are no name
+abbrev pub IsName : List ℕ → Type 0
+IsName [] = IsTrue false
+IsName (b ∷ bs) = IsTrue (is_ascii_alphanumeric b && list_all is_name_byte bs)
+
+-- the text is at its end, or goes on with a byte that passes
+abbrev pub Meets : (ℕ → Bool) → List ℕ → Type 0
+Meets test [] = Unit {0}
+Meets test (b ∷ bs) = test b ≡ true
+
+-- the text is at its end, or goes on with a byte that fails
+abbrev pub Stops : (ℕ → Bool) → List ℕ → Type 0
+Stops test [] = Unit {0}
+Stops test (b ∷ bs) = test b ≡ false

@@ -1,0 +1,7 @@
+pub mod Bytes
+pub mod Grammar
+pub mod Faults
+pub mod Reading
+pub mod Canonical
+pub mod Written
+pub mod Examples

@@ -1,0 +1,116 @@
+//! The bytes of relation fields, and the longest starts of them.
+ghost use Rattle.std.specs.Prelude.{◌≡◌, ◌↔◌, ◌∷◌, ◌==◌, IsTrue, MatchOption, length, take_while};
+ghost use Rattle.std.specs.List.{list_all};
+ghost use Rattle.dist_relation.specs.Bytes.{is_space, is_name_byte, is_operator_byte, is_word_byte, IsName, Stops};
+ghost use Rattle.dist_relation.specs.Reading.{past, skip};
+
+fn is_space(byte: u8) -> bool
+    ensures { result ≡ is_space byte }
+{
+    matches!(byte, b' ' | b'\t' | b'\n')
+}
+
+fn is_name_byte(byte: u8) -> bool
+    ensures { result ≡ is_name_byte byte }
+{
+    byte.is_ascii_alphanumeric() || matches!(byte, b'+' | b'-' | b'.' | b'_')
+}
+
+fn is_operator_byte(byte: u8) -> bool
+    ensures { result ≡ is_operator_byte byte }
+{
+    matches!(byte, b'<' | b'=' | b'>')
+}
+
+fn is_word_byte(byte: u8) -> bool
+    ensures { result ≡ is_word_byte byte }
+{
+    !is_space(byte) && !matches!(byte, b'(' | b')' | b',' | b'|')
+}
+
+fn are_name_bytes(bytes: &[u8]) -> bool
+    ensures { result ≡ list_all is_name_byte bytes.now }
+{
+    bytes.iter().all(|byte| is_name_byte(*byte))
+}
+
+/// Whether the bytes are a name.
+pub(crate) fn is_name(bytes: &[u8]) -> bool
+    ensures { IsTrue result ↔ IsName bytes.now }
+{
+    match bytes {
+        [] => false,
+        [first, rest @ ..] => first.is_ascii_alphanumeric() && are_name_bytes(rest),
+    }
+}
+
+fn space_length(text: &[u8]) -> usize
+    ensures { result ≡ length (take_while is_space text.now) }
+{
+    text.iter().take_while(|byte| is_space(**byte)).count()
+}
+
+fn name_length(text: &[u8]) -> usize
+    ensures { result ≡ length (take_while is_name_byte text.now) }
+{
+    text.iter().take_while(|byte| is_name_byte(**byte)).count()
+}
+
+fn operator_length(text: &[u8]) -> usize
+    ensures { result ≡ length (take_while is_operator_byte text.now) }
+{
+    text.iter()
+        .take_while(|byte| is_operator_byte(**byte))
+        .count()
+}
+
+fn word_length(text: &[u8]) -> usize
+    ensures { result ≡ length (take_while is_word_byte text.now) }
+{
+    text.iter().take_while(|byte| is_word_byte(**byte)).count()
+}
+
+/// The text without the white space that it begins with.
+pub(crate) fn skip_space(text: &[u8]) -> &[u8]
+    ensures { result.now ≡ skip text.now }
+{
+    let length = space_length(text);
+    text.split_at(length).1
+}
+
+/// The longest start of a name's bytes, and the rest.
+pub(crate) fn split_name(text: &[u8]) -> (&[u8], &[u8])
+    ensures front { result.0.now ≡ take_while is_name_byte text.now }
+    ensures rest { result.1.now ≡ past is_name_byte text.now }
+{
+    let length = name_length(text);
+    text.split_at(length)
+}
+
+/// The longest start of an operator's bytes, and the rest.
+pub(crate) fn split_operator(text: &[u8]) -> (&[u8], &[u8])
+    ensures front { result.0.now ≡ take_while is_operator_byte text.now }
+    ensures rest { result.1.now ≡ past is_operator_byte text.now }
+{
+    let length = operator_length(text);
+    text.split_at(length)
+}
+
+/// The longest start of bytes that don't end a version, and the rest.
+pub(crate) fn split_word(text: &[u8]) -> (&[u8], &[u8])
+    ensures front { result.0.now ≡ take_while is_word_byte text.now }
+    ensures rest { result.1.now ≡ past is_word_byte text.now }
+{
+    let length = word_length(text);
+    text.split_at(length)
+}
+
+/// The text after the byte that it begins with, if it begins with that byte.
+pub(crate) fn after_byte(text: &[u8], byte: u8) -> Option<&[u8]>
+    ensures { MatchOption result (Stops (λ b. b == byte) text.now) (λ rest. text.now ≡ byte ∷ rest.now) }
+{
+    match text {
+        [first, rest @ ..] if *first == byte => Some(rest),
+        _ => None,
+    }
+}

@@ -1,0 +1,21 @@
+//! Relation fields of Debian packages: what Depends, Conflicts and Provides values spell, by Debian Policy 7.1.
+#![tactic(auto)]
+
+mod atom;
+mod bytes;
+mod error;
+mod lists;
+mod name;
+mod printing;
+mod reading;
+mod values;
+
+pub use atom::{Atom, Bound, Op, Provide, Qualifier, satisfies};
+pub use error::RelationError;
+pub use lists::{Alternatives, Atoms, Items, Provides};
+pub use name::Name;
+pub use printing::print_alternatives;
+pub use values::{read_atoms, read_depends, read_provides};
+
+#[cfg(test)]
+mod tests;

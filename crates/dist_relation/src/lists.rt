@@ -1,0 +1,232 @@
+//! Lists of what relations have, each over a `Vec`.
+ghost use Rattle.std.specs.Prelude.{◌≡◌, ◌<◌, ◌++◌, ℕ, List, length, slice_get, IfOk, OnOk, OnErr};
+
+use crate::atom::{Atom, Provide};
+use std::alloc::AllocError;
+use std::marker::Model;
+
+/// The alternatives of one dependency, at least one.
+#[derive(Debug, Drop)]
+pub struct Alternatives {
+    atoms: Vec<Atom>,
+}
+
+impl Model for Alternatives {
+    ghost use Rattle.std.specs.Prelude.{ℕ, List, ◌<◌, length};
+    ghost use Rattle.dist_relation.specs.declared.atom.Atom.{Atom};
+
+    ghost Value = { List Atom };
+
+    ghost view = { λ list. list.atoms.items };
+
+    ghost invariant = { λ list. 0 < length list.atoms.items };
+}
+
+impl Alternatives {
+    pub(crate) fn from_atoms(atoms: Vec<Atom>) -> Alternatives
+        requires { 0 < length atoms.items }
+        ensures { result ≡ atoms.items }
+    {
+        Alternatives { atoms }
+    }
+
+    pub(crate) fn atoms(&self) -> &[Atom]
+        ensures value { result.now ≡ self.now }
+        ensures some { 0 < length self.now }
+    {
+        self.atoms.as_slice()
+    }
+
+    /// At least one.
+    pub fn len(&self) -> usize
+        ensures value { result ≡ length self.now }
+        ensures some { 0 < length self.now }
+    {
+        self.atoms.len()
+    }
+
+    pub fn get(&self, place: usize) -> &Atom
+        requires { place < length self.now }
+        ensures { slice_get self.now place ≡ Some result.now }
+    {
+        &self.atoms[place]
+    }
+
+    /// The same alternatives, with memory of their own.
+    pub fn try_clone(&self) -> Result<Alternatives, AllocError>
+        ensures { IfOk result (λ list. list ≡ self.now) }
+    {
+        Ok(Alternatives {
+            atoms: clone_atoms(&self.atoms)?,
+        })
+    }
+}
+
+/// Dependencies, of each of which one alternative is wanted.
+#[derive(Debug, Drop)]
+pub struct Items {
+    items: Vec<Alternatives>,
+}
+
+impl Model for Items {
+    ghost use Rattle.std.specs.Prelude.{ℕ, List};
+    ghost use Rattle.dist_relation.specs.declared.atom.Atom.{Atom};
+
+    ghost Value = { List (List Atom) };
+
+    ghost view = { λ list. list.items.items };
+}
+
+impl Items {
+    pub(crate) fn from_vec(items: Vec<Alternatives>) -> Items
+        ensures { result ≡ items.items }
+    {
+        Items { items }
+    }
+
+    pub fn len(&self) -> usize
+        ensures { result ≡ length self.now }
+    {
+        self.items.len()
+    }
+
+    pub fn get(&self, place: usize) -> &Alternatives
+        requires { place < length self.now }
+        ensures { slice_get self.now place ≡ Some result.now }
+    {
+        &self.items[place]
+    }
+
+    /// Adds the dependencies of another list at the end. After an `Err` this list is unchanged, and the other is given up.
+    pub fn append(&mut self, more: Items) -> Result<(), AllocError>
+        ensures ok { OnOk result (self.new ≡ self.old ++ more) }
+        ensures err { OnErr result (self.new ≡ self.old) }
+    {
+        let mut more = more.items;
+        self.items.append(&mut more)
+    }
+
+    /// The same list, with memory of its own.
+    pub fn try_clone(&self) -> Result<Items, AllocError>
+        ensures { IfOk result (λ list. list ≡ self.now) }
+    {
+        let mut items = Vec::with_capacity(*self.items.allocator(), self.items.len())?;
+        for item in &self.items {
+            items.push(item.try_clone()?)?;
+        }
+        Ok(Items { items })
+    }
+}
+
+/// Atoms, as those of a Conflicts field.
+#[derive(Debug, Drop)]
+pub struct Atoms {
+    atoms: Vec<Atom>,
+}
+
+impl Model for Atoms {
+    ghost use Rattle.std.specs.Prelude.{ℕ, List};
+    ghost use Rattle.dist_relation.specs.declared.atom.Atom.{Atom};
+
+    ghost Value = { List Atom };
+
+    ghost view = { λ list. list.atoms.items };
+}
+
+impl Atoms {
+    pub(crate) fn from_vec(atoms: Vec<Atom>) -> Atoms
+        ensures { result ≡ atoms.items }
+    {
+        Atoms { atoms }
+    }
+
+    pub fn len(&self) -> usize
+        ensures { result ≡ length self.now }
+    {
+        self.atoms.len()
+    }
+
+    pub fn get(&self, place: usize) -> &Atom
+        requires { place < length self.now }
+        ensures { slice_get self.now place ≡ Some result.now }
+    {
+        &self.atoms[place]
+    }
+
+    /// Adds the atoms of another list at the end. After an `Err` this list is unchanged, and the other is given up.
+    pub fn append(&mut self, more: Atoms) -> Result<(), AllocError>
+        ensures ok { OnOk result (self.new ≡ self.old ++ more) }
+        ensures err { OnErr result (self.new ≡ self.old) }
+    {
+        let mut more = more.atoms;
+        self.atoms.append(&mut more)
+    }
+
+    /// The same list, with memory of its own.
+    pub fn try_clone(&self) -> Result<Atoms, AllocError>
+        ensures { IfOk result (λ list. list ≡ self.now) }
+    {
+        Ok(Atoms {
+            atoms: clone_atoms(&self.atoms)?,
+        })
+    }
+}
+
+/// Entries of a Provides field.
+#[derive(Debug, Drop)]
+pub struct Provides {
+    provides: Vec<Provide>,
+}
+
+impl Model for Provides {
+    ghost use Rattle.std.specs.Prelude.{ℕ, List};
+    ghost use Rattle.dist_relation.specs.declared.atom.Provide.{Provide};
+
+    ghost Value = { List Provide };
+
+    ghost view = { λ list. list.provides.items };
+}
+
+impl Provides {
+    pub(crate) fn from_vec(provides: Vec<Provide>) -> Provides
+        ensures { result ≡ provides.items }
+    {
+        Provides { provides }
+    }
+
+    pub fn len(&self) -> usize
+        ensures { result ≡ length self.now }
+    {
+        self.provides.len()
+    }
+
+    pub fn get(&self, place: usize) -> &Provide
+        requires { place < length self.now }
+        ensures { slice_get self.now place ≡ Some result.now }
+    {
+        &self.provides[place]
+    }
+
+    /// The same list, with memory of its own.
+    pub fn try_clone(&self) -> Result<Provides, AllocError>
+        ensures { IfOk result (λ list. list ≡ self.now) }
+    {
+        let alloc = *self.provides.allocator();
+        let mut provides = Vec::with_capacity(alloc, self.provides.len())?;
+        for provide in &self.provides {
+            provides.push(provide.copy(alloc)?)?;
+        }
+        Ok(Provides { provides })
+    }
+}
+
+fn clone_atoms(atoms: &Vec<Atom>) -> Result<Vec<Atom>, AllocError>
+    ensures { IfOk result (λ copies. copies.items ≡ atoms.now.items) }
+{
+    let alloc = *atoms.allocator();
+    let mut copies = Vec::with_capacity(alloc, atoms.len())?;
+    for atom in atoms {
+        copies.push(atom.copy(alloc)?)?;
+    }
+    Ok(copies)
+}

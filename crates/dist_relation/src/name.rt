@@ -1,0 +1,67 @@
+//! Names of packages and of qualifiers.
+ghost use Rattle.std.specs.Prelude.{◌≡◌, ◌≢◌, ℕ, List, IfOk, IfErr, OnOk};
+ghost use Rattle.dist_relation.specs.Bytes.{IsName};
+
+use crate::bytes::is_name;
+use crate::error::RelationError;
+use std::alloc::{AllocError, Global};
+use std::marker::Model;
+
+/// A name, seen as its bytes: a letter or a digit, and then letters, digits and `+ - . _`.
+#[derive(Debug, Drop)]
+pub struct Name {
+    bytes: Vec<u8>,
+}
+
+impl Model for Name {
+    ghost use Rattle.std.specs.Prelude.{ℕ, List};
+    ghost use Rattle.dist_relation.specs.Bytes.{IsName};
+
+    ghost Value = { List ℕ };
+
+    ghost view = { λ name. name.bytes.items };
+
+    ghost invariant = { λ name. IsName name.bytes.items };
+}
+
+impl Name {
+    /// Reads a name from exactly these bytes.
+    pub fn read(alloc: Global, bytes: &[u8]) -> Result<Name, RelationError>
+        ensures kept { IfOk result (λ name. name ≡ bytes.now) }
+
+        // Bytes that are a name are accepted and others refused, unless memory runs out.
+        ensures name { OnOk result (IsName bytes.now) }
+        ensures no_name { IfErr result (λ error. error ≢ RelationError.NoMemory → IsName bytes.now → ⊥) }
+        ensures place { IfErr result (λ error. error ≢ RelationError.NoMemory → error ≡ RelationError.BadName 0) }
+    {
+        if !is_name(bytes) {
+            return Err(RelationError::BadName(0));
+        }
+        Ok(Name::from_bytes(alloc, bytes)?)
+    }
+
+    /// The name that these bytes are.
+    pub(crate) fn from_bytes(alloc: Global, bytes: &[u8]) -> Result<Name, AllocError>
+        requires { IsName bytes.now }
+        ensures { IfOk result (λ name. name ≡ bytes.now) }
+    {
+        Ok(Name {
+            bytes: Vec::from_slice(alloc, bytes)?,
+        })
+    }
+
+    /// The bytes, as they were read.
+    pub fn bytes(&self) -> &[u8]
+        ensures value { result.now ≡ self.now }
+        ensures name { IsName self.now }
+    {
+        self.bytes.as_slice()
+    }
+
+    /// The same name, with bytes of its own.
+    pub fn try_clone(&self) -> Result<Name, AllocError>
+        ensures { IfOk result (λ name. name ≡ self.now) }
+    {
+        Name::from_bytes(*self.bytes.allocator(), self.bytes())
+    }
+}
