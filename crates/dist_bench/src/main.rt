@@ -1,6 +1,7 @@
 // Does one job of a library over standard input, for the measurements of bench/. The first word says which.
 #![tactic(auto)]
 
+mod clauses;
 mod relations;
 mod versions;
 
@@ -12,6 +13,7 @@ fn main(rt: HostRuntime) -> Result<()> {
     let text = io::read_to_string(rt.alloc(), rt.reader())?;
     match job.as_ref().map(|word| word.as_str()) {
         Some("count-lines") => relations::print_lines(&rt, text.as_bytes()),
+        Some("fill-clauses") => clauses::print_filled(&rt, text.as_str()),
         Some("read-relations") => relations::print_counts(&rt, text.as_bytes()),
         Some("sort-versions") => versions::print_sorted(&rt, text.as_bytes()),
         _ => bail!("the first word is no job"),
