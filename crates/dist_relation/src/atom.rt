@@ -6,7 +6,7 @@ ghost use Rattle.dist_relation.specs.Faults.{allows_bar};
 
 use crate::name::Name;
 use dist_version::Version;
-use std::alloc::{AllocError, Global};
+use std::alloc::AllocError;
 
 /// How a version is compared with a bound: `<<`, `<=`, `=`, `>=`, `>>`.
 #[derive(Clone, Copy, Debug, PartialEq, Eq)]
@@ -88,12 +88,12 @@ pub fn satisfies(version: &Version, bound: &Bound) -> bool
 }
 
 impl Bound {
-    fn copy(&self, alloc: Global) -> Result<Bound, AllocError>
+    fn copy(&self) -> Result<Bound, AllocError>
         ensures { IfOk result (λ bound. bound ≡ self.now) }
     {
         Ok(Bound {
             op: self.op,
-            version: self.version.try_clone(alloc)?,
+            version: self.version.try_clone()?,
         })
     }
 }
@@ -110,12 +110,12 @@ impl Qualifier {
 }
 
 impl Atom {
-    pub(crate) fn copy(&self, alloc: Global) -> Result<Atom, AllocError>
+    pub(crate) fn copy(&self) -> Result<Atom, AllocError>
         ensures { IfOk result (λ atom. atom ≡ self.now) }
     {
         let bound = match &self.bound {
             None => None,
-            Some(bound) => Some(bound.copy(alloc)?),
+            Some(bound) => Some(bound.copy()?),
         };
         Ok(Atom {
             name: self.name.try_clone()?,
@@ -126,12 +126,12 @@ impl Atom {
 }
 
 impl Provide {
-    pub(crate) fn copy(&self, alloc: Global) -> Result<Provide, AllocError>
+    pub(crate) fn copy(&self) -> Result<Provide, AllocError>
         ensures { IfOk result (λ provide. provide ≡ self.now) }
     {
         let version = match &self.version {
             None => None,
-            Some(version) => Some(version.try_clone(alloc)?),
+            Some(version) => Some(version.try_clone()?),
         };
         Ok(Provide {
             name: self.name.try_clone()?,

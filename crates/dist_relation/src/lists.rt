@@ -214,7 +214,7 @@ impl Provides {
         let alloc = *self.provides.allocator();
         let mut provides = Vec::with_capacity(alloc, self.provides.len())?;
         for provide in &self.provides {
-            provides.push(provide.copy(alloc)?)?;
+            provides.push(provide.copy()?)?;
         }
         Ok(Provides { provides })
     }
@@ -226,7 +226,7 @@ fn clone_atoms(atoms: &Vec<Atom>) -> Result<Vec<Atom>, AllocError>
     let alloc = *atoms.allocator();
     let mut copies = Vec::with_capacity(alloc, atoms.len())?;
     for atom in atoms {
-        copies.push(atom.copy(alloc)?)?;
+        copies.push(atom.copy()?)?;
     }
     Ok(copies)
 }

@@ -124,10 +124,10 @@ impl Version {
     }
 
     /// The same version, with a text of its own.
-    pub fn try_clone(&self, alloc: Global) -> Result<Version, AllocError>
+    pub fn try_clone(&self) -> Result<Version, AllocError>
         ensures { IfOk result (λ version. version ≡ self.now) }
     {
-        let text = Vec::from_slice(alloc, self.text.as_slice())?;
+        let text = Vec::from_slice(*self.text.allocator(), self.text.as_slice())?;
         Ok(Version {
             text,
             places: self.places,

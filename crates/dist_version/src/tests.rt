@@ -155,7 +155,7 @@ fn refuses_by_the_first_fault(rt: HostRuntime) {
 #[test]
 fn keeps_text_and_parts(rt: HostRuntime) -> Result<(), Fail> {
     let version = Version::read(rt.alloc(), b"02147483647:1:0-1-3+b1")?;
-    let copy = version.try_clone(rt.alloc())?;
+    let copy = version.try_clone()?;
     assert_eq!(rt; copy.text(), b"02147483647:1:0-1-3+b1".as_slice());
     assert_eq!(rt; copy.epoch(), 2147483647);
     assert_eq!(rt; copy.upstream(), b"1:0-1".as_slice());
