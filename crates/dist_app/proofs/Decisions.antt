@@ -7,9 +7,10 @@ use Rattle.dist_outside.specs.Reading.{IsFile, IsLonger}
 use Rattle.dist_repo.specs.Healthy.{IsHealthy, members_of}
 use Rattle.dist_repo.specs.declared.package.PlainPackage.{PlainPackage}
 use Rattle.dist_app.specs.PlainPackages.{PlainPackages}
+use Rattle.dist_app.specs.PlainList.{PlainList}
 use Rattle.dist_app.specs.HealthLine.{healthy_line, IsUnmetLine, IsHealthAnswer}
 use Rattle.dist_app.specs.Outcome.{most_bytes, HasText, HasList, HasBadList, HasBoth, HealthDecides}
-use Rattle.dist_app.specs.Stages.{IsTold, OnlyPackages, OnlyBadPackages, OnlyLargePackages, OnlyList, OnlyBadList, OnlyLargeList, PackagesRefused, ListRefused, HealthRefused, OnlyDecides}
+use Rattle.dist_app.specs.Stages.{IsTold, OnlyPackages, OnlyBadPackages, OnlyLargePackages, OnlyList, OnlyBadList, OnlyLargeList, TextRefused, PackagesRefused, ListRefused, HealthRefused, OnlyDecides}
 use Rattle.dist_app.specs.declared.status.Status.{Status}
 use Rattle.dist_app.specs.declared.status.Status.TheVariants.{Done, DoneWithUndecided, BadWords, BadPackages, CertificateRefused, ReadFault, WriteFault, NoMemory, TooLarge, NotHealthy, BadList}
 
@@ -31,32 +32,88 @@ not_longer told name text (files, is) has longer =
     let same : l.0 ≡ text = let second = l.1 in cc in
     omega (arith, l.2, has.small, ap length same)
 
-pub only_packages : (told : Option Files) (name text : List ℕ) (repository : List PlainPackage) → IsFile told name text → length text ≤ most_bytes
+pub only_packages : (told : Option Files) (name text : List ℕ) (repository : List PlainPackage) → HasText told name text
     → PlainPackages text repository → ((other : List PlainPackage) → PlainPackages text other → other ≡ repository) → OnlyPackages told name repository
-only_packages told name text repository file small plain one =
-    let has_text : HasText told name text = record { file = file; small = small } in
-    record {
-      has = record { text = text; has = has_text; plain = plain };
-      one = λ is_told other has.
-          let P : List ℕ → Type 0 = λ t. PlainPackages t other in
-          one other (subst P (same_text told name text has.text is_told file has.has.file) has.plain);
-      not_bad = λ is_told has.
-          let P : List ℕ → Type 0 = λ t. (r : List PlainPackage) → ¬ PlainPackages t r in
-          subst P (same_text told name text has.text is_told file has.has.file) has.none repository plain;
-      not_large = λ is_told. not_longer told name text is_told has_text;
-    }
+only_packages told name text repository has_text plain one = record {
+  has = record { text = text; has = has_text; plain = plain };
+  one = λ is_told other has.
+      let P : List ℕ → Type 0 = λ t. PlainPackages t other in
+      one other (subst P (same_text told name text has.text is_told has_text.file has.has.file) has.plain);
+  not_bad = λ is_told has.
+      let P : List ℕ → Type 0 = λ t. (r : List PlainPackage) → ¬ PlainPackages t r in
+      subst P (same_text told name text has.text is_told has_text.file has.has.file) has.none repository plain;
+  not_large = λ is_told. not_longer told name text is_told has_text;
+}
 
-pub only_bad_packages : (told : Option Files) (name text : List ℕ) → IsFile told name text → length text ≤ most_bytes
+pub only_bad_packages : (told : Option Files) (name text : List ℕ) → HasText told name text
     → ((other : List PlainPackage) → ¬ PlainPackages text other) → OnlyBadPackages told name
-only_bad_packages told name text file small none =
-    let has_text : HasText told name text = record { file = file; small = small } in
-    record {
-      has = record { text = text; has = has_text; none = none };
-      none = λ is_told other has.
-          let P : List ℕ → Type 0 = λ t. PlainPackages t other in
-          none other (subst P (same_text told name text has.text is_told file has.has.file) has.plain);
-      not_large = λ is_told. not_longer told name text is_told has_text;
-    }
+only_bad_packages told name text has_text none = record {
+  has = record { text = text; has = has_text; none = none };
+  none = λ is_told other has.
+      let P : List ℕ → Type 0 = λ t. PlainPackages t other in
+      none other (subst P (same_text told name text has.text is_told has_text.file has.has.file) has.plain);
+  not_large = λ is_told. not_longer told name text is_told has_text;
+}
+
+pub only_list : (told : Option Files) (name text : List ℕ) (repository : List PlainPackage) (members : List Bool) → HasText told name text
+    → PlainList repository text members → ((others : List Bool) → PlainList repository text others → others ≡ members) → OnlyList told name repository members
+only_list told name text repository members has_text plain one = record {
+  has = record { text = text; has = has_text; plain = plain };
+  one = λ is_told others has.
+      let P : List ℕ → Type 0 = λ t. PlainList repository t others in
+      one others (subst P (same_text told name text has.text is_told has_text.file has.has.file) has.plain);
+  not_bad = λ is_told has.
+      let P : List ℕ → Type 0 = λ t. (m : List Bool) → ¬ PlainList repository t m in
+      subst P (same_text told name text has.text is_told has_text.file has.has.file) has.none members plain;
+  not_large = λ is_told. not_longer told name text is_told has_text;
+}
+
+pub only_bad_list : (told : Option Files) (name text : List ℕ) (repository : List PlainPackage) → HasText told name text
+    → ((others : List Bool) → ¬ PlainList repository text others) → OnlyBadList told name repository
+only_bad_list told name text repository has_text none = record {
+  has = record { text = text; has = has_text; none = none };
+  none = λ is_told others has.
+      let P : List ℕ → Type 0 = λ t. PlainList repository t others in
+      none others (subst P (same_text told name text has.text is_told has_text.file has.has.file) has.plain);
+  not_large = λ is_told. not_longer told name text is_told has_text;
+}
+
+-- a file that is too large is neither plain nor bad
+pub packages_text : (told : Option Files) (name : List ℕ) (old new : ℕ) (status : Status) → TextRefused told name old new status
+    → PackagesRefused told name old new status
+packages_text told name old new ReadFault refused = refused
+packages_text told name old new NoMemory refused = tt
+packages_text told name old new TooLarge large = record {
+  has = large;
+  none = λ is_told other has. not_longer told name has.text is_told has.has large;
+  not_bad = λ is_told has. not_longer told name has.text is_told has.has large;
+}
+packages_text told name old new BadPackages refused = absurd refused
+packages_text told name old new BadList refused = refused
+packages_text told name old new Done refused = refused
+packages_text told name old new NotHealthy refused = refused
+packages_text told name old new DoneWithUndecided refused = refused
+packages_text told name old new BadWords refused = refused
+packages_text told name old new CertificateRefused refused = refused
+packages_text told name old new WriteFault refused = refused
+
+pub list_text : (told : Option Files) (name : List ℕ) (repository : List PlainPackage) (old new : ℕ) (status : Status) → TextRefused told name old new status
+    → ListRefused told name repository old new status
+list_text told name repository old new ReadFault refused = refused
+list_text told name repository old new NoMemory refused = tt
+list_text told name repository old new TooLarge large = record {
+  has = large;
+  none = λ is_told others has. not_longer told name has.text is_told has.has large;
+  not_bad = λ is_told has. not_longer told name has.text is_told has.has large;
+}
+list_text told name repository old new BadPackages refused = refused
+list_text told name repository old new BadList refused = absurd refused
+list_text told name repository old new Done refused = refused
+list_text told name repository old new NotHealthy refused = refused
+list_text told name repository old new DoneWithUndecided refused = refused
+list_text told name repository old new BadWords refused = refused
+list_text told name repository old new CertificateRefused refused = refused
+list_text told name repository old new WriteFault refused = refused
 
 -- a count that rose since a later moment rose since an earlier one
 rose_earlier : (a b c : ℕ) → a ≤ b → b ≤ c → Rose b c → Rose a c

@@ -43,6 +43,20 @@ pub record OnlyLargeList (told : Option Files) (name : List ℕ) (repository : L
   pub none : IsTold told → (others : List Bool) → ¬ HasList told name repository others
   pub not_bad : IsTold told → ¬ HasBadList told name repository
 
+-- Why reading a file was given up, by status. Want of memory is free.
+abbrev pub TextRefused : Option Files → List ℕ → ℕ → ℕ → Status → Type 0
+TextRefused told name old new ReadFault = Rose old new
+TextRefused told name old new NoMemory = Unit {0}
+TextRefused told name old new TooLarge = IsLonger told name most_bytes
+TextRefused told name old new BadPackages = ⊥
+TextRefused told name old new BadList = ⊥
+TextRefused told name old new Done = ⊥
+TextRefused told name old new NotHealthy = ⊥
+TextRefused told name old new DoneWithUndecided = ⊥
+TextRefused told name old new BadWords = ⊥
+TextRefused told name old new CertificateRefused = ⊥
+TextRefused told name old new WriteFault = ⊥
+
 -- Why reading the Packages file was given up, by status. Want of memory is free.
 abbrev pub PackagesRefused : Option Files → List ℕ → ℕ → ℕ → Status → Type 0
 PackagesRefused told name old new ReadFault = Rose old new

@@ -1,8 +1,8 @@
 //! What `health PACKAGES LIST` decides over the files of a desk.
 ghost use Rattle.std.specs.Prelude.{◌≡◌, ◌≤◌, ℕ, List, IfOk, IfErr};
 ghost use Rattle.dist_outside.specs.Files.{IsNotWriting};
-ghost use Rattle.dist_app.specs.Outcome.{IsPrinted};
-ghost use Rattle.dist_app.specs.Stages.{OnlyPackages, OnlyList, OnlyDecides, PackagesRefused, ListRefused, HealthRefused};
+ghost use Rattle.dist_app.specs.Outcome.{HasText, IsPrinted};
+ghost use Rattle.dist_app.specs.Stages.{OnlyPackages, OnlyList, OnlyDecides, TextRefused, PackagesRefused, ListRefused, HealthRefused};
 
 use crate::health::{Answer, health_of};
 use crate::plain_error::PlainError;
@@ -10,12 +10,9 @@ use crate::plain_list::read_list;
 use crate::plain_packages::read_packages;
 use crate::status::{Status, work_status};
 use crate::words::HealthFiles;
-use dist_outside::{Desk, read_whole};
+use dist_outside::{Desk, Limits, read_whole};
 use dist_repo::PlainRepository;
 use std::alloc::Global;
-
-/// The most bytes of a Packages file, and of a list.
-const MOST_BYTES: u64 = 268_435_456;
 
 /// The status and the line of the command, or the status at which it was given up.
 pub(crate) fn decide<D: Desk>(
@@ -53,10 +50,7 @@ fn repository_of<D: Desk>(
     ensures read_faults_stand { D.read_faults desk.old ≤ D.read_faults desk.new }
     ensures write_faults_stay { D.write_faults desk.new ≡ D.write_faults desk.old }
 {
-    let bytes = match read_whole(alloc, desk, name, MOST_BYTES) {
-        Ok(bytes) => bytes,
-        Err(error) => return Err(work_status(error)),
-    };
+    let bytes = text_of(alloc, desk, name)?;
     match read_packages(alloc, &bytes) {
         Ok(repository) => Ok(repository),
         Err(PlainError::NotPlain) => Err(Status::BadPackages),
@@ -78,13 +72,26 @@ fn members_of<D: Desk>(
     ensures read_faults_stand { D.read_faults desk.old ≤ D.read_faults desk.new }
     ensures write_faults_stay { D.write_faults desk.new ≡ D.write_faults desk.old }
 {
-    let bytes = match read_whole(alloc, desk, name, MOST_BYTES) {
-        Ok(bytes) => bytes,
-        Err(error) => return Err(work_status(error)),
-    };
+    let bytes = text_of(alloc, desk, name)?;
     match read_list(alloc, repository, &bytes) {
         Ok(members) => Ok(members),
         Err(PlainError::NotPlain) => Err(Status::BadList),
         Err(PlainError::NoMemory) => Err(Status::NoMemory),
+    }
+}
+
+// The bytes of a file, within the stated limit.
+fn text_of<D: Desk>(alloc: Global, desk: &mut D, name: &str) -> Result<Vec<u8>, Status>
+    requires { IsNotWriting (D.mode desk.old) }
+    ensures read { IfOk result (λ bytes. HasText (D.files desk.old) name.now bytes.items) }
+    ensures refused { IfErr result (TextRefused (D.files desk.old) name.now (D.read_faults desk.old) (D.read_faults desk.new)) }
+    ensures files_stay { D.files desk.new ≡ D.files desk.old }
+    ensures not_writing { IsNotWriting (D.mode desk.new) }
+    ensures read_faults_stand { D.read_faults desk.old ≤ D.read_faults desk.new }
+    ensures write_faults_stay { D.write_faults desk.new ≡ D.write_faults desk.old }
+{
+    match read_whole(alloc, desk, name, Limits::stated().bytes) {
+        Ok(bytes) => Ok(bytes),
+        Err(error) => Err(work_status(error)),
     }
 }
