@@ -1,5 +1,6 @@
 // Fills a clause set with equal clauses of four literals.
-ghost use Rattle.std.specs.Prelude.{◌≤◌};
+ghost use Rattle.std.specs.Prelude.{◌≡◌, ◌≤◌, true, false, [], ◌∷◌, replicate, IfOk};
+ghost use Rattle.dist_clause.specs.Formula.{literal};
 
 use anyhow::{Result, bail};
 use dist_clause::{ClauseSet, Lit, MAX_CLAUSES, PushError};
@@ -7,6 +8,7 @@ use std::alloc::Global;
 
 fn filled(alloc: Global, count: u32) -> Result<ClauseSet, PushError>
     requires { count ≤ MAX_CLAUSES }
+    ensures { IfOk result (λ set. set.clauses ≡ replicate count (literal 1 true ∷ literal 2 false ∷ literal 3 true ∷ literal 4 false ∷ [])) }
 {
     let clause = [
         Lit::new(1, true),

@@ -1,4 +1,6 @@
 // Reads the relation fields of a Packages file, and counts what they hold.
+ghost use Rattle.std.specs.Prelude.{◌≡◌, ◌==◌, length, filter};
+
 use anyhow::Result;
 use dist_relation::{RelationError, read_atoms, read_depends, read_provides};
 use std::alloc::Global;
@@ -50,9 +52,16 @@ pub fn print_counts(rt: &(impl Print + AllocGlobal), text: &[u8]) -> Result<()> 
     Ok(())
 }
 
+/// How many line feeds the text has.
+pub fn line_count(text: &[u8]) -> usize
+    ensures { result ≡ length (filter (λ byte. byte == 10) text.now) }
+{
+    text.iter().filter(|byte| **byte == b'\n').count()
+}
+
 /// Prints how many lines the text has.
 pub fn print_lines(rt: &impl Print, text: &[u8]) -> Result<()> {
-    let lines = text.iter().filter(|byte| **byte == b'\n').count();
+    let lines = line_count(text);
     println!(rt; "{lines} lines")?;
     Ok(())
 }

@@ -22,5 +22,5 @@ four a b c d first second third fourth = record {
 pub push-requires : goal.push-requires
 push-requires c =
     let variable : Literal → ℕ = λ l. l.variable in
-    subst (λ n. IsClauseOver n (c.new.result ∷ c.new-2.result ∷ c.new-3.result ∷ c.new-4.result ∷ [])) (sym c.loop.invariant)
+    subst (λ n. IsClauseOver n (c.new.result ∷ c.new-2.result ∷ c.new-3.result ∷ c.new-4.result ∷ [])) (sym c.loop.invariant.0)
     (four c.new.result c.new-2.result c.new-3.result c.new-4.result (ap variable c.new.ensures) (ap variable c.new-2.ensures) (ap variable c.new-3.ensures) (ap variable c.new-4.ensures))
