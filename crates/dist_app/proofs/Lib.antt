@@ -1,9 +1,1 @@
-pub mod Decisions
-pub mod Depends
-pub mod Endings
-pub mod Fields
-pub mod Lists
-pub mod Names
-pub mod Reading
-pub mod Refusals
-pub mod Three
+pub mod StageLaws

@@ -1,0 +1,48 @@
+//! Why a run was given up. Its status and its line on `err` both come from here.
+ghost use Rattle.std.specs.Prelude.{◌≡◌};
+ghost use Rattle.dist_app.specs.Refusal.{status_of, refusal_of};
+
+use crate::status::Status;
+use dist_outside::{What, WorkError};
+use dist_package::Fault;
+
+/// Why a run was given up, with what its line on `err` tells.
+#[derive(Clone, Copy, Debug, PartialEq, Eq)]
+pub(crate) enum Refusal {
+    BadWords,
+    BadPackages(Fault),
+    ReadFault,
+    WriteFault,
+    NoMemory,
+    TooLarge(What),
+    BadList(u64),
+}
+
+impl Refusal {
+    /// The status of a run that was given up for this.
+    pub(crate) fn status(&self) -> Status
+        ensures { result ≡ status_of self.now }
+    {
+        match self {
+            Refusal::BadWords => Status::BadWords,
+            Refusal::BadPackages(_) => Status::BadPackages,
+            Refusal::ReadFault => Status::ReadFault,
+            Refusal::WriteFault => Status::WriteFault,
+            Refusal::NoMemory => Status::NoMemory,
+            Refusal::TooLarge(_) => Status::TooLarge,
+            Refusal::BadList(_) => Status::BadList,
+        }
+    }
+}
+
+/// What an error of reading or writing comes to.
+pub(crate) fn refusal_of(error: WorkError) -> Refusal
+    ensures { result ≡ refusal_of error }
+{
+    match error {
+        WorkError::ReadFault => Refusal::ReadFault,
+        WorkError::WriteFault => Refusal::WriteFault,
+        WorkError::TooLarge(what) => Refusal::TooLarge(what),
+        WorkError::NoMemory => Refusal::NoMemory,
+    }
+}
