@@ -2,3 +2,4 @@ pub mod Status
 pub mod FaultText
 pub mod Refusal
 pub mod Stages
+pub mod LineParts

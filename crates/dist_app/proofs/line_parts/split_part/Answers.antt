@@ -1,0 +1,14 @@
+use Rattle.std.proofs.Common.{◌≡◌, ◌∙◌, List, ℕ, take, drop, sym}
+use Rattle.std.specs.List.{prefix_len}
+use Rattle.dist_app.specs.LineParts.{is_padding, parts_of, with_part}
+use Rattle.dist_app.proofs.PartLemmas.{parts-drop_padding, past_padding, parts-at_part}
+use Rattle.dist_app.proofs.line_parts.split_part.Goals as goal
+
+pub returns : goal.returns
+returns c =
+    let whole = parts-drop_padding c.args.line.now in
+    let at = past_padding c.args.line.now in
+    let cut = parts-at_part (drop (prefix_len is_padding c.args.line.now) c.args.line.now) at in
+    let first = c.split_at.ensures in
+    let second = c.split_at-2.ensures in
+    cc (whole, cut)
