@@ -1,4 +1,4 @@
-use Rattle.dist_version.proofs.Total.{version_total}
+use Rattle.dist_version.specs.Laws.{version_total}
 use Rattle.dist_version.proofs.order_is_total.Goals as goal
 
 pub returns : goal.returns
