@@ -1,3 +1,4 @@
-pub mod Telling
+pub mod Growing
+pub mod Files
 pub mod SoFar
 pub mod Newest

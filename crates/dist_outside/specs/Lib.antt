@@ -1,8 +1,11 @@
 pub mod Counts
 pub mod Told
 pub mod Files
+pub mod SinkView
+pub mod DeskView
 pub mod Reading
+pub mod SoFar
 pub mod Memory
+pub mod Kept
 pub mod Real
 pub mod RealOpen
-pub mod Kept

@@ -1,9 +1,9 @@
--- What a desk's reading gives and what it moves.
-use Rattle.std.specs.Prelude.{◌≡◌, ℕ, ◌+◌, ◌<◌, ◌≤◌, List, [], length, take, drop, Option, Some, None}
-use Rattle.dist_outside.specs.Files.{Files, Mode, Idle, Reading, Writing, file_bytes}
-use Rattle.std.specs.FinMap.{get}
+-- What a desk's reading gives, what it moves, and when it is given up.
+use Rattle.std.specs.Prelude.{◌≡◌, ℕ, ◌+◌, ◌≤◌, List, [], length, take, drop, Option, Some, None}
+use Rattle.dist_outside.specs.Files.{Files, Mode, Idle, Reading, Writing, file_bytes, IsFile}
+use Rattle.dist_outside.specs.DeskView.{DeskView}
 use Rattle.dist_outside.specs.Counts.{Rose}
-use Rattle.dist_outside.specs.declared.trouble.What.TheVariants.{Bytes, Stanzas, Variables, Clauses, Literals, Lines, LineLiterals, Certificate, RecordLine}
+use Rattle.dist_outside.specs.declared.trouble.What.TheVariants.{Bytes}
 use Rattle.dist_outside.specs.declared.trouble.WorkError.{WorkError}
 use Rattle.dist_outside.specs.declared.trouble.WorkError.TheVariants.{ReadFault, WriteFault, TooLarge, NoMemory}
 
@@ -32,46 +32,27 @@ abbrev pub GivesNext : Option (List ℕ) → ℕ → List ℕ → Type 0
 GivesNext None count buffer = Unit {0}
 GivesNext (Some left) count buffer = (count ≤ length left) × (take count buffer ≡ take count left) × (count ≡ 0 → left ≡ [])
 
--- the file's bytes are these, where the desk tells its files
-abbrev pub IsFile : Option Files → List ℕ → List ℕ → Type 0
-IsFile None name bytes = Unit {0}
-IsFile (Some files) name bytes = file_bytes (Some files) name ≡ Some bytes
+-- A read put that many of the file's next bytes into the buffer's front, and moved the place behind them.
+pub record ReadsNext (read : ℕ) (buffer : List ℕ) (old new : DeskView) : Type 0 where
+  pub count : read ≤ length buffer
+  pub next : GivesNext (bytes_left old.files old.mode) read buffer
+  pub moved : new.mode ≡ moved old.mode read
 
--- the file has more bytes than the limit, where the desk tells its files
-abbrev pub IsLonger : Option Files → List ℕ → ℕ → Type 0
-IsLonger None name limit = Unit {0}
-IsLonger (Some files) name limit = (bytes : List ℕ) × (file_bytes (Some files) name ≡ Some bytes) × (limit < length bytes)
+-- The bytes are those of the file, where the desk tells its files, and within the limit.
+pub record IsWhole (files : Option Files) (name : List ℕ) (limit : ℕ) (text : List ℕ) : Type 0 where
+  pub bytes : IsFile files name text
+  pub within : length text ≤ limit
 
--- when reading a whole file gives each error, from the desk's count of reading before and after,
--- and from the fact that more bytes came than the limit. Want of memory is free.
-abbrev pub ReadCause : WorkError → ℕ → ℕ → Type 0 → Type 0
-ReadCause ReadFault old new longer = Rose old new
-ReadCause WriteFault old new longer = ⊥
+-- when reading a whole file gives each error, where the last argument says that more bytes came than the limit.
+-- Want of memory is free.
+abbrev pub ReadCause : WorkError → DeskView → DeskView → Type 0 → Type 0
+ReadCause ReadFault old new longer = Rose old.read_faults new.read_faults
 ReadCause (TooLarge Bytes) old new longer = longer
-ReadCause (TooLarge Stanzas) old new longer = ⊥
-ReadCause (TooLarge Variables) old new longer = ⊥
-ReadCause (TooLarge Clauses) old new longer = ⊥
-ReadCause (TooLarge Literals) old new longer = ⊥
-ReadCause (TooLarge Lines) old new longer = ⊥
-ReadCause (TooLarge LineLiterals) old new longer = ⊥
-ReadCause (TooLarge Certificate) old new longer = ⊥
-ReadCause (TooLarge RecordLine) old new longer = ⊥
 ReadCause NoMemory old new longer = Unit {0}
+ReadCause _ old new longer = ⊥
 
--- when writing a whole text gives each error, from the sink's counts of faults and of wants before and after
-abbrev pub WriteCause : WorkError → ℕ → ℕ → ℕ → ℕ → Type 0
-WriteCause ReadFault faults faults' wants wants' = ⊥
-WriteCause WriteFault faults faults' wants wants' = Rose faults faults'
-WriteCause (TooLarge what) faults faults' wants wants' = ⊥
-WriteCause NoMemory faults faults' wants wants' = Rose wants wants'
-
--- Of the file of that name these bytes were read, and the desk stands behind them.
-pub record ReadTo (files : Files) (mode : Mode) (name bytes whole : List ℕ) : Type 0 where
-  pub file : get files name ≡ Some whole
-  pub at : mode ≡ Reading (Some (name, length bytes))
-  pub front : bytes ≡ take (length bytes) whole
-  pub within : length bytes ≤ length whole
-
-abbrev pub SoFar : Option Files → Mode → List ℕ → List ℕ → Type 0
-SoFar None mode name bytes = mode ≡ Reading None
-SoFar (Some files) mode name bytes = (whole : List ℕ) × ReadTo files mode name bytes whole
+-- when writing a whole text to a desk gives each error. Want of memory is free.
+abbrev pub DeskWriteCause : WorkError → DeskView → DeskView → Type 0
+DeskWriteCause WriteFault old new = Rose old.write_faults new.write_faults
+DeskWriteCause NoMemory old new = Unit {0}
+DeskWriteCause _ old new = ⊥

@@ -5,8 +5,10 @@ mod desk;
 mod limits;
 mod memory_desk;
 mod memory_sink;
+mod named_files;
 mod real_desk;
 mod sink;
+mod std_answers;
 mod std_sink;
 mod trouble;
 mod whole;
@@ -19,7 +21,7 @@ pub use real_desk::RealDesk;
 pub use sink::Sink;
 pub use std_sink::StdSink;
 pub use trouble::{Trouble, What, WorkError};
-pub use whole::{read_whole, write_whole};
+pub use whole::{desk_write_whole, read_whole, write_whole};
 
 #[cfg(test)]
 mod tests;

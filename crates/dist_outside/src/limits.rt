@@ -1,6 +1,11 @@
 //! The limits of the program.
 ghost use Rattle.std.specs.Prelude.{◌≡◌};
 
+use dist_base::{
+    MAX_BYTES, MAX_CERTIFICATE, MAX_CLAUSES, MAX_LINE_LITERALS, MAX_LINES, MAX_LITERALS,
+    MAX_RECORD_LINE, MAX_STANZAS, MAX_VARIABLES,
+};
+
 /// The most that a run takes in or makes. Each field is a number of things, or of bytes.
 #[derive(Clone, Copy, Debug, PartialEq, Eq)]
 pub struct Limits {
@@ -27,26 +32,18 @@ pub struct Limits {
 impl Limits {
     /// The stated limits, which no run passes.
     pub fn stated() -> Limits
-        ensures bytes { result.bytes ≡ 268435456 }
-        ensures stanzas { result.stanzas ≡ 200000 }
-        ensures variables { result.variables ≡ 16000000 }
-        ensures clauses { result.clauses ≡ 16000000 }
-        ensures literals { result.literals ≡ 64000000 }
-        ensures lines { result.lines ≡ 16000000 }
-        ensures line_literals { result.line_literals ≡ 64000000 }
-        ensures certificate { result.certificate ≡ 68719476736 }
-        ensures record_line { result.record_line ≡ 1073741824 }
+        ensures { result ≡ record { bytes = MAX_BYTES; stanzas = MAX_STANZAS; variables = MAX_VARIABLES; clauses = MAX_CLAUSES; literals = MAX_LITERALS; lines = MAX_LINES; line_literals = MAX_LINE_LITERALS; certificate = MAX_CERTIFICATE; record_line = MAX_RECORD_LINE } }
     {
         Limits {
-            bytes: 268_435_456,
-            stanzas: 200_000,
-            variables: 16_000_000,
-            clauses: 16_000_000,
-            literals: 64_000_000,
-            lines: 16_000_000,
-            line_literals: 64_000_000,
-            certificate: 68_719_476_736,
-            record_line: 1_073_741_824,
+            bytes: MAX_BYTES,
+            stanzas: MAX_STANZAS,
+            variables: MAX_VARIABLES,
+            clauses: MAX_CLAUSES,
+            literals: MAX_LITERALS,
+            lines: MAX_LINES,
+            line_literals: MAX_LINE_LITERALS,
+            certificate: MAX_CERTIFICATE,
+            record_line: MAX_RECORD_LINE,
         }
     }
 }

@@ -1,26 +1,24 @@
 //! A desk in memory, which fails where a test asks for it.
-ghost use Rattle.std.specs.Prelude.{◌≡◌, ◌≢◌, ◌+◌, ◌^◌, ◌<◌, ◌≤◌, ◌↔◌, ◌⊎◌, [], Some, length, drop, IfOk, OnOk, OnErr, IsErrOf, IsNone, Contains};
+ghost use Rattle.std.specs.Prelude.{◌≡◌, ◌≢◌, ◌+◌, ◌^◌, ◌<◌, ◌≤◌, ◌↔◌, ◌⊎◌, [], Some, length, take, drop, min, IfOk, OnOk, OnErr, IsErrOf, IsNone};
 ghost use Rattle.std.specs.Option.{option_copied};
 ghost use Rattle.std.specs.FinMap as map;
 ghost use Rattle.dist_outside.specs.Counts.{Rose};
-ghost use Rattle.dist_outside.specs.Files.{Idle, Reading, IsReading, IsNotWriting, where_told, IsPresent};
-ghost use Rattle.dist_outside.specs.Kept.{files_of};
-ghost use Rattle.dist_outside.specs.Reading.{moved, bytes_from, bytes_left, GivesNext};
+ghost use Rattle.dist_outside.specs.Files.{Idle, Reading, Writing, IsReading, IsWriting, IsNotWriting, where_told, IsPresent};
+ghost use Rattle.dist_outside.specs.DeskView.{OnlyReads, Holds, NotCreated, FileGrew, Closed};
+ghost use Rattle.dist_outside.specs.Memory.{desk_view, IsListed, ReadCall, MovesStep, WriteCall};
+ghost use Rattle.dist_outside.specs.Reading.{ReadsNext};
 
+use crate::named_files::{NamedFile, append_to_newest, copy_next, newest, put_front};
 use crate::{Desk, Trouble};
 use std::alloc::{AllocError, Global};
 use std::marker::Model;
 
-#[derive(Drop)]
-struct NamedFile {
-    name: String,
-    bytes: Vec<u8>,
-}
-
+/// What the desk is doing. The file that is written is the newest.
 #[derive(Drop)]
 enum Open {
     Nothing,
     Reading(String, usize),
+    Writing,
 }
 
 /// Keeps files by name, the newest first.
@@ -30,6 +28,7 @@ pub struct MemoryDesk {
     files: Vec<NamedFile>,
     state: Open,
     read_faults: u64,
+    write_faults: u64,
     calls: u64,
     step: usize,
     fails: Vec<u64>,
@@ -37,32 +36,33 @@ pub struct MemoryDesk {
 
 impl Model for MemoryDesk {
     ghost use Rattle.dist_outside.specs.Memory.{DeskState, state_code};
-    ghost use Rattle.std.specs.Prelude.{◌<◌};
+    ghost use Rattle.std.specs.Prelude.{◌≡◌, ◌<◌, vec_len};
 
     ghost Value = { DeskState };
 
     ghost coded = { state_code };
 
     ghost use Rattle.dist_outside.specs.Kept.{files_of, mode_of};
+    ghost use Rattle.dist_outside.specs.declared.memory_desk.Open.TheVariants as kept;
 
-    ghost view = { λ s. record { files = files_of s.files.items; mode = mode_of s.state; read_faults = s.read_faults; calls = s.calls; step = s.step; fails = s.fails.items } };
+    ghost view = { λ s. record { files = files_of s.files.items; mode = mode_of s.files.items s.state; read_faults = s.read_faults; write_faults = s.write_faults; calls = s.calls; step = s.step; fails = s.fails.items } };
 
-    ghost invariant = { λ s. 0 < s.step };
+    ghost invariant = { λ s. (0 < s.step) × (s.state ≡ kept.Writing → 0 < vec_len s.files) };
 }
 
 impl MemoryDesk {
-    ghost use Rattle.dist_outside.specs.Memory.{counted};
-
-    /// A desk with no files, whose reads move at most `step` bytes, and whose calls of these numbers, from 1, fail.
+    /// A desk with no files, whose reads and writes move at most `step` bytes, and whose calls of these numbers,
+    /// from 1, fail.
     pub fn new(alloc: Global, step: usize, fails: &[u64]) -> Result<MemoryDesk, AllocError>
         requires { 0 < step }
-        ensures { IfOk result (λ desk. desk ≡ record { files = map.empty; mode = Idle; read_faults = 0; calls = 0; step = step; fails = fails.now }) }
+        ensures { IfOk result (λ desk. desk ≡ record { files = map.empty; mode = Idle; read_faults = 0; write_faults = 0; calls = 0; step = step; fails = fails.now }) }
     {
         Ok(MemoryDesk {
             alloc,
             files: Vec::new(alloc),
             state: Open::Nothing,
             read_faults: 0,
+            write_faults: 0,
             calls: 0,
             step,
             fails: fails.to_vec(alloc)?,
@@ -88,37 +88,27 @@ impl MemoryDesk {
 
     /// How often a call of a listed number, or a start on a missing file, failed.
     pub fn faults(&self) -> u64
-        ensures { result ≡ self.now.read_faults }
+        ensures { result ≡ min (self.now.read_faults + self.now.write_faults) 18446744073709551615 }
     {
-        self.read_faults
+        self.read_faults.saturating_add(self.write_faults)
     }
 }
 
 impl Desk for MemoryDesk {
-    ghost use Rattle.dist_outside.specs.Memory.{counted};
-
-    ghost files = { λ s. Some s.files };
-
-    ghost mode = { λ s. s.mode };
-
-    ghost read_faults = { λ s. s.read_faults };
-
-    ghost write_faults = { λ s. 0 };
+    ghost view = { desk_view };
 
     fn start_read(&mut self, name: &str) -> Result<(), Trouble>
+        requires { IsNotWriting self.old.mode }
         ensures reading { OnOk result (self.new.mode ≡ Reading (where_told (Some self.old.files) (name.now, 0))) }
         ensures present { OnOk result (IsPresent (Some self.old.files) name.now) }
         ensures refused { OnErr result (self.new.mode ≡ Idle) }
-        ensures files_stay { Some self.new.files ≡ Some self.old.files }
         ensures failed { IsErrOf result Trouble.Failed → Rose self.old.read_faults self.new.read_faults }
-        ensures read_faults_stand { self.old.read_faults ≤ self.new.read_faults }
+        ensures only_reads { OnlyReads (desk_view self.old) (desk_view self.new) }
 
         // It fails at the listed calls and at a missing file alone.
         ensures listed { IsErrOf result Trouble.Failed ↔
-            (Contains self.old.fails (counted self.old.calls) ⊎ IsNone (map.get self.old.files name.now)) }
-        ensures count { IsErrOf result Trouble.Failed ⊎ (self.new.read_faults ≡ self.old.read_faults) }
-        ensures calls { self.new.calls ≡ counted self.old.calls }
-        ensures setting { (self.new.step ≡ self.old.step) × (self.new.fails ≡ self.old.fails) }
+            (IsListed self.old ⊎ IsNone (map.get self.old.files name.now)) }
+        ensures exact { ReadCall result self.old self.new }
     {
         self.state = Open::Nothing;
         self.calls = self.calls.saturating_add(1);
@@ -138,21 +128,14 @@ impl Desk for MemoryDesk {
     fn read(&mut self, buffer: &mut [u8]) -> Result<usize, Trouble>
         requires reading { IsReading self.old.mode }
         requires room { 0 < length buffer.old }
-        ensures count { IfOk result (λ count. count ≤ length buffer.new) }
-        ensures next { IfOk result (λ count. GivesNext (bytes_left (Some self.old.files) self.old.mode) count buffer.new) }
+        ensures next { IfOk result (λ count. ReadsNext count buffer.new (desk_view self.old) (desk_view self.new)) }
         ensures stays { IsReading self.new.mode }
-        ensures moved { IfOk result (λ count. self.new.mode ≡ moved self.old.mode count) }
         ensures refused { OnErr result (self.new.mode ≡ self.old.mode) }
-        ensures files_stay { Some self.new.files ≡ Some self.old.files }
         ensures failed { IsErrOf result Trouble.Failed → Rose self.old.read_faults self.new.read_faults }
-        ensures read_faults_stand { self.old.read_faults ≤ self.new.read_faults }
+        ensures only_reads { OnlyReads (desk_view self.old) (desk_view self.new) }
 
         // It fails at the listed calls alone, and moves at most a step.
-        ensures listed { IsErrOf result Trouble.Failed ↔ Contains self.old.fails (counted self.old.calls) }
-        ensures memory { result ≢ Err Trouble.NoMemory }
-        ensures step { IfOk result (λ count. count ≤ self.old.step) }
-        ensures calls { self.new.calls ≡ counted self.old.calls }
-        ensures setting { (self.new.step ≡ self.old.step) × (self.new.fails ≡ self.old.fails) }
+        ensures exact { MovesStep result self.old self.new }
     {
         self.calls = self.calls.saturating_add(1);
         if self.fails.contains(&self.calls) {
@@ -160,72 +143,83 @@ impl Desk for MemoryDesk {
             return Err(Trouble::Failed);
         }
         match &mut self.state {
-            Open::Nothing => unreachable!(),
             Open::Reading(name, place) => {
                 let count = copy_next(&self.files, name.as_str(), *place, self.step, buffer);
                 *place += count;
                 Ok(count)
             }
+            // The caller has started to read.
+            Open::Nothing | Open::Writing => unreachable!(),
         }
     }
-}
 
-fn put_front(
-    alloc: Global,
-    files: &mut Vec<NamedFile>,
-    name: &str,
-    bytes: &[u8],
-) -> Result<(), AllocError>
-    ensures ok { OnOk result (files_of files.new.items ≡ map.insert (files_of files.old.items) name.now bytes.now) }
-    ensures err { OnErr result (files_of files.new.items ≡ files_of files.old.items) }
-{
-    let file = NamedFile {
-        name: String::from_str(alloc, name)?,
-        bytes: bytes.to_vec(alloc)?,
-    };
-    files.insert(0, file)?;
-    Ok(())
-}
+    fn create(&mut self, name: &str) -> Result<(), Trouble>
+        requires { IsNotWriting self.old.mode }
+        ensures created { OnOk result (Holds name.now [] (Writing (where_told (Some self.old.files) name.now)) (desk_view self.old) (desk_view self.new)) }
+        ensures refused { OnErr result (NotCreated name.now (desk_view self.old) (desk_view self.new)) }
+        ensures failed { IsErrOf result Trouble.Failed → Rose self.old.write_faults self.new.write_faults }
 
-fn newest<'a>(files: &'a [NamedFile], name: &str) -> Option<&'a [u8]>
-    ensures { option_copied result ≡ map.get (files_of files.now) name.now }
-{
-    for file in files {
-        if name == file.name.as_str() {
-            return Some(&file.bytes);
+        // It fails at the listed calls alone, and a refusal leaves the files as before.
+        ensures listed { IsErrOf result Trouble.Failed ↔ IsListed self.old }
+        ensures as_before { OnErr result (self.new.files ≡ self.old.files) }
+        ensures exact { WriteCall result self.old self.new }
+    {
+        self.state = Open::Nothing;
+        self.calls = self.calls.saturating_add(1);
+        if self.fails.contains(&self.calls) {
+            self.write_faults = self.write_faults.saturating_add(1);
+            return Err(Trouble::Failed);
+        }
+        match put_front(self.alloc, &mut self.files, name, b"") {
+            Ok(()) => {
+                self.state = Open::Writing;
+                Ok(())
+            }
+            Err(_) => Err(Trouble::NoMemory),
         }
     }
-    None
-}
 
-// Copies the next bytes of a file from a place on, at most a step, and says how many.
-fn copy_next(files: &[NamedFile], name: &str, place: usize, step: usize, buffer: &mut [u8]) -> usize
-    requires step { 0 < step }
-    requires room { 0 < length buffer.old }
-    ensures count { result ≤ length buffer.new }
-    ensures step { result ≤ step }
-    ensures place { place + result < 2 ^ 64 }
-    ensures next { GivesNext (bytes_from place (map.get (files_of files.now) name.now)) result buffer.new }
-{
-    match newest(files, name) {
-        None => 0,
-        Some(bytes) => copy_from(bytes, place, step, buffer),
-    }
-}
+    fn write(&mut self, bytes: &[u8]) -> Result<usize, Trouble>
+        requires { IsWriting self.old.mode }
+        ensures count { IfOk result (λ count. count ≤ length bytes.now) }
+        ensures progress { IfOk result (λ count. 0 < length bytes.now → 0 < count) }
+        ensures appended { IfOk result (λ count. FileGrew (take count bytes.now) (desk_view self.old) (desk_view self.new)) }
+        ensures refused { OnErr result (FileGrew [] (desk_view self.old) (desk_view self.new)) }
+        ensures failed { IsErrOf result Trouble.Failed → Rose self.old.write_faults self.new.write_faults }
 
-fn copy_from(bytes: &[u8], place: usize, step: usize, buffer: &mut [u8]) -> usize
-    requires step { 0 < step }
-    requires room { 0 < length buffer.old }
-    ensures count { result ≤ length buffer.new }
-    ensures step { result ≤ step }
-    ensures place { place + result < 2 ^ 64 }
-    ensures next { GivesNext (Some (drop place bytes.now)) result buffer.new }
-{
-    if place >= bytes.len() {
-        return 0;
+        // It fails at the listed calls alone, and takes as much as a step allows.
+        ensures listed { IsErrOf result Trouble.Failed ↔ IsListed self.old }
+        ensures step { IfOk result (λ count. count ≡ min self.old.step (length bytes.now)) }
+        ensures exact { WriteCall result self.old self.new }
+    {
+        self.calls = self.calls.saturating_add(1);
+        if self.fails.contains(&self.calls) {
+            self.write_faults = self.write_faults.saturating_add(1);
+            return Err(Trouble::Failed);
+        }
+        let count = self.step.min(bytes.len());
+        match append_to_newest(&mut self.files, &bytes[..count]) {
+            Ok(()) => Ok(count),
+            Err(_) => Err(Trouble::NoMemory),
+        }
     }
-    let left = &bytes[place..];
-    let count = step.min(buffer.len()).min(left.len());
-    buffer[..count].copy_from_slice(&left[..count]);
-    count
+
+    fn close(&mut self) -> Result<(), Trouble>
+        requires { IsWriting self.old.mode }
+        ensures closed { Closed (desk_view self.old) (desk_view self.new) }
+        ensures failed { IsErrOf result Trouble.Failed → Rose self.old.write_faults self.new.write_faults }
+
+        // It fails at the listed calls alone.
+        ensures listed { IsErrOf result Trouble.Failed ↔ IsListed self.old }
+        ensures memory { result ≢ Err Trouble.NoMemory }
+        ensures exact { WriteCall result self.old self.new }
+    {
+        self.state = Open::Nothing;
+        self.calls = self.calls.saturating_add(1);
+        if self.fails.contains(&self.calls) {
+            self.write_faults = self.write_faults.saturating_add(1);
+            return Err(Trouble::Failed);
+        }
+        Ok(())
+    }
 }

@@ -1,8 +1,7 @@
 //! A sink in memory, which fails where a test asks for it.
-ghost use Rattle.std.specs.Prelude.{◌≡◌, ◌<◌, ◌≤◌, ◌↔◌, [], ◌++◌, Some, min, length, take, IfOk, OnOk, OnErr, IsErrOf, Contains};
-ghost use Rattle.dist_outside.specs.Counts.{Rose};
-ghost use Rattle.dist_outside.specs.Told.{grown};
-ghost use Rattle.dist_outside.specs.Memory.{SinkState, counted};
+ghost use Rattle.std.specs.Prelude.{◌≡◌, ◌<◌, ◌≤◌, [], length, take, IfOk, IfErr, OnErr};
+ghost use Rattle.dist_outside.specs.SinkView.{Grew, SinkCause};
+ghost use Rattle.dist_outside.specs.Memory.{SinkState, sink_view, SinkCall};
 
 use crate::{Sink, Trouble};
 use std::alloc::{AllocError, Global};
@@ -62,27 +61,17 @@ impl MemorySink {
 }
 
 impl Sink for MemorySink {
-    ghost written = { λ s. Some s.bytes };
-
-    ghost faults = { λ s. s.faults };
-
-    ghost wants = { λ s. s.wants };
+    ghost view = { sink_view };
 
     fn write(&mut self, bytes: &[u8]) -> Result<usize, Trouble>
         ensures count { IfOk result (λ count. count ≤ length bytes.now) }
         ensures progress { IfOk result (λ count. 0 < length bytes.now → 0 < count) }
-        ensures appended { IfOk result (λ count. Some self.new.bytes ≡ grown (Some self.old.bytes) (take count bytes.now)) }
-        ensures refused { OnErr result (Some self.new.bytes ≡ Some self.old.bytes) }
-        ensures failed { IsErrOf result Trouble.Failed → Rose self.old.faults self.new.faults }
-        ensures no_memory { IsErrOf result Trouble.NoMemory → Rose self.old.wants self.new.wants }
-        ensures faults_stand { self.old.faults ≤ self.new.faults }
-        ensures wants_stand { self.old.wants ≤ self.new.wants }
+        ensures appended { IfOk result (λ count. Grew (take count bytes.now) (sink_view self.old) (sink_view self.new)) }
+        ensures refused { OnErr result (Grew [] (sink_view self.old) (sink_view self.new)) }
+        ensures cause { IfErr result (λ trouble. SinkCause trouble (sink_view self.old) (sink_view self.new)) }
 
-        // It fails at the listed calls alone, and takes as much as a step allows.
-        ensures listed { IsErrOf result Trouble.Failed ↔ Contains self.old.fails (counted self.old.calls) }
-        ensures step { IfOk result (λ count. count ≡ min self.old.step (length bytes.now)) }
-        ensures calls { self.new.calls ≡ counted self.old.calls }
-        ensures setting { (self.new.step ≡ self.old.step) × (self.new.fails ≡ self.old.fails) }
+        // What a sink in memory adds.
+        ensures exact { SinkCall bytes.now result self.old self.new }
     {
         self.calls = self.calls.saturating_add(1);
         if self.fails.contains(&self.calls) {

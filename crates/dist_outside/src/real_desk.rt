@@ -1,25 +1,40 @@
 //! A desk over the file system.
-ghost use Rattle.std.specs.Prelude.{◌≡◌, None};
-ghost use Rattle.dist_outside.specs.Files.{Idle};
+ghost use Rattle.std.specs.Prelude.{◌≡◌, ◌<◌, ◌≤◌, None, [], length, take, IfOk, OnOk, OnErr, IsErrOf};
+ghost use Rattle.std.specs.Io.KnownBytes.{ReadConsumes, WriteAppends};
+ghost use Rattle.dist_outside.specs.Counts.{Rose};
+ghost use Rattle.dist_outside.specs.Files.{Idle, Reading, Writing, IsReading, IsWriting, IsNotWriting, IsPresent};
+ghost use Rattle.dist_outside.specs.DeskView.{OnlyReads, Holds, NotCreated, FileGrew, Closed};
+ghost use Rattle.dist_outside.specs.Reading.{ReadsNext};
+ghost use Rattle.dist_outside.specs.Real.{real_view, RealReadCall, RealWriteCall};
 
 use crate::{Desk, Trouble};
+use std::alloc::Global;
 use std::fs::File;
-use std::io::Read;
+use std::io;
+use std::io::{BufReader, BufWriter, Read, Write};
 use std::marker::Model;
 use std::rt::Files;
 
+/// How many bytes the system moves at once.
+const PIECE: usize = 65536;
+
+/// What the desk is doing.
 #[derive(Drop)]
-enum Open<F> {
+enum Open<F: Read + Write + Drop> {
     Nothing,
-    Reading(F),
+    Reading(BufReader<F>),
+    Writing(BufWriter<F>),
 }
 
-/// Reads the files of the system by their paths. It tells no contents, and counts each error of reading.
+/// Reads and writes the files of the system by their paths. It tells no contents, and counts each error of reading and
+/// of writing, and each write that takes nothing of a piece that is not empty.
 #[derive(Drop)]
 pub struct RealDesk<R: Files + Drop> {
+    alloc: Global,
     runtime: R,
     state: Open<R::File>,
     read_faults: u64,
+    write_faults: u64,
 }
 
 impl<R: Files + Drop> Model for RealDesk<R> {
@@ -29,56 +44,144 @@ impl<R: Files + Drop> Model for RealDesk<R> {
 
     ghost coded = { real_code };
 
-    ghost use Rattle.dist_outside.specs.RealOpen.{real_mode};
+    ghost use Rattle.dist_outside.specs.RealOpen.{real_mode, real_remaining, real_contents};
 
-    ghost view = { λ s. record { mode = real_mode s.state; read_faults = s.read_faults } };
+    ghost view = { λ s. record { mode = real_mode s.state; read_faults = s.read_faults; write_faults = s.write_faults; remaining = real_remaining R.File.remaining s.state; contents = real_contents R.File.contents s.state } };
 }
 
 impl<R: Files + Drop> RealDesk<R> {
-    pub fn new(runtime: R) -> RealDesk<R>
-        ensures { result ≡ record { mode = Idle; read_faults = 0 } }
+    /// A desk that does nothing yet. The allocator is for its buffer.
+    pub fn new(alloc: Global, runtime: R) -> RealDesk<R>
+        ensures { result ≡ record { mode = Idle; read_faults = 0; write_faults = 0; remaining = None; contents = None } }
     {
         RealDesk {
+            alloc,
             runtime,
             state: Open::Nothing,
             read_faults: 0,
+            write_faults: 0,
         }
     }
 }
 
 impl<R: Files + Drop> Desk for RealDesk<R> {
-    ghost files = { λ s. None };
+    ghost view = { real_view };
 
-    ghost mode = { λ s. s.mode };
-
-    ghost read_faults = { λ s. s.read_faults };
-
-    ghost write_faults = { λ s. 0 };
-
-    fn start_read(&mut self, name: &str) -> Result<(), Trouble> {
-        match File::open(&self.runtime, name) {
-            Ok(file) => {
-                self.state = Open::Reading(file);
-                Ok(())
-            }
-            Err(_) => {
-                self.state = Open::Nothing;
-                self.read_faults = self.read_faults.saturating_add(1);
-                Err(Trouble::Failed)
-            }
-        }
+    fn start_read(&mut self, name: &str) -> Result<(), Trouble>
+        requires { IsNotWriting self.old.mode }
+        ensures reading { OnOk result (self.new.mode ≡ Reading None) }
+        ensures present { OnOk result (IsPresent None name.now) }
+        ensures refused { OnErr result (self.new.mode ≡ Idle) }
+        ensures failed { IsErrOf result Trouble.Failed → Rose self.old.read_faults self.new.read_faults }
+        ensures only_reads { OnlyReads (real_view self.old) (real_view self.new) }
+        ensures exact { RealReadCall result self.old self.new }
+    {
+        self.state = Open::Nothing;
+        let Ok(file) = File::open(&self.runtime, name) else {
+            self.read_faults = self.read_faults.saturating_add(1);
+            return Err(Trouble::Failed);
+        };
+        let Ok(reader) = BufReader::with_capacity(self.alloc, PIECE, file) else {
+            return Err(Trouble::NoMemory);
+        };
+        self.state = Open::Reading(reader);
+        Ok(())
     }
 
-    fn read(&mut self, buffer: &mut [u8]) -> Result<usize, Trouble> {
+    fn read(&mut self, buffer: &mut [u8]) -> Result<usize, Trouble>
+        requires reading { IsReading self.old.mode }
+        requires room { 0 < length buffer.old }
+        ensures next { IfOk result (λ count. ReadsNext count buffer.new (real_view self.old) (real_view self.new)) }
+        ensures stays { IsReading self.new.mode }
+        ensures refused { OnErr result (self.new.mode ≡ self.old.mode) }
+        ensures failed { IsErrOf result Trouble.Failed → Rose self.old.read_faults self.new.read_faults }
+        ensures only_reads { OnlyReads (real_view self.old) (real_view self.new) }
+
+        // What std knows of the file is handed on, and the counts are exact.
+        ensures handed_on { ReadConsumes self.old.remaining self.new.remaining result buffer.new }
+        ensures exact { RealReadCall result self.old self.new }
+    {
         match &mut self.state {
-            Open::Nothing => unreachable!(),
-            Open::Reading(file) => match file.read(buffer) {
+            Open::Reading(reader) => match reader.read(buffer) {
                 Ok(count) => Ok(count),
                 Err(_) => {
                     self.read_faults = self.read_faults.saturating_add(1);
                     Err(Trouble::Failed)
                 }
             },
+            // The caller has started to read.
+            Open::Nothing | Open::Writing(_) => unreachable!(),
         }
     }
+
+    fn create(&mut self, name: &str) -> Result<(), Trouble>
+        requires { IsNotWriting self.old.mode }
+        ensures created { OnOk result (Holds name.now [] (Writing None) (real_view self.old) (real_view self.new)) }
+        ensures refused { OnErr result (NotCreated name.now (real_view self.old) (real_view self.new)) }
+        ensures failed { IsErrOf result Trouble.Failed → Rose self.old.write_faults self.new.write_faults }
+        ensures exact { RealWriteCall result self.old self.new }
+    {
+        self.state = Open::Nothing;
+        let Ok(file) = File::create(&self.runtime, name) else {
+            self.write_faults = self.write_faults.saturating_add(1);
+            return Err(Trouble::Failed);
+        };
+        let Ok(writer) = BufWriter::with_capacity(self.alloc, PIECE, file) else {
+            return Err(Trouble::NoMemory);
+        };
+        self.state = Open::Writing(writer);
+        Ok(())
+    }
+
+    fn write(&mut self, bytes: &[u8]) -> Result<usize, Trouble>
+        requires { IsWriting self.old.mode }
+        ensures count { IfOk result (λ count. count ≤ length bytes.now) }
+        ensures progress { IfOk result (λ count. 0 < length bytes.now → 0 < count) }
+        ensures appended { IfOk result (λ count. FileGrew (take count bytes.now) (real_view self.old) (real_view self.new)) }
+        ensures refused { OnErr result (FileGrew [] (real_view self.old) (real_view self.new)) }
+        ensures failed { IsErrOf result Trouble.Failed → Rose self.old.write_faults self.new.write_faults }
+
+        // What std knows of the file is handed on, and the counts are exact.
+        ensures handed_on { WriteAppends self.old.contents self.new.contents result bytes.now }
+        ensures exact { RealWriteCall result self.old self.new }
+    {
+        match &mut self.state {
+            Open::Writing(writer) => match writer.write(bytes) {
+                Ok(count) if count > 0 || bytes.is_empty() => Ok(count),
+                _ => {
+                    self.write_faults = self.write_faults.saturating_add(1);
+                    Err(Trouble::Failed)
+                }
+            },
+            // The caller has made a file.
+            Open::Nothing | Open::Reading(_) => unreachable!(),
+        }
+    }
+
+    fn close(&mut self) -> Result<(), Trouble>
+        requires { IsWriting self.old.mode }
+        ensures closed { Closed (real_view self.old) (real_view self.new) }
+        ensures failed { IsErrOf result Trouble.Failed → Rose self.old.write_faults self.new.write_faults }
+        ensures exact { RealWriteCall result self.old self.new }
+    {
+        match std::mem::replace(&mut self.state, Open::Nothing) {
+            Open::Writing(writer) => match flushed(writer) {
+                Ok(()) => Ok(()),
+                Err(_) => {
+                    self.write_faults = self.write_faults.saturating_add(1);
+                    Err(Trouble::Failed)
+                }
+            },
+            // The caller has made a file.
+            Open::Nothing | Open::Reading(_) => unreachable!(),
+        }
+    }
+}
+
+/// Writes what the buffer holds, once, and lets the file go.
+fn flushed<F: Write + Drop>(mut writer: BufWriter<F>) -> io::Result<()> {
+    let result = writer.flush();
+    // A writer that is dropped writes its rest again, which would hide the failure.
+    let (_file, _rest) = writer.into_parts();
+    result
 }

@@ -1,8 +1,13 @@
 //! A sink over a writer of std.
-ghost use Rattle.std.specs.Prelude.{◌≡◌, None};
+ghost use Rattle.std.specs.Prelude.{◌≡◌, ◌<◌, ◌≤◌, [], length, take, IfOk, IfErr, OnErr};
+ghost use Rattle.std.specs.Io.KnownBytes.{WriteAppends};
+ghost use Rattle.dist_outside.specs.Counts.{faults_by, wants_by};
+ghost use Rattle.dist_outside.specs.SinkView.{Grew, SinkCause};
+ghost use Rattle.dist_outside.specs.Real.{std_view, StdCall};
 
+use crate::std_answers::trouble_of;
 use crate::{Sink, Trouble};
-use std::io::{ErrorKind, Write};
+use std::io::Write;
 use std::marker::Model;
 
 /// Hands each piece to the writer. It tells no bytes, and counts each error of the writer, and each write
@@ -15,16 +20,16 @@ pub struct StdSink<W: Write + Drop> {
 }
 
 impl<W: Write + Drop> Model for StdSink<W> {
-    ghost use Rattle.dist_outside.specs.Real.{SinkCounts};
+    ghost use Rattle.dist_outside.specs.Real.{StdState};
 
-    ghost Value = { SinkCounts };
+    ghost Value = { StdState };
 
-    ghost view = { λ s. record { faults = s.faults; wants = s.wants } };
+    ghost view = { λ s. record { contents = W.contents s.writer; faults = s.faults; wants = s.wants } };
 }
 
 impl<W: Write + Drop> StdSink<W> {
     pub fn new(writer: W) -> StdSink<W>
-        ensures { result ≡ record { faults = 0; wants = 0 } }
+        ensures { result ≡ record { contents = W.contents writer; faults = 0; wants = 0 } }
     {
         StdSink {
             writer,
@@ -32,32 +37,40 @@ impl<W: Write + Drop> StdSink<W> {
             wants: 0,
         }
     }
+
+    /// The trouble, which is counted.
+    fn counted(&mut self, trouble: Trouble) -> Trouble
+        ensures same { result ≡ trouble }
+        ensures refused { Grew [] (std_view self.old) (std_view self.new) }
+        ensures cause { SinkCause trouble (std_view self.old) (std_view self.new) }
+        ensures exact { self.new ≡ record self.old { faults = faults_by trouble self.old.faults; wants = wants_by trouble self.old.wants } }
+    {
+        match trouble {
+            Trouble::Failed => self.faults = self.faults.saturating_add(1),
+            Trouble::NoMemory => self.wants = self.wants.saturating_add(1),
+        }
+        trouble
+    }
 }
 
 impl<W: Write + Drop> Sink for StdSink<W> {
-    ghost written = { λ s. None };
+    ghost view = { std_view };
 
-    ghost faults = { λ s. s.faults };
+    fn write(&mut self, bytes: &[u8]) -> Result<usize, Trouble>
+        ensures count { IfOk result (λ count. count ≤ length bytes.now) }
+        ensures progress { IfOk result (λ count. 0 < length bytes.now → 0 < count) }
+        ensures appended { IfOk result (λ count. Grew (take count bytes.now) (std_view self.old) (std_view self.new)) }
+        ensures refused { OnErr result (Grew [] (std_view self.old) (std_view self.new)) }
+        ensures cause { IfErr result (λ trouble. SinkCause trouble (std_view self.old) (std_view self.new)) }
 
-    ghost wants = { λ s. s.wants };
-
-    fn write(&mut self, bytes: &[u8]) -> Result<usize, Trouble> {
+        // What std knows of the writer is handed on, and the counts are exact.
+        ensures handed_on { WriteAppends self.old.contents self.new.contents result bytes.now }
+        ensures exact { StdCall result self.old self.new }
+    {
         match self.writer.write(bytes) {
-            Ok(count) => {
-                if count == 0 && !bytes.is_empty() {
-                    self.faults = self.faults.saturating_add(1);
-                    return Err(Trouble::Failed);
-                }
-                Ok(count)
-            }
-            Err(error) => {
-                if error.kind() == ErrorKind::OutOfMemory {
-                    self.wants = self.wants.saturating_add(1);
-                    return Err(Trouble::NoMemory);
-                }
-                self.faults = self.faults.saturating_add(1);
-                Err(Trouble::Failed)
-            }
+            Ok(0) if !bytes.is_empty() => Err(self.counted(Trouble::Failed)),
+            Ok(count) => Ok(count),
+            Err(error) => Err(self.counted(trouble_of(&error))),
         }
     }
 }

@@ -60,7 +60,7 @@ fn the_adapters_move_bytes(rt: HostRuntime) -> Result<(), Fail> {
     write_whole(&mut sink, b"text")?;
     let path = "dist_outside_real_desk.txt";
     fs::write(&rt, path, b"0123456789".as_slice())?;
-    let mut desk = RealDesk::new(&rt);
+    let mut desk = RealDesk::new(alloc, &rt);
     let bytes = read_whole(alloc, &mut desk, path, 10);
     fs::remove_file(&rt, path)?;
     assert_eq!(rt; bytes?.as_slice(), b"0123456789".as_slice());

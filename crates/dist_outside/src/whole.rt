@@ -1,8 +1,10 @@
 //! Whole files and whole texts, over any desk and any sink.
 ghost use Rattle.std.specs.Prelude.{◌≡◌, ◌<◌, ◌≤◌, length, vec_len, false, IsTrue, IfOk, IfErr, OnOk, OnErr};
-ghost use Rattle.dist_outside.specs.Files.{IsNotWriting};
-ghost use Rattle.dist_outside.specs.Told.{grown, GrewByFront};
-ghost use Rattle.dist_outside.specs.Reading.{IsFile, IsLonger, ReadCause, WriteCause, SoFar};
+ghost use Rattle.dist_outside.specs.Files.{IsWriting, IsNotWriting, IsFile, IsLonger};
+ghost use Rattle.dist_outside.specs.SinkView.{Grew, GrewByFront, WriteCause};
+ghost use Rattle.dist_outside.specs.DeskView.{OnlyReads, FileGrew, FileGrewByFront};
+ghost use Rattle.dist_outside.specs.Reading.{ReadCause, DeskWriteCause, IsWhole};
+ghost use Rattle.dist_outside.specs.SoFar.{SoFar};
 
 use crate::{Desk, Sink, Trouble, What, WorkError};
 use std::alloc::{AllocError, Global};
@@ -17,16 +19,11 @@ pub fn read_whole<D: Desk>(
     name: &str,
     limit: u64,
 ) -> Result<Vec<u8>, WorkError>
-    requires { IsNotWriting (D.mode desk.old) }
-    ensures bytes { IfOk result (λ bytes. IsFile (D.files desk.old) name.now bytes.items) }
-    ensures within { IfOk result (λ bytes. length bytes.items ≤ limit) }
-    ensures cause { IfErr result (λ error. ReadCause error (D.read_faults desk.old) (D.read_faults desk.new)
-        (IsLonger (D.files desk.old) name.now limit)) }
-
-    ensures files_stay { D.files desk.new ≡ D.files desk.old }
-    ensures not_writing { IsNotWriting (D.mode desk.new) }
-    ensures read_faults_stand { D.read_faults desk.old ≤ D.read_faults desk.new }
-    ensures write_faults_stay { D.write_faults desk.new ≡ D.write_faults desk.old }
+    requires { IsNotWriting (D.view desk.old).mode }
+    ensures whole { IfOk result (λ bytes. IsWhole (D.view desk.old).files name.now limit bytes.items) }
+    ensures cause { IfErr result (λ error. ReadCause error (D.view desk.old) (D.view desk.new)
+        (IsLonger (D.view desk.old).files name.now limit)) }
+    ensures only_reads { OnlyReads (D.view desk.old) (D.view desk.new) }
 {
     match desk.start_read(name) {
         Ok(()) => {}
@@ -39,13 +36,14 @@ pub fn read_whole<D: Desk>(
     Ok(bytes)
 }
 
+/// Room for one piece.
 fn empty_buffer(alloc: Global) -> Result<Vec<u8>, AllocError>
     ensures { IfOk result (λ buffer. 0 < vec_len buffer) }
 {
     vec![in alloc; 0u8; PIECE]
 }
 
-// Adds the next bytes of the file, and says whether there were any.
+/// Adds the next bytes of the file, and says whether there were any.
 fn read_more<D: Desk>(
     desk: &mut D,
     name: &str,
@@ -53,20 +51,16 @@ fn read_more<D: Desk>(
     buffer: &mut [u8],
     bytes: &mut Vec<u8>,
 ) -> Result<bool, WorkError>
-    requires so_far { SoFar (D.files desk.old) (D.mode desk.old) name.now bytes.old.items }
+    requires so_far { SoFar (D.view desk.old).files (D.view desk.old).mode name.now bytes.old.items }
     requires within { length bytes.old.items ≤ limit }
     requires room { 0 < length buffer.old }
-    ensures so_far { OnOk result (SoFar (D.files desk.new) (D.mode desk.new) name.now bytes.new.items) }
+    ensures so_far { OnOk result (SoFar (D.view desk.new).files (D.view desk.new).mode name.now bytes.new.items) }
     ensures within { OnOk result (length bytes.new.items ≤ limit) }
     ensures more { IfOk result (λ more. IsTrue more → length bytes.old.items < length bytes.new.items) }
-    ensures end { IfOk result (λ more. more ≡ false → IsFile (D.files desk.new) name.now bytes.new.items) }
-    ensures cause { IfErr result (λ error. ReadCause error (D.read_faults desk.old) (D.read_faults desk.new)
-        (IsLonger (D.files desk.old) name.now limit)) }
-
-    ensures files_stay { D.files desk.new ≡ D.files desk.old }
-    ensures not_writing { IsNotWriting (D.mode desk.new) }
-    ensures read_faults_stand { D.read_faults desk.old ≤ D.read_faults desk.new }
-    ensures write_faults_stay { D.write_faults desk.new ≡ D.write_faults desk.old }
+    ensures end { IfOk result (λ more. more ≡ false → IsFile (D.view desk.new).files name.now bytes.new.items) }
+    ensures cause { IfErr result (λ error. ReadCause error (D.view desk.old) (D.view desk.new)
+        (IsLonger (D.view desk.old).files name.now limit)) }
+    ensures only_reads { OnlyReads (D.view desk.old) (D.view desk.new) }
 {
     let count = match desk.read(buffer) {
         Ok(count) => count,
@@ -82,16 +76,31 @@ fn read_more<D: Desk>(
 
 /// Writes all the bytes, or a front of them where it is refused.
 pub fn write_whole<W: Sink>(sink: &mut W, bytes: &[u8]) -> Result<(), WorkError>
-    ensures all { OnOk result (W.written sink.new ≡ grown (W.written sink.old) bytes.now) }
-    ensures front { OnErr result (GrewByFront (W.written sink.old) (W.written sink.new) bytes.now) }
-    ensures cause { IfErr result (λ error. WriteCause error (W.faults sink.old) (W.faults sink.new)
-        (W.wants sink.old) (W.wants sink.new)) }
-    ensures faults_stand { W.faults sink.old ≤ W.faults sink.new }
-    ensures wants_stand { W.wants sink.old ≤ W.wants sink.new }
+    ensures all { OnOk result (Grew bytes.now (W.view sink.old) (W.view sink.new)) }
+    ensures front { OnErr result (GrewByFront bytes.now (W.view sink.old) (W.view sink.new)) }
+    ensures cause { IfErr result (λ error. WriteCause error (W.view sink.old) (W.view sink.new)) }
 {
     let mut done = 0;
     while done < bytes.len() {
         match sink.write(&bytes[done..]) {
+            Ok(count) => done += count,
+            Err(Trouble::Failed) => return Err(WorkError::WriteFault),
+            Err(Trouble::NoMemory) => return Err(WorkError::NoMemory),
+        }
+    }
+    Ok(())
+}
+
+/// Writes all the bytes to the end of the file that is being written, or a front of them where it is refused.
+pub fn desk_write_whole<D: Desk>(desk: &mut D, bytes: &[u8]) -> Result<(), WorkError>
+    requires { IsWriting (D.view desk.old).mode }
+    ensures all { OnOk result (FileGrew bytes.now (D.view desk.old) (D.view desk.new)) }
+    ensures front { OnErr result (FileGrewByFront bytes.now (D.view desk.old) (D.view desk.new)) }
+    ensures cause { IfErr result (λ error. DeskWriteCause error (D.view desk.old) (D.view desk.new)) }
+{
+    let mut done = 0;
+    while done < bytes.len() {
+        match desk.write(&bytes[done..]) {
             Ok(count) => done += count,
             Err(Trouble::Failed) => return Err(WorkError::WriteFault),
             Err(Trouble::NoMemory) => return Err(WorkError::NoMemory),

@@ -1,7 +1,7 @@
 use Rattle.std.proofs.Common.{◌≡◌, drop}
 use Rattle.std.specs.FinMap.{get}
 use Rattle.dist_outside.specs.Kept.{files_of}
-use Rattle.dist_outside.proofs.memory_desk.newest.Given as goal
+use Rattle.dist_outside.proofs.named_files.newest.Given as goal
 
 -- none of the files so far has the name
 abbrev pub invariant-loop-file : goal.invariant-loop-file

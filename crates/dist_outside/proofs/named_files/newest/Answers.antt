@@ -5,7 +5,7 @@ use Rattle.std.specs.Cmp.Lexicographic.{slice_cmp, pointwise}
 use Rattle.std.specs.FinMap.{get, get-empty}
 use Rattle.dist_outside.specs.Kept.{files_of}
 use Rattle.dist_outside.proofs.Newest.{newest_from}
-use Rattle.dist_outside.proofs.memory_desk.newest.Goals as goal
+use Rattle.dist_outside.proofs.named_files.newest.Goals as goal
 
 pub returns-then-eq : goal.returns-then-eq
 returns-then-eq c =
