@@ -1,2 +1,4 @@
+pub mod KindText
+pub mod Writing
 pub mod PartLemmas
 pub mod StageLaws

@@ -1,5 +1,5 @@
 -- How a fault of a Packages file is told.
-use Rattle.std.specs.Prelude.{ℕ, List, ◌++◌, codes, decimal}
+use Rattle.std.specs.Prelude.{ℕ, List, [], ◌++◌, codes, decimal}
 use Rattle.dist_version.specs.declared.error.VersionError.{VersionError}
 use Rattle.dist_version.specs.declared.error.VersionError.TheVariants as version
 use Rattle.dist_relation.specs.declared.error.RelationError.{RelationError}
@@ -49,21 +49,24 @@ place_of (relation.Trailing place) = place
 place_of (relation.OpInProvides place) = place
 place_of relation.NoMemory = 0
 
-abbrev pub relation_text : RelationField → RelationError → List ℕ
-relation_text field fault = relation_name fault ++ (codes " in " ++ (field_text field ++ (codes " at " ++ decimal (place_of fault))))
+-- the name of a kind
+abbrev pub kind_name : Kind → List ℕ
+kind_name NoColon = codes "NoColon"
+kind_name BadFieldName = codes "BadFieldName"
+kind_name OrphanContinuation = codes "OrphanContinuation"
+kind_name DoubleField = codes "DoubleField"
+kind_name NoPackage = codes "NoPackage"
+kind_name BadPackageName = codes "BadPackageName"
+kind_name NoVersion = codes "NoVersion"
+kind_name (BadVersionText fault) = codes "BadVersionText " ++ version_text fault
+kind_name BadSource = codes "BadSource"
+kind_name BadArchitecture = codes "BadArchitecture"
+kind_name TwoArchitectures = codes "TwoArchitectures"
+kind_name (Relation field fault) = relation_name fault
+kind_name (Clash line) = codes "Clash"
 
--- a kind by its name, with what it carries
-abbrev pub kind_text : Kind → List ℕ
-kind_text NoColon = codes "NoColon"
-kind_text BadFieldName = codes "BadFieldName"
-kind_text OrphanContinuation = codes "OrphanContinuation"
-kind_text DoubleField = codes "DoubleField"
-kind_text NoPackage = codes "NoPackage"
-kind_text BadPackageName = codes "BadPackageName"
-kind_text NoVersion = codes "NoVersion"
-kind_text (BadVersionText fault) = codes "BadVersionText " ++ version_text fault
-kind_text BadSource = codes "BadSource"
-kind_text BadArchitecture = codes "BadArchitecture"
-kind_text TwoArchitectures = codes "TwoArchitectures"
-kind_text (Relation field fault) = relation_text field fault
-kind_text (Clash line) = codes "Clash with line " ++ decimal line
+-- what follows the name: the field and the place of a relation's fault, the line of a clash
+abbrev pub carried_text : Kind → List ℕ
+carried_text (Relation field fault) = codes " in " ++ (field_text field ++ (codes " at " ++ decimal (place_of fault)))
+carried_text (Clash line) = codes " with line " ++ decimal line
+carried_text _ = []

@@ -3,3 +3,4 @@ pub mod FaultText
 pub mod Refusal
 pub mod Stages
 pub mod LineParts
+pub mod Writes

@@ -5,7 +5,7 @@ use Rattle.dist_outside.specs.declared.trouble.What.TheVariants as what
 use Rattle.dist_outside.specs.declared.trouble.WorkError.{WorkError}
 use Rattle.dist_outside.specs.declared.trouble.WorkError.TheVariants as work
 use Rattle.dist_package.specs.declared.error.Fault.{Fault}
-use Rattle.dist_app.specs.FaultText.{kind_text}
+use Rattle.dist_app.specs.FaultText.{kind_name, carried_text}
 use Rattle.dist_app.specs.declared.status.Status.{Status}
 use Rattle.dist_app.specs.declared.status.Status.TheVariants as status
 use Rattle.dist_app.specs.declared.refusal.Refusal.{Refusal}
@@ -35,7 +35,7 @@ limit_text what.RecordLine = codes "RecordLine"
 -- what the line says after the program's name
 abbrev pub reason_text : Refusal → List ℕ
 reason_text BadWords = codes "bad command line"
-reason_text (BadPackages fault) = codes "bad packages at line " ++ (decimal fault.line ++ (codes ": " ++ kind_text fault.kind))
+reason_text (BadPackages fault) = codes "bad packages at line " ++ (decimal fault.line ++ (codes ": " ++ (kind_name fault.kind ++ carried_text fault.kind)))
 reason_text ReadFault = codes "read fault"
 reason_text WriteFault = codes "write fault"
 reason_text NoMemory = codes "no memory"

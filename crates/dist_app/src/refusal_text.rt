@@ -1,0 +1,81 @@
+//! The line on `err` of a run that was given up. It takes no memory.
+ghost use Rattle.std.specs.Prelude.{◌≡◌, ◌++◌, codes};
+ghost use Rattle.dist_app.specs.Refusal.{limit_text, reason_text, refusal_text};
+ghost use Rattle.dist_app.specs.Writes.{Writes};
+
+use crate::fault_text::write_kind;
+use crate::pieces::write_pieces;
+use crate::refusal::Refusal;
+use dist_outside::{Sink, What, WorkError, sink_grows, write_whole};
+use dist_package::Fault;
+use itoa::Buffer;
+
+/// The name of a limit.
+fn limit_text(what: What) -> &'static [u8]
+    ensures { result.now ≡ limit_text what }
+{
+    match what {
+        What::Bytes => b"Bytes",
+        What::Stanzas => b"Stanzas",
+        What::Variables => b"Variables",
+        What::Clauses => b"Clauses",
+        What::Literals => b"Literals",
+        What::Lines => b"Lines",
+        What::LineLiterals => b"LineLiterals",
+        What::Certificate => b"Certificate",
+        What::RecordLine => b"RecordLine",
+    }
+}
+
+/// Writes what is wrong with a Packages file.
+fn write_fault<E: Sink>(err: &mut E, fault: Fault) -> Result<(), WorkError>
+    ensures { Writes (reason_text (Refusal.BadPackages fault)) result (E.view err.old) (E.view err.new) }
+{
+    let mut buffer = Buffer::new();
+    let line = buffer.format(fault.line).as_bytes();
+    sink_grows();
+    match write_pieces(err, &[b"bad packages at line ", line, b": "]) {
+        Ok(()) => write_kind(err, fault.kind),
+        Err(error) => Err(error),
+    }
+}
+
+/// Writes what a line says after the program's name.
+fn write_reason<E: Sink>(err: &mut E, refusal: Refusal) -> Result<(), WorkError>
+    ensures { Writes (reason_text refusal) result (E.view err.old) (E.view err.new) }
+{
+    match refusal {
+        Refusal::BadWords => write_whole(err, b"bad command line"),
+        Refusal::BadPackages(fault) => write_fault(err, fault),
+        Refusal::ReadFault => write_whole(err, b"read fault"),
+        Refusal::WriteFault => write_whole(err, b"write fault"),
+        Refusal::NoMemory => write_whole(err, b"no memory"),
+        Refusal::TooLarge(what) => write_pieces(err, &[b"too large: ", limit_text(what)]),
+        Refusal::BadList(line) => {
+            let mut buffer = Buffer::new();
+            write_pieces(err, &[b"bad list at line ", buffer.format(line).as_bytes()])
+        }
+    }
+}
+
+/// Writes the line of a refusal, up to where the sink refuses it.
+pub(crate) fn write_refusal<E: Sink>(err: &mut E, refusal: Refusal) -> Result<(), WorkError>
+    ensures { Writes (refusal_text refusal) result (E.view err.old) (E.view err.new) }
+{
+    sink_grows();
+    match write_whole(err, b"distfuture: ") {
+        Ok(()) => write_ended(err, refusal),
+        Err(error) => Err(error),
+    }
+}
+
+/// Writes what a line says after the program's name, and its end.
+fn write_ended<E: Sink>(err: &mut E, refusal: Refusal) -> Result<(), WorkError>
+    ensures { Writes (reason_text refusal ++ codes "\n") result (E.view err.old) (E.view err.new) }
+{
+    sink_grows();
+    match write_reason(err, refusal) {
+        Ok(()) => write_whole(err, b"\n"),
+        Err(error) => Err(error),
+    }
+}
