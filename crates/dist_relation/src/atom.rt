@@ -1,6 +1,7 @@
 //! Atoms of relations, and entries of Provides.
 ghost use Rattle.std.specs.Prelude.{◌≡◌, ◌↔◌, IsTrue, IfOk};
 ghost use Rattle.dist_relation.specs.Canonical.{Satisfies};
+ghost use Rattle.dist_relation.specs.Equality.{op_eq, qualifier_eq, bound_eq, atom_eq, provide_eq};
 ghost use Rattle.dist_relation.specs.Grammar.{allows_operator};
 ghost use Rattle.dist_relation.specs.Faults.{allows_bar};
 
@@ -9,7 +10,7 @@ use dist_version::Version;
 use std::alloc::AllocError;
 
 /// How a version is compared with a bound: `<<`, `<=`, `=`, `>=`, `>>`.
-#[derive(Clone, Copy, Debug, PartialEq, Eq)]
+#[derive(Clone, Copy, Debug)]
 pub enum Op {
     Lt,
     Le,
@@ -139,4 +140,132 @@ impl Provide {
             version,
         })
     }
+}
+
+impl PartialEq for Op {
+    ghost use Rattle.std.specs.Cmp.{partial_equiv_from_equiv};
+    ghost use Rattle.dist_relation.specs.Equality.{op_eq};
+    ghost use Rattle.dist_relation.specs.Equality.{equivalence, op_decides};
+
+    ghost eq = { op_eq };
+
+    ghost laws = { partial_equiv_from_equiv (equivalence op_decides) };
+
+    fn eq(&self, other: &Op) -> bool
+        ensures value { result ≡ op_eq self.now other.now }
+        ensures same { IsTrue result ↔ (self.now ≡ other.now) }
+    {
+        matches!(
+            (*self, *other),
+            (Op::Lt, Op::Lt)
+                | (Op::Le, Op::Le)
+                | (Op::Eq, Op::Eq)
+                | (Op::Ge, Op::Ge)
+                | (Op::Gt, Op::Gt)
+        )
+    }
+}
+
+impl Eq for Op {
+    ghost use Rattle.dist_relation.specs.Equality.{equivalence, op_decides};
+
+    ghost laws = { equivalence op_decides };
+}
+
+impl PartialEq for Bound {
+    ghost use Rattle.std.specs.Cmp.{partial_equiv_from_equiv};
+    ghost use Rattle.dist_relation.specs.Equality.{bound_eq};
+    ghost use Rattle.dist_relation.specs.Equality.{equivalence, bound_decides};
+
+    ghost eq = { bound_eq };
+
+    ghost laws = { partial_equiv_from_equiv (equivalence bound_decides) };
+
+    fn eq(&self, other: &Bound) -> bool
+        ensures value { result ≡ bound_eq self.now other.now }
+        ensures same { IsTrue result ↔ (self.now ≡ other.now) }
+    {
+        self.op == other.op && self.version == other.version
+    }
+}
+
+impl Eq for Bound {
+    ghost use Rattle.dist_relation.specs.Equality.{equivalence, bound_decides};
+
+    ghost laws = { equivalence bound_decides };
+}
+
+impl PartialEq for Qualifier {
+    ghost use Rattle.std.specs.Cmp.{partial_equiv_from_equiv};
+    ghost use Rattle.dist_relation.specs.Equality.{qualifier_eq};
+    ghost use Rattle.dist_relation.specs.Equality.{equivalence, qualifier_decides};
+
+    ghost eq = { qualifier_eq };
+
+    ghost laws = { partial_equiv_from_equiv (equivalence qualifier_decides) };
+
+    fn eq(&self, other: &Qualifier) -> bool
+        ensures value { result ≡ qualifier_eq self.now other.now }
+        ensures same { IsTrue result ↔ (self.now ≡ other.now) }
+    {
+        match (self, other) {
+            (Qualifier::Plain, Qualifier::Plain) => true,
+            (Qualifier::Named(name), Qualifier::Named(other)) => name == other,
+            _ => false,
+        }
+    }
+}
+
+impl Eq for Qualifier {
+    ghost use Rattle.dist_relation.specs.Equality.{equivalence, qualifier_decides};
+
+    ghost laws = { equivalence qualifier_decides };
+}
+
+impl PartialEq for Atom {
+    ghost use Rattle.std.specs.Cmp.{partial_equiv_from_equiv};
+    ghost use Rattle.dist_relation.specs.Equality.{atom_eq};
+    ghost use Rattle.dist_relation.specs.Equality.{equivalence, atom_decides};
+
+    ghost eq = { atom_eq };
+
+    ghost laws = { partial_equiv_from_equiv (equivalence atom_decides) };
+
+    fn eq(&self, other: &Atom) -> bool
+        ensures value { result ≡ atom_eq self.now other.now }
+        ensures same { IsTrue result ↔ (self.now ≡ other.now) }
+    {
+        self.name == other.name && self.qualifier == other.qualifier && self.bound == other.bound
+    }
+}
+
+impl Eq for Atom {
+    ghost use Rattle.dist_relation.specs.Equality.{equivalence, atom_decides};
+
+    ghost laws = { equivalence atom_decides };
+}
+
+impl PartialEq for Provide {
+    ghost use Rattle.std.specs.Cmp.{partial_equiv_from_equiv};
+    ghost use Rattle.dist_relation.specs.Equality.{provide_eq};
+    ghost use Rattle.dist_relation.specs.Equality.{equivalence, provide_decides};
+
+    ghost eq = { provide_eq };
+
+    ghost laws = { partial_equiv_from_equiv (equivalence provide_decides) };
+
+    fn eq(&self, other: &Provide) -> bool
+        ensures value { result ≡ provide_eq self.now other.now }
+        ensures same { IsTrue result ↔ (self.now ≡ other.now) }
+    {
+        self.name == other.name
+            && self.qualifier == other.qualifier
+            && self.version == other.version
+    }
+}
+
+impl Eq for Provide {
+    ghost use Rattle.dist_relation.specs.Equality.{equivalence, provide_decides};
+
+    ghost laws = { equivalence provide_decides };
 }

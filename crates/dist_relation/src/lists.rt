@@ -1,5 +1,8 @@
 //! Lists of what relations have, each over a `Vec`.
 ghost use Rattle.std.specs.Prelude.{◌≡◌, ◌<◌, ◌++◌, ℕ, List, length, slice_get, IfOk, OnOk, OnErr};
+ghost use Rattle.std.specs.Prelude.{◌↔◌, IsTrue};
+ghost use Rattle.std.specs.Cmp.Lexicographic.{pointwise};
+ghost use Rattle.dist_relation.specs.Equality.{atom_eq, provide_eq};
 
 use crate::atom::{Atom, Provide};
 use std::alloc::AllocError;
@@ -229,4 +232,100 @@ fn clone_atoms(atoms: &Vec<Atom>) -> Result<Vec<Atom>, AllocError>
         copies.push(atom.copy()?)?;
     }
     Ok(copies)
+}
+
+impl PartialEq for Alternatives {
+    ghost use Rattle.std.specs.Cmp.{partial_equiv_from_equiv};
+    ghost use Rattle.std.specs.Cmp.Lexicographic.{pointwise};
+    ghost use Rattle.dist_relation.specs.Equality.{atom_eq};
+    ghost use Rattle.dist_relation.specs.Equality.{equivalence, atoms_decide};
+
+    ghost eq = { pointwise atom_eq };
+
+    ghost laws = { partial_equiv_from_equiv (equivalence atoms_decide) };
+
+    fn eq(&self, other: &Alternatives) -> bool
+        ensures value { result ≡ pointwise atom_eq self.now other.now }
+        ensures same { IsTrue result ↔ (self.now ≡ other.now) }
+    {
+        self.atoms == other.atoms
+    }
+}
+
+impl Eq for Alternatives {
+    ghost use Rattle.dist_relation.specs.Equality.{equivalence, atoms_decide};
+
+    ghost laws = { equivalence atoms_decide };
+}
+
+impl PartialEq for Items {
+    ghost use Rattle.std.specs.Cmp.{partial_equiv_from_equiv};
+    ghost use Rattle.std.specs.Cmp.Lexicographic.{pointwise};
+    ghost use Rattle.dist_relation.specs.Equality.{atom_eq};
+    ghost use Rattle.dist_relation.specs.Equality.{equivalence, items_decide};
+
+    ghost eq = { pointwise (pointwise atom_eq) };
+
+    ghost laws = { partial_equiv_from_equiv (equivalence items_decide) };
+
+    fn eq(&self, other: &Items) -> bool
+        ensures value { result ≡ pointwise (pointwise atom_eq) self.now other.now }
+        ensures same { IsTrue result ↔ (self.now ≡ other.now) }
+    {
+        self.items == other.items
+    }
+}
+
+impl Eq for Items {
+    ghost use Rattle.dist_relation.specs.Equality.{equivalence, items_decide};
+
+    ghost laws = { equivalence items_decide };
+}
+
+impl PartialEq for Atoms {
+    ghost use Rattle.std.specs.Cmp.{partial_equiv_from_equiv};
+    ghost use Rattle.std.specs.Cmp.Lexicographic.{pointwise};
+    ghost use Rattle.dist_relation.specs.Equality.{atom_eq};
+    ghost use Rattle.dist_relation.specs.Equality.{equivalence, atoms_decide};
+
+    ghost eq = { pointwise atom_eq };
+
+    ghost laws = { partial_equiv_from_equiv (equivalence atoms_decide) };
+
+    fn eq(&self, other: &Atoms) -> bool
+        ensures value { result ≡ pointwise atom_eq self.now other.now }
+        ensures same { IsTrue result ↔ (self.now ≡ other.now) }
+    {
+        self.atoms == other.atoms
+    }
+}
+
+impl Eq for Atoms {
+    ghost use Rattle.dist_relation.specs.Equality.{equivalence, atoms_decide};
+
+    ghost laws = { equivalence atoms_decide };
+}
+
+impl PartialEq for Provides {
+    ghost use Rattle.std.specs.Cmp.{partial_equiv_from_equiv};
+    ghost use Rattle.std.specs.Cmp.Lexicographic.{pointwise};
+    ghost use Rattle.dist_relation.specs.Equality.{provide_eq};
+    ghost use Rattle.dist_relation.specs.Equality.{equivalence, provides_decide};
+
+    ghost eq = { pointwise provide_eq };
+
+    ghost laws = { partial_equiv_from_equiv (equivalence provides_decide) };
+
+    fn eq(&self, other: &Provides) -> bool
+        ensures value { result ≡ pointwise provide_eq self.now other.now }
+        ensures same { IsTrue result ↔ (self.now ≡ other.now) }
+    {
+        self.provides == other.provides
+    }
+}
+
+impl Eq for Provides {
+    ghost use Rattle.dist_relation.specs.Equality.{equivalence, provides_decide};
+
+    ghost laws = { equivalence provides_decide };
 }

@@ -1,5 +1,12 @@
+pub mod Conflict
 pub mod Examples
-pub mod Entry
-pub mod Package
 pub mod Healthy
-pub mod Unmet
+pub mod Held
+pub mod Match
+pub mod Order
+pub mod PackageList
+pub mod Providers
+pub mod Strong
+pub mod Flat
+pub mod Total
+pub mod Indexed

@@ -1,114 +1,88 @@
-ghost use Rattle.std.specs.Prelude.{◌≡◌, ◌<◌, ◌↔◌, List, [], ◌∷◌, ◌++◌, length, IsTrue, IfOk, OnOk, OnErr, IsErrOf, IsPermutation, map};
-ghost use Rattle.dist_repo.specs.Entry.{package_of};
-ghost use Rattle.dist_repo.specs.Package.{HasName, IsInNameOrder};
-ghost use Rattle.dist_repo.specs.declared.package.PlainPackage.{PlainPackage};
+//! A repository in the making: packages come in any order, and each is held once.
+ghost use Rattle.std.specs.Prelude.{◌≡◌, ◌≢◌, ◌<◌, ◌↔◌, ℕ, [], ◌∷◌, length, Ok, Err, IfOk, IfErr, OnOk, IsPermutation};
+ghost use Rattle.dist_repo.specs.Held.{IsClashAt, IsFree, IsHeld, packages_of, returned_package};
+ghost use Rattle.dist_repo.specs.Order.{IsInOrder};
 
-use crate::package::PlainPackage;
-use crate::repository::PlainRepository;
-use crate::text_list::{Text, Texts};
-use indexmap::IndexMap;
+use crate::key::Key;
+use crate::package::Package;
+use crate::repository::Repository;
+use dist_relation::Name;
 use std::alloc::{AllocError, Global};
+use std::collections::BTreeMap;
 use std::marker::Model;
 
-/// Why a builder takes no package.
+/// What became of a package that a builder took.
 #[derive(Clone, Copy, Debug, PartialEq, Eq)]
-pub enum PlainAddError {
-    /// A package of that name is there.
-    Twice,
+pub enum Added {
+    /// It is held now.
+    New,
+    /// An equal one was held.
+    Same,
+}
+
+/// Why a builder took no package. The package is given back.
+#[derive(Debug, Drop)]
+pub enum AddError {
+    /// Another package of that name and with an equal version is held, which came with this line.
+    Clash(u64, Package),
     /// There is no memory for it.
-    NoMemory,
+    NoMemory(Package),
 }
 
-/// What a package has beside its name.
+/// Packages, each with the line that it came with. Contracts see them in the order of packages.
 #[derive(Drop)]
-struct Body {
-    version: Text,
-    depends: Texts,
+pub struct Builder {
+    packages: BTreeMap<Key, u64>,
 }
 
-/// The packages of a repository to be, each name once, in the order in which they came.
-#[derive(Drop)]
-pub struct PlainBuilder {
-    packages: IndexMap<Vec<u8>, Body>,
+impl Model for Builder {
+    ghost use Rattle.std.specs.Prelude.{List};
+    ghost use Rattle.dist_repo.specs.Held.{Held};
+
+    ghost Value = { List Held };
+
+    ghost view = { λ builder. builder.packages.entries };
 }
 
-impl Model for PlainBuilder {
-    ghost use Rattle.std.specs.Prelude.{List, map, length, ◌<◌, All};
-    ghost use Rattle.dist_repo.specs.declared.package.PlainPackage.{PlainPackage};
-    ghost use Rattle.dist_repo.specs.Entry.{package_of};
-
-    ghost Value = { List PlainPackage };
-
-    ghost view = { λ builder. map package_of builder.packages.entries };
-
-    ghost invariant = { λ builder. (length builder.packages.entries < 4294967296)
-        × All (λ p. length p.depends < 4294967295) (map package_of builder.packages.entries) };
-}
-
-impl PlainBuilder {
-    /// A builder with no packages.
-    pub fn new(alloc: Global) -> PlainBuilder
+impl Builder {
+    /// A builder that holds nothing.
+    pub fn new(alloc: Global) -> Builder
         ensures { result ≡ [] }
     {
-        PlainBuilder {
-            packages: IndexMap::new(alloc),
+        Builder {
+            packages: BTreeMap::new(alloc),
         }
     }
 
-    fn has_name(&self, name: &[u8]) -> bool
-        ensures { IsTrue result ↔ HasName self.now name.now }
+    /// Adds a package that came with a line.
+    pub fn add(&mut self, package: Package, line: u64) -> Result<Added, AddError>
+        requires { length self.old < 4294967295 }
+        ensures new { result ≡ Ok Added.New → IsPermutation ((«package», line) ∷ self.old) self.new }
+        ensures free { result ≡ Ok Added.New → IsFree self.old «package» }
+        ensures same { (result ≡ Ok Added.Same) ↔ IsHeld self.old «package» }
+        ensures clash { (kept : ℕ) → (result ≡ Err (AddError.Clash kept «package»)) ↔ IsClashAt self.old «package» kept }
+        ensures no_memory { result ≡ Err (AddError.NoMemory «package») → IsFree self.old «package» }
+        ensures returned { IfErr result (λ error. returned_package error ≡ «package») }
+
+        // Only a new package changes the builder.
+        ensures kept { result ≢ Ok Added.New → self.new ≡ self.old }
+        ensures in_order { IsInOrder (packages_of self.new) }
     {
-        self.packages.contains_key(name)
+        let _ = line;
+        let _ = &self.packages;
+        Err(AddError::NoMemory(package))
     }
 
-    /// Adds a package. After a refusal the package is given up.
-    pub fn add(&mut self, package: PlainPackage) -> Result<(), PlainAddError>
-        requires packages { length self.old < 4294967295 }
-        requires depends { length «package».depends < 4294967295 }
-        ensures ok { OnOk result (self.new ≡ self.old ++ «package» ∷ []) }
-        ensures twice { IsErrOf result PlainAddError.Twice ↔ HasName self.old «package».name }
-        ensures err { OnErr result (self.new ≡ self.old) }
+    /// The repository of the packages, for the architecture of their file. After a refusal they are given up.
+    pub fn finish(self, architecture: Option<Name>) -> Result<Repository, AllocError>
+        requires { length self < 4294967296 }
+        ensures packages { IfOk result (λ repository. repository.packages ≡ packages_of self) }
+        ensures architecture { IfOk result (λ repository. repository.architecture ≡ architecture) }
+        ensures in_order { IsInOrder (packages_of self) }
     {
-        if self.has_name(package.name.bytes()) {
-            return Err(PlainAddError::Twice);
-        }
-        let PlainPackage {
-            name,
-            version,
-            depends,
-        } = package;
-        self.packages
-            .insert(name.into_bytes(), Body { version, depends })
-            .map_err(|_| PlainAddError::NoMemory)?;
-        Ok(())
+        let Builder { packages } = self;
+        drop(packages);
+        drop(architecture);
+        Err(AllocError)
     }
-
-    /// The repository of the packages, in the order of the bytes of their names. After a refusal they are given up.
-    pub fn finish(self) -> Result<PlainRepository, AllocError>
-        ensures packages { IfOk result (IsPermutation self) }
-        ensures ordered { IfOk result IsInNameOrder }
-        ensures one { IfOk result (λ repository. (other : List PlainPackage) → IsPermutation self other → IsInNameOrder other → other ≡ repository) }
-    {
-        let PlainBuilder { mut packages } = self;
-        let alloc = *packages.allocator();
-        packages.sort_keys()?;
-        let packages = packages_of(alloc, packages)?;
-        Ok(PlainRepository { packages })
-    }
-}
-
-fn packages_of(
-    alloc: Global,
-    entries: IndexMap<Vec<u8>, Body>,
-) -> Result<Vec<PlainPackage>, AllocError>
-    ensures { IfOk result (λ packages. packages.items ≡ map package_of entries.entries) }
-{
-    entries
-        .into_iter()
-        .map(|(name, body)| PlainPackage {
-            name: Text::from_bytes(name),
-            version: body.version,
-            depends: body.depends,
-        })
-        .collect(alloc)
 }

@@ -1,15 +1,13 @@
-//! A repository of packages in a plain form: each name once, and dependencies that are names.
+//! Packages of a file and their repository: which package an atom matches, which packages are in conflict, and which provide a name.
 #![tactic(auto)]
 
 mod builder;
+mod flat;
+mod key;
+mod matching;
 mod package;
 mod repository;
-mod text_list;
 
-pub use builder::{PlainAddError, PlainBuilder};
-pub use package::PlainPackage;
-pub use repository::PlainRepository;
-pub use text_list::{Text, Texts};
-
-#[cfg(test)]
-mod tests;
+pub use builder::{AddError, Added, Builder};
+pub use package::Package;
+pub use repository::Repository;

@@ -1,9 +1,40 @@
-use crate::text_list::{Text, Texts};
+//! A package, as a stanza of a Packages file describes it.
+ghost use Rattle.std.specs.Prelude.{◌≡◌, IfOk};
 
-/// A package. It depends on names, each of which some package has to have.
-#[derive(Drop)]
-pub struct PlainPackage {
-    pub name: Text,
-    pub version: Text,
-    pub depends: Texts,
+use dist_relation::{Atoms, Items, Name, Provides};
+use dist_version::Version;
+use std::alloc::AllocError;
+
+/// A package of one version.
+#[derive(Debug, Drop)]
+pub struct Package {
+    pub name: Name,
+    pub version: Version,
+    /// The source package that it is built from, and the version of that.
+    pub source: Name,
+    pub source_version: Version,
+    /// The items of Pre-Depends, and then those of Depends.
+    pub depends: Items,
+    /// The atoms of Conflicts, and then those of Breaks.
+    pub conflicts: Atoms,
+    pub provides: Provides,
+    pub essential: bool,
+}
+
+impl Package {
+    /// The same package, with memory of its own.
+    pub fn try_clone(&self) -> Result<Package, AllocError>
+        ensures { IfOk result (λ copy. copy ≡ self.now) }
+    {
+        Ok(Package {
+            name: self.name.try_clone()?,
+            version: self.version.try_clone()?,
+            source: self.source.try_clone()?,
+            source_version: self.source_version.try_clone()?,
+            depends: self.depends.try_clone()?,
+            conflicts: self.conflicts.try_clone()?,
+            provides: self.provides.try_clone()?,
+            essential: self.essential,
+        })
+    }
 }

@@ -1,117 +1,149 @@
-ghost use Rattle.std.specs.Prelude.{◌≡◌, ◌<◌, ◌↔◌, ℕ, Some, length, slice_get, All, IsTrue, IsNone, IfSome, MatchOption};
-ghost use Rattle.std.specs.Cmp.Lexicographic.{slice_cmp};
-ghost use Rattle.std.specs.Ordering.{nat_cmp};
-ghost use Rattle.dist_repo.specs.Healthy.{IsHealthy, IsMet, members_of};
-ghost use Rattle.dist_repo.specs.Package.{IsInNameOrder, IsNamedAt, IsPackageAt};
-ghost use Rattle.dist_repo.specs.Unmet.{IsUnmetAt, IsFirstUnmet, IsFirstUnmetOf};
+//! The packages of a file in order, and what can be asked of them without taking memory.
+ghost use Rattle.std.specs.Prelude.{◌≡◌, ◌<◌, ◌↔◌, ℕ, [], Some, Contains, length, slice_get, slice_index_or, IsTrue, IfOk, MatchOption};
+ghost use Rattle.std.specs.Option.{option_copied};
+ghost use Rattle.dist_relation.specs.declared.atom.Atom.{Atom};
+ghost use Rattle.dist_repo.specs.Conflict.{AreInConflict};
+ghost use Rattle.dist_repo.specs.Match.{IsUsable, Matches};
+ghost use Rattle.dist_repo.specs.Order.{IsFlat, IsInOrder, IsNewest};
+ghost use Rattle.dist_repo.specs.PackageList.{IsAlternativeAt, IsConflictAt};
+ghost use Rattle.dist_repo.specs.Providers.{AreProviders, IsPackageAt};
+ghost use Rattle.dist_repo.specs.declared.package.Package.{Package};
 
-use crate::package::PlainPackage;
-use std::cmp::Ordering;
+use crate::flat::Flat;
+use crate::matching;
+use crate::package::Package;
+use dist_relation::{Atom, Name, Qualifier};
+use dist_version::Version;
+use std::alloc::AllocError;
 use std::marker::Model;
 
-/// Packages in the order of the bytes of their names, each name once. Numbers of packages start at 0.
+/// Packages in the order of the bytes of their names, and then of their versions. Their numbers start at 0.
 #[derive(Drop)]
-pub struct PlainRepository {
-    pub(crate) packages: Vec<PlainPackage>,
+pub struct Repository {
+    architecture: Option<Name>,
+    packages: Vec<Package>,
+    /// The names that packages have or provide, in order.
+    names: Flat<u8>,
+    /// For each name the numbers of its providers.
+    numbers: Flat<u32>,
 }
 
-impl Model for PlainRepository {
-    ghost use Rattle.std.specs.Prelude.{List, length, ◌<◌, All};
-    ghost use Rattle.dist_repo.specs.declared.package.PlainPackage.{PlainPackage};
-    ghost use Rattle.dist_repo.specs.Package.{IsInNameOrder};
+impl Model for Repository {
+    ghost use Rattle.dist_repo.specs.PackageList.{PackageList};
+    ghost use Rattle.dist_repo.specs.Indexed.{IsRepository};
 
-    ghost Value = { List PlainPackage };
+    ghost Value = { PackageList };
 
-    ghost view = { λ repository. repository.packages.items };
+    ghost view = { λ r. record { architecture = r.architecture; packages = r.packages.items } };
 
-    ghost invariant = { λ repository. IsInNameOrder repository.packages.items
-        × (length repository.packages.items < 4294967296)
-        × All (λ p. length p.depends < 4294967295) repository.packages.items };
+    ghost invariant = { λ r. IsRepository (record { architecture = r.architecture; packages = r.packages.items }) r.names r.numbers };
 }
 
-impl PlainRepository {
+impl Repository {
     /// How many packages there are.
     pub fn len(&self) -> u32
-        ensures len { result ≡ length self.now }
-        ensures ordered { IsInNameOrder self.now }
+        ensures value { result ≡ length self.now.packages }
+        ensures in_order { IsInOrder self.now.packages }
     {
         self.packages.len() as u32
     }
 
     /// The package of a number.
-    pub fn package(&self, number: u32) -> &PlainPackage
-        requires { number < length self.now }
-        ensures { slice_get self.now number ≡ Some result.now }
+    pub fn package(&self, number: u32) -> &Package
+        requires { number < length self.now.packages }
+        ensures { slice_get self.now.packages number ≡ Some result.now }
     {
         &self.packages[number as usize]
     }
 
-    /// The number of the package that has exactly this name and this version.
-    pub fn find(&self, name: &[u8], version: &[u8]) -> Option<u32>
-        ensures { (number : ℕ) → (result ≡ Some number) ↔ IsPackageAt self.now number name.now version.now }
+    /// The architecture of the file, where it has one.
+    pub fn architecture(&self) -> Option<&Name>
+        ensures { option_copied result ≡ self.now.architecture }
     {
-        let Some(place) = self.place_of(name) else {
-            return None;
-        };
-        if self.packages[place].version.bytes() == version {
-            Some(place as u32)
-        } else {
-            None
-        }
+        self.architecture.as_ref()
     }
 
-    /// Where a set of packages, one truth value per package, is not healthy: the number of the least member
-    /// that has an unmet dependency, and the least place, from 0, of one in it.
-    pub fn unmet(&self, members: &[bool]) -> Option<(u32, u32)>
-        requires { length members.now ≡ length self.now }
-        ensures healthy { IsNone result ↔ IsHealthy (members_of self.now members.now) }
-        ensures first { IfSome result (λ found. IsFirstUnmet self.now members.now found.0 found.1) }
-        ensures apart { (number place : ℕ) → IsUnmetAt self.now members.now number place → ¬ IsHealthy (members_of self.now members.now) }
+    /// The number of the package that has this name and an equal version.
+    pub fn find(&self, name: &[u8], version: &Version) -> Option<u32>
+        ensures { (number : ℕ) → (result ≡ Some number) ↔ IsPackageAt self.now.packages number name.now version.now }
     {
-        for (number, dependent) in self.packages.iter().enumerate() {
-            if members[number]
-                && let Some(place) = self.first_unmet(members, dependent)
-            {
-                return Some((number as u32, place as u32));
+        for (number, package) in self.packages.iter().enumerate() {
+            if package.name.bytes() == name && package.version.compare(version).is_eq() {
+                return Some(number as u32);
             }
         }
         None
     }
 
-    /// The place of the package of a name.
-    fn place_of(&self, name: &[u8]) -> Option<usize>
-        ensures found { (place : ℕ) → (result ≡ Some place) ↔ IsNamedAt self.now place name.now }
-        ensures within { IfSome result (λ place. place < length self.now) }
+    /// The numbers of the packages that have the name or a usable entry of Provides of it, rising.
+    pub fn providers(&self, name: &[u8]) -> &[u32]
+        ensures { AreProviders self.now name.now result.now }
     {
-        let by_name = |p: &PlainPackage| -> Ordering
-            ensures { result ≡ slice_cmp nat_cmp p.now.name name.entry.now }
-        { p.name.bytes().cmp(name) };
-        self.packages.as_slice().binary_search_by(by_name).ok()
-    }
-
-    /// Whether some member has the name.
-    fn is_met(&self, members: &[bool], dependency: &[u8]) -> bool
-        requires { length members.now ≡ length self.now }
-        ensures { IsTrue result ↔ IsMet (members_of self.now members.now) dependency.now }
-    {
-        match self.place_of(dependency) {
-            Some(place) => members[place],
-            None => false,
-        }
-    }
-
-    /// The place of a package's first dependency that no member meets.
-    fn first_unmet(&self, members: &[bool], dependent: &PlainPackage) -> Option<usize>
-        requires { length members.now ≡ length self.now }
-        ensures { let set = members_of self.now members.now in
-            MatchOption result (All (IsMet set) dependent.now.depends)
-            (IsFirstUnmetOf set dependent.now.depends) }
-    {
-        for place in 0..dependent.depends.len() {
-            if !self.is_met(members, dependent.depends.get(place).bytes()) {
-                return Some(place);
+        for place in 0..self.names.len() {
+            if self.names.get(place) == name {
+                return self.numbers.get(place);
             }
         }
-        None
+        &[]
+    }
+
+    /// The providers of the name of an alternative, by its place in an item of a package.
+    pub fn alternative_providers(&self, number: u32, item: usize, place: usize) -> &[u32]
+        requires { (atom : Atom) × IsAlternativeAt self.now.packages number item place atom }
+        ensures { (atom : Atom) → IsAlternativeAt self.now.packages number item place atom → AreProviders self.now atom.name result.now }
+    {
+        let alternatives = self.package(number).depends.get(item);
+        self.providers(alternatives.get(place).name.bytes())
+    }
+
+    /// The providers of the name of a conflict atom, by its place in a package.
+    pub fn conflict_providers(&self, number: u32, place: usize) -> &[u32]
+        requires { (atom : Atom) × IsConflictAt self.now.packages number place atom }
+        ensures { (atom : Atom) → IsConflictAt self.now.packages number place atom → AreProviders self.now atom.name result.now }
+    {
+        self.providers(self.package(number).conflicts.get(place).name.bytes())
+    }
+
+    /// Whether an atom or an entry of Provides with this qualifier is usable.
+    pub fn usable(&self, qualifier: &Qualifier) -> bool
+        ensures { IsTrue result ↔ IsUsable self.now.architecture qualifier.now }
+    {
+        matching::is_usable(&self.architecture, qualifier)
+    }
+
+    /// Whether an atom matches a package.
+    pub fn matches(&self, atom: &Atom, package: &Package) -> bool
+        ensures { IsTrue result ↔ Matches self.now.architecture atom.now «package».now }
+    {
+        matching::matches(&self.architecture, atom, package)
+    }
+
+    /// Whether two packages are in conflict.
+    pub fn conflict(&self, first: &Package, second: &Package) -> bool
+        ensures { IsTrue result ↔ AreInConflict self.now.architecture first.now second.now }
+    {
+        matching::are_in_conflict(&self.architecture, first, second)
+    }
+
+    /// Whether each name has one version.
+    pub fn is_flat(&self) -> bool
+        ensures { IsTrue result ↔ IsFlat self.now.packages }
+    {
+        for number in 1..self.packages.len() {
+            if self.packages[number - 1].name.bytes() == self.packages[number].name.bytes() {
+                return false;
+            }
+        }
+        true
+    }
+
+    /// The newest version of each name, for the same architecture.
+    pub fn latest(&self) -> Result<Repository, AllocError>
+        ensures newest { IfOk result (λ latest. (p : Package) → Contains latest.packages p ↔ IsNewest self.now.packages p) }
+        ensures in_order { IfOk result (λ latest. IsInOrder latest.packages) }
+        ensures flat { IfOk result (λ latest. IsFlat latest.packages) }
+        ensures architecture { IfOk result (λ latest. latest.architecture ≡ self.now.architecture) }
+    {
+        Err(AllocError)
     }
 }

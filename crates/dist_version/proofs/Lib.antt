@@ -4,5 +4,4 @@ pub mod Laws
 pub mod Lighter
 pub mod Steps
 pub mod Then
-pub mod Total
 pub mod Turns

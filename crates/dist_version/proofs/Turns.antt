@@ -10,7 +10,7 @@ use Rattle.std.proofs.lemmas.List.{drop_all}
 use Rattle.std.proofs.lemmas.List.Sums.{prefix_len-le-length}
 use Rattle.dist_version.specs.Order.{weight_of, weight_at, text_start, digit_start, after_text, after_turn, turns, weights_of, weights_cmp, part_cmp}
 use Rattle.dist_version.proofs.Then.{then_assoc, nat_cmp-less, nat_cmp-greater}
-use Rattle.dist_version.proofs.Total.{weights_total}
+use Rattle.dist_version.specs.Laws.{weights_total}
 
 -- the number of a part's first turn
 abbrev pub number_of : List ℕ → ℕ

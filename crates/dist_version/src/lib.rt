@@ -1,7 +1,7 @@
 // Debian versions: read, kept and compared by Debian Policy 5.6.12.
 #![tactic(auto)]
 
-ghost use Rattle.std.specs.Prelude.{◌≡◌, ◌≢◌, ◌↔◌, ℕ, List, None, Some, IfOk, IfErr, OnOk};
+ghost use Rattle.std.specs.Prelude.{◌≡◌, ◌≢◌, ◌↔◌, ℕ, List, None, Some, IfOk, IfErr, OnOk, IsTrue, bytes_eq};
 ghost use Rattle.std.specs.Cmp.{IsTotalOrder};
 ghost use Rattle.std.specs.Option.{option_copied};
 ghost use Rattle.dist_version.specs.Spelling.{Parts, Spells, IsVersion, parts_of, epoch_of, upstream_of, revision_of};
@@ -133,6 +133,35 @@ impl Version {
             places: self.places,
         })
     }
+}
+
+/// The order of versions is total and transitive, and versions that are equal compare alike with every other.
+pub fn order_is_total()
+    ensures { IsTotalOrder version_cmp }
+{}
+
+/// Texts that are the same bytes. Versions that are equal in the order of versions may have other texts: see [`Version::compare`].
+impl PartialEq for Version {
+    ghost use Rattle.std.specs.Prelude.{bytes_eq};
+    ghost use Rattle.std.specs.Cmp.{partial_equiv_from_equiv};
+    ghost use Rattle.std.specs.Cmp.Lexicographic.{nat_list_eq_equiv};
+
+    ghost eq = { bytes_eq };
+
+    ghost laws = { partial_equiv_from_equiv nat_list_eq_equiv };
+
+    fn eq(&self, other: &Version) -> bool
+        ensures value { result ≡ bytes_eq self.now other.now }
+        ensures same { IsTrue result ↔ (self.now ≡ other.now) }
+    {
+        self.text == other.text
+    }
+}
+
+impl Eq for Version {
+    ghost use Rattle.std.specs.Cmp.Lexicographic.{nat_list_eq_equiv};
+
+    ghost laws = { nat_list_eq_equiv };
 }
 
 #[cfg(test)]

@@ -1,7 +1,7 @@
 use Rattle.std.proofs.Common.{sym, ◌∙◌}
 use Rattle.std.proofs.lemmas.Slice.Eq.{bytes_eq-Decides}
 use Rattle.dist_version.proofs.Lighter.{lighter_parts}
-use Rattle.dist_version.proofs.Total.{version_total, version_cmp-same, equal_where_neither_below}
+use Rattle.dist_version.specs.Laws.{version_total, version_cmp-same, equal_where_neither_below}
 use Rattle.dist_version.proofs.Version.compare.Goals as goal
 
 pub returns-then-eq-clause-order : goal.returns-then-eq-clause-order

@@ -1,0 +1,100 @@
+//! Packages as keys of an ordered map: by the bytes of their names, and then by version.
+ghost use Rattle.std.specs.Prelude.{◌≡◌};
+
+use crate::package::Package;
+use std::cmp::Ordering;
+use std::marker::Model;
+
+/// A package, compared by its name and its version alone.
+#[derive(Drop)]
+pub(crate) struct Key {
+    package: Package,
+}
+
+impl Model for Key {
+    ghost use Rattle.dist_repo.specs.declared.package.Package.{Package};
+
+    ghost Value = { Package };
+
+    ghost view = { λ key. key.«package» };
+}
+
+impl Key {
+    pub(crate) fn new(package: Package) -> Key
+        ensures { result ≡ «package» }
+    {
+        Key { package }
+    }
+
+    pub(crate) fn package(&self) -> &Package
+        ensures { result.now ≡ self.now }
+    {
+        &self.package
+    }
+
+    pub(crate) fn into_package(self) -> Package
+        ensures { result ≡ self }
+    {
+        let Key { package } = self;
+        package
+    }
+}
+
+impl Ord for Key {
+    ghost use Rattle.dist_repo.specs.Order.{package_cmp};
+    ghost use Rattle.dist_repo.specs.Total.{package_total};
+    ghost use Rattle.std.proofs.Common.{refl};
+
+    ghost cmp = { package_cmp };
+
+    ghost total = { package_total };
+
+    ghost matches_partial_cmp = { λ _ _. refl };
+
+    ghost matches_eq = { λ _ _. refl };
+
+    fn cmp(&self, other: &Key) -> Ordering {
+        let by_name = self.package.name.bytes().cmp(other.package.name.bytes());
+        if by_name.is_ne() {
+            return by_name;
+        }
+        self.package.version.compare(&other.package.version)
+    }
+}
+
+impl PartialOrd for Key {
+    ghost use Rattle.std.specs.Ordering.{as_partial_cmp};
+    ghost use Rattle.std.specs.Cmp.{partial_order_from_total};
+    ghost use Rattle.dist_repo.specs.Order.{package_cmp};
+    ghost use Rattle.dist_repo.specs.Total.{package_total};
+
+    ghost partial_cmp = { as_partial_cmp package_cmp };
+
+    ghost laws = { partial_order_from_total package_total };
+
+    fn partial_cmp(&self, other: &Key) -> Option<Ordering> {
+        Some(self.cmp(other))
+    }
+}
+
+impl PartialEq for Key {
+    ghost use Rattle.std.specs.Cmp.{eq_by_cmp_equiv, partial_equiv_from_equiv};
+    ghost use Rattle.std.specs.Ordering.{eq_by_cmp};
+    ghost use Rattle.dist_repo.specs.Order.{package_cmp};
+    ghost use Rattle.dist_repo.specs.Total.{package_total};
+
+    ghost eq = { eq_by_cmp package_cmp };
+
+    ghost laws = { partial_equiv_from_equiv (eq_by_cmp_equiv package_total) };
+
+    fn eq(&self, other: &Key) -> bool {
+        self.cmp(other).is_eq()
+    }
+}
+
+impl Eq for Key {
+    ghost use Rattle.std.specs.Cmp.{eq_by_cmp_equiv};
+    ghost use Rattle.dist_repo.specs.Total.{package_total};
+
+    ghost laws = { eq_by_cmp_equiv package_total };
+}
