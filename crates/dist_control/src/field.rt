@@ -18,7 +18,7 @@ use memchr::memchr;
 const WHITE: &[u8; 3] = b" \t\n";
 
 /// A text without white space at both ends.
-fn trimmed(text: &[u8]) -> &[u8]
+pub fn trimmed(text: &[u8]) -> &[u8]
     ensures { result.now ≡ trim text.now }
 {
     let Some(first) = text.find_not_byteset(WHITE) else {

@@ -13,6 +13,7 @@ mod names;
 mod reader;
 
 pub use error::ControlError;
+pub use field::trimmed;
 pub use field_list::{Field, Fields, Stanza};
 pub use laws::one_reading_or_fault;
 pub use line::split_line;
