@@ -1,8 +1,8 @@
 -- Lists kept one after another in a single list: each piece, their number, their joint length, and one more piece.
-use Rattle.std.proofs.Common.{◌≡◌, ℕ, zero, suc, ◌+◌, ◌-◌, ◌<◌, ◌≤◌, List, [], ◌∷◌, ◌++◌, length, get_or, take, drop, refl, ap, sym, ◌∙◌, arith, length-drop}
+use Rattle.std.proofs.Common.{◌≡◌, ℕ, zero, suc, ◌+◌, ◌-◌, ◌<◌, ◌≤◌, List, [], ◌∷◌, ◌++◌, length, get_or, take, drop, Result, Ok, Err, OnOk, OnErr, refl, ap, sym, ◌∙◌, arith, length-drop, length-append}
 use Rattle.std.proofs.lemmas.List.{drop_at, take-append-le, drop-append-le}
 use Rattle.std.specs.List.{slice_range}
-use Rattle.dist_repo.specs.Flat.{pieces, AreEnds, begin_of}
+use Rattle.dist_repo.specs.Flat.{pieces, AddsPiece, AreEnds, begin_of}
 
 pub length-pieces : {X : Type 0} (start : ℕ) (ends : List ℕ) (xs : List X) → length (pieces start ends xs) ≡ length ends
 length-pieces start [] xs = refl
@@ -63,3 +63,28 @@ pieces-push start (end ∷ ends) xs ys m h to =
     let rest = pieces-push end ends xs ys m h.1 to in
     ap (λ piece. piece ∷ pieces end (ends ++ m ∷ []) (xs ++ ys)) first ∙ ap (λ others. slice_range xs start end ∷ others) rest
 
+pub AreEnds-adds : {X : Type 0} (items : List X) (ends : List ℕ) (piece new_items : List X) (new_ends : List ℕ) → AreEnds 0 ends (length items) →
+    AddsPiece items ends piece new_items new_ends → AreEnds 0 new_ends (length new_items)
+AreEnds-adds items ends piece new_items new_ends h adds =
+    rw (adds.items, adds.ends, length-append items piece) (AreEnds-push 0 ends (length items) (length items + length piece) (omega arith) h)
+
+pub pieces-adds : {X : Type 0} (items : List X) (ends : List ℕ) (piece new_items : List X) (new_ends : List ℕ) → AreEnds 0 ends (length items) →
+    AddsPiece items ends piece new_items new_ends → pieces 0 new_ends new_items ≡ pieces 0 ends items ++ piece ∷ []
+pieces-adds items ends piece new_items new_ends h adds =
+    rw (adds.items, adds.ends) (pieces-push 0 ends items piece (length items + length piece) h refl)
+
+-- what is kept after a list was added, or after a refusal
+pub AreEnds-after : {X A E : Type 0} (r : Result A E) (items : List X) (ends : List ℕ) (piece new_items : List X) (new_ends : List ℕ) → AreEnds 0 ends (length items) →
+    OnOk r (AddsPiece items ends piece new_items new_ends) → OnErr r (new_items ≡ items) → OnErr r (new_ends ≡ ends) → AreEnds 0 new_ends (length new_items)
+AreEnds-after (Ok v) items ends piece new_items new_ends h adds same_items same_ends = AreEnds-adds items ends piece new_items new_ends h adds
+AreEnds-after (Err e) items ends piece new_items new_ends h adds same_items same_ends = rw (same_items, same_ends) h
+
+pub pieces-after_ok : {X A E : Type 0} (r : Result A E) (items : List X) (ends : List ℕ) (piece new_items : List X) (new_ends : List ℕ) → AreEnds 0 ends (length items) →
+    OnOk r (AddsPiece items ends piece new_items new_ends) → (old : List (List X)) → pieces 0 ends items ≡ old → OnOk r (pieces 0 new_ends new_items ≡ old ++ piece ∷ [])
+pieces-after_ok (Ok v) items ends piece new_items new_ends h adds old is = pieces-adds items ends piece new_items new_ends h adds ∙ ap (λ lists. lists ++ piece ∷ []) is
+pieces-after_ok (Err e) items ends piece new_items new_ends h adds old is = tt
+
+pub pieces-after_err : {X A E : Type 0} (r : Result A E) (items : List X) (ends : List ℕ) (new_items : List X) (new_ends : List ℕ) →
+    OnErr r (new_items ≡ items) → OnErr r (new_ends ≡ ends) → (old : List (List X)) → pieces 0 ends items ≡ old → OnErr r (pieces 0 new_ends new_items ≡ old)
+pieces-after_err (Ok v) items ends new_items new_ends same_items same_ends old is = tt
+pieces-after_err (Err e) items ends new_items new_ends same_items same_ends old is = rw (same_items, same_ends) is

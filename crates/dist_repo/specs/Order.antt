@@ -7,8 +7,12 @@ use Rattle.std.specs.declared.cmp.Ordering.TheVariants.{Less, Equal}
 use Rattle.dist_version.specs.Order.{version_cmp}
 use Rattle.dist_repo.specs.declared.package.Package.{Package}
 
+-- names and versions, by the bytes of the names and then by version
+abbrev pub key_cmp : List ℕ × List ℕ → List ℕ × List ℕ → Ordering
+key_cmp a b = ordering_then (slice_cmp nat_cmp a.0 b.0) (version_cmp a.1 b.1)
+
 abbrev pub package_cmp : Package → Package → Ordering
-package_cmp p q = ordering_then (slice_cmp nat_cmp p.name q.name) (version_cmp p.version q.version)
+package_cmp p q = key_cmp (p.name, p.version) (q.name, q.version)
 
 -- Each package is below each later one, so that none of one name and an equal version stands twice.
 abbrev pub IsInOrder : List Package → Type 0

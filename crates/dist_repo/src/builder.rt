@@ -1,7 +1,7 @@
 //! A repository in the making: packages come in any order, and each is held once.
-ghost use Rattle.std.specs.Prelude.{◌≡◌, ◌≢◌, ◌<◌, ◌↔◌, ℕ, [], ◌∷◌, length, Ok, Err, IfOk, IfErr, OnOk, IsPermutation};
+ghost use Rattle.std.specs.Prelude.{◌≡◌, ◌≢◌, ◌<◌, ◌↔◌, ℕ, [], ◌∷◌, length, Ok, Err, IfOk, IfErr, OnErr, IsPermutation, MatchOption, Contains};
 ghost use Rattle.dist_repo.specs.Held.{IsClashAt, IsFree, IsHeld, packages_of, returned_package};
-ghost use Rattle.dist_repo.specs.Order.{IsInOrder};
+ghost use Rattle.dist_repo.specs.Order.{IsInOrder, IsSamePackage};
 
 use crate::key::Key;
 use crate::package::Package;
@@ -32,16 +32,19 @@ pub enum AddError {
 /// Packages, each with the line that it came with. Contracts see them in the order of packages.
 #[derive(Drop)]
 pub struct Builder {
+    alloc: Global,
     packages: BTreeMap<Key, u64>,
 }
 
 impl Model for Builder {
     ghost use Rattle.std.specs.Prelude.{List};
-    ghost use Rattle.dist_repo.specs.Held.{Held};
+    ghost use Rattle.dist_repo.specs.Held.{Held, IsKept};
 
     ghost Value = { List Held };
 
     ghost view = { λ builder. builder.packages.entries };
+
+    ghost invariant = { λ builder. IsKept builder.packages.entries };
 }
 
 impl Builder {
@@ -50,7 +53,20 @@ impl Builder {
         ensures { result ≡ [] }
     {
         Builder {
+            alloc,
             packages: BTreeMap::new(alloc),
+        }
+    }
+
+    /// The package of the same name and an equal version that is held, with its line.
+    fn held(&self, key: &Key) -> Option<(&Package, u64)>
+        ensures found { MatchOption result (IsFree self.now key.now)
+            (λ h. Contains self.now (h.0.now, h.1) × IsSamePackage h.0.now key.now) }
+        ensures in_order { IsInOrder (packages_of self.now) }
+    {
+        match self.packages.get_key_value(key) {
+            Some((held, line)) => Some((held.package(), *line)),
+            None => None,
         }
     }
 
@@ -68,19 +84,39 @@ impl Builder {
         ensures kept { result ≢ Ok Added.New → self.new ≡ self.old }
         ensures in_order { IsInOrder (packages_of self.new) }
     {
-        let _ = line;
-        let _ = &self.packages;
-        Err(AddError::NoMemory(package))
+        let key = Key::new(package);
+        if let Some((held, kept)) = self.held(&key) {
+            if held.is_equal(key.package()) {
+                return Ok(Added::Same);
+            }
+            return Err(AddError::Clash(kept, key.into_package()));
+        }
+        self.insert(key, line)
+    }
+
+    /// Adds a package of a name and a version that no held one has.
+    fn insert(&mut self, key: Key, line: u64) -> Result<Added, AddError>
+        requires free { IsFree self.old key }
+        requires room { length self.old < 4294967295 }
+        ensures new { IfOk result (λ added. (added ≡ Added.New) × IsPermutation ((key, line) ∷ self.old) self.new) }
+        ensures no_memory { IfErr result (λ error. error ≡ AddError.NoMemory key) }
+        ensures kept { OnErr result (self.new ≡ self.old) }
+        ensures in_order { IsInOrder (packages_of self.new) }
+    {
+        if let Err(refused) = self.packages.insert(key, line) {
+            return Err(AddError::NoMemory(refused.value.0.into_package()));
+        }
+        Ok(Added::New)
     }
 
     /// The repository of the packages, for the architecture of their file. After a refusal they are given up.
     pub fn finish(self, architecture: Option<Name>) -> Result<Repository, AllocError>
-        requires { length self < 4294967296 }
         ensures packages { IfOk result (λ repository. repository.packages ≡ packages_of self) }
         ensures architecture { IfOk result (λ repository. repository.architecture ≡ architecture) }
         ensures in_order { IsInOrder (packages_of self) }
     {
-        let Builder { packages } = self;
+        let Builder { alloc, packages } = self;
+        let _ = alloc;
         drop(packages);
         drop(architecture);
         Err(AllocError)

@@ -1,6 +1,6 @@
 //! Lists kept one after another in a single vector, with the place where each of them ends.
 ghost use Rattle.std.specs.Prelude.{◌≡◌, ◌<◌, [], ◌∷◌, ◌++◌, length, slice_index_or, OnOk, OnErr};
-ghost use Rattle.dist_repo.specs.Flat.{pieces, AreEnds, begin_of};
+ghost use Rattle.dist_repo.specs.Flat.{pieces, AddsPiece, AreEnds, begin_of};
 
 use std::alloc::{AllocError, Global};
 use std::marker::Model;
@@ -47,9 +47,7 @@ impl<T> Flat<T> {
         requires { place < length self.now }
         ensures { result.now ≡ slice_index_or self.now place [] }
     {
-        let start = start_of(&self.ends, place);
-        let end = self.ends[place];
-        &self.items[start..end]
+        list_at(&self.items, &self.ends, place)
     }
 }
 
@@ -59,12 +57,36 @@ impl<T: Copy> Flat<T> {
         ensures ok { OnOk result (self.new ≡ self.old ++ list.now ∷ []) }
         ensures err { OnErr result (self.new ≡ self.old) }
     {
-        // Room for the end comes first, so that after a refusal nothing has changed.
-        self.ends.reserve(1)?;
-        self.items.extend_from_slice(list)?;
-        let _ = self.ends.push(self.items.len());
-        Ok(())
+        add_list(&mut self.items, &mut self.ends, list)
     }
+}
+
+/// Adds a list at the end of lists that are kept one after another.
+fn add_list<T: Copy>(
+    items: &mut Vec<T>,
+    ends: &mut Vec<usize>,
+    list: &[T],
+) -> Result<(), AllocError>
+    ensures ok { OnOk result (AddsPiece items.old.items ends.old.items list.now items.new.items ends.new.items) }
+    ensures err_items { OnErr result (items.new.items ≡ items.old.items) }
+    ensures err_ends { OnErr result (ends.new.items ≡ ends.old.items) }
+{
+    // Room for the end comes first, so that after a refusal nothing has changed.
+    ends.reserve(1)?;
+    items.extend_from_slice(list)?;
+    let _ = ends.push(items.len());
+    Ok(())
+}
+
+/// The list at a place of lists that are kept one after another.
+fn list_at<'a, T>(items: &'a [T], ends: &[usize], place: usize) -> &'a [T]
+    requires ends { AreEnds 0 ends.now (length items.now) }
+    requires place { place < length ends.now }
+    ensures { result.now ≡ slice_index_or (pieces 0 ends.now items.now) place [] }
+{
+    let start = start_of(ends, place);
+    let end = ends[place];
+    &items[start..end]
 }
 
 /// Where the list at a place begins: where the one before it ends.

@@ -1,9 +1,22 @@
 //! Packages as keys of an ordered map: by the bytes of their names, and then by version.
 ghost use Rattle.std.specs.Prelude.{◌≡◌};
+ghost use Rattle.dist_repo.specs.Order.{key_cmp};
 
 use crate::package::Package;
+use dist_version::Version;
 use std::cmp::Ordering;
 use std::marker::Model;
+
+/// Compares a package with a name and a version: by the bytes of the names, and then by version.
+pub(crate) fn compare(package: &Package, name: &[u8], version: &Version) -> Ordering
+    ensures { result ≡ key_cmp («package».now.name, «package».now.version) (name.now, version.now) }
+{
+    let by_name = package.name.bytes().cmp(name);
+    if by_name.is_ne() {
+        return by_name;
+    }
+    package.version.compare(version)
+}
 
 /// A package, compared by its name and its version alone.
 #[derive(Drop)]
@@ -54,11 +67,8 @@ impl Ord for Key {
     ghost matches_eq = { λ _ _. refl };
 
     fn cmp(&self, other: &Key) -> Ordering {
-        let by_name = self.package.name.bytes().cmp(other.package.name.bytes());
-        if by_name.is_ne() {
-            return by_name;
-        }
-        self.package.version.compare(&other.package.version)
+        let other = &other.package;
+        compare(&self.package, other.name.bytes(), &other.version)
     }
 }
 

@@ -5,6 +5,7 @@ mod builder;
 mod flat;
 mod key;
 mod matching;
+mod names;
 mod package;
 mod repository;
 

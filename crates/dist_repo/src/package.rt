@@ -1,5 +1,5 @@
 //! A package, as a stanza of a Packages file describes it.
-ghost use Rattle.std.specs.Prelude.{◌≡◌, IfOk};
+ghost use Rattle.std.specs.Prelude.{◌≡◌, ◌↔◌, IfOk, IsTrue};
 
 use dist_relation::{Atoms, Items, Name, Provides};
 use dist_version::Version;
@@ -36,5 +36,19 @@ impl Package {
             provides: self.provides.try_clone()?,
             essential: self.essential,
         })
+    }
+
+    /// Whether two packages are equal in all fields, with names and versions as bytes.
+    pub fn is_equal(&self, other: &Package) -> bool
+        ensures { IsTrue result ↔ (self.now ≡ other.now) }
+    {
+        self.name == other.name
+            && self.version == other.version
+            && self.source == other.source
+            && self.source_version == other.source_version
+            && self.depends == other.depends
+            && self.conflicts == other.conflicts
+            && self.provides == other.provides
+            && self.essential == other.essential
     }
 }

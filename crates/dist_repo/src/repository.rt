@@ -4,17 +4,20 @@ ghost use Rattle.std.specs.Option.{option_copied};
 ghost use Rattle.dist_relation.specs.declared.atom.Atom.{Atom};
 ghost use Rattle.dist_repo.specs.Conflict.{AreInConflict};
 ghost use Rattle.dist_repo.specs.Match.{IsUsable, Matches};
-ghost use Rattle.dist_repo.specs.Order.{IsFlat, IsInOrder, IsNewest};
+ghost use Rattle.dist_repo.specs.Order.{key_cmp, IsFlat, IsInOrder, IsNewest};
 ghost use Rattle.dist_repo.specs.PackageList.{IsAlternativeAt, IsConflictAt};
 ghost use Rattle.dist_repo.specs.Providers.{AreProviders, IsPackageAt};
 ghost use Rattle.dist_repo.specs.declared.package.Package.{Package};
 
 use crate::flat::Flat;
+use crate::key::compare;
 use crate::matching;
+use crate::names::place_of;
 use crate::package::Package;
 use dist_relation::{Atom, Name, Qualifier};
 use dist_version::Version;
 use std::alloc::AllocError;
+use std::cmp::Ordering;
 use std::marker::Model;
 
 /// Packages in the order of the bytes of their names, and then of their versions. Their numbers start at 0.
@@ -67,24 +70,23 @@ impl Repository {
     pub fn find(&self, name: &[u8], version: &Version) -> Option<u32>
         ensures { (number : ℕ) → (result ≡ Some number) ↔ IsPackageAt self.now.packages number name.now version.now }
     {
-        for (number, package) in self.packages.iter().enumerate() {
-            if package.name.bytes() == name && package.version.compare(version).is_eq() {
-                return Some(number as u32);
-            }
+        let by_key = |package: &Package| -> Ordering
+            ensures { result ≡ key_cmp («package».now.name, «package».now.version) (name.entry.now, version.entry.now) }
+        { compare(package, name, version) };
+        match self.packages.as_slice().binary_search_by(by_key) {
+            Ok(place) => Some(place as u32),
+            Err(_) => None,
         }
-        None
     }
 
     /// The numbers of the packages that have the name or a usable entry of Provides of it, rising.
     pub fn providers(&self, name: &[u8]) -> &[u32]
         ensures { AreProviders self.now name.now result.now }
     {
-        for place in 0..self.names.len() {
-            if self.names.get(place) == name {
-                return self.numbers.get(place);
-            }
+        match place_of(&self.names, name) {
+            Some(place) => self.numbers.get(place),
+            None => &[],
         }
-        &[]
     }
 
     /// The providers of the name of an alternative, by its place in an item of a package.

@@ -1,0 +1,26 @@
+//! The place of a name in a table of names in order.
+ghost use Rattle.std.specs.Prelude.{◌≡◌, ℕ, List, [], Some, Contains, MatchOption, slice_get};
+ghost use Rattle.std.specs.Cmp.Lexicographic.{slice_cmp};
+ghost use Rattle.std.specs.List.Sorted.{IsStrictlySortedBy};
+ghost use Rattle.std.specs.Ordering.{nat_cmp};
+
+use crate::flat::Flat;
+use std::cmp::Ordering;
+
+/// The place of a name among names that rise in the order of their bytes.
+pub(crate) fn place_of(names: &Flat<u8>, name: &[u8]) -> Option<usize>
+    requires { IsStrictlySortedBy (slice_cmp nat_cmp) names.now }
+    ensures { MatchOption result (¬ Contains names.now name.now) (λ place. slice_get names.now place ≡ Some name.now) }
+{
+    let mut low = 0;
+    let mut high = names.len();
+    while low < high {
+        let middle = low + (high - low) / 2;
+        match names.get(middle).cmp(name) {
+            Ordering::Less => low = middle + 1,
+            Ordering::Equal => return Some(middle),
+            Ordering::Greater => high = middle,
+        }
+    }
+    None
+}
