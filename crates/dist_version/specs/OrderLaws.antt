@@ -41,12 +41,15 @@ version_total =
     (then_total (on_total upstream_of part_total) (on_total (λ t. unwrap_or (revision_of t) []) part_total))
 
 -- equal versions are those of which neither is below the other
-pub equal_where_neither_below : (a b : List ℕ) (order : Ordering) → order ≡ version_cmp a b → (order ≡ Equal) ↔ ((¬ IsBelow a b) × (¬ IsBelow b a))
+equal_where_neither_below : (a b : List ℕ) (order : Ordering) → order ≡ version_cmp a b → (order ≡ Equal) ↔ ((¬ IsBelow a b) × (¬ IsBelow b a))
 equal_where_neither_below a b Less is = (λ e. cc, λ h. absurd (h.0 (sym is)))
 equal_where_neither_below a b Equal is =
     let back : version_cmp b a ≡ Equal = version_total.antisymm b a ∙ ap ordering_reverse (sym is) in (λ e. (λ h. cc, λ h. cc), λ h. refl)
 equal_where_neither_below a b Greater is =
     let back : version_cmp b a ≡ Less = version_total.antisymm b a ∙ ap ordering_reverse (sym is) in (λ e. cc, λ h. absurd (h.1 back))
+
+pub equal_is_neither_below : (a b : List ℕ) → (version_cmp a b ≡ Equal) ↔ ((¬ IsBelow a b) × (¬ IsBelow b a))
+equal_is_neither_below a b = equal_where_neither_below a b (version_cmp a b) refl
 
 pub version_cmp-same : (a b : List ℕ) → a ≡ b → Equal ≡ version_cmp a b
 version_cmp-same a b e = sym (tied_itself version_total a) ∙ ap (version_cmp a) e
