@@ -1,73 +1,63 @@
--- How many lines and stanzas a text has, and how long its lines are.
-use Rattle.std.proofs.Common.{ℕ, suc, ◌+◌, ◌≤◌, Bool, true, false, cond, eqb, List, [], ◌∷◌, length, arith}
-use Rattle.std.specs.List.{All}
-use Rattle.std.proofs.lemmas.List.Elements.{All-nil, All-cons, All-head, All-tail, All-weaker}
+-- How many bytes the raw stanzas of a text take.
+use Rattle.std.proofs.Common.{◌≡◌, ℕ, suc, ◌+◌, ◌≤◌, Bool, true, false, cond, eqb, List, [], ◌∷◌, length, sum_by, arith}
+use Rattle.std.proofs.lemmas.List.Sums.{sum_by-cons}
+use Rattle.dist_control.specs.Bytes.{is_blank}
 use Rattle.dist_control.specs.Lines.{lines, in_front}
-use Rattle.dist_control.specs.RawStanza.{RawStanza, run, raw_stanzas_from, raw_stanzas}
+use Rattle.dist_control.specs.RawStanza.{RawStanza, run, raw_stanzas_from, size_of}
 
-length-in_front : (byte : ℕ) (ls : List (List ℕ)) → length (in_front byte ls) ≤ length ls + 1
-length-in_front byte [] = omega arith
-length-in_front byte (line ∷ ls) = omega arith
+-- the bytes of lines, with a line feed after each
+abbrev total : List (List ℕ) → ℕ
+total ls = sum_by (λ line. length line + 1) ls
 
-lines-step : (same : Bool) (byte : ℕ) (bytes : List ℕ) → length (lines bytes) ≤ length bytes
-    → length (cond same ([] ∷ lines bytes) (in_front byte (lines bytes))) ≤ length bytes + 1
-lines-step true byte bytes h = omega arith
-lines-step false byte bytes h = omega (arith, length-in_front byte (lines bytes))
+abbrev sizes : List RawStanza → ℕ
+sizes raws = sum_by size_of raws
 
-length-lines : (text : List ℕ) → length (lines text) ≤ length text
-length-lines [] = omega arith
-length-lines (byte ∷ bytes) = omega (arith, lines-step (eqb byte 10) byte bytes (length-lines bytes))
+record AreWithin (number : ℕ) (ls : List (List ℕ)) : Type 0 where
+  apart : sizes (raw_stanzas_from number true ls) ≤ total ls
+  within : total (run ls) + sizes (raw_stanzas_from number false ls) ≤ total ls
 
-abbrev IsWithin : ℕ → List ℕ → Type 0
-IsWithin most line = length line ≤ most
+total-cons : (line : List ℕ) (rest : List (List ℕ)) → total (line ∷ rest) ≡ length line + 1 + total rest
+total-cons line rest = sum_by-cons (λ line. length line + 1) line rest
 
-within-in_front : (most byte : ℕ) (ls : List (List ℕ)) → All (IsWithin most) ls → All (IsWithin (most + 1)) (in_front byte ls)
-within-in_front most byte [] h = All-cons (IsWithin (most + 1)) (byte ∷ []) [] (omega arith) (All-nil (IsWithin (most + 1)))
-within-in_front most byte (line ∷ ls) h =
-    let head = All-head (IsWithin most) line ls h in
-    All-cons (IsWithin (most + 1)) (byte ∷ line) ls (omega (arith, head))
-    (All-weaker (IsWithin most) (IsWithin (most + 1)) (λ x w. omega (arith, w)) ls (All-tail (IsWithin most) line ls h))
+sizes-cons : (raw : RawStanza) (rest : List RawStanza) → sizes (raw ∷ rest) ≡ size_of raw + sizes rest
+sizes-cons raw rest = sum_by-cons size_of raw rest
 
-within-step : (same : Bool) (byte : ℕ) (bytes : List ℕ) → All (IsWithin (length bytes)) (lines bytes)
-    → All (IsWithin (length bytes + 1)) (cond same ([] ∷ lines bytes) (in_front byte (lines bytes)))
-within-step true byte bytes h =
-    All-cons (IsWithin (length bytes + 1)) [] (lines bytes) (omega arith)
-    (All-weaker (IsWithin (length bytes)) (IsWithin (length bytes + 1)) (λ x w. omega (arith, w)) (lines bytes) h)
-within-step false byte bytes h = within-in_front (length bytes) byte (lines bytes) h
+le-first : (all here left whole line others rest : ℕ) → all ≡ here + left → here ≡ line + others → whole ≡ line + rest → others + left ≤ rest → all ≤ whole
+le-first all here left whole line others rest a b c d = omega arith
 
-suc_is : (n : ℕ) (ls : List (List ℕ)) → All (IsWithin (n + 1)) ls → All (IsWithin (suc n)) ls
-suc_is n ls h = All-weaker (IsWithin (n + 1)) (IsWithin (suc n)) (λ x w. omega (arith, w)) ls h
+le-second : (here left whole line others rest : ℕ) → here ≡ line + others → whole ≡ line + rest → others + left ≤ rest → here + left ≤ whole
+le-second here left whole line others rest b c d = omega arith
 
-within-lines : (text : List ℕ) → All (IsWithin (length text)) (lines text)
-within-lines [] = All-nil (IsWithin 0)
-within-lines (byte ∷ bytes) = suc_is (length bytes) _ (within-step (eqb byte 10) byte bytes (within-lines bytes))
+within-step : (number : ℕ) (line : List ℕ) (rest : List (List ℕ)) (blank : Bool) → AreWithin (number + 1) rest →
+    (sizes (cond blank (raw_stanzas_from (number + 1) true rest) (record { line = number; lines = line ∷ run rest } ∷ raw_stanzas_from (number + 1) false rest)) ≤ total (line ∷ rest))
+    × (total (cond blank [] (line ∷ run rest)) + sizes (cond blank (raw_stanzas_from (number + 1) true rest) (raw_stanzas_from (number + 1) false rest)) ≤ total (line ∷ rest))
+within-step number line rest true w = (omega (arith, w.apart, total-cons line rest), omega (arith, w.apart, total-cons line rest))
+within-step number line rest false w =
+    let raw : RawStanza = record { line = number; lines = line ∷ run rest } in
+    let left = raw_stanzas_from (number + 1) false rest in (
+      le-first (sizes (raw ∷ left)) (total (line ∷ run rest)) (sizes left) (total (line ∷ rest)) (length line + 1) (total (run rest)) (total rest)
+          (sizes-cons raw left) (total-cons line (run rest)) (total-cons line rest) w.within,
+      le-second (total (line ∷ run rest)) (sizes left) (total (line ∷ rest)) (length line + 1) (total (run rest)) (total rest)
+          (total-cons line (run rest)) (total-cons line rest) w.within,
+    )
 
-length-raw_stanzas_from : (number : ℕ) (apart : Bool) (ls : List (List ℕ)) → length (raw_stanzas_from number apart ls) ≤ length ls
-length-raw_stanzas_from number apart [] = omega arith
-length-raw_stanzas_from number apart ([] ∷ rest) = omega (arith, length-raw_stanzas_from (number + 1) true rest)
-length-raw_stanzas_from number true ((byte ∷ bytes) ∷ rest) = omega (arith, length-raw_stanzas_from (number + 1) false rest)
-length-raw_stanzas_from number false ((byte ∷ bytes) ∷ rest) = omega (arith, length-raw_stanzas_from (number + 1) false rest)
+within : (number : ℕ) (ls : List (List ℕ)) → AreWithin number ls
+within number [] = record { apart = omega arith; within = omega arith }
+within number (line ∷ rest) =
+    let step = within-step number line rest (is_blank line) (within (number + 1) rest) in
+    record { apart = step.0; within = step.1 }
 
-pub length-raw_stanzas : (text : List ℕ) → length (raw_stanzas text) ≤ length text
-length-raw_stanzas text = omega (arith, length-raw_stanzas_from 1 true (lines text), length-lines text)
+total-in_front : (byte : ℕ) (ls : List (List ℕ)) (n : ℕ) → total ls ≤ n + 1 → total (in_front byte ls) ≤ n + 2
+total-in_front byte [] n few = omega (arith, total-cons (byte ∷ []) [])
+total-in_front byte (line ∷ ls) n few = omega (arith, total-cons line ls, total-cons (byte ∷ line) ls)
 
-module _ (P : List ℕ → Type 0) where
-  All-run : (ls : List (List ℕ)) → All P ls → All P (run ls)
-  All-run [] h = All-nil P
-  All-run ([] ∷ rest) h = All-nil P
-  All-run ((byte ∷ bytes) ∷ rest) h = All-cons P (byte ∷ bytes) (run rest) (All-head P (byte ∷ bytes) rest h) (All-run rest (All-tail P (byte ∷ bytes) rest h))
+total-lines : (text : List ℕ) → total (lines text) ≤ length text + 1
+total-lines [] = omega arith
+total-lines (byte ∷ text) =
+    elim (eqb byte 10) as (λ b. total (cond b ([] ∷ lines text) (in_front byte (lines text))) ≤ suc (length text) + 1) [
+      | true ↦ omega (arith, total-cons [] (lines text), total-lines text)
+      | false ↦ omega (arith, total-in_front byte (lines text) (length text) (total-lines text))
+    ]
 
-  abbrev HasAll : RawStanza → Type 0
-  HasAll raw = All P raw.lines
-
-  All-raw_stanzas_from : (number : ℕ) (apart : Bool) (ls : List (List ℕ)) → All P ls → All HasAll (raw_stanzas_from number apart ls)
-  All-raw_stanzas_from number apart [] h = All-nil HasAll
-  All-raw_stanzas_from number apart ([] ∷ rest) h = All-raw_stanzas_from (number + 1) true rest (All-tail P [] rest h)
-  All-raw_stanzas_from number true ((byte ∷ bytes) ∷ rest) h =
-      All-cons HasAll (record { line = number; lines = (byte ∷ bytes) ∷ run rest }) (raw_stanzas_from (number + 1) false rest)
-      (All-run ((byte ∷ bytes) ∷ rest) h)
-      (All-raw_stanzas_from (number + 1) false rest (All-tail P (byte ∷ bytes) rest h))
-  All-raw_stanzas_from number false ((byte ∷ bytes) ∷ rest) h = All-raw_stanzas_from (number + 1) false rest (All-tail P (byte ∷ bytes) rest h)
-
-pub within-raw_stanzas : (text : List ℕ) → All (λ raw. All (λ line. length line ≤ length text) raw.lines) (raw_stanzas text)
-within-raw_stanzas text = All-raw_stanzas_from (IsWithin (length text)) 1 true (lines text) (within-lines text)
+pub size-raw_stanzas : (text : List ℕ) → sizes (raw_stanzas_from 1 true (lines text)) ≤ length text + 1
+size-raw_stanzas text = omega (arith, (within 1 (lines text)).apart, total-lines text)

@@ -1,55 +1,115 @@
--- What a line that spells a field has at its first colon.
-use Rattle.std.proofs.Common.{◌≡◌, ◌≢◌, ℕ, ◌+◌, ◌<◌, List, [], ◌∷◌, ◌++◌, length, get_or, take, drop, refl, sym, ◌∙◌, arith, add-one, All, inl, inr, subst, length-append}
-use Rattle.std.proofs.lemmas.List.Elements.{All-get_or}
-use Rattle.std.proofs.Math.ListN.{get_or-append}
-use Rattle.std.proofs.Math.Seq.{get_or-append_seam, take-append_seam}
-use Rattle.std.proofs.lemmas.Bool.{cases_lt}
-use Rattle.std.specs.Char.{IsAsciiAlphabetic}
-use Rattle.dist_control.specs.Plain.{IsPlainName}
+-- The pieces of a field.
+use Rattle.std.proofs.Common.{◌≡◌, ℕ, suc, ◌+◌, ◌-◌, ◌<◌, ◌≤◌, ◌^◌, true, false, Bool, ◌||◌, List, [], ◌∷◌, ◌++◌, Option, Some, None, length, get_or, take, drop, refl, sym, ap, ◌∙◌, arith, subst, inl, inr, MatchOption, append_assoc, length-append}
+use Rattle.std.specs.List.{list_any, position_or_len, after_first, before_first, join_with_byte, flat_map}
+use Rattle.std.proofs.lemmas.Bool.{false_from_ne_true, or_from}
+use Rattle.std.proofs.lemmas.List.{append-nil, append_cancel_right, drop-append-le, take_at, flat_map_more, length-drop, length_push}
+use Rattle.std.proofs.lemmas.List.Folds.{list_any_at}
+use Rattle.std.proofs.lemmas.List.Sums.{position_or_len_is}
+use Rattle.memchr.specs.Find.{IsFirstByte, is_byte}
+use Rattle.dist_control.specs.Bytes.{is_colon, is_continuation}
+use Rattle.dist_control.specs.Fields.{trim, name_of, field_spelled}
+use Rattle.dist_control.specs.FieldText.{FieldText}
+use Rattle.dist_control.specs.Lines.{lines}
+use Rattle.dist_control.specs.RawStanza.{run}
+use Rattle.dist_control.specs.Pieces.{IsFirstColon, IsCutAtLine, HasInFront, IsFieldInFront, IsContinuedTo, AreContinuations, ended}
+use Rattle.dist_control.proofs.TrimLemmas.{trim-end}
 
-letter-other : (byte : ℕ) → IsAsciiAlphabetic byte → byte ≢ 58
-letter-other byte (inl low) is = omega arith
-letter-other byte (inr high) is = omega arith
+no-colon : (line : List ℕ) → ((j : ℕ) → j < length line → is_colon (get_or line j 0) ≡ false) → list_any is_colon line ≡ false
+no-colon [] none = refl
+no-colon (byte ∷ line) none = or_from _ _ (none 0 (omega arith)) (no-colon line (λ j h. none (suc j) (omega arith)))
 
--- k is the first place of a colon
-pub record IsFirstColon (line : List ℕ) (k : ℕ) : Type 0 where
-  pub is : get_or line k 0 ≡ 58
-  pub before : (j : ℕ) → j < k → get_or line j 0 ≢ 58
+pub find-colon : (line : List ℕ) (r : Option ℕ) → IsFirstByte (is_byte 58) line r → MatchOption r (list_any is_colon line ≡ false) (λ place. IsFirstColon line place)
+find-colon line None none = no-colon line (λ j h. false_from_ne_true _ (none j (omega arith) h))
+find-colon line (Some place) found =
+    let at : position_or_len is_colon line ≡ place = position_or_len_is is_colon line place 0 (omega (arith, found.0.high)) (λ k h. false_from_ne_true _ (found.0.before k (omega arith) h)) (λ _. found.1) in
+    record {
+      within = found.0.high;
+      found = list_any_at is_colon line place 0 found.0.high found.1;
+      before = ap (λ n. take n line) at;
+      after = ap (λ n. drop (n + 1) line) at;
+    }
 
--- letters have no colon, so the first one follows the name
-first-colon : (name rest : List ℕ) (k : ℕ) → All IsAsciiAlphabetic name → IsFirstColon (name ++ 58 ∷ rest) k → k ≡ length name
-first-colon name rest k letters first =
-    elim (cases_lt k (length name)) [
-      | inl h ↦ absurd (letter-other (get_or name k 0) (All-get_or IsAsciiAlphabetic name k 0 h letters) (sym (get_or-append name (58 ∷ rest) 0 k h) ∙ first.is))
-      | inr h ↦ elim (cases_lt (length name) k) [
-        | inl g ↦ absurd (first.before (length name) g (get_or-append_seam name 58 rest 0))
-        | inr g ↦ omega arith
-      ]
-    ]
+-- ---- lines in front of a text
 
--- what follows the name and its colon
-past-colon : (name rest : List ℕ) → drop (length name + 1) (name ++ 58 ∷ rest) ≡ rest
-past-colon [] rest = refl
-past-colon (byte ∷ name) rest = rw add-one (rw add-one at (past-colon name rest))
+ended-push : (front : List (List ℕ)) (line : List ℕ) → ended (front ++ line ∷ []) ≡ ended front ++ (line ++ 10 ∷ [])
+ended-push front line = sym (flat_map_more (λ (line : List ℕ). line ++ 10 ∷ []) [] front line)
 
--- A line of a name, a colon and a rest is cut at its first colon.
-pub record IsCutAt (line : List ℕ) (k : ℕ) (name rest : List ℕ) : Type 0 where
-  pub name_is : name ≡ take k line
-  pub rest_is : rest ≡ drop (k + 1) line
-
-cut-joined : (k : ℕ) (name rest : List ℕ) → k ≡ length name → IsCutAt (name ++ 58 ∷ rest) k name rest
-cut-joined k name rest at = record {
-  name_is = rw at (sym (take-append_seam name (58 ∷ rest)));
-  rest_is = rw at (sym (past-colon name rest));
+in-front-cut : (text after taken : List ℕ) (front : List (List ℕ)) (rest line : List ℕ) → text ≡ taken ++ rest → taken ≡ ended front → IsCutAtLine rest line after →
+    HasInFront text (front ++ line ∷ []) after
+in-front-cut text after taken front rest line is spelled (inl cut) = record {
+  taken = taken ++ (line ++ 10 ∷ []);
+  cut = is ∙ ap (λ (t : List ℕ). taken ++ t) (cut ∙ sym (append_assoc line (10 ∷ []) after)) ∙ sym (append_assoc taken (line ++ 10 ∷ []) after);
+  spelled = inl (ap (λ (t : List ℕ). t ++ (line ++ 10 ∷ [])) spelled ∙ sym (ended-push front line));
+}
+in-front-cut text after taken front rest line is spelled (inr cut) = record {
+  taken = taken ++ line;
+  cut = is ∙ ap (λ (t : List ℕ). taken ++ t) cut.0 ∙ sym (append-nil (taken ++ line)) ∙ ap (λ (t : List ℕ). (taken ++ line) ++ t) (sym cut.1);
+  spelled = inr (cut.1, append_assoc taken line (10 ∷ []) ∙ ap (λ (t : List ℕ). t ++ (line ++ 10 ∷ [])) spelled ∙ sym (ended-push front line));
 }
 
-pub cut-at-colon : (k : ℕ) (line name rest : List ℕ) → IsPlainName name → line ≡ name ++ 58 ∷ rest → IsFirstColon line k → IsCutAt line k name rest
-cut-at-colon k line name rest plain is first =
-    let P : List ℕ → Type 0 = λ text. IsFirstColon text k in
-    rw is (cut-joined k name rest (first-colon name rest k plain.letters (subst P is first)))
+in-front-more : (text rest line after : List ℕ) (front : List (List ℕ)) → HasInFront text front rest → 0 < length rest → IsCutAtLine rest line after →
+    HasInFront text (front ++ line ∷ []) after
+in-front-more text rest line after front has some cut =
+    elim has.spelled [
+      | inl spelled ↦ in-front-cut text after has.taken front rest line has.cut spelled cut
+      | inr none ↦ absurd (omega (arith, ap length none.0))
+    ]
 
--- A line with no colon has no such parts.
-pub no-colon : (line name rest : List ℕ) → ((j : ℕ) → j < length line → get_or line j 0 ≢ 58) → line ≢ name ++ 58 ∷ rest
-no-colon line name rest none is =
-    let P : List ℕ → Type 0 = λ text. (j : ℕ) → j < length text → get_or text j 0 ≢ 58 in
-    subst P is none (length name) (omega (arith, length-append name (58 ∷ rest))) (get_or-append_seam name 58 rest 0)
+continued-push : (more : List (List ℕ)) (line : List ℕ) → AreContinuations more → AreContinuations (line ∷ []) → AreContinuations (more ++ line ∷ [])
+continued-push [] line all here = here
+continued-push (first ∷ more) line all here = (all.0, all.1, continued-push more line all.2 here)
+
+pub field-first : (text line after : List ℕ) → lines text ≡ line ∷ lines after → IsCutAtLine text line after → IsFieldInFront text line [] after
+field-first text line after pieces cut = record {
+  pieces = pieces;
+  front = in-front-cut text after [] [] text line refl refl cut;
+  continued = tt;
+}
+
+pub field-more : (text line rest after : List ℕ) (more : List (List ℕ)) → IsFieldInFront text line more rest → (next : IsContinuedTo rest after) →
+    IsFieldInFront text line (more ++ next.line ∷ []) after
+field-more text line rest after more so_far next = record {
+  pieces = so_far.pieces ∙ ap (λ (l : List (List ℕ)). line ∷ more ++ l) next.pieces ∙ sym (append_assoc (line ∷ more) (next.line ∷ []) (lines after));
+  front = in-front-more text rest next.line after (line ∷ more) so_far.front (omega (arith, next.shorter)) next.cut;
+  continued = continued-push more next.line so_far.continued (next.continuation, next.not_blank, tt);
+}
+
+-- ---- the value
+
+ended-joined : (line : List ℕ) (more : List (List ℕ)) → ended (line ∷ more) ≡ join_with_byte 10 (line ∷ more) ++ 10 ∷ []
+ended-joined line [] = append-nil (line ++ 10 ∷ [])
+ended-joined line (next ∷ more) =
+    append_assoc line (10 ∷ []) (ended (next ∷ more))
+    ∙ ap (λ (t : List ℕ). line ++ 10 ∷ t) (ended-joined next more)
+    ∙ sym (append_assoc line (10 ∷ join_with_byte 10 (next ∷ more)) (10 ∷ []))
+
+drop-ended : (n : ℕ) (line : List ℕ) (more : List (List ℕ)) → n ≤ length line → drop n (ended (line ∷ more)) ≡ ended (drop n line ∷ more)
+drop-ended n line more fits =
+    drop-append-le n (line ++ 10 ∷ []) (ended more) (omega (arith, length-append line (10 ∷ [])))
+    ∙ ap (λ (t : List ℕ). t ++ ended more) (drop-append-le n line (10 ∷ []) fits)
+
+middle : (n : ℕ) (text taken after : List ℕ) → text ≡ taken ++ after → n ≤ length taken →
+    take (length text - length after - n) (drop n text) ≡ drop n taken
+middle n text taken after is fits =
+    let long : length text ≡ length taken + length after = ap length is ∙ length-append taken after in
+    ap (λ (t : List ℕ). take (length text - length after - n) (drop n t)) is
+    ∙ ap (λ (t : List ℕ). take (length text - length after - n) t) (drop-append-le n taken after fits)
+    ∙ take_at (drop n taken) after (length text - length after - n) (omega (arith, length-drop n taken))
+
+-- what stands after a place of the first line, up to the end of the last line
+pub value-spelled : (text line after : List ℕ) (more : List (List ℕ)) (n : ℕ) → HasInFront text (line ∷ more) after → n ≤ length line →
+    trim (take (length text - length after - n) (drop n text)) ≡ trim (join_with_byte 10 (drop n line ∷ more))
+value-spelled text line after more n has fits =
+    let joined = join_with_byte 10 (drop n line ∷ more) in
+    elim has.spelled [
+      | inl spelled ↦
+          let long : length line ≤ length has.taken = omega (arith, ap length spelled, length-append (line ++ 10 ∷ []) (ended more), length-append line (10 ∷ [])) in
+          let slice : take (length text - length after - n) (drop n text) ≡ joined ++ 10 ∷ [] =
+          middle n text has.taken after has.cut (omega arith) ∙ ap (drop n) spelled ∙ drop-ended n line more fits ∙ ended-joined (drop n line) more in
+          ap trim slice ∙ trim-end joined 10 refl
+      | inr spelled ↦
+          let long : length line ≤ length has.taken = omega (arith, ap length spelled.1, length-append has.taken (10 ∷ []), length-append (line ++ 10 ∷ []) (ended more), length-append line (10 ∷ [])) in
+          let closed : drop n has.taken ++ 10 ∷ [] ≡ joined ++ 10 ∷ [] =
+          sym (drop-append-le n has.taken (10 ∷ []) (omega arith)) ∙ ap (drop n) spelled.1 ∙ drop-ended n line more fits ∙ ended-joined (drop n line) more in
+          ap trim (middle n text has.taken after has.cut (omega arith) ∙ append_cancel_right (drop n has.taken) joined (10 ∷ []) closed)
+    ]

@@ -1,6 +1,8 @@
 pub mod LineLemmas
-pub mod FieldLemmas
+pub mod TrimLemmas
 pub mod NameLemmas
+pub mod FieldLemmas
 pub mod StanzaLemmas
+pub mod Exactness
 pub mod ReaderLemmas
 pub mod Bounds

@@ -2,7 +2,7 @@
 use Rattle.std.specs.Prelude.{ℕ, List}
 use Rattle.dist_control.specs.declared.field_list.Field.{Field}
 
--- a name, a value, and the number of their line
+-- a name, a value, and the number of their first line
 pub record FieldText : Type 0 where
   pub name : List ℕ
   pub value : List ℕ

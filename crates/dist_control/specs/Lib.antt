@@ -1,9 +1,11 @@
-pub mod FieldsRead
-pub mod Place
+pub mod Bytes
 pub mod Lines
 pub mod RawStanza
 pub mod FieldText
-pub mod Plain
+pub mod Fields
+pub mod Faults
+pub mod ControlText
 pub mod Unread
 pub mod Reader
+pub mod Pieces
 pub mod Examples

@@ -1,13 +1,20 @@
-ghost use Rattle.std.specs.Prelude.{◌≡◌, ◌<◌, ◌↔◌, [], ◌∷◌, ◌++◌, Some, length, map, slice_get, IsTrue, IfSome, IsNone, OnOk, All, Contains};
+//! The fields of a stanza, and the look-up of a name.
+ghost use Rattle.std.specs.Prelude.{◌≡◌, ◌<◌, [], ◌∷◌, ◌++◌, Some, not, length, map, take, find, slice_get, IfOk, OnOk, option_copied};
+ghost use Rattle.std.specs.Bool.{OnTrue};
+ghost use Rattle.std.specs.Option.{option_map};
+ghost use Rattle.std.specs.List.{list_any};
+ghost use Rattle.dist_control.specs.Fields.{is_same_name};
 
+use crate::names::NameSet;
 use smallvec::SmallVec;
 use std::alloc::{AllocError, Global};
 use std::marker::Model;
 
-/// How many fields a stanza holds without an allocation. Nearly all stanzas of an archive have fewer.
-const INLINE_FIELDS: usize = 24;
+/// How many fields a stanza holds without an allocation, and how many are looked through one by one. Nearly
+/// all stanzas of an archive have fewer.
+pub(crate) const EARLY_FIELDS: usize = 24;
 
-/// One field: its name and its value are slices of the text, and lines count from 1.
+/// One field: its name and its value are slices of the text, and its line is that of its name, from 1.
 #[derive(Clone, Copy, Debug, Default)]
 pub struct Field<'a> {
     pub name: &'a [u8],
@@ -37,9 +44,34 @@ pub struct Stanza<'a> {
     pub fields: Fields<'a>,
 }
 
+/// Whether two names are the same, ASCII case apart.
+fn is_same_name(name: &[u8], other: &[u8]) -> bool
+    ensures { result ≡ is_same_name name.now other.now }
+{
+    name.eq_ignore_ascii_case(other)
+}
+
+/// The first field of this name.
+fn field_named<'f, 'a>(fields: &'f [Field<'a>], name: &[u8]) -> Option<&'f Field<'a>>
+    ensures { option_copied result ≡ find (λ field. is_same_name name.now field.name.now) fields.now }
+{
+    fields.iter().find(|field| is_same_name(name, field.name))
+}
+
+/// The early ones of these fields.
+fn early<'f, 'a>(fields: &'f [Field<'a>]) -> &'f [Field<'a>]
+    ensures { result.now ≡ take early_fields fields.now }
+{
+    if fields.len() < EARLY_FIELDS {
+        fields
+    } else {
+        &fields[..EARLY_FIELDS]
+    }
+}
+
 impl<'a> Fields<'a> {
     ghost use Rattle.dist_control.specs.FieldText.{field_text};
-    ghost use Rattle.dist_control.specs.FieldsRead.{HasName};
+    ghost use Rattle.dist_control.specs.Pieces.{early_fields};
 
     pub(crate) fn new(alloc: Global) -> Fields<'a>
         ensures { result ≡ [] }
@@ -56,11 +88,11 @@ impl<'a> Fields<'a> {
         Ok(())
     }
 
-    /// Whether a field has this name, ASCII case apart.
-    pub(crate) fn has_name(&self, name: &[u8]) -> bool
-        ensures { IsTrue result ↔ HasName self.now name.now }
+    /// Whether one of the early fields has this name.
+    fn has_early_name(&self, name: &[u8]) -> bool
+        ensures { result ≡ list_any (λ field. is_same_name name.now field.name) (take early_fields self.now) }
     {
-        field_named(self.items.as_slice(), name).is_some()
+        field_named(early(self.items.as_slice()), name).is_some()
     }
 
     /// How many fields there are.
@@ -81,30 +113,42 @@ impl<'a> Fields<'a> {
 
 impl<'a> Stanza<'a> {
     ghost use Rattle.dist_control.specs.FieldText.{field_text};
-    ghost use Rattle.dist_control.specs.Plain.{IsSameName};
 
     /// The field of a name, ASCII case apart.
     pub fn get(&self, name: &[u8]) -> Option<&Field<'a>>
-        ensures found { IfSome result (λ field. Contains self.now.fields (field_text field.now)) }
-        ensures named { IfSome result (λ field. IsSameName field.now.name.now name.now) }
-        ensures missing { IsNone result ↔ All (λ field. ¬ IsSameName field.name name.now) self.now.fields }
+        ensures { option_map field_text (option_copied result)
+            ≡ find (λ field. is_same_name name.now field.name) self.now.fields }
     {
         field_named(self.fields.items.as_slice(), name)
     }
 }
 
 ghost use Rattle.dist_control.specs.FieldText.{field_text};
-ghost use Rattle.dist_control.specs.Plain.{IsSameName};
+ghost use Rattle.dist_control.specs.Pieces.{AreLateNames, early_fields};
 
-fn field_named<'f, 'a>(fields: &'f [Field<'a>], name: &[u8]) -> Option<&'f Field<'a>>
-    ensures found { IfSome result (λ field. Contains (map field_text fields.now) (field_text field.now)) }
-    ensures named { IfSome result (λ field. IsSameName field.now.name.now name.now) }
-    ensures missing { IsNone result ↔ All (λ field. ¬ IsSameName field.name name.now) (map field_text fields.now) }
+/// Adds a field, or finds that an earlier one has its name. Late names are those after the early fields.
+pub(crate) fn add_field<'a>(
+    alloc: Global,
+    fields: &mut Fields<'a>,
+    late: &mut NameSet,
+    field: Field<'a>,
+) -> Result<bool, AllocError>
+    requires { AreLateNames fields.old late.old }
+    ensures fresh { IfOk result (λ added. added
+        ≡ not (list_any (λ earlier. is_same_name field.entry.name.now earlier.name) fields.old)) }
+    ensures added { IfOk result (λ added. OnTrue added (fields.new ≡ fields.old ++ field_text field.entry ∷ [])) }
+    ensures late { IfOk result (λ added. OnTrue added (AreLateNames fields.new late.new)) }
 {
-    for field in fields {
-        if field.name.eq_ignore_ascii_case(name) {
-            return Some(field);
-        }
+    if fields.has_early_name(field.name) {
+        return Ok(false);
     }
-    None
+    if fields.len() < EARLY_FIELDS {
+        fields.push(field)?;
+        return Ok(true);
+    }
+    if !late.insert(alloc, field.name)? {
+        return Ok(false);
+    }
+    fields.push(field)?;
+    Ok(true)
 }

@@ -1,16 +1,21 @@
-//! Control text (Debian Policy 5.1) in a plain form: stanzas parted by empty lines, one field a line.
+//! Control text (Debian Policy 5.1): stanzas of fields, read as slices of the text.
 //!
-//! A reader hands out the stanzas of a text one by one, as slices of it. A stanza that is not plain ends
-//! the reading for good.
+//! A reader hands out the stanzas of a text one by one, each line looked at once by `memchr`. A stanza with a
+//! fault ends the reading for good.
 #![tactic(auto)]
 
 mod error;
+mod field;
 mod field_list;
+mod laws;
 mod line;
+mod names;
 mod reader;
 
 pub use error::ControlError;
+pub use field::trimmed;
 pub use field_list::{Field, Fields, Stanza};
+pub use laws::one_reading_or_fault;
 pub use line::split_line;
 pub use reader::Stanzas;
 

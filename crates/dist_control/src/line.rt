@@ -1,30 +1,18 @@
-ghost use Rattle.std.specs.Prelude.{◌≡◌, ◌≢◌, ℕ, ◌+◌, ◌<◌, ◌^◌, List, ◌∷◌, ◌++◌, ◌↔◌, true, false, length, slice_index, IsTrue, IfSome, IfNone, MatchOption};
+//! Lines: where one ends, and whether it is blank or goes on with a field.
+ghost use Rattle.std.specs.Prelude.{◌≡◌, ◌+◌, ◌<◌, ◌^◌, ◌∷◌, true, false, length, IfNone, IfSome};
+ghost use Rattle.dist_control.specs.Bytes.{is_padding, is_blank, is_continuation};
 ghost use Rattle.dist_control.specs.Lines.{lines};
-ghost use Rattle.dist_control.specs.RawStanza.{raw_stanzas_from};
-ghost use Rattle.dist_control.specs.Plain.{IsPadding, IsPlainName, IsPlainValue, IsFieldLine};
-ghost use Rattle.dist_control.specs.Place.{IsAtStanza};
-ghost use Rattle.dist_control.specs.FieldText.{FieldText, field_text};
+ghost use Rattle.dist_control.specs.RawStanza.{run, raw_stanzas_from};
+ghost use Rattle.dist_control.specs.Pieces.{IsAtStanza, IsAtField, IsAtNoField, EndsField, IsCutAtLine, IsBlankBefore, IsContinuedTo};
 
-use crate::field_list::Field;
 use memchr::memchr;
-
-/// Whether a line that is not empty is next.
-pub(crate) fn is_in_stanza(bytes: &[u8]) -> bool
-    ensures within { IsTrue result → (0 < length bytes.now) × (slice_index bytes.now 0 ≢ 10) }
-    ensures past { result ≡ false → 0 < length bytes.now → slice_index bytes.now 0 ≡ 10 }
-{
-    match bytes.first() {
-        Some(byte) => *byte != b'\n',
-        None => false,
-    }
-}
 
 /// The first line, without its LF, and what comes after it.
 pub fn split_line(bytes: &[u8]) -> (&[u8], &[u8])
     requires { 0 < length bytes.now }
     ensures lines { lines bytes.now ≡ result.0.now ∷ lines result.1.now }
     ensures shorter { length result.1.now < length bytes.now }
-    ensures first { slice_index bytes.now 0 ≢ 10 → 0 < length result.0.now }
+    ensures cut { IsCutAtLine bytes.now result.0.now result.1.now }
 {
     match memchr(b'\n', bytes) {
         Some(end) => (&bytes[..end], &bytes[end + 1..]),
@@ -32,89 +20,81 @@ pub fn split_line(bytes: &[u8]) -> (&[u8], &[u8])
     }
 }
 
-/// What stands at the next line that is not empty, and its number.
-pub(crate) fn skip_empty_lines(bytes: &[u8], number: u64) -> (&[u8], u64)
+/// Whether a byte is a space or a tab.
+fn is_padding(byte: u8) -> bool
+    ensures { result ≡ is_padding byte }
+{
+    byte == b' ' || byte == b'\t'
+}
+
+/// Whether a line is empty or has only spaces and tabs.
+fn is_blank(line: &[u8]) -> bool
+    ensures { result ≡ is_blank line.now }
+{
+    line.iter().all(|byte| is_padding(*byte))
+}
+
+/// Whether a line begins with a space or a tab.
+pub(crate) fn is_continuation(line: &[u8]) -> bool
+    ensures { result ≡ is_continuation line.now }
+{
+    match line {
+        [first, ..] => is_padding(*first),
+        [] => false,
+    }
+}
+
+/// What comes after a blank line that is next.
+fn after_blank(bytes: &[u8]) -> Option<&[u8]>
+    ensures blank { IfSome result (λ after. IsBlankBefore bytes.now after.now) }
+    ensures none { IfNone result (IsAtStanza (lines bytes.now)) }
+{
+    if bytes.is_empty() {
+        return None;
+    }
+    let (line, after) = split_line(bytes);
+    if is_blank(line) { Some(after) } else { None }
+}
+
+/// What stands at the next line that is not blank, and its number.
+pub(crate) fn skip_blank_lines(bytes: &[u8], number: u64) -> (&[u8], u64)
     requires { number + length bytes.now < 2 ^ 64 }
     ensures room { result.1 + length result.0.now < 2 ^ 64 }
     ensures stanzas { raw_stanzas_from result.1 true (lines result.0.now)
         ≡ raw_stanzas_from number true (lines bytes.now) }
-    ensures at_stanza { IsAtStanza result.0.now }
+    ensures at_stanza { IsAtStanza (lines result.0.now) }
 {
     let mut rest = bytes;
     let mut line = number;
-    while let [b'\n', after @ ..] = rest {
+    while let Some(after) = after_blank(rest) {
         rest = after;
         line += 1;
     }
     (rest, line)
 }
 
-fn is_plain_name(name: &[u8]) -> bool
-    ensures { IsTrue result ↔ IsPlainName name.now }
+/// Whether a line that is neither blank nor a continuation is next.
+pub(crate) fn is_at_field(bytes: &[u8]) -> bool
+    ensures field { result ≡ true → IsAtField (lines bytes.now) }
+    ensures none { result ≡ false → IsAtNoField (lines bytes.now) }
 {
-    !name.is_empty() && name.iter().all(|byte| byte.is_ascii_alphabetic())
-}
-
-fn is_padding(byte: u8) -> bool
-    ensures { IsTrue result ↔ IsPadding byte }
-{
-    byte == b' ' || byte == b'\t'
-}
-
-fn is_plain_value(value: &[u8]) -> bool
-    ensures { IsTrue result ↔ IsPlainValue value.now }
-{
-    match (value.first(), value.last()) {
-        (Some(first), Some(last)) => !is_padding(*first) && !is_padding(*last),
-        _ => false,
+    match bytes {
+        [first, ..] => !is_padding(*first) && *first != b'\n',
+        [] => false,
     }
 }
 
-/// What follows a space.
-fn after_space(bytes: &[u8]) -> Option<&[u8]>
-    ensures { MatchOption result ((rest : List ℕ) → bytes.now ≢ 32 ∷ rest)
-        (λ rest. bytes.now ≡ 32 ∷ rest.now) }
+/// What comes after a continuation line that is next and not blank.
+pub(crate) fn after_continuation(bytes: &[u8]) -> Option<&[u8]>
+    ensures continued { IfSome result (λ after. IsContinuedTo bytes.now after.now) }
+    ensures none { IfNone result (EndsField (run (lines bytes.now))) }
 {
-    match bytes.split_first() {
-        Some((b' ', rest)) => Some(rest),
-        _ => None,
+    let [first, ..] = bytes else {
+        return None;
+    };
+    if !is_padding(*first) {
+        return None;
     }
-}
-
-/// What stands before the first colon of a line, and what stands after it and a space.
-fn split_field(line: &[u8]) -> Option<(&[u8], &[u8])>
-    ensures some { IfSome result (λ parts. line.now ≡ parts.0.now ++ 58 ∷ 32 ∷ parts.1.now) }
-    ensures only { IfSome result (λ parts. (name value : List ℕ) → IsPlainName name →
-        line.now ≡ name ++ 58 ∷ 32 ∷ value → (name ≡ parts.0.now) × (value ≡ parts.1.now)) }
-    ensures none { IfNone result ((name value : List ℕ) → IsPlainName name →
-        line.now ≢ name ++ 58 ∷ 32 ∷ value) }
-{
-    let Some(colon) = memchr(b':', line) else {
-        return None;
-    };
-    let Some(value) = after_space(&line[colon + 1..]) else {
-        return None;
-    };
-    Some((&line[..colon], value))
-}
-
-/// The field that a line of this number spells.
-pub(crate) fn field_of(line: &[u8], number: u64) -> Option<Field<'_>>
-    ensures some { IfSome result (λ field. IsFieldLine number line.now (field_text field)) }
-    ensures only { IfSome result (λ field. (other : FieldText) →
-        IsFieldLine number line.now other → other ≡ field_text field) }
-    ensures none { IfNone result ((other : FieldText) → ¬ IsFieldLine number line.now other) }
-{
-    let Some((name, value)) = split_field(line) else {
-        return None;
-    };
-    if is_plain_name(name) && is_plain_value(value) {
-        Some(Field {
-            name,
-            value,
-            line: number,
-        })
-    } else {
-        None
-    }
+    let (line, after) = split_line(bytes);
+    if is_blank(line) { None } else { Some(after) }
 }

@@ -1,11 +1,15 @@
-ghost use Rattle.std.specs.Prelude.{◌≡◌, ◌+◌, ◌<◌, ◌≤◌, ◌^◌, ◌↔◌, Ok, None, [], true, false, length, IsTrue, All, IfOk, IfSome, IfNone, OnOk, IsErrOf};
-ghost use Rattle.dist_control.specs.FieldsRead.{AddsLine, IsNoNewField, IsOnlyReading, HasNoReading};
+//! The reader of the stanzas of a text.
+ghost use Rattle.std.specs.Prelude.{◌≡◌, ℕ, ◌+◌, ◌<◌, ◌≤◌, ◌^◌, ◌↔◌, Ok, None, true, false, length, IsTrue, IsErrOf, sum_by};
+ghost use Rattle.dist_base.specs.Answers.{Answers};
+ghost use Rattle.dist_control.specs.Faults.{HasFault};
 ghost use Rattle.dist_control.specs.Lines.{lines};
-ghost use Rattle.dist_control.specs.RawStanza.{run, raw_stanzas_from};
+ghost use Rattle.dist_control.specs.Pieces.{IsAtStanza, ReadsFields, raw_here};
 
 use crate::error::ControlError;
-use crate::field_list::{Fields, Stanza};
-use crate::line::{field_of, is_in_stanza, skip_empty_lines, split_line};
+use crate::field::read_field;
+use crate::field_list::{Fields, Stanza, add_field};
+use crate::line::{is_at_field, skip_blank_lines};
+use crate::names::NameSet;
 use std::alloc::Global;
 use std::marker::Model;
 
@@ -30,24 +34,21 @@ impl<'a> Model for Stanzas<'a> {
       refused = reader.refused;
     } };
 
-    ghost use Rattle.dist_control.specs.Place.{IsAtStanza};
+    ghost use Rattle.dist_control.specs.Pieces.{IsReaderPlace};
 
-    ghost invariant = { λ reader. (reader.line + length reader.rest.now < 2 ^ 64) × IsAtStanza reader.rest.now };
+    ghost invariant = { λ reader. IsReaderPlace reader.line reader.rest.now };
 }
 
 impl<'a> Stanzas<'a> {
-    ghost use Rattle.dist_control.specs.RawStanza.{raw_stanzas};
-    ghost use Rattle.dist_control.specs.Reader.{HasNext, Takes, Refuses, ReadsOn, ReadsAll, ReadsNone};
-    ghost use Rattle.dist_control.specs.Plain.{IsReadSoFar};
+    ghost use Rattle.dist_control.specs.RawStanza.{raw_stanzas, size_of};
+    ghost use Rattle.dist_control.specs.Reader.{HasNext, Gives, Refuses};
 
     /// A reader at the start of a text.
     pub fn new(bytes: &'a [u8]) -> Stanzas<'a>
         ensures start { result ≡ record { left = raw_stanzas bytes.now; refused = false } }
-        ensures fewer { length result.left ≤ length bytes.now }
-        ensures shorter { All (λ raw. All (λ line. length line ≤ length bytes.now) raw.lines) result.left }
-        ensures nothing_read { IsReadSoFar bytes.now [] result.left }
+        ensures size { sum_by size_of result.left ≤ length bytes.now + 1 }
     {
-        let (rest, line) = skip_empty_lines(bytes, 1);
+        let (rest, line) = skip_blank_lines(bytes, 1);
         Stanzas {
             rest,
             line,
@@ -64,13 +65,8 @@ impl<'a> Stanzas<'a> {
 
     /// The next stanza.
     pub fn next(&mut self, alloc: Global) -> Result<Option<Stanza<'a>>, ControlError>
+        ensures answers { Answers (Gives self.old self.new) (Refuses self.old self.new) ControlError.NoMemory result }
         ensures none { (result ≡ Ok None) ↔ (¬ HasNext self.old) }
-        ensures end { IfOk result (λ next. IfNone next (self.new ≡ self.old)) }
-        ensures stanza { IfOk result (λ next. IfSome next (Takes self.old self.new)) }
-        ensures reads_on { IfOk result (λ next. IfSome next (ReadsOn self.old self.new)) }
-        ensures reads_all { IfOk result (λ next. IfNone next (ReadsAll self.old)) }
-        ensures not_plain { IsErrOf result ControlError.NotPlain → Refuses self.old self.new }
-        ensures reads_none { IsErrOf result ControlError.NotPlain → ReadsNone self.old }
         ensures no_memory { IsErrOf result ControlError.NoMemory → self.new ≡ self.old }
     {
         if !self.has_next() {
@@ -82,33 +78,18 @@ impl<'a> Stanzas<'a> {
                     line: self.line,
                     fields,
                 };
-                let (rest, line) = skip_empty_lines(rest, line);
+                let (rest, line) = skip_blank_lines(rest, line);
                 self.rest = rest;
                 self.line = line;
                 Ok(Some(stanza))
             }
-            Err(ControlError::NotPlain) => {
-                self.refused = true;
-                Err(ControlError::NotPlain)
-            }
             Err(ControlError::NoMemory) => Err(ControlError::NoMemory),
+            Err(error) => {
+                self.refused = true;
+                Err(error)
+            }
         }
     }
-}
-
-/// Adds the field that a line spells.
-fn add_line<'a>(fields: &mut Fields<'a>, line: &'a [u8], number: u64) -> Result<(), ControlError>
-    ensures ok { OnOk result (AddsLine number line.now fields.old fields.new) }
-    ensures not_plain { IsErrOf result ControlError.NotPlain →
-        IsNoNewField number line.now fields.old }
-{
-    let Some(field) = field_of(line, number) else {
-        return Err(ControlError::NotPlain);
-    };
-    if fields.has_name(field.name) {
-        return Err(ControlError::NotPlain);
-    }
-    fields.push(field).map_err(|_| ControlError::NoMemory)
 }
 
 /// The fields of the stanza at the front, what comes after its last line, and the number of the line there.
@@ -117,22 +98,29 @@ fn read_fields<'a>(
     bytes: &'a [u8],
     number: u64,
 ) -> Result<(Fields<'a>, &'a [u8], u64), ControlError>
-    requires { number + length bytes.now < 2 ^ 64 }
-    ensures room { IfOk result (λ read. read.2 + length read.1.now < 2 ^ 64) }
-    ensures reading { IfOk result (λ read. IsOnlyReading number (run (lines bytes.now)) read.0) }
-    ensures stanzas { IfOk result (λ read. raw_stanzas_from read.2 true (lines read.1.now)
-        ≡ raw_stanzas_from number false (lines bytes.now)) }
-    ensures not_plain { IsErrOf result ControlError.NotPlain →
-        HasNoReading number (run (lines bytes.now)) }
+    requires room { number + length bytes.now < 2 ^ 64 }
+    requires some { 0 < length bytes.now }
+    requires at_stanza { IsAtStanza (lines bytes.now) }
+    ensures answers { Answers (λ read. ReadsFields number bytes.now read.0 read.1.now read.2)
+        (HasFault (raw_here number bytes.now)) ControlError.NoMemory result }
 {
+    if !is_at_field(bytes) {
+        return Err(ControlError::OrphanContinuation(number));
+    }
     let mut fields = Fields::new(alloc);
+    let mut late = NameSet::new(alloc);
     let mut rest = bytes;
     let mut line = number;
-    while is_in_stanza(rest) {
-        let (text, after) = split_line(rest);
-        add_line(&mut fields, text, line)?;
+    while is_at_field(rest) {
+        let (field, after, next) = read_field(rest, line)?;
+        let Ok(added) = add_field(alloc, &mut fields, &mut late, field) else {
+            return Err(ControlError::NoMemory);
+        };
+        if !added {
+            return Err(ControlError::DoubleField(line));
+        }
         rest = after;
-        line += 1;
+        line = next;
     }
     Ok((fields, rest, line))
 }

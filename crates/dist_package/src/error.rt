@@ -1,9 +1,9 @@
-//! What can be wrong with a Packages file.
-
+//! What is wrong with a Packages file, and where.
 use dist_relation::RelationError;
 use dist_version::VersionError;
+use thiserror::Error;
 
-/// The fields that hold relations.
+/// The fields that have relations, in the order in which they are read.
 #[derive(Clone, Copy, Debug, PartialEq, Eq)]
 pub enum RelationField {
     PreDepends,
@@ -28,20 +28,27 @@ pub enum Kind {
     BadArchitecture,
     TwoArchitectures,
     Relation(RelationField, RelationError),
+    /// An earlier package, which came with this line, has the same name and an equal version, and differs.
     Clash(u64),
 }
 
-/// The first fault of a file, with its line, from 1.
+/// A fault of a Packages file, with the line of the stanza or the field that has it.
 #[derive(Clone, Copy, Debug, PartialEq, Eq)]
 pub struct Fault {
     pub line: u64,
     pub kind: Kind,
 }
 
-/// Why a text gives no repository.
-#[derive(Clone, Copy, Debug, PartialEq, Eq)]
+/// Why a Packages file is no repository.
+#[derive(Clone, Copy, Debug, PartialEq, Eq, Error)]
 pub enum PackagesError {
+    /// The first fault of the file.
+    #[error("bad packages")]
     Bad(Fault),
+    /// The file has more stanzas than are allowed.
+    #[error("too many stanzas")]
     TooMany,
+    /// There is no memory for the packages.
+    #[error("out of memory")]
     NoMemory,
 }

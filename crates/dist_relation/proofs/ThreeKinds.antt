@@ -18,7 +18,7 @@ use Rattle.dist_relation.specs.declared.error.ReadError.{ReadError}
 use Rattle.dist_relation.specs.declared.error.ReadError.TheVariants as stops
 use Rattle.dist_relation.specs.declared.error.RelationError.TheVariants as errors
 use Rattle.dist_version.specs.declared.error.VersionError.{VersionError}
-use Rattle.dist_version.proofs.Laws.{no_memory_fault}
+use Rattle.dist_version.specs.TextLaws.{no_memory_fault}
 use Rattle.dist_relation.specs.declared.error.RelationError.{RelationError}
 use Rattle.dist_relation.specs.Bytes.{is_space, is_word_byte, is_comma, comma, bar, Meets}
 use Rattle.dist_relation.specs.Grammar.{allows_operator, SpellsBounded, SpellsAtom, Closed, Ended, SpellsPiece, Reads, SpellsAlternatives, atom_of, SpellsProvide}

@@ -9,7 +9,7 @@ use Rattle.std.proofs.lemmas.List.Folds.{list_all-append}
 use Rattle.dist_version.specs.Spelling.{IsVersion, SpellsEpoch, IsMadeOf, revision_text, is_upstream_byte, is_revision_byte}
 use Rattle.dist_version.specs.Faults.{fault_of}
 use Rattle.dist_version.specs.declared.error.VersionError.{VersionError}
-use Rattle.dist_version.proofs.Laws.{version_from_no_fault, no_fault_from_version}
+use Rattle.dist_version.specs.TextLaws.{version_from_no_fault, no_fault_from_version}
 use Rattle.dist_relation.specs.declared.atom.Kind.{Kind}
 use Rattle.dist_relation.specs.declared.atom.Op.{Op}
 use Rattle.dist_relation.specs.declared.atom.Op.TheVariants.{Lt, Le, Eq, Ge, Gt}

@@ -1,6 +1,5 @@
-pub mod Cuts
+pub mod Density
 pub mod Digits
-pub mod Laws
 pub mod Lighter
 pub mod Steps
 pub mod Then

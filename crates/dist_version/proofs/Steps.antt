@@ -7,8 +7,8 @@ use Rattle.dist_version.specs.declared.error.VersionError.TheVariants.{Empty}
 use Rattle.dist_version.specs.Spelling.{colon, hyphen, is_upstream_byte, is_revision_byte, has, revision_text, split_once, rsplit_once, epoch_digits, after_epoch, epoch_of, upstream_of, revision_of}
 use Rattle.dist_version.specs.Faults.{empty_fault, epoch_fault, upstream_fault, revision_fault, bad_byte, byte_fault, fault_of}
 use Rattle.dist_version.specs.Kept.{Keeps}
-use Rattle.dist_version.proofs.Cuts.{CutsFirst, CutsLast, cases_split, cases_rsplit}
-use Rattle.dist_version.proofs.Laws.{empty_fault-none}
+use Rattle.dist_version.specs.Cuts.{CutsFirst, CutsLast, cases_split, cases_rsplit}
+use Rattle.dist_version.specs.TextLaws.{empty_fault-none}
 
 abbrev pub epoch_part_fault : List ℕ → Option VersionError
 epoch_part_fault text = option_map_or epoch_fault (epoch_digits text) None

@@ -8,13 +8,9 @@ use Rattle.std.proofs.lemmas.Bool.{cases_Bool}
 use Rattle.std.proofs.lemmas.Bool.Decides.{nat_tests}
 use Rattle.std.proofs.lemmas.List.{drop_all}
 use Rattle.std.proofs.lemmas.List.Sums.{prefix_len-le-length}
-use Rattle.dist_version.specs.Order.{weight_of, weight_at, text_start, digit_start, after_text, after_turn, turns, weights_of, weights_cmp, part_cmp}
+use Rattle.dist_version.specs.Order.{weight_of, weight_at, text_start, digit_start, after_text, after_turn, number_of, turns, weights_of, weights_cmp, part_cmp}
 use Rattle.dist_version.proofs.Then.{then_assoc, nat_cmp-less, nat_cmp-greater}
-use Rattle.dist_version.specs.Laws.{weights_total}
-
--- the number of a part's first turn
-abbrev pub number_of : List ℕ → ℕ
-number_of part = digits_value 10 (digit_start (after_text part))
+use Rattle.dist_version.specs.OrderLaws.{weights_total}
 
 -- the weights of its bytes before that
 abbrev pub text_weights : List ℕ → List ℤ
@@ -55,11 +51,6 @@ weights_cmp-past xs ys i h k = rw (drop_all i xs h, drop_all i ys k) refl
 abbrev Alike : List ℤ → List ℤ → Type 0
 Alike xs ys = (zs : List ℤ) → weights_cmp xs zs ≡ weights_cmp ys zs
 
-alike_after : (front xs ys : List ℤ) → Alike xs ys → Alike (front ++ xs) (front ++ ys)
-alike_after [] xs ys h zs = h zs
-alike_after (f ∷ front) xs ys h [] = ap (ordering_then (int_cmp f (pos 0))) (alike_after front xs ys h [])
-alike_after (f ∷ front) xs ys h (z ∷ zs) = ap (ordering_then (int_cmp f z)) (alike_after front xs ys h zs)
-
 zeros_alike : Alike (pos 0 ∷ pos 0 ∷ []) []
 zeros_alike [] = refl
 zeros_alike (y ∷ []) = refl
@@ -99,28 +90,40 @@ after_turn-le : (n : ℕ) (part : List ℕ) → length part ≤ suc n → length
 after_turn-le n [] h = omega arith
 after_turn-le n (x ∷ xs) h = omega (arith, after_turn_shorter x xs)
 
-more_turns : (n : ℕ) (part : List ℕ) → length part ≤ n → Alike (turns (suc n) part) (turns n part)
-more_turns zero [] h = zeros_alike
+-- turns past the end give nothing
+more_turns : (n : ℕ) (part : List ℕ) → length part ≤ n → turns (suc n) part ≡ turns n part
+more_turns zero [] h = refl
+more_turns (suc n) [] h = refl
 more_turns zero (x ∷ xs) h = absurd (omega arith)
-more_turns (suc n) part h =
-    alike_after (text_weights part) _ _ (alike_after (pos 0 ∷ pos (number_of part) ∷ []) _ _ (more_turns n (after_turn part) (after_turn-le n part h)))
+more_turns (suc n) (x ∷ xs) h =
+    ap (λ ws. text_weights (x ∷ xs) ++ pos 0 ∷ pos (number_of (x ∷ xs)) ∷ ws) (more_turns n (after_turn (x ∷ xs)) (after_turn-le n (x ∷ xs) h))
 
-enough_turns : (k : ℕ) (part : List ℕ) → Alike (turns (length part + k) part) (weights_of part)
+enough_turns : (k : ℕ) (part : List ℕ) → turns (length part + k) part ≡ weights_of part
 unfolding weights_of
-enough_turns zero part zs = rw add-zero refl
-enough_turns (suc k) part zs = rw add-suc (more_turns (length part + k) part (omega arith) zs ∙ enough_turns k part zs)
+enough_turns zero part = rw add-zero refl
+enough_turns (suc k) part = rw add-suc (more_turns (length part + k) part (omega arith) ∙ enough_turns k part)
 
-turns_alike : (n : ℕ) (part : List ℕ) → length part ≤ n → Alike (turns n part) (weights_of part)
-turns_alike n part h zs =
+turns_enough : (n : ℕ) (part : List ℕ) → length part ≤ n → turns n part ≡ weights_of part
+turns_enough n part h =
     let e : n ≡ length part + (n - length part) = omega arith in
-    ap (λ m. weights_cmp (turns m part) zs) e ∙ enough_turns (n - length part) part zs
+    ap (λ m. turns m part) e ∙ enough_turns (n - length part) part
 
--- a part's weights are those of its first turn and of what is left
+-- the weights of a part that is not empty are those of its first turn and of what is left
+pub weights_of-turn : (part : List ℕ) → 0 < length part → weights_of part ≡ text_weights part ++ pos 0 ∷ pos (number_of part) ∷ weights_of (after_turn part)
+unfolding weights_of
+weights_of-turn [] some = absurd (omega (arith, some))
+weights_of-turn (x ∷ xs) some =
+    ap (λ ws. text_weights (x ∷ xs) ++ pos 0 ∷ pos (number_of (x ∷ xs)) ∷ ws) (turns_enough (length xs) (after_turn (x ∷ xs)) (after_turn_shorter x xs))
+
+pub weights_of-empty : weights_of [] ≡ []
+unfolding weights_of
+weights_of-empty = refl
+
+-- those of an empty one are zeros alone, like those of one more turn
 first_turn : (part : List ℕ) → Alike (weights_of part) (text_weights part ++ pos 0 ∷ pos (number_of part) ∷ weights_of (after_turn part))
 unfolding weights_of
 first_turn [] zs = sym (zeros_alike zs)
-first_turn (x ∷ xs) zs =
-    alike_after (text_weights (x ∷ xs)) _ _ (alike_after (pos 0 ∷ pos (number_of (x ∷ xs)) ∷ []) _ _ (turns_alike (length xs) (after_turn (x ∷ xs)) (after_turn_shorter x xs))) zs
+first_turn (x ∷ xs) zs = ap (λ ws. weights_cmp ws zs) (weights_of-turn (x ∷ xs) (omega arith))
 
 -- ---- one turn of both
 
@@ -161,18 +164,18 @@ by_texts (x ∷ s) (y ∷ t) m n xs ys =
 alike_right : (xs ys : List ℤ) → Alike xs ys → (zs : List ℤ) → weights_cmp zs xs ≡ weights_cmp zs ys
 alike_right xs ys h zs = weights_total.antisymm zs xs ∙ ap ordering_reverse (h zs) ∙ sym (weights_total.antisymm zs ys)
 
-part_cmp-turn : (a b : List ℕ) → part_cmp a b ≡ ordering_then (weights_cmp (text_weights a) (text_weights b)) (ordering_then (nat_cmp (number_of a) (number_of b)) (part_cmp (after_turn a) (after_turn b)))
+pub part_cmp-turn : (a b : List ℕ) → part_cmp a b ≡ ordering_then (weights_cmp (text_weights a) (text_weights b)) (ordering_then (nat_cmp (number_of a) (number_of b)) (part_cmp (after_turn a) (after_turn b)))
 unfolding part_cmp
 part_cmp-turn a b =
     first_turn a (weights_of b)
     ∙ alike_right _ _ (first_turn b) _
     ∙ by_texts (text_start a) (text_start b) (number_of a) (number_of b) (weights_of (after_turn a)) (weights_of (after_turn b))
 
-part_cmp-empty : part_cmp [] [] ≡ Equal
+pub part_cmp-empty : part_cmp [] [] ≡ Equal
 unfolding part_cmp weights_of
 part_cmp-empty = refl
 
-take_while-all : (test : ℕ → Bool) (xs : List ℕ) → list_all test (take (prefix_len test xs) xs) ≡ true
+pub take_while-all : (test : ℕ → Bool) (xs : List ℕ) → list_all test (take (prefix_len test xs) xs) ≡ true
 take_while-all test [] = refl
 take_while-all test (x ∷ xs) = elim (cases_Bool (test x)) [
   | inl pass ↦ rw (pass, one-add, pass) (take_while-all test xs)

@@ -4,6 +4,7 @@ use Rattle.std.specs.declared.cmp.Ordering.TheVariants.{Less, Equal}
 use Rattle.dist_version.specs.declared.error.VersionError.TheVariants.{EmptyRevision, BadByte}
 use Rattle.dist_version.specs.Spelling.{parts_of, epoch_of, epoch_digits, after_epoch, upstream_of, revision_of}
 use Rattle.dist_version.specs.Faults.{fault_of}
+use Rattle.dist_version.specs.Between.{above_text, below_text, without_rebuild_text}
 use Rattle.dist_version.specs.Order.{weights_of, part_cmp, version_cmp}
 
 -- the epoch ends at the first colon, and the revision starts after the last hyphen
@@ -12,7 +13,7 @@ unfolding epoch_of epoch_digits after_epoch upstream_of revision_of
 parts_example = refl
 
 -- `~` weighs -1, a letter its code, and the digits are a number after a 0
-weights_example : weights_of (codes "1~a") ≡ pos 0 ∷ pos 1 ∷ negsuc 0 ∷ pos 97 ∷ pos 0 ∷ pos 0 ∷ pos 0 ∷ pos 0 ∷ []
+weights_example : weights_of (codes "1~a") ≡ pos 0 ∷ pos 1 ∷ negsuc 0 ∷ pos 97 ∷ pos 0 ∷ pos 0 ∷ []
 unfolding weights_of
 weights_example = refl
 
@@ -37,3 +38,20 @@ empty_example = refl
 no_fault_example : fault_of (codes "1.2-3") ≡ None
 unfolding fault_of epoch_digits after_epoch upstream_of revision_of
 no_fault_example = refl
+
+-- a missing revision gets its hyphen, and what ends in no digit a 0
+above_example : above_text (codes "1") 4 ≡ codes "1-0A~~~~"
+unfolding above_text after_epoch upstream_of revision_of
+above_example = refl
+
+above_letter_example : above_text (codes "1-0A") 4 ≡ codes "1-0A0A~~~~"
+unfolding above_text after_epoch upstream_of revision_of
+above_letter_example = refl
+
+below_example : below_text (codes "1") ≡ codes "~~"
+below_example = refl
+
+-- the suffix of a rebuild is taken off once
+rebuild_example : without_rebuild_text (codes "1+b2+b3") ≡ codes "1+b2"
+unfolding without_rebuild_text fault_of epoch_digits after_epoch upstream_of revision_of
+rebuild_example = refl

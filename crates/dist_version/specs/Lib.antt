@@ -1,6 +1,9 @@
 pub mod Spelling
 pub mod Faults
 pub mod Order
+pub mod Between
 pub mod Kept
-pub mod Laws
+pub mod Cuts
+pub mod TextLaws
+pub mod OrderLaws
 pub mod Examples

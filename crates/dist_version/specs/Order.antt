@@ -7,11 +7,11 @@ use Rattle.std.specs.List.{take_while}
 use Rattle.std.specs.Option.{unwrap_or}
 use Rattle.std.specs.Ordering.{ordering_then, nat_cmp, int_cmp}
 use Rattle.std.specs.Str.Parse.{digits_value}
-use Rattle.dist_version.specs.Spelling.{epoch_of, upstream_of, revision_of}
+use Rattle.dist_version.specs.Spelling.{tilde, epoch_of, upstream_of, revision_of}
 
 -- of a byte that is no digit: -1 for `~`, its code for a letter, and its code and 256 for any other
 abbrev pub weight_of : ℕ → ℤ
-weight_of b = if b == 126 then negsuc 0 else if is_ascii_alphabetic b then pos b else pos (b + 256)
+weight_of b = if b == tilde then negsuc 0 else if is_ascii_alphabetic b then pos b else pos (b + 256)
 
 -- the longest start without digits
 abbrev pub text_start : List ℕ → List ℕ
@@ -28,12 +28,17 @@ after_text part = drop (length (text_start part)) part
 abbrev pub after_turn : List ℕ → List ℕ
 after_turn part = drop (length (digit_start (after_text part))) (after_text part)
 
--- the weights of so many turns: of each byte without digits, then 0, then the number that the digits write, which is 0 where there is none
+-- the number that the digits of the first turn write
+abbrev pub number_of : List ℕ → ℕ
+number_of part = digits_value 10 (digit_start (after_text part))
+
+-- the weights of at most so many turns: of each byte without digits, then 0, then the number that the digits write, which is 0 where there is none
 abbrev pub turns : ℕ → List ℕ → List ℤ
 turns zero part = []
-turns (suc n) part = map weight_of (text_start part) ++ pos 0 ∷ pos (digits_value 10 (digit_start (after_text part))) ∷ turns n (after_turn part)
+turns (suc n) [] = []
+turns (suc n) (b ∷ bs) = map weight_of (text_start (b ∷ bs)) ++ pos 0 ∷ pos (number_of (b ∷ bs)) ∷ turns n (after_turn (b ∷ bs))
 
--- The weights of a part: as many turns as it has bytes reach its end, and the turns past the end give zeros alone.
+-- The weights of a part. It has no more turns than bytes, so these are those of its first turn and then the weights of what is left (the law `weights_decide` says so).
 unfoldable pub weights_of : List ℕ → List ℤ
 weights_of part = turns (length part) part
 

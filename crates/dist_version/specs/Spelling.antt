@@ -4,12 +4,19 @@ use Rattle.std.specs.Char.{is_ascii_alphanumeric, is_ascii_digit}
 use Rattle.std.specs.List.{list_any, list_all}
 use Rattle.std.specs.Option.{option_map, option_map_or, option_or}
 use Rattle.std.specs.Str.Parse.{digits_value}
+use Rattle.dist_version.specs.declared.TheConstants.{MAX_EPOCH}
 
 abbrev pub colon : ℕ
 colon = 58
 
 abbrev pub hyphen : ℕ
 hyphen = 45
+
+abbrev pub tilde : ℕ
+tilde = 126
+
+abbrev pub plus : ℕ
+plus = 43
 
 -- the byte stands somewhere in the bytes
 abbrev pub has : ℕ → List ℕ → Bool
@@ -49,7 +56,7 @@ pub record Spells (text : List ℕ) (version : Parts) : Type 0 where
   pub front : List ℕ
   pub whole : text ≡ front ++ version.upstream ++ revision_text version.revision
   pub epoch : SpellsEpoch front version.epoch
-  pub small : version.epoch ≤ 2147483647
+  pub small : version.epoch ≤ MAX_EPOCH
   pub upstream : IsMadeOf is_upstream_byte version.upstream
   pub revision : IfSome version.revision (IsMadeOf is_revision_byte)
   -- An upstream version with a colon needs the epoch written, and one with a hyphen needs a revision.
@@ -59,6 +66,10 @@ pub record Spells (text : List ℕ) (version : Parts) : Type 0 where
 -- the text spells some version
 abbrev pub IsVersion : List ℕ → Type 0
 IsVersion text = (version : Parts) × Spells text version
+
+-- What a reader of versions gives: the text, where it spells a version.
+abbrev pub ReadsVersion : List ℕ → List ℕ → Type 0
+ReadsVersion text version = (version ≡ text) × IsVersion text
 
 -- what stands before and after the first such byte, where there is one
 abbrev pub split_once : ℕ → List ℕ → Option (List ℕ × List ℕ)

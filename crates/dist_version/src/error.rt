@@ -1,4 +1,4 @@
-// Why a text is no version.
+//! Why a text is no version.
 ghost use Rattle.std.specs.Prelude.{◌≡◌};
 
 use std::alloc::AllocError;

@@ -1,24 +1,30 @@
-// Debian versions: read, kept and compared by Debian Policy 5.6.12.
+//! Debian versions: read, kept and compared by Debian Policy 5.6.12.
 #![tactic(auto)]
 
-ghost use Rattle.std.specs.Prelude.{◌≡◌, ◌≢◌, ◌↔◌, ℕ, List, None, Some, IfOk, IfErr, OnOk, IsTrue, bytes_eq};
-ghost use Rattle.std.specs.Cmp.{IsTotalOrder};
+ghost use Rattle.std.specs.Prelude.{◌≡◌, ◌↔◌, ℕ, List, None, IfOk, IsTrue, bytes_eq};
 ghost use Rattle.std.specs.Option.{option_copied};
-ghost use Rattle.dist_version.specs.Spelling.{Parts, Spells, IsVersion, parts_of, epoch_of, upstream_of, revision_of};
-ghost use Rattle.dist_version.specs.Faults.{fault_of};
-ghost use Rattle.dist_version.specs.Order.{weights_of, IsLighter, part_cmp, version_cmp, IsBelow};
+ghost use Rattle.dist_base.specs.Answers.{Answers};
+ghost use Rattle.dist_version.specs.Spelling.{Spells, ReadsVersion, parts_of, epoch_of, upstream_of, revision_of};
+ghost use Rattle.dist_version.specs.Faults.{fault_of, HasFault};
+ghost use Rattle.dist_version.specs.Order.{version_cmp};
 ghost use Rattle.dist_version.specs.Kept.{Keeps};
 
+mod between;
 mod error;
+mod laws;
 mod order;
 mod reading;
 
 pub use error::VersionError;
+pub use laws::{equal_is_neither_below, order_is_total, rebuilds_are_taken_off, texts_are_exact, weights_decide};
 use order::compare_parts;
 use reading::{Places, places_of};
 use std::alloc::{AllocError, Global};
 use std::cmp::Ordering;
 use std::marker::Model;
+
+/// The greatest epoch.
+pub const MAX_EPOCH: u32 = 2_147_483_647;
 
 /// A version, seen as its text. The text is kept once, with the places of its parts.
 #[derive(Debug, Drop)]
@@ -38,16 +44,8 @@ impl Model for Version {
 impl Version {
     /// Reads a version and keeps a copy of its text.
     pub fn read(alloc: Global, bytes: &[u8]) -> Result<Version, VersionError>
-        ensures kept { IfOk result (λ version. version ≡ bytes.now) }
-
-        // A text without a fault is accepted and another refused with its first fault, unless memory runs out.
-        ensures sound { OnOk result (fault_of bytes.now ≡ None) }
-        ensures fault { IfErr result (λ error. error ≢ VersionError.NoMemory → fault_of bytes.now ≡ Some error) }
-
-        // Want of memory is no fault of a text. A text has none exactly where it spells a version, and it spells at most one.
-        ensures memory { (text : List ℕ) → fault_of text ≢ Some VersionError.NoMemory }
-        ensures exact { (text : List ℕ) → (fault_of text ≡ None) ↔ IsVersion text }
-        ensures one { (text : List ℕ) (version : Parts) → Spells text version → version ≡ parts_of text }
+        // The version of this text, or the text's first fault.
+        ensures { Answers (ReadsVersion bytes.now) (HasFault bytes.now) VersionError.NoMemory result }
     {
         let places = places_of(bytes)?;
         let text = Vec::from_slice(alloc, bytes)?;
@@ -90,14 +88,7 @@ impl Version {
 
     /// Compares two versions. Equal versions may differ in their texts, as `1.0` and `0:1.00-0` do.
     pub fn compare(&self, other: &Version) -> Ordering
-        ensures order { result ≡ version_cmp self.now other.now }
-
-        // Of two upstream versions or revisions the first difference of their weights decides, with zeros past the end.
-        ensures weights { (a b : List ℕ) → (part_cmp a b ≡ Ordering.Less) ↔ IsLighter (weights_of a) (weights_of b) }
-
-        // The order is total and transitive, and versions that are equal compare alike with every other.
-        ensures total { IsTotalOrder version_cmp }
-        ensures equal { (result ≡ Ordering.Equal) ↔ ((¬ IsBelow self.now other.now) × (¬ IsBelow other.now self.now)) }
+        ensures { result ≡ version_cmp self.now other.now }
     {
         if self.text == other.text {
             Ordering::Equal
@@ -127,18 +118,13 @@ impl Version {
     pub fn try_clone(&self) -> Result<Version, AllocError>
         ensures { IfOk result (λ version. version ≡ self.now) }
     {
-        let text = Vec::from_slice(*self.text.allocator(), self.text.as_slice())?;
+        let text = Vec::from_slice(*self.text.allocator(), self.text())?;
         Ok(Version {
             text,
             places: self.places,
         })
     }
 }
-
-/// The order of versions is total and transitive, and versions that are equal compare alike with every other.
-pub fn order_is_total()
-    ensures { IsTotalOrder version_cmp }
-{}
 
 /// Texts that are the same bytes. Versions that are equal in the order of versions may have other texts: see [`Version::compare`].
 impl PartialEq for Version {

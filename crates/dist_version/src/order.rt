@@ -1,4 +1,4 @@
-// The order of two parts of versions, by turns: a start without digits, and then a run of digits, which is never computed.
+//! The order of two parts of versions, by turns: a start without digits, and then a run of digits, which is never computed.
 ghost use Rattle.std.specs.Prelude.{◌≡◌, ◌≤◌, IsTrue, length, map, drop, not, ◌==◌};
 ghost use Rattle.std.specs.Char.{is_ascii_digit};
 ghost use Rattle.std.specs.List.{list_all, prefix_len};

@@ -1,4 +1,4 @@
-// The parts of a version text, and its first fault, by Debian Policy 5.6.12.
+//! The parts of a version text, and its first fault, by Debian Policy 5.6.12.
 ghost use Rattle.std.specs.Prelude.{◌≡◌, ℕ, ◌+◌, ◌^◌, ◌<◌, None, Some, MatchResult, length, not, position};
 ghost use Rattle.std.specs.Char.{is_ascii_digit};
 ghost use Rattle.std.specs.List.{list_all};
@@ -8,10 +8,9 @@ ghost use Rattle.dist_version.specs.Spelling.{hyphen, split_once, rsplit_once, i
 ghost use Rattle.dist_version.specs.Faults.{fault_of, epoch_fault, upstream_fault, revision_fault, bad_byte};
 ghost use Rattle.dist_version.specs.Kept.{Keeps};
 
+use crate::MAX_EPOCH;
 use crate::error::VersionError;
 use memchr::{memchr, memrchr};
-
-const MAX_EPOCH: u64 = 2147483647;
 
 /// The value of the epoch, and the places in the text where the upstream version starts and ends.
 #[derive(Clone, Copy, Debug)]
@@ -28,7 +27,7 @@ fn split_once(bytes: &[u8], byte: u8) -> Option<(&[u8], &[u8])>
     Some((&bytes[..at], &bytes[at + 1..]))
 }
 
-fn rsplit_once(bytes: &[u8], byte: u8) -> Option<(&[u8], &[u8])>
+pub(crate) fn rsplit_once(bytes: &[u8], byte: u8) -> Option<(&[u8], &[u8])>
     ensures { option_map (λ s. (s.0.now, s.1.now)) result ≡ rsplit_once byte bytes.now }
 {
     let at = memrchr(byte, bytes)?;
@@ -59,7 +58,7 @@ fn bad_revision_byte(revision: &[u8]) -> Option<usize>
     revision.iter().position(|byte| !is_revision_byte(*byte))
 }
 
-fn are_digits(bytes: &[u8]) -> bool
+pub(crate) fn are_digits(bytes: &[u8]) -> bool
     ensures { result ≡ list_all is_ascii_digit bytes.now }
 {
     bytes.iter().all(|byte| byte.is_ascii_digit())
@@ -77,7 +76,7 @@ fn epoch_value(digits: &[u8]) -> Result<u32, VersionError>
     let mut value: u64 = 0;
     for digit in digits {
         value = value * 10 + u64::from(*digit - b'0');
-        if value > MAX_EPOCH {
+        if value > u64::from(MAX_EPOCH) {
             return Err(VersionError::EpochTooLarge);
         }
     }

@@ -1,4 +1,4 @@
-// Values from outside: the order as `dpkg --compare-versions` answers it (1.21.22), and refusals by the grammar.
+//! Values from outside: the order as `dpkg --compare-versions` answers it (1.21.22), and refusals by the grammar.
 use super::*;
 use std::test::Fail;
 
@@ -165,5 +165,34 @@ fn keeps_text_and_parts(rt: HostRuntime) -> Result<(), Fail> {
     assert_eq!(rt; plain.epoch(), 0);
     assert_eq!(rt; plain.upstream(), b"~".as_slice());
     assert_eq!(rt; plain.revision().is_none(), true);
+    Ok(())
+}
+
+#[test]
+fn equal_texts_are_the_same_bytes(rt: HostRuntime) -> Result<(), Fail> {
+    let version = Version::read(rt.alloc(), b"1.0")?;
+    assert_eq!(rt; version == version.try_clone()?, true);
+    assert_eq!(rt; version == Version::read(rt.alloc(), b"1.0-0")?, false);
+    Ok(())
+}
+
+#[test]
+fn finds_versions_in_between(rt: HostRuntime) -> Result<(), Fail> {
+    let one = Version::read(rt.alloc(), b"1")?;
+    assert_eq!(rt; one.after(4)?.text(), b"1-0A~~~~".as_slice());
+    let letter = Version::read(rt.alloc(), b"1-0A")?;
+    assert_eq!(rt; letter.after(4)?.text(), b"1-0A0A~~~~".as_slice());
+    assert_eq!(rt; one.after(usize::MAX).is_err(), true);
+    assert_eq!(rt; one.below()?.text(), b"~~".as_slice());
+    Ok(())
+}
+
+#[test]
+fn takes_rebuilds_off(rt: HostRuntime) -> Result<(), Fail> {
+    for (text, base) in [("1-2+b3", "1-2"), ("1+b2+b3", "1+b2"), ("1+b", "1+b")] {
+        let version = Version::read(rt.alloc(), text.as_bytes())?;
+        let left = version.without_rebuild()?;
+        assert_eq!(rt; left.text(), base.as_bytes(), "{text}");
+    }
     Ok(())
 }

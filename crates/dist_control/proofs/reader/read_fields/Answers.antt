@@ -1,40 +1,41 @@
-use Rattle.std.proofs.Common.{◌≡◌, ◌<◌, List, ℕ, ◌∷◌, length, arith, refl, sym, ◌∙◌, ap, subst, false}
-use Rattle.std.specs.Prelude.{Err, Result}
+use Rattle.std.proofs.Common.{◌≡◌, ℕ, List, true, false, not, sym, ap, ◌∙◌, arith, refl, inl, inr, subst, Result, Bor}
+use Rattle.std.proofs.lemmas.Bool.{not-true, not-false, OnTrue_at}
 use Rattle.std.proofs.lemmas.Result.{err_from_is_err_and}
-use Rattle.dist_control.specs.declared.error.ControlError.TheVariants.{NotPlain}
+use Rattle.dist_base.specs.Answers.{Answers}
+use Rattle.dist_control.specs.FieldText.{FieldText, field_text}
+use Rattle.dist_control.specs.Faults.{HasFault}
 use Rattle.dist_control.specs.Lines.{lines}
-use Rattle.dist_control.specs.RawStanza.{run, raw_stanzas_from}
-use Rattle.dist_control.proofs.StanzaLemmas.{IsFieldsSoFar, fields-more, fields-all, fields-fail, run-within, raw-within, run-past}
+use Rattle.dist_control.specs.Pieces.{ReadsFields, raw_here}
+use Rattle.dist_control.specs.declared.error.ControlError.{ControlError}
+use Rattle.dist_control.specs.declared.error.ControlError.TheVariants.{NoMemory}
+use Rattle.dist_control.proofs.StanzaLemmas.{reads-first, reads-more, reads-all, field-fault, double-fault, orphan-fault}
+use Rattle.dist_control.proofs.ReaderLemmas.{some-lines}
 use Rattle.dist_control.proofs.reader.read_fields.Goals as goal
 
-err_is : {T E : Type 0} (x y : E) → (let from : E → Result T E = λ e. Err e in from x ≡ from y) → x ≡ y
-err_is x y is = cc
+pub returns-then-not-is_at_field : goal.returns-then-not-is_at_field
+returns-then-not-is_at_field c = record {
+  answers = inr (orphan-fault c.args.number c.args.bytes.now (lines c.args.bytes.now) refl (some-lines c.args.bytes.now c.requires.some) c.requires.at_stanza (c.if-not-is_at_field.ensures.none refl));
+}
 
-pub returns-in_err-add_line-clause-not_plain : goal.returns-in_err-add_line-clause-not_plain
-returns-in_err-add_line-clause-not_plain c =
+pub returns-in_err-field : goal.returns-in_err-field
+returns-in_err-field c =
     let exit = err_from_is_err_and c.from_residual.result c.from_residual.ensures.1 in
-    let text = c.split_line.result.0.now in
-    let after = lines c.split_line.result.1.now in
-    let some : 0 < length text = c.split_line.ensures.first (c.loop-rest-test.ensures.within refl).1 in
-    let left : run (lines c.loop-rest.rest.now) ≡ text ∷ run after = ap run c.split_line.ensures.lines ∙ run-within text after some in
-    let P : List (List ℕ) → Type 0 = IsFieldsSoFar c.args.number (run (lines c.args.bytes.now)) c.loop-rest.fields c.loop-rest.line in
-    λ is.
-    let cause : exit.0 ≡ NotPlain = err_is exit.0 NotPlain (sym exit.1 ∙ is) in
-    fields-fail _ _ _ _ _ _ (subst P left c.loop-rest.invariant.1) (c.in_err-add_line.ensures.not_plain (ap (λ e. Err e) (sym exit.2 ∙ cause)))
+    let raw = raw_here c.args.number c.args.bytes.now in
+    let P : Result (List FieldText × Bor (List ℕ) × ℕ) ControlError → Type 0 =
+    λ r. Answers (λ read. ReadsFields c.args.number c.args.bytes.now read.0 read.1.now read.2) (HasFault raw) NoMemory r in
+    record {
+      answers = subst P (sym exit.1) (inr (subst (HasFault raw) (sym exit.2)
+          (field-fault _ _ _ _ _ _ c.loop-alloc.invariant (c.loop-alloc-test.ensures.field refl) _ c.in_err-field.ensures)));
+    }
 
-pub loop-rest-preserved : goal.loop-rest-preserved
-loop-rest-preserved c =
-    let text = c.split_line.result.0.now in
-    let after = lines c.split_line.result.1.now in
-    let some : 0 < length text = c.split_line.ensures.first (c.loop-rest-test.ensures.within refl).1 in
-    let left : run (lines c.loop-rest.rest.now) ≡ text ∷ run after = ap run c.split_line.ensures.lines ∙ run-within text after some in
-    let P : List (List ℕ) → Type 0 = IsFieldsSoFar c.args.number (run (lines c.args.bytes.now)) c.loop-rest.fields c.loop-rest.line in (
-      omega (arith, c.split_line.ensures.shorter),
-      fields-more _ _ _ _ _ _ _ (subst P left c.loop-rest.invariant.1) c.in_ok-add_line.ensures.ok,
-      sym (ap (raw_stanzas_from c.loop-rest.line false) c.split_line.ensures.lines ∙ raw-within c.loop-rest.line text after some) ∙ c.loop-rest.invariant.2,
-    )
+pub returns-then-not-added : goal.returns-then-not-added
+returns-then-not-added c = record {
+  answers = inr (double-fault _ _ _ _ _ _ c.loop-alloc.invariant (c.loop-alloc-test.ensures.field refl)
+      (field_text c.in_ok-field.field) _ _ c.in_ok-field.ensures (not-false _ (sym c.in-Ok.ensures.fresh ∙ c.if-not-added.true)));
+}
 
-pub returns-clause-reading : goal.returns-clause-reading
-returns-clause-reading c =
-    let P : List (List ℕ) → Type 0 = IsFieldsSoFar c.args.number (run (lines c.args.bytes.now)) c.loop-rest.fields c.loop-rest.line in
-    fields-all _ _ _ _ (subst P (run-past c.loop-rest.rest.now (c.loop-rest-test.ensures.past refl)) c.loop-rest.invariant.1)
+pub loop-alloc-preserved : goal.loop-alloc-preserved
+loop-alloc-preserved c =
+    let is = c.if-not-added.false in
+    reads-more _ _ _ _ _ _ c.loop-alloc.invariant (c.loop-alloc-test.ensures.field refl)
+    (field_text c.in_ok-field.field) _ _ c.in_ok-field.ensures _ _ (not-true _ (sym c.in-Ok.ensures.fresh ∙ is)) (OnTrue_at is c.in-Ok.ensures.added) (OnTrue_at is c.in-Ok.ensures.late)

@@ -3,7 +3,7 @@ use Rattle.std.specs.Ordering.{is_ne}
 use Rattle.dist_version.specs.Order.{part_cmp}
 use Rattle.dist_version.proofs.Steps.{now-unwrap_or}
 use Rattle.dist_version.proofs.Then.{then_stop, then_go_on}
-use Rattle.dist_version.specs.Laws.{version_cmp-parts}
+use Rattle.dist_version.specs.OrderLaws.{version_cmp-parts}
 use Rattle.dist_version.proofs.Version.compare_by_parts.Goals as goal
 
 pub returns-then-is_ne : goal.returns-then-is_ne

@@ -1,4 +1,4 @@
-use Rattle.dist_version.proofs.Laws.{spells_parts}
+use Rattle.dist_version.specs.TextLaws.{spells_parts}
 use Rattle.dist_version.proofs.Version.text.Goals as goal
 
 pub returns-clause-spelled : goal.returns-clause-spelled

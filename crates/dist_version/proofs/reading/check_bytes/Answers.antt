@@ -1,6 +1,6 @@
 use Rattle.std.proofs.Common.{◌+◌, length, sym}
 use Rattle.dist_version.specs.Spelling.{is_upstream_byte, is_revision_byte}
-use Rattle.dist_version.proofs.Laws.{bad_byte-found, bad_byte-passed}
+use Rattle.dist_version.specs.TextLaws.{bad_byte-found, bad_byte-passed}
 use Rattle.dist_version.proofs.Steps.{or-some, or-next}
 use Rattle.dist_version.proofs.reading.check_bytes.Goals as goal
 

@@ -3,11 +3,11 @@ use Rattle.std.specs.Char.{is_ascii_digit}
 use Rattle.std.specs.List.{list_all}
 use Rattle.std.specs.Str.Parse.{digits_value}
 use Rattle.dist_version.proofs.Digits.{value_more, value_of_start}
-use Rattle.dist_version.proofs.Laws.{epoch_fault-large}
+use Rattle.dist_version.specs.TextLaws.{epoch_fault-large}
 use Rattle.dist_version.proofs.reading.epoch_value.Goals as goal
 
-pub returns-then-value-gt-MAX_EPOCH : goal.returns-then-value-gt-MAX_EPOCH
-returns-then-value-gt-MAX_EPOCH c =
+pub returns-then-value-from : goal.returns-then-value-from
+returns-then-value-from c =
     let ds = c.args.digits.now in
     let all : list_all is_ascii_digit ds ≡ true = cc in
     let more = value_more ds c.loop-digit.digit-index all c.loop-digit-test.true in

@@ -1,6 +1,6 @@
 use Rattle.std.proofs.Common.{sym, ◌∙◌}
 use Rattle.std.proofs.lemmas.Result.{err_from_is_err_and}
-use Rattle.dist_version.proofs.Laws.{with_colon, fault_with_colon, without_colon}
+use Rattle.dist_version.specs.TextLaws.{with_colon, fault_with_colon, without_colon}
 use Rattle.dist_version.proofs.reading.split_epoch.Goals as goal
 
 pub returns-in_err-epoch_value-in-Some : goal.returns-in_err-epoch_value-in-Some

@@ -1,0 +1,5 @@
+pub mod Named
+pub mod Source
+pub mod PackageOf
+pub mod FirstFault
+pub mod RepositoryOf

@@ -1,0 +1,35 @@
+-- The fields of a stanza by their names, and the text and place of a fault.
+use Rattle.std.specs.Prelude.{◌≡◌, ℕ, List, Option, Some, None, find, option_map_or, [], codes}
+use Rattle.dist_control.specs.FieldText.{FieldText}
+use Rattle.dist_control.specs.Fields.{is_same_name}
+use Rattle.dist_control.specs.declared.field_list.Stanza.{Stanza}
+use Rattle.dist_package.specs.declared.error.Fault.{Fault}
+use Rattle.dist_package.specs.declared.error.Kind.{Kind}
+use Rattle.dist_package.specs.declared.error.RelationField.{RelationField}
+use Rattle.dist_package.specs.declared.error.RelationField.TheVariants.{PreDepends, Depends, Conflicts, Breaks, Provides}
+
+-- the field of a name, ASCII case apart
+abbrev pub field_named : Stanza → List ℕ → Option FieldText
+field_named stanza name = find (λ field. is_same_name name field.name) stanza.fields
+
+-- the value of a field, which is empty where there is no such field
+abbrev pub value_of : Stanza → List ℕ → List ℕ
+value_of stanza name = option_map_or (λ field. field.value) (field_named stanza name) []
+
+-- a field of this name has this value and stands at this line
+pub record IsFieldOf (stanza : Stanza) (name value : List ℕ) (line : ℕ) : Type 0 where
+  pub field : FieldText
+  pub found : field_named stanza name ≡ Some field
+  pub value_is : field.value ≡ value
+  pub line_is : field.line ≡ line
+
+abbrev pub fault_at : ℕ → Kind → Fault
+fault_at line kind = record { line = line; kind = kind }
+
+-- the names of the fields that have relations
+abbrev pub name_of : RelationField → List ℕ
+name_of PreDepends = codes "Pre-Depends"
+name_of Depends = codes "Depends"
+name_of Conflicts = codes "Conflicts"
+name_of Breaks = codes "Breaks"
+name_of Provides = codes "Provides"

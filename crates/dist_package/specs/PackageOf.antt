@@ -1,0 +1,145 @@
+-- The package of a stanza (Debian Policy 5.3), and the faults of its fields.
+use Rattle.std.specs.Prelude.{◌≡◌, ◌≢◌, ◌⊎◌, ℕ, List, [], ◌∷◌, ◌++◌, Option, None, Some, Bool, true, false, IsTrue, ◌↔◌, codes, option_map_or}
+use Rattle.dist_control.specs.declared.field_list.Stanza.{Stanza}
+use Rattle.dist_relation.specs.Bytes.{IsName}
+use Rattle.dist_relation.specs.Grammar.{ReadsDepends, ReadsAtoms, ReadsProvides}
+use Rattle.dist_relation.specs.Faults.{FirstDependsFault, FirstAtomsFault, FirstProvidesFault}
+use Rattle.dist_relation.specs.declared.atom.Atom.{Atom}
+use Rattle.dist_relation.specs.declared.atom.Provide.{Provide}
+use Rattle.dist_relation.specs.declared.error.RelationError.{RelationError}
+use Rattle.dist_repo.specs.declared.package.Package.{Package}
+use Rattle.dist_version.specs.Faults.{HasFault}
+use Rattle.dist_version.specs.Spelling.{ReadsVersion}
+use Rattle.dist_version.specs.declared.error.VersionError.{VersionError}
+use Rattle.dist_package.specs.Named.{field_named, value_of, IsFieldOf, fault_at, name_of}
+use Rattle.dist_package.specs.Source.{SpellsSource, IsNoSource}
+use Rattle.dist_package.specs.declared.error.Fault.{Fault}
+use Rattle.dist_package.specs.declared.error.Kind.TheVariants.{NoPackage, BadPackageName, NoVersion, BadVersionText, BadSource, BadArchitecture, TwoArchitectures, Relation}
+use Rattle.dist_package.specs.declared.error.RelationField.{RelationField}
+use Rattle.dist_package.specs.declared.error.RelationField.TheVariants.{PreDepends, Depends, Conflicts, Breaks, Provides}
+
+-- ---- Package and Version
+
+-- the value of the field Package is this name
+pub record ReadsName (stanza : Stanza) (name : List ℕ) : Type 0 where
+  pub line : ℕ
+  pub field : IsFieldOf stanza (codes "Package") name line
+  pub is_name : IsName name
+
+pub record IsNoName (stanza : Stanza) (fault : Fault) : Type 0 where
+  pub value : List ℕ
+  pub line : ℕ
+  pub field : IsFieldOf stanza (codes "Package") value line
+  pub none : ¬ IsName value
+  pub fault_is : fault ≡ fault_at line BadPackageName
+
+-- there is no field Package, or its value is no name
+abbrev pub HasNameFault : Stanza → Fault → Type 0
+HasNameFault stanza fault =
+    ((field_named stanza (codes "Package") ≡ None) × (fault ≡ fault_at stanza.line NoPackage)) ⊎ IsNoName stanza fault
+
+-- the value of the field Version is this version
+pub record ReadsVersionField (stanza : Stanza) (version : List ℕ) : Type 0 where
+  pub value : List ℕ
+  pub line : ℕ
+  pub field : IsFieldOf stanza (codes "Version") value line
+  pub reads : ReadsVersion value version
+
+pub record IsNoVersion (stanza : Stanza) (fault : Fault) : Type 0 where
+  pub value : List ℕ
+  pub line : ℕ
+  pub error : VersionError
+  pub field : IsFieldOf stanza (codes "Version") value line
+  pub has : HasFault value error
+  pub fault_is : fault ≡ fault_at line (BadVersionText error)
+
+-- there is no field Version, or its value is no version
+abbrev pub HasVersionFault : Stanza → Fault → Type 0
+HasVersionFault stanza fault =
+    ((field_named stanza (codes "Version") ≡ None) × (fault ≡ fault_at stanza.line NoVersion)) ⊎ IsNoVersion stanza fault
+
+-- ---- Source
+
+-- The source of a package of this name and version is that name and version itself where there is no field
+-- Source. A source without a version has the package's.
+pub record IsSourceOf (name version source source_version : List ℕ) (value : List ℕ) : Type 0 where
+  pub written : Option (List ℕ)
+  pub spells : SpellsSource value source written
+  pub version_is : source_version ≡ option_map_or (λ v. v) written version
+
+abbrev pub ReadsSource : Stanza → (name version source source_version : List ℕ) → Type 0
+ReadsSource stanza name version source source_version =
+    ((field_named stanza (codes "Source") ≡ None) × (source ≡ name) × (source_version ≡ version))
+    ⊎ ((value : List ℕ) × (line : ℕ) × IsFieldOf stanza (codes "Source") value line × IsSourceOf name version source source_version value)
+
+-- the value of the field Source is no source
+pub record HasSourceFault (stanza : Stanza) (fault : Fault) : Type 0 where
+  pub value : List ℕ
+  pub line : ℕ
+  pub field : IsFieldOf stanza (codes "Source") value line
+  pub none : IsNoSource value
+  pub fault_is : fault ≡ fault_at line BadSource
+
+-- ---- Architecture
+
+abbrev pub all : List ℕ
+all = codes "all"
+
+-- The architecture of a stanza, which is `all` where there is no field Architecture. One other than `all` is
+-- that of the earlier stanzas, where they have one other than `all`.
+pub record ReadsArchitecture (earlier : Option (List ℕ)) (stanza : Stanza) (architecture : List ℕ) : Type 0 where
+  pub given : ((field_named stanza (codes "Architecture") ≡ None) × (architecture ≡ all))
+      ⊎ ((line : ℕ) × IsFieldOf stanza (codes "Architecture") architecture line × IsName architecture)
+  pub agrees : (architecture ≡ all) ⊎ ((earlier ≡ None) ⊎ (earlier ≡ Some architecture))
+
+pub record HasArchitectureFault (earlier : Option (List ℕ)) (stanza : Stanza) (fault : Fault) : Type 0 where
+  pub value : List ℕ
+  pub line : ℕ
+  pub field : IsFieldOf stanza (codes "Architecture") value line
+  -- the value is no name, or another than that of the earlier stanzas
+  pub cause : ((¬ IsName value) × (fault ≡ fault_at line BadArchitecture))
+      ⊎ (IsName value × (value ≢ all) × ((other : List ℕ) × (earlier ≡ Some other) × (other ≢ value)) × (fault ≡ fault_at line TwoArchitectures))
+
+-- ---- relations
+
+-- the first fault of the value of a field of relations
+abbrev pub HasFirstFault : RelationField → List ℕ → RelationError → Type 0
+HasFirstFault PreDepends value error = FirstDependsFault value error
+HasFirstFault Depends value error = FirstDependsFault value error
+HasFirstFault Conflicts value error = FirstAtomsFault value error
+HasFirstFault Breaks value error = FirstAtomsFault value error
+HasFirstFault Provides value error = FirstProvidesFault value error
+
+pub record HasRelationFault (stanza : Stanza) (relation : RelationField) (fault : Fault) : Type 0 where
+  pub value : List ℕ
+  pub line : ℕ
+  pub error : RelationError
+  pub field : IsFieldOf stanza (name_of relation) value line
+  pub has : HasFirstFault relation value error
+  pub fault_is : fault ≡ fault_at line (Relation relation error)
+
+-- What the fields of relations give: first the items of Pre-Depends and then those of Depends, first the atoms of
+-- Conflicts and then those of Breaks, and the entries of Provides. A missing field gives nothing.
+pub record ReadsRelations (stanza : Stanza) (depends : List (List Atom)) (conflicts : List Atom) (provides : List Provide) : Type 0 where
+  pub pre_depends : List (List Atom)
+  pub other_depends : List (List Atom)
+  pub conflicts_alone : List Atom
+  pub breaks : List Atom
+  pub reads_pre_depends : ReadsDepends (value_of stanza (name_of PreDepends)) pre_depends
+  pub reads_depends : ReadsDepends (value_of stanza (name_of Depends)) other_depends
+  pub reads_conflicts : ReadsAtoms (value_of stanza (name_of Conflicts)) conflicts_alone
+  pub reads_breaks : ReadsAtoms (value_of stanza (name_of Breaks)) breaks
+  pub reads_provides : ReadsProvides (value_of stanza (name_of Provides)) provides
+  pub depends_is : depends ≡ pre_depends ++ other_depends
+  pub conflicts_is : conflicts ≡ conflicts_alone ++ breaks
+
+-- ---- the package
+
+-- A stanza is the description of this package, of an architecture that agrees with that of the earlier ones.
+pub record IsPackageOf (earlier : Option (List ℕ)) (stanza : Stanza) (p : Package) (architecture : List ℕ) : Type 0 where
+  pub name : ReadsName stanza p.name
+  pub version : ReadsVersionField stanza p.version
+  pub source : ReadsSource stanza p.name p.version p.source p.source_version
+  pub place : ReadsArchitecture earlier stanza architecture
+  pub relations : ReadsRelations stanza p.depends p.conflicts p.provides
+  pub essential : IsTrue p.essential ↔ (value_of stanza (codes "Essential") ≡ codes "yes")
