@@ -12,7 +12,7 @@ grown-grown : (told : Option (List ℕ)) (s t : List ℕ) → grown (grown told 
 grown-grown None s t = refl
 grown-grown (Some bytes) s t = ap Some (append_assoc bytes s t)
 
-grown-nothing : (told : Option (List ℕ)) → grown told [] ≡ told
+pub grown-nothing : (told : Option (List ℕ)) → grown told [] ≡ told
 grown-nothing None = refl
 grown-nothing (Some bytes) = ap Some (append-nil bytes)
 

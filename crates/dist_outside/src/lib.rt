@@ -2,6 +2,7 @@
 #![tactic(auto)]
 
 mod desk;
+mod laws;
 mod limits;
 mod memory_desk;
 mod memory_sink;
@@ -14,6 +15,7 @@ mod trouble;
 mod whole;
 
 pub use desk::Desk;
+pub use laws::{desk_only_reads, file_grows, file_holds, sink_grows};
 pub use limits::Limits;
 pub use memory_desk::MemoryDesk;
 pub use memory_sink::MemorySink;
