@@ -1,8 +1,8 @@
 -- What several calls of a sink or a desk do, one after another.
-use Rattle.std.proofs.Common.{◌≡◌, ℕ, ◌+◌, ◌≤◌, List, [], ◌++◌, length, take, Option, Some, None, refl, ap, sym, ◌∙◌, arith, length-append}
+use Rattle.std.proofs.Common.{◌≡◌, ℕ, ◌+◌, List, [], ◌++◌, length, Option, Some, None, refl, ap, sym, ◌∙◌, arith, length-append}
 use Rattle.std.proofs.lemmas.List.{take-append-le}
 use Rattle.std.proofs.Math.Seq.{take-append-add, take-length}
-use Rattle.std.specs.FinMap.{insert, get}
+use Rattle.std.specs.FinMap.{insert}
 use Rattle.dist_base.specs.Front.{IsFrontOf}
 use Rattle.dist_outside.specs.SinkView.{SinkView, Grew, GrewByFront}
 use Rattle.dist_outside.specs.Files.{Files, Mode, Idle, Writing, where_told, with_file, with_more, appended_to}

@@ -1,22 +1,23 @@
 //! A desk over the file system.
 ghost use Rattle.std.specs.Prelude.{◌≡◌, ◌<◌, ◌≤◌, None, [], length, take, IfOk, OnOk, OnErr, IsErrOf};
-ghost use Rattle.std.specs.Io.KnownBytes.{ReadConsumes, WriteAppends};
+ghost use Rattle.std.specs.Io.KnownBytes.{Keeps, ReadConsumes, WriteAppends};
+ghost use Rattle.std.specs.Io.Buffered.{writer_contents};
 ghost use Rattle.dist_outside.specs.Counts.{Rose};
 ghost use Rattle.dist_outside.specs.Files.{Idle, Reading, Writing, IsReading, IsWriting, IsNotWriting, IsPresent};
 ghost use Rattle.dist_outside.specs.DeskView.{OnlyReads, Holds, NotCreated, FileGrew, Closed};
 ghost use Rattle.dist_outside.specs.Reading.{ReadsNext};
 ghost use Rattle.dist_outside.specs.Real.{real_view, RealReadCall, RealWriteCall};
 
+use crate::desk::PIECE;
+use crate::std_answers::counted;
 use crate::{Desk, Trouble};
 use std::alloc::Global;
 use std::fs::File;
 use std::io;
 use std::io::{BufReader, BufWriter, Read, Write};
 use std::marker::Model;
+use std::mem;
 use std::rt::Files;
-
-/// How many bytes the system moves at once.
-const PIECE: usize = 65536;
 
 /// What the desk is doing.
 #[derive(Drop)]
@@ -77,10 +78,7 @@ impl<R: Files + Drop> Desk for RealDesk<R> {
         ensures exact { RealReadCall result self.old self.new }
     {
         self.state = Open::Nothing;
-        let Ok(file) = File::open(&self.runtime, name) else {
-            self.read_faults = self.read_faults.saturating_add(1);
-            return Err(Trouble::Failed);
-        };
+        let file = counted(File::open(&self.runtime, name), &mut self.read_faults)?;
         let Ok(reader) = BufReader::with_capacity(self.alloc, PIECE, file) else {
             return Err(Trouble::NoMemory);
         };
@@ -101,17 +99,11 @@ impl<R: Files + Drop> Desk for RealDesk<R> {
         ensures handed_on { ReadConsumes self.old.remaining self.new.remaining result buffer.new }
         ensures exact { RealReadCall result self.old self.new }
     {
-        match &mut self.state {
-            Open::Reading(reader) => match reader.read(buffer) {
-                Ok(count) => Ok(count),
-                Err(_) => {
-                    self.read_faults = self.read_faults.saturating_add(1);
-                    Err(Trouble::Failed)
-                }
-            },
+        let Open::Reading(reader) = &mut self.state else {
             // The caller has started to read.
-            Open::Nothing | Open::Writing(_) => unreachable!(),
-        }
+            unreachable!()
+        };
+        counted(reader.read(buffer), &mut self.read_faults)
     }
 
     fn create(&mut self, name: &str) -> Result<(), Trouble>
@@ -122,10 +114,7 @@ impl<R: Files + Drop> Desk for RealDesk<R> {
         ensures exact { RealWriteCall result self.old self.new }
     {
         self.state = Open::Nothing;
-        let Ok(file) = File::create(&self.runtime, name) else {
-            self.write_faults = self.write_faults.saturating_add(1);
-            return Err(Trouble::Failed);
-        };
+        let file = counted(File::create(&self.runtime, name), &mut self.write_faults)?;
         let Ok(writer) = BufWriter::with_capacity(self.alloc, PIECE, file) else {
             return Err(Trouble::NoMemory);
         };
@@ -145,17 +134,16 @@ impl<R: Files + Drop> Desk for RealDesk<R> {
         ensures handed_on { WriteAppends self.old.contents self.new.contents result bytes.now }
         ensures exact { RealWriteCall result self.old self.new }
     {
-        match &mut self.state {
-            Open::Writing(writer) => match writer.write(bytes) {
-                Ok(count) if count > 0 || bytes.is_empty() => Ok(count),
-                _ => {
-                    self.write_faults = self.write_faults.saturating_add(1);
-                    Err(Trouble::Failed)
-                }
-            },
+        let Open::Writing(writer) = &mut self.state else {
             // The caller has made a file.
-            Open::Nothing | Open::Reading(_) => unreachable!(),
+            unreachable!()
+        };
+        let count = counted(writer.write(bytes), &mut self.write_faults)?;
+        if count == 0 && !bytes.is_empty() {
+            self.write_faults = self.write_faults.saturating_add(1);
+            return Err(Trouble::Failed);
         }
+        Ok(count)
     }
 
     fn close(&mut self) -> Result<(), Trouble>
@@ -164,24 +152,22 @@ impl<R: Files + Drop> Desk for RealDesk<R> {
         ensures failed { IsErrOf result Trouble.Failed → Rose self.old.write_faults self.new.write_faults }
         ensures exact { RealWriteCall result self.old self.new }
     {
-        match std::mem::replace(&mut self.state, Open::Nothing) {
-            Open::Writing(writer) => match flushed(writer) {
-                Ok(()) => Ok(()),
-                Err(_) => {
-                    self.write_faults = self.write_faults.saturating_add(1);
-                    Err(Trouble::Failed)
-                }
-            },
+        let Open::Writing(writer) = mem::replace(&mut self.state, Open::Nothing) else {
             // The caller has made a file.
-            Open::Nothing | Open::Reading(_) => unreachable!(),
-        }
+            unreachable!()
+        };
+        let _file = counted(flushed(writer), &mut self.write_faults)?;
+        Ok(())
     }
 }
 
-/// Writes what the buffer holds, once, and lets the file go.
-fn flushed<F: Write + Drop>(mut writer: BufWriter<F>) -> io::Result<()> {
+/// Writes what the buffer holds, and gives the file.
+fn flushed<F: Write + Drop>(mut writer: BufWriter<F>) -> io::Result<F>
+    ensures { IfOk result (λ file. Keeps (writer_contents F.contents writer) (F.contents file)) }
+{
     let result = writer.flush();
     // A writer that is dropped writes its rest again, which would hide the failure.
-    let (_file, _rest) = writer.into_parts();
-    result
+    let (file, _rest) = writer.into_parts();
+    result?;
+    Ok(file)
 }

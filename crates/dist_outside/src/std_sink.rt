@@ -1,5 +1,6 @@
 //! A sink over a writer of std.
-ghost use Rattle.std.specs.Prelude.{◌≡◌, ◌<◌, ◌≤◌, [], length, take, IfOk, IfErr, OnErr};
+ghost use Rattle.std.specs.Prelude.{◌≡◌, ◌↔◌, ◌<◌, ◌≤◌, [], length, take, IfOk, IfErr, OnErr};
+ghost use Rattle.std.specs.IoError.{error_kind};
 ghost use Rattle.std.specs.Io.KnownBytes.{WriteAppends};
 ghost use Rattle.dist_outside.specs.Counts.{faults_by, wants_by};
 ghost use Rattle.dist_outside.specs.SinkView.{Grew, SinkCause};
@@ -7,7 +8,7 @@ ghost use Rattle.dist_outside.specs.Real.{std_view, StdCall};
 
 use crate::std_answers::trouble_of;
 use crate::{Sink, Trouble};
-use std::io::Write;
+use std::io::{Error, ErrorKind, Write};
 use std::marker::Model;
 
 /// Hands each piece to the writer. It tells no bytes, and counts each error of the writer, and each write
@@ -38,13 +39,14 @@ impl<W: Write + Drop> StdSink<W> {
         }
     }
 
-    /// The trouble, which is counted.
-    fn counted(&mut self, trouble: Trouble) -> Trouble
-        ensures same { result ≡ trouble }
+    /// The trouble that an error of the writer is, which is counted.
+    fn refused(&mut self, error: &Error) -> Trouble
+        ensures named { (result ≡ Trouble.NoMemory) ↔ (error_kind error.now ≡ ErrorKind.OutOfMemory) }
+        ensures exact { self.new ≡ record self.old { faults = faults_by result self.old.faults; wants = wants_by result self.old.wants } }
         ensures refused { Grew [] (std_view self.old) (std_view self.new) }
-        ensures cause { SinkCause trouble (std_view self.old) (std_view self.new) }
-        ensures exact { self.new ≡ record self.old { faults = faults_by trouble self.old.faults; wants = wants_by trouble self.old.wants } }
+        ensures cause { SinkCause result (std_view self.old) (std_view self.new) }
     {
+        let trouble = trouble_of(error);
         match trouble {
             Trouble::Failed => self.faults = self.faults.saturating_add(1),
             Trouble::NoMemory => self.wants = self.wants.saturating_add(1),
@@ -68,9 +70,12 @@ impl<W: Write + Drop> Sink for StdSink<W> {
         ensures exact { StdCall result self.old self.new }
     {
         match self.writer.write(bytes) {
-            Ok(0) if !bytes.is_empty() => Err(self.counted(Trouble::Failed)),
+            Ok(0) if !bytes.is_empty() => {
+                self.faults = self.faults.saturating_add(1);
+                Err(Trouble::Failed)
+            }
             Ok(count) => Ok(count),
-            Err(error) => Err(self.counted(trouble_of(&error))),
+            Err(error) => Err(self.refused(&error)),
         }
     }
 }

@@ -1,9 +1,18 @@
+//! Tests over desks and sinks in memory, and one over the real file system.
 use crate::{
     Desk, Limits, MemoryDesk, MemorySink, RealDesk, Sink, StdSink, Trouble, What, WorkError,
-    read_whole, write_whole,
+    desk_only_reads, desk_write_whole, file_grows, file_holds, read_whole, sink_grows, write_whole,
 };
+use std::fs;
 use std::test::Fail;
-use std::{fs, io};
+
+/// Whether the desk has a file of that name and these bytes.
+fn has(desk: &MemoryDesk, name: &str, bytes: &[u8]) -> bool {
+    match desk.get(name) {
+        Some(held) => held == bytes,
+        None => false,
+    }
+}
 
 #[test]
 fn a_file_is_read_in_pieces(rt: HostRuntime) -> Result<(), Fail> {
@@ -13,8 +22,8 @@ fn a_file_is_read_in_pieces(rt: HostRuntime) -> Result<(), Fail> {
         desk.put("a", b"older")?;
         desk.put("b", b"")?;
         desk.put("a", b"0123456789")?;
-        assert_eq!(rt; desk.get("a"), Some(b"0123456789".as_slice()));
-        assert_eq!(rt; desk.get("c"), None);
+        assert!(rt; has(&desk, "a", b"0123456789"));
+        assert!(rt; desk.get("c").is_none());
         let bytes = read_whole(alloc, &mut desk, "a", 10)?;
         assert_eq!(rt; bytes.as_slice(), b"0123456789".as_slice(), "step {step}");
         let longer = read_whole(alloc, &mut desk, "a", 9);
@@ -41,30 +50,77 @@ fn a_desk_fails_at_the_listed_calls_and_a_missing_file(rt: HostRuntime) -> Resul
 }
 
 #[test]
+fn a_file_is_written_in_pieces(rt: HostRuntime) -> Result<(), Fail> {
+    let alloc = rt.alloc();
+    for step in [1, 4, 100] {
+        let mut desk = MemoryDesk::new(alloc, step, &[])?;
+        desk.put("a", b"older")?;
+        desk.put("b", b"other")?;
+        desk.create("a")?;
+        assert!(rt; has(&desk, "a", b""));
+        desk_write_whole(&mut desk, b"01234")?;
+        desk_write_whole(&mut desk, b"56789")?;
+        desk.close()?;
+        assert!(rt; has(&desk, "a", b"0123456789"), "step {step}");
+        assert!(rt; has(&desk, "b", b"other"));
+    }
+    Ok(())
+}
+
+#[test]
+fn writing_fails_at_the_listed_calls(rt: HostRuntime) -> Result<(), Fail> {
+    let alloc = rt.alloc();
+    // Calls: create, three writes, close, create, create, close, start_read.
+    let mut desk = MemoryDesk::new(alloc, 4, &[4, 6, 8])?;
+    desk.create("a")?;
+    assert_eq!(rt; desk_write_whole(&mut desk, b"0123456789"), Err(WorkError::WriteFault));
+    assert!(rt; has(&desk, "a", b"01234567"));
+    desk.close()?;
+    assert_eq!(rt; desk.faults(), 1);
+    assert_eq!(rt; desk.create("a"), Err(Trouble::Failed));
+    assert!(rt; has(&desk, "a", b"01234567"));
+    desk.create("b")?;
+    assert_eq!(rt; desk.close(), Err(Trouble::Failed));
+    assert_eq!(rt; desk.faults(), 3);
+    assert_eq!(rt; desk.start_read("b"), Ok(()));
+    Ok(())
+}
+
+#[test]
 fn a_text_is_written_in_pieces(rt: HostRuntime) -> Result<(), Fail> {
     let alloc = rt.alloc();
-    let mut sink = MemorySink::new(alloc, 4, &[4])?;
+    let mut sink = MemorySink::new(alloc, 4, &[4, 6])?;
     write_whole(&mut sink, b"0123456789")?;
     assert_eq!(rt; sink.bytes(), b"0123456789".as_slice());
     assert_eq!(rt; write_whole(&mut sink, b"x"), Err(WorkError::WriteFault));
-    assert_eq!(rt; sink.faults(), 1);
     assert_eq!(rt; sink.write(b"abcdef"), Ok(4));
+    assert_eq!(rt; sink.write(b"x"), Err(Trouble::Failed));
+    assert_eq!(rt; sink.faults(), 2);
     assert_eq!(rt; sink.bytes(), b"0123456789abcd".as_slice());
     Ok(())
 }
 
 #[test]
-fn the_adapters_move_bytes(rt: HostRuntime) -> Result<(), Fail> {
+fn a_file_of_the_system_is_written_and_read(rt: HostRuntime) -> Result<(), Fail> {
     let alloc = rt.alloc();
-    let mut sink = StdSink::new(Vec::new(alloc));
-    write_whole(&mut sink, b"text")?;
     let path = "dist_outside_real_desk.txt";
-    fs::write(&rt, path, b"0123456789".as_slice())?;
     let mut desk = RealDesk::new(alloc, &rt);
+    desk.create(path)?;
+    desk_write_whole(&mut desk, b"01234")?;
+    desk_write_whole(&mut desk, b"56789")?;
+    desk.close()?;
     let bytes = read_whole(alloc, &mut desk, path, 10);
     fs::remove_file(&rt, path)?;
     assert_eq!(rt; bytes?.as_slice(), b"0123456789".as_slice());
-    assert_eq!(rt; desk.start_read("no such file"), Err(Trouble::Failed));
+    assert_eq!(rt; desk.start_read(path), Err(Trouble::Failed));
+    assert_eq!(rt; desk.create("no such folder/file"), Err(Trouble::Failed));
+    Ok(())
+}
+
+#[test]
+fn a_writer_of_std_takes_a_text(rt: HostRuntime) -> Result<(), Fail> {
+    let mut sink = StdSink::new(Vec::new(rt.alloc()));
+    write_whole(&mut sink, b"text")?;
     Ok(())
 }
 
@@ -73,4 +129,12 @@ fn the_limits_are_the_stated_ones(rt: HostRuntime) {
     let limits = Limits::stated();
     assert_eq!(rt; limits.bytes, 268_435_456);
     assert_eq!(rt; limits.record_line, 1_073_741_824);
+}
+
+#[test]
+fn the_laws_hold() {
+    sink_grows();
+    desk_only_reads();
+    file_grows();
+    file_holds();
 }

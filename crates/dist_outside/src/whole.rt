@@ -6,11 +6,9 @@ ghost use Rattle.dist_outside.specs.DeskView.{OnlyReads, FileGrew, FileGrewByFro
 ghost use Rattle.dist_outside.specs.Reading.{ReadCause, DeskWriteCause, IsWhole};
 ghost use Rattle.dist_outside.specs.SoFar.{SoFar};
 
+use crate::desk::PIECE;
 use crate::{Desk, Sink, Trouble, What, WorkError};
 use std::alloc::{AllocError, Global};
-
-/// How many bytes are read at once.
-const PIECE: usize = 65536;
 
 /// The bytes of a file, of which there are at most `limit`.
 pub fn read_whole<D: Desk>(
