@@ -1,3 +1,6 @@
+pub mod Due
+pub mod Lists
+pub mod Three
 pub mod KindText
 pub mod Writing
 pub mod PartLemmas

@@ -2,10 +2,17 @@
 #![tactic(auto)]
 
 mod fault_text;
+mod files;
+mod health;
+mod health_command;
 mod line_parts;
+mod list;
 mod pieces;
 mod refusal;
 mod refusal_text;
 mod status;
+mod top_call;
+mod words;
 
 pub use status::Status;
+pub use top_call::{run, run_with};

@@ -124,7 +124,7 @@ pub record HasFirstFault (raws : List RawStanza) (limit : ℕ) (fault : Fault) :
   pub reads : List Read
   pub up_to : IsReadUpTo raws raw reads
   pub within : length reads < limit
-  pub fault : HasStanzaFault reads raw fault
+  pub has : HasStanzaFault reads raw fault
 
 -- There is one stanza more than the limit, and none before it has a fault.
 pub record IsTooMany (raws : List RawStanza) (limit : ℕ) : Type 0 where

@@ -1,5 +1,6 @@
 -- The fields of a stanza by their names, and the text and place of a fault.
-use Rattle.std.specs.Prelude.{◌≡◌, ℕ, List, Option, Some, None, find, option_map_or, [], codes}
+use Rattle.std.specs.Option.{option_map_or}
+use Rattle.std.specs.Prelude.{◌≡◌, ℕ, List, Option, Some, None, find, [], codes}
 use Rattle.dist_control.specs.FieldText.{FieldText}
 use Rattle.dist_control.specs.Fields.{is_same_name}
 use Rattle.dist_control.specs.declared.field_list.Stanza.{Stanza}

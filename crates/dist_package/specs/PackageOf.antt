@@ -1,5 +1,6 @@
 -- The package of a stanza (Debian Policy 5.3), and the faults of its fields.
-use Rattle.std.specs.Prelude.{◌≡◌, ◌≢◌, ◌⊎◌, ℕ, List, [], ◌∷◌, ◌++◌, Option, None, Some, Bool, true, false, IsTrue, ◌↔◌, codes, option_map_or}
+use Rattle.std.specs.Option.{option_map_or}
+use Rattle.std.specs.Prelude.{◌≡◌, ◌≢◌, ◌⊎◌, ℕ, List, [], ◌∷◌, ◌++◌, Option, None, Some, Bool, true, false, IsTrue, ◌↔◌, codes}
 use Rattle.dist_control.specs.declared.field_list.Stanza.{Stanza}
 use Rattle.dist_relation.specs.Bytes.{IsName}
 use Rattle.dist_relation.specs.Grammar.{ReadsDepends, ReadsAtoms, ReadsProvides}

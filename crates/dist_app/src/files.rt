@@ -1,0 +1,65 @@
+//! The stages that read files.
+ghost use Rattle.std.specs.Prelude.{ℕ, List, IfOk, IfErr, Option};
+ghost use Rattle.dist_outside.specs.Files.{Files, IsNotWriting};
+ghost use Rattle.dist_outside.specs.DeskView.{OnlyReads};
+ghost use Rattle.dist_app.specs.Stages.{Ending, Goes, Ends, Then};
+ghost use Rattle.dist_app.specs.TextStage.{TextStage};
+ghost use Rattle.dist_app.specs.RepositoryStage.{RepositoryStage};
+ghost use Rattle.dist_app.specs.Due.{IsDue, IsGivenUp};
+
+use crate::refusal::{Refusal, refusal_of};
+use dist_outside::{Desk, Limits, What, read_whole};
+use dist_package::{PackagesError, read_packages};
+use dist_repo::Repository;
+use std::alloc::Global;
+
+/// The bytes of a file, within a limit.
+pub(crate) fn text_of<D: Desk>(
+    alloc: Global,
+    desk: &mut D,
+    name: &str,
+    limit: u64,
+) -> Result<Vec<u8>, Refusal>
+    requires { IsNotWriting (D.view desk.old).mode }
+    ensures goes { IfOk result (λ bytes. TextStage (D.view desk.old).files name.now limit (Goes bytes.items)) }
+    ensures due { IfErr result (IsDue (λ ending. TextStage (D.view desk.old).files name.now limit (Ends ending)) (D.view desk.old) (D.view desk.new)) }
+    ensures only_reads { OnlyReads (D.view desk.old) (D.view desk.new) }
+{
+    match read_whole(alloc, desk, name, limit) {
+        Ok(bytes) => Ok(bytes),
+        Err(error) => Err(refusal_of(error)),
+    }
+}
+
+/// The repository of a Packages text.
+fn repository_of(alloc: Global, text: &[u8], stanzas: u32) -> Result<Repository, Refusal>
+    ensures goes { IfOk result (λ repository. (files : Option Files) → RepositoryStage files stanzas text.now (Goes repository)) }
+    ensures given_up { IfErr result (λ refusal. (files : Option Files) → IsGivenUp (λ ending. RepositoryStage files stanzas text.now (Ends ending)) files refusal) }
+{
+    match read_packages(alloc, text, stanzas) {
+        Ok(repository) => Ok(repository),
+        Err(PackagesError::Bad(fault)) => Err(Refusal::BadPackages(fault)),
+        Err(PackagesError::TooMany) => Err(Refusal::TooLarge(What::Stanzas)),
+        Err(PackagesError::NoMemory) => Err(Refusal::NoMemory),
+    }
+}
+
+/// The repository of a Packages file. Its text is given up once it is taken apart.
+pub(crate) fn read_repository<D: Desk>(
+    alloc: Global,
+    desk: &mut D,
+    name: &str,
+    limits: &Limits,
+) -> Result<Repository, Refusal>
+    requires { IsNotWriting (D.view desk.old).mode }
+    ensures goes { IfOk result (λ repository. (text : List ℕ) × TextStage (D.view desk.old).files name.now limits.now.bytes (Goes text)
+        × RepositoryStage (D.view desk.old).files limits.now.stanzas text (Goes repository)) }
+    ensures due { IfErr result (IsDue (Then (TextStage (D.view desk.old).files name.now limits.now.bytes)
+        (λ text ending. RepositoryStage (D.view desk.old).files limits.now.stanzas text (Ends ending))) (D.view desk.old) (D.view desk.new)) }
+    ensures only_reads { OnlyReads (D.view desk.old) (D.view desk.new) }
+{
+    match text_of(alloc, desk, name, limits.bytes) {
+        Ok(text) => repository_of(alloc, &text, limits.stanzas),
+        Err(refusal) => Err(refusal),
+    }
+}

@@ -1,0 +1,83 @@
+//! The top call.
+ghost use Rattle.std.specs.Prelude.{◌≡◌, ℕ, List, map, string_bytes, MatchResult};
+ghost use Rattle.dist_outside.specs.Files.{IsNotWriting};
+ghost use Rattle.dist_outside.specs.DeskView.{OnlyReads};
+ghost use Rattle.dist_app.specs.Run.{Runs, IsWithinStated, stated_limits};
+ghost use Rattle.dist_app.specs.Carried.{IsAnswered, IsRefused};
+
+use crate::health::Answer;
+use crate::health_command::run_health;
+use crate::refusal::{Refusal, refusal_of};
+use crate::refusal_text::write_refusal;
+use crate::status::Status;
+use crate::words::health_files;
+use dist_outside::{Desk, Limits, Sink, write_whole};
+use std::alloc::Global;
+
+/// Carries out the command of the words, which stand after the program's name, at the stated limits.
+///
+/// The text of the answer goes to `out`, and one line on a status other than success to `err`.
+pub fn run<D: Desk, W: Sink, E: Sink>(
+    alloc: Global,
+    words: &[String],
+    desk: &mut D,
+    out: &mut W,
+    err: &mut E,
+) -> Status
+    requires { IsNotWriting (D.view desk.old).mode }
+    ensures runs { Runs (map string_bytes words.now) stated_limits result (D.view desk.old) (D.view desk.new)
+        (W.view out.old) (W.view out.new) (E.view err.old) (E.view err.new) }
+    ensures only_reads { OnlyReads (D.view desk.old) (D.view desk.new) }
+{
+    run_with(alloc, words, desk, out, err, &Limits::stated())
+}
+
+/// The same at other limits.
+pub fn run_with<D: Desk, W: Sink, E: Sink>(
+    alloc: Global,
+    words: &[String],
+    desk: &mut D,
+    out: &mut W,
+    err: &mut E,
+    limits: &Limits,
+) -> Status
+    requires not_writing { IsNotWriting (D.view desk.old).mode }
+    requires within { IsWithinStated limits.now }
+    ensures runs { Runs (map string_bytes words.now) limits.now result (D.view desk.old) (D.view desk.new)
+        (W.view out.old) (W.view out.new) (E.view err.old) (E.view err.new) }
+    ensures only_reads { OnlyReads (D.view desk.old) (D.view desk.new) }
+{
+    match carry_out(alloc, words, desk, out, limits) {
+        Ok(status) => status,
+        Err(refusal) => {
+            let status = refusal.status();
+            // A sink that refuses the line changes no status.
+            let _ = write_refusal(err, refusal);
+            status
+        }
+    }
+}
+
+/// Carries out the command and prints its answer.
+fn carry_out<D: Desk, W: Sink>(
+    alloc: Global,
+    words: &[String],
+    desk: &mut D,
+    out: &mut W,
+    limits: &Limits,
+) -> Result<Status, Refusal>
+    requires { IsNotWriting (D.view desk.old).mode }
+    ensures ends { MatchResult result
+        (IsAnswered (map string_bytes words.now) limits.now (D.view desk.old) (W.view out.old) (W.view out.new))
+        (IsRefused (map string_bytes words.now) limits.now (D.view desk.old) (D.view desk.new) (W.view out.old) (W.view out.new)) }
+    ensures only_reads { OnlyReads (D.view desk.old) (D.view desk.new) }
+{
+    let Some(files) = health_files(words) else {
+        return Err(Refusal::BadWords);
+    };
+    let answer = run_health(alloc, desk, &files, limits)?;
+    match write_whole(out, &answer.text) {
+        Ok(()) => Ok(answer.status),
+        Err(error) => Err(refusal_of(error)),
+    }
+}
