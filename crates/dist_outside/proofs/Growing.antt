@@ -34,9 +34,9 @@ Grew-more bytes done count a b c first second =
     subst (λ s. Grew s a c) (sym (take-add done count bytes)) (Grew-then (take done bytes) (take count (drop done bytes)) a b c first second)
 
 -- a front was taken, and then nothing
-pub GrewByFront-refused : (bytes : List ℕ) (done : ℕ) (a b c : SinkView) → done ≤ length bytes → Grew (take done bytes) a b → Grew [] b c
+pub grew_by_front : (bytes : List ℕ) (done : ℕ) (a b c : SinkView) → done ≤ length bytes → Grew (take done bytes) a b → Grew [] b c
     → GrewByFront bytes a c
-GrewByFront-refused bytes done a b c within first second = record {
+grew_by_front bytes done a b c within first second = record {
   front = take done bytes ++ [];
   is_front = record { count = done; within = within; is = append-nil (take done bytes) };
   grew = Grew-then (take done bytes) [] a b c first second;
@@ -75,9 +75,9 @@ pub FileGrew-more : (bytes : List ℕ) (done count : ℕ) (a b c : DeskView) →
 FileGrew-more bytes done count a b c first second =
     subst (λ s. FileGrew s a c) (sym (take-add done count bytes)) (FileGrew-then (take done bytes) (take count (drop done bytes)) a b c first second)
 
-pub FileGrewByFront-refused : (bytes : List ℕ) (done : ℕ) (a b c : DeskView) → done ≤ length bytes → FileGrew (take done bytes) a b → FileGrew [] b c
+pub file_grew_by_front : (bytes : List ℕ) (done : ℕ) (a b c : DeskView) → done ≤ length bytes → FileGrew (take done bytes) a b → FileGrew [] b c
     → FileGrewByFront bytes a c
-FileGrewByFront-refused bytes done a b c within first second = record {
+file_grew_by_front bytes done a b c within first second = record {
   front = take done bytes ++ [];
   is_front = record { count = done; within = within; is = append-nil (take done bytes) };
   grew = FileGrew-then (take done bytes) [] a b c first second;

@@ -13,11 +13,10 @@ use crate::std_answers::counted;
 use crate::{Desk, Trouble};
 use std::alloc::Global;
 use std::fs::File;
-use std::io;
 use std::io::{BufReader, BufWriter, Read, Write};
 use std::marker::Model;
-use std::mem;
 use std::rt::Files;
+use std::{io, mem};
 
 /// What the desk is doing.
 #[derive(Drop)]

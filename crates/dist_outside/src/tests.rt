@@ -73,7 +73,10 @@ fn writing_fails_at_the_listed_calls(rt: HostRuntime) -> Result<(), Fail> {
     // Calls: create, three writes, close, create, create, close, start_read.
     let mut desk = MemoryDesk::new(alloc, 4, &[4, 6, 8])?;
     desk.create("a")?;
-    assert_eq!(rt; desk_write_whole(&mut desk, b"0123456789"), Err(WorkError::WriteFault));
+    assert_eq!(rt;
+        desk_write_whole(&mut desk, b"0123456789"),
+        Err(WorkError::WriteFault)
+    );
     assert!(rt; has(&desk, "a", b"01234567"));
     desk.close()?;
     assert_eq!(rt; desk.faults(), 1);

@@ -73,6 +73,7 @@ fn read_more<D: Desk>(
 }
 
 /// Writes all the bytes, or a front of them where it is refused.
+#[tactic(auto, using(crate::proofs::Growing::grew_by_front))]
 pub fn write_whole<W: Sink>(sink: &mut W, bytes: &[u8]) -> Result<(), WorkError>
     ensures all { OnOk result (Grew bytes.now (W.view sink.old) (W.view sink.new)) }
     ensures front { OnErr result (GrewByFront bytes.now (W.view sink.old) (W.view sink.new)) }

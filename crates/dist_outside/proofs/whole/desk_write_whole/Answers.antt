@@ -1,6 +1,6 @@
 use Rattle.std.proofs.Common.{arith}
 use Rattle.std.proofs.lemmas.List.{take_rest}
-use Rattle.dist_outside.proofs.Growing.{FileGrew-nothing, FileGrew-more, FileGrewByFront-refused}
+use Rattle.dist_outside.proofs.Growing.{FileGrew-nothing, FileGrew-more, file_grew_by_front}
 use Rattle.dist_outside.proofs.whole.desk_write_whole.Goals as goal
 
 pub loop-done-init : goal.loop-done-init
@@ -15,8 +15,8 @@ loop-done-preserved g c = record {
 
 pub returns-in-Err-Failed-clause-front : goal.returns-in-Err-Failed-clause-front
 returns-in-Err-Failed-clause-front g c =
-    FileGrewByFront-refused c.args.bytes.now c.loop-done.done _ _ _ c.loop-done.invariant.within c.loop-done.invariant.taken c.in-Err-Failed.ensures.refused
+    file_grew_by_front c.args.bytes.now c.loop-done.done _ _ _ c.loop-done.invariant.within c.loop-done.invariant.taken c.in-Err-Failed.ensures.refused
 
 pub returns-in-Err-NoMemory-clause-front : goal.returns-in-Err-NoMemory-clause-front
 returns-in-Err-NoMemory-clause-front g c =
-    FileGrewByFront-refused c.args.bytes.now c.loop-done.done _ _ _ c.loop-done.invariant.within c.loop-done.invariant.taken c.in-Err-NoMemory.ensures.refused
+    file_grew_by_front c.args.bytes.now c.loop-done.done _ _ _ c.loop-done.invariant.within c.loop-done.invariant.taken c.in-Err-NoMemory.ensures.refused

@@ -1,6 +1,6 @@
 use Rattle.std.proofs.Common.{arith}
 use Rattle.std.proofs.lemmas.List.{take_rest}
-use Rattle.dist_outside.proofs.Growing.{Grew-nothing, Grew-more, GrewByFront-refused}
+use Rattle.dist_outside.proofs.Growing.{Grew-nothing, Grew-more}
 use Rattle.dist_outside.proofs.whole.write_whole.Goals as goal
 
 pub loop-done-init : goal.loop-done-init
@@ -12,11 +12,3 @@ loop-done-preserved g c = record {
   taken = Grew-more c.args.bytes.now c.loop-done.done c.in-Ok.count _ _ _
       c.loop-done.invariant.taken (rw take_rest at c.in-Ok.ensures.appended);
 }
-
-pub returns-in-Err-Failed-clause-front : goal.returns-in-Err-Failed-clause-front
-returns-in-Err-Failed-clause-front g c =
-    GrewByFront-refused c.args.bytes.now c.loop-done.done _ _ _ c.loop-done.invariant.within c.loop-done.invariant.taken c.in-Err-Failed.ensures.refused
-
-pub returns-in-Err-NoMemory-clause-front : goal.returns-in-Err-NoMemory-clause-front
-returns-in-Err-NoMemory-clause-front g c =
-    GrewByFront-refused c.args.bytes.now c.loop-done.done _ _ _ c.loop-done.invariant.within c.loop-done.invariant.taken c.in-Err-NoMemory.ensures.refused
