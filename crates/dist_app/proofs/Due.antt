@@ -1,5 +1,5 @@
 -- Why a chain of stages was given up, from why its parts were.
-use Rattle.std.proofs.Common.{◌≡◌, ℕ, ◌≤◌, inl, inr, List, Option, refl, sym, subst}
+use Rattle.std.proofs.Common.{◌≡◌, inl, inr, Option, Result, Ok, Err, IfOk, IfErr, subst}
 use Rattle.dist_outside.specs.Counts.{Rose}
 use Rattle.dist_outside.specs.Files.{Files}
 use Rattle.dist_outside.specs.DeskView.{DeskView, OnlyReads}
@@ -28,3 +28,11 @@ due_later Decided old mid new refusal before after (inr (inr decided)) =
 -- a part that reads nothing
 pub due_given_up : (Decided : Ending → Type 0) (old new : DeskView) (refusal : Refusal) → IsGivenUp Decided old.files refusal → IsDue Decided old new refusal
 due_given_up Decided old new refusal given_up = inr given_up
+
+pub ok_more : {X E : Type 0} (result : Result X E) (P Q : X → Type 0) → ((value : X) → P value → Q value) → IfOk result P → IfOk result Q
+ok_more (Ok value) P Q more has = more value has
+ok_more (Err error) P Q more has = tt
+
+pub err_more : {X E : Type 0} (result : Result X E) (P Q : E → Type 0) → ((error : E) → P error → Q error) → IfErr result P → IfErr result Q
+err_more (Ok value) P Q more has = tt
+err_more (Err error) P Q more has = more error has

@@ -1,3 +1,4 @@
+pub mod HealthStages
 pub mod Due
 pub mod Lists
 pub mod Three
