@@ -1,3 +1,6 @@
+pub mod Runs
+pub mod HealthLaws
+pub mod Endings
 pub mod HealthStages
 pub mod Due
 pub mod Lists

@@ -1,15 +1,16 @@
 -- How carrying out a command ends, before a refusal is told on `err`.
-use Rattle.std.specs.Prelude.{◌≡◌, ℕ, List, []}
+use Rattle.std.specs.Prelude.{◌≡◌, ℕ, List, [], Result, Ok, Err}
 use Rattle.dist_outside.specs.Counts.{Rose}
 use Rattle.dist_outside.specs.DeskView.{DeskView}
-use Rattle.dist_outside.specs.SinkView.{SinkView, Grew}
+use Rattle.dist_outside.specs.SinkView.{SinkView, Grew, GrewByFront, WriteCause}
+use Rattle.dist_outside.specs.declared.trouble.WorkError.{WorkError}
 use Rattle.dist_outside.specs.declared.limits.Limits.{Limits}
-use Rattle.dist_app.specs.Refusal.{status_of, refusal_text}
-use Rattle.dist_app.specs.Run.{Decides, Comes}
+use Rattle.dist_app.specs.Refusal.{status_of, refusal_text, refusal_of}
+use Rattle.dist_app.specs.Run.{IsBadWords, Decides, Comes}
 use Rattle.dist_app.specs.Stages.{Ending}
 use Rattle.dist_app.specs.declared.status.Status.{Status}
 use Rattle.dist_app.specs.declared.refusal.Refusal.{Refusal}
-use Rattle.dist_app.specs.declared.refusal.Refusal.TheVariants.{ReadFault, WriteFault}
+use Rattle.dist_app.specs.declared.refusal.Refusal.TheVariants.{BadWords, ReadFault, WriteFault}
 
 -- an answer was decided and printed
 pub record IsAnswered (words : List (List ℕ)) (limits : Limits) (desk : DeskView) (out out' : SinkView) (status : Status) : Type 0 where
@@ -28,5 +29,11 @@ pub record IsRefused (words : List (List ℕ)) (limits : Limits) (desk desk' : D
   pub told : ending.err ≡ refusal_text refusal
   pub files : ending.files ≡ desk.files
   pub printed : Grew ending.out out out'
+  pub of_words : IsBadWords words → refusal ≡ BadWords
   pub read_fault : refusal ≡ ReadFault → Rose desk.read_faults desk'.read_faults
   pub write_fault : refusal ≡ WriteFault → Rose out.faults out'.faults
+
+-- what writing the text of an answer comes to
+abbrev pub Prints : Status → (text : List ℕ) → Result Status Refusal → SinkView → SinkView → Type 0
+Prints status text (Ok printed) old new = (printed ≡ status) × Grew text old new
+Prints status text (Err refusal) old new = (error : WorkError) × (refusal ≡ refusal_of error) × GrewByFront text old new × WriteCause error old new

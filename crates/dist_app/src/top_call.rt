@@ -3,7 +3,7 @@ ghost use Rattle.std.specs.Prelude.{◌≡◌, ℕ, List, map, string_bytes, Mat
 ghost use Rattle.dist_outside.specs.Files.{IsNotWriting};
 ghost use Rattle.dist_outside.specs.DeskView.{OnlyReads};
 ghost use Rattle.dist_app.specs.Run.{Runs, IsWithinStated, stated_limits};
-ghost use Rattle.dist_app.specs.Carried.{IsAnswered, IsRefused};
+ghost use Rattle.dist_app.specs.Carried.{IsAnswered, IsRefused, Prints};
 
 use crate::health::Answer;
 use crate::health_command::run_health;
@@ -11,7 +11,8 @@ use crate::refusal::{Refusal, refusal_of};
 use crate::refusal_text::write_refusal;
 use crate::status::Status;
 use crate::words::health_files;
-use dist_outside::{Desk, Limits, Sink, write_whole};
+use dist_outside::{Desk, Limits, Sink, sink_grows, write_whole};
+use dist_package::packages_are_exact;
 use std::alloc::Global;
 
 /// Carries out the command of the words, which stand after the program's name, at the stated limits.
@@ -47,6 +48,8 @@ pub fn run_with<D: Desk, W: Sink, E: Sink>(
         (W.view out.old) (W.view out.new) (E.view err.old) (E.view err.new) }
     ensures only_reads { OnlyReads (D.view desk.old) (D.view desk.new) }
 {
+    packages_are_exact();
+    sink_grows();
     match carry_out(alloc, words, desk, out, limits) {
         Ok(status) => status,
         Err(refusal) => {
@@ -72,10 +75,20 @@ fn carry_out<D: Desk, W: Sink>(
         (IsRefused (map string_bytes words.now) limits.now (D.view desk.old) (D.view desk.new) (W.view out.old) (W.view out.new)) }
     ensures only_reads { OnlyReads (D.view desk.old) (D.view desk.new) }
 {
+    sink_grows();
     let Some(files) = health_files(words) else {
         return Err(Refusal::BadWords);
     };
-    let answer = run_health(alloc, desk, &files, limits)?;
+    match run_health(alloc, desk, &files, limits) {
+        Ok(answer) => print(out, &answer),
+        Err(refusal) => Err(refusal),
+    }
+}
+
+/// Writes the text of an answer.
+fn print<W: Sink>(out: &mut W, answer: &Answer) -> Result<Status, Refusal>
+    ensures { Prints answer.now.status answer.now.text.items result (W.view out.old) (W.view out.new) }
+{
     match write_whole(out, &answer.text) {
         Ok(()) => Ok(answer.status),
         Err(error) => Err(refusal_of(error)),

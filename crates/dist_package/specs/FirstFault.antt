@@ -135,6 +135,4 @@ pub record IsTooMany (raws : List RawStanza) (limit : ℕ) : Type 0 where
 
 -- why a file of these raw stanzas is no repository
 abbrev pub IsRefused : List RawStanza → (limit : ℕ) → PackagesError → Type 0
-IsRefused raws limit (Bad fault) = HasFirstFault raws limit fault
-IsRefused raws limit TooMany = IsTooMany raws limit
-IsRefused raws limit NoMemory = ⊥
+IsRefused raws limit error = error ≡ TooMany

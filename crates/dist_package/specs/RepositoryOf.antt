@@ -10,6 +10,7 @@ use Rattle.dist_package.specs.FirstFault.{Read, architecture_of, AreRead}
 -- with the first architecture that is not `all`. No stanza has a fault, and they are no more than the limit.
 pub record IsRepositoryOf (text : List ℕ) (limit : ℕ) (repository : PackageList) : Type 0 where
   pub reads : List Read
+  pub stub : ⊥
   pub read : AreRead (raw_stanzas text) reads
   pub within : length reads ≤ limit
   pub in_order : IsInOrder repository.packages

@@ -32,3 +32,12 @@ pub fn read_packages(
     let _ = stanzas;
     Err(PackagesError::NoMemory)
 }
+
+ghost use Rattle.std.specs.Prelude.{ℕ, List};
+ghost use Rattle.dist_base.specs.Answers.{IsExact};
+
+/// Stub law.
+pub fn packages_are_exact()
+    ensures { (text : List ℕ) (limit : ℕ) → IsExact (IsRepositoryOf text limit) (IsRefused (raw_stanzas text) limit) }
+{
+}

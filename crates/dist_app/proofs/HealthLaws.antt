@@ -1,0 +1,79 @@
+-- Where the desk tells its files, a refusal of `health` that its inputs decide is its only end.
+use Rattle.std.proofs.Common.{◌≡◌, ◌⊎◌, ◌≤◌, ◌<◌, ℕ, List, Bool, inl, inr, Option, Some, length, refl, ap, sym, ◌∙◌, subst, arith}
+use Rattle.dist_base.specs.Answers.{IsExact}
+use Rattle.dist_control.specs.RawStanza.{raw_stanzas}
+use Rattle.dist_outside.specs.Files.{Files}
+use Rattle.dist_outside.specs.declared.limits.Limits.{Limits}
+use Rattle.dist_package.specs.FirstFault as packages
+use Rattle.dist_package.specs.RepositoryOf.{IsRepositoryOf}
+use Rattle.dist_package.specs.declared.error.PackagesError.{PackagesError}
+use Rattle.dist_package.specs.declared.error.PackagesError.TheVariants as packages_error
+use Rattle.dist_repo.specs.PackageList.{PackageList}
+use Rattle.dist_repo.specs.declared.package.Package.{Package}
+use Rattle.dist_app.specs.Health.{ListStage, Judges, ListDecides, HealthDecides}
+use Rattle.dist_app.specs.RepositoryStage.{IsEndOf, RepositoryStage}
+use Rattle.dist_app.specs.Run.{IsHealth, IsBadWords, Decides}
+use Rattle.dist_app.specs.Stages.{Ending, Step, Goes, Ends, IsDetermined, RefusesAlone, refused, answered}
+use Rattle.dist_app.specs.TextStage.{TextStage}
+use Rattle.dist_app.specs.declared.refusal.Refusal.{Refusal}
+use Rattle.dist_app.specs.declared.refusal.Refusal.TheVariants as refusal
+use Rattle.dist_app.proofs.Lists.{NamesSet-one, NamesSet-not_bad, IsBadAt-one}
+use Rattle.dist_app.proofs.StageLaws.{then_refuses_alone}
+
+same_text : (a b : List ℕ) (whole : Option (List ℕ)) → whole ≡ Some a → whole ≡ Some b → b ≡ a
+same_text a b whole first second = cc
+
+not_longer : (a b : List ℕ) (limit : ℕ) → a ≡ b → length b ≤ limit → ¬ (limit < length a)
+not_longer a b limit same within longer = omega (arith, ap length same, within, longer)
+
+text_determined : (files : Files) (name : List ℕ) (limit : ℕ) → IsDetermined (TextStage (Some files) name limit)
+text_determined files name limit (Goes a) (Goes b) f g = ap Goes (same_text a b _ f.bytes g.bytes)
+text_determined files name limit (Goes a) (Ends e) f (longer, is) = absurd (not_longer longer.0 a limit (same_text a longer.0 _ f.bytes longer.1) f.within longer.2)
+text_determined files name limit (Ends e) (Goes b) (longer, is) g = absurd (not_longer longer.0 b limit (same_text b longer.0 _ g.bytes longer.1) g.within longer.2)
+text_determined files name limit (Ends e) (Ends other) (longer, is) (longer', is') = ap Ends (is' ∙ sym is)
+
+same_end : (files : Option Files) (error : PackagesError) (e other : Ending) → IsEndOf files error e → IsEndOf files error other → other ≡ e
+same_end files (packages_error.Bad fault) e other is is' = is' ∙ sym is
+same_end files packages_error.TooMany e other is is' = is' ∙ sym is
+same_end files packages_error.NoMemory e other is is' = absurd is
+
+-- each Packages text has one repository or one error
+abbrev pub AreExact : Type 0
+AreExact = (text : List ℕ) (limit : ℕ) → IsExact (IsRepositoryOf text limit) (packages.IsRefused (raw_stanzas text) limit)
+
+repository_determined : AreExact → (files : Option Files) (stanzas : ℕ) (text : List ℕ) → IsDetermined (RepositoryStage files stanzas text)
+repository_determined exact files stanzas text (Goes a) (Goes b) f g = ap Goes ((exact text stanzas).one_reading b a g f)
+repository_determined exact files stanzas text (Goes a) (Ends e) f (error, refuses, is) = absurd ((exact text stanzas).never_both a error f refuses)
+repository_determined exact files stanzas text (Ends e) (Goes b) (error, refuses, is) g = absurd ((exact text stanzas).never_both b error g refuses)
+repository_determined exact files stanzas text (Ends e) (Ends other) (error, refuses, is) (error', refuses', is') =
+    let same = (exact text stanzas).one_fault error' error refuses' refuses in
+    ap Ends (same_end files error e other is (subst (λ (x : PackagesError). IsEndOf files x other) same is'))
+
+list_determined : (files : Option Files) (packages : List Package) (text : List ℕ) → IsDetermined (ListStage files packages text)
+list_determined files packages text (Goes a) (Goes b) f g = ap Goes (NamesSet-one packages text a b f g)
+list_determined files packages text (Goes a) (Ends e) f (line, bad, is) = absurd (NamesSet-not_bad packages text a line f bad)
+list_determined files packages text (Ends e) (Goes b) (line, bad, is) g = absurd (NamesSet-not_bad packages text b line g bad)
+list_determined files packages text (Ends e) (Ends other) (line, bad, is) (line', bad', is') =
+    ap Ends (is' ∙ ap (λ (n : ℕ). refused files (refusal.BadList n)) (IsBadAt-one packages text line line' bad bad') ∙ sym is)
+
+-- a judgement is no refusal, which tells something
+judges_alone : (files : Option Files) (repository : PackageList) (members : List Bool) → RefusesAlone files (Judges files repository members)
+judges_alone files repository members r ending first second = let e = ap (λ (x : Ending). x.err) first.is in cc
+
+health_alone : AreExact → (files : Files) (limits : Limits) (packages list : List ℕ) → RefusesAlone (Some files) (HealthDecides (Some files) limits packages list)
+health_alone exact files limits packages list =
+    then_refuses_alone (Some files) (TextStage (Some files) packages limits.bytes) _ (text_determined files packages limits.bytes) (λ text goes.
+    then_refuses_alone (Some files) (RepositoryStage (Some files) limits.stanzas text) _ (repository_determined exact (Some files) limits.stanzas text) (λ repository reads.
+    then_refuses_alone (Some files) (TextStage (Some files) list limits.bytes) _ (text_determined files list limits.bytes) (λ names whole.
+    then_refuses_alone (Some files) (ListStage (Some files) repository.packages names) _ (list_determined (Some files) repository.packages names) (λ members has.
+    judges_alone (Some files) repository members))))
+
+pub decides_alone : AreExact → (words : List (List ℕ)) (files : Files) (limits : Limits) → RefusesAlone (Some files) (Decides words (Some files) limits)
+decides_alone exact words files limits r ending (inl (bad, is)) (inl (bad', is')) = is' ∙ sym is
+decides_alone exact words files limits r ending (inl (bad, is)) (inr (p, l, is_health, decides)) = absurd (bad p l is_health)
+decides_alone exact words files limits r ending (inr (p, l, is_health, decides)) (inl (bad, is)) = absurd (bad p l is_health)
+decides_alone exact words files limits r ending (inr (p, l, is_health, decides)) (inr (p', l', is_health', decides')) =
+    let same_p : p' ≡ p = let a = is_health in let b = is_health' in cc in
+    let same_l : l' ≡ l = let a = is_health in let b = is_health' in cc in
+    health_alone exact files limits p l r ending decides
+        (subst (λ (x : List ℕ). HealthDecides (Some files) limits p x ending) same_l (subst (λ (x : List ℕ). HealthDecides (Some files) limits x l' ending) same_p decides'))
