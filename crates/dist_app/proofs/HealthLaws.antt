@@ -76,4 +76,4 @@ decides_alone exact words files limits r ending (inr (p, l, is_health, decides))
     let same_p : p' ≡ p = let a = is_health in let b = is_health' in cc in
     let same_l : l' ≡ l = let a = is_health in let b = is_health' in cc in
     health_alone exact files limits p l r ending decides
-        (subst (λ (x : List ℕ). HealthDecides (Some files) limits p x ending) same_l (subst (λ (x : List ℕ). HealthDecides (Some files) limits x l' ending) same_p decides'))
+    (subst (λ (x : List ℕ). HealthDecides (Some files) limits p x ending) same_l (subst (λ (x : List ℕ). HealthDecides (Some files) limits x l' ending) same_p decides'))

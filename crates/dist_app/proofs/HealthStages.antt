@@ -28,7 +28,7 @@ pub after_text_due : {X : Type 0} (Stage : Option Files → List ℕ → Step X 
 after_text_due Stage (Ok value) old new name limit text read same goes has = tt
 after_text_due Stage (Err refusal) old new name limit text read same goes has =
     due_more (λ ending. Stage old.files read (Ends ending)) (Then (TextStage old.files name limit) (λ t ending. Stage old.files t (Ends ending))) old new refusal
-        (λ ending decided. inr (read, subst (λ (t : List ℕ). TextStage old.files name limit (Goes t)) (sym same) goes, decided)) (inr (has old.files))
+    (λ ending decided. inr (read, subst (λ (t : List ℕ). TextStage old.files name limit (Goes t)) (sym same) goes, decided)) (inr (has old.files))
 
 pub list_answers : (files : Option Files) (limits : Limits) (repository : PackageList) (list : List ℕ) (members : List Bool) (ending : Ending)
     → ((text : List ℕ) × TextStage files list limits.bytes (Goes text) × ListStage files repository.packages text (Goes members))
@@ -45,7 +45,7 @@ pub list_due : (limits : Limits) (repository : PackageList) (list : List ℕ) (o
     → IsDue (ListDecides old.files limits repository list) old new refusal
 list_due limits repository list old new refusal due =
     due_more (Then (TextStage old.files list limits.bytes) (λ text ending. ListStage old.files repository.packages text (Ends ending)))
-        (ListDecides old.files limits repository list) old new refusal (list_ends old.files limits repository list) due
+    (ListDecides old.files limits repository list) old new refusal (list_ends old.files limits repository list) due
 
 -- the repository of a file was read
 abbrev pub IsRepositoryRead : Option Files → Limits → (name : List ℕ) → PackageList → Type 0
@@ -61,16 +61,16 @@ pub health_answers : (old mid : DeskView) (limits : Limits) (packages list : Lis
     → HealthDecides old.files limits packages list (answered old.files status text)
 health_answers old mid limits packages list repository status text reads read decides =
     with_repository old.files limits packages list repository (answered old.files status text) read
-        (subst (λ (files : Option Files). ListDecides files limits repository list (answered files status text)) reads.files_stay decides)
+    (subst (λ (files : Option Files). ListDecides files limits repository list (answered files status text)) reads.files_stay decides)
 
 pub health_due : (old mid new : DeskView) (limits : Limits) (packages list : List ℕ) (repository : PackageList) (refusal : Refusal) → OnlyReads old mid → OnlyReads mid new
     → IsRepositoryRead old.files limits packages repository → IsDue (ListDecides mid.files limits repository list) mid new refusal
     → IsDue (HealthDecides old.files limits packages list) old new refusal
 health_due old mid new limits packages list repository refusal before after read due =
     due_more (ListDecides old.files limits repository list) (HealthDecides old.files limits packages list) old new refusal
-        (λ ending. with_repository old.files limits packages list repository ending read)
-        (due_later (ListDecides old.files limits repository list) old mid new refusal before after
-            (subst (λ (files : Option Files). IsDue (ListDecides files limits repository list) mid new refusal) before.files_stay due))
+    (λ ending. with_repository old.files limits packages list repository ending read)
+    (due_later (ListDecides old.files limits repository list) old mid new refusal before after
+    (subst (λ (files : Option Files). IsDue (ListDecides files limits repository list) mid new refusal) before.files_stay due))
 
 repository_ends : (files : Option Files) (limits : Limits) (packages list : List ℕ) (ending : Ending)
     → Then (TextStage files packages limits.bytes) (λ text end. RepositoryStage files limits.stanzas text (Ends end)) ending → HealthDecides files limits packages list ending
@@ -82,4 +82,4 @@ pub health_unread : (limits : Limits) (packages list : List ℕ) (old new : Desk
     → IsDue (HealthDecides old.files limits packages list) old new refusal
 health_unread limits packages list old new refusal due =
     due_more (Then (TextStage old.files packages limits.bytes) (λ text ending. RepositoryStage old.files limits.stanzas text (Ends ending)))
-        (HealthDecides old.files limits packages list) old new refusal (repository_ends old.files limits packages list) due
+    (HealthDecides old.files limits packages list) old new refusal (repository_ends old.files limits packages list) due

@@ -101,30 +101,30 @@ pub ReadSoFar-blank : (packages : List Package) (text rest after line : List ℕ
     → lines rest ≡ line ∷ lines after → parts_of line ≡ [] → ReadSoFar packages text after (number + 1) members
 ReadSoFar-blank packages text rest after line number members so_far next blank =
     one_line_more packages text rest after line number members members so_far next (inl blank) refl
-        (λ m is. let n = (so_far.named.named m).0 is in (n.0, Contains-append_left so_far.done (line ∷ []) n.0 n.1, n.2))
-        (λ m named. elim (Contains-push_cases so_far.done line named.0 named.1) [
-          | inl before ↦ (so_far.named.named m).1 (named.0, before, named.2)
-          | inr here ↦ absurd (blank_names_none packages line m blank (let N : List ℕ → Type 0 = λ l. Names packages l m in subst N (sym here) named.2))
-        ])
+    (λ m is. let n = (so_far.named.named m).0 is in (n.0, Contains-append_left so_far.done (line ∷ []) n.0 n.1, n.2))
+    (λ m named. elim (Contains-push_cases so_far.done line named.0 named.1) [
+      | inl before ↦ (so_far.named.named m).1 (named.0, before, named.2)
+      | inr here ↦ absurd (blank_names_none packages line m blank (let N : List ℕ → Type 0 = λ l. Names packages l m in subst N (sym here) named.2))
+    ])
 
 pub ReadSoFar-named : (packages : List Package) (text rest after line : List ℕ) (number found : ℕ) (members : List Bool) → ReadSoFar packages text rest number members
     → lines rest ≡ line ∷ lines after → Names packages line found → ((other : ℕ) → Names packages line other → other ≡ found) → found < length members
     → ReadSoFar packages text after (number + 1) (slice_set members found true)
 ReadSoFar-named packages text rest after line number found members so_far next names only within =
     one_line_more packages text rest after line number members (slice_set members found true) so_far next (inr (found, names)) (length-set members found true)
-        (λ m is. elim (cases_eq m found) [
-          | inl same ↦ (line, Contains-push so_far.done line, let P : ℕ → Type 0 = Names packages line in subst P (sym same) names)
-          | inr other ↦
-              let n = (so_far.named.named m).0 (flag_unset members found m other is) in
-              (n.0, Contains-append_left so_far.done (line ∷ []) n.0 n.1, n.2)
-        ])
-        (λ m named. elim (cases_eq m found) [
-          | inl same ↦ let R : ℕ → Type 0 = λ n. slice_get (slice_set members found true) n ≡ Some true in subst R (sym same) (flag_same members found within)
-          | inr other ↦ elim (Contains-push_cases so_far.done line named.0 named.1) [
-            | inl before ↦ flag_set members found m other ((so_far.named.named m).1 (named.0, before, named.2))
-            | inr here ↦ absurd (other (only m (let N : List ℕ → Type 0 = λ l. Names packages l m in subst N (sym here) named.2)))
-          ]
-        ])
+    (λ m is. elim (cases_eq m found) [
+      | inl same ↦ (line, Contains-push so_far.done line, let P : ℕ → Type 0 = Names packages line in subst P (sym same) names)
+      | inr other ↦
+          let n = (so_far.named.named m).0 (flag_unset members found m other is) in
+          (n.0, Contains-append_left so_far.done (line ∷ []) n.0 n.1, n.2)
+    ])
+    (λ m named. elim (cases_eq m found) [
+      | inl same ↦ let R : ℕ → Type 0 = λ n. slice_get (slice_set members found true) n ≡ Some true in subst R (sym same) (flag_same members found within)
+      | inr other ↦ elim (Contains-push_cases so_far.done line named.0 named.1) [
+        | inl before ↦ flag_set members found m other ((so_far.named.named m).1 (named.0, before, named.2))
+        | inr here ↦ absurd (other (only m (let N : List ℕ → Type 0 = λ l. Names packages l m in subst N (sym here) named.2)))
+      ]
+    ])
 
 pub ReadSoFar-end : (packages : List Package) (text : List ℕ) (number : ℕ) (members : List Bool) → ReadSoFar packages text [] number members → NamesSet packages text members
 ReadSoFar-end packages text number members so_far =
@@ -158,14 +158,14 @@ bad_line packages text number bad =
 pub NamesSet-not_bad : (packages : List Package) (text : List ℕ) (members : List Bool) (number : ℕ) → NamesSet packages text members → ¬ IsBadAt packages text number
 NamesSet-not_bad packages text members number set bad =
     bad.bad (subst (IsListLine packages) (bad_line packages text number bad)
-        (set.each (length bad.before) bad.line (let e = ap length bad.split in omega (arith, e, length-append bad.before (bad.line ∷ bad.after)))))
+    (set.each (length bad.before) bad.line (let e = ap length bad.split in omega (arith, e, length-append bad.before (bad.line ∷ bad.after)))))
 
 -- no bad line stands before another
 not_before : (packages : List Package) (text : List ℕ) (n m : ℕ) (first : IsBadAt packages text n) (second : IsBadAt packages text m) → ¬ (length first.before < length second.before)
 not_before packages text n m first second less =
     let at : get_or (lines text) (length first.before) first.line ≡ get_or second.before (length first.before) first.line =
-        ap (λ (ls : List (List ℕ)). get_or ls (length first.before) first.line) second.split
-        ∙ get_or_append_left second.before (second.line ∷ second.after) first.line (length first.before) less in
+    ap (λ (ls : List (List ℕ)). get_or ls (length first.before) first.line) second.split
+    ∙ get_or_append_left second.before (second.line ∷ second.after) first.line (length first.before) less in
     first.bad (subst (IsListLine packages) (sym at ∙ bad_line packages text n first) (second.each_before (length first.before) first.line less))
 
 -- a text has one first bad line at most
@@ -188,8 +188,7 @@ pub Names-two : (packages : List Package) (line name version : List ℕ) (number
     → ((n : ℕ) → (found ≡ Some n) ↔ (IsVersion version × IsPackageAt packages n name version)) → found ≡ Some number
     → Names packages line number × ((other : ℕ) → Names packages line other → other ≡ number)
 Names-two packages line name version number found parts is here =
-    let at = (is number).0 here in
-    (
+    let at = (is number).0 here in (
       record { name = name; version = version; spelled = parts; is_version = at.0; found = at.1 },
       λ other names.
           let same_name : names.name ≡ name = let e = names.spelled in cc in
@@ -260,4 +259,4 @@ pub ReadSoFar-none : (packages : List Package) (text : List ℕ) (members : List
     → ReadSoFar packages text text 1 members
 ReadSoFar-none packages text members count is same =
     ReadSoFar-start packages text members (ap length is ∙ length-replicate count false ∙ same)
-        (let P : List Bool → Type 0 = All (λ member. member ≡ false) in subst P (sym is) (All-replicate (λ (member : Bool). member ≡ false) count false refl))
+    (let P : List Bool → Type 0 = All (λ member. member ≡ false) in subst P (sym is) (All-replicate (λ (member : Bool). member ≡ false) count false refl))

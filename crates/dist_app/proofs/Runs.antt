@@ -32,8 +32,8 @@ alone : AreExact → (words : List (List ℕ)) (desk : DeskView) (limits : Limit
     → Decides words desk.files limits (refused desk.files r) → Decides words desk.files limits ending → ending ≡ refused desk.files r
 alone exact words desk limits r ending (files, told) first second =
     subst (λ (x : Option Files). ending ≡ refused x r) (sym told)
-        (decides_alone exact words files limits r ending
-            (subst (λ (x : Option Files). Decides words x limits (refused x r)) told first) (subst (λ (x : Option Files). Decides words x limits ending) told second))
+    (decides_alone exact words files limits r ending
+    (subst (λ (x : Option Files). Decides words x limits (refused x r)) told first) (subst (λ (x : Option Files). Decides words x limits ending) told second))
 
 -- an answer, after which nothing is told on `err`
 pub answered_runs : AreExact → (words : List (List ℕ)) (limits : Limits) (status : Status) (desk desk' : DeskView) (out out' err : SinkView)

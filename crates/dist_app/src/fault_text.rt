@@ -100,7 +100,10 @@ pub(crate) fn write_kind<E: Sink>(err: &mut E, kind: Kind) -> Result<(), WorkErr
     match kind {
         Kind::Relation(field, error) => {
             let place = buffer.format(place_of(error)).as_bytes();
-            write_pieces(err, &[name, detail, b" in ", field_text(field), b" at ", place])
+            write_pieces(
+                err,
+                &[name, detail, b" in ", field_text(field), b" at ", place],
+            )
         }
         Kind::Clash(line) => {
             let line = buffer.format(line).as_bytes();

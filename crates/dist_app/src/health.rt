@@ -34,10 +34,7 @@ pub(crate) fn judge(
             Status::NotHealthy,
             pair_line(alloc, repository, b"two versions ", p, q)?,
         ),
-        Health::Unmet(p, place) => (
-            Status::NotHealthy,
-            unmet_line(alloc, repository, p, place)?,
-        ),
+        Health::Unmet(p, place) => (Status::NotHealthy, unmet_line(alloc, repository, p, place)?),
         Health::Conflict(p, q) => (
             Status::NotHealthy,
             pair_line(alloc, repository, b"conflict ", p, q)?,

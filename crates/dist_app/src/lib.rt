@@ -16,3 +16,6 @@ mod words;
 
 pub use status::Status;
 pub use top_call::{run, run_with};
+
+#[cfg(test)]
+mod tests;

@@ -17,4 +17,4 @@ set-requires-clause-in_range c =
 pub returns-in-Package : goal.returns-in-Package
 returns-in-Package c =
     Marks-one c.args.repository.now.packages c.args.line.now c.in_ok-read_line.field-0 c.in-Package.number c.args.members.now c.set.new.self
-        c.in_ok-read_line.ensures c.in-Package.is c.requires c.set.ensures
+    c.in_ok-read_line.ensures c.in-Package.is c.requires c.set.ensures

@@ -24,7 +24,7 @@ loop-rest-preserved c =
     record {
       read = ReadSoFar-marked _ _ _ _ _ _ c.loop-rest.members _ c.loop-rest.invariant.read c.split_line.ensures.lines
           (Marks-true c.args.repository.now.packages c.split_line.result.0.now c.loop-rest.members c.mark_line.new.members c.in_ok-mark_line.field-0
-              c.in_ok-mark_line.ensures c.if-not-branch.false);
+          c.in_ok-mark_line.ensures c.if-not-branch.false);
       counted = omega (arith, a, b);
     }
 
@@ -32,4 +32,4 @@ pub returns : goal.returns
 returns c =
     let end : c.loop-rest.rest.now ≡ [] = nil_from_length c.loop-rest.rest.now (eqb-true _ _ (sym c.loop-rest-test.ensures)) in
     ReadSoFar-end c.args.repository.now.packages c.args.bytes.now c.loop-rest.number c.loop-rest.members
-        (subst (λ (rest : List ℕ). ReadSoFar c.args.repository.now.packages c.args.bytes.now rest c.loop-rest.number c.loop-rest.members) end c.loop-rest.invariant.read)
+    (subst (λ (rest : List ℕ). ReadSoFar c.args.repository.now.packages c.args.bytes.now rest c.loop-rest.number c.loop-rest.members) end c.loop-rest.invariant.read)

@@ -7,11 +7,11 @@ use Rattle.dist_app.proofs.top_call.run_with.Goals as goal
 pub returns-in-Ok-clause-runs : goal.returns-in-Ok-clause-runs
 returns-in-Ok-clause-runs g c =
     answered_runs c.packages_are_exact.ensures _ c.args.limits.now c.in-Ok.status (g.D.Desk.view c.args.desk.now) (g.D.Desk.view c.carry_out.new.desk) (g.W.Sink.view c.args.out.now) (g.W.Sink.view c.carry_out.new.out)
-        (g.E.Sink.view c.args.err.now) c.in-Ok.ensures.ends c.in-Ok.ensures.only_reads (c.sink_grows.ensures.begin (g.E.Sink.view c.args.err.now))
+    (g.E.Sink.view c.args.err.now) c.in-Ok.ensures.ends c.in-Ok.ensures.only_reads (c.sink_grows.ensures.begin (g.E.Sink.view c.args.err.now))
 
 pub returns-in-Err-clause-runs : goal.returns-in-Err-clause-runs
 returns-in-Err-clause-runs g c =
     subst (λ (s : Status). Runs (map string_bytes c.args.words.now) c.args.limits.now s (g.D.Desk.view c.args.desk.now) (g.D.Desk.view c.carry_out.new.desk) (g.W.Sink.view c.args.out.now) (g.W.Sink.view c.carry_out.new.out)
-        (g.E.Sink.view c.args.err.now) (g.E.Sink.view c.write_refusal.new.err)) (sym c.status-status.ensures)
-        (refused_runs c.packages_are_exact.ensures _ c.args.limits.now (g.D.Desk.view c.args.desk.now) (g.D.Desk.view c.carry_out.new.desk) (g.W.Sink.view c.args.out.now) (g.W.Sink.view c.carry_out.new.out)
-            c.in-Err.refusal c.in-Err.ensures.ends c.write_refusal.result (g.E.Sink.view c.args.err.now) (g.E.Sink.view c.write_refusal.new.err) c.in-Err.ensures.only_reads c.write_refusal.ensures)
+    (g.E.Sink.view c.args.err.now) (g.E.Sink.view c.write_refusal.new.err)) (sym c.status-status.ensures)
+    (refused_runs c.packages_are_exact.ensures _ c.args.limits.now (g.D.Desk.view c.args.desk.now) (g.D.Desk.view c.carry_out.new.desk) (g.W.Sink.view c.args.out.now) (g.W.Sink.view c.carry_out.new.out)
+    c.in-Err.refusal c.in-Err.ensures.ends c.write_refusal.result (g.E.Sink.view c.args.err.now) (g.E.Sink.view c.write_refusal.new.err) c.in-Err.ensures.only_reads c.write_refusal.ensures)
