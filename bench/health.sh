@@ -1,13 +1,16 @@
 #!/bin/sh
-# Times `health` on a made plain file of 60,000 packages with ten dependencies each, and prints the ratio to a count of
-# the file's lines. Build the program first: (cd crates/distfuture && rt run -- health data/packages.txt data/list.txt)
+# Times `health` on a Packages file, on a quarter and on a half of it, and prints the ratios to a count of the file's
+# lines, and the most memory that was taken.
+# Usage: health.sh [PACKAGES [LIST]]    without PACKAGES one of 63,440 stanzas is made; without LIST the list is empty
+# Build the program first: cd crates/distfuture && rt try -- health data/packages.txt data/list.txt (not proved), or rt run
 set -eu
 top=$(cd "$(dirname "$0")/.." && pwd)
 folder=$(mktemp -d)
 trap 'rm -rf "$folder"' EXIT
-python3 "$top/bench/make-plain.py" "${1:-60000}" "${2:-10}" "$folder/packages" "$folder/list"
-python3 - "$top/crates/distfuture/out/distfuture" "$folder" <<'PYTHON'
-import subprocess, sys, time
+if [ $# -ge 1 ]; then cp "$1" "$folder/packages"; else python3 "$top/bench/make-packages.py" 63440 >"$folder/packages"; fi
+if [ $# -ge 2 ]; then cp "$2" "$folder/list"; else : >"$folder/list"; fi
+python3 - "${DISTFUTURE:-$top/crates/distfuture/out/distfuture}" "$folder" <<'PYTHON'
+import os, resource, subprocess, sys, time
 
 program, folder = sys.argv[1], sys.argv[2]
 
@@ -16,12 +19,22 @@ def best(words, runs):
     times = []
     for _ in range(runs):
         start = time.perf_counter()
-        subprocess.run(words, check=True, stdout=subprocess.DEVNULL)
+        subprocess.run(words, stdout=subprocess.DEVNULL, stderr=subprocess.DEVNULL)
         times.append(time.perf_counter() - start)
     return min(times)
 
 
-health = best([program, "health", f"{folder}/packages", f"{folder}/list"], 5)
-lines = best(["wc", "-l", f"{folder}/packages"], 5)
-print(f"health {health:.3f} s, wc -l {lines:.3f} s, ratio {health / lines:.1f}")
+whole = open(f"{folder}/packages", "rb").read()
+stanzas = whole.split(b"\n\n")
+for part in (4, 2, 1):
+    path = f"{folder}/part"
+    with open(path, "wb") as file:
+        file.write(b"\n\n".join(stanzas[: len(stanzas) // part]) + b"\n")
+    listed = f"{folder}/list" if part == 1 else "/dev/null"
+    health = best([program, "health", path, listed], 5)
+    lines = best(["wc", "-l", path], 5)
+    print(f"1/{part} of the file, {os.path.getsize(path)} bytes: health {health:.3f} s, wc -l {lines:.3f} s, ratio {health / lines:.1f}")
+answer = subprocess.run([program, "health", path, f"{folder}/list"], capture_output=True, text=True)
+print("status", answer.returncode, answer.stdout.strip(), answer.stderr.strip())
+print(f"at most {resource.getrusage(resource.RUSAGE_CHILDREN).ru_maxrss / 1000:.0f} MB")
 PYTHON
