@@ -1,7 +1,7 @@
 -- What the stanzas of a file read as, and the first fault of a file: the first faulty stanza decides, and in it
 -- the first of these that has a fault: its lines, the fields Package, Version, Source and Architecture, the
 -- fields of relations, and last the package among the earlier ones.
-use Rattle.std.specs.Prelude.{◌≡◌, ◌≢◌, ◌⊎◌, ℕ, ◌<◌, List, [], ◌∷◌, ◌++◌, Option, Some, None, All, find, map, length, not}
+use Rattle.std.specs.Prelude.{◌≡◌, ◌≢◌, ◌⊎◌, ℕ, ◌<◌, List, [], ◌∷◌, ◌++◌, Option, All, find, map, length, not}
 use Rattle.std.specs.Str.{bytes_eq}
 use Rattle.dist_control.specs.ControlText.{IsReading}
 use Rattle.dist_control.specs.RawStanza.{RawStanza}
@@ -17,7 +17,11 @@ use Rattle.dist_repo.specs.declared.package.Package.{Package}
 use Rattle.dist_package.specs.Named.{value_of, fault_at, name_of}
 use Rattle.dist_package.specs.PackageOf.{ReadsName, HasNameFault, ReadsVersionField, HasVersionFault, ReadsSource, HasSourceFault, ReadsArchitecture, HasArchitectureFault, HasRelationFault, IsPackageOf, all}
 use Rattle.dist_package.specs.declared.error.Fault.{Fault}
-use Rattle.dist_package.specs.declared.error.Kind.TheVariants.{NoColon, BadFieldName, OrphanContinuation, DoubleField, Clash}
+use Rattle.dist_package.specs.declared.error.Kind.{Kind}
+use Rattle.dist_package.specs.declared.error.Kind.TheVariants.{NoColon, BadFieldName, OrphanContinuation, DoubleField, NoPackage, BadPackageName, NoVersion, BadVersionText, BadSource, BadArchitecture, TwoArchitectures, Relation, Clash}
+use Rattle.dist_relation.specs.declared.error.RelationError.{RelationError}
+use Rattle.dist_relation.specs.declared.error.RelationError.TheVariants as relations
+use Rattle.dist_version.specs.declared.error.VersionError.TheVariants as versions
 use Rattle.dist_package.specs.declared.error.PackagesError.{PackagesError}
 use Rattle.dist_package.specs.declared.error.PackagesError.TheVariants.{Bad, TooMany, NoMemory}
 use Rattle.dist_package.specs.declared.error.RelationField.{RelationField}
@@ -63,13 +67,13 @@ abbrev pub HasFieldFault : (earlier : Option (List ℕ)) → Stanza → Fault �
 HasFieldFault earlier stanza fault =
     HasNameFault stanza fault
     ⊎ (((name : List ℕ) × ReadsName stanza name)
-      × (HasVersionFault stanza fault
+    × (HasVersionFault stanza fault
     ⊎ (((version : List ℕ) × ReadsVersionField stanza version)
-      × (HasSourceFault stanza fault
+    × (HasSourceFault stanza fault
     ⊎ (((name version source source_version : List ℕ) × ReadsSource stanza name version source source_version)
-      × (HasArchitectureFault earlier stanza fault
+    × (HasArchitectureFault earlier stanza fault
     ⊎ (((architecture : List ℕ) × ReadsArchitecture earlier stanza architecture)
-      × HasFirstRelationFault relation_fields stanza fault)))))))
+    × HasFirstRelationFault relation_fields stanza fault)))))))
 
 -- The first earlier stanza that has this name and an equal version came with this line, and its package differs.
 pub record IsClash (earlier : List Read) (p : Package) (line : ℕ) : Type 0 where
@@ -133,6 +137,41 @@ pub record IsTooMany (raws : List RawStanza) (limit : ℕ) : Type 0 where
   pub up_to : IsReadUpTo raws raw reads
   pub at_limit : length reads ≡ limit
 
+-- an error that says this of a fault, and no other
+abbrev pub IsBad : (Fault → Type 0) → PackagesError → Type 0
+IsBad HasIt (Bad fault) = HasIt fault
+IsBad HasIt TooMany = ⊥
+IsBad HasIt NoMemory = ⊥
+
 -- why a file of these raw stanzas is no repository
 abbrev pub IsRefused : List RawStanza → (limit : ℕ) → PackagesError → Type 0
-IsRefused raws limit error = error ≡ TooMany
+IsRefused raws limit (Bad fault) = HasFirstFault raws limit fault
+IsRefused raws limit TooMany = IsTooMany raws limit
+IsRefused raws limit NoMemory = ⊥
+
+-- a relation's fault is neither want of memory nor a version's want of memory
+abbrev pub IsFreeOfMemory : RelationError → Type 0
+IsFreeOfMemory (relations.BadName place) = Unit {0}
+IsFreeOfMemory (relations.BadOp place) = Unit {0}
+IsFreeOfMemory (relations.BadVersion place error) = error ≢ versions.NoMemory
+IsFreeOfMemory (relations.Unclosed place) = Unit {0}
+IsFreeOfMemory (relations.BarNotAllowed place) = Unit {0}
+IsFreeOfMemory (relations.Trailing place) = Unit {0}
+IsFreeOfMemory (relations.OpInProvides place) = Unit {0}
+IsFreeOfMemory relations.NoMemory = ⊥
+
+-- a kind carries want of memory neither of a version nor of a relation
+abbrev pub CarriesNoMemory : Kind → Type 0
+CarriesNoMemory NoColon = Unit {0}
+CarriesNoMemory BadFieldName = Unit {0}
+CarriesNoMemory OrphanContinuation = Unit {0}
+CarriesNoMemory DoubleField = Unit {0}
+CarriesNoMemory NoPackage = Unit {0}
+CarriesNoMemory BadPackageName = Unit {0}
+CarriesNoMemory NoVersion = Unit {0}
+CarriesNoMemory (BadVersionText error) = error ≢ versions.NoMemory
+CarriesNoMemory BadSource = Unit {0}
+CarriesNoMemory BadArchitecture = Unit {0}
+CarriesNoMemory TwoArchitectures = Unit {0}
+CarriesNoMemory (Relation relation error) = IsFreeOfMemory error
+CarriesNoMemory (Clash line) = Unit {0}

@@ -3,3 +3,4 @@ pub mod Source
 pub mod PackageOf
 pub mod FirstFault
 pub mod RepositoryOf
+pub mod Steps

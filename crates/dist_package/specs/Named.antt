@@ -1,6 +1,6 @@
 -- The fields of a stanza by their names, and the text and place of a fault.
+use Rattle.std.specs.Prelude.{◌≡◌, ℕ, List, Option, Some, find, [], codes}
 use Rattle.std.specs.Option.{option_map_or}
-use Rattle.std.specs.Prelude.{◌≡◌, ℕ, List, Option, Some, None, find, [], codes}
 use Rattle.dist_control.specs.FieldText.{FieldText}
 use Rattle.dist_control.specs.Fields.{is_same_name}
 use Rattle.dist_control.specs.declared.field_list.Stanza.{Stanza}
@@ -16,6 +16,10 @@ field_named stanza name = find (λ field. is_same_name name field.name) stanza.f
 -- the value of a field, which is empty where there is no such field
 abbrev pub value_of : Stanza → List ℕ → List ℕ
 value_of stanza name = option_map_or (λ field. field.value) (field_named stanza name) []
+
+-- the line of a field, or of the stanza where there is no such field
+abbrev pub line_of : Stanza → List ℕ → ℕ
+line_of stanza name = option_map_or (λ field. field.line) (field_named stanza name) stanza.line
 
 -- a field of this name has this value and stands at this line
 pub record IsFieldOf (stanza : Stanza) (name value : List ℕ) (line : ℕ) : Type 0 where

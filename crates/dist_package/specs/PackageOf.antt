@@ -1,6 +1,5 @@
 -- The package of a stanza (Debian Policy 5.3), and the faults of its fields.
-use Rattle.std.specs.Option.{option_map_or}
-use Rattle.std.specs.Prelude.{◌≡◌, ◌≢◌, ◌⊎◌, ℕ, List, [], ◌∷◌, ◌++◌, Option, None, Some, Bool, true, false, IsTrue, ◌↔◌, codes}
+use Rattle.std.specs.Prelude.{◌≡◌, ◌≢◌, ◌⊎◌, ℕ, List, ◌++◌, Option, None, Some, IsTrue, ◌↔◌, unwrap_or, codes}
 use Rattle.dist_control.specs.declared.field_list.Stanza.{Stanza}
 use Rattle.dist_relation.specs.Bytes.{IsName}
 use Rattle.dist_relation.specs.Grammar.{ReadsDepends, ReadsAtoms, ReadsProvides}
@@ -8,11 +7,12 @@ use Rattle.dist_relation.specs.Faults.{FirstDependsFault, FirstAtomsFault, First
 use Rattle.dist_relation.specs.declared.atom.Atom.{Atom}
 use Rattle.dist_relation.specs.declared.atom.Provide.{Provide}
 use Rattle.dist_relation.specs.declared.error.RelationError.{RelationError}
+use Rattle.dist_relation.specs.declared.error.RelationError.TheVariants as relations
 use Rattle.dist_repo.specs.declared.package.Package.{Package}
 use Rattle.dist_version.specs.Faults.{HasFault}
 use Rattle.dist_version.specs.Spelling.{ReadsVersion}
 use Rattle.dist_version.specs.declared.error.VersionError.{VersionError}
-use Rattle.dist_package.specs.Named.{field_named, value_of, IsFieldOf, fault_at, name_of}
+use Rattle.dist_package.specs.Named.{field_named, value_of, line_of, IsFieldOf, fault_at, name_of}
 use Rattle.dist_package.specs.Source.{SpellsSource, IsNoSource}
 use Rattle.dist_package.specs.declared.error.Fault.{Fault}
 use Rattle.dist_package.specs.declared.error.Kind.TheVariants.{NoPackage, BadPackageName, NoVersion, BadVersionText, BadSource, BadArchitecture, TwoArchitectures, Relation}
@@ -66,7 +66,7 @@ HasVersionFault stanza fault =
 pub record IsSourceOf (name version source source_version : List ℕ) (value : List ℕ) : Type 0 where
   pub written : Option (List ℕ)
   pub spells : SpellsSource value source written
-  pub version_is : source_version ≡ option_map_or (λ v. v) written version
+  pub version_is : source_version ≡ unwrap_or written version
 
 abbrev pub ReadsSource : Stanza → (name version source source_version : List ℕ) → Type 0
 ReadsSource stanza name version source source_version =
@@ -93,6 +93,10 @@ pub record ReadsArchitecture (earlier : Option (List ℕ)) (stanza : Stanza) (ar
       ⊎ ((line : ℕ) × IsFieldOf stanza (codes "Architecture") architecture line × IsName architecture)
   pub agrees : (architecture ≡ all) ⊎ ((earlier ≡ None) ⊎ (earlier ≡ Some architecture))
 
+-- what a reader gives for an architecture: none for `all`
+abbrev pub GivesArchitecture : (earlier : Option (List ℕ)) → Stanza → Option (List ℕ) → Type 0
+GivesArchitecture earlier stanza given = ReadsArchitecture earlier stanza (unwrap_or given all) × (given ≢ Some all)
+
 pub record HasArchitectureFault (earlier : Option (List ℕ)) (stanza : Stanza) (fault : Fault) : Type 0 where
   pub value : List ℕ
   pub line : ℕ
@@ -111,13 +115,15 @@ HasFirstFault Conflicts value error = FirstAtomsFault value error
 HasFirstFault Breaks value error = FirstAtomsFault value error
 HasFirstFault Provides value error = FirstProvidesFault value error
 
-pub record HasRelationFault (stanza : Stanza) (relation : RelationField) (fault : Fault) : Type 0 where
-  pub value : List ℕ
-  pub line : ℕ
-  pub error : RelationError
-  pub field : IsFieldOf stanza (name_of relation) value line
-  pub has : HasFirstFault relation value error
-  pub fault_is : fault ≡ fault_at line (Relation relation error)
+-- The value of a field of relations has this first fault, and want of memory is none. A missing field counts as
+-- an empty one, which has no fault.
+abbrev pub IsRelationFault : (List ℕ → RelationError → Type 0) → Stanza → RelationField → Fault → Type 0
+IsRelationFault FirstFault stanza relation fault =
+    (error : RelationError) × FirstFault (value_of stanza (name_of relation)) error × (error ≢ relations.NoMemory)
+    × (fault ≡ fault_at (line_of stanza (name_of relation)) (Relation relation error))
+
+abbrev pub HasRelationFault : Stanza → RelationField → Fault → Type 0
+HasRelationFault stanza relation fault = IsRelationFault (HasFirstFault relation) stanza relation fault
 
 -- What the fields of relations give: first the items of Pre-Depends and then those of Depends, first the atoms of
 -- Conflicts and then those of Breaks, and the entries of Provides. A missing field gives nothing.

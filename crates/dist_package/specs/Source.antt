@@ -37,10 +37,15 @@ pub record SpellsSource (value name : List ℕ) (version : Option (List ℕ)) : 
   pub is_name : IsName name
   pub version_is : ReadsVersionPart (version_part value) version
 
+-- the version part is not empty, and has no version in parentheses
+abbrev pub IsNoVersionPart : List ℕ → Type 0
+IsNoVersionPart part =
+    ((part ≢ []) × ((text : List ℕ) → ¬ IsInParentheses part text))
+    ⊎ ((text : List ℕ) × IsInParentheses part text × ((fault : VersionError) × HasFault text fault))
+
 -- The value is no source: it begins with no name, or goes on otherwise than in parentheses, or there is no
 -- version in them.
 abbrev pub IsNoSource : List ℕ → Type 0
 IsNoSource value =
     (¬ IsName (name_part value))
-    ⊎ ((version_part value ≢ [] × ((text : List ℕ) → ¬ IsInParentheses (version_part value) text))
-    ⊎ ((text : List ℕ) × IsInParentheses (version_part value) text × ((fault : VersionError) × HasFault text fault)))
+    ⊎ IsNoVersionPart (version_part value)

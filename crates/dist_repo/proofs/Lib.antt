@@ -4,3 +4,7 @@ pub mod HeldLemmas
 pub mod NameSearch
 pub mod OrderLemmas
 pub mod IndexLemmas
+pub mod TallyLemmas
+pub mod NotedLemmas
+pub mod FlatTally
+pub mod NewestLemmas

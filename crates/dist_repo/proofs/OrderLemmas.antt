@@ -44,13 +44,13 @@ cmp : List ℕ → List ℕ → Ordering
 cmp = slice_cmp nat_cmp
 
 -- the name of a lower package is not above that of a higher one
-then-less : (a b : Ordering) → ordering_then a b ≡ Less → a ≢ Greater
+pub then-less : (a b : Ordering) → ordering_then a b ≡ Less → a ≢ Greater
 then-less Less b is e = cc
 then-less Equal b is e = cc
 then-less Greater b is e = cc
 
 -- a name between two equal names is equal to them
-between-equal : (a b c : List ℕ) → slice_cmp nat_cmp a b ≢ Greater → slice_cmp nat_cmp b c ≢ Greater → a ≡ c → slice_cmp nat_cmp b c ≡ Equal
+pub between-equal : (a b c : List ℕ) → slice_cmp nat_cmp a b ≢ Greater → slice_cmp nat_cmp b c ≢ Greater → a ≡ c → slice_cmp nat_cmp b c ≡ Equal
 between-equal a b c first second same = decide (slice_cmp nat_cmp b c) refl
   where
     turned : slice_cmp nat_cmp a b ≡ ordering_reverse (slice_cmp nat_cmp b c)

@@ -10,3 +10,6 @@ pub mod Strong
 pub mod Flat
 pub mod Total
 pub mod Indexed
+pub mod Tally
+pub mod Latest
+pub mod Equality

@@ -1,6 +1,6 @@
 -- Which packages an atom matches, by Debian Policy 7.1 (names and versions) and 7.5 (Provides).
 use Rattle.std.specs.Prelude.{◌≡◌, ◌⊎◌, ℕ, List, Option, Some, Any, IfSome, IsSomeAnd, codes}
-use Rattle.dist_relation.specs.Canonical.{Satisfies}
+use Rattle.dist_relation.specs.Satisfies.{Satisfies}
 use Rattle.dist_relation.specs.declared.atom.Atom.{Atom}
 use Rattle.dist_relation.specs.declared.atom.Provide.{Provide}
 use Rattle.dist_relation.specs.declared.atom.Qualifier.{Qualifier}

@@ -86,7 +86,7 @@ impl Builder {
     {
         let key = Key::new(package);
         if let Some((held, kept)) = self.held(&key) {
-            if held.is_equal(key.package()) {
+            if held == key.package() {
                 return Ok(Added::Same);
             }
             return Err(AddError::Clash(kept, key.into_package()));
@@ -116,9 +116,17 @@ impl Builder {
         ensures in_order { IsInOrder (packages_of self) }
     {
         let Builder { alloc, packages } = self;
-        let _ = alloc;
-        drop(packages);
-        drop(architecture);
-        Err(AllocError)
+        let packages = packages_of(alloc, packages)?;
+        Repository::from_packages(alloc, architecture, packages)
     }
+}
+
+/// The packages of a map, in order.
+fn packages_of(alloc: Global, packages: BTreeMap<Key, u64>) -> Result<Vec<Package>, AllocError>
+    ensures { IfOk result (λ list. list.items ≡ packages_of packages.entries) }
+{
+    packages
+        .into_iter()
+        .map(|(key, _)| key.into_package())
+        .collect(alloc)
 }

@@ -8,7 +8,11 @@ mod matching;
 mod names;
 mod package;
 mod repository;
+mod tally;
 
 pub use builder::{AddError, Added, Builder};
 pub use package::Package;
 pub use repository::Repository;
+
+#[cfg(test)]
+mod tests;

@@ -1,6 +1,6 @@
 //! Which packages an atom matches, and which are in conflict, for an architecture of a file.
 ghost use Rattle.std.specs.Prelude.{◌≡◌, ◌⊎◌, ◌↔◌, IsTrue, Any, Some, IfSome, IsSomeAnd, codes};
-ghost use Rattle.dist_relation.specs.Canonical.{Satisfies};
+ghost use Rattle.dist_relation.specs.Satisfies.{Satisfies};
 ghost use Rattle.dist_repo.specs.Conflict.{AreInConflict};
 ghost use Rattle.dist_repo.specs.Match.{IsUsable, Matches, MatchesByEntry, MatchesByName};
 ghost use Rattle.dist_repo.specs.Order.{IsSamePackage};

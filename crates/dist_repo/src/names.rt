@@ -1,4 +1,4 @@
-//! The place of a name in a table of names in order.
+//! A table of names in order, and the place of a name in it.
 ghost use Rattle.std.specs.Prelude.{◌≡◌, ℕ, List, [], Some, Contains, MatchOption, slice_get};
 ghost use Rattle.std.specs.Cmp.Lexicographic.{slice_cmp};
 ghost use Rattle.std.specs.List.Sorted.{IsStrictlySortedBy};
@@ -6,6 +6,13 @@ ghost use Rattle.std.specs.Ordering.{nat_cmp};
 
 use crate::flat::Flat;
 use std::cmp::Ordering;
+
+/// A table of names in order, with the numbers that belong to each.
+#[derive(Drop)]
+pub(crate) struct NameIndex {
+    pub(crate) names: Flat<u8>,
+    pub(crate) numbers: Flat<u32>,
+}
 
 /// The place of a name among names that rise in the order of their bytes.
 pub(crate) fn place_of(names: &Flat<u8>, name: &[u8]) -> Option<usize>

@@ -1,5 +1,6 @@
 //! A package, as a stanza of a Packages file describes it.
 ghost use Rattle.std.specs.Prelude.{◌≡◌, ◌↔◌, IfOk, IsTrue};
+ghost use Rattle.dist_repo.specs.Equality.{package_eq};
 
 use dist_relation::{Atoms, Items, Name, Provides};
 use dist_version::Version;
@@ -37,10 +38,22 @@ impl Package {
             essential: self.essential,
         })
     }
+}
 
-    /// Whether two packages are equal in all fields, with names and versions as bytes.
-    pub fn is_equal(&self, other: &Package) -> bool
-        ensures { IsTrue result ↔ (self.now ≡ other.now) }
+/// Equality of all fields, with names and versions as bytes. Packages of one name and of versions that are equal in the
+/// order of versions may differ.
+impl PartialEq for Package {
+    ghost use Rattle.std.specs.Cmp.{partial_equiv_from_equiv};
+    ghost use Rattle.dist_relation.specs.Equality.{equivalence};
+    ghost use Rattle.dist_repo.specs.Equality.{package_eq, packages_decide};
+
+    ghost eq = { package_eq };
+
+    ghost laws = { partial_equiv_from_equiv (equivalence packages_decide) };
+
+    fn eq(&self, other: &Package) -> bool
+        ensures value { result ≡ package_eq self.now other.now }
+        ensures same { IsTrue result ↔ (self.now ≡ other.now) }
     {
         self.name == other.name
             && self.version == other.version
@@ -51,4 +64,11 @@ impl Package {
             && self.provides == other.provides
             && self.essential == other.essential
     }
+}
+
+impl Eq for Package {
+    ghost use Rattle.dist_relation.specs.Equality.{equivalence};
+    ghost use Rattle.dist_repo.specs.Equality.{packages_decide};
+
+    ghost laws = { equivalence packages_decide };
 }

@@ -1,22 +1,23 @@
 //! The packages of a file in order, and what can be asked of them without taking memory.
-ghost use Rattle.std.specs.Prelude.{◌≡◌, ◌<◌, ◌↔◌, ℕ, [], Some, Contains, length, slice_get, slice_index_or, IsTrue, IfOk, MatchOption};
+ghost use Rattle.std.specs.Prelude.{◌≡◌, ◌<◌, ◌^◌, ◌↔◌, ℕ, [], Some, Contains, length, slice_get, slice_index_or, IsTrue, IfOk, MatchOption};
 ghost use Rattle.std.specs.Option.{option_copied};
 ghost use Rattle.dist_relation.specs.declared.atom.Atom.{Atom};
 ghost use Rattle.dist_repo.specs.Conflict.{AreInConflict};
+ghost use Rattle.dist_repo.specs.Latest.{is_last_of_name, last_of_names};
 ghost use Rattle.dist_repo.specs.Match.{IsUsable, Matches};
 ghost use Rattle.dist_repo.specs.Order.{key_cmp, IsFlat, IsInOrder, IsNewest};
 ghost use Rattle.dist_repo.specs.PackageList.{IsAlternativeAt, IsConflictAt};
 ghost use Rattle.dist_repo.specs.Providers.{AreProviders, IsPackageAt};
 ghost use Rattle.dist_repo.specs.declared.package.Package.{Package};
 
-use crate::flat::Flat;
 use crate::key::compare;
 use crate::matching;
-use crate::names::place_of;
+use crate::names::{NameIndex, place_of};
 use crate::package::Package;
+use crate::tally::tally_of;
 use dist_relation::{Atom, Name, Qualifier};
 use dist_version::Version;
-use std::alloc::AllocError;
+use std::alloc::{AllocError, Global};
 use std::cmp::Ordering;
 use std::marker::Model;
 
@@ -25,10 +26,8 @@ use std::marker::Model;
 pub struct Repository {
     architecture: Option<Name>,
     packages: Vec<Package>,
-    /// The names that packages have or provide, in order.
-    names: Flat<u8>,
-    /// For each name the numbers of its providers.
-    numbers: Flat<u32>,
+    /// The names that packages have or provide, and the numbers of the providers of each.
+    index: NameIndex,
 }
 
 impl Model for Repository {
@@ -39,10 +38,28 @@ impl Model for Repository {
 
     ghost view = { λ r. record { architecture = r.architecture; packages = r.packages.items } };
 
-    ghost invariant = { λ r. IsRepository (record { architecture = r.architecture; packages = r.packages.items }) r.names r.numbers };
+    ghost invariant = { λ r. IsRepository (record { architecture = r.architecture; packages = r.packages.items }) r.index.names r.index.numbers };
 }
 
 impl Repository {
+    /// The repository of packages in order.
+    pub(crate) fn from_packages(
+        alloc: Global,
+        architecture: Option<Name>,
+        packages: Vec<Package>,
+    ) -> Result<Repository, AllocError>
+        requires in_order { IsInOrder packages.items }
+        requires few { length packages.items < 2 ^ 32 }
+        ensures { IfOk result (λ r. r ≡ record { architecture = architecture; packages = packages.items }) }
+    {
+        let index = tally_of(alloc, &architecture, &packages)?.flattened()?;
+        Ok(Repository {
+            architecture,
+            packages,
+            index,
+        })
+    }
+
     /// How many packages there are.
     pub fn len(&self) -> u32
         ensures value { result ≡ length self.now.packages }
@@ -83,8 +100,8 @@ impl Repository {
     pub fn providers(&self, name: &[u8]) -> &[u32]
         ensures { AreProviders self.now name.now result.now }
     {
-        match place_of(&self.names, name) {
-            Some(place) => self.numbers.get(place),
+        match place_of(&self.index.names, name) {
+            Some(place) => self.index.numbers.get(place),
             None => &[],
         }
     }
@@ -146,6 +163,36 @@ impl Repository {
         ensures flat { IfOk result (λ latest. IsFlat latest.packages) }
         ensures architecture { IfOk result (λ latest. latest.architecture ≡ self.now.architecture) }
     {
-        Err(AllocError)
+        let alloc = *self.packages.allocator();
+        let architecture = match &self.architecture {
+            Some(name) => Some(name.try_clone()?),
+            None => None,
+        };
+        Repository::from_packages(alloc, architecture, newest_of(alloc, &self.packages)?)
+    }
+}
+
+/// Copies of the last package of each name.
+fn newest_of(alloc: Global, packages: &[Package]) -> Result<Vec<Package>, AllocError>
+    ensures { IfOk result (λ newest. newest.items ≡ last_of_names packages.now) }
+{
+    let mut newest = Vec::new(alloc);
+    let mut rest = packages;
+    while let [first, others @ ..] = rest {
+        if is_last_of_name(first, others) {
+            newest.push(first.try_clone()?)?;
+        }
+        rest = others;
+    }
+    Ok(newest)
+}
+
+/// Whether the packages behind a package begin with another name, or there is none.
+fn is_last_of_name(package: &Package, others: &[Package]) -> bool
+    ensures { result ≡ is_last_of_name «package».now others.now }
+{
+    match others {
+        [next, ..] => package.name.bytes() != next.name.bytes(),
+        [] => true,
     }
 }

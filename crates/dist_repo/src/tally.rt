@@ -1,0 +1,246 @@
+//! Who provides a name, while the packages are gone through: for each name the numbers of its providers so far.
+ghost use Rattle.std.specs.Prelude.{◌≡◌, ◌≤◌, ◌<◌, ◌^◌, ◌↔◌, ℕ, List, [], All, Contains, length, IsTrue, IfOk, OnOk, OnErr};
+ghost use Rattle.std.specs.Cmp.Lexicographic.{slice_cmp};
+ghost use Rattle.std.specs.List.Sorted.{IsStrictlyIncreasing, IsStrictlySortedBy};
+ghost use Rattle.std.specs.Map.{keys_of, values_of};
+ghost use Rattle.std.specs.Ordering.{nat_cmp};
+ghost use Rattle.dist_repo.specs.Providers.{IsProvider};
+ghost use Rattle.dist_repo.specs.Tally.{numbers_at, EndsWith, IsTallyOf, Notes, NotesEach, NotesNumber};
+
+use crate::flat::Flat;
+use crate::matching::is_usable;
+use crate::names::NameIndex;
+use crate::package::Package;
+use dist_relation::Name;
+use std::alloc::{AllocError, Global};
+use std::cmp::Ordering;
+use std::collections::BTreeMap;
+use std::marker::Model;
+
+/// A name as a key, by its bytes.
+#[derive(Drop)]
+struct NameKey<'a> {
+    bytes: &'a [u8],
+}
+
+impl<'a> Model for NameKey<'a> {
+    ghost use Rattle.std.specs.Prelude.{ℕ, List};
+
+    ghost Value = { List ℕ };
+
+    ghost view = { λ key. key.bytes.now };
+}
+
+impl<'a> NameKey<'a> {
+    fn bytes(&self) -> &'a [u8]
+        ensures { result.now ≡ self.now }
+    {
+        self.bytes
+    }
+}
+
+impl Ord for NameKey<'_> {
+    ghost use Rattle.std.specs.Cmp.Lexicographic.{slice_cmp};
+    ghost use Rattle.std.specs.Ordering.{nat_cmp};
+    ghost use Rattle.std.proofs.lemmas.Cmp.{nat_list_cmp_total};
+    ghost use Rattle.std.proofs.Common.{refl};
+
+    ghost cmp = { slice_cmp nat_cmp };
+
+    ghost total = { nat_list_cmp_total };
+
+    ghost matches_partial_cmp = { λ _ _. refl };
+
+    ghost matches_eq = { λ _ _. refl };
+
+    fn cmp(&self, other: &Self) -> Ordering {
+        self.bytes.cmp(other.bytes)
+    }
+}
+
+impl PartialOrd for NameKey<'_> {
+    ghost use Rattle.std.specs.Cmp.{partial_order_from_total};
+    ghost use Rattle.std.specs.Cmp.Lexicographic.{slice_cmp};
+    ghost use Rattle.std.specs.Ordering.{as_partial_cmp, nat_cmp};
+    ghost use Rattle.std.proofs.lemmas.Cmp.{nat_list_cmp_total};
+
+    ghost partial_cmp = { as_partial_cmp (slice_cmp nat_cmp) };
+
+    ghost laws = { partial_order_from_total nat_list_cmp_total };
+
+    fn partial_cmp(&self, other: &Self) -> Option<Ordering> {
+        Some(self.cmp(other))
+    }
+}
+
+impl PartialEq for NameKey<'_> {
+    ghost use Rattle.std.specs.Cmp.{eq_by_cmp_equiv, partial_equiv_from_equiv};
+    ghost use Rattle.std.specs.Cmp.Lexicographic.{slice_cmp};
+    ghost use Rattle.std.specs.Ordering.{eq_by_cmp, nat_cmp};
+    ghost use Rattle.std.proofs.lemmas.Cmp.{nat_list_cmp_total};
+
+    ghost eq = { eq_by_cmp (slice_cmp nat_cmp) };
+
+    ghost laws = { partial_equiv_from_equiv (eq_by_cmp_equiv nat_list_cmp_total) };
+
+    fn eq(&self, other: &Self) -> bool {
+        self.cmp(other).is_eq()
+    }
+}
+
+impl Eq for NameKey<'_> {
+    ghost use Rattle.std.specs.Cmp.{eq_by_cmp_equiv};
+    ghost use Rattle.std.proofs.lemmas.Cmp.{nat_list_cmp_total};
+
+    ghost laws = { eq_by_cmp_equiv nat_list_cmp_total };
+}
+
+/// Numbers that rise.
+#[derive(Drop)]
+struct Numbers {
+    numbers: Vec<u32>,
+}
+
+impl Model for Numbers {
+    ghost use Rattle.std.specs.Prelude.{ℕ, List};
+    ghost use Rattle.std.specs.List.Sorted.{IsStrictlyIncreasing};
+
+    ghost Value = { List ℕ };
+
+    ghost view = { λ n. n.numbers.items };
+
+    ghost invariant = { λ n. IsStrictlyIncreasing n.numbers.items };
+}
+
+impl Numbers {
+    fn new(alloc: Global) -> Numbers
+        ensures { result ≡ [] }
+    {
+        Numbers {
+            numbers: Vec::new(alloc),
+        }
+    }
+
+    fn as_slice(&self) -> &[u32]
+        ensures value { result.now ≡ self.now }
+        ensures rising { IsStrictlyIncreasing self.now }
+    {
+        self.numbers.as_slice()
+    }
+
+    /// Adds a number that none of them exceeds, if it is not there.
+    fn note(&mut self, number: u32) -> Result<(), AllocError>
+        requires { (k : ℕ) → Contains self.old k → k ≤ number }
+        ensures ok { OnOk result (NotesNumber self.old self.new number) }
+        ensures err { OnErr result (self.new ≡ self.old) }
+    {
+        if ends_with(&self.numbers, number) {
+            return Ok(());
+        }
+        self.numbers.push(number)?;
+        Ok(())
+    }
+}
+
+/// Whether a number is the last one.
+fn ends_with(numbers: &[u32], number: u32) -> bool
+    ensures { IsTrue result ↔ EndsWith numbers.now number }
+{
+    match numbers {
+        [.., last] => *last == number,
+        [] => false,
+    }
+}
+
+/// For each name the numbers of its providers so far.
+#[derive(Drop)]
+pub(crate) struct Tally<'a> {
+    alloc: Global,
+    providers: BTreeMap<NameKey<'a>, Numbers>,
+}
+
+impl<'a> Model for Tally<'a> {
+    ghost use Rattle.std.specs.Prelude.{ℕ, List};
+
+    ghost Value = { List (List ℕ × List ℕ) };
+
+    ghost view = { λ tally. tally.providers.entries };
+}
+
+impl<'a> Tally<'a> {
+    pub(crate) fn new(alloc: Global) -> Tally<'a>
+        ensures { result ≡ [] }
+    {
+        Tally {
+            alloc,
+            providers: BTreeMap::new(alloc),
+        }
+    }
+
+    /// Notes that the package of a number provides a name.
+    pub(crate) fn note(&mut self, name: &'a [u8], number: u32) -> Result<(), AllocError>
+        requires { (k : ℕ) → Contains (numbers_at self.old name.now) k → k ≤ number }
+        ensures { OnOk result (Notes self.old self.new name.now number) }
+    {
+        let key = NameKey { bytes: name };
+        if let Some(numbers) = self.providers.get_mut(&key) {
+            return numbers.note(number);
+        }
+        let mut numbers = Numbers::new(self.alloc);
+        numbers.note(number)?;
+        self.providers.insert(key, numbers)?;
+        Ok(())
+    }
+
+    /// Notes the names that the package of a number has or provides.
+    pub(crate) fn note_package(
+        &mut self,
+        architecture: &Option<Name>,
+        package: &'a Package,
+        number: u32,
+    ) -> Result<(), AllocError>
+        requires { (q : List ℕ) (k : ℕ) → Contains (numbers_at self.old q) k → k ≤ number }
+        ensures { OnOk result (NotesEach self.old self.new (λ q. IsProvider architecture.now q «package».now) number) }
+    {
+        self.note(package.name.bytes(), number)?;
+        for place in 0..package.provides.len() {
+            let entry = package.provides.get(place);
+            if is_usable(architecture, &entry.qualifier) {
+                self.note(entry.name.bytes(), number)?;
+            }
+        }
+        Ok(())
+    }
+
+    /// The names, and beside each its numbers, laid flat.
+    pub(crate) fn flattened(&self) -> Result<NameIndex, AllocError>
+        ensures names { IfOk result (λ index. index.names ≡ keys_of self.now) }
+        ensures numbers { IfOk result (λ index. index.numbers ≡ values_of self.now) }
+        ensures in_order { IfOk result (λ index. IsStrictlySortedBy (slice_cmp nat_cmp) index.names) }
+        ensures rising { IfOk result (λ index. All IsStrictlyIncreasing index.numbers) }
+    {
+        let mut names = Flat::new(self.alloc);
+        let mut numbers = Flat::new(self.alloc);
+        for (key, list) in self.providers.iter() {
+            names.push(key.bytes())?;
+            numbers.push(list.as_slice())?;
+        }
+        Ok(NameIndex { names, numbers })
+    }
+}
+
+/// Who provides which name, for all packages of a list.
+pub(crate) fn tally_of<'a>(
+    alloc: Global,
+    architecture: &Option<Name>,
+    packages: &'a [Package],
+) -> Result<Tally<'a>, AllocError>
+    requires { length packages.now < 2 ^ 32 }
+    ensures { IfOk result (IsTallyOf architecture.now packages.now) }
+{
+    let mut tally = Tally::new(alloc);
+    for (number, package) in packages.iter().enumerate() {
+        tally.note_package(architecture, package, number as u32)?;
+    }
+    Ok(tally)
+}
