@@ -10,9 +10,10 @@ use Rattle.dist_relation.specs.declared.atom.Qualifier.{Qualifier}
 use Rattle.dist_relation.specs.declared.error.Problem.{Problem}
 use Rattle.dist_relation.specs.declared.error.Problem.TheVariants.{BadName, BadOp, BadVersion, Unclosed, BarNotAllowed, Trailing, OpInProvides}
 use Rattle.dist_relation.specs.Bytes.{is_space, is_operator_byte, is_word_byte, is_opening, opening, closing, comma, bar, IsBlank, Meets, Stops}
-use Rattle.dist_relation.specs.Grammar.{Head, Opened, Compared, Versioned, Bare, Closed, SpellsAtom}
-use Rattle.dist_relation.specs.Faults.{EndsHead, AfterBare, AfterClosed, AfterAtom, allows_bar, Has}
+use Rattle.dist_relation.specs.Grammar.{SpellsAtom}
+use Rattle.dist_relation.specs.Faults.{Head, Opened, Compared, Versioned, EndsHead, AfterBare, AfterClosed, AfterAtom, allows_bar, Has}
 use Rattle.dist_relation.specs.Reading.{skip}
+use Rattle.dist_relation.proofs.Flat.{Bare, Closed, flat}
 use Rattle.dist_relation.proofs.Runs.{true_both, take_while-past, take_while_all, past_stops}
 use Rattle.dist_relation.proofs.ByteFacts.{or_false, or_true}
 use Rattle.dist_relation.proofs.Heads.{HeadRead, HeadFault, head_cases}
@@ -80,7 +81,7 @@ bare_cases kind text h shut =
     let bare : Bare (h.head ++ space) h.name h.qualifier = record { head = h.head; space = space; is_head = h.is_head; blank = spaces_blank h.rest; parts = refl } in
     let parts : text ≡ h.head ++ (space ++ here) = h.parts ∙ ap (λ (t : List ℕ). h.head ++ t) (spaces_parts h.rest) in
     let after : AfterBare text here = record { head = h.head; space = space; name = h.name; qualifier = h.qualifier; is_head = h.is_head; blank = spaces_blank h.rest; parts = parts; whole_head = subst (EndsHead h.qualifier) (spaces_parts h.rest) h.ends; skipped = past_stops is_space h.rest; not_opened = shut } in
-    ended_cases kind text (h.head ++ space) here atom bare (parts ∙ sym (append_assoc h.head space here)) (inl after) (end_cases kind here)
+    ended_cases kind text (h.head ++ space) here atom (flat kind (h.head ++ space) h.name h.qualifier None bare) (parts ∙ sym (append_assoc h.head space here)) (inl after) (end_cases kind here)
 
 -- ---- the grammar's steps from a head and a text behind a parenthesis
 
@@ -158,7 +159,7 @@ module _ (kind : Kind) (text head gap name : List ℕ) (qualifier : Qualifier) (
       let after : AfterClosed kind text rest = record { versioned = versioned; space = w.space; name = name; qualifier = qualifier; bound = bound; is_versioned = v; blank = w.blank; parts = whole; skipped = w.skipped } in
       let closed : Closed kind (versioned ++ (closing ∷ w.space)) name qualifier bound = record { versioned = versioned; space = w.space; is_versioned = v; blank = w.blank; parts = refl } in
       let atom : Atom = record { name = name; qualifier = qualifier; bound = Some bound } in
-      ended_cases kind text (versioned ++ (closing ∷ w.space)) rest atom closed (whole ∙ sym (append_assoc versioned (closing ∷ w.space) rest)) (inr after) (end_cases kind rest)
+      ended_cases kind text (versioned ++ (closing ∷ w.space)) rest atom (flat kind (versioned ++ (closing ∷ w.space)) name qualifier (Some bound) closed) (whole ∙ sym (append_assoc versioned (closing ∷ w.space) rest)) (inr after) (end_cases kind rest)
 
   inner_cases : BoundRead kind inner ⊎ BoundFault kind inner → AtomRead kind text ⊎ AtomFault kind text
   inner_cases (inl b) = closed_cases b.bound b.rest b.whole

@@ -12,9 +12,10 @@ use Rattle.dist_relation.specs.declared.error.Fault.{Fault}
 use Rattle.dist_relation.specs.declared.error.Problem.{Problem}
 use Rattle.dist_relation.specs.declared.error.Problem.TheVariants.{BadName, BadOp, BadVersion, Unclosed, BarNotAllowed, Trailing, OpInProvides}
 use Rattle.dist_relation.specs.Bytes.{is_space, is_name_byte, is_operator_byte, is_word_byte, is_colon, is_opening, opening, closing, comma, bar, IsBlank, Meets, Stops}
-use Rattle.dist_relation.specs.Grammar.{SpellsOperator, Head, Opened, Compared, Versioned, SpellsAtom, SpellsBounded}
-use Rattle.dist_relation.specs.Faults.{EndsHead, AfterAtom, allows_bar, Has}
+use Rattle.dist_relation.specs.Grammar.{SpellsOperator, SpellsAtom}
+use Rattle.dist_relation.specs.Faults.{Head, Opened, Compared, Versioned, EndsHead, AfterAtom, allows_bar, Has}
 use Rattle.dist_relation.specs.Reading.{◌>>=◌, refuse, past, skip, bound_at, maybe_bound_at, end_at, atom_at}
+use Rattle.dist_relation.proofs.Flat.{SpellsBounded, in_steps}
 use Rattle.dist_relation.proofs.Runs.{both_true, past-append, take_while-past}
 use Rattle.dist_relation.proofs.ByteFacts.{or_cases, fails_at, Stops-blank, Stops-meets}
 use Rattle.dist_relation.proofs.Heads.{done, head_again, head_lacks_name, head_lacks_qualifier}
@@ -194,7 +195,7 @@ spelled_again kind a name qualifier (Some bound) r h ends =
 
 -- An atom's spelling is read as that atom, whatever an atom may end at follows.
 pub atom_again : (kind : Kind) (a : List ℕ) (atom : Atom) (r : List ℕ) → SpellsAtom kind a atom → Meets (ends_atom kind) r → atom_at kind (a ++ r) ≡ Ok (atom, r)
-atom_again kind a atom r h ends = spelled_again kind a atom.name atom.qualifier atom.bound r h ends
+atom_again kind a atom r h ends = spelled_again kind a atom.name atom.qualifier atom.bound r (in_steps kind a atom.name atom.qualifier atom.bound h) ends
 
 -- ---- what has a problem is refused for it
 

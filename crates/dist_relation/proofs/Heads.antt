@@ -10,8 +10,8 @@ use Rattle.dist_relation.specs.declared.atom.Qualifier.TheVariants.{Plain, Named
 use Rattle.dist_relation.specs.declared.error.Fault.{Fault}
 use Rattle.dist_relation.specs.declared.error.Problem.TheVariants.{BadName}
 use Rattle.dist_relation.specs.Bytes.{is_space, is_name_byte, colon, IsBlank, IsName, Stops}
-use Rattle.dist_relation.specs.Grammar.{qualifier_text, IsQualifier, Head}
-use Rattle.dist_relation.specs.Faults.{NameMissing, QualifierMissing, EndsHead}
+use Rattle.dist_relation.specs.Grammar.{qualifier_text, IsQualifier}
+use Rattle.dist_relation.specs.Faults.{Head, NameMissing, QualifierMissing, EndsHead}
 use Rattle.dist_relation.specs.Reading.{◌>>=◌, refuse, past, skip, name_at, qualifier_at, head_at}
 use Rattle.dist_relation.proofs.Runs.{true_both, take_while-append, past-append, take_while-past, take_while_all, take_while-yes, past_stops}
 use Rattle.dist_relation.proofs.ByteFacts.{or_true, name_bytes, name_starts, Stops-name}

@@ -1,5 +1,6 @@
 pub mod Runs
 pub mod ByteFacts
+pub mod Flat
 pub mod Heads
 pub mod Words
 pub mod Bounds
@@ -11,4 +12,3 @@ pub mod ThreeKinds
 pub mod Starts
 pub mod Loops
 pub mod Canon
-pub mod FaultExamples

@@ -1,5 +1,5 @@
 -- The three kinds of values: what is read is spelled, what is refused has that first fault, and each value has one answer.
-use Rattle.std.proofs.Common.{◌≡◌, ◌≢◌, ℕ, suc, ◌-◌, Bool, true, false, true≢false, ◌||◌, ◌&&◌, ◌⊎◌, inl, inr, eqb, List, [], ◌∷◌, ◌++◌, length, length-append, ◌≤◌, arith, refl, sym, ap, ◌∙◌, subst, Option, None, Some}
+use Rattle.std.proofs.Common.{◌≡◌, ◌≢◌, ℕ, suc, ◌-◌, Bool, true, false, true≢false, ◌||◌, ◌&&◌, ◌⊎◌, inl, inr, eqb, List, [], ◌∷◌, ◌++◌, length, length-append, ◌≤◌, arith, refl, sym, ap, ◌∙◌, subst, Option, None, Some, option_map}
 use Rattle.std.specs.List.{take_while}
 use Rattle.std.specs.Char.{is_ascii_alphanumeric}
 use Rattle.std.specs.Prelude.{Result, Ok, Err}
@@ -17,13 +17,14 @@ use Rattle.dist_relation.specs.declared.error.Problem.TheVariants.{BadName, BadO
 use Rattle.dist_relation.specs.declared.error.ReadError.{ReadError}
 use Rattle.dist_relation.specs.declared.error.ReadError.TheVariants as stops
 use Rattle.dist_relation.specs.declared.error.RelationError.TheVariants as errors
+use Rattle.dist_base.specs.Answers.{IsExact}
 use Rattle.dist_version.specs.declared.error.VersionError.{VersionError}
 use Rattle.dist_version.specs.TextLaws.{no_memory_fault}
 use Rattle.dist_relation.specs.declared.error.RelationError.{RelationError}
 use Rattle.dist_relation.specs.Bytes.{is_space, is_word_byte, is_comma, comma, bar, Meets}
-use Rattle.dist_relation.specs.Grammar.{allows_operator, SpellsBounded, SpellsAtom, Closed, Ended, SpellsPiece, Reads, SpellsAlternatives, atom_of, SpellsProvide}
-use Rattle.dist_relation.specs.Faults.{NameMissing, AfterAtom, Has, Comes, PassedOver, allows_bar, error_at, FirstFault, HasOneAnswer}
-use Rattle.dist_relation.specs.Reading.{◌>>=◌, Fails, FitsIn, error_in, atom_at, joined_at, alternatives_at, provide_of, provide_at, items_of}
+use Rattle.dist_relation.specs.Grammar.{allows_operator, SpellsBound, SpellsBoundOf, SpellsAtom, Ended, SpellsPiece, Reads, SpellsAlternatives, atom_of, SpellsProvide}
+use Rattle.dist_relation.specs.Faults.{NameMissing, AfterAtom, Has, Comes, PassedOver, allows_bar, error_at, FirstFault}
+use Rattle.dist_relation.specs.Reading.{version_of, ◌>>=◌, Fails, FitsIn, error_in, atom_at, joined_at, alternatives_at, provide_of, provide_at, items_of}
 use Rattle.dist_relation.proofs.ByteFacts.{or_true, or_cases, Stops-meets, fails_at}
 use Rattle.dist_relation.proofs.Heads.{done}
 use Rattle.dist_relation.proofs.AtomReading.{ends_atom, atom_again, atom_refused}
@@ -146,16 +147,32 @@ alternatives_reader =
 abbrev provided : Result (Atom × List ℕ) Fault → Result (Provide × List ℕ) Fault
 provided x = x >>= λ y. Ok (provide_of y.0, y.1)
 
-provide_bound : (front name : List ℕ) (qualifier : Qualifier) (bound : Option Bound) → SpellsBounded kinds.Provides front name qualifier bound → SpellsProvide front (provide_of (record { name = name; qualifier = qualifier; bound = bound }))
-provide_bound front name qualifier None h = h
-provide_bound front name qualifier (Some bound) h = by_op bound.op bound.version h
+-- an operator that Provides allows is `=`
+provided_bound : (bound : Option Bound) (text : List ℕ) → SpellsBoundOf kinds.Provides text bound → SpellsBoundOf kinds.Provides text (option_map (λ version. record { op = Eq; version = version }) (version_of bound))
+provided_bound None text h = h
+provided_bound (Some bound) text h = by_op bound.op bound.version h
   where
-    by_op : (op : Op) (version : List ℕ) → Closed kinds.Provides front name qualifier (record { op = op; version = version }) → Closed kinds.Provides front name qualifier (record { op = Eq; version = version })
-    by_op Lt version c = absurd (true≢false (sym c.is_versioned.is_compared.allowed))
-    by_op Le version c = absurd (true≢false (sym c.is_versioned.is_compared.allowed))
-    by_op Eq version c = c
-    by_op Ge version c = absurd (true≢false (sym c.is_versioned.is_compared.allowed))
-    by_op Gt version c = absurd (true≢false (sym c.is_versioned.is_compared.allowed))
+    by_op : (op : Op) (version : List ℕ) → SpellsBound kinds.Provides text (record { op = op; version = version }) → SpellsBound kinds.Provides text (record { op = Eq; version = version })
+    by_op Lt version b = absurd (true≢false (sym b.allowed))
+    by_op Le version b = absurd (true≢false (sym b.allowed))
+    by_op Eq version b = b
+    by_op Ge version b = absurd (true≢false (sym b.allowed))
+    by_op Gt version b = absurd (true≢false (sym b.allowed))
+
+provide_bound : (front : List ℕ) (atom : Atom) → SpellsAtom kinds.Provides front atom → SpellsProvide front (provide_of atom)
+provide_bound front atom h = record {
+  before = h.before;
+  between = h.between;
+  bound = h.bound;
+  after = h.after;
+  whole = h.whole;
+  blank_before = h.blank_before;
+  blank_between = h.blank_between;
+  blank_after = h.blank_after;
+  is_name = h.is_name;
+  is_qualifier = h.is_qualifier;
+  is_bound = provided_bound atom.bound h.bound h.is_bound;
+}
 
 provide_back : (name : List ℕ) (qualifier : Qualifier) (version : Option (List ℕ)) → provide_of (atom_of (record { name = name; qualifier = qualifier; version = version })) ≡ record { name = name; qualifier = qualifier; version = version }
 provide_back name qualifier None = refl
@@ -179,7 +196,7 @@ provide_reader =
         (ending_at (SpellsAtom kinds.Provides) (ends_atom kinds.Provides) is_comma (AtomFaulty kinds.Provides) (atom_at kinds.Provides) comma_alone (λ b h. or_true (eqb b comma) _ h) (atom_reader kinds.Provides))
 
     by_cases : (text : List ℕ) → Found (SpellsAtom kinds.Provides) is_comma text ⊎ ((fault : Fault) × ItemFaulty kinds.Provides text fault) → Found SpellsProvide is_comma text ⊎ ((fault : Fault) × ItemFaulty kinds.Provides text fault)
-    by_cases text (inl f) = inl (record { front = f.front; item = provide_of f.item; rest = f.rest; spelled = provide_bound f.front f.item.name f.item.qualifier f.item.bound f.spelled; parts = f.parts; stops = f.stops })
+    by_cases text (inl f) = inl (record { front = f.front; item = provide_of f.item; rest = f.rest; spelled = provide_bound f.front f.item f.spelled; parts = f.parts; stops = f.stops })
     by_cases text (inr f) = inr f
 
 -- ---- whole values
@@ -276,11 +293,11 @@ module _ {X : Type 0} (kind : Kind) (Spells : List ℕ → X → Type 0) (one : 
       by_cases (inl (others, h)) = let never = laws.again value others h in absurd (cc (never, e))
       by_cases (inr (other, h)) = let same : other ≡ fault = cc (laws.refused value other h, e) in subst (λ (f : Fault). FirstFault kind Spells value (placed value f)) same (first_fault value other h)
 
-  pub one_answer : (value : List ℕ) → HasOneAnswer (Reads Spells) (FirstFault kind Spells) value
+  pub one_answer : (value : List ℕ) → IsExact (Reads Spells value) (FirstFault kind Spells value)
   one_answer value =
       record {
-        answered = by_cases (laws.cases value);
-        not_both = λ items error h f. let g = fault_of_first value error f in let clash = sym (laws.again value items h) ∙ laws.refused value g.0 g.1 in absurd cc;
+        some = by_cases (laws.cases value);
+        never_both = λ items error h f. let g = fault_of_first value error f in let clash = sym (laws.again value items h) ∙ laws.refused value g.0 g.1 in absurd cc;
         one_reading = λ first second h k. cc (laws.again value first h, laws.again value second k);
         one_fault = λ first second f g.
             let a = fault_of_first value first f in
@@ -292,6 +309,10 @@ module _ {X : Type 0} (kind : Kind) (Spells : List ℕ → X → Type 0) (one : 
       by_cases : ((items : List X) × Reads Spells value items) ⊎ ((fault : Fault) × Faulty value fault) → ((items : List X) × Reads Spells value items) ⊎ ((error : RelationError) × FirstFault kind Spells value error)
       by_cases (inl h) = inl h
       by_cases (inr (fault, h)) = inr (placed value fault, first_fault value fault h)
+
+  -- which errors come
+  pub fault_comes : (value : List ℕ) (error : RelationError) → FirstFault kind Spells value error → Comes kind error
+  fault_comes value error f = subst (Comes kind) (sym f.is_error) (has_comes kind f.text f.here f.problem (length value - length f.here) f.has)
 
   -- what is left from the fault on is no more than the value
   pub value_left : (value : List ℕ) (fault : Fault) → items_of one value ≡ Err fault → fault.left ≤ length value
@@ -309,13 +330,9 @@ module _ {X : Type 0} (kind : Kind) (Spells : List ℕ → X → Type 0) (one : 
   read_fits stops.NoMemory value h = tt
   read_fits (stops.Fault fault) value h = value_left value fault h
 
-  pub read_fault : (error : ReadError) (value : List ℕ) → Fails error (items_of one value) → error_in (length value) error ≢ errors.NoMemory → FirstFault kind Spells value (error_in (length value) error)
-  read_fault stops.NoMemory value h other = absurd (other refl)
-  read_fault (stops.Fault fault) value h other = value_fault value fault h
-
-  pub read_comes : (error : ReadError) (value : List ℕ) → Fails error (items_of one value) → Comes kind (error_in (length value) error)
-  read_comes stops.NoMemory value h = tt
-  read_comes (stops.Fault fault) value h = let f = value_fault value fault h in subst (Comes kind) (sym f.is_error) (has_comes kind f.text f.here f.problem (length value - length f.here) f.has)
+  pub read_fault : (error : ReadError) (value : List ℕ) → Fails error (items_of one value) → (error_in (length value) error ≡ errors.NoMemory) ⊎ FirstFault kind Spells value (error_in (length value) error)
+  read_fault stops.NoMemory value h = inl refl
+  read_fault (stops.Fault fault) value h = inr (value_fault value fault h)
 
 -- ---- a reader leaves no more than was there
 

@@ -18,17 +18,46 @@ opening = 40
 abbrev pub closing : ℕ
 closing = 41
 
--- space, tab and line feed
+abbrev pub space : ℕ
+space = 32
+
+abbrev pub tab : ℕ
+tab = 9
+
+abbrev pub line_feed : ℕ
+line_feed = 10
+
 abbrev pub is_space : ℕ → Bool
-is_space b = b == 32 || b == 9 || b == 10
+is_space b = b == space || b == tab || b == line_feed
+
+abbrev pub plus : ℕ
+plus = 43
+
+abbrev pub hyphen : ℕ
+hyphen = 45
+
+abbrev pub dot : ℕ
+dot = 46
+
+abbrev pub underscore : ℕ
+underscore = 95
 
 -- letters, digits and + - . _
 abbrev pub is_name_byte : ℕ → Bool
-is_name_byte b = is_ascii_alphanumeric b || (b == 43 || b == 45 || b == 46 || b == 95)
+is_name_byte b = is_ascii_alphanumeric b || (b == plus || b == hyphen || b == dot || b == underscore)
+
+abbrev pub less : ℕ
+less = 60
+
+abbrev pub equals : ℕ
+equals = 61
+
+abbrev pub greater : ℕ
+greater = 62
 
 -- < = >
 abbrev pub is_operator_byte : ℕ → Bool
-is_operator_byte b = b == 60 || b == 61 || b == 62
+is_operator_byte b = b == less || b == equals || b == greater
 
 -- a version ends at white space and at ( ) , |
 abbrev pub is_word_byte : ℕ → Bool
@@ -54,6 +83,10 @@ IsBlank text = IsTrue (list_all is_space text)
 abbrev pub IsName : List ℕ → Type 0
 IsName [] = IsTrue false
 IsName (b ∷ bs) = IsTrue (is_ascii_alphanumeric b && list_all is_name_byte bs)
+
+-- What a reader of names gives: the bytes, where they are a name.
+abbrev pub ReadsName : List ℕ → List ℕ → Type 0
+ReadsName bytes name = (name ≡ bytes) × IsName bytes
 
 -- the text is at its end, or goes on with a byte that passes
 abbrev pub Meets : (ℕ → Bool) → List ℕ → Type 0

@@ -9,7 +9,8 @@ use Rattle.dist_relation.specs.declared.atom.Op.TheVariants.{Le, Eq, Ge}
 use Rattle.dist_relation.specs.declared.atom.Qualifier.TheVariants.{Plain, Named}
 use Rattle.dist_relation.specs.Bytes.{IsName}
 use Rattle.dist_relation.specs.Grammar.{SpellsOperator, SpellsAtom, ReadsDepends}
-use Rattle.dist_relation.specs.Canonical.{alternatives_text, Satisfies}
+use Rattle.dist_relation.specs.Canonical.{alternatives_text}
+use Rattle.dist_relation.specs.Satisfies.{Satisfies}
 
 -- a name begins with a letter or a digit
 name_example : IsName (codes "libstdc++6")
@@ -24,7 +25,19 @@ plain name = record { name = name; qualifier = Plain; bound = None }
 
 -- a name alone, with white space before and after it
 spelled_example : SpellsAtom kinds.Depends (codes " a ") (plain (codes "a"))
-spelled_example = record { head = codes " a"; space = codes " "; is_head = record { space = codes " "; blank = refl; is_name = refl; is_qualifier = tt; parts = refl }; blank = refl; parts = refl }
+spelled_example = record {
+  before = codes " ";
+  between = codes " ";
+  bound = [];
+  after = [];
+  whole = refl;
+  blank_before = refl;
+  blank_between = refl;
+  blank_after = refl;
+  is_name = refl;
+  is_qualifier = tt;
+  is_bound = refl;
+}
 
 -- empty items are passed over: the value `,, a ,` has one item
 commas_example : ReadsDepends (codes ",, a ,") ((plain (codes "a") ∷ []) ∷ [])

@@ -1,7 +1,8 @@
 -- The first fault of a value that is no relation, which is this project's own rule: everything before its place is a correct start by the grammar, and the value doesn't go on from there as it must.
 -- Names, operators and versions are the longest runs of their bytes, and white space is skipped: so `Stops` says that a run couldn't be longer.
-use Rattle.std.specs.Prelude.{◌≡◌, ◌≢◌, ◌⊎◌, ℕ, ◌-◌, Bool, true, false, ◌||◌, ◌==◌, List, [], ◌∷◌, ◌++◌, length, take_while, Option, Some}
+use Rattle.std.specs.Prelude.{IsTrue, ◌≡◌, ◌≢◌, ◌⊎◌, ℕ, ◌-◌, Bool, true, false, ◌||◌, ◌==◌, List, [], ◌∷◌, ◌++◌, length, take_while, Option, Some}
 use Rattle.std.specs.Char.{is_ascii_alphanumeric}
+use Rattle.dist_version.specs.Spelling.{IsVersion}
 use Rattle.dist_version.specs.Faults.{fault_of}
 use Rattle.dist_version.specs.declared.error.VersionError.{VersionError}
 use Rattle.dist_version.specs.declared.error.VersionError.TheVariants as versions
@@ -16,8 +17,48 @@ use Rattle.dist_relation.specs.declared.error.Problem.{Problem}
 use Rattle.dist_relation.specs.declared.error.Problem.TheVariants.{BadName, BadOp, BadVersion, Unclosed, BarNotAllowed, Trailing, OpInProvides}
 use Rattle.dist_relation.specs.declared.error.RelationError.{RelationError}
 use Rattle.dist_relation.specs.declared.error.RelationError.TheVariants as errors
-use Rattle.dist_relation.specs.Bytes.{is_space, is_name_byte, is_operator_byte, is_word_byte, is_comma, is_colon, is_opening, is_closing, IsBlank, Meets, Stops, colon, closing, comma, bar}
-use Rattle.dist_relation.specs.Grammar.{allows_operator, SpellsOperator, Head, Opened, Compared, Versioned, SpellsAtom, SpellsAlternatives, SpellsProvide, SpellsPiece, Ended}
+use Rattle.dist_relation.specs.Bytes.{IsName, opening, is_space, is_name_byte, is_operator_byte, is_word_byte, is_comma, is_colon, is_opening, is_closing, IsBlank, Meets, Stops, colon, closing, comma, bar}
+use Rattle.dist_relation.specs.Grammar.{qualifier_text, IsQualifier, allows_operator, SpellsOperator, SpellsAtom, SpellsAlternatives, SpellsProvide, SpellsPiece, Ended}
+
+-- ---- how far an atom came, in steps that each add to the text before
+
+-- white space, a name, and perhaps a qualifier
+pub record Head (text : List ℕ) (name : List ℕ) (qualifier : Qualifier) : Type 0 where
+  pub space : List ℕ
+  pub blank : IsBlank space
+  pub is_name : IsName name
+  pub is_qualifier : IsQualifier qualifier
+  pub parts : text ≡ space ++ (name ++ qualifier_text qualifier)
+
+-- a head, white space, an opening parenthesis, white space
+pub record Opened (text : List ℕ) (name : List ℕ) (qualifier : Qualifier) : Type 0 where
+  pub head : List ℕ
+  pub gap : List ℕ
+  pub space : List ℕ
+  pub is_head : Head head name qualifier
+  pub blank_gap : IsBlank gap
+  pub blank : IsBlank space
+  pub parts : text ≡ head ++ (gap ++ (opening ∷ space))
+
+-- the same, an operator, white space
+pub record Compared (kind : Kind) (text : List ℕ) (name : List ℕ) (qualifier : Qualifier) (op : Op) : Type 0 where
+  pub opened : List ℕ
+  pub operator : List ℕ
+  pub space : List ℕ
+  pub is_opened : Opened opened name qualifier
+  pub is_operator : SpellsOperator operator op
+  pub allowed : IsTrue (allows_operator kind op)
+  pub blank : IsBlank space
+  pub parts : text ≡ opened ++ (operator ++ space)
+
+-- the same, a version, white space
+pub record Versioned (kind : Kind) (text : List ℕ) (name : List ℕ) (qualifier : Qualifier) (bound : Bound) : Type 0 where
+  pub compared : List ℕ
+  pub space : List ℕ
+  pub is_compared : Compared kind compared name qualifier bound.op
+  pub is_version : IsVersion bound.version
+  pub blank : IsBlank space
+  pub parts : text ≡ compared ++ (bound.version ++ space)
 
 -- ---- what an atom may lack: the text is the value from the atom on, and the fault stands where `here` begins
 
@@ -45,7 +86,7 @@ pub record OperatorMissing (text here : List ℕ) : Type 0 where
   pub is_opened : Opened opened name qualifier
   pub parts : text ≡ opened ++ here
   pub skipped : Stops is_space here
-  pub missing : (op : Op) → SpellsOperator (take_while is_operator_byte here) op → ⊥
+  pub missing : (op : Op) → ¬ SpellsOperator (take_while is_operator_byte here) op
 
 -- an operator that values of this kind don't have
 pub record OperatorForbidden (kind : Kind) (text here : List ℕ) : Type 0 where
@@ -178,7 +219,7 @@ pub record FirstFault {X : Type 0} (kind : Kind) (Spells : List ℕ → X → Ty
   pub problem : Problem
   pub parts : value ≡ before ++ (alternatives ++ text)
   pub is_before : Ended comma (SpellsPiece Spells) before pieces
-  pub not_passed_over : PassedOver (alternatives ++ text) → ⊥
+  pub not_passed_over : ¬ PassedOver (alternatives ++ text)
   pub is_alternatives : Ended bar (SpellsAtom kind) alternatives atoms
   pub barred : allows_bar kind ≡ false → atoms ≡ []
   pub has : Has kind text here problem
@@ -193,13 +234,6 @@ FirstAtomsFault value error = FirstFault kinds.Conflicts (SpellsAtom kinds.Confl
 abbrev pub FirstProvidesFault : List ℕ → RelationError → Type 0
 FirstProvidesFault value error = FirstFault kinds.Provides SpellsProvide value error
 
--- A value has a reading or a first fault, and not both, and one of each at most.
-pub record HasOneAnswer {X : Type 0} (Reading : List ℕ → X → Type 0) (Fault : List ℕ → RelationError → Type 0) (value : List ℕ) : Type 0 where
-  pub answered : ((reading : X) × Reading value reading) ⊎ ((error : RelationError) × Fault value error)
-  pub not_both : (reading : X) (error : RelationError) → Reading value reading → Fault value error → ⊥
-  pub one_reading : (first second : X) → Reading value first → Reading value second → first ≡ second
-  pub one_fault : (first second : RelationError) → Fault value first → Fault value second → first ≡ second
-
 -- Which errors a value of a kind may have: a bar is allowed in dependencies, and every operator but in Provides. A version's fault is never want of memory.
 abbrev pub Comes : Kind → RelationError → Type 0
 Comes kind (errors.BadVersion place fault) = fault ≢ versions.NoMemory
@@ -210,3 +244,7 @@ Comes kind (errors.BadOp place) = Unit {0}
 Comes kind (errors.Unclosed place) = Unit {0}
 Comes kind (errors.Trailing place) = Unit {0}
 Comes kind errors.NoMemory = Unit {0}
+
+-- The only fault of bytes that are to be a name.
+abbrev pub IsNoName : List ℕ → RelationError → Type 0
+IsNoName bytes error = (error ≡ errors.BadName 0) × (¬ IsName bytes)

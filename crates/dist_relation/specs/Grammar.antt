@@ -49,69 +49,40 @@ allows_operator kinds.Provides Eq = true
 allows_operator kinds.Provides Ge = false
 allows_operator kinds.Provides Gt = false
 
--- ---- an atom, in steps that each add to the text before
+-- ---- an atom
 
--- white space, a name, and perhaps a qualifier
-pub record Head (text : List ℕ) (name : List ℕ) (qualifier : Qualifier) : Type 0 where
-  pub space : List ℕ
-  pub blank : IsBlank space
-  pub is_name : IsName name
-  pub is_qualifier : IsQualifier qualifier
-  pub parts : text ≡ space ++ (name ++ qualifier_text qualifier)
-
--- a head, white space, an opening parenthesis, white space
-pub record Opened (text : List ℕ) (name : List ℕ) (qualifier : Qualifier) : Type 0 where
-  pub head : List ℕ
-  pub gap : List ℕ
-  pub space : List ℕ
-  pub is_head : Head head name qualifier
-  pub blank_gap : IsBlank gap
-  pub blank : IsBlank space
-  pub parts : text ≡ head ++ (gap ++ (opening ∷ space))
-
--- the same, an operator, white space
-pub record Compared (kind : Kind) (text : List ℕ) (name : List ℕ) (qualifier : Qualifier) (op : Op) : Type 0 where
-  pub opened : List ℕ
+-- a bound: in parentheses an operator and a version, with white space round each
+pub record SpellsBound (kind : Kind) (text : List ℕ) (bound : Bound) : Type 0 where
+  pub before : List ℕ
   pub operator : List ℕ
-  pub space : List ℕ
-  pub is_opened : Opened opened name qualifier
-  pub is_operator : SpellsOperator operator op
-  pub allowed : IsTrue (allows_operator kind op)
-  pub blank : IsBlank space
-  pub parts : text ≡ opened ++ (operator ++ space)
-
--- the same, a version, white space
-pub record Versioned (kind : Kind) (text : List ℕ) (name : List ℕ) (qualifier : Qualifier) (bound : Bound) : Type 0 where
-  pub compared : List ℕ
-  pub space : List ℕ
-  pub is_compared : Compared kind compared name qualifier bound.op
+  pub between : List ℕ
+  pub after : List ℕ
+  pub whole : text ≡ opening ∷ (before ++ (operator ++ (between ++ (bound.version ++ (after ++ closing ∷ [])))))
+  pub blank_before : IsBlank before
+  pub blank_between : IsBlank between
+  pub blank_after : IsBlank after
+  pub is_operator : SpellsOperator operator bound.op
+  pub allowed : IsTrue (allows_operator kind bound.op)
   pub is_version : IsVersion bound.version
-  pub blank : IsBlank space
-  pub parts : text ≡ compared ++ (bound.version ++ space)
 
--- an atom without a bound is a head and white space
-pub record Bare (text : List ℕ) (name : List ℕ) (qualifier : Qualifier) : Type 0 where
-  pub head : List ℕ
-  pub space : List ℕ
-  pub is_head : Head head name qualifier
-  pub blank : IsBlank space
-  pub parts : text ≡ head ++ space
+-- no text, where there is no bound
+abbrev pub SpellsBoundOf : Kind → List ℕ → Option Bound → Type 0
+SpellsBoundOf kind text None = text ≡ []
+SpellsBoundOf kind text (Some bound) = SpellsBound kind text bound
 
--- an atom with a bound goes on after the version with a closing parenthesis and white space
-pub record Closed (kind : Kind) (text : List ℕ) (name : List ℕ) (qualifier : Qualifier) (bound : Bound) : Type 0 where
-  pub versioned : List ℕ
-  pub space : List ℕ
-  pub is_versioned : Versioned kind versioned name qualifier bound
-  pub blank : IsBlank space
-  pub parts : text ≡ versioned ++ (closing ∷ space)
-
-abbrev pub SpellsBounded : Kind → List ℕ → List ℕ → Qualifier → Option Bound → Type 0
-SpellsBounded kind text name qualifier None = Bare text name qualifier
-SpellsBounded kind text name qualifier (Some bound) = Closed kind text name qualifier bound
-
--- The text spells the atom, in a value of this kind.
-abbrev pub SpellsAtom : Kind → List ℕ → Atom → Type 0
-SpellsAtom kind text atom = SpellsBounded kind text atom.name atom.qualifier atom.bound
+-- The text spells the atom, in a value of this kind: a name, perhaps a qualifier, and perhaps a bound, with white space round them.
+pub record SpellsAtom (kind : Kind) (text : List ℕ) (atom : Atom) : Type 0 where
+  pub before : List ℕ
+  pub between : List ℕ
+  pub bound : List ℕ
+  pub after : List ℕ
+  pub whole : text ≡ before ++ (atom.name ++ (qualifier_text atom.qualifier ++ (between ++ (bound ++ after))))
+  pub blank_before : IsBlank before
+  pub blank_between : IsBlank between
+  pub blank_after : IsBlank after
+  pub is_name : IsName atom.name
+  pub is_qualifier : IsQualifier atom.qualifier
+  pub is_bound : SpellsBoundOf kind bound atom.bound
 
 -- ---- items and values
 

@@ -3,6 +3,8 @@ pub mod Grammar
 pub mod Faults
 pub mod Reading
 pub mod Canonical
+pub mod Satisfies
 pub mod Equality
 pub mod Written
 pub mod Examples
+pub mod FaultExamples

@@ -1,6 +1,6 @@
 //! Atoms of relations, and entries of Provides.
 ghost use Rattle.std.specs.Prelude.{◌≡◌, ◌↔◌, IsTrue, IfOk};
-ghost use Rattle.dist_relation.specs.Canonical.{Satisfies};
+ghost use Rattle.dist_relation.specs.Satisfies.{Satisfies};
 ghost use Rattle.dist_relation.specs.Equality.{op_eq, qualifier_eq, bound_eq, atom_eq, provide_eq};
 ghost use Rattle.dist_relation.specs.Grammar.{allows_operator};
 ghost use Rattle.dist_relation.specs.Faults.{allows_bar};
@@ -58,6 +58,7 @@ pub(crate) enum Kind {
 }
 
 impl Kind {
+    /// Whether values of this kind have the operator.
     pub(crate) fn allows(self, op: Op) -> bool
         ensures { result ≡ allows_operator self op }
     {
@@ -67,6 +68,7 @@ impl Kind {
         }
     }
 
+    /// Whether values of this kind have alternatives.
     pub(crate) fn allows_bar(self) -> bool
         ensures { result ≡ allows_bar self }
     {
@@ -89,6 +91,7 @@ pub fn satisfies(version: &Version, bound: &Bound) -> bool
 }
 
 impl Bound {
+    /// The same, with memory of its own.
     fn copy(&self) -> Result<Bound, AllocError>
         ensures { IfOk result (λ bound. bound ≡ self.now) }
     {
@@ -100,6 +103,7 @@ impl Bound {
 }
 
 impl Qualifier {
+    /// The same, with memory of its own.
     fn copy(&self) -> Result<Qualifier, AllocError>
         ensures { IfOk result (λ qualifier. qualifier ≡ self.now) }
     {
@@ -111,6 +115,7 @@ impl Qualifier {
 }
 
 impl Atom {
+    /// The same, with memory of its own.
     pub(crate) fn copy(&self) -> Result<Atom, AllocError>
         ensures { IfOk result (λ atom. atom ≡ self.now) }
     {
@@ -127,6 +132,7 @@ impl Atom {
 }
 
 impl Provide {
+    /// The same, with memory of its own.
     pub(crate) fn copy(&self) -> Result<Provide, AllocError>
         ensures { IfOk result (λ provide. provide ≡ self.now) }
     {
@@ -144,8 +150,7 @@ impl Provide {
 
 impl PartialEq for Op {
     ghost use Rattle.std.specs.Cmp.{partial_equiv_from_equiv};
-    ghost use Rattle.dist_relation.specs.Equality.{op_eq};
-    ghost use Rattle.dist_relation.specs.Equality.{equivalence, op_decides};
+    ghost use Rattle.dist_relation.specs.Equality.{op_eq, equivalence, op_decides};
 
     ghost eq = { op_eq };
 
@@ -174,8 +179,7 @@ impl Eq for Op {
 
 impl PartialEq for Bound {
     ghost use Rattle.std.specs.Cmp.{partial_equiv_from_equiv};
-    ghost use Rattle.dist_relation.specs.Equality.{bound_eq};
-    ghost use Rattle.dist_relation.specs.Equality.{equivalence, bound_decides};
+    ghost use Rattle.dist_relation.specs.Equality.{bound_eq, equivalence, bound_decides};
 
     ghost eq = { bound_eq };
 
@@ -197,8 +201,7 @@ impl Eq for Bound {
 
 impl PartialEq for Qualifier {
     ghost use Rattle.std.specs.Cmp.{partial_equiv_from_equiv};
-    ghost use Rattle.dist_relation.specs.Equality.{qualifier_eq};
-    ghost use Rattle.dist_relation.specs.Equality.{equivalence, qualifier_decides};
+    ghost use Rattle.dist_relation.specs.Equality.{qualifier_eq, equivalence, qualifier_decides};
 
     ghost eq = { qualifier_eq };
 
@@ -224,8 +227,7 @@ impl Eq for Qualifier {
 
 impl PartialEq for Atom {
     ghost use Rattle.std.specs.Cmp.{partial_equiv_from_equiv};
-    ghost use Rattle.dist_relation.specs.Equality.{atom_eq};
-    ghost use Rattle.dist_relation.specs.Equality.{equivalence, atom_decides};
+    ghost use Rattle.dist_relation.specs.Equality.{atom_eq, equivalence, atom_decides};
 
     ghost eq = { atom_eq };
 
@@ -247,8 +249,7 @@ impl Eq for Atom {
 
 impl PartialEq for Provide {
     ghost use Rattle.std.specs.Cmp.{partial_equiv_from_equiv};
-    ghost use Rattle.dist_relation.specs.Equality.{provide_eq};
-    ghost use Rattle.dist_relation.specs.Equality.{equivalence, provide_decides};
+    ghost use Rattle.dist_relation.specs.Equality.{provide_eq, equivalence, provide_decides};
 
     ghost eq = { provide_eq };
 

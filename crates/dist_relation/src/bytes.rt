@@ -4,30 +4,35 @@ ghost use Rattle.std.specs.List.{list_all};
 ghost use Rattle.dist_relation.specs.Bytes.{is_space, is_name_byte, is_operator_byte, is_word_byte, IsName, Stops};
 ghost use Rattle.dist_relation.specs.Reading.{past, skip};
 
+/// Whether the byte is white space.
 fn is_space(byte: u8) -> bool
     ensures { result ≡ is_space byte }
 {
     matches!(byte, b' ' | b'\t' | b'\n')
 }
 
+/// Whether a name may have the byte behind its first one.
 fn is_name_byte(byte: u8) -> bool
     ensures { result ≡ is_name_byte byte }
 {
     byte.is_ascii_alphanumeric() || matches!(byte, b'+' | b'-' | b'.' | b'_')
 }
 
+/// Whether an operator may have the byte.
 fn is_operator_byte(byte: u8) -> bool
     ensures { result ≡ is_operator_byte byte }
 {
     matches!(byte, b'<' | b'=' | b'>')
 }
 
+/// Whether the byte does not end a version.
 fn is_word_byte(byte: u8) -> bool
     ensures { result ≡ is_word_byte byte }
 {
     !is_space(byte) && !matches!(byte, b'(' | b')' | b',' | b'|')
 }
 
+/// Whether a name may have all these bytes behind its first one.
 fn are_name_bytes(bytes: &[u8]) -> bool
     ensures { result ≡ list_all is_name_byte bytes.now }
 {
@@ -44,18 +49,21 @@ pub(crate) fn is_name(bytes: &[u8]) -> bool
     }
 }
 
+/// How many bytes of white space stand at the start.
 fn space_length(text: &[u8]) -> usize
     ensures { result ≡ length (take_while is_space text.now) }
 {
     text.iter().take_while(|byte| is_space(**byte)).count()
 }
 
+/// How many bytes of a name stand at the start.
 fn name_length(text: &[u8]) -> usize
     ensures { result ≡ length (take_while is_name_byte text.now) }
 {
     text.iter().take_while(|byte| is_name_byte(**byte)).count()
 }
 
+/// How many bytes of an operator stand at the start.
 fn operator_length(text: &[u8]) -> usize
     ensures { result ≡ length (take_while is_operator_byte text.now) }
 {
@@ -64,6 +72,7 @@ fn operator_length(text: &[u8]) -> usize
         .count()
 }
 
+/// How many bytes that do not end a version stand at the start.
 fn word_length(text: &[u8]) -> usize
     ensures { result ≡ length (take_while is_word_byte text.now) }
 {

@@ -75,6 +75,7 @@ pub(crate) enum ReadError {
 }
 
 impl Problem {
+    /// The error of this problem at a place.
     fn at(self, place: usize) -> RelationError
         ensures { result ≡ error_at self place }
     {

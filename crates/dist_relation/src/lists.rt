@@ -1,6 +1,5 @@
 //! Lists of what relations have, each over a `Vec`.
-ghost use Rattle.std.specs.Prelude.{◌≡◌, ◌<◌, ◌++◌, ℕ, List, length, slice_get, IfOk, OnOk, OnErr};
-ghost use Rattle.std.specs.Prelude.{◌↔◌, IsTrue};
+ghost use Rattle.std.specs.Prelude.{◌≡◌, ◌↔◌, ◌<◌, ◌++◌, ℕ, List, IsTrue, length, slice_get, IfOk, OnOk, OnErr};
 ghost use Rattle.std.specs.Cmp.Lexicographic.{pointwise};
 ghost use Rattle.dist_relation.specs.Equality.{atom_eq, provide_eq};
 
@@ -26,6 +25,7 @@ impl Model for Alternatives {
 }
 
 impl Alternatives {
+    /// The item of these atoms.
     pub(crate) fn from_atoms(atoms: Vec<Atom>) -> Alternatives
         requires { 0 < length atoms.items }
         ensures { result ≡ atoms.items }
@@ -33,6 +33,7 @@ impl Alternatives {
         Alternatives { atoms }
     }
 
+    /// All of them.
     pub(crate) fn atoms(&self) -> &[Atom]
         ensures value { result.now ≡ self.now }
         ensures some { 0 < length self.now }
@@ -48,6 +49,7 @@ impl Alternatives {
         self.atoms.len()
     }
 
+    /// The one at a place, from 0.
     pub fn get(&self, place: usize) -> &Atom
         requires { place < length self.now }
         ensures { slice_get self.now place ≡ Some result.now }
@@ -81,18 +83,21 @@ impl Model for Items {
 }
 
 impl Items {
+    /// The list of these.
     pub(crate) fn from_vec(items: Vec<Alternatives>) -> Items
         ensures { result ≡ items.items }
     {
         Items { items }
     }
 
+    /// How many there are.
     pub fn len(&self) -> usize
         ensures { result ≡ length self.now }
     {
         self.items.len()
     }
 
+    /// The one at a place, from 0.
     pub fn get(&self, place: usize) -> &Alternatives
         requires { place < length self.now }
         ensures { slice_get self.now place ≡ Some result.now }
@@ -137,18 +142,21 @@ impl Model for Atoms {
 }
 
 impl Atoms {
+    /// The list of these.
     pub(crate) fn from_vec(atoms: Vec<Atom>) -> Atoms
         ensures { result ≡ atoms.items }
     {
         Atoms { atoms }
     }
 
+    /// How many there are.
     pub fn len(&self) -> usize
         ensures { result ≡ length self.now }
     {
         self.atoms.len()
     }
 
+    /// The one at a place, from 0.
     pub fn get(&self, place: usize) -> &Atom
         requires { place < length self.now }
         ensures { slice_get self.now place ≡ Some result.now }
@@ -191,18 +199,21 @@ impl Model for Provides {
 }
 
 impl Provides {
+    /// The list of these.
     pub(crate) fn from_vec(provides: Vec<Provide>) -> Provides
         ensures { result ≡ provides.items }
     {
         Provides { provides }
     }
 
+    /// How many there are.
     pub fn len(&self) -> usize
         ensures { result ≡ length self.now }
     {
         self.provides.len()
     }
 
+    /// The one at a place, from 0.
     pub fn get(&self, place: usize) -> &Provide
         requires { place < length self.now }
         ensures { slice_get self.now place ≡ Some result.now }
@@ -223,6 +234,7 @@ impl Provides {
     }
 }
 
+/// The same atoms, with memory of their own.
 fn clone_atoms(atoms: &Vec<Atom>) -> Result<Vec<Atom>, AllocError>
     ensures { IfOk result (λ copies. copies.items ≡ atoms.now.items) }
 {
@@ -237,8 +249,7 @@ fn clone_atoms(atoms: &Vec<Atom>) -> Result<Vec<Atom>, AllocError>
 impl PartialEq for Alternatives {
     ghost use Rattle.std.specs.Cmp.{partial_equiv_from_equiv};
     ghost use Rattle.std.specs.Cmp.Lexicographic.{pointwise};
-    ghost use Rattle.dist_relation.specs.Equality.{atom_eq};
-    ghost use Rattle.dist_relation.specs.Equality.{equivalence, atoms_decide};
+    ghost use Rattle.dist_relation.specs.Equality.{atom_eq, equivalence, atoms_decide};
 
     ghost eq = { pointwise atom_eq };
 
@@ -261,8 +272,7 @@ impl Eq for Alternatives {
 impl PartialEq for Items {
     ghost use Rattle.std.specs.Cmp.{partial_equiv_from_equiv};
     ghost use Rattle.std.specs.Cmp.Lexicographic.{pointwise};
-    ghost use Rattle.dist_relation.specs.Equality.{atom_eq};
-    ghost use Rattle.dist_relation.specs.Equality.{equivalence, items_decide};
+    ghost use Rattle.dist_relation.specs.Equality.{atom_eq, equivalence, items_decide};
 
     ghost eq = { pointwise (pointwise atom_eq) };
 
@@ -285,8 +295,7 @@ impl Eq for Items {
 impl PartialEq for Atoms {
     ghost use Rattle.std.specs.Cmp.{partial_equiv_from_equiv};
     ghost use Rattle.std.specs.Cmp.Lexicographic.{pointwise};
-    ghost use Rattle.dist_relation.specs.Equality.{atom_eq};
-    ghost use Rattle.dist_relation.specs.Equality.{equivalence, atoms_decide};
+    ghost use Rattle.dist_relation.specs.Equality.{atom_eq, equivalence, atoms_decide};
 
     ghost eq = { pointwise atom_eq };
 
@@ -309,8 +318,7 @@ impl Eq for Atoms {
 impl PartialEq for Provides {
     ghost use Rattle.std.specs.Cmp.{partial_equiv_from_equiv};
     ghost use Rattle.std.specs.Cmp.Lexicographic.{pointwise};
-    ghost use Rattle.dist_relation.specs.Equality.{provide_eq};
-    ghost use Rattle.dist_relation.specs.Equality.{equivalence, provides_decide};
+    ghost use Rattle.dist_relation.specs.Equality.{provide_eq, equivalence, provides_decide};
 
     ghost eq = { pointwise provide_eq };
 

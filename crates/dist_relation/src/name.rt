@@ -1,6 +1,8 @@
 //! Names of packages and of qualifiers.
-ghost use Rattle.std.specs.Prelude.{◌≡◌, ◌≢◌, ◌↔◌, ℕ, List, IsTrue, IfOk, IfErr, OnOk, bytes_eq};
-ghost use Rattle.dist_relation.specs.Bytes.{IsName};
+ghost use Rattle.std.specs.Prelude.{◌≡◌, ◌↔◌, ℕ, List, IsTrue, IfOk, bytes_eq};
+ghost use Rattle.dist_base.specs.Answers.{Answers};
+ghost use Rattle.dist_relation.specs.Bytes.{IsName, ReadsName};
+ghost use Rattle.dist_relation.specs.Faults.{IsNoName};
 
 use crate::bytes::is_name;
 use crate::error::RelationError;
@@ -27,12 +29,7 @@ impl Model for Name {
 impl Name {
     /// Reads a name from exactly these bytes.
     pub fn read(alloc: Global, bytes: &[u8]) -> Result<Name, RelationError>
-        ensures kept { IfOk result (λ name. name ≡ bytes.now) }
-
-        // Bytes that are a name are accepted and others refused, unless memory runs out.
-        ensures name { OnOk result (IsName bytes.now) }
-        ensures no_name { IfErr result (λ error. error ≢ RelationError.NoMemory → IsName bytes.now → ⊥) }
-        ensures place { IfErr result (λ error. error ≢ RelationError.NoMemory → error ≡ RelationError.BadName 0) }
+        ensures { Answers (ReadsName bytes.now) (IsNoName bytes.now) RelationError.NoMemory result }
     {
         if !is_name(bytes) {
             return Err(RelationError::BadName(0));

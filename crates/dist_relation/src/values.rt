@@ -1,9 +1,10 @@
 //! Whole values: entries with commas between them.
-ghost use Rattle.std.specs.Prelude.{◌≡◌, ◌≢◌, ◌++◌, ℕ, List, Result, OnOk, IfOk, IfErr};
+ghost use Rattle.std.specs.Prelude.{◌≡◌, ◌++◌, ℕ, List, Result, OnOk};
 ghost use Rattle.std.specs.Option.{option_to_list};
+ghost use Rattle.dist_base.specs.Answers.{Answers};
 ghost use Rattle.dist_relation.specs.declared.error.Fault.{Fault};
 ghost use Rattle.dist_relation.specs.Grammar.{ReadsDepends, ReadsAtoms, ReadsProvides};
-ghost use Rattle.dist_relation.specs.Faults.{FirstDependsFault, FirstAtomsFault, FirstProvidesFault, HasOneAnswer, Comes};
+ghost use Rattle.dist_relation.specs.Faults.{FirstDependsFault, FirstAtomsFault, FirstProvidesFault};
 ghost use Rattle.dist_relation.specs.Reading.{Gives, Shortens, alternatives_at, provide_at, piece_at, items_of};
 
 use crate::atom::{Atom, Kind, Provide};
@@ -131,12 +132,7 @@ impl Entry for Provide {
 
 /// Reads the value of a Depends or Pre-Depends field: alternatives with commas between them (Debian Policy 7.1).
 pub fn read_depends(alloc: Global, value: &[u8]) -> Result<Items, RelationError>
-    ensures reads { IfOk result (ReadsDepends value.now) }
-    ensures fault { IfErr result (λ error. error ≢ RelationError.NoMemory → FirstDependsFault value.now error) }
-
-    // Each text has one reading or one first fault, and not both.
-    ensures one { (text : List ℕ) → HasOneAnswer ReadsDepends FirstDependsFault text }
-    ensures kind { IfErr result (Comes Kind.Depends) }
+    ensures { Answers (ReadsDepends value.now) (FirstDependsFault value.now) RelationError.NoMemory result }
 {
     match entries_of::<Alternatives>(alloc, value) {
         Ok(entries) => Ok(Items::from_vec(entries)),
@@ -146,12 +142,7 @@ pub fn read_depends(alloc: Global, value: &[u8]) -> Result<Items, RelationError>
 
 /// Reads the value of a Conflicts or Breaks field: atoms with commas between them.
 pub fn read_atoms(alloc: Global, value: &[u8]) -> Result<Atoms, RelationError>
-    ensures reads { IfOk result (ReadsAtoms value.now) }
-    ensures fault { IfErr result (λ error. error ≢ RelationError.NoMemory → FirstAtomsFault value.now error) }
-
-    // Each text has one reading or one first fault, and not both.
-    ensures one { (text : List ℕ) → HasOneAnswer ReadsAtoms FirstAtomsFault text }
-    ensures kind { IfErr result (Comes Kind.Conflicts) }
+    ensures { Answers (ReadsAtoms value.now) (FirstAtomsFault value.now) RelationError.NoMemory result }
 {
     match entries_of::<Atom>(alloc, value) {
         Ok(entries) => Ok(Atoms::from_vec(entries)),
@@ -161,12 +152,7 @@ pub fn read_atoms(alloc: Global, value: &[u8]) -> Result<Atoms, RelationError>
 
 /// Reads the value of a Provides field: names with commas between them, each perhaps with a version behind `=`.
 pub fn read_provides(alloc: Global, value: &[u8]) -> Result<Provides, RelationError>
-    ensures reads { IfOk result (ReadsProvides value.now) }
-    ensures fault { IfErr result (λ error. error ≢ RelationError.NoMemory → FirstProvidesFault value.now error) }
-
-    // Each text has one reading or one first fault, and not both.
-    ensures one { (text : List ℕ) → HasOneAnswer ReadsProvides FirstProvidesFault text }
-    ensures kind { IfErr result (Comes Kind.Provides) }
+    ensures { Answers (ReadsProvides value.now) (FirstProvidesFault value.now) RelationError.NoMemory result }
 {
     match entries_of::<Provide>(alloc, value) {
         Ok(entries) => Ok(Provides::from_vec(entries)),

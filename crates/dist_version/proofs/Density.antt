@@ -318,7 +318,7 @@ below_step part other n further e less room =
     part_cmp-turn (extended part n) other
     ∙ ap₂ (λ (s : List ℕ) (k : ℕ). ordering_then (weights_cmp (map weight_of s) (text_weights other)) (ordering_then (nat_cmp k (number_of other)) (part_cmp (after_turn (extended part n)) (after_turn other)))) e.text e.number
     ∙ then_keeps (weights_cmp (text_weights part) (text_weights other)) (nat_cmp (number_of part) (number_of other)) (part_cmp (after_turn part) (after_turn other)) (part_cmp (after_turn (extended part n)) (after_turn other))
-        (rests e.rest) (sym (part_cmp-turn part other) ∙ less)
+    (rests e.rest) (sym (part_cmp-turn part other) ∙ less)
   where
     shorter : length (after_turn other) ≤ n
     shorter = omega (arith, room, after_turn-shorter_by_one other)
@@ -416,7 +416,7 @@ below_greater text other n sound less size =
     let order : Parts → Ordering = λ p. ordering_then (nat_cmp p.epoch (epoch_of other)) (ordering_then (part_cmp p.upstream (upstream_of other)) (part_cmp (unwrap_or p.revision []) s)) in
     version_cmp-parts (above_text text n) other ∙ ap order (sym e)
     ∙ then_keeps (nat_cmp (epoch_of text) (epoch_of other)) (part_cmp (upstream_of text) (upstream_of other)) (part_cmp r s) (part_cmp (extended r n) s)
-        (λ h. part_below r s n h (omega (arith, size, length-revision other))) (sym (version_cmp-parts text other) ∙ less)
+    (λ h. part_below r s n h (omega (arith, size, length-revision other))) (sym (version_cmp-parts text other) ∙ less)
 
 -- ---- tildes alone
 

@@ -17,8 +17,7 @@ pub fn texts_are_exact()
     ensures versions { (text : List ℕ) → (fault_of text ≡ None) ↔ IsVersion text }
     ensures one { (text : List ℕ) (version : Parts) → Spells text version → version ≡ parts_of text }
     ensures memory { (text : List ℕ) → ¬ HasFault text NoMemory }
-{
-}
+{}
 
 /// Of two upstream versions or revisions the first difference of their weights decides, with zeros past the end.
 pub fn weights_decide()
@@ -27,24 +26,20 @@ pub fn weights_decide()
     // The weights of a part that is not empty are those of its text, then 0, its number, and the weights of what is left.
     ensures empty { weights_of [] ≡ [] }
     ensures turn { (part : List ℕ) → 0 < length part → weights_of part ≡ map weight_of (text_start part) ++ (pos 0 ∷ (pos (number_of part) ∷ weights_of (after_turn part))) }
-{
-}
+{}
 
 /// The order of versions is total and transitive, and versions that are equal compare alike with every other.
 pub fn order_is_total()
     ensures { IsTotalOrder version_cmp }
-{
-}
+{}
 
 /// Versions are equal exactly where neither is below the other.
 pub fn equal_is_neither_below()
     ensures { (a b : List ℕ) → (version_cmp a b ≡ Equal) ↔ ((¬ IsBelow a b) × (¬ IsBelow b a)) }
-{
-}
+{}
 
 /// The suffix of a rebuild is taken off, and nothing else is.
 pub fn rebuilds_are_taken_off()
     ensures taken { (text base : List ℕ) → IsRebuildOf text base → without_rebuild_text text ≡ base }
     ensures only { (text : List ℕ) → (without_rebuild_text text ≡ text) ⊎ IsRebuildOf text (without_rebuild_text text) }
-{
-}
+{}

@@ -16,7 +16,9 @@ mod order;
 mod reading;
 
 pub use error::VersionError;
-pub use laws::{equal_is_neither_below, order_is_total, rebuilds_are_taken_off, texts_are_exact, weights_decide};
+pub use laws::{
+    equal_is_neither_below, order_is_total, rebuilds_are_taken_off, texts_are_exact, weights_decide,
+};
 use order::compare_parts;
 use reading::{Places, places_of};
 use std::alloc::{AllocError, Global};
@@ -97,6 +99,7 @@ impl Version {
         }
     }
 
+    /// The order by epoch, upstream version and revision, where a missing revision is an empty part.
     fn compare_by_parts(&self, other: &Version) -> Ordering
         ensures { result ≡ version_cmp self.now other.now }
     {

@@ -34,6 +34,7 @@ fn digits_len(part: &[u8]) -> usize
     part.iter().take_while(|byte| byte.is_ascii_digit()).count()
 }
 
+/// What a part begins with: its bytes before the first digit, and the digits after them.
 fn next_turn(part: &[u8]) -> Turn<'_>
     ensures text { result.text.now ≡ text_start part.now }
     ensures digits { result.digits.now ≡ digit_start (after_text part.now) }
@@ -66,6 +67,7 @@ fn weight_in(text: &[u8], place: usize) -> i16
     }
 }
 
+/// Compares two starts without digits by the weights of their bytes.
 fn compare_texts(a: &[u8], b: &[u8]) -> Ordering
     ensures { result ≡ weights_cmp (map weight_of a.now) (map weight_of b.now) }
 {
@@ -86,6 +88,7 @@ fn zeros_len(digits: &[u8]) -> usize
     digits.iter().take_while(|digit| **digit == b'0').count()
 }
 
+/// The digits without the zeros that they begin with.
 fn without_zeros(digits: &[u8]) -> &[u8]
     ensures { result.now ≡ drop (prefix_len (λ digit. digit == 48) digits.now) digits.now }
 {
@@ -107,6 +110,7 @@ fn compare_digits(a: &[u8], b: &[u8]) -> Ordering
     a.cmp(&b)
 }
 
+/// Compares two turns: their texts, and then their numbers.
 fn compare_turns(a: &Turn, b: &Turn) -> Ordering
     requires a { IsTrue (list_all is_ascii_digit a.now.digits.now) }
     requires b { IsTrue (list_all is_ascii_digit b.now.digits.now) }

@@ -20,6 +20,7 @@ pub(crate) struct Places {
     pub(crate) end: usize,
 }
 
+/// What stands before and after the first such byte.
 fn split_once(bytes: &[u8], byte: u8) -> Option<(&[u8], &[u8])>
     ensures { option_map (λ s. (s.0.now, s.1.now)) result ≡ split_once byte bytes.now }
 {
@@ -27,6 +28,7 @@ fn split_once(bytes: &[u8], byte: u8) -> Option<(&[u8], &[u8])>
     Some((&bytes[..at], &bytes[at + 1..]))
 }
 
+/// What stands before and after the last such byte.
 pub(crate) fn rsplit_once(bytes: &[u8], byte: u8) -> Option<(&[u8], &[u8])>
     ensures { option_map (λ s. (s.0.now, s.1.now)) result ≡ rsplit_once byte bytes.now }
 {
@@ -34,30 +36,35 @@ pub(crate) fn rsplit_once(bytes: &[u8], byte: u8) -> Option<(&[u8], &[u8])>
     Some((&bytes[..at], &bytes[at + 1..]))
 }
 
+/// Whether an upstream version may have the byte.
 fn is_upstream_byte(byte: u8) -> bool
     ensures { result ≡ is_upstream_byte byte }
 {
     byte.is_ascii_alphanumeric() || matches!(byte, b'.' | b'+' | b'-' | b'~' | b':')
 }
 
+/// Whether a revision may have the byte.
 fn is_revision_byte(byte: u8) -> bool
     ensures { result ≡ is_revision_byte byte }
 {
     byte.is_ascii_alphanumeric() || matches!(byte, b'.' | b'+' | b'~')
 }
 
+/// The place of the first byte that an upstream version may not have.
 fn bad_upstream_byte(upstream: &[u8]) -> Option<usize>
     ensures { result ≡ position (λ byte. not (is_upstream_byte byte)) upstream.now }
 {
     upstream.iter().position(|byte| !is_upstream_byte(*byte))
 }
 
+/// The place of the first byte that a revision may not have.
 fn bad_revision_byte(revision: &[u8]) -> Option<usize>
     ensures { result ≡ position (λ byte. not (is_revision_byte byte)) revision.now }
 {
     revision.iter().position(|byte| !is_revision_byte(*byte))
 }
 
+/// Whether all bytes are digits.
 pub(crate) fn are_digits(bytes: &[u8]) -> bool
     ensures { result ≡ list_all is_ascii_digit bytes.now }
 {

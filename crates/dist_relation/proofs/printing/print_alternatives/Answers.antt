@@ -2,7 +2,7 @@ use Rattle.std.proofs.Common.{◌≡◌, ◌<◌, List, [], length, ap, subst, a
 use Rattle.std.proofs.lemmas.Result.{on_ok_weaker}
 use Rattle.dist_relation.specs.declared.atom.Atom.{Atom}
 use Rattle.dist_relation.specs.Written.{AreAtoms}
-use Rattle.dist_relation.proofs.Canon.{canonical_reads, canonical_only}
+use Rattle.dist_relation.proofs.Canon.{canonical_reads}
 use Rattle.dist_relation.proofs.printing.print_alternatives.Goals as goal
 
 some_atom : (atoms : List Atom) → 0 < length atoms → atoms ≡ [] → ⊥
@@ -11,7 +11,3 @@ some_atom atoms long e = omega (arith, long, ap length e)
 pub returns-else-is_err-clause-reads : goal.returns-else-is_err-clause-reads
 returns-else-is_err-clause-reads c =
     on_ok_weaker c.print_atoms-printed.result (λ valid. canonical_reads c.args.item.now (subst AreAtoms c.atoms.ensures.value valid) (some_atom c.args.item.now c.atoms.ensures.some)) c.print_atoms-printed.ensures.valid
-
-pub returns-else-is_err-clause-only : goal.returns-else-is_err-clause-only
-returns-else-is_err-clause-only c =
-    on_ok_weaker c.print_atoms-printed.result (λ valid. canonical_only c.args.item.now (subst AreAtoms c.atoms.ensures.value valid) (some_atom c.args.item.now c.atoms.ensures.some)) c.print_atoms-printed.ensures.valid

@@ -1,7 +1,7 @@
 use Rattle.dist_relation.specs.declared.atom.Kind.TheVariants.{Depends}
 use Rattle.dist_relation.specs.Grammar.{SpellsAlternatives}
 use Rattle.dist_relation.specs.Reading.{alternatives_at}
-use Rattle.dist_relation.proofs.ThreeKinds.{alternatives_reader, alternatives_shorter, value_reads, read_fits, read_fault, read_comes, one_answer}
+use Rattle.dist_relation.proofs.ThreeKinds.{alternatives_reader, alternatives_shorter, value_reads, read_fits, read_fault}
 use Rattle.dist_relation.proofs.values.read_depends.Goals as goal
 
 pub entries_of-requires : goal.entries_of-requires
@@ -11,19 +11,7 @@ pub in_value-requires : goal.in_value-requires
 in_value-requires c = read_fits Depends SpellsAlternatives alternatives_at alternatives_reader c.in-Err.error c.args.value.now c.in-Err.ensures
 
 pub returns-in-Ok : goal.returns-in-Ok
-returns-in-Ok c =
-    record {
-      reads = rw c.from_vec.ensures (value_reads Depends SpellsAlternatives alternatives_at alternatives_reader c.args.value.now c.in-Ok.entries.items c.in-Ok.ensures);
-      fault = tt;
-      one = one_answer Depends SpellsAlternatives alternatives_at alternatives_reader;
-      kind = tt;
-    }
+returns-in-Ok c = rw c.from_vec.ensures (value_reads Depends SpellsAlternatives alternatives_at alternatives_reader c.args.value.now c.in-Ok.entries.items c.in-Ok.ensures)
 
 pub returns-in-Err : goal.returns-in-Err
-returns-in-Err c =
-    record {
-      reads = tt;
-      fault = rw c.in_value.ensures (read_fault Depends SpellsAlternatives alternatives_at alternatives_reader c.in-Err.error c.args.value.now c.in-Err.ensures);
-      one = one_answer Depends SpellsAlternatives alternatives_at alternatives_reader;
-      kind = rw c.in_value.ensures (read_comes Depends SpellsAlternatives alternatives_at alternatives_reader c.in-Err.error c.args.value.now c.in-Err.ensures);
-    }
+returns-in-Err c = rw c.in_value.ensures (read_fault Depends SpellsAlternatives alternatives_at alternatives_reader c.in-Err.error c.args.value.now c.in-Err.ensures)
