@@ -1,3 +1,4 @@
+pub mod OneStanza
 pub mod FieldLemmas
 pub mod SoFar
 pub mod Memory
