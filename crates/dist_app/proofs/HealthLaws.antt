@@ -1,11 +1,8 @@
 -- Where the desk tells its files, a refusal of `health` that its inputs decide is its only end.
 use Rattle.std.proofs.Common.{◌≡◌, ◌⊎◌, ◌≤◌, ◌<◌, ℕ, List, Bool, inl, inr, Option, Some, length, refl, ap, sym, ◌∙◌, subst, arith}
-use Rattle.dist_base.specs.Answers.{IsExact}
-use Rattle.dist_control.specs.RawStanza.{raw_stanzas}
 use Rattle.dist_outside.specs.Files.{Files}
 use Rattle.dist_outside.specs.declared.limits.Limits.{Limits}
-use Rattle.dist_package.specs.FirstFault as packages
-use Rattle.dist_package.specs.RepositoryOf.{IsRepositoryOf}
+use Rattle.dist_package.specs.OneAnswer.{HasOneAnswer}
 use Rattle.dist_package.specs.declared.error.PackagesError.{PackagesError}
 use Rattle.dist_package.specs.declared.error.PackagesError.TheVariants as packages_error
 use Rattle.dist_repo.specs.PackageList.{PackageList}
@@ -39,14 +36,14 @@ same_end files packages_error.NoMemory e other is is' = absurd is
 
 -- each Packages text has one repository or one error
 abbrev pub AreExact : Type 0
-AreExact = (text : List ℕ) (limit : ℕ) → IsExact (IsRepositoryOf text limit) (packages.IsRefused (raw_stanzas text) limit)
+AreExact = (text : List ℕ) (limit : ℕ) → HasOneAnswer text limit
 
 repository_determined : AreExact → (files : Option Files) (stanzas : ℕ) (text : List ℕ) → IsDetermined (RepositoryStage files stanzas text)
-repository_determined exact files stanzas text (Goes a) (Goes b) f g = ap Goes ((exact text stanzas).one_reading b a g f)
+repository_determined exact files stanzas text (Goes a) (Goes b) f g = ap Goes ((exact text stanzas).one_repository a b f g)
 repository_determined exact files stanzas text (Goes a) (Ends e) f (error, refuses, is) = absurd ((exact text stanzas).never_both a error f refuses)
 repository_determined exact files stanzas text (Ends e) (Goes b) (error, refuses, is) g = absurd ((exact text stanzas).never_both b error g refuses)
 repository_determined exact files stanzas text (Ends e) (Ends other) (error, refuses, is) (error', refuses', is') =
-    let same = (exact text stanzas).one_fault error' error refuses' refuses in
+    let same = (exact text stanzas).one_error error error' refuses refuses' in
     ap Ends (same_end files error e other is (subst (λ (x : PackagesError). IsEndOf files x other) same is'))
 
 list_determined : (files : Option Files) (packages : List Package) (text : List ℕ) → IsDetermined (ListStage files packages text)

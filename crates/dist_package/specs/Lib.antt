@@ -4,3 +4,4 @@ pub mod PackageOf
 pub mod FirstFault
 pub mod RepositoryOf
 pub mod Steps
+pub mod OneAnswer
