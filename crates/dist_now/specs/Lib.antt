@@ -1,1 +1,5 @@
 pub mod Health
+pub mod Least
+pub mod Members
+pub mod Fit
+pub mod Rows

@@ -1,8 +1,7 @@
-//! Stub.
+//! The present: whether an installation of a repository's packages is healthy, and where it is not.
 #![tactic(auto)]
 
-mod judging;
-mod kinds;
+mod health;
+mod members;
 
-pub use judging::health;
-pub use kinds::Health;
+pub use health::Health;

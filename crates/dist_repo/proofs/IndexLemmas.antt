@@ -1,5 +1,5 @@
 -- The index of names: what stands beside a name.
-use Rattle.std.proofs.Common.{◌≡◌, ℕ, ◌<◌, List, [], length, get_or, Some, slice_get, refl, sym, subst}
+use Rattle.std.proofs.Common.{◌≡◌, ℕ, List, [], get_or, Some, slice_get, refl, sym, subst}
 use Rattle.std.specs.Prelude.{IsSomeAnd}
 use Rattle.dist_repo.specs.Indexed.{IsIndex}
 use Rattle.dist_repo.specs.PackageList.{PackageList}

@@ -1,6 +1,6 @@
 -- Packages in order: the package of a name and a version, and neighbours of one name.
-use Rattle.std.proofs.Common.{◌≡◌, ◌≢◌, ◌↔◌, ℕ, ◌+◌, ◌-◌, ◌<◌, ◌≤◌, List, length, get_or, nat_cmp, Ordering, Less, Equal, Greater, refl, sym, ap, ◌∙◌, subst, arith, inl, inr, slice_get, Some, Option}
-use Rattle.std.specs.Prelude.{Result, IsSomeAnd}
+use Rattle.std.proofs.Common.{◌≡◌, ◌≢◌, ◌↔◌, ℕ, ◌-◌, ◌<◌, ◌≤◌, List, length, get_or, nat_cmp, Ordering, Less, Equal, Greater, refl, sym, ap, ◌∙◌, subst, arith, inl, inr, Some}
+use Rattle.std.specs.Prelude.{Result}
 use Rattle.std.specs.Cmp.Lexicographic.{slice_cmp}
 use Rattle.std.specs.List.Sorted.{IsBinarySearchResult, IsSearchInRange}
 use Rattle.std.specs.Ordering.{ordering_then, ordering_reverse}
@@ -9,7 +9,7 @@ use Rattle.std.proofs.lemmas.Bool.{cases_lt}
 use Rattle.std.proofs.lemmas.Cmp.{nat_list_cmp_total}
 use Rattle.std.proofs.lemmas.List.{get_or_default}
 use Rattle.dist_version.specs.Order.{version_cmp}
-use Rattle.dist_repo.specs.Order.{key_cmp, package_cmp, IsFlat, IsInOrder}
+use Rattle.dist_repo.specs.Order.{key_cmp, IsFlat, IsInOrder}
 use Rattle.dist_repo.specs.Providers.{IsPackageAt}
 use Rattle.dist_repo.specs.Total.{key_total}
 use Rattle.dist_repo.specs.declared.package.Package.{Package}

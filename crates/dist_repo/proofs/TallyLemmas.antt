@@ -1,5 +1,5 @@
 -- What is noted of who provides a name.
-use Rattle.std.proofs.Common.{◌≡◌, ◌≢◌, ◌↔◌, ◌⊎◌, ℕ, ◌+◌, ◌-◌, ◌<◌, ◌≤◌, Bool, true, false, cond, List, [], ◌∷◌, ◌++◌, length, get_or, Some, None, Option, Less, Equal, Greater, refl, sym, ap, subst, ◌∙◌, arith, inl, inr, nat_cmp, is_eq, length-append, unwrap_or}
+use Rattle.std.proofs.Common.{◌≡◌, ◌≢◌, ◌↔◌, ◌⊎◌, ℕ, ◌+◌, ◌-◌, ◌<◌, ◌≤◌, Bool, true, false, cond, List, [], ◌∷◌, ◌++◌, length, get_or, Some, Option, refl, sym, ap, subst, ◌∙◌, arith, inl, inr, nat_cmp, length-append, unwrap_or}
 use Rattle.std.specs.Prelude.{Contains}
 use Rattle.std.specs.BTreeMap.{is_at}
 use Rattle.std.specs.Cmp.Lexicographic.{slice_cmp}

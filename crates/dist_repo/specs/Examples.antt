@@ -1,14 +1,13 @@
 -- Worked examples: two mail transport agents that provide and conflict with one name, and a version that a bound asks for.
-use Rattle.std.specs.Prelude.{◌≡◌, ◌≢◌, ℕ, false, List, [], ◌∷◌, Option, None, Some, codes, refl}
+use Rattle.std.specs.Prelude.{◌≡◌, ◌≢◌, ℕ, false, List, [], ◌∷◌, None, Some, codes, refl}
 use Rattle.std.proofs.Common.{inl, inr, lit<}
 use Rattle.dist_relation.specs.declared.atom.Atom.{Atom}
-use Rattle.dist_relation.specs.declared.atom.Bound.{Bound}
 use Rattle.dist_relation.specs.declared.atom.Op.TheVariants.{Ge}
 use Rattle.dist_relation.specs.declared.atom.Provide.{Provide}
 use Rattle.dist_relation.specs.declared.atom.Qualifier.TheVariants.{Plain, Named}
 use Rattle.dist_repo.specs.Conflict.{AreInConflict}
 use Rattle.dist_repo.specs.Healthy.{required_names}
-use Rattle.dist_repo.specs.Match.{IsUsable, Matches, MatchesByEntry, MatchesByName}
+use Rattle.dist_repo.specs.Match.{IsUsable, Matches, MatchesByEntry}
 use Rattle.dist_repo.specs.declared.package.Package.{Package}
 
 -- the name of which only one agent may be installed

@@ -1,5 +1,5 @@
 //! A repository in the making: packages come in any order, and each is held once.
-ghost use Rattle.std.specs.Prelude.{◌≡◌, ◌≢◌, ◌<◌, ◌↔◌, ℕ, [], ◌∷◌, length, Ok, Err, IfOk, IfErr, OnErr, IsPermutation, MatchOption, Contains};
+ghost use Rattle.std.specs.Prelude.{◌≡◌, ◌≢◌, ◌+◌, ◌<◌, ◌≤◌, ◌↔◌, ℕ, [], ◌∷◌, length, Ok, Err, IfOk, IfErr, OnErr, IsPermutation, MatchOption, Contains};
 ghost use Rattle.dist_repo.specs.Held.{IsClashAt, IsFree, IsHeld, packages_of, returned_package};
 ghost use Rattle.dist_repo.specs.Order.{IsInOrder, IsSamePackage};
 
@@ -83,6 +83,7 @@ impl Builder {
         // Only a new package changes the builder.
         ensures kept { result ≢ Ok Added.New → self.new ≡ self.old }
         ensures in_order { IsInOrder (packages_of self.new) }
+        ensures one_at_most { length self.new ≤ length self.old + 1 }
     {
         let key = Key::new(package);
         if let Some((held, kept)) = self.held(&key) {
@@ -102,6 +103,7 @@ impl Builder {
         ensures no_memory { IfErr result (λ error. error ≡ AddError.NoMemory key) }
         ensures kept { OnErr result (self.new ≡ self.old) }
         ensures in_order { IsInOrder (packages_of self.new) }
+        ensures one_at_most { length self.new ≤ length self.old + 1 }
     {
         if let Err(refused) = self.packages.insert(key, line) {
             return Err(AddError::NoMemory(refused.value.0.into_package()));

@@ -1,108 +1,115 @@
 //! Values from outside: worked rows, and cases of Debian Policy 7.1 to 7.5.
-ghost use Rattle.std.specs.Prelude.{◌≡◌, ◌+◌, ◌<◌, length, IsTrue, Ok, OnOk};
+ghost use Rattle.std.specs.Prelude.{◌+◌, ◌<◌, ◌≤◌, length};
 
 use super::*;
-use dist_relation::{Name, read_atoms, read_depends, read_provides};
+use dist_relation::{Atoms, Items, Name, Provides, read_atoms, read_depends, read_provides};
 use dist_version::Version;
 use std::alloc::Global;
 use std::test::Fail;
 
-/// A package that is its own source, with what it depends on, conflicts with and provides.
+/// A package that is its own source.
 fn package(
     alloc: Global,
-    name: &str,
-    version: &str,
-    [depends, conflicts, provides]: [&str; 3],
+    key: (&str, &str),
+    relations: (Items, Atoms, Provides),
 ) -> Result<Package, Fail> {
+    let (name, version) = key;
+    let (depends, conflicts, provides) = relations;
     Ok(Package {
         name: Name::read(alloc, name.as_bytes())?,
         version: Version::read(alloc, version.as_bytes())?,
         source: Name::read(alloc, name.as_bytes())?,
         source_version: Version::read(alloc, version.as_bytes())?,
-        depends: read_depends(alloc, depends.as_bytes())?,
-        conflicts: read_atoms(alloc, conflicts.as_bytes())?,
-        provides: read_provides(alloc, provides.as_bytes())?,
+        depends,
+        conflicts,
+        provides,
         essential: false,
     })
 }
 
-/// Adds a package, which has to be new.
-fn put(builder: &mut Builder, package: Package) -> Result<(), Fail>
-    requires { length builder.old < 100 }
-    ensures { OnOk result (length builder.new ≡ length builder.old + 1) }
-{
-    if is_new(&builder.add(package, 1)) {
-        return Ok(());
-    }
-    Err("not new")?
+/// What a package depends on, conflicts with and provides.
+fn relations(
+    alloc: Global,
+    depends: &str,
+    conflicts: &str,
+    provides: &str,
+) -> Result<(Items, Atoms, Provides), Fail> {
+    Ok((
+        read_depends(alloc, depends.as_bytes())?,
+        read_atoms(alloc, conflicts.as_bytes())?,
+        read_provides(alloc, provides.as_bytes())?,
+    ))
 }
 
-fn is_new(added: &Result<Added, AddError>) -> bool
-    ensures { IsTrue result → added.now ≡ Ok Added.New }
+/// A package of a name and a version alone.
+fn plain(alloc: Global, name: &str, version: &str) -> Result<Package, Fail> {
+    package(alloc, (name, version), relations(alloc, "", "", "")?)
+}
+
+/// Adds a package: 0 where it is new, 9 where it is known, and the held one's line where there is a clash.
+fn add(builder: &mut Builder, package: Package, line: u64) -> u64
+    requires { length builder.old < 100 }
+    ensures { length builder.new ≤ length builder.old + 1 }
 {
-    matches!(added, Ok(Added::New))
+    match builder.add(package, line) {
+        Ok(Added::New) => 0,
+        Ok(Added::Same) => 9,
+        Err(AddError::Clash(line, _)) => line,
+        Err(AddError::NoMemory(_)) => 99,
+    }
+}
+
+/// Two versions of a, and b.
+fn three(alloc: Global) -> Result<Repository, Fail> {
+    let mut builder = Builder::new(alloc);
+    let added = [
+        add(&mut builder, plain(alloc, "b", "1")?, 1),
+        add(&mut builder, plain(alloc, "a", "2")?, 4),
+        add(&mut builder, plain(alloc, "a", "1.0")?, 7),
+        add(&mut builder, plain(alloc, "a", "1.0-0")?, 10),
+        add(&mut builder, plain(alloc, "a", "2")?, 13),
+    ];
+    if added != [0, 0, 0, 7, 9] {
+        Err("not added as they should be")?;
+    }
+    Ok(builder.finish(None)?)
 }
 
 #[test]
 fn versions_of_a_name(rt: HostRuntime) -> Result<(), Fail> {
     let alloc = rt.alloc();
-    let mut builder = Builder::new(alloc);
-    put(&mut builder, package(alloc, "a", "1.0", ["", "", ""])?)?;
-    put(&mut builder, package(alloc, "b", "1", ["a", "", ""])?)?;
-    put(&mut builder, package(alloc, "a", "2", ["", "", ""])?)?;
-    let same = builder.add(package(alloc, "a", "1.0", ["", "", ""])?, 4);
-    assert!(rt; matches!(same, Ok(Added::Same)));
-    let other = builder.add(package(alloc, "a", "1.0-0", ["", "", ""])?, 4);
-    assert!(rt; matches!(&other, Err(AddError::Clash(1, refused)) if refused.version.text() == b"1.0-0".as_slice()));
-    let repository = builder.finish(None)?;
+    let repository = three(alloc)?;
     assert_eq!(rt; repository.len(), 3);
-    let equal = Version::read(alloc, b"1.0-0")?;
-    assert_eq!(rt; repository.find(b"a", &equal), Some(0));
+    assert_eq!(rt;
+        repository.find(b"a", &Version::read(alloc, b"1.0-0")?),
+        Some(0)
+    );
     assert_eq!(rt; repository.find(b"b", &Version::read(alloc, b"2")?), None);
+    assert!(rt; repository.providers(b"a") == [0, 1].as_slice());
     assert!(rt; !repository.is_flat());
     let latest = repository.latest()?;
     assert_eq!(rt; latest.len(), 2);
-    assert!(rt; latest.is_flat());
+    assert!(rt; latest.is_flat() && latest.architecture().is_none());
     assert!(rt; latest.package(0) == repository.package(1));
-    assert!(rt; latest.package(1).try_clone()? == *repository.package(2));
+    assert!(rt; repository.package(2).try_clone()? == *latest.package(1));
     Ok(())
 }
 
-#[test]
-fn providers_and_conflicts(rt: HostRuntime) -> Result<(), Fail> {
-    let alloc = rt.alloc();
-    let agent = ["", "mail-transport-agent", "mail-transport-agent"];
-    let mut builder = Builder::new(alloc);
-    put(&mut builder, package(alloc, "postfix", "1", agent)?)?;
-    put(&mut builder, package(alloc, "exim4", "1", agent)?)?;
-    let mutt = ["libc6, exim4 | mail-transport-agent", "", "x:i386, x:any"];
-    put(&mut builder, package(alloc, "mutt", "1", mutt)?)?;
-    let architecture = Name::read(alloc, b"amd64")?;
-    let repository = builder.finish(Some(architecture))?;
-    assert_eq!(rt; repository.len(), 3);
-    assert!(rt; repository.architecture().is_some());
-    for (name, numbers) in [
-        ("mail-transport-agent", [0, 2].as_slice()),
-        ("postfix", [2].as_slice()),
-        ("x", [1].as_slice()),
-        ("libc6", [].as_slice()),
-    ] {
-        assert!(rt; repository.providers(name.as_bytes()) == numbers);
+/// Whether an atom matches `y` of version 1 that provides something, on amd64.
+fn answer(alloc: Global, atom: &str, provides: &str) -> Result<bool, Fail> {
+    let repository = Builder::new(alloc).finish(Some(Name::read(alloc, b"amd64")?))?;
+    let atoms = read_atoms(alloc, atom.as_bytes())?;
+    let other = package(alloc, ("y", "1"), relations(alloc, "", "", provides)?)?;
+    if atoms.len() == 0 {
+        Err("no atom")?;
     }
-    let (exim4, postfix) = (repository.package(0), repository.package(2));
-    assert!(rt; repository.conflict(exim4, postfix));
-    assert!(rt; !repository.conflict(exim4, exim4));
-    assert!(rt; !repository.conflict(exim4, repository.package(1)));
-    Ok(())
+    Ok(repository.matches(atoms.get(0), &other))
 }
 
 #[test]
 fn matches(rt: HostRuntime) -> Result<(), Fail> {
-    let alloc = rt.alloc();
-    let repository = Builder::new(alloc).finish(Some(Name::read(alloc, b"amd64")?))?;
-    for (atom, provides, answer) in [
+    for (atom, provides, expected) in [
         ("y", "", true),
-        ("y (>= 1)", "", true),
         ("y (>> 1)", "", false),
         ("y (= 0:1-0)", "", true),
         ("y:any", "", true),
@@ -117,12 +124,7 @@ fn matches(rt: HostRuntime) -> Result<(), Fail> {
         ("x", "x:amd64", true),
         ("x", "x:i386", false),
     ] {
-        let atoms = read_atoms(alloc, atom.as_bytes())?;
-        let other = package(alloc, "y", "1", ["", "", provides])?;
-        assert_eq!(rt; atoms.len(), 1);
-        let atom_of = atoms.get(0);
-        assert!(rt; repository.matches(atom_of, &other) == answer);
-        assert!(rt; repository.usable(&atom_of.qualifier) || !answer);
+        assert!(rt; answer(rt.alloc(), atom, provides)? == expected);
     }
     Ok(())
 }

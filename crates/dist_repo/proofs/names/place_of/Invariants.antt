@@ -1,5 +1,4 @@
-use Rattle.std.proofs.Common.{◌≡◌, ℕ, ◌<◌, ◌≤◌, ◌-◌, List, length, get_or, nat_cmp, Less, Greater}
-use Rattle.std.specs.Cmp.Lexicographic.{slice_cmp}
+use Rattle.std.proofs.Common.{◌-◌}
 use Rattle.dist_repo.proofs.NameSearch.{IsBetween}
 use Rattle.dist_repo.proofs.names.place_of.Given as goal
 

@@ -1,0 +1,110 @@
+-- The members of an installation, and what they meet.
+use Rattle.std.proofs.Common.{◌≡◌, ◌↔◌, ◌⊎◌, ℕ, zero, suc, ◌+◌, ◌-◌, ◌<◌, ◌≤◌, Bool, true, false, List, [], ◌∷◌, length, get_or, Some, Option, refl, sym, ap, subst, ◌∙◌, arith, inl, inr, slice_get}
+use Rattle.std.specs.Prelude.{Any, Contains, IsSomeAnd}
+use Rattle.std.proofs.lemmas.Bool.{cases_lt}
+use Rattle.std.proofs.lemmas.List.{get_or_default}
+use Rattle.std.proofs.lemmas.Option.{slice_get-get_or, get_or_from_slice_get}
+use Rattle.dist_relation.specs.declared.atom.Atom.{Atom}
+use Rattle.dist_relation.specs.declared.atom.Provide.{Provide}
+use Rattle.dist_repo.specs.Match.{Matches, MatchesByEntry}
+use Rattle.dist_repo.specs.PackageList.{PackageList, IsPackageAnd}
+use Rattle.dist_repo.specs.Providers.{AreProviders, IsProvider}
+use Rattle.dist_repo.specs.declared.package.Package.{Package}
+use Rattle.dist_now.specs.Members.{IsMemberAnd, members_of}
+use Rattle.dist_now.proofs.Places.{any-head, any-later, any-from}
+
+any-cases : {X : Type 0} (P : X → Type 0) (x : X) (xs : List X) → Any P (x ∷ xs) → P x ⊎ Any P xs
+any-cases P x xs any = at any.0 any.1 any.2 any.3 any.4
+  where
+    at : (k : ℕ) (y : _) → k < length (x ∷ xs) → get_or (x ∷ xs) k y ≡ y → P y → P x ⊎ Any P xs
+    at zero y short is holds = inl (subst P (sym is) holds)
+    at (suc k) y short is holds = inr (k, y, omega arith, is, holds)
+
+pub member-any : (P : Package → Type 0) (packages : List Package) (flags : List Bool) (k : ℕ) → slice_get flags k ≡ Some true → IsPackageAnd packages k P → Any P (members_of packages flags)
+member-any P [] flags k member here = absurd here
+member-any P (p ∷ packages) [] k member here = cc
+member-any P (p ∷ packages) (true ∷ flags) zero member here = any-head P p (members_of packages flags) here
+member-any P (p ∷ packages) (false ∷ flags) zero member here = cc
+member-any P (p ∷ packages) (true ∷ flags) (suc k) member here = any-later P p (members_of packages flags) (member-any P packages flags k member here)
+member-any P (p ∷ packages) (false ∷ flags) (suc k) member here = member-any P packages flags k member here
+
+-- some member, by its number
+pub record SomeMember (P : Package → Type 0) (packages : List Package) (flags : List Bool) : Type 0 where
+  pub number : ℕ
+  pub member : slice_get flags number ≡ Some true
+  pub has : IsPackageAnd packages number P
+
+next-member : (P : Package → Type 0) (p : Package) (packages : List Package) (b : Bool) (flags : List Bool) → SomeMember P packages flags → SomeMember P (p ∷ packages) (b ∷ flags)
+next-member P p packages b flags m = record { number = suc m.number; member = m.member; has = m.has }
+
+pub any-member : (P : Package → Type 0) (packages : List Package) (flags : List Bool) → Any P (members_of packages flags) → SomeMember P packages flags
+any-member P [] flags any = absurd (omega (arith, any.2))
+any-member P (p ∷ packages) [] any = absurd (omega (arith, any.2))
+any-member P (p ∷ packages) (true ∷ flags) any = elim (any-cases P p (members_of packages flags) any) [
+  | inl here ↦ record { number = 0; member = refl; has = here }
+  | inr later ↦ next-member P p packages true flags (any-member P packages flags later)
+]
+any-member P (p ∷ packages) (false ∷ flags) any = next-member P p packages false flags (any-member P packages flags any)
+
+-- a package that an atom matches has or provides the atom's name
+pub matched-provides : (architecture : Option (List ℕ)) (atom : Atom) (p : Package) → Matches architecture atom p → IsProvider architecture atom.name p
+matched-provides architecture atom p matches =
+    elim matches.matched [
+      | inl by_name ↦ inl by_name.name
+      | inr any ↦ let by_entry : MatchesByEntry architecture atom any.1 = any.4 in inr (any.0, any.1, any.2, any.3, (by_entry.usable, by_entry.name))
+    ]
+
+-- ---- a truth value
+
+pub value-member : (flags : List Bool) (n : ℕ) → n < length flags → (get_or flags n false ≡ true) ↔ (slice_get flags n ≡ Some true)
+value-member flags n short =
+    let here = slice_get-get_or flags n false short in
+    ((λ is. here ∙ ap (λ (b : Bool). Some b) is), λ member. get_or_from_slice_get flags n true false member)
+
+at-weaker : {X : Type 0} (P Q : X → Type 0) (xs : List X) (k : ℕ) → ((x : X) → P x → Q x) → IsSomeAnd (slice_get xs k) P → IsSomeAnd (slice_get xs k) Q
+at-weaker P Q [] k more here = absurd here
+at-weaker P Q (x ∷ xs) zero more here = more x here
+at-weaker P Q (x ∷ xs) (suc k) more here = at-weaker P Q xs k more here
+
+within-from : {X : Type 0} (P : X → Type 0) (xs : List X) (k : ℕ) → IsSomeAnd (slice_get xs k) P → k < length xs
+within-from P [] k here = absurd here
+within-from P (x ∷ xs) zero here = omega arith
+within-from P (x ∷ xs) (suc k) here = omega (arith, within-from P xs k here)
+
+-- what the value of the variable of a package answers, which are numbered from 1
+pub value-answer : (answer : Bool) (flags : List Bool) (n : ℕ) → n < length flags → answer ≡ get_or flags (n + 1 - 1) false → (answer ≡ true) ↔ (slice_get flags n ≡ Some true)
+value-answer answer flags n short is =
+    let place : n + 1 - 1 ≡ n = omega arith in
+    let here : answer ≡ get_or flags n false = is ∙ ap (λ k. get_or flags k false) place in
+    ((λ true_is. (value-member flags n short).0 (sym here ∙ true_is)), λ member. here ∙ (value-member flags n short).1 member)
+
+-- ---- the providers of an atom's name, as far as they were gone through
+
+abbrev pub IsNoneMatched : PackageList → List Bool → Atom → List ℕ → ℕ → Type 0
+IsNoneMatched r flags atom providers count = (k : ℕ) → k < count → ¬ IsMemberAnd r.packages flags (get_or providers k 0) (Matches r.architecture atom)
+
+pub none-matched : (r : PackageList) (flags : List Bool) (atom : Atom) (providers : List ℕ) (count : ℕ) → length providers ≤ count → AreProviders r atom.name providers → IsNoneMatched r flags atom providers count →
+    ¬ Any (Matches r.architecture atom) (members_of r.packages flags)
+none-matched r flags atom providers count past are none any =
+    let m = any-member (Matches r.architecture atom) r.packages flags any in
+    let provides = at-weaker (Matches r.architecture atom) (IsProvider r.architecture atom.name) r.packages m.number (matched-provides r.architecture atom) m.has in
+    let there : Contains providers m.number = (are.exact m.number).1 provides in
+    let here : get_or providers there.0 0 ≡ m.number = get_or_default providers there.0 0 m.number there.1 ∙ there.2 in
+    let Member : ℕ → Type 0 = λ n. IsMemberAnd r.packages flags n (Matches r.architecture atom) in
+    none there.0 (omega (arith, there.1)) (subst Member (sym here) (record { member = m.member; has = m.has }))
+
+-- a provider that is not a member, or that the atom doesn't match, is passed over
+pub none-matched-more : (r : PackageList) (flags : List Bool) (atom : Atom) (providers : List ℕ) (count : ℕ) → IsNoneMatched r flags atom providers count →
+    ¬ IsMemberAnd r.packages flags (get_or providers count 0) (Matches r.architecture atom) → IsNoneMatched r flags atom providers (count + 1)
+none-matched-more r flags atom providers count none here k short =
+    elim (cases_lt k count) [
+      | inl h ↦ none k h
+      | inr h ↦ let same : count ≡ k = omega arith in
+          let P : ℕ → Type 0 = λ n. ¬ IsMemberAnd r.packages flags (get_or providers n 0) (Matches r.architecture atom) in subst P same here
+    ]
+
+-- a provider is a package of the repository
+pub provider-within : (r : PackageList) (name : List ℕ) (providers : List ℕ) (number : ℕ) → AreProviders r name providers → Contains providers number → number < length r.packages
+provider-within r name providers number are there =
+    let here = (are.exact number).0 there in
+    within-from (IsProvider r.architecture name) r.packages number here

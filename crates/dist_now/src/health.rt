@@ -1,0 +1,151 @@
+//! Whether an installation is healthy, and the first and least of what is wrong where it is not.
+ghost use Rattle.std.specs.Prelude.{◌≡◌, ◌<◌, Some, length, slice_get};
+ghost use Rattle.dist_repo.specs.Conflict.{AreInConflict};
+ghost use Rattle.dist_now.specs.Fit.{IsOneEach};
+ghost use Rattle.dist_now.specs.Health.{AreTwoVersions, AreConflicting, IsUnmetAt};
+ghost use Rattle.dist_now.specs.Rows.{IsLater, IsLeastIfAny, IsLeastPairIfAny, IsUnmetItem};
+
+use crate::members::{is_member, is_met};
+use dist_clause::Assignment;
+use dist_repo::{Package, Repository};
+
+/// What is wrong with an installation. Packages are given by their numbers, and items by their places, both from 0.
+#[derive(Clone, Copy, Debug, PartialEq, Eq)]
+pub enum Health {
+    Healthy,
+    /// Two members of one name.
+    TwoVersions(u32, u32),
+    /// A member, and an item of its dependencies that no member meets.
+    Unmet(u32, u32),
+    /// Two members in conflict.
+    Conflict(u32, u32),
+    /// An essential package whose name no member has.
+    EssentialMissing(u32),
+}
+
+/// The least member behind one, of the same name.
+fn later_version(repo: &Repository, members: &Assignment, first: u32, package: &Package) -> Option<u32>
+    requires one_each { IsOneEach repo.now members.now }
+    requires first { first < length repo.now.packages }
+    ensures { IsLeastIfAny (IsLater repo.now members.now first (λ q. «package».now.name ≡ q.name)) result }
+{
+    for second in first + 1..repo.len() {
+        if is_member(repo, members, second) && repo.package(second).name == package.name {
+            return Some(second);
+        }
+    }
+    None
+}
+
+/// The least member behind one that is in conflict with it.
+fn later_conflict(
+    repo: &Repository,
+    members: &Assignment,
+    first: u32,
+    package: &Package,
+) -> Option<u32>
+    requires one_each { IsOneEach repo.now members.now }
+    requires first { first < length repo.now.packages }
+    ensures { IsLeastIfAny (IsLater repo.now members.now first (AreInConflict repo.now.architecture «package».now)) result }
+{
+    for second in first + 1..repo.len() {
+        if is_member(repo, members, second) && repo.conflict(package, repo.package(second)) {
+            return Some(second);
+        }
+    }
+    None
+}
+
+/// The least place of an item of a package that no member meets.
+fn unmet_item(
+    repo: &Repository,
+    members: &Assignment,
+    number: u32,
+    package: &Package,
+) -> Option<u32>
+    requires one_each { IsOneEach repo.now members.now }
+    requires number { slice_get repo.now.packages number ≡ Some «package».now }
+    ensures { IsLeastIfAny (IsUnmetItem repo.now members.now «package».now.depends) result }
+{
+    for place in 0..package.depends.len() {
+        if !is_met(repo, members, number, place, package.depends.get(place)) {
+            return Some(place as u32);
+        }
+    }
+    None
+}
+
+/// The least member behind a member that has its name.
+fn version_row(repo: &Repository, members: &Assignment, first: u32) -> Option<u32>
+    requires one_each { IsOneEach repo.now members.now }
+    requires first { first < length repo.now.packages }
+    ensures { IsLeastIfAny (AreTwoVersions repo.now members.now first) result }
+{
+    if !is_member(repo, members, first) {
+        return None;
+    }
+    later_version(repo, members, first, repo.package(first))
+}
+
+/// The least place of an unmet item of a member.
+fn unmet_row(repo: &Repository, members: &Assignment, number: u32) -> Option<u32>
+    requires one_each { IsOneEach repo.now members.now }
+    requires number { number < length repo.now.packages }
+    ensures { IsLeastIfAny (IsUnmetAt repo.now members.now number) result }
+{
+    if !is_member(repo, members, number) {
+        return None;
+    }
+    unmet_item(repo, members, number, repo.package(number))
+}
+
+/// The least member behind a member that is in conflict with it.
+fn conflict_row(repo: &Repository, members: &Assignment, first: u32) -> Option<u32>
+    requires one_each { IsOneEach repo.now members.now }
+    requires first { first < length repo.now.packages }
+    ensures { IsLeastIfAny (AreConflicting repo.now members.now first) result }
+{
+    if !is_member(repo, members, first) {
+        return None;
+    }
+    later_conflict(repo, members, first, repo.package(first))
+}
+
+/// The least two members of one name.
+fn two_versions(repo: &Repository, members: &Assignment) -> Option<(u32, u32)>
+    requires { IsOneEach repo.now members.now }
+    ensures { IsLeastPairIfAny (AreTwoVersions repo.now members.now) result }
+{
+    for first in 0..repo.len() {
+        if let Some(second) = version_row(repo, members, first) {
+            return Some((first, second));
+        }
+    }
+    None
+}
+
+/// The least member with an unmet item, and the place of the first one.
+fn unmet(repo: &Repository, members: &Assignment) -> Option<(u32, u32)>
+    requires { IsOneEach repo.now members.now }
+    ensures { IsLeastPairIfAny (IsUnmetAt repo.now members.now) result }
+{
+    for number in 0..repo.len() {
+        if let Some(place) = unmet_row(repo, members, number) {
+            return Some((number, place));
+        }
+    }
+    None
+}
+
+/// The least two members in conflict.
+fn conflict(repo: &Repository, members: &Assignment) -> Option<(u32, u32)>
+    requires { IsOneEach repo.now members.now }
+    ensures { IsLeastPairIfAny (AreConflicting repo.now members.now) result }
+{
+    for first in 0..repo.len() {
+        if let Some(second) = conflict_row(repo, members, first) {
+            return Some((first, second));
+        }
+    }
+    None
+}
