@@ -1,3 +1,4 @@
+pub mod OneReading
 pub mod OneStanza
 pub mod FieldLemmas
 pub mod SoFar
