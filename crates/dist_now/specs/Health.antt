@@ -1,5 +1,5 @@
 -- Where an installation is not healthy: four kinds of fault, tried in this order, each with its least place.
-use Rattle.std.specs.Prelude.{◌≡◌, ℕ, ◌<◌, Bool, true, List, Any, IsSomeAnd, slice_get}
+use Rattle.std.specs.Prelude.{◌≡◌, ℕ, ◌<◌, Bool, true, List, Any, IsSomeAnd, Some, slice_get}
 use Rattle.dist_repo.specs.Conflict.{AreInConflict}
 use Rattle.dist_repo.specs.Healthy as installation
 use Rattle.dist_repo.specs.PackageList.{PackageList, IsPackageAnd}
