@@ -26,11 +26,15 @@ pub enum Health {
 /// The least member behind one, of the same name.
 fn later_version(repo: &Repository, members: &Assignment, first: u32, package: &Package) -> Option<u32>
     requires one_each { IsOneEach repo.now members.now }
-    requires first { first < length repo.now.packages }
+    requires first { slice_get repo.now.packages first ≡ Some «package».now }
     ensures { IsLeastIfAny (IsLater repo.now members.now first (λ q. «package».now.name ≡ q.name)) result }
 {
+    // Packages are in the order of their names, so those of one name stand together.
     for second in first + 1..repo.len() {
-        if is_member(repo, members, second) && repo.package(second).name == package.name {
+        if repo.package(second).name != package.name {
+            return None;
+        }
+        if is_member(repo, members, second) {
             return Some(second);
         }
     }
