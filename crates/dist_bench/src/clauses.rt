@@ -3,7 +3,8 @@ ghost use Rattle.std.specs.Prelude.{◌≡◌, ◌≤◌, true, false, [], ◌�
 ghost use Rattle.dist_clause.specs.Formula.{literal};
 
 use anyhow::{Result, bail};
-use dist_clause::{ClauseSet, Lit, MAX_CLAUSES, PushError};
+use dist_base::MAX_CLAUSES;
+use dist_clause::{ClauseSet, Lit, PushError};
 use std::alloc::Global;
 
 fn filled(alloc: Global, count: u32) -> Result<ClauseSet, PushError>

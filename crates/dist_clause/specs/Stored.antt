@@ -4,8 +4,9 @@ use Rattle.dist_clause.specs.Formula.{IsClauseOver}
 use Rattle.dist_clause.specs.ClauseList.{ClauseList}
 use Rattle.dist_clause.specs.Flat.{pieces, AreEnds}
 use Rattle.dist_clause.specs.declared.clause_set.ClauseSet.TheInside.{Inside}
-use Rattle.dist_clause.specs.declared.TheConstants.{MAX_VARIABLES, MAX_CLAUSES, MAX_LITERALS}
+use Rattle.dist_base.specs.declared.TheConstants.{MAX_VARIABLES, MAX_CLAUSES, MAX_LITERALS}
 
+-- what is kept, seen as a list of clauses
 abbrev pub stored_clauses : Inside → ClauseList
 stored_clauses a = record {
   clauses = pieces 0 a.ends.items a.literals.items;
@@ -14,6 +15,7 @@ stored_clauses a = record {
   literal_limit = a.literal_limit;
 }
 
+-- each clause ends where the next one begins, and the set's limits are kept and are at most the stated ones
 pub record IsStored (a : Inside) : Type 0 where
   pub ends : AreEnds 0 a.ends.items (length a.literals.items)
   pub clauses_within : length a.ends.items ≤ a.clause_limit

@@ -1,3 +1,5 @@
+//! Assignments, 64 truth values in a word, and the test whether one is a model.
+
 ghost use Rattle.std.specs.Prelude.{◌≡◌, ◌+◌, ◌-◌, ◌<◌, ◌≤◌, ◌↔◌, false, ◌*◌, All, length, replicate, IfOk, IsTrue, slice_set};
 ghost use Rattle.dist_clause.specs.Formula.{value_of, MakesTrue, IsModel};
 ghost use Rattle.dist_clause.specs.Bits.{bit, SetsBit};
@@ -65,6 +67,7 @@ impl Assignment {
         true
     }
 
+    /// Whether some literal of the clause is true.
     fn makes_true(&self, clause: &[Lit]) -> bool
         requires { All (λ l. (1 ≤ l.variable) × (l.variable ≤ length self.now)) clause.now }
         ensures { IsTrue result ↔ MakesTrue (value_of self.now) clause.now }
@@ -75,6 +78,7 @@ impl Assignment {
     }
 }
 
+/// The bit at a place.
 fn bit(words: &[u64], place: usize) -> bool
     requires { place < 64 * length words.now }
     ensures { result ≡ bit words.now place }
@@ -82,6 +86,7 @@ fn bit(words: &[u64], place: usize) -> bool
     words[place / 64] >> (place % 64) & 1 == 1
 }
 
+/// Sets the bit at a place to a value.
 fn set_bit(words: &mut [u64], place: usize, value: bool)
     requires { place < 64 * length words.old }
     ensures { SetsBit words.old words.new place value }

@@ -1,9 +1,12 @@
+//! Lists of clauses, kept flat: 64 million literals and 16 million clauses take 320 MB.
+
 ghost use Rattle.std.specs.Prelude.{◌≡◌, ◌+◌, ◌^◌, ◌<◌, ◌≤◌, ◌↔◌, [], ◌∷◌, ◌++◌, length, slice_index_or, OnOk, OnErr, Err};
 ghost use Rattle.dist_clause.specs.Formula.{IsClauseOver};
 ghost use Rattle.dist_clause.specs.Flat.{pieces, AreEnds, AddsPiece, begin_of};
 ghost use Rattle.dist_clause.specs.ClauseList.{clause_at, literal_count, IsWithinLimits};
 
-use crate::{Lit, MAX_CLAUSES, MAX_LITERALS, MAX_VARIABLES};
+use crate::Lit;
+use dist_base::{MAX_CLAUSES, MAX_LITERALS, MAX_VARIABLES};
 use std::alloc::{AllocError, Global};
 use std::marker::Model;
 
@@ -121,8 +124,10 @@ fn add_piece(items: &mut Vec<Lit>, ends: &mut Vec<u32>, piece: &[Lit]) -> Result
     ensures err_ends { OnErr result (ends.new.items ≡ ends.old.items) }
 {
     let end = (items.len() + piece.len()) as u32;
+    // Room for the end first: once the literals are in, nothing may fail any more.
     ends.reserve(1)?;
     items.extend_from_slice(piece)?;
+    // There is room for it, so this takes no memory.
     let _ = ends.push(end);
     Ok(())
 }

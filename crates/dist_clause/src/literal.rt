@@ -1,7 +1,9 @@
+//! Literals, each in one word.
+
 ghost use Rattle.std.specs.Prelude.{◌≡◌, ◌≤◌};
 ghost use Rattle.dist_clause.specs.Formula.{literal, negation};
 
-use crate::MAX_VARIABLES;
+use dist_base::MAX_VARIABLES;
 use std::marker::Model;
 
 /// A variable or its negation, kept in 32 bits.
@@ -14,7 +16,7 @@ pub struct Lit {
 impl Model for Lit {
     ghost use Rattle.std.specs.Prelude.{◌==◌, ◌+◌, ◌*◌, ◌/◌, ◌%◌, ◌≤◌, if◌then◌else◌};
     ghost use Rattle.dist_clause.specs.Formula.{Literal, literal};
-    ghost use Rattle.dist_clause.specs.declared.TheConstants.{MAX_VARIABLES};
+    ghost use Rattle.dist_base.specs.declared.TheConstants.{MAX_VARIABLES};
 
     ghost Value = { Literal };
 

@@ -1,3 +1,5 @@
+//! Each public call once, at values from the DIMACS format and the stated limits.
+
 ghost use Rattle.std.specs.Prelude.{◌≡◌, ◌≢◌, ◌≤◌, All, IfOk, OnOk, IsTrue};
 ghost use Rattle.dist_clause.specs.Formula.{IsClauseOver};
 
@@ -21,6 +23,7 @@ fn clause(alloc: Global, numbers: &[i32]) -> Result<Vec<Lit>, Fail>
     Ok(literals)
 }
 
+/// Puts a literal of a variable that is not there yet behind the others.
 fn add(clause: &mut Vec<Lit>, literal: Lit) -> Result<(), Fail>
     requires clause { IsClauseOver 5 clause.old.items }
     requires literal { literal.variable ≤ 5 }
@@ -34,6 +37,7 @@ fn add(clause: &mut Vec<Lit>, literal: Lit) -> Result<(), Fail>
     }
 }
 
+/// Whether no literal of the clause has the variable.
 fn is_fresh(clause: &[Lit], variable: u32) -> bool
     ensures { IsTrue result → All (λ l. l.variable ≢ variable) clause.now }
 {

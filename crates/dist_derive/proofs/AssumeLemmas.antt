@@ -1,11 +1,11 @@
 -- Literals that are made true, and clauses under more true literals.
-use Rattle.std.proofs.Common.{◌≡◌, ℕ, ⊎_elim, true, List, [], ◌∷◌, ◌++◌, get_or, refl, sym, subst}
+use Rattle.std.proofs.Common.{◌≡◌, ◌≢◌, ⊎_elim, true, List, [], ◌∷◌, ◌++◌, refl, sym, subst}
 use Rattle.std.specs.List.{Contains}
 use Rattle.std.proofs.lemmas.List.Elements.{All-nil, All-push, All-weaker, All-contains, All-contains_itself, Contains-append_left, Contains-push}
 use Rattle.dist_clause.specs.Formula.{Literal, negation}
-use Rattle.dist_derive.specs.Valued.{LiteralList}
+use Rattle.dist_derive.specs.TrueLiterals.{LiteralList, Assumes}
 use Rattle.dist_derive.specs.Propagation.{IsFalse, AllFalse, OthersFalse}
-use Rattle.dist_derive.specs.Growing.{ContainsAll, Assumes}
+use Rattle.dist_derive.specs.Containment.{ContainsAll}
 use Rattle.dist_derive.proofs.ValuedLemmas.{All-front, All-last}
 
 pub ContainsAll-itself : {X : Type 0} (xs : List X) → ContainsAll xs xs
@@ -47,5 +47,6 @@ assumes_more start now next literals l h step = ⊎_elim
 pub AllFalse-more : (trues more clause : List Literal) → ContainsAll more trues → AllFalse trues clause → AllFalse more clause
 AllFalse-more trues more clause kept all = All-weaker (IsFalse trues) (IsFalse more) (λ l e. All-contains (Contains more) trues (negation l) kept e) clause all
 
-pub OthersFalse-more : (trues more clause : List Literal) (place : ℕ) → ContainsAll more trues → OthersFalse trues clause place → OthersFalse more clause place
-OthersFalse-more trues more clause place kept others k d within other = All-contains (Contains more) trues (negation (get_or clause k d)) kept (others k d within other)
+pub OthersFalse-more : (trues more clause : List Literal) (l : Literal) → ContainsAll more trues → OthersFalse trues clause l → OthersFalse more clause l
+OthersFalse-more trues more clause l kept others = All-weaker (λ m. m ≢ l → IsFalse trues m) (λ m. m ≢ l → IsFalse more m)
+    (λ m h other. All-contains (Contains more) trues (negation m) kept (h other)) clause others

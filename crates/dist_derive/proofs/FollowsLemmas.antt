@@ -6,7 +6,7 @@ use Rattle.dist_clause.specs.Formula.{Literal}
 use Rattle.dist_clause.specs.ClauseList.{clause_at}
 use Rattle.dist_derive.specs.Propagation.{AllFalse, IsUnit}
 use Rattle.dist_derive.specs.Follows.{IsNumberOf, EndsFalse}
-use Rattle.dist_derive.specs.Valued.{LiteralList, HasOutcome}
+use Rattle.dist_derive.specs.TrueLiterals.{LiteralList, HasOutcome}
 use Rattle.dist_derive.specs.declared.true_literals.Outcome.{Outcome}
 use Rattle.dist_derive.specs.declared.true_literals.Outcome.TheVariants.{Conflict, Unit as UnitClause, Open}
 use Rattle.dist_derive.specs.Hints.{TakesHint}
@@ -32,7 +32,7 @@ module _ (clauses : List (List Literal)) (trues : List Literal) (hint : ℕ) (hi
     λ h. (number, inr (l, u, ⊎_elim (λ x. absurd (false≢true x.0)) (λ more. more) h)),
   )
 
-  pub ends_open : (IsNumberOf clauses hint → HasOutcome trues (clause_at clauses hint) Open) → EndsFalse clauses trues (hint ∷ hints) → ⊥
+  pub ends_open : (IsNumberOf clauses hint → HasOutcome trues (clause_at clauses hint) Open) → ¬ EndsFalse clauses trues (hint ∷ hints)
   ends_open is_open h = ⊎_elim (λ x. (is_open h.0).0 x.0) (λ x. (is_open h.0).1 x.0 x.1) h.1
 
   pub ends_from : (ended : Bool) → EndsFrom clauses trues ended (hint ∷ hints) → EndsFalse clauses trues (hint ∷ hints)
@@ -56,8 +56,8 @@ hints_more clauses start hints index trues next ended now within step h =
     record { decides = (λ e. here.0 (inr (step.1 e)), λ e. step.0 (ends_from clauses trues (get_or hints index 0) (drop (index + 1) hints) ended (here.1 e))) }
 
 pub hints_refused : (clauses : List (List Literal)) (start : List Literal) (hints : List ℕ) (index : ℕ) (trues : List Literal) (ended : Bool) → index < length hints
-    → (EndsFalse clauses trues (get_or hints index 0 ∷ drop (index + 1) hints) → ⊥)
-    → HintsSoFar clauses start hints index trues ended → EndsFalse clauses start hints → ⊥
+    → (¬ EndsFalse clauses trues (get_or hints index 0 ∷ drop (index + 1) hints))
+    → HintsSoFar clauses start hints index trues ended → ¬ EndsFalse clauses start hints
 hints_refused clauses start hints index trues ended within step h e =
     let here = subst (λ left. EndsFrom clauses trues ended left ↔ EndsFalse clauses start hints) (drop_more hints index 0 within) h.decides in
     step (ends_from clauses trues (get_or hints index 0) (drop (index + 1) hints) ended (here.1 e))

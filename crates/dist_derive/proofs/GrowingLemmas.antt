@@ -7,9 +7,9 @@ use Rattle.std.proofs.lemmas.List.Elements.{All-nil, All-cons, All-head, All-pus
 use Rattle.dist_clause.specs.Formula.{Literal}
 use Rattle.dist_clause.specs.ClauseList.{clause_at}
 use Rattle.dist_derive.proofs.ValuedLemmas.{All-front, All-last}
-use Rattle.dist_derive.specs.Marked.{VariableList}
-use Rattle.dist_derive.specs.New.{IsClosedUnder, InCone}
-use Rattle.dist_derive.specs.Growing.{HasAll, ContainsAll, Includes, Grows, IsClosedAt}
+use Rattle.dist_derive.specs.VariableSet.{VariableList, HasAll, Includes, Grows, IsClosedAt}
+use Rattle.dist_derive.specs.Cone.{IsClosedUnder, InCone}
+use Rattle.dist_derive.specs.Containment.{ContainsAll}
 
 pub Grows-none : (s : VariableList) → Grows s s false
 Grows-none s = record {
@@ -142,16 +142,16 @@ reaches_more clauses assumptions now next grown h grows least = record {
 }
 
 -- whether a variable is a member, as a test
-is_member : List ℕ → ℕ → Bool
+pub is_member : List ℕ → ℕ → Bool
 is_member [] v = false
 is_member (m ∷ ms) v = eqb m v || is_member ms v
 
-is_member-true : (members : List ℕ) (v : ℕ) → is_member members v ≡ true → Contains members v
+pub is_member-true : (members : List ℕ) (v : ℕ) → is_member members v ≡ true → Contains members v
 unfolding is_member
 is_member-true [] v e = absurd (false≢true e)
 is_member-true (m ∷ ms) v e = ⊎_elim (λ h. (0, omega arith, eqb-true m v h)) (λ h. let r = is_member-true ms v h in (suc r.0, omega (arith, r.1), r.2)) (or_cases (eqb m v) (is_member ms v) e)
 
-is_member-at : (members : List ℕ) (v k : ℕ) → k < length members → get_or members k v ≡ v → is_member members v ≡ true
+pub is_member-at : (members : List ℕ) (v k : ℕ) → k < length members → get_or members k v ≡ v → is_member members v ≡ true
 unfolding is_member
 is_member-at [] v k within at = absurd (omega arith)
 is_member-at (m ∷ ms) v zero within at = or_left (eqb m v) (is_member ms v) (eq-eqb m v at)

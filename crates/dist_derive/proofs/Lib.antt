@@ -1,6 +1,7 @@
 pub mod LogLemmas
 pub mod MarkedLemmas
 pub mod ValuedLemmas
+pub mod LiteralLemmas
 pub mod OutcomeLemmas
 pub mod DenyLemmas
 pub mod FollowsLemmas
@@ -10,3 +11,7 @@ pub mod AssumeLemmas
 pub mod SweepLemmas
 pub mod NewLemmas
 pub mod ConeLaws
+pub mod FewLemmas
+pub mod SettledLaws
+pub mod HintLaws
+pub mod CountLaws

@@ -3,17 +3,18 @@ use Rattle.std.proofs.Common.{◌≡◌, ◌≢◌, ℕ, zero, suc, ◌+◌, ◌
 use Rattle.std.specs.List.{Contains}
 use Rattle.std.proofs.lemmas.Bool.{cases_eq, false≢true, false_from_ne_true}
 use Rattle.std.proofs.lemmas.List.{same_lists, length-set, length-replicate, get_or-replicate, get_or-set_same, get_or-set_other, get_or_default, length_push}
+use Rattle.std.proofs.lemmas.List.Quantifiers.{all_pairs_push}
 use Rattle.std.proofs.lemmas.List.Elements.{All-push, All-weaker, Contains-push, Contains-push_cases, Contains-append_left}
 use Rattle.std.proofs.lemmas.List.Sums.{sum_by-set, sum_by-cons, get_or-le-sum_by}
 use Rattle.std.proofs.Math.Numerals.{one-add}
 use Rattle.dist_clause.specs.Formula.{value_of}
-use Rattle.dist_derive.specs.Marked.{AreMarked}
+use Rattle.dist_derive.specs.VariableSet.{AreMarked}
 
-Contains-tail-at : {X : Type 0} (x : X) (xs : List X) (y : X) (k : ℕ) → k < length (x ∷ xs) → get_or (x ∷ xs) k y ≡ y → (x ≡ y → ⊥) → Contains xs y
+Contains-tail-at : {X : Type 0} (x : X) (xs : List X) (y : X) (k : ℕ) → k < length (x ∷ xs) → get_or (x ∷ xs) k y ≡ y → (x ≢ y) → Contains xs y
 Contains-tail-at x xs y zero within at other = absurd (other at)
 Contains-tail-at x xs y (suc k) within at other = (k, omega arith, at)
 
-pub Contains-tail : {X : Type 0} (x : X) (xs : List X) (y : X) → Contains (x ∷ xs) y → (x ≡ y → ⊥) → Contains xs y
+pub Contains-tail : {X : Type 0} (x : X) (xs : List X) (y : X) → Contains (x ∷ xs) y → (x ≢ y) → Contains xs y
 Contains-tail x xs y h other = Contains-tail-at x xs y h.0 h.1 h.2 other
 
 -- a value after one is set
@@ -35,14 +36,14 @@ unmarked_counts : (b : Bool) → b ≡ false → ◌≡◌ {A = ℕ} (cond (not 
 unmarked_counts true e = absurd (false≢true (sym e))
 unmarked_counts false e = refl
 
-pub is_room : (marks : List Bool) (members : List ℕ) (capacity v : ℕ) → AreMarked marks members capacity → 1 ≤ v → v ≤ length marks → (Contains members v → ⊥) → length members < length marks
+pub is_room : (marks : List Bool) (members : List ℕ) (capacity v : ℕ) → AreMarked marks members capacity → 1 ≤ v → v ≤ length marks → (¬ Contains members v) → length members < length marks
 is_room marks members capacity v h from to fresh =
     let value : get_or marks (v - 1) false ≡ false = false_from_ne_true (value_of marks v) (λ e. fresh ((h.marked v from to).0 e)) in
     let one = get_or-le-sum_by (λ b. cond (not b) 1 0) marks (v - 1) false (omega arith) in
     let at_one = unmarked_counts (get_or marks (v - 1) false) value in
     omega (arith, h.counted)
 
-pub AreMarked-add : (marks : List Bool) (members : List ℕ) (capacity more v : ℕ) → AreMarked marks members capacity → capacity ≤ more → 1 ≤ v → v ≤ length marks → (Contains members v → ⊥) → AreMarked (set marks (v - 1) true) (members ++ v ∷ []) more
+pub AreMarked-add : (marks : List Bool) (members : List ℕ) (capacity more v : ℕ) → AreMarked marks members capacity → capacity ≤ more → 1 ≤ v → v ≤ length marks → (¬ Contains members v) → AreMarked (set marks (v - 1) true) (members ++ v ∷ []) more
 AreMarked-add marks members capacity more v h larger from to fresh =
     let long = length-set marks (v - 1) true in
     record {
@@ -59,6 +60,7 @@ AreMarked-add marks members capacity more v h larger from to fresh =
       in_range = All-push (λ u. (1 ≤ u) × (u ≤ length (set marks (v - 1) true))) members v
           (All-weaker (λ u. (1 ≤ u) × (u ≤ length marks)) (λ u. (1 ≤ u) × (u ≤ length (set marks (v - 1) true))) (λ u r. (r.0, omega (arith, r.1))) members h.in_range)
           (from, omega arith);
+      distinct = all_pairs_push (λ u w. u ≢ w) members v h.distinct (λ k d within e. fresh (k, within, get_or_default members k v d within ∙ e));
       counted =
           let value : get_or marks (v - 1) false ≡ false = false_from_ne_true (value_of marks v) (λ e. fresh ((h.marked v from to).0 e)) in
           let moved = sum_by-set (λ b. cond (not b) 1 0) marks (v - 1) true false (omega arith) in
@@ -78,6 +80,7 @@ AreMarked-none n capacity room = record {
     λ e. absurd (omega (arith, e.1)),
   );
   in_range = λ k d h. absurd (omega arith);
+  distinct = λ i j d before within. absurd (omega arith);
   counted = omega (arith, count_by-unmarked n, length-replicate n false);
   room = omega (arith, length-replicate n false);
 }

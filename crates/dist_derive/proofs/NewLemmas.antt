@@ -1,16 +1,15 @@
 -- A clause is new where its variables are reached and its first literal is left unset.
-use Rattle.std.proofs.Common.{◌≡◌, ℕ, ◌-◌, ◌↔◌, inl, inr, min, List, [], ◌∷◌, length, take, ap, sym, subst, ◌∙◌, arith, length-take}
+use Rattle.std.proofs.Common.{◌≡◌, ℕ, ◌-◌, ◌↔◌, inl, inr, min, List, length, take, ap, sym, subst, ◌∙◌, arith, length-take}
 use Rattle.std.specs.List.{All}
 use Rattle.std.proofs.lemmas.Bool.{cases_lt}
 use Rattle.std.proofs.lemmas.List.{take-take, take_all, take_min}
 use Rattle.dist_clause.specs.Formula.{Literal, IsClauseOver}
-use Rattle.dist_derive.specs.New.{InCone, IsNew}
-use Rattle.dist_derive.specs.Growing.{LeavesFirstUnset}
+use Rattle.dist_derive.specs.Cone.{InCone}
+use Rattle.dist_derive.specs.New.{IsNew, LeavesFirstUnset}
 
 pub IsNew-parts : (n : ℕ) (clauses : List (List Literal)) (inputs : ℕ) (assumptions clause : List Literal) → IsClauseOver n clause
     → IsNew clauses inputs assumptions clause ↔ (All (λ l. InCone (take inputs clauses) assumptions l.variable) clause × LeavesFirstUnset clauses assumptions clause)
-IsNew-parts n clauses inputs assumptions [] over = (λ h. absurd h, λ h. h.1)
-IsNew-parts n clauses inputs assumptions (first ∷ rest) over = (λ h. (h.1, h.2), λ h. (over.distinct, h.0, h.1))
+IsNew-parts n clauses inputs assumptions clause over = (λ h. (h.within_cone, h.adds), λ h. record { distinct = over.distinct; within_cone = h.0; adds = h.1 })
 
 -- the inputs among the first clauses
 pub take-inputs : {X : Type 0} (xs : List X) (inputs last few : ℕ) → few ≡ min last inputs → take few xs ≡ take inputs (take last xs)

@@ -1,40 +1,40 @@
 -- What follows by hints is true in every model.
 use mathlib.Core.Bool.{beq}
-use Rattle.std.proofs.Common.{◌≡◌, ℕ, zero, suc, ◌+◌, ◌-◌, ◌≤◌, ◌⊎◌, ⊎_elim, inl, inr, Bool, List, [], ◌∷◌, ◌++◌, length, get_or, take, map, refl, ap, sym, subst, ◌∙◌, arith}
+use Rattle.std.proofs.Common.{◌≡◌, ℕ, zero, suc, ◌+◌, ◌-◌, ◌≤◌, ◌⊎◌, ⊎_elim, inl, inr, Bool, List, [], ◌∷◌, ◌++◌, length, get_or, take, map, refl, sym, subst, ◌∙◌, arith}
 use Rattle.std.specs.List.{All}
-use Rattle.std.proofs.lemmas.Bool.{cases_eq, cases_lt, cases_Bool}
-use Rattle.std.proofs.lemmas.List.{get_or_default, take_all}
+use Rattle.std.proofs.lemmas.Bool.{cases_lt, cases_Bool}
+use Rattle.std.proofs.lemmas.List.{take_all}
 use Rattle.std.proofs.lemmas.List.Elements.{All-nil, All-cons, All-push, All-map, All-get_or, All-contains, All-more}
 use Rattle.dist_clause.specs.Formula.{Literal, negation, IsTrueLiteral, MakesTrue, IsModel}
 use Rattle.dist_clause.specs.ClauseList.{clause_at}
 use Rattle.dist_derive.specs.Propagation.{IsFalse, AllFalse, IsUnit}
 use Rattle.dist_derive.specs.Follows.{IsNumberOf, EndsFalse, Follows, EachLineFollows}
+use Rattle.dist_derive.proofs.LiteralLemmas.{same_or_not}
+use Rattle.dist_derive.proofs.OutcomeLemmas.{other_false}
 use Rattle.dist_derive.proofs.ValuedLemmas.{not-itself, other-is_not, beq-true, beq-false}
 
 module _ (value : ℕ → Bool) where
-  negation_false : (l : Literal) → IsTrueLiteral value l → IsTrueLiteral value (negation l) → ⊥
+  negation_false : (l : Literal) → IsTrueLiteral value l → ¬ IsTrueLiteral value (negation l)
   negation_false l h g = not-itself l.positive (sym g ∙ h)
 
   -- under true literals that are true in the assignment, no literal of the clause that is true in it is false
-  not_false : (trues : List Literal) (l : Literal) → All (IsTrueLiteral value) trues → IsTrueLiteral value l → IsFalse trues l → ⊥
+  not_false : (trues : List Literal) (l : Literal) → All (IsTrueLiteral value) trues → IsTrueLiteral value l → ¬ IsFalse trues l
   not_false trues l all h f = negation_false l h (All-contains (IsTrueLiteral value) trues (negation l) all f)
 
-  not_all_false : (trues clause : List Literal) → All (IsTrueLiteral value) trues → MakesTrue value clause → AllFalse trues clause → ⊥
+  not_all_false : (trues clause : List Literal) → All (IsTrueLiteral value) trues → MakesTrue value clause → ¬ AllFalse trues clause
   not_all_false trues clause all made h =
       not_false trues made.1 all made.4 (subst (λ l. IsFalse trues l) made.3 (h made.0 made.1 made.2))
 
   unit_true : (trues clause : List Literal) (l : Literal) → All (IsTrueLiteral value) trues → MakesTrue value clause → IsUnit trues clause l → IsTrueLiteral value l
-  unit_true trues clause l all made u = elim (cases_eq made.0 u.place) [
-    | inl same ↦
-        let is : l ≡ made.1 = sym u.at_place ∙ (get_or_default clause u.place l made.1 u.within ∙ (ap (λ k. get_or clause k made.1) (sym same) ∙ made.3)) in
-        subst (λ m. IsTrueLiteral value m) (sym is) made.4
-    | inr other ↦ absurd (not_false trues made.1 all made.4 (subst (λ m. IsFalse trues m) made.3 (u.others made.0 made.1 made.2 other)))
+  unit_true trues clause l all made u = elim (same_or_not made.1 l) [
+    | inl same ↦ subst (λ m. IsTrueLiteral value m) same made.4
+    | inr other ↦ absurd (not_false trues made.1 all made.4 (other_false trues clause l made.1 u.others (made.0, made.2, made.3) other))
   ]
 
   made_true : (clauses : List (List Literal)) (number : ℕ) → IsModel value clauses → IsNumberOf clauses number → MakesTrue value (clause_at clauses number)
   made_true clauses number model is = All-get_or (MakesTrue value) clauses (number - 1) [] (omega (arith, is.0, is.1)) model
 
-  ends_false_sound : (clauses : List (List Literal)) (trues : List Literal) (hints : List ℕ) → IsModel value clauses → All (IsTrueLiteral value) trues → EndsFalse clauses trues hints → ⊥
+  ends_false_sound : (clauses : List (List Literal)) (trues : List Literal) (hints : List ℕ) → IsModel value clauses → All (IsTrueLiteral value) trues → ¬ EndsFalse clauses trues hints
   ends_false_sound clauses trues [] model all h = h
   ends_false_sound clauses trues (hint ∷ hints) model all h =
       let made = made_true clauses hint model h.0 in

@@ -1,18 +1,19 @@
 -- True literals that grow under the clauses, and what they leave unset.
-use mathlib.Core.Bool.{beq}
-use Rattle.std.proofs.Common.{◌≡◌, ℕ, suc, ◌<◌, ◌≤◌, ◌⊎◌, ⊎_elim, inl, inr, Bool, true, false, List, [], ◌∷◌, ◌++◌, length, get_or, take, map, refl, ap, sym, subst, ◌∙◌, arith}
+use Rattle.std.proofs.Common.{◌≡◌, ℕ, ◌<◌, ◌≤◌, inl, inr, Bool, true, false, List, [], ◌∷◌, ◌++◌, length, get_or, take, map, refl, ap, sym, subst, ◌∙◌, arith}
 use Rattle.std.specs.List.{All, Contains}
-use Rattle.std.proofs.lemmas.Bool.{false≢true, true≢false, cases_Bool, cases_eq}
-use Rattle.std.proofs.lemmas.List.{length_push, get_or_default}
+use Rattle.std.proofs.lemmas.Bool.{false≢true, true≢false}
+use Rattle.std.proofs.lemmas.List.{length_push}
 use Rattle.std.proofs.lemmas.List.Elements.{All-nil, All-cons, All-head, All-tail, All-push, All-weaker, All-contains, All-take, All-map, All-get_or}
-use Rattle.dist_clause.specs.Formula.{Literal, literal, negation}
-use Rattle.dist_derive.specs.Valued.{LiteralList, HasOutcome}
+use Rattle.dist_clause.specs.Formula.{Literal, negation}
+use Rattle.dist_derive.specs.TrueLiterals.{LiteralList, HasOutcome}
 use Rattle.dist_derive.specs.declared.true_literals.Outcome.TheVariants.{Open}
-use Rattle.dist_derive.specs.Propagation.{IsFalse, IsUnset, AllFalse, IsUnit, IsConsistent}
-use Rattle.dist_derive.specs.New.{IsPropagated, LeavesUnset}
-use Rattle.dist_derive.specs.Growing.{ContainsAll, IsForced, IsRefuted, AllOpen}
-use Rattle.dist_derive.proofs.ValuedLemmas.{All-front, All-last, beq-true, beq-false}
-use Rattle.dist_derive.proofs.MarkedLemmas.{Contains-tail}
+use Rattle.dist_derive.specs.Propagation.{IsUnset, AllFalse, IsUnit, IsConsistent, IsPropagated}
+use Rattle.dist_derive.specs.New.{LeavesUnset}
+use Rattle.dist_derive.specs.Containment.{ContainsAll}
+use Rattle.dist_derive.specs.Sweep.{IsForced, IsRefuted, AllOpen}
+use Rattle.dist_derive.proofs.LiteralLemmas.{contains_or_not}
+use Rattle.dist_derive.proofs.OutcomeLemmas.{all_false_with}
+use Rattle.dist_derive.proofs.ValuedLemmas.{All-front, All-last}
 use Rattle.dist_derive.proofs.AssumeLemmas.{ContainsAll-itself, ContainsAll-then, ContainsAll-push, AllFalse-more, OthersFalse-more}
 
 pub record SweepsSoFar (clauses : List (List Literal)) (start now : LiteralList) (grown : Bool) : Type 0 where
@@ -51,8 +52,8 @@ module _ (clauses : List (List Literal)) (clause : List Literal) (start now next
         kept = subst (λ ts. ContainsAll ts start.literals) (sym literals) (ContainsAll-then start.literals now.literals (now.literals ++ l ∷ []) h.kept (ContainsAll-push now.literals l));
         forced = λ trues all propagated.
             let before = h.forced trues all (All-front (IsPropagated trues) clauses (clause ∷ []) propagated) in
-            let this = All-last (IsPropagated trues) clauses clause propagated u.place l u.within (OthersFalse-more now.literals trues clause u.place before u.others) in
-            subst (λ ts. ContainsAll trues ts) (sym literals) (All-push (Contains trues) now.literals l before (subst (λ m. Contains trues m) u.at_place this));
+            let this = All-last (IsPropagated trues) clauses clause propagated l u.member (OthersFalse-more now.literals trues clause l before u.others) in
+            subst (λ ts. ContainsAll trues ts) (sym literals) (All-push (Contains trues) now.literals l before this);
         still = λ e. absurd (true≢false e);
         more = λ _. (at_least_one l literals, few);
       }
@@ -67,7 +68,7 @@ module _ (clauses : List (List Literal)) (clause : List Literal) (start now next
 pub sweeps_conflict : (clauses : List (List Literal)) (place : ℕ) (start now : LiteralList) (grown : Bool) → SweepsSoFar (take place clauses) start now grown → place < length clauses → AllFalse now.literals (get_or clauses place []) → IsRefuted clauses start.literals
 sweeps_conflict clauses place start now grown h within all_false = λ trues all propagated no_conflict.
     let before = h.forced trues all (All-take (IsPropagated trues) place clauses propagated) in
-    All-get_or (λ c. AllFalse trues c → ⊥) clauses place [] within no_conflict (AllFalse-more now.literals trues (get_or clauses place []) before all_false)
+    All-get_or (λ c. ¬ AllFalse trues c) clauses place [] within no_conflict (AllFalse-more now.literals trues (get_or clauses place []) before all_false)
 
 pub sweeps_to : (clauses : List (List Literal)) (place last : ℕ) (start now : LiteralList) (grown : Bool) → place ≡ last → SweepsSoFar (take place clauses) start now grown → SweepsSoFar (take last clauses) start now grown
 sweeps_to clauses place last start now grown all h = subst (λ n. SweepsSoFar (take n clauses) start now grown) all h
@@ -91,35 +92,14 @@ propagates_more clauses start now next h variables kept forced = record {
 pub refuted_before : (clauses : List (List Literal)) (start now : LiteralList) → PropagatesSoFar clauses start now → IsRefuted clauses now.literals → IsRefuted clauses start.literals
 refuted_before clauses start now h refuted = λ trues all propagated no_conflict. refuted trues (h.forced trues all propagated) propagated no_conflict
 
--- a literal is in a list or is not
-same_or_not : (l m : Literal) → (l ≡ m) ⊎ (l ≡ m → ⊥)
-same_or_not l m = elim (cases_eq l.variable m.variable) [
-  | inl v ↦ elim (cases_Bool (beq l.positive m.positive)) [
-    | inl p ↦ inl (ap (λ n. literal n l.positive) v ∙ ap (λ b. literal m.variable b) (beq-true l.positive m.positive p))
-    | inr p ↦ inr (λ e. beq-false l.positive m.positive p (ap (λ (x : Literal). x.positive) e))
-  ]
-  | inr v ↦ inr (λ e. v (ap (λ (x : Literal). x.variable) e))
-]
-
-contains_or_not : (trues : List Literal) (l : Literal) → Contains trues l ⊎ (Contains trues l → ⊥)
-contains_or_not [] l = inr (λ h. absurd (omega (arith, h.1)))
-contains_or_not (m ∷ ms) l = elim (same_or_not m l) [
-  | inl same ↦ inl (0, omega arith, same)
-  | inr other ↦ ⊎_elim (λ h. inl (suc h.0, omega (arith, h.1), h.2)) (λ h. inr (λ g. h (Contains-tail m ms l g other))) (contains_or_not ms l)
-]
-
 -- where no clause is false or unit, all is propagated
 open_propagated : (trues clause : List Literal) → HasOutcome trues clause Open → IsPropagated trues clause
-open_propagated trues clause is_open = λ place d within others.
-    let l = get_or clause place d in
+open_propagated trues clause is_open = λ l here others.
     elim (contains_or_not trues l) [
-      | inl here ↦ here
+      | inl is_true ↦ is_true
       | inr not_true ↦ elim (contains_or_not trues (negation l)) [
-        | inl is_false ↦ absurd (is_open.0 (λ k e k_within. elim (cases_eq k place) [
-          | inl same ↦ subst (λ m. IsFalse trues m) (get_or_default clause place d e within ∙ ap (λ j. get_or clause j e) (sym same)) is_false
-          | inr other ↦ others k e k_within other
-        ]))
-        | inr not_false ↦ absurd (is_open.1 l (record { place = place; within = within; at_place = get_or_default clause place l d within; unset = (not_true, not_false); others = others }))
+        | inl is_false ↦ absurd (is_open.0 (all_false_with trues clause l others is_false))
+        | inr not_false ↦ absurd (is_open.1 l (record { member = here; unset = (not_true, not_false); others = others }))
       ]
     ]
 
@@ -127,27 +107,29 @@ module _ (clauses : List (List Literal)) (assumptions : List Literal) (first : L
   holds_denied : (trues : List Literal) → LeavesUnset clauses assumptions first rest trues → ContainsAll trues denied
   holds_denied trues t = subst (λ ts. ContainsAll trues ts) (sym start) (All-map (Contains trues) negation rest t.denied)
 
-  pub unset_refused : ((trues : List Literal) → ContainsAll trues denied → ContainsAll trues assumptions → IsConsistent trues → ⊥) → (trues : List Literal) → LeavesUnset clauses assumptions first rest trues → ⊥
-  unset_refused refused trues t = refused trues (holds_denied trues t) t.assumed t.consistent
+  pub unset_refused : ((trues : List Literal) → ContainsAll trues denied → ContainsAll trues assumptions → ¬ IsConsistent trues) → (trues : List Literal) → ¬ LeavesUnset clauses assumptions first rest trues
+  unset_refused refused trues t = refused trues (holds_denied trues t) t.assumed t.settled.consistent
 
-  pub unset_refuted : ((trues : List Literal) → ContainsAll trues denied → ContainsAll trues assumptions → ContainsAll trues assumed) → IsRefuted clauses assumed → (trues : List Literal) → LeavesUnset clauses assumptions first rest trues → ⊥
-  unset_refuted least refuted trues t = refuted trues (least trues (holds_denied trues t) t.assumed) t.propagated t.no_conflict
+  pub unset_refuted : ((trues : List Literal) → ContainsAll trues denied → ContainsAll trues assumptions → ContainsAll trues assumed) → IsRefuted clauses assumed → (trues : List Literal) → ¬ LeavesUnset clauses assumptions first rest trues
+  unset_refuted least refuted trues t = refuted trues (least trues (holds_denied trues t) t.assumed) t.settled.propagated t.settled.no_conflict
 
   pub unset_at_end : ((trues : List Literal) → ContainsAll trues denied → ContainsAll trues assumptions → ContainsAll trues assumed) → IsForced clauses assumed ended → (trues : List Literal) → LeavesUnset clauses assumptions first rest trues → IsUnset ended first
   unset_at_end least forced trues t =
-      let all = forced trues (least trues (holds_denied trues t) t.assumed) t.propagated in
+      let all = forced trues (least trues (holds_denied trues t) t.assumed) t.settled.propagated in
       (λ h. t.unset.0 (All-contains (Contains trues) ended first all h), λ h. t.unset.1 (All-contains (Contains trues) ended (negation first) all h))
 
   pub leaves_unset_end : ContainsAll assumed denied → ContainsAll assumed assumptions → ContainsAll ended assumed → AllOpen ended clauses → IsConsistent ended → IsUnset ended first → LeavesUnset clauses assumptions first rest ended
   leaves_unset_end kept assumptions_in kept_end all_open consistent unset = record {
-    consistent = consistent;
+    settled = record {
+      consistent = consistent;
+      no_conflict = All-weaker (λ c. HasOutcome ended c Open) (λ c. ¬ AllFalse ended c) (λ c o. o.0) clauses all_open;
+      propagated = All-weaker (λ c. HasOutcome ended c Open) (IsPropagated ended) (λ c o. open_propagated ended c o) clauses all_open;
+    };
     assumed = ContainsAll-then assumptions assumed ended assumptions_in kept_end;
     denied =
         let all = subst (λ ts. ContainsAll ended ts) start (ContainsAll-then denied assumed ended kept kept_end) in
         map-All (Contains ended) negation rest all;
     unset = unset;
-    no_conflict = All-weaker (λ c. HasOutcome ended c Open) (λ c. AllFalse ended c → ⊥) (λ c o. o.0) clauses all_open;
-    propagated = All-weaker (λ c. HasOutcome ended c Open) (IsPropagated ended) (λ c o. open_propagated ended c o) clauses all_open;
   }
     where
       map-All : {X Y : Type 0} (P : Y → Type 0) (f : X → Y) (xs : List X) → All P (map f xs) → All (λ x. P (f x)) xs

@@ -6,7 +6,7 @@ use Rattle.std.proofs.lemmas.Bool.{false≢true, true≢false}
 use Rattle.std.proofs.lemmas.List.{length-map, get_or-map, get_or_at, length_push, take_at, take_more, map_push}
 use Rattle.std.proofs.lemmas.List.Elements.{All-take, All-head, All-tail, All-weaker}
 use Rattle.dist_clause.specs.Formula.{Literal, literal, negation, value_of}
-use Rattle.dist_derive.specs.Valued.{valued}
+use Rattle.dist_derive.specs.TrueLiterals.{valued}
 use Rattle.dist_derive.specs.Propagation.{IsFalse, IsUnset, IsConsistent}
 use Rattle.dist_derive.proofs.MarkedLemmas.{value_of-set_same, value_of-set_other}
 
@@ -27,26 +27,26 @@ pub not-itself : (b : Bool) → not b ≡ b → ⊥
 not-itself true e = false≢true e
 not-itself false e = true≢false e
 
-pub other-is_not : (a b : Bool) → (a ≡ b → ⊥) → a ≡ not b
+pub other-is_not : (a b : Bool) → (a ≢ b) → a ≡ not b
 other-is_not true true h = absurd (h refl)
 other-is_not true false h = refl
 other-is_not false true h = refl
 other-is_not false false h = absurd (h refl)
 
-pub is_true : (signs : List Bool) (members : List ℕ) (l : Literal) → Contains members l.variable → value_of signs l.variable ≡ l.positive → Contains (valued signs members) l × (IsFalse (valued signs members) l → ⊥)
+pub is_true : (signs : List Bool) (members : List ℕ) (l : Literal) → Contains members l.variable → value_of signs l.variable ≡ l.positive → Contains (valued signs members) l × (¬ IsFalse (valued signs members) l)
 is_true signs members l h e = (
   subst (λ b. Contains (valued signs members) (literal l.variable b)) e (Contains-valued signs members l.variable h),
   λ g. not-itself l.positive (sym (valued-Contains signs members (negation l) g).1 ∙ e),
 )
 
-pub is_false : (signs : List Bool) (members : List ℕ) (l : Literal) → Contains members l.variable → (value_of signs l.variable ≡ l.positive → ⊥) → (Contains (valued signs members) l → ⊥) × IsFalse (valued signs members) l
+pub is_false : (signs : List Bool) (members : List ℕ) (l : Literal) → Contains members l.variable → (value_of signs l.variable ≡ l.positive → ⊥) → (¬ Contains (valued signs members) l) × IsFalse (valued signs members) l
 is_false signs members l h e = (
   λ g. e (valued-Contains signs members l g).1,
   subst (λ b. Contains (valued signs members) (literal l.variable b)) (other-is_not (value_of signs l.variable) l.positive e) (Contains-valued signs members l.variable h),
 )
 
 -- a variable of the set is not unset
-pub fresh-from_unset : (signs : List Bool) (members : List ℕ) (l : Literal) → IsUnset (valued signs members) l → Contains members l.variable → ⊥
+pub fresh-from_unset : (signs : List Bool) (members : List ℕ) (l : Literal) → IsUnset (valued signs members) l → ¬ Contains members l.variable
 fresh-from_unset signs members l unset h =
     let e : value_of signs l.variable ≡ l.positive → ⊥ = λ e. unset.0 (is_true signs members l h e).0 in
     unset.1 (is_false signs members l h e).1
@@ -57,7 +57,7 @@ valued-consistent signs members l h g = not-itself l.positive (sym (valued-Conta
 Contains-cons : {X : Type 0} (x : X) (xs : List X) (y : X) → Contains xs y → Contains (x ∷ xs) y
 Contains-cons x xs y h = (suc h.0, omega (arith, h.1), h.2)
 
-valued-set_fresh : (signs : List Bool) (members : List ℕ) (v : ℕ) (b : Bool) → All (λ w. 1 ≤ w) members → 1 ≤ v → (Contains members v → ⊥) → valued (set signs (v - 1) b) members ≡ valued signs members
+valued-set_fresh : (signs : List Bool) (members : List ℕ) (v : ℕ) (b : Bool) → All (λ w. 1 ≤ w) members → 1 ≤ v → (¬ Contains members v) → valued (set signs (v - 1) b) members ≡ valued signs members
 valued-set_fresh signs [] v b all from fresh = refl
 valued-set_fresh signs (w ∷ ws) v b all from fresh =
     let w_from = All-head (λ w. 1 ≤ w) w ws all in
@@ -69,7 +69,7 @@ valued-set_fresh signs (w ∷ ws) v b all from fresh =
 pub All-front : {X : Type 0} (P : X → Type 0) (xs ys : List X) → All P (xs ++ ys) → All P xs
 All-front P xs ys h = subst (λ zs. All P zs) (take_at xs ys (length xs) refl) (All-take P (length xs) (xs ++ ys) h)
 
-pub valued-add : (signs : List Bool) (members : List ℕ) (l : Literal) (n : ℕ) → All (λ w. (1 ≤ w) × (w ≤ n)) (members ++ l.variable ∷ []) → 1 ≤ l.variable → l.variable ≤ length signs → (Contains members l.variable → ⊥)
+pub valued-add : (signs : List Bool) (members : List ℕ) (l : Literal) (n : ℕ) → All (λ w. (1 ≤ w) × (w ≤ n)) (members ++ l.variable ∷ []) → 1 ≤ l.variable → l.variable ≤ length signs → (¬ Contains members l.variable)
     → valued (set signs (l.variable - 1) l.positive) (members ++ l.variable ∷ []) ≡ valued signs members ++ l ∷ []
 valued-add signs members l n all from to fresh =
     let signs' = set signs (l.variable - 1) l.positive in
@@ -84,7 +84,7 @@ beq-true true false e = absurd (false≢true e)
 beq-true false true e = absurd (false≢true e)
 beq-true false false e = refl
 
-pub beq-false : (a b : Bool) → beq a b ≡ false → a ≡ b → ⊥
+pub beq-false : (a b : Bool) → beq a b ≡ false → a ≢ b
 beq-false true true e h = true≢false e
 beq-false true false e h = true≢false h
 beq-false false true e h = false≢true h

@@ -20,6 +20,17 @@ EndsFalse clauses trues (hint ∷ hints) = IsNumberOf clauses hint
 abbrev pub Follows : List (List Literal) → List Literal → List ℕ → Type 0
 Follows clauses clause hints = EndsFalse clauses (map negation clause) hints
 
+-- A step of unit propagation: the number of a clause, and the literal that it makes true.
+pub record Step : Type 0 where
+  pub number : ℕ
+  pub made_true : Literal
+
+-- taken in order, the clause of each step is unit by the step's literal, which becomes true
+abbrev pub AreUnitSteps : List (List Literal) → List Literal → List Step → Type 0
+AreUnitSteps clauses trues [] = Unit {0}
+AreUnitSteps clauses trues (step ∷ steps) = IsNumberOf clauses step.number × IsUnit trues (clause_at clauses step.number) step.made_true
+    × AreUnitSteps clauses (trues ++ step.made_true ∷ []) steps
+
 -- each clause after the inputs follows from the clauses before it, by some hints
 abbrev pub EachLineFollows : ℕ → List (List Literal) → Type 0
 EachLineFollows inputs clauses = (number : ℕ) → inputs < number → number ≤ length clauses

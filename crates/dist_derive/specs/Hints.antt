@@ -4,7 +4,7 @@ use Rattle.dist_clause.specs.Formula.{Literal}
 use Rattle.dist_clause.specs.ClauseList.{clause_at}
 use Rattle.dist_derive.specs.Propagation.{AllFalse, IsUnit}
 use Rattle.dist_derive.specs.Follows.{IsNumberOf}
-use Rattle.dist_derive.specs.Valued.{LiteralList, HasOutcome}
+use Rattle.dist_derive.specs.TrueLiterals.{LiteralList, HasOutcome}
 use Rattle.dist_derive.specs.declared.true_literals.Outcome.{Outcome}
 use Rattle.dist_derive.specs.declared.true_literals.Outcome.TheVariants.{Conflict, Unit as UnitClause, Open}
 

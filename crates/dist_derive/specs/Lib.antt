@@ -1,10 +1,12 @@
+pub mod Containment
 pub mod ClauseLog
-pub mod Marked
 pub mod Propagation
 pub mod Follows
-pub mod Valued
-pub mod Ready
-pub mod Hints
+pub mod Cone
 pub mod New
-pub mod Growing
+pub mod VariableSet
+pub mod TrueLiterals
+pub mod Hints
+pub mod Sweep
+pub mod Scratch
 pub mod Examples

@@ -1,6 +1,8 @@
-ghost use Rattle.std.specs.Prelude.{◌≡◌, ◌↔◌, ℕ, Bool, List, take, IsTrue};
-ghost use Rattle.dist_clause.specs.Formula.{Literal, IsClauseOver, MakesTrue, IsModel};
-ghost use Rattle.dist_derive.specs.Follows.{EndsFalse, Follows, EachLineFollows};
+//! Whether a clause follows by hints.
+
+ghost use Rattle.std.specs.Prelude.{◌≡◌, ◌↔◌, ℕ, Bool, IsTrue};
+ghost use Rattle.dist_clause.specs.Formula.{IsClauseOver, MakesTrue, IsModel};
+ghost use Rattle.dist_derive.specs.Follows.{EndsFalse, Follows};
 ghost use Rattle.dist_derive.specs.Hints.{TakesHint};
 
 use crate::true_literals::{Outcome, TrueLiterals};
@@ -55,10 +57,3 @@ impl Log {
         outcome
     }
 }
-
-/// A law: where each derived line follows from the clauses before it, every model of the input clauses is one of all
-/// clauses.
-pub fn lines_keep_models()
-    ensures { (inputs : ℕ) (clauses : List (List Literal)) (value : ℕ → Bool) → EachLineFollows inputs clauses
-        → IsModel value (take inputs clauses) → IsModel value clauses }
-{}

@@ -2,22 +2,23 @@
 //! whether it is new.
 #![tactic(auto)]
 
-pub use follows::lines_keep_models;
-pub use log::{AppendError, Log};
-pub use newness::{cone_is_closed, cone_models_extend};
-pub use scratch::Scratch;
-
+mod cone;
 mod follows;
+mod laws;
 mod log;
 mod newness;
+mod propagation;
 mod scratch;
 #[cfg(test)]
 mod tests;
 mod true_literals;
 mod variable_set;
 
-/// The most derived lines that a log may have.
-pub const MAX_LINES: u32 = 16_000_000;
-
-/// The most literals that the derived lines of a log may have together.
-pub const MAX_LINE_LITERALS: u32 = 64_000_000;
+pub use laws::{
+    cone_is_closed, cone_models_extend, lines_keep_models, more_clauses_keep_what_follows,
+    new_is_no_copy, new_lines_are_few, settled_literals_make_new, unit_steps_are_hints,
+    what_settles_a_clause, what_the_cone_depends_on,
+};
+pub use log::{AppendError, Log};
+pub use scratch::Scratch;
+pub use variable_set::VariableSet;

@@ -1,9 +1,11 @@
+//! Input clauses and the lines derived from them, numbered on.
+
 ghost use Rattle.std.specs.Prelude.{◌≡◌, ◌+◌, ◌<◌, ◌≤◌, ◌↔◌, [], ◌∷◌, ◌++◌, length, IfOk, OnOk, OnErr, Err};
 ghost use Rattle.dist_clause.specs.Formula.{IsClauseOver};
 ghost use Rattle.dist_clause.specs.ClauseList.{clause_at, literal_count};
 ghost use Rattle.dist_derive.specs.ClauseLog.{lines_of, IsWithinLineLimits};
 
-use crate::{MAX_LINE_LITERALS, MAX_LINES};
+use dist_base::{MAX_CLAUSES, MAX_LINE_LITERALS, MAX_LINES, MAX_VARIABLES};
 use dist_clause::{ClauseSet, Lit, PushError};
 use std::alloc::Global;
 use std::marker::Model;
@@ -57,7 +59,8 @@ impl Log {
     pub fn len(&self) -> u32
         ensures value { result ≡ length self.now.clauses }
         ensures within { IsWithinLineLimits self.now }
-        ensures stated { result ≤ 32000000 }
+        ensures stated { length (lines_of self.now) ≤ MAX_LINES }
+        ensures stated_total { result ≤ MAX_CLAUSES + MAX_LINES }
     {
         self.inputs.len() + self.lines.len()
     }
@@ -66,6 +69,7 @@ impl Log {
     pub fn inputs(&self) -> u32
         ensures value { result ≡ self.now.inputs }
         ensures within { result ≤ length self.now.clauses }
+        ensures stated { result ≤ MAX_CLAUSES }
     {
         self.inputs.len()
     }
@@ -73,6 +77,7 @@ impl Log {
     /// The number of variables.
     pub fn variables(&self) -> u32
         ensures value { result ≡ self.now.variables }
+        ensures stated { result ≤ MAX_VARIABLES }
     {
         self.inputs.variables()
     }

@@ -1,3 +1,5 @@
+//! Room that the two tests work in, taken once.
+
 ghost use Rattle.std.specs.Prelude.{◌≡◌, IfOk};
 
 use crate::true_literals::TrueLiterals;
@@ -14,7 +16,7 @@ pub struct Scratch {
 
 impl Model for Scratch {
     ghost use Rattle.std.specs.Prelude.{ℕ};
-    ghost use Rattle.dist_derive.specs.Ready.{IsReady};
+    ghost use Rattle.dist_derive.specs.Scratch.{IsReady};
 
     ghost Value = { ℕ };
 
@@ -24,6 +26,7 @@ impl Model for Scratch {
 }
 
 impl Scratch {
+    /// Room for logs of so many variables.
     pub fn new(alloc: Global, variables: u32) -> Result<Scratch, AllocError>
         ensures { IfOk result (λ s. s ≡ variables) }
     {

@@ -1,7 +1,13 @@
+//! Each public call once; the rows are those of the worked examples beside the definitions.
+
 ghost use Rattle.std.specs.Prelude.{◌≡◌, ◌≢◌, ◌≤◌, All, IfOk, OnOk, IsTrue};
 ghost use Rattle.dist_clause.specs.Formula.{IsClauseOver};
 
-use crate::{AppendError, Log, Scratch, cone_is_closed, cone_models_extend, lines_keep_models};
+use crate::{
+    AppendError, Log, Scratch, VariableSet, cone_is_closed, cone_models_extend, lines_keep_models,
+    more_clauses_keep_what_follows, new_is_no_copy, new_lines_are_few, settled_literals_make_new,
+    unit_steps_are_hints, what_settles_a_clause, what_the_cone_depends_on,
+};
 use dist_clause::{ClauseSet, Lit};
 use std::alloc::Global;
 use std::test::Fail;
@@ -22,6 +28,7 @@ fn clause(alloc: Global, numbers: &[i32]) -> Result<Vec<Lit>, Fail>
     Ok(literals)
 }
 
+/// Puts a literal of a variable that is not there yet behind the others.
 fn add(clause: &mut Vec<Lit>, literal: Lit) -> Result<(), Fail>
     requires clause { IsClauseOver 5 clause.old.items }
     requires literal { literal.variable ≤ 5 }
@@ -35,6 +42,7 @@ fn add(clause: &mut Vec<Lit>, literal: Lit) -> Result<(), Fail>
     }
 }
 
+/// Whether no literal of the clause has the variable.
 fn is_fresh(clause: &[Lit], variable: u32) -> bool
     ensures { IsTrue result → All (λ l. l.variable ≢ variable) clause.now }
 {
@@ -73,9 +81,6 @@ fn a_log_numbers_its_lines_on(rt: HostRuntime) -> Result<(), Fail> {
     assert_eq!(rt; log.len(), 4);
     assert!(rt; log.clause(2) == clause(alloc, &[-1, -2])?.as_slice());
     assert!(rt; log.clause(3) == line.as_slice());
-    lines_keep_models();
-    cone_is_closed();
-    cone_models_extend();
     Ok(())
 }
 
@@ -143,4 +148,33 @@ fn a_new_clause_lies_in_the_cone(rt: HostRuntime) -> Result<(), Fail> {
     assert!(rt; is_new(alloc, &log, &[3, -1], 4)?);
     assert!(rt; !is_new(alloc, &log, &[3, -1], 5)?);
     Ok(())
+}
+
+#[test]
+fn a_cone_has_what_the_assumptions_reach(rt: HostRuntime) -> Result<(), Fail> {
+    let alloc = rt.alloc();
+    let log = log_of(alloc, &[&[-1, 2, 3], &[-2, 3], &[-4, 5]])?;
+    let mut cone = VariableSet::new(alloc, 5)?;
+    log.mark_cone(&mut cone, &clause(alloc, &[1])?);
+    assert!(rt; cone.members() == [1, 2, 3].as_slice());
+    assert!(rt; cone.contains(3) && !cone.contains(4));
+    log.mark_cone(&mut cone, &clause(alloc, &[-4])?);
+    assert!(rt; cone.members() == [4, 5].as_slice());
+    cone.clear();
+    assert!(rt; cone.members().is_empty());
+    Ok(())
+}
+
+#[test]
+fn the_laws_hold(_rt: HostRuntime) {
+    lines_keep_models();
+    more_clauses_keep_what_follows();
+    unit_steps_are_hints();
+    what_settles_a_clause();
+    settled_literals_make_new();
+    new_is_no_copy();
+    new_lines_are_few();
+    cone_is_closed();
+    what_the_cone_depends_on();
+    cone_models_extend();
 }

@@ -1,4 +1,6 @@
-ghost use Rattle.std.specs.Prelude.{◌≡◌, ◌<◌, ◌≤◌, ◌↔◌, [], ◌∷◌, ◌++◌, false, List, length, map, All, Contains, IfOk, IsTrue};
+//! Literals that are true for now, and what clauses are under them.
+
+ghost use Rattle.std.specs.Prelude.{◌≡◌, ◌≢◌, ◌<◌, ◌≤◌, ◌↔◌, [], ◌∷◌, ◌++◌, false, List, length, map, All, Contains, IfOk, IsTrue};
 ghost use Rattle.dist_clause.specs.Formula.{Literal, negation, IsClauseOver};
 ghost use Rattle.dist_derive.specs.Propagation.{IsUnset, IsConsistent};
 
@@ -7,8 +9,9 @@ use dist_clause::{Assignment, Lit};
 use std::alloc::{AllocError, Global};
 use std::marker::Model;
 
+/// What a literal is under the true ones.
 #[derive(Clone, Copy, Debug)]
-pub enum Status {
+pub enum Truth {
     True,
     False,
     Unset,
@@ -34,7 +37,7 @@ pub struct TrueLiterals {
 
 impl Model for TrueLiterals {
     ghost use Rattle.std.specs.Prelude.{◌≡◌, length};
-    ghost use Rattle.dist_derive.specs.Valued.{LiteralList, valued};
+    ghost use Rattle.dist_derive.specs.TrueLiterals.{LiteralList, valued};
 
     ghost Value = { LiteralList };
 
@@ -44,9 +47,10 @@ impl Model for TrueLiterals {
 }
 
 impl TrueLiterals {
-    ghost use Rattle.dist_derive.specs.Valued.{HasStatus, HasOutcome};
-    ghost use Rattle.dist_derive.specs.Growing.{ContainsAll, Assumes};
+    ghost use Rattle.dist_derive.specs.TrueLiterals.{HasTruth, HasOutcome, Assumes};
+    ghost use Rattle.dist_derive.specs.Containment.{ContainsAll};
 
+    /// No literal is true.
     pub fn new(alloc: Global, variables: u32) -> Result<TrueLiterals, AllocError>
         ensures { IfOk result (λ t. t ≡ record { variables = variables; literals = [] }) }
     {
@@ -55,17 +59,18 @@ impl TrueLiterals {
         Ok(TrueLiterals { touched, signs })
     }
 
-    pub fn status(&self, literal: Lit) -> Status
+    /// What a literal is under the true ones.
+    pub fn status(&self, literal: Lit) -> Truth
         requires { literal.variable ≤ self.now.variables }
-        ensures { HasStatus self.now.literals literal result }
+        ensures { HasTruth self.now.literals literal result }
     {
         let variable = literal.variable();
         if !self.touched.contains(variable) {
-            Status::Unset
+            Truth::Unset
         } else if self.signs.value(variable) == literal.positive() {
-            Status::True
+            Truth::True
         } else {
-            Status::False
+            Truth::False
         }
     }
 
@@ -98,9 +103,9 @@ impl TrueLiterals {
         ensures { Assumes self.old self.new literal result }
     {
         match self.status(literal) {
-            Status::True => true,
-            Status::False => false,
-            Status::Unset => {
+            Truth::True => true,
+            Truth::False => false,
+            Truth::Unset => {
                 self.make_true(literal);
                 true
             }
@@ -116,7 +121,7 @@ impl TrueLiterals {
         ensures least { (trues : List Literal) → ContainsAll trues self.old.literals → ContainsAll trues literals.now
             → ContainsAll trues self.new.literals }
         ensures refused { result ≡ false → (trues : List Literal) → ContainsAll trues self.old.literals
-            → ContainsAll trues literals.now → IsConsistent trues → ⊥ }
+            → ContainsAll trues literals.now → ¬ IsConsistent trues }
     {
         for literal in literals {
             if !self.assume(*literal) {
@@ -137,7 +142,7 @@ impl TrueLiterals {
 
     /// What a clause is under the true literals.
     pub fn outcome(&self, clause: &[Lit]) -> Outcome
-        requires { All (λ l. l.variable ≤ self.now.variables) clause.now }
+        requires { IsClauseOver self.now.variables clause.now }
         ensures { HasOutcome self.now.literals clause.now result }
     {
         let mut outcome = Outcome::Conflict;
@@ -159,22 +164,22 @@ impl TrueLiterals {
 }
 
 impl Outcome {
-    ghost use Rattle.dist_derive.specs.Valued.{HasStatus, HasOutcome};
+    ghost use Rattle.dist_derive.specs.TrueLiterals.{HasTruth, HasOutcome};
 
-    /// What a clause is with one more literal.
-    fn with(self, literal: Lit, status: Status) -> Outcome
-        ensures { (trues clause : List Literal) → HasOutcome trues clause self → HasStatus trues literal status
-            → HasOutcome trues (clause ++ literal ∷ []) result }
+    /// What a clause is with one more literal, of a variable that the clause has not.
+    fn with(self, literal: Lit, status: Truth) -> Outcome
+        ensures { (trues clause : List Literal) → All (λ m. m.variable ≢ literal.variable) clause
+            → HasOutcome trues clause self → HasTruth trues literal status → HasOutcome trues (clause ++ literal ∷ []) result }
     {
         match self {
             Outcome::Conflict => match status {
-                Status::False => Outcome::Conflict,
-                Status::Unset => Outcome::Unit(literal),
-                Status::True => Outcome::Open,
+                Truth::False => Outcome::Conflict,
+                Truth::Unset => Outcome::Unit(literal),
+                Truth::True => Outcome::Open,
             },
             Outcome::Unit(only) => match status {
-                Status::False => Outcome::Unit(only),
-                Status::Unset | Status::True => Outcome::Open,
+                Truth::False => Outcome::Unit(only),
+                Truth::Unset | Truth::True => Outcome::Open,
             },
             Outcome::Open => Outcome::Open,
         }

@@ -1,13 +1,15 @@
-ghost use Rattle.std.specs.Prelude.{◌≡◌, ◌<◌, ◌≤◌, ◌↔◌, true, false, [], ◌∷◌, ◌++◌, ℕ, Bool, length, replicate, All, Contains, IfOk, IsTrue};
+//! Sets of variables that are emptied in time proportional to their members.
+
+ghost use Rattle.std.specs.Prelude.{◌≡◌, ◌≢◌, ◌<◌, ◌≤◌, ◌↔◌, true, false, [], ◌∷◌, ◌++◌, ℕ, Bool, length, replicate, All, AllPairs, Contains, IfOk, IsTrue};
 ghost use Rattle.dist_clause.specs.Formula.{value_of};
-ghost use Rattle.dist_derive.specs.New.{IsClosedUnder};
-ghost use Rattle.dist_derive.specs.Growing.{Includes, Grows, HasAll, IsClosedAt};
+ghost use Rattle.dist_derive.specs.Cone.{IsClosedUnder};
+ghost use Rattle.dist_derive.specs.VariableSet.{Includes, Grows, HasAll, IsClosedAt};
 
 use dist_clause::{Assignment, Lit};
 use std::alloc::{AllocError, Global};
 use std::marker::Model;
 
-/// A set of variables that is emptied in time proportional to its members.
+/// A set of the variables from 1 to a number, with its members in the order in which they came.
 #[derive(Debug, Drop)]
 pub struct VariableSet {
     marks: Assignment,
@@ -17,7 +19,7 @@ pub struct VariableSet {
 impl Model for VariableSet {
     ghost use Rattle.std.specs.Prelude.{length};
     ghost use Rattle.std.specs.Vec.{vec_capacity};
-    ghost use Rattle.dist_derive.specs.Marked.{VariableList, AreMarked};
+    ghost use Rattle.dist_derive.specs.VariableSet.{VariableList, AreMarked};
 
     ghost Value = { VariableList };
 
@@ -27,6 +29,7 @@ impl Model for VariableSet {
 }
 
 impl VariableSet {
+    /// An empty set, with room for all variables.
     pub fn new(alloc: Global, variables: u32) -> Result<VariableSet, AllocError>
         ensures { IfOk result (λ s. s ≡ record { variables = variables; members = [] }) }
     {
@@ -35,6 +38,7 @@ impl VariableSet {
         Ok(VariableSet { marks, members })
     }
 
+    /// Whether a variable is in.
     pub fn contains(&self, variable: u32) -> bool
         requires from_one { 1 ≤ variable }
         requires in_range { variable ≤ self.now.variables }
@@ -43,21 +47,31 @@ impl VariableSet {
         self.marks.value(variable)
     }
 
+    /// The members, each once, in the order in which they came.
+    pub fn members(&self) -> &[u32]
+        ensures value { result.now ≡ self.now.members }
+        ensures in_range { All (λ v. (1 ≤ v) × (v ≤ self.now.variables)) result.now }
+        ensures each_once { AllPairs (λ v w. v ≢ w) result.now }
+    {
+        &self.members
+    }
+
     /// Adds a variable that is no member.
-    pub fn add(&mut self, variable: u32)
+    pub(crate) fn add(&mut self, variable: u32)
         requires from_one { 1 ≤ variable }
         requires in_range { variable ≤ self.old.variables }
-        requires fresh { Contains self.old.members variable → ⊥ }
+        requires fresh { ¬ Contains self.old.members variable }
         ensures added { self.new ≡ record self.old { members = self.old.members ++ variable ∷ [] } }
         ensures few { length self.new.members ≤ self.new.variables }
         ensures in_range { All (λ v. (1 ≤ v) × (v ≤ self.new.variables)) self.new.members }
     {
+        // There is room for all variables, so this takes no memory.
         let _ = self.members.push(variable);
         self.marks.set(variable, true);
     }
 
     /// Puts a variable in, and answers whether it was not in before.
-    pub fn include(&mut self, variable: u32) -> bool
+    pub(crate) fn include(&mut self, variable: u32) -> bool
         requires from_one { 1 ≤ variable }
         requires in_range { variable ≤ self.old.variables }
         ensures { Includes self.old self.new variable result }
@@ -70,7 +84,7 @@ impl VariableSet {
     }
 
     /// Puts the variables of a clause in, and answers whether one was not in before.
-    pub fn include_all(&mut self, clause: &[Lit]) -> bool
+    pub(crate) fn include_all(&mut self, clause: &[Lit]) -> bool
         requires { All (λ l. l.variable ≤ self.old.variables) clause.now }
         ensures grows { Grows self.old self.new result }
         ensures included { All (λ l. Contains self.new.members l.variable) clause.now }
@@ -86,7 +100,7 @@ impl VariableSet {
 
     /// Where the variables of all negative literals of a clause are in, puts all its variables in, and answers whether
     /// one was not in before.
-    pub fn close_at(&mut self, clause: &[Lit]) -> bool
+    pub(crate) fn close_at(&mut self, clause: &[Lit]) -> bool
         requires { All (λ l. l.variable ≤ self.old.variables) clause.now }
         ensures grows { Grows self.old self.new result }
         ensures closed { result ≡ false → IsClosedAt self.new.members clause.now }
@@ -100,6 +114,7 @@ impl VariableSet {
         }
     }
 
+    /// Whether the variables of all negative literals of a clause are in.
     fn has_negatives(&self, clause: &[Lit]) -> bool
         requires { All (λ l. l.variable ≤ self.now.variables) clause.now }
         ensures { IsTrue result ↔ All (λ l. l.positive ≡ false → Contains self.now.members l.variable) clause.now }
@@ -110,7 +125,7 @@ impl VariableSet {
     }
 
     /// Whether the variables of all literals of a clause are in.
-    pub fn has_clause(&self, clause: &[Lit]) -> bool
+    pub(crate) fn has_clause(&self, clause: &[Lit]) -> bool
         requires { All (λ l. l.variable ≤ self.now.variables) clause.now }
         ensures { IsTrue result ↔ All (λ l. Contains self.now.members l.variable) clause.now }
     {

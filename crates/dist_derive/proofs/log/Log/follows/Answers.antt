@@ -1,5 +1,5 @@
 use Rattle.std.proofs.Common.{ap, subst}
-use Rattle.dist_derive.specs.Valued.{LiteralList}
+use Rattle.dist_derive.specs.TrueLiterals.{LiteralList}
 use Rattle.dist_derive.specs.Follows.{EndsFalse}
 use Rattle.dist_derive.proofs.Soundness.{follows_sound}
 use Rattle.dist_derive.proofs.log.Log.follows.Goals as goal

@@ -1,8 +1,8 @@
 use Rattle.std.proofs.Common.{take, ap, sym, subst}
 use Rattle.std.proofs.lemmas.Bool.{false≢true}
 use Rattle.dist_clause.specs.Formula.{IsClauseOver}
-use Rattle.dist_derive.specs.Valued.{LiteralList}
-use Rattle.dist_derive.specs.Growing.{LeavesFirstUnset}
+use Rattle.dist_derive.specs.TrueLiterals.{LiteralList}
+use Rattle.dist_derive.specs.New.{LeavesFirstUnset}
 use Rattle.dist_derive.proofs.DenyLemmas.{IsClauseOver-tail}
 use Rattle.dist_derive.proofs.SweepLemmas.{unset_refused, unset_refuted, unset_at_end, leaves_unset_end}
 use Rattle.dist_derive.proofs.log.Log.leaves_unset.Goals as goal

@@ -1,5 +1,5 @@
 use Rattle.std.proofs.Common.{subst, arith}
-use Rattle.dist_derive.specs.Valued.{HasOutcome}
+use Rattle.dist_derive.specs.TrueLiterals.{HasOutcome}
 use Rattle.dist_derive.proofs.FollowsLemmas.{takes_hint_kept}
 use Rattle.dist_derive.proofs.log.Log.take_hint.Goals as goal
 

@@ -1,7 +1,7 @@
 use Rattle.std.proofs.Common.{◌≡◌, ap, subst}
 use Rattle.std.specs.List.{Contains}
 use Rattle.dist_clause.specs.Formula.{Literal, negation}
-use Rattle.dist_derive.specs.Valued.{LiteralList}
+use Rattle.dist_derive.specs.TrueLiterals.{LiteralList}
 use Rattle.dist_derive.proofs.DenyLemmas.{not_denied}
 use Rattle.dist_derive.proofs.true_literals.TrueLiterals.deny.Goals as goal
 

@@ -1,7 +1,7 @@
 use Rattle.std.proofs.Common.{◌≡◌, ◌-◌, ◌≤◌, [], ◌∷◌, ◌++◌, set, subst, sym, ap, ◌∙◌, arith}
 use Rattle.std.specs.List.{All, Contains}
-use Rattle.dist_derive.specs.Marked.{VariableList}
-use Rattle.dist_derive.specs.Valued.{LiteralList, valued}
+use Rattle.dist_derive.specs.VariableSet.{VariableList}
+use Rattle.dist_derive.specs.TrueLiterals.{LiteralList, valued}
 use Rattle.dist_derive.specs.Propagation.{IsUnset}
 use Rattle.dist_derive.proofs.ValuedLemmas.{fresh-from_unset, valued-add}
 use Rattle.dist_derive.proofs.true_literals.TrueLiterals.make_true.Goals as goal

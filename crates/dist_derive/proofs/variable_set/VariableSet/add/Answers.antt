@@ -3,7 +3,7 @@ use Rattle.std.specs.List.{Contains}
 use Rattle.std.specs.Vec.{vec_capacity}
 use Rattle.std.proofs.lemmas.List.{length-set}
 use Rattle.std.proofs.lemmas.Bool.{cond-true}
-use Rattle.dist_derive.specs.Marked.{VariableList, AreMarked}
+use Rattle.dist_derive.specs.VariableSet.{VariableList, AreMarked}
 use Rattle.dist_derive.proofs.MarkedLemmas.{AreMarked-add, is_room}
 use Rattle.dist_derive.proofs.variable_set.VariableSet.add.Goals as goal
 
@@ -11,7 +11,7 @@ pushed : (c : goal.After-set) → c.push.new.self.items ≡ c.self.inside.member
 pushed c =
     let variables = ap (λ (s : VariableList). s.variables) c.self.view_is in
     let members = ap (λ (s : VariableList). s.members) c.self.view_is in
-    let fresh = subst (λ xs. Contains xs c.args.variable → ⊥) (sym members) c.requires.fresh in
+    let fresh = subst (λ xs. ¬ Contains xs c.args.variable) (sym members) c.requires.fresh in
     let room = is_room c.self.inside.marks c.self.inside.members.items (vec_capacity c.self.inside.members) c.args.variable c.self.invariant c.requires.from_one (omega arith) fresh in
     let ok = c.push.ensures.succeeds (omega (arith, c.self.inside.members.ok.0, c.self.invariant.room)) in
     c.push.ensures.items ∙ cond-true (is_ok c.push.result) (c.self.inside.members.items ++ c.args.variable ∷ []) c.self.inside.members.items ok
@@ -21,7 +21,7 @@ marked : (c : goal.After-set) → AreMarked (set c.self.inside.marks (c.args.var
 marked c =
     let variables = ap (λ (s : VariableList). s.variables) c.self.view_is in
     let members = ap (λ (s : VariableList). s.members) c.self.view_is in
-    let fresh = subst (λ xs. Contains xs c.args.variable → ⊥) (sym members) c.requires.fresh in
+    let fresh = subst (λ xs. ¬ Contains xs c.args.variable) (sym members) c.requires.fresh in
     AreMarked-add c.self.inside.marks c.self.inside.members.items (vec_capacity c.self.inside.members) (vec_capacity c.push.new.self) c.args.variable
     c.self.invariant c.push.ensures.capacity c.requires.from_one (omega arith) fresh
 

@@ -1,5 +1,0 @@
-use Rattle.dist_derive.proofs.ConeLaws.{cone_model}
-use Rattle.dist_derive.proofs.newness.cone_models_extend.Goals as goal
-
-pub returns : goal.returns
-returns c = cone_model
