@@ -2,7 +2,7 @@ use Rattle.std.proofs.Common.{rules, ap, is_lt}
 use Rattle.std.proofs.lemmas.List.Sorted.{ranks_by, answers_always}
 use Rattle.std.proofs.lemmas.Result.{on_ok_weaker}
 use Rattle.dist_version.specs.Order.{version_cmp}
-use Rattle.dist_version.proofs.Total.{version_total}
+use Rattle.dist_version.specs.OrderLaws.{version_total}
 use Rattle.dist_bench.proofs.versions.sort.Goals as goal
 
 -- what `sort_by` gives, since the closure answers by the order of versions, which is total
