@@ -26,3 +26,23 @@ least-pair P number place below row = record {
     ]
   ];
 }
+
+-- no number so far
+abbrev pub IsNoneTo : (ℕ → Type 0) → ℕ → Type 0
+IsNoneTo P count = (n : ℕ) → n < count → ¬ P n
+
+pub none-next : (P : ℕ → Type 0) (count : ℕ) → IsNoneTo P count → ¬ P count → IsNoneTo P (count + 1)
+none-next P count none here n short holds =
+    elim (cases_lt n count) [
+      | inl h ↦ none n h holds
+      | inr h ↦ let same : n ≡ count = omega arith in here (subst P same holds)
+    ]
+
+pub least-found : (P : ℕ → Type 0) (count : ℕ) → IsNoneTo P count → P count → IsLeast P count
+least-found P count none here = record {
+  holds = here;
+  least = λ n holds. elim (cases_lt n count) [
+    | inl h ↦ absurd (none n h holds)
+    | inr h ↦ h
+  ];
+}

@@ -11,7 +11,7 @@ use Rattle.dist_repo.specs.PackageList.{PackageList, IsPackageAnd}
 use Rattle.dist_repo.specs.Providers.{AreProviders, IsProvider}
 use Rattle.dist_repo.specs.declared.package.Package.{Package}
 use Rattle.dist_now.specs.Members.{IsMemberAnd, members_of}
-use Rattle.dist_now.proofs.Places.{any-head, any-later, any-from}
+use Rattle.dist_now.proofs.Places.{any-head, any-later, any-from, has-at, at-has}
 
 any-cases : {X : Type 0} (P : X → Type 0) (x : X) (xs : List X) → Any P (x ∷ xs) → P x ⊎ Any P xs
 any-cases P x xs any = at any.0 any.1 any.2 any.3 any.4
@@ -66,7 +66,7 @@ at-weaker P Q [] k more here = absurd here
 at-weaker P Q (x ∷ xs) zero more here = more x here
 at-weaker P Q (x ∷ xs) (suc k) more here = at-weaker P Q xs k more here
 
-within-from : {X : Type 0} (P : X → Type 0) (xs : List X) (k : ℕ) → IsSomeAnd (slice_get xs k) P → k < length xs
+pub within-from : {X : Type 0} (P : X → Type 0) (xs : List X) (k : ℕ) → IsSomeAnd (slice_get xs k) P → k < length xs
 within-from P [] k here = absurd here
 within-from P (x ∷ xs) zero here = omega arith
 within-from P (x ∷ xs) (suc k) here = omega (arith, within-from P xs k here)
@@ -108,3 +108,17 @@ pub provider-within : (r : PackageList) (name : List ℕ) (providers : List ℕ)
 provider-within r name providers number are there =
     let here = (are.exact number).0 there in
     within-from (IsProvider r.architecture name) r.packages number here
+
+-- a provider that is a member and that the atom matches
+pub provider-any : (r : PackageList) (flags : List Bool) (atom : Atom) (number : ℕ) (p : Package) → slice_get flags number ≡ Some true → slice_get r.packages number ≡ Some p
+    → Matches r.architecture atom p → Any (Matches r.architecture atom) (members_of r.packages flags)
+provider-any r flags atom number p member here matches =
+    member-any (Matches r.architecture atom) r.packages flags number member (at-has (Matches r.architecture atom) r.packages number p here matches)
+
+pub not-matched : (r : PackageList) (flags : List Bool) (atom : Atom) (number : ℕ) (p : Package) → slice_get r.packages number ≡ Some p → ¬ Matches r.architecture atom p
+    → ¬ IsMemberAnd r.packages flags number (Matches r.architecture atom)
+not-matched r flags atom number p here none m = none (has-at (Matches r.architecture atom) r.packages number p here m.has)
+
+-- some member meets an alternative
+abbrev pub IsMetBy : PackageList → List Bool → Atom → Type 0
+IsMetBy r flags atom = Any (Matches r.architecture atom) (members_of r.packages flags)

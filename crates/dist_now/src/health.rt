@@ -16,7 +16,7 @@ pub enum Health {
     /// Two members of one name.
     TwoVersions(u32, u32),
     /// A member, and an item of its dependencies that no member meets.
-    Unmet(u32, u32),
+    Unmet(u32, usize),
     /// Two members in conflict.
     Conflict(u32, u32),
     /// An essential package whose name no member has.
@@ -30,7 +30,8 @@ fn later_version(repo: &Repository, members: &Assignment, first: u32, package: &
     ensures { IsLeastIfAny (IsLater repo.now members.now first (λ q. «package».now.name ≡ q.name)) result }
 {
     // Packages are in the order of their names, so those of one name stand together.
-    for second in first + 1..repo.len() {
+    let end = repo.len();
+    for second in first + 1..end {
         if repo.package(second).name != package.name {
             return None;
         }
@@ -52,7 +53,8 @@ fn later_conflict(
     requires first { first < length repo.now.packages }
     ensures { IsLeastIfAny (IsLater repo.now members.now first (AreInConflict repo.now.architecture «package».now)) result }
 {
-    for second in first + 1..repo.len() {
+    let end = repo.len();
+    for second in first + 1..end {
         if is_member(repo, members, second) && repo.conflict(package, repo.package(second)) {
             return Some(second);
         }
@@ -66,14 +68,14 @@ fn unmet_item(
     members: &Assignment,
     number: u32,
     package: &Package,
-) -> Option<u32>
+) -> Option<usize>
     requires one_each { IsOneEach repo.now members.now }
     requires number { slice_get repo.now.packages number ≡ Some «package».now }
     ensures { IsLeastIfAny (IsUnmetItem repo.now members.now «package».now.depends) result }
 {
     for place in 0..package.depends.len() {
         if !is_met(repo, members, number, place, package.depends.get(place)) {
-            return Some(place as u32);
+            return Some(place);
         }
     }
     None
@@ -92,7 +94,7 @@ fn version_row(repo: &Repository, members: &Assignment, first: u32) -> Option<u3
 }
 
 /// The least place of an unmet item of a member.
-fn unmet_row(repo: &Repository, members: &Assignment, number: u32) -> Option<u32>
+fn unmet_row(repo: &Repository, members: &Assignment, number: u32) -> Option<usize>
     requires one_each { IsOneEach repo.now members.now }
     requires number { number < length repo.now.packages }
     ensures { IsLeastIfAny (IsUnmetAt repo.now members.now number) result }
@@ -129,7 +131,7 @@ fn two_versions(repo: &Repository, members: &Assignment) -> Option<(u32, u32)>
 }
 
 /// The least member with an unmet item, and the place of the first one.
-fn unmet(repo: &Repository, members: &Assignment) -> Option<(u32, u32)>
+fn unmet(repo: &Repository, members: &Assignment) -> Option<(u32, usize)>
     requires { IsOneEach repo.now members.now }
     ensures { IsLeastPairIfAny (IsUnmetAt repo.now members.now) result }
 {

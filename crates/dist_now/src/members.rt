@@ -16,8 +16,7 @@ pub(crate) fn is_member(repo: &Repository, members: &Assignment, number: u32) ->
     requires number { number < length repo.now.packages }
     ensures { IsTrue result ↔ (slice_get members.now number ≡ Some true) }
 {
-    let _ = repo;
-    members.value(number + 1)
+    number < repo.len() && members.value(number + 1)
 }
 
 /// Whether a member matches the alternative at a place of an item.
