@@ -1,3 +1,6 @@
 pub mod Places
 pub mod MemberLemmas
 pub mod LeastLemmas
+pub mod Decided
+pub mod HealthyLemmas
+pub mod OneHealth

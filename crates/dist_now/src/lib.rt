@@ -2,6 +2,8 @@
 #![tactic(auto)]
 
 mod health;
+mod laws;
 mod members;
 
 pub use health::Health;
+pub use laws::one_health;
