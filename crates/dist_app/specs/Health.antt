@@ -6,7 +6,7 @@ use Rattle.dist_outside.specs.Files.{Files}
 use Rattle.dist_outside.specs.declared.limits.Limits.{Limits}
 use Rattle.dist_repo.specs.PackageList.{PackageList}
 use Rattle.dist_repo.specs.declared.package.Package.{Package}
-use Rattle.dist_now.specs.Health.{HasHealth}
+use Rattle.dist_now.specs.Health.{IsHealth}
 use Rattle.dist_now.specs.declared.kinds.Health.{Health}
 use Rattle.dist_now.specs.declared.kinds.Health.TheVariants.{Healthy, TwoVersions, Unmet, Conflict, EssentialMissing}
 use Rattle.dist_app.specs.PackageText.{label}
@@ -58,7 +58,7 @@ pub record Judges (files : Option Files) (repository : PackageList) (members : L
   pub health : Health
   pub status : Status
   pub line : List ℕ
-  pub is_health : HasHealth repository false members health
+  pub is_health : IsHealth repository false members health
   pub tells : Tells repository.packages health status line
   pub is : ending ≡ answered files status line
 

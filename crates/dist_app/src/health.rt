@@ -80,7 +80,7 @@ fn unmet_line(
     alloc: Global,
     repository: &Repository,
     number: u32,
-    place: u32,
+    place: usize,
 ) -> Result<Vec<u8>, AllocError>
     requires { HasItem repository.now.packages number place }
     ensures { IfOk result (λ line. IsUnmetLine repository.now.packages number place line.items) }
@@ -89,7 +89,7 @@ fn unmet_line(
     let mut line = b"unmet ".to_vec(alloc)?;
     write_label(package, &mut line)?;
     line.extend_from_slice(b": ")?;
-    print_alternatives(package.depends.get(place as usize), &mut line)?;
+    print_alternatives(package.depends.get(place), &mut line)?;
     line.push(b'\n')?;
     Ok(line)
 }

@@ -1,5 +1,5 @@
 -- The members of an installation, and what they meet.
-use Rattle.std.proofs.Common.{◌≡◌, ◌↔◌, ◌⊎◌, ℕ, zero, suc, ◌+◌, ◌-◌, ◌<◌, ◌≤◌, Bool, true, false, List, [], ◌∷◌, length, get_or, Some, Option, refl, sym, ap, subst, ◌∙◌, arith, inl, inr, slice_get}
+use Rattle.std.proofs.Common.{◌≡◌, ◌≢◌, ◌↔◌, ◌⊎◌, ℕ, zero, suc, ◌+◌, ◌-◌, ◌<◌, ◌≤◌, Bool, true, false, List, [], ◌∷◌, length, get_or, Some, Option, refl, sym, ap, subst, ◌∙◌, arith, inl, inr, slice_get}
 use Rattle.std.specs.Prelude.{Any, Contains, IsSomeAnd}
 use Rattle.std.proofs.lemmas.Bool.{cases_lt}
 use Rattle.std.proofs.lemmas.List.{get_or_default}
@@ -13,7 +13,7 @@ use Rattle.dist_repo.specs.declared.package.Package.{Package}
 use Rattle.dist_now.specs.Members.{IsMemberAnd, members_of}
 use Rattle.dist_now.proofs.Places.{any-head, any-later, any-from, has-at, at-has}
 
-any-cases : {X : Type 0} (P : X → Type 0) (x : X) (xs : List X) → Any P (x ∷ xs) → P x ⊎ Any P xs
+pub any-cases : {X : Type 0} (P : X → Type 0) (x : X) (xs : List X) → Any P (x ∷ xs) → P x ⊎ Any P xs
 any-cases P x xs any = at any.0 any.1 any.2 any.3 any.4
   where
     at : (k : ℕ) (y : _) → k < length (x ∷ xs) → get_or (x ∷ xs) k y ≡ y → P y → P x ⊎ Any P xs
@@ -78,20 +78,37 @@ value-answer answer flags n short is =
     let here : answer ≡ get_or flags n false = is ∙ ap (λ k. get_or flags k false) place in
     ((λ true_is. (value-member flags n short).0 (sym here ∙ true_is)), λ member. here ∙ (value-member flags n short).1 member)
 
--- ---- the providers of an atom's name, as far as they were gone through
+-- ---- the providers of a name, as far as they were gone through
+
+-- none so far is a member with a property
+abbrev pub IsNoneOf : PackageList → List Bool → (Package → Type 0) → List ℕ → ℕ → Type 0
+IsNoneOf r flags Q providers count = (k : ℕ) → k < count → ¬ IsMemberAnd r.packages flags (get_or providers k 0) Q
+
+-- no member has a property that only providers of the name have
+pub none-of : (r : PackageList) (flags : List Bool) (name : List ℕ) (Q : Package → Type 0) (providers : List ℕ) (count : ℕ) → length providers ≤ count → AreProviders r name providers
+    → ((p : Package) → Q p → IsProvider r.architecture name p) → IsNoneOf r flags Q providers count → ¬ Any Q (members_of r.packages flags)
+none-of r flags name Q providers count past are provides none any =
+    let m = any-member Q r.packages flags any in
+    let here = at-weaker Q (IsProvider r.architecture name) r.packages m.number provides m.has in
+    let there : Contains providers m.number = (are.exact m.number).1 here in
+    let is : get_or providers there.0 0 ≡ m.number = get_or_default providers there.0 0 m.number there.1 ∙ there.2 in
+    let Member : ℕ → Type 0 = λ n. IsMemberAnd r.packages flags n Q in
+    none there.0 (omega (arith, there.1)) (subst Member (sym is) (record { member = m.member; has = m.has }))
 
 abbrev pub IsNoneMatched : PackageList → List Bool → Atom → List ℕ → ℕ → Type 0
-IsNoneMatched r flags atom providers count = (k : ℕ) → k < count → ¬ IsMemberAnd r.packages flags (get_or providers k 0) (Matches r.architecture atom)
+IsNoneMatched r flags atom = IsNoneOf r flags (Matches r.architecture atom)
 
 pub none-matched : (r : PackageList) (flags : List Bool) (atom : Atom) (providers : List ℕ) (count : ℕ) → length providers ≤ count → AreProviders r atom.name providers → IsNoneMatched r flags atom providers count →
     ¬ Any (Matches r.architecture atom) (members_of r.packages flags)
-none-matched r flags atom providers count past are none any =
-    let m = any-member (Matches r.architecture atom) r.packages flags any in
-    let provides = at-weaker (Matches r.architecture atom) (IsProvider r.architecture atom.name) r.packages m.number (matched-provides r.architecture atom) m.has in
-    let there : Contains providers m.number = (are.exact m.number).1 provides in
-    let here : get_or providers there.0 0 ≡ m.number = get_or_default providers there.0 0 m.number there.1 ∙ there.2 in
-    let Member : ℕ → Type 0 = λ n. IsMemberAnd r.packages flags n (Matches r.architecture atom) in
-    none there.0 (omega (arith, there.1)) (subst Member (sym here) (record { member = m.member; has = m.has }))
+none-matched r flags atom providers count past are none = none-of r flags atom.name (Matches r.architecture atom) providers count past are (matched-provides r.architecture atom) none
+
+-- of this name
+abbrev pub IsNamed : List ℕ → Package → Type 0
+IsNamed name q = q.name ≡ name
+
+pub none-named : (r : PackageList) (flags : List Bool) (name : List ℕ) (providers : List ℕ) (count : ℕ) → length providers ≤ count → AreProviders r name providers → IsNoneOf r flags (IsNamed name) providers count →
+    ¬ Any (IsNamed name) (members_of r.packages flags)
+none-named r flags name providers count past are none = none-of r flags name (IsNamed name) providers count past are (λ p is. inl is) none
 
 -- a provider that is not a member, or that the atom doesn't match, is passed over
 pub none-matched-more : (r : PackageList) (flags : List Bool) (atom : Atom) (providers : List ℕ) (count : ℕ) → IsNoneMatched r flags atom providers count →
@@ -122,3 +139,13 @@ not-matched r flags atom number p here none m = none (has-at (Matches r.architec
 -- some member meets an alternative
 abbrev pub IsMetBy : PackageList → List Bool → Atom → Type 0
 IsMetBy r flags atom = Any (Matches r.architecture atom) (members_of r.packages flags)
+
+-- a member of a name
+pub named-any : (r : PackageList) (flags : List Bool) (name : List ℕ) (number : ℕ) (p : Package) → slice_get flags number ≡ Some true → slice_get r.packages number ≡ Some p
+    → p.name ≡ name → Any (IsNamed name) (members_of r.packages flags)
+named-any r flags name number p member here is =
+    member-any (IsNamed name) r.packages flags number member (at-has (IsNamed name) r.packages number p here is)
+
+pub not-named : (r : PackageList) (flags : List Bool) (name : List ℕ) (number : ℕ) (p : Package) → slice_get r.packages number ≡ Some p → p.name ≢ name
+    → ¬ IsMemberAnd r.packages flags number (IsNamed name)
+not-named r flags name number p here other m = other (has-at (IsNamed name) r.packages number p here m.has)

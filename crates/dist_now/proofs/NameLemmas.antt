@@ -1,8 +1,9 @@
 -- Packages in order: those of one name stand together.
-use Rattle.std.proofs.Common.{◌≡◌, ◌≢◌, ℕ, ◌<◌, ◌≤◌, List, length, get_or, nat_cmp, Ordering, Less, Equal, Greater, refl, sym, ap, ◌∙◌, subst, arith, inl, inr, Some, slice_get, is_eq}
+use Rattle.std.proofs.Common.{◌≡◌, ◌≢◌, ℕ, ◌<◌, ◌≤◌, List, length, get_or, nat_cmp, Ordering, Less, Equal, Greater, refl, sym, ap, ◌∙◌, subst, arith, inl, inr, Some, slice_get, is_eq, Bool, true, false, not}
+use Rattle.std.specs.Prelude.{bytes_eq}
 use Rattle.std.specs.Cmp.Lexicographic.{slice_cmp}
 use Rattle.std.specs.Ordering.{ordering_then, ordering_reverse}
-use Rattle.std.proofs.lemmas.Bool.{cases_lt}
+use Rattle.std.proofs.lemmas.Bool.{cases_lt, false≢true}
 use Rattle.std.proofs.lemmas.Cmp.{nat_list_cmp_total}
 use Rattle.std.proofs.lemmas.Map.Text.{is_eq-slice_cmp}
 use Rattle.std.proofs.lemmas.Option.{get_or_from_slice_get}
@@ -12,6 +13,10 @@ use Rattle.dist_repo.specs.declared.package.Package.{Package}
 
 same_names : (a b : List ℕ) → slice_cmp nat_cmp a b ≡ Equal → a ≡ b
 same_names a b is = (bytes_eq-Decides a b).0 (sym (is_eq-slice_cmp a b) ∙ ap is_eq is)
+
+-- names that a comparison of bytes tells apart
+pub names-apart : (a b : List ℕ) → true ≡ not (bytes_eq a b) → a ≢ b
+names-apart a b apart same = false≢true (sym (apart ∙ ap not ((bytes_eq-Decides a b).1 same)))
 
 then-less : (a b : Ordering) → ordering_then a b ≡ Less → a ≢ Greater
 then-less Less b is e = cc

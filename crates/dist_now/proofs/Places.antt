@@ -20,7 +20,7 @@ some-element P (x ∷ xs) zero here = x
 some-element P (x ∷ xs) (suc k) here = some-element P xs k here
 
 pub element-is : {X : Type 0} (P : X → Type 0) (xs : List X) (k : ℕ) (here : IsSomeAnd (slice_get xs k) P) → slice_get xs k ≡ Some (some-element P xs k here)
-  unfolding some-element
+unfolding some-element
 element-is P [] k here = absurd here
 element-is P (x ∷ xs) zero here = refl
 element-is P (x ∷ xs) (suc k) here = element-is P xs k here

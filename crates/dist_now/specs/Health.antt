@@ -6,8 +6,8 @@ use Rattle.dist_repo.specs.PackageList.{PackageList, IsPackageAnd}
 use Rattle.dist_repo.specs.declared.package.Package.{Package}
 use Rattle.dist_now.specs.Least.{IsLeast, IsLeastPair, IsNoPair}
 use Rattle.dist_now.specs.Members.{IsMemberAnd, members_of}
-use Rattle.dist_now.specs.declared.health.Health.{Health}
-use Rattle.dist_now.specs.declared.health.Health.TheVariants.{Healthy, TwoVersions, Unmet, Conflict, EssentialMissing}
+use Rattle.dist_now.specs.declared.kinds.Health.{Health}
+use Rattle.dist_now.specs.declared.kinds.Health.TheVariants.{Healthy, TwoVersions, Unmet, Conflict, EssentialMissing}
 
 -- two members, the first with the lesser number, that stand in a relation
 pub record AreMembers (r : PackageList) (flags : List Bool) (R : Package → Package → Type 0) (first second : ℕ) : Type 0 where

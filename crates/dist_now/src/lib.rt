@@ -1,7 +1,12 @@
 //! The present: whether an installation of a repository's packages is healthy, and where it is not.
 #![tactic(auto)]
 
-mod health;
+mod faults;
+mod judging;
+mod kinds;
+mod laws;
 mod members;
 
-pub use health::Health;
+pub use judging::health;
+pub use kinds::Health;
+pub use laws::one_health;

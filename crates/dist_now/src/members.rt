@@ -7,7 +7,7 @@ ghost use Rattle.dist_now.specs.Fit.{IsOneEach};
 ghost use Rattle.dist_now.specs.Members.{IsItemAt, members_of};
 
 use dist_clause::Assignment;
-use dist_relation::{Alternatives, Atom};
+use dist_relation::{Alternatives, Atom, Name};
 use dist_repo::Repository;
 
 /// Whether the package of a number is a member.
@@ -54,6 +54,20 @@ pub(crate) fn is_met(
         let atom = alternatives.get(place);
         let providers = repo.alternative_providers(number, item, place);
         if is_alternative_met(repo, members, atom, providers) {
+            return true;
+        }
+    }
+    false
+}
+
+/// Whether a member has a name.
+pub(crate) fn is_named(repo: &Repository, members: &Assignment, name: &Name) -> bool
+    requires one_each { IsOneEach repo.now members.now }
+    ensures { IsTrue result ↔ Any (λ q. q.name ≡ name.now) (members_of repo.now.packages members.now) }
+{
+    let providers = repo.providers(name.bytes());
+    for number in providers {
+        if is_member(repo, members, *number) && repo.package(*number).name == *name {
             return true;
         }
     }

@@ -2,7 +2,7 @@ use Rattle.std.specs.Prelude.{◌<◌}
 use Rattle.dist_repo.specs.Conflict.{AreInConflict}
 use Rattle.dist_now.specs.Rows.{IsLater}
 use Rattle.dist_now.proofs.LeastLemmas.{IsNoneTo}
-use Rattle.dist_now.proofs.health.later_conflict.Given as goal
+use Rattle.dist_now.proofs.faults.later_conflict.Given as goal
 
 -- no member so far
 abbrev pub invariant-loop-second : goal.invariant-loop-second

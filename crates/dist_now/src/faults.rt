@@ -1,4 +1,4 @@
-//! Whether an installation is healthy, and the first and least of what is wrong where it is not.
+//! The least fault of each kind: rows of pairs, each gone through from its least.
 ghost use Rattle.std.specs.Prelude.{◌≡◌, ◌<◌, Some, length, slice_get};
 ghost use Rattle.dist_repo.specs.Conflict.{AreInConflict};
 ghost use Rattle.dist_now.specs.Fit.{IsOneEach};
@@ -8,20 +8,6 @@ ghost use Rattle.dist_now.specs.Rows.{IsLater, IsLeastIfAny, IsLeastPairIfAny, I
 use crate::members::{is_member, is_met};
 use dist_clause::Assignment;
 use dist_repo::{Package, Repository};
-
-/// What is wrong with an installation. Packages are given by their numbers, and items by their places, both from 0.
-#[derive(Clone, Copy, Debug, PartialEq, Eq)]
-pub enum Health {
-    Healthy,
-    /// Two members of one name.
-    TwoVersions(u32, u32),
-    /// A member, and an item of its dependencies that no member meets.
-    Unmet(u32, usize),
-    /// Two members in conflict.
-    Conflict(u32, u32),
-    /// An essential package whose name no member has.
-    EssentialMissing(u32),
-}
 
 /// The least member behind one, of the same name.
 fn later_version(repo: &Repository, members: &Assignment, first: u32, package: &Package) -> Option<u32>
@@ -118,7 +104,7 @@ fn conflict_row(repo: &Repository, members: &Assignment, first: u32) -> Option<u
 }
 
 /// The least two members of one name.
-fn two_versions(repo: &Repository, members: &Assignment) -> Option<(u32, u32)>
+pub(crate) fn two_versions(repo: &Repository, members: &Assignment) -> Option<(u32, u32)>
     requires { IsOneEach repo.now members.now }
     ensures { IsLeastPairIfAny (AreTwoVersions repo.now members.now) result }
 {
@@ -131,7 +117,7 @@ fn two_versions(repo: &Repository, members: &Assignment) -> Option<(u32, u32)>
 }
 
 /// The least member with an unmet item, and the place of the first one.
-fn unmet(repo: &Repository, members: &Assignment) -> Option<(u32, usize)>
+pub(crate) fn unmet(repo: &Repository, members: &Assignment) -> Option<(u32, usize)>
     requires { IsOneEach repo.now members.now }
     ensures { IsLeastPairIfAny (IsUnmetAt repo.now members.now) result }
 {
@@ -144,7 +130,7 @@ fn unmet(repo: &Repository, members: &Assignment) -> Option<(u32, usize)>
 }
 
 /// The least two members in conflict.
-fn conflict(repo: &Repository, members: &Assignment) -> Option<(u32, u32)>
+pub(crate) fn conflict(repo: &Repository, members: &Assignment) -> Option<(u32, u32)>
     requires { IsOneEach repo.now members.now }
     ensures { IsLeastPairIfAny (AreConflicting repo.now members.now) result }
 {

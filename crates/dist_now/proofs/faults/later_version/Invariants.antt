@@ -1,7 +1,7 @@
 use Rattle.std.specs.Prelude.{◌≡◌, ◌<◌}
 use Rattle.dist_now.specs.Rows.{IsLater}
 use Rattle.dist_now.proofs.LeastLemmas.{IsNoneTo}
-use Rattle.dist_now.proofs.health.later_version.Given as goal
+use Rattle.dist_now.proofs.faults.later_version.Given as goal
 
 -- no member so far
 abbrev pub invariant-loop-second : goal.invariant-loop-second

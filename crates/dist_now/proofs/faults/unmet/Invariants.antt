@@ -1,6 +1,6 @@
 use Rattle.dist_now.specs.Health.{IsUnmetAt}
 use Rattle.dist_now.proofs.LeastLemmas.{IsNoneBelow}
-use Rattle.dist_now.proofs.health.unmet.Given as goal
+use Rattle.dist_now.proofs.faults.unmet.Given as goal
 
 -- the rows so far have none
 abbrev pub invariant-loop-number : goal.invariant-loop-number

@@ -1,0 +1,48 @@
+//! Whether a set of packages is a healthy installation: the kinds of fault in their order.
+ghost use Rattle.std.specs.Prelude.{◌≡◌};
+ghost use Rattle.dist_now.specs.Fit.{IsOneEach};
+ghost use Rattle.dist_now.specs.Health.{IsHealth, IsMissing};
+ghost use Rattle.dist_now.specs.Rows.{IsLeastIfAny};
+
+use crate::faults::{conflict, two_versions, unmet};
+use crate::kinds::Health;
+use crate::members::is_named;
+use dist_clause::Assignment;
+use dist_repo::Repository;
+
+/// The least essential package whose name no member has.
+fn missing(repo: &Repository, members: &Assignment) -> Option<u32>
+    requires { IsOneEach repo.now members.now }
+    ensures { IsLeastIfAny (IsMissing repo.now members.now) result }
+{
+    for number in 0..repo.len() {
+        let package = repo.package(number);
+        if package.essential && !is_named(repo, members, &package.name) {
+            return Some(number);
+        }
+    }
+    None
+}
+
+/// Whether the members are a healthy installation, or else the first kind of fault that there is, with its least place.
+/// Where `essential` is false, no name is required.
+pub fn health(repo: &Repository, essential: bool, members: &Assignment) -> Health
+    requires { IsOneEach repo.now members.now }
+    ensures { IsHealth repo.now essential members.now result }
+{
+    if let Some((first, second)) = two_versions(repo, members) {
+        return Health::TwoVersions(first, second);
+    }
+    if let Some((number, place)) = unmet(repo, members) {
+        return Health::Unmet(number, place);
+    }
+    if let Some((first, second)) = conflict(repo, members) {
+        return Health::Conflict(first, second);
+    }
+    if essential {
+        if let Some(number) = missing(repo, members) {
+            return Health::EssentialMissing(number);
+        }
+    }
+    Health::Healthy
+}
