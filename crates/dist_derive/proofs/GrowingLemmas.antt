@@ -7,7 +7,8 @@ use Rattle.std.proofs.lemmas.List.Elements.{All-nil, All-cons, All-head, All-pus
 use Rattle.dist_clause.specs.Formula.{Literal}
 use Rattle.dist_clause.specs.ClauseList.{clause_at}
 use Rattle.dist_derive.proofs.ValuedLemmas.{All-front, All-last}
-use Rattle.dist_derive.specs.VariableSet.{VariableList, HasAll, Includes, Grows, IsClosedAt}
+use Rattle.dist_derive.specs.VariableSet.{VariableList}
+use Rattle.dist_derive.specs.Marking.{HasAll, Includes, Grows, IsClosedAt}
 use Rattle.dist_derive.specs.Cone.{IsClosedUnder, InCone}
 use Rattle.dist_derive.specs.Containment.{ContainsAll}
 

@@ -8,7 +8,7 @@ use Rattle.std.proofs.lemmas.List.Elements.{All-push, All-weaker, Contains-push,
 use Rattle.std.proofs.lemmas.List.Sums.{sum_by-set, sum_by-cons, get_or-le-sum_by}
 use Rattle.std.proofs.Math.Numerals.{one-add}
 use Rattle.dist_clause.specs.Formula.{value_of}
-use Rattle.dist_derive.specs.VariableSet.{AreMarked}
+use Rattle.dist_derive.specs.Marking.{AreMarked}
 
 Contains-tail-at : {X : Type 0} (x : X) (xs : List X) (y : X) (k : ℕ) → k < length (x ∷ xs) → get_or (x ∷ xs) k y ≡ y → (x ≢ y) → Contains xs y
 Contains-tail-at x xs y zero within at other = absurd (other at)

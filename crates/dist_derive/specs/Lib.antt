@@ -5,6 +5,7 @@ pub mod Follows
 pub mod Cone
 pub mod New
 pub mod VariableSet
+pub mod Marking
 pub mod TrueLiterals
 pub mod Hints
 pub mod Sweep

@@ -4,7 +4,7 @@ ghost use Rattle.std.specs.Prelude.{◌≡◌, ◌≤◌, ◌↔◌, ◌-◌, �
 ghost use Rattle.dist_clause.specs.Formula.{IsClauseOver};
 ghost use Rattle.dist_derive.specs.ClauseLog.{inputs_of};
 ghost use Rattle.dist_derive.specs.Cone.{IsClosedUnder, InCone};
-ghost use Rattle.dist_derive.specs.VariableSet.{HasAll, Grows, IsClosedAt};
+ghost use Rattle.dist_derive.specs.Marking.{HasAll, Grows, IsClosedAt};
 
 use crate::Log;
 use crate::variable_set::VariableSet;

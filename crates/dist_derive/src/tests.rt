@@ -150,23 +150,31 @@ fn a_new_clause_lies_in_the_cone(rt: HostRuntime) -> Result<(), Fail> {
     Ok(())
 }
 
+/// Whether the cone of assumptions has the listed variables in that order.
+fn reaches(alloc: Global, log: &Log, numbers: &[i32], expected: &[u32]) -> Result<bool, Fail>
+    requires { log.now.variables ≡ 5 }
+{
+    let assumptions = clause(alloc, numbers)?;
+    let mut cone = VariableSet::new(alloc, 5)?;
+    log.mark_cone(&mut cone, &assumptions);
+    Ok(cone.members() == expected)
+}
+
 #[test]
 fn a_cone_has_what_the_assumptions_reach(rt: HostRuntime) -> Result<(), Fail> {
     let alloc = rt.alloc();
     let log = log_of(alloc, &[&[-1, 2, 3], &[-2, 3], &[-4, 5]])?;
-    let mut cone = VariableSet::new(alloc, 5)?;
-    log.mark_cone(&mut cone, &clause(alloc, &[1])?);
-    assert!(rt; cone.members() == [1, 2, 3].as_slice());
-    assert!(rt; cone.contains(3) && !cone.contains(4));
-    log.mark_cone(&mut cone, &clause(alloc, &[-4])?);
-    assert!(rt; cone.members() == [4, 5].as_slice());
-    cone.clear();
-    assert!(rt; cone.members().is_empty());
+    assert!(rt; reaches(alloc, &log, &[1], &[1, 2, 3])?);
+    assert!(rt; reaches(alloc, &log, &[-4], &[4, 5])?);
+    let mut none = VariableSet::new(alloc, 5)?;
+    assert!(rt; !none.contains(3));
+    none.clear();
+    assert!(rt; none.members().is_empty());
     Ok(())
 }
 
 #[test]
-fn the_laws_hold(_rt: HostRuntime) {
+fn the_laws_hold() {
     lines_keep_models();
     more_clauses_keep_what_follows();
     unit_steps_are_hints();

@@ -3,7 +3,7 @@
 ghost use Rattle.std.specs.Prelude.{◌≡◌, ◌≢◌, ◌<◌, ◌≤◌, ◌↔◌, true, false, [], ◌∷◌, ◌++◌, ℕ, Bool, length, replicate, All, AllPairs, Contains, IfOk, IsTrue};
 ghost use Rattle.dist_clause.specs.Formula.{value_of};
 ghost use Rattle.dist_derive.specs.Cone.{IsClosedUnder};
-ghost use Rattle.dist_derive.specs.VariableSet.{Includes, Grows, HasAll, IsClosedAt};
+ghost use Rattle.dist_derive.specs.Marking.{Includes, Grows, HasAll, IsClosedAt};
 
 use dist_clause::{Assignment, Lit};
 use std::alloc::{AllocError, Global};
@@ -19,7 +19,8 @@ pub struct VariableSet {
 impl Model for VariableSet {
     ghost use Rattle.std.specs.Prelude.{length};
     ghost use Rattle.std.specs.Vec.{vec_capacity};
-    ghost use Rattle.dist_derive.specs.VariableSet.{VariableList, AreMarked};
+    ghost use Rattle.dist_derive.specs.VariableSet.{VariableList};
+    ghost use Rattle.dist_derive.specs.Marking.{AreMarked};
 
     ghost Value = { VariableList };
 

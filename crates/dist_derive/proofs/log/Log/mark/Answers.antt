@@ -1,6 +1,7 @@
 use Rattle.std.proofs.Common.{◌≡◌, true, take, ap, sym, subst, ◌∙◌}
 use Rattle.std.proofs.lemmas.List.Elements.{All-nil}
-use Rattle.dist_derive.specs.VariableSet.{VariableList, HasAll}
+use Rattle.dist_derive.specs.VariableSet.{VariableList}
+use Rattle.dist_derive.specs.Marking.{HasAll}
 use Rattle.dist_derive.proofs.GrowingLemmas.{reaches_more, InCone-members}
 use Rattle.dist_derive.proofs.log.Log.mark.Goals as goal
 

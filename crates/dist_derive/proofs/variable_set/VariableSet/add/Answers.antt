@@ -3,7 +3,8 @@ use Rattle.std.specs.List.{Contains}
 use Rattle.std.specs.Vec.{vec_capacity}
 use Rattle.std.proofs.lemmas.List.{length-set}
 use Rattle.std.proofs.lemmas.Bool.{cond-true}
-use Rattle.dist_derive.specs.VariableSet.{VariableList, AreMarked}
+use Rattle.dist_derive.specs.VariableSet.{VariableList}
+use Rattle.dist_derive.specs.Marking.{AreMarked}
 use Rattle.dist_derive.proofs.MarkedLemmas.{AreMarked-add, is_room}
 use Rattle.dist_derive.proofs.variable_set.VariableSet.add.Goals as goal
 

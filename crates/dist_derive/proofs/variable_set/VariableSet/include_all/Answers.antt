@@ -1,7 +1,7 @@
 use Rattle.std.proofs.Common.{◌≤◌, ◌||◌, take, sym, subst, arith}
 use Rattle.std.proofs.lemmas.List.{take_all}
 use Rattle.dist_clause.specs.Formula.{Literal}
-use Rattle.dist_derive.specs.VariableSet.{Includes}
+use Rattle.dist_derive.specs.Marking.{Includes}
 use Rattle.dist_derive.proofs.ValuedLemmas.{take_item, All-item}
 use Rattle.dist_derive.proofs.GrowingLemmas.{IncludesSoFar, includes_none, includes_more}
 use Rattle.dist_derive.proofs.variable_set.VariableSet.include_all.Goals as goal
