@@ -1,3 +1,5 @@
+ghost use Rattle.dist_app.specs.Run.{IsWithinStated};
+
 use crate::{Status, run, run_with};
 use dist_outside::{Limits, MemoryDesk, MemorySink};
 use std::alloc::{AllocError, Global};
@@ -162,7 +164,7 @@ fn bad_files_are_told(rt: HostRuntime) -> Result<(), Fail> {
         "",
         bad,
         "",
-        "distfuture: bad packages at line 3: BadVersion BadByte in Depends at 10\n",
+        "distfuture: bad packages at line 3: BadVersion BadByte in Depends at 9\n",
     )?;
     comes(
         &rt,
