@@ -1,12 +1,10 @@
 -- A stanza reads as one package or has one first fault, and never both.
-use Rattle.std.proofs.Common.{◌≡◌, ◌≢◌, ◌⊎◌, ◌↔◌, ℕ, ◌<◌, suc, Bool, true, false, IsTrue, List, [], ◌∷◌, ◌++◌, Option, None, Some, length, get_or, refl, sym, ap, ◌∙◌, subst, inl, inr, unwrap_or, codes, arith, length-append}
-use Rattle.std.specs.List.{All}
+use Rattle.std.proofs.Common.{◌≡◌, ◌≢◌, ◌⊎◌, ◌↔◌, ℕ, ◌<◌, Bool, true, false, IsTrue, List, [], ◌∷◌, ◌++◌, Option, None, Some, length, get_or, refl, sym, ap, ◌∙◌, subst, inl, inr, unwrap_or, codes, arith}
 use Rattle.std.proofs.lemmas.Bool.{cases_lt}
 use Rattle.std.proofs.lemmas.List.{get_or_append_left}
 use Rattle.std.proofs.Math.Seq.{get_or-append_seam}
 use Rattle.dist_base.specs.Answers.{IsExact}
-use Rattle.dist_control.specs.ControlText.{IsReading, IsExactStanza}
-use Rattle.dist_control.specs.Faults as control
+use Rattle.dist_control.specs.ControlText.{IsExactStanza}
 use Rattle.dist_control.specs.FieldText.{FieldText}
 use Rattle.dist_control.specs.Fields.{trim}
 use Rattle.dist_control.specs.RawStanza.{RawStanza}
@@ -26,7 +24,7 @@ use Rattle.dist_version.specs.Spelling.{ReadsVersion}
 use Rattle.dist_version.specs.declared.error.VersionError.{VersionError}
 use Rattle.dist_package.specs.FirstFault.{Read, architecture_of, IsLineFault, IsRelated, HasFirstRelationFault, relation_fields, HasFieldFault, IsClash, HasPackage, ReadsAs, HasStanzaFault}
 use Rattle.dist_package.specs.Named.{field_named, value_of, line_of, IsFieldOf, fault_at, name_of}
-use Rattle.dist_package.specs.PackageOf.{ReadsName, IsNoName, HasNameFault, ReadsVersionField, IsNoVersion, HasVersionFault, IsSourceOf, ReadsSource, HasSourceFault, ReadsArchitecture, HasArchitectureFault, all, HasFirstFault, IsRelationFault, HasRelationFault, ReadsRelations, IsPackageOf}
+use Rattle.dist_package.specs.PackageOf.{ReadsName, HasNameFault, ReadsVersionField, HasVersionFault, ReadsSource, HasSourceFault, ReadsArchitecture, HasArchitectureFault, all, HasFirstFault, HasRelationFault, ReadsRelations, IsPackageOf}
 use Rattle.dist_package.specs.Source.{name_part, version_part, IsInParentheses, ReadsVersionPart, SpellsSource, IsNoVersionPart, IsNoSource}
 use Rattle.dist_package.specs.declared.error.Fault.{Fault}
 use Rattle.dist_package.specs.declared.error.Kind.TheVariants.{BadPackageName, BadVersionText, BadSource, BadArchitecture, TwoArchitectures, Relation, Clash}
@@ -145,7 +143,7 @@ module _ (texts : (text : List ℕ) → IsExact (ReadsVersion text) (HasFault te
   source_one stanza name version s t sv tv (inr (value, line, field, of)) (inr (value', line', field', of')) =
       let same = same_value stanza _ value value' line line' field field' in
       let part = part_one (version_part value) of.written of'.written of.spells.version_is
-          (subst (λ (x : List ℕ). ReadsVersionPart (version_part x) of'.written) same of'.spells.version_is) in
+      (subst (λ (x : List ℕ). ReadsVersionPart (version_part x) of'.written) same of'.spells.version_is) in
       (of'.spells.name_is ∙ ap name_part same ∙ sym of.spells.name_is, of'.version_is ∙ ap (λ (w : Option (List ℕ)). unwrap_or w version) part ∙ sym of.version_is)
 
   source_fault_one : (stanza : Stanza) (a b : Fault) → HasSourceFault stanza a → HasSourceFault stanza b → b ≡ a
@@ -188,8 +186,8 @@ cause_one earlier value line a b (inr f) (inr g) = g.3 ∙ sym f.3
 architecture_fault_one : (earlier : Option (List ℕ)) (stanza : Stanza) (a b : Fault) → HasArchitectureFault earlier stanza a → HasArchitectureFault earlier stanza b → b ≡ a
 architecture_fault_one earlier stanza a b f g =
     cause_one earlier f.value f.line a b f.cause
-        (subst (λ (v : List ℕ). IsCause earlier v f.line b) (same_value stanza _ f.value g.value f.line g.line f.field g.field)
-            (subst (λ (l : ℕ). IsCause earlier g.value l b) (same_line stanza _ f.value g.value f.line g.line f.field g.field) g.cause))
+    (subst (λ (v : List ℕ). IsCause earlier v f.line b) (same_value stanza _ f.value g.value f.line g.line f.field g.field)
+    (subst (λ (l : ℕ). IsCause earlier g.value l b) (same_line stanza _ f.value g.value f.line g.line f.field g.field) g.cause))
 
 cause_apart : (earlier : Option (List ℕ)) (a : List ℕ) (line : ℕ) (b : Fault) → IsName a → ((a ≡ all) ⊎ ((earlier ≡ None) ⊎ (earlier ≡ Some a))) → ¬ IsCause earlier a line b
 cause_apart earlier a line b name agrees (inl (none, is)) = none name
@@ -286,7 +284,7 @@ same_package : (p q : Package) → q.name ≡ p.name → q.version ≡ p.version
     → q.conflicts ≡ p.conflicts → q.provides ≡ p.provides → q.essential ≡ p.essential → q ≡ p
 same_package p q name version source source_version depends conflicts provides essential =
     let mk : List ℕ → List ℕ → List ℕ → List ℕ → List (List Atom) → List Atom → List Provide → Bool → Package =
-        λ n v s sv d c r e. record { name = n; version = v; source = s; source_version = sv; depends = d; conflicts = c; provides = r; essential = e } in
+    λ n v s sv d c r e. record { name = n; version = v; source = s; source_version = sv; depends = d; conflicts = c; provides = r; essential = e } in
     ap (λ (n : List ℕ). mk n q.version q.source q.source_version q.depends q.conflicts q.provides q.essential) name
     ∙ ap (λ (v : List ℕ). mk p.name v q.source q.source_version q.depends q.conflicts q.provides q.essential) version
     ∙ ap (λ (s : List ℕ). mk p.name p.version s q.source_version q.depends q.conflicts q.provides q.essential) source
@@ -304,13 +302,13 @@ kept_at earlier p line f = ap (λ (rs : List Read). get_or rs (length f.before) 
 not_earlier : (earlier : List Read) (p : Package) (l m : ℕ) (f : IsClash earlier p l) (g : IsClash earlier p m) → ¬ (length f.before < length g.before)
 not_earlier earlier p l m f g less =
     let at : get_or earlier (length f.before) f.kept ≡ get_or g.before (length f.before) f.kept =
-        ap (λ (rs : List Read). get_or rs (length f.before) f.kept) g.pieces ∙ get_or_append_left g.before (g.kept ∷ g.after) f.kept (length f.before) less in
+    ap (λ (rs : List Read). get_or rs (length f.before) f.kept) g.pieces ∙ get_or_append_left g.before (g.kept ∷ g.after) f.kept (length f.before) less in
     g.first (length f.before) f.kept less (subst (λ (r : Read). IsSamePackage r.package_ p) (sym (kept_at earlier p l f) ∙ at) f.same)
 
 same_kept : (earlier : List Read) (p : Package) (l m : ℕ) (f : IsClash earlier p l) (g : IsClash earlier p m) → length g.before ≡ length f.before → g.kept ≡ f.kept
 same_kept earlier p l m f g same =
     let seam : get_or earlier (length g.before) f.kept ≡ g.kept =
-        ap (λ (rs : List Read). get_or rs (length g.before) f.kept) g.pieces ∙ get_or-append_seam g.before g.kept g.after f.kept in
+    ap (λ (rs : List Read). get_or rs (length g.before) f.kept) g.pieces ∙ get_or-append_seam g.before g.kept g.after f.kept in
     sym seam ∙ ap (λ (n : ℕ). get_or earlier n f.kept) same ∙ kept_at earlier p l f
 
 clash_one : (earlier : List Read) (p : Package) (l m : ℕ) → IsClash earlier p l → IsClash earlier p m → m ≡ l
@@ -343,9 +341,9 @@ module _ (stanzas : (raw : RawStanza) → IsExactStanza raw) (texts : (text : Li
       chain_one (HasNameFault stanza) _ ((name : List ℕ) × ReadsName stanza name) (name_fault_one stanza) (λ a r. name_apart stanza r.0 a r.1)
       (chain_one (HasVersionFault stanza) _ ((version : List ℕ) × ReadsVersionField stanza version) (version_fault_one texts stanza) (λ a r. version_apart texts stanza r.0 a r.1)
       (chain_one (HasSourceFault stanza) _ ((name version source source_version : List ℕ) × ReadsSource stanza name version source source_version) (source_fault_one texts stanza)
-          (λ a r. source_apart texts stanza r.0 r.1 r.2 r.3 a r.4)
+      (λ a r. source_apart texts stanza r.0 r.1 r.2 r.3 a r.4)
       (chain_one (HasArchitectureFault earlier stanza) (HasFirstRelationFault relation_fields stanza) ((architecture : List ℕ) × ReadsArchitecture earlier stanza architecture)
-          (architecture_fault_one earlier stanza) (λ a r. architecture_apart earlier stanza r.0 a r.1)
+      (architecture_fault_one earlier stanza) (λ a r. architecture_apart earlier stanza r.0 a r.1)
       (first_relation_one depends atoms provides relation_fields stanza))))
 
   field_fault_apart : (earlier : Option (List ℕ)) (stanza : Stanza) (p : Package) (architecture : List ℕ) (b : Fault) → IsPackageOf earlier stanza p architecture
@@ -362,21 +360,21 @@ module _ (stanzas : (raw : RawStanza) → IsExactStanza raw) (texts : (text : Li
       let name = name_one stanza p.name q.name f.name g.name in
       let version = version_one texts stanza p.version q.version f.version g.version in
       let source = source_one texts stanza p.name p.version p.source q.source p.source_version q.source_version f.source
-          (subst (λ (n : List ℕ). ReadsSource stanza n p.version q.source q.source_version) name
-              (subst (λ (v : List ℕ). ReadsSource stanza q.name v q.source q.source_version) version g.source)) in
+      (subst (λ (n : List ℕ). ReadsSource stanza n p.version q.source q.source_version) name
+      (subst (λ (v : List ℕ). ReadsSource stanza q.name v q.source q.source_version) version g.source)) in
       same_package p q name version source.0 source.1
-          (depends_one depends atoms provides stanza p.depends q.depends p.conflicts q.conflicts p.provides q.provides f.relations g.relations)
-          (conflicts_one depends atoms provides stanza p.depends q.depends p.conflicts q.conflicts p.provides q.provides f.relations g.relations)
-          (provides_one depends atoms provides stanza p.depends q.depends p.conflicts q.conflicts p.provides q.provides f.relations g.relations)
-          (same_flag p.essential q.essential _ f.essential g.essential)
+      (depends_one depends atoms provides stanza p.depends q.depends p.conflicts q.conflicts p.provides q.provides f.relations g.relations)
+      (conflicts_one depends atoms provides stanza p.depends q.depends p.conflicts q.conflicts p.provides q.provides f.relations g.relations)
+      (provides_one depends atoms provides stanza p.depends q.depends p.conflicts q.conflicts p.provides q.provides f.relations g.relations)
+      (same_flag p.essential q.essential _ f.essential g.essential)
 
   has_one : (earlier : List Read) (raw : RawStanza) (a b : Read) → HasPackage earlier raw a → HasPackage earlier raw b → b ≡ a
   has_one earlier raw a b f g =
       let stanza = (stanzas raw).one_reading g.stanza f.stanza g.reading f.reading in
       let of = subst (λ (s : Stanza). IsPackageOf (architecture_of earlier) s b.package_ b.architecture) stanza g.is_package in
       same_read earlier a b (g.line_is ∙ sym f.line_is)
-          (package_one (architecture_of earlier) f.stanza a.package_ b.package_ a.architecture b.architecture f.is_package of)
-          (architecture_one (architecture_of earlier) f.stanza a.architecture b.architecture f.is_package.place of.place)
+      (package_one (architecture_of earlier) f.stanza a.package_ b.package_ a.architecture b.architecture f.is_package of)
+      (architecture_one (architecture_of earlier) f.stanza a.architecture b.architecture f.is_package.place of.place)
 
   -- one raw stanza reads as one package
   pub one_read : (earlier : List Read) (raw : RawStanza) (a b : Read) → ReadsAs earlier raw a → ReadsAs earlier raw b → b ≡ a
@@ -387,7 +385,7 @@ module _ (stanzas : (raw : RawStanza) → IsExactStanza raw) (texts : (text : Li
   apart earlier raw a b f (inl (error, has, is)) = (stanzas raw).never_both f.has.stanza error f.has.reading has
   apart earlier raw a b f (inr (inl (stanza, reading, has))) =
       field_fault_apart (architecture_of earlier) f.has.stanza a.package_ a.architecture b f.has.is_package
-          (subst (λ (s : Stanza). HasFieldFault (architecture_of earlier) s b) ((stanzas raw).one_reading stanza f.has.stanza reading f.has.reading) has)
+      (subst (λ (s : Stanza). HasFieldFault (architecture_of earlier) s b) ((stanzas raw).one_reading stanza f.has.stanza reading f.has.reading) has)
   apart earlier raw a b f (inr (inr (read, line, has, clash, is))) =
       f.free line (subst (λ (r : Read). IsClash earlier r.package_ line) (has_one earlier raw a read f.has has) clash)
 
@@ -401,13 +399,13 @@ module _ (stanzas : (raw : RawStanza) → IsExactStanza raw) (texts : (text : Li
   one_fault earlier raw a b (inr (inr (read, line, stands, clash, is'))) (inl (error, has, is)) = absurd ((stanzas raw).never_both stands.stanza error stands.reading has)
   one_fault earlier raw a b (inr (inl (stanza, reading, fault))) (inr (inl (stanza', reading', fault'))) =
       field_fault_one (architecture_of earlier) stanza a b fault
-          (subst (λ (s : Stanza). HasFieldFault (architecture_of earlier) s b) ((stanzas raw).one_reading stanza' stanza reading' reading) fault')
+      (subst (λ (s : Stanza). HasFieldFault (architecture_of earlier) s b) ((stanzas raw).one_reading stanza' stanza reading' reading) fault')
   one_fault earlier raw a b (inr (inl (stanza, reading, fault))) (inr (inr (read, line, stands, clash, is))) =
       absurd (field_fault_apart (architecture_of earlier) stands.stanza read.package_ read.architecture a stands.is_package
-          (subst (λ (s : Stanza). HasFieldFault (architecture_of earlier) s a) ((stanzas raw).one_reading stanza stands.stanza reading stands.reading) fault))
+      (subst (λ (s : Stanza). HasFieldFault (architecture_of earlier) s a) ((stanzas raw).one_reading stanza stands.stanza reading stands.reading) fault))
   one_fault earlier raw a b (inr (inr (read, line, stands, clash, is))) (inr (inl (stanza, reading, fault))) =
       absurd (field_fault_apart (architecture_of earlier) stands.stanza read.package_ read.architecture b stands.is_package
-          (subst (λ (s : Stanza). HasFieldFault (architecture_of earlier) s b) ((stanzas raw).one_reading stanza stands.stanza reading stands.reading) fault))
+      (subst (λ (s : Stanza). HasFieldFault (architecture_of earlier) s b) ((stanzas raw).one_reading stanza stands.stanza reading stands.reading) fault))
   one_fault earlier raw a b (inr (inr (read, line, stands, clash, is))) (inr (inr (read', line', stands', clash', is'))) =
       let same = has_one earlier raw read read' stands stands' in
       let one = clash_one earlier read.package_ line line' clash (subst (λ (r : Read). IsClash earlier r.package_ line') same clash') in

@@ -3,7 +3,6 @@ ghost use Rattle.std.specs.Prelude.{ℕ, List};
 ghost use Rattle.dist_control.specs.RawStanza.{RawStanza};
 ghost use Rattle.dist_package.specs.FirstFault.{HasFirstFault, CarriesNoMemory};
 ghost use Rattle.dist_package.specs.declared.error.Fault.{Fault};
-
 ghost use Rattle.dist_package.specs.OneAnswer.{HasOneAnswer};
 
 use dist_control::one_reading_or_fault;
