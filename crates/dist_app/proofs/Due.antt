@@ -1,12 +1,10 @@
 -- Why a chain of stages was given up, from why its parts were.
-use Rattle.std.proofs.Common.{◌≡◌, inl, inr, Option, Result, Ok, Err, IfOk, IfErr, subst}
-use Rattle.dist_outside.specs.Counts.{Rose}
+use Rattle.std.proofs.Common.{inl, inr, Option, Result, Ok, Err, IfOk, IfErr, subst}
 use Rattle.dist_outside.specs.Files.{Files}
 use Rattle.dist_outside.specs.DeskView.{DeskView, OnlyReads}
 use Rattle.dist_app.specs.Due.{IsDue, IsGivenUp}
 use Rattle.dist_app.specs.Stages.{Ending, refused}
 use Rattle.dist_app.specs.declared.refusal.Refusal.{Refusal}
-use Rattle.dist_app.specs.declared.refusal.Refusal.TheVariants.{ReadFault}
 use Rattle.dist_app.proofs.Writing.{rose_earlier}
 
 -- a part that was given up gives up the whole that it decides

@@ -1,9 +1,8 @@
 -- How a run ends, from how carrying out its command does.
-use Rattle.std.proofs.Common.{◌≡◌, ◌⊎◌, ℕ, List, [], ◌∷◌, inl, inr, Option, Some, Result, Ok, Err, MatchResult, codes, refl, ap, sym, ◌∙◌, subst}
-use Rattle.dist_base.specs.Front.{IsFrontOf}
+use Rattle.std.proofs.Common.{◌≡◌, ◌⊎◌, ℕ, List, [], inl, inr, Option, Result, Ok, Err, MatchResult, refl, ap, sym, subst}
 use Rattle.dist_outside.specs.Counts.{Rose}
 use Rattle.dist_outside.specs.Files.{Files}
-use Rattle.dist_outside.specs.DeskView.{DeskView, OnlyReads}
+use Rattle.dist_outside.specs.DeskView.{DeskView}
 use Rattle.dist_outside.specs.SinkView.{SinkView, Grew, GrewByFront, WriteCause}
 use Rattle.dist_outside.specs.declared.limits.Limits.{Limits}
 use Rattle.dist_outside.specs.declared.trouble.What.TheVariants.{Bytes, Stanzas}
@@ -19,12 +18,12 @@ use Rattle.dist_app.specs.Due.{IsDue}
 use Rattle.dist_app.specs.Health.{Tells, HealthDecides}
 use Rattle.dist_app.specs.Refusal.{status_of, refusal_text, refusal_of}
 use Rattle.dist_app.specs.RepositoryStage.{IsEndOf}
-use Rattle.dist_app.specs.Run.{IsHealth, IsBadWords, Decides, Comes}
+use Rattle.dist_app.specs.Run.{IsHealth, IsBadWords, Decides}
 use Rattle.dist_app.specs.Stages.{Ending, refused, answered}
 use Rattle.dist_app.specs.declared.refusal.Refusal.{Refusal}
 use Rattle.dist_app.specs.declared.refusal.Refusal.TheVariants as refusal
 use Rattle.dist_app.specs.declared.status.Status.{Status}
-use Rattle.dist_app.specs.declared.status.Status.TheVariants.{Done, DoneWithUndecided, BadWords, BadPackages, CertificateRefused, ReadFault, WriteFault, NoMemory, TooLarge, NotHealthy, BadList}
+use Rattle.dist_app.specs.declared.status.Status.TheVariants.{Done, BadWords, BadPackages, ReadFault, WriteFault, NoMemory, TooLarge, NotHealthy, BadList}
 
 -- the statuses that the files and the limits may decide
 abbrev pub IsOfFiles : Status → Type 0

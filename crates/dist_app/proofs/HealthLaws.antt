@@ -1,5 +1,5 @@
 -- Where the desk tells its files, a refusal of `health` that its inputs decide is its only end.
-use Rattle.std.proofs.Common.{◌≡◌, ◌⊎◌, ◌≤◌, ◌<◌, ℕ, List, Bool, inl, inr, Option, Some, length, refl, ap, sym, ◌∙◌, subst, arith}
+use Rattle.std.proofs.Common.{◌≡◌, ◌≤◌, ◌<◌, ℕ, List, Bool, inl, inr, Option, Some, length, ap, sym, ◌∙◌, subst, arith}
 use Rattle.dist_outside.specs.Files.{Files}
 use Rattle.dist_outside.specs.declared.limits.Limits.{Limits}
 use Rattle.dist_package.specs.OneAnswer.{HasOneAnswer}
@@ -7,12 +7,11 @@ use Rattle.dist_package.specs.declared.error.PackagesError.{PackagesError}
 use Rattle.dist_package.specs.declared.error.PackagesError.TheVariants as packages_error
 use Rattle.dist_repo.specs.PackageList.{PackageList}
 use Rattle.dist_repo.specs.declared.package.Package.{Package}
-use Rattle.dist_app.specs.Health.{ListStage, Judges, ListDecides, HealthDecides}
+use Rattle.dist_app.specs.Health.{ListStage, Judges, HealthDecides}
 use Rattle.dist_app.specs.RepositoryStage.{IsEndOf, RepositoryStage}
-use Rattle.dist_app.specs.Run.{IsHealth, IsBadWords, Decides}
-use Rattle.dist_app.specs.Stages.{Ending, Step, Goes, Ends, IsDetermined, RefusesAlone, refused, answered}
+use Rattle.dist_app.specs.Run.{Decides}
+use Rattle.dist_app.specs.Stages.{Ending, Goes, Ends, IsDetermined, RefusesAlone, refused}
 use Rattle.dist_app.specs.TextStage.{TextStage}
-use Rattle.dist_app.specs.declared.refusal.Refusal.{Refusal}
 use Rattle.dist_app.specs.declared.refusal.Refusal.TheVariants as refusal
 use Rattle.dist_app.proofs.Lists.{NamesSet-one, NamesSet-not_bad, IsBadAt-one}
 use Rattle.dist_app.proofs.StageLaws.{then_refuses_alone}

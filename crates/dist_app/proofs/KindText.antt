@@ -1,5 +1,5 @@
 -- The text of a kind of fault, from its pieces.
-use Rattle.std.proofs.Common.{◌≡◌, ℕ, List, [], ◌∷◌, ◌++◌, codes, decimal, refl, ap, sym, ◌∙◌, append_assoc}
+use Rattle.std.proofs.Common.{◌≡◌, ℕ, List, [], ◌++◌, codes, decimal, refl, ap, sym, ◌∙◌, append_assoc}
 use Rattle.std.proofs.lemmas.List.{append-nil}
 use Rattle.dist_relation.specs.declared.error.RelationError.{RelationError}
 use Rattle.dist_package.specs.declared.error.RelationField.{RelationField}

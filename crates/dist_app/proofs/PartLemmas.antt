@@ -1,8 +1,6 @@
 -- Where the first part of a line begins and ends.
-use Rattle.std.proofs.Common.{◌≡◌, ℕ, ◌+◌, Bool, true, false, not, cond, List, [], ◌∷◌, ◌++◌, take, drop, length, refl, ap, sym, ◌∙◌, subst, suc, arith}
-use Rattle.std.proofs.Math.Numerals.{suc-eq-add-one}
+use Rattle.std.proofs.Common.{◌≡◌, ℕ, ◌+◌, Bool, true, false, not, cond, List, [], ◌∷◌, take, drop, refl, ap, sym, ◌∙◌, subst, suc, arith}
 use Rattle.std.specs.List.{prefix_len}
-use Rattle.std.proofs.lemmas.Grind.{common_steps}
 use Rattle.dist_app.specs.LineParts.{is_padding, goes_on, in_part, parts_of, with_part}
 
 one-add : (n : ℕ) → 1 + n ≡ suc n

@@ -1,21 +1,20 @@
 -- What a run promises, from how carrying out its command ends.
-use Rattle.std.proofs.Common.{◌≡◌, ◌⊎◌, ℕ, List, [], inl, inr, Option, Some, Result, Ok, Err, ap, sym, ◌∙◌, subst}
-use Rattle.dist_outside.specs.Counts.{Rose}
+use Rattle.std.proofs.Common.{◌≡◌, ◌⊎◌, ℕ, List, [], inl, inr, Option, Result, Ok, Err, ap, sym, ◌∙◌, subst}
 use Rattle.dist_outside.specs.Files.{Files}
 use Rattle.dist_outside.specs.DeskView.{DeskView, OnlyReads}
-use Rattle.dist_outside.specs.SinkView.{SinkView, Grew, GrewByFront, WriteCause}
+use Rattle.dist_outside.specs.SinkView.{SinkView, Grew}
 use Rattle.dist_outside.specs.declared.limits.Limits.{Limits}
 use Rattle.dist_outside.specs.declared.trouble.WorkError.{WorkError}
 use Rattle.dist_outside.specs.declared.trouble.WorkError.TheVariants as work
 use Rattle.dist_app.specs.Carried.{IsAnswered, IsRefused}
 use Rattle.dist_app.specs.Refusal.{status_of, refusal_text}
-use Rattle.dist_app.specs.Run.{IsHealth, IsBadWords, Decides, Comes, IsCutShort, IsInterrupted, IsTold, TellsFiles, IsFaultless, Runs}
+use Rattle.dist_app.specs.Run.{IsBadWords, Decides, Comes, IsInterrupted, IsTold, TellsFiles, IsFaultless, Runs}
 use Rattle.dist_app.specs.Stages.{Ending, refused}
 use Rattle.dist_app.specs.Writes.{Writes}
 use Rattle.dist_app.specs.declared.refusal.Refusal.{Refusal}
 use Rattle.dist_app.specs.declared.refusal.Refusal.TheVariants as refusal
 use Rattle.dist_app.specs.declared.status.Status.{Status}
-use Rattle.dist_app.specs.declared.status.Status.TheVariants.{Done, DoneWithUndecided, BadWords, BadPackages, CertificateRefused, ReadFault, WriteFault, NoMemory, TooLarge, NotHealthy, BadList}
+use Rattle.dist_app.specs.declared.status.Status.TheVariants.{BadWords, ReadFault, WriteFault, NoMemory}
 use Rattle.dist_app.proofs.Endings.{IsOfFiles, health_status, not_read_fault, not_write_fault}
 use Rattle.dist_app.proofs.HealthLaws.{AreExact, decides_alone}
 

@@ -1,8 +1,7 @@
 -- Laws of work in stages.
-use Rattle.std.proofs.Common.{◌≡◌, ◌⊎◌, inl, inr, Option, ap, sym, subst}
+use Rattle.std.proofs.Common.{◌≡◌, inl, inr, Option, ap, sym, subst}
 use Rattle.dist_outside.specs.Files.{Files}
 use Rattle.dist_app.specs.Stages.{Ending, Step, Goes, Ends, Then, IsDetermined, RefusesAlone, refused}
-use Rattle.dist_app.specs.declared.refusal.Refusal.{Refusal}
 
 -- the end that a stage comes to, if it ends the run
 end_of : {X : Type 0} → Ending → Step X → Ending

@@ -4,7 +4,6 @@ use Rattle.dist_outside.specs.declared.trouble.What.{What}
 use Rattle.dist_outside.specs.declared.trouble.What.TheVariants as what
 use Rattle.dist_outside.specs.declared.trouble.WorkError.{WorkError}
 use Rattle.dist_outside.specs.declared.trouble.WorkError.TheVariants as work
-use Rattle.dist_package.specs.declared.error.Fault.{Fault}
 use Rattle.dist_app.specs.FaultText.{kind_name, carried_text}
 use Rattle.dist_app.specs.declared.status.Status.{Status}
 use Rattle.dist_app.specs.declared.status.Status.TheVariants as status

@@ -1,5 +1,5 @@
 use Rattle.dist_app.proofs.Due.{ok_more, err_more}
-use Rattle.dist_app.proofs.HealthStages.{health_answers, health_due, health_unread}
+use Rattle.dist_app.proofs.HealthStages.{health_answers, health_due}
 use Rattle.dist_app.proofs.health_command.run_health.Goals as goal
 
 pub returns-in-Ok-clause-answers : goal.returns-in-Ok-clause-answers

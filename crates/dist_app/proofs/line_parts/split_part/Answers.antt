@@ -1,6 +1,6 @@
-use Rattle.std.proofs.Common.{◌≡◌, ◌∙◌, List, ℕ, take, drop, sym}
+use Rattle.std.proofs.Common.{drop}
 use Rattle.std.specs.List.{prefix_len}
-use Rattle.dist_app.specs.LineParts.{is_padding, parts_of, with_part}
+use Rattle.dist_app.specs.LineParts.{is_padding}
 use Rattle.dist_app.proofs.PartLemmas.{parts-drop_padding, past_padding, parts-at_part}
 use Rattle.dist_app.proofs.line_parts.split_part.Goals as goal
 

@@ -1,8 +1,8 @@
-use Rattle.std.proofs.Common.{◌≡◌, ◌∙◌, ◌≤◌, ◌+◌, Bool, true, false, List, [], ℕ, eqb, replicate, length, get_or, arith, subst, sym}
+use Rattle.std.proofs.Common.{◌≡◌, List, [], ℕ, arith, subst, sym}
 use Rattle.std.proofs.lemmas.Bool.{eqb-true}
 use Rattle.std.proofs.lemmas.List.{nil_from_length}
 use Rattle.dist_app.specs.Listed.{ReadSoFar}
-use Rattle.dist_app.proofs.Lists.{ReadSoFar-none, ReadSoFar-marked, ReadSoFar-end, ReadSoFar-bad, Marks-true, Marks-false}
+use Rattle.dist_app.proofs.Lists.{ReadSoFar-none, ReadSoFar-marked, ReadSoFar-end, Marks-true}
 use Rattle.dist_app.proofs.list.read_list.Goals as goal
 
 pub loop-rest-init : goal.loop-rest-init

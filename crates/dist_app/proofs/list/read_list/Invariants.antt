@@ -1,4 +1,4 @@
-use Rattle.std.proofs.Common.{ℕ, ◌+◌, ◌≤◌, length}
+use Rattle.std.proofs.Common.{◌+◌, ◌≤◌, length}
 use Rattle.dist_app.specs.Listed.{ReadSoFar}
 use Rattle.dist_app.proofs.list.read_list.Given as goal
 

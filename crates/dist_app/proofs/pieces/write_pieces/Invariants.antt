@@ -1,4 +1,4 @@
-use Rattle.std.proofs.Common.{ℕ, List, take}
+use Rattle.std.proofs.Common.{take}
 use Rattle.std.specs.List.{flat_map}
 use Rattle.dist_outside.specs.SinkView.{Grew}
 use Rattle.dist_app.proofs.pieces.write_pieces.Given as goal

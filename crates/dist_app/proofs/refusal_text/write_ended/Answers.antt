@@ -1,4 +1,4 @@
-use Rattle.std.proofs.Common.{◌++◌, codes}
+use Rattle.std.proofs.Common.{codes}
 use Rattle.dist_app.specs.Refusal.{reason_text}
 use Rattle.dist_app.proofs.Writing.{writes_then, writes_cut, whole_writes}
 use Rattle.dist_app.proofs.refusal_text.write_ended.Goals as goal
