@@ -1,8 +1,7 @@
 -- The first pair in rows of numbers, of which each is gone through from its least.
-use Rattle.std.proofs.Common.{◌≡◌, ◌⊎◌, ℕ, ◌+◌, ◌<◌, ◌≤◌, None, Some, Option, refl, sym, subst, arith, inl, inr}
+use Rattle.std.proofs.Common.{◌≡◌, ℕ, ◌+◌, ◌<◌, sym, subst, arith, inl, inr}
 use Rattle.std.proofs.lemmas.Bool.{cases_lt}
-use Rattle.dist_now.specs.Least.{IsAtMost, IsLeast, IsLeastPair}
-use Rattle.dist_now.specs.Rows.{IsLeastIfAny}
+use Rattle.dist_now.specs.Least.{IsLeast, IsLeastPair}
 
 -- no pair of the rows so far
 abbrev pub IsNoneBelow : (ℕ → ℕ → Type 0) → ℕ → Type 0

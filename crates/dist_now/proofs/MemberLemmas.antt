@@ -5,13 +5,12 @@ use Rattle.std.proofs.lemmas.Bool.{cases_lt}
 use Rattle.std.proofs.lemmas.List.{get_or_default}
 use Rattle.std.proofs.lemmas.Option.{slice_get-get_or, get_or_from_slice_get}
 use Rattle.dist_relation.specs.declared.atom.Atom.{Atom}
-use Rattle.dist_relation.specs.declared.atom.Provide.{Provide}
 use Rattle.dist_repo.specs.Match.{Matches, MatchesByEntry}
 use Rattle.dist_repo.specs.PackageList.{PackageList, IsPackageAnd}
 use Rattle.dist_repo.specs.Providers.{AreProviders, IsProvider}
 use Rattle.dist_repo.specs.declared.package.Package.{Package}
 use Rattle.dist_now.specs.Members.{IsMemberAnd, members_of}
-use Rattle.dist_now.proofs.Places.{any-head, any-later, any-from, has-at, at-has}
+use Rattle.dist_now.proofs.Places.{any-head, any-later, has-at, at-has}
 
 pub any-cases : {X : Type 0} (P : X → Type 0) (x : X) (xs : List X) → Any P (x ∷ xs) → P x ⊎ Any P xs
 any-cases P x xs any = at any.0 any.1 any.2 any.3 any.4
@@ -119,12 +118,6 @@ none-matched-more r flags atom providers count none here k short =
       | inr h ↦ let same : count ≡ k = omega arith in
           let P : ℕ → Type 0 = λ n. ¬ IsMemberAnd r.packages flags (get_or providers n 0) (Matches r.architecture atom) in subst P same here
     ]
-
--- a provider is a package of the repository
-pub provider-within : (r : PackageList) (name : List ℕ) (providers : List ℕ) (number : ℕ) → AreProviders r name providers → Contains providers number → number < length r.packages
-provider-within r name providers number are there =
-    let here = (are.exact number).0 there in
-    within-from (IsProvider r.architecture name) r.packages number here
 
 -- a provider that is a member and that the atom matches
 pub provider-any : (r : PackageList) (flags : List Bool) (atom : Atom) (number : ℕ) (p : Package) → slice_get flags number ≡ Some true → slice_get r.packages number ≡ Some p
