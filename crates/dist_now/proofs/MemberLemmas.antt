@@ -5,6 +5,7 @@ use Rattle.std.proofs.lemmas.Bool.{cases_lt}
 use Rattle.std.proofs.lemmas.List.{get_or_default}
 use Rattle.std.proofs.lemmas.Option.{slice_get-get_or, get_or_from_slice_get}
 use Rattle.dist_relation.specs.declared.atom.Atom.{Atom}
+use Rattle.dist_repo.proofs.Search.{at-weaker}
 use Rattle.dist_repo.specs.Match.{Matches, MatchesByEntry}
 use Rattle.dist_repo.specs.PackageList.{PackageList, IsPackageAnd}
 use Rattle.dist_repo.specs.Providers.{AreProviders, IsProvider}
@@ -59,11 +60,6 @@ pub value-member : (flags : List Bool) (n : ℕ) → n < length flags → (get_o
 value-member flags n short =
     let here = slice_get-get_or flags n false short in
     ((λ is. here ∙ ap (λ (b : Bool). Some b) is), λ member. get_or_from_slice_get flags n true false member)
-
-at-weaker : {X : Type 0} (P Q : X → Type 0) (xs : List X) (k : ℕ) → ((x : X) → P x → Q x) → IsSomeAnd (slice_get xs k) P → IsSomeAnd (slice_get xs k) Q
-at-weaker P Q [] k more here = absurd here
-at-weaker P Q (x ∷ xs) zero more here = more x here
-at-weaker P Q (x ∷ xs) (suc k) more here = at-weaker P Q xs k more here
 
 pub within-from : {X : Type 0} (P : X → Type 0) (xs : List X) (k : ℕ) → IsSomeAnd (slice_get xs k) P → k < length xs
 within-from P [] k here = absurd here
