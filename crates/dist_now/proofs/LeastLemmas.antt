@@ -1,4 +1,4 @@
--- The first pair in rows of numbers, of which each is gone through from its least.
+-- Numbers gone through from the least, where none so far has a property.
 use Rattle.std.proofs.Common.{ℕ, ◌<◌}
 
 -- no pair of the rows so far
