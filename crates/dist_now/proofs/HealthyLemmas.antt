@@ -1,9 +1,9 @@
 -- An installation is healthy exactly where it has none of the four kinds of fault.
-use Rattle.std.proofs.Common.{◌≡◌, ℕ, zero, suc, ◌<◌, Bool, true, false, cond, List, [], ◌∷◌, length, get_or, Some, None, Option, refl, subst, arith, inl, inr, slice_get}
+use Rattle.std.proofs.Common.{◌≡◌, ℕ, zero, suc, ◌<◌, Bool, true, false, cond, List, [], ◌∷◌, get_or, Some, None, Option, refl, subst, arith, inl, inr, slice_get}
 use Rattle.std.specs.Prelude.{All, AllPairs, Any, Contains, IsSomeAnd, filter, map}
 use Rattle.std.proofs.lemmas.List.Elements.{All-cons, All-contains, All-map, All-nil, All-tail}
 use Rattle.std.proofs.lemmas.List.Kept.{AllPairs-cons}
-use Rattle.std.proofs.lemmas.Option.{slice_get-get_or, get_or_from_slice_get}
+use Rattle.std.proofs.lemmas.Option.{slice_get-get_or, slice_get_within, get_or_from_slice_get}
 use Rattle.dist_repo.specs.Conflict.{AreInConflict}
 use Rattle.dist_repo.specs.Healthy.{Healthy, IsMet, required_names}
 use Rattle.dist_repo.specs.PackageList.{PackageList, IsPackageAnd}
@@ -26,13 +26,8 @@ found : {X : Type 0} (P : X → Type 0) (o : Option X) → IsSomeAnd o P → Fou
 found P None here = absurd here
 found P (Some x) here = record { value = x; is_value = refl; holds = here }
 
-within : {X : Type 0} (xs : List X) (k : ℕ) (x : X) → slice_get xs k ≡ Some x → k < length xs
-within [] k x is = cc
-within (y ∷ ys) zero x is = omega arith
-within (y ∷ ys) (suc k) x is = omega (arith, within ys k x is)
-
 contains-at : {X : Type 0} (xs : List X) (k : ℕ) (x : X) → slice_get xs k ≡ Some x → Contains xs x
-contains-at xs k x is = (k, within xs k x is, get_or_from_slice_get xs k x x is)
+contains-at xs k x is = (k, slice_get_within xs k x is, get_or_from_slice_get xs k x x is)
 
 all-at : {X : Type 0} (P : X → Type 0) (xs : List X) → All P xs → (k : ℕ) (x : X) → slice_get xs k ≡ Some x → P x
 all-at P xs all k x is = All-contains P xs x all (contains-at xs k x is)

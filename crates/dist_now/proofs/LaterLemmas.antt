@@ -1,6 +1,5 @@
 -- Members behind one, gone through from the least.
-use Rattle.std.proofs.Common.{◌≡◌, ◌≢◌, ℕ, ◌+◌, ◌<◌, ◌≤◌, Bool, true, List, length, Some, sym, arith, inl, inr, slice_get, ap, ◌∙◌, refl}
-use Rattle.std.specs.Prelude.{IsSomeAnd}
+use Rattle.std.proofs.Common.{◌≡◌, ◌≢◌, ℕ, ◌<◌, ◌≤◌, Bool, List, length, Some, sym, arith, inl, inr, slice_get, ◌∙◌}
 use Rattle.std.proofs.lemmas.Bool.{cases_lt}
 use Rattle.dist_repo.specs.Order.{IsInOrder}
 use Rattle.dist_repo.specs.PackageList.{PackageList}
@@ -9,15 +8,11 @@ use Rattle.dist_now.specs.Rows.{IsLater}
 use Rattle.dist_now.proofs.LeastLemmas.{IsNoneTo}
 use Rattle.dist_now.proofs.MemberLemmas.{within-from}
 use Rattle.dist_now.proofs.NameLemmas.{between-named}
-use Rattle.dist_now.proofs.Places.{at-has, has-at, some-element, element-is}
+use Rattle.dist_now.proofs.Places.{has-at, some-element, element-is}
 
 -- no member behind one, where none so far is and the numbers have ended
 pub none-later : (r : PackageList) (flags : List Bool) (first count : ℕ) (Q : Package → Type 0) → length r.packages ≤ count → IsNoneTo (IsLater r flags first Q) count → (n : ℕ) → ¬ IsLater r flags first Q n
 none-later r flags first count Q past none n later = none n (omega (arith, past, within-from Q r.packages n later.1.has)) later
-
--- the member at a number
-pub is-later : (r : PackageList) (flags : List Bool) (first n : ℕ) (Q : Package → Type 0) (q : Package) → first < n → slice_get flags n ≡ Some true → slice_get r.packages n ≡ Some q → Q q → IsLater r flags first Q n
-is-later r flags first n Q q behind member here holds = (behind, record { member = member; has = at-has Q r.packages n q here holds })
 
 -- no member of one name behind a package of another
 pub none-of-name : (r : PackageList) (flags : List Bool) (first count : ℕ) (p q : Package) → IsInOrder r.packages → first < count → slice_get r.packages first ≡ Some p → slice_get r.packages count ≡ Some q → q.name ≢ p.name

@@ -1,17 +1,15 @@
 -- The members of an installation, and what they meet.
-use Rattle.std.proofs.Common.{◌≡◌, ◌≢◌, ◌↔◌, ◌⊎◌, ℕ, zero, suc, ◌+◌, ◌-◌, ◌<◌, ◌≤◌, Bool, true, false, List, [], ◌∷◌, length, get_or, Some, Option, refl, sym, ap, subst, ◌∙◌, arith, inl, inr, slice_get}
+use Rattle.std.proofs.Common.{◌≡◌, ◌⊎◌, ℕ, zero, suc, ◌<◌, ◌≤◌, Bool, true, false, List, [], ◌∷◌, length, get_or, Some, Option, refl, sym, subst, ◌∙◌, arith, inl, inr, slice_get}
 use Rattle.std.specs.Prelude.{Any, Contains, IsSomeAnd}
-use Rattle.std.proofs.lemmas.Bool.{cases_lt}
 use Rattle.std.proofs.lemmas.List.{get_or_default}
-use Rattle.std.proofs.lemmas.Option.{slice_get-get_or, get_or_from_slice_get}
 use Rattle.dist_relation.specs.declared.atom.Atom.{Atom}
-use Rattle.dist_relation.specs.declared.atom.Provide.{Provide}
+use Rattle.dist_repo.proofs.Search.{at-weaker}
 use Rattle.dist_repo.specs.Match.{Matches, MatchesByEntry}
 use Rattle.dist_repo.specs.PackageList.{PackageList, IsPackageAnd}
 use Rattle.dist_repo.specs.Providers.{AreProviders, IsProvider}
 use Rattle.dist_repo.specs.declared.package.Package.{Package}
 use Rattle.dist_now.specs.Members.{IsMemberAnd, members_of}
-use Rattle.dist_now.proofs.Places.{any-head, any-later, any-from, has-at, at-has}
+use Rattle.dist_now.proofs.Places.{any-head, any-later, at-has}
 
 pub any-cases : {X : Type 0} (P : X → Type 0) (x : X) (xs : List X) → Any P (x ∷ xs) → P x ⊎ Any P xs
 any-cases P x xs any = at any.0 any.1 any.2 any.3 any.4
@@ -54,29 +52,10 @@ matched-provides architecture atom p matches =
       | inr any ↦ let by_entry : MatchesByEntry architecture atom any.1 = any.4 in inr (any.0, any.1, any.2, any.3, (by_entry.usable, by_entry.name))
     ]
 
--- ---- a truth value
-
-pub value-member : (flags : List Bool) (n : ℕ) → n < length flags → (get_or flags n false ≡ true) ↔ (slice_get flags n ≡ Some true)
-value-member flags n short =
-    let here = slice_get-get_or flags n false short in
-    ((λ is. here ∙ ap (λ (b : Bool). Some b) is), λ member. get_or_from_slice_get flags n true false member)
-
-at-weaker : {X : Type 0} (P Q : X → Type 0) (xs : List X) (k : ℕ) → ((x : X) → P x → Q x) → IsSomeAnd (slice_get xs k) P → IsSomeAnd (slice_get xs k) Q
-at-weaker P Q [] k more here = absurd here
-at-weaker P Q (x ∷ xs) zero more here = more x here
-at-weaker P Q (x ∷ xs) (suc k) more here = at-weaker P Q xs k more here
-
 pub within-from : {X : Type 0} (P : X → Type 0) (xs : List X) (k : ℕ) → IsSomeAnd (slice_get xs k) P → k < length xs
 within-from P [] k here = absurd here
 within-from P (x ∷ xs) zero here = omega arith
 within-from P (x ∷ xs) (suc k) here = omega (arith, within-from P xs k here)
-
--- what the value of the variable of a package answers, which are numbered from 1
-pub value-answer : (answer : Bool) (flags : List Bool) (n : ℕ) → n < length flags → answer ≡ get_or flags (n + 1 - 1) false → (answer ≡ true) ↔ (slice_get flags n ≡ Some true)
-value-answer answer flags n short is =
-    let place : n + 1 - 1 ≡ n = omega arith in
-    let here : answer ≡ get_or flags n false = is ∙ ap (λ k. get_or flags k false) place in
-    ((λ true_is. (value-member flags n short).0 (sym here ∙ true_is)), λ member. here ∙ (value-member flags n short).1 member)
 
 -- ---- the providers of a name, as far as they were gone through
 
@@ -110,31 +89,11 @@ pub none-named : (r : PackageList) (flags : List Bool) (name : List ℕ) (provid
     ¬ Any (IsNamed name) (members_of r.packages flags)
 none-named r flags name providers count past are none = none-of r flags name (IsNamed name) providers count past are (λ p is. inl is) none
 
--- a provider that is not a member, or that the atom doesn't match, is passed over
-pub none-matched-more : (r : PackageList) (flags : List Bool) (atom : Atom) (providers : List ℕ) (count : ℕ) → IsNoneMatched r flags atom providers count →
-    ¬ IsMemberAnd r.packages flags (get_or providers count 0) (Matches r.architecture atom) → IsNoneMatched r flags atom providers (count + 1)
-none-matched-more r flags atom providers count none here k short =
-    elim (cases_lt k count) [
-      | inl h ↦ none k h
-      | inr h ↦ let same : count ≡ k = omega arith in
-          let P : ℕ → Type 0 = λ n. ¬ IsMemberAnd r.packages flags (get_or providers n 0) (Matches r.architecture atom) in subst P same here
-    ]
-
--- a provider is a package of the repository
-pub provider-within : (r : PackageList) (name : List ℕ) (providers : List ℕ) (number : ℕ) → AreProviders r name providers → Contains providers number → number < length r.packages
-provider-within r name providers number are there =
-    let here = (are.exact number).0 there in
-    within-from (IsProvider r.architecture name) r.packages number here
-
 -- a provider that is a member and that the atom matches
 pub provider-any : (r : PackageList) (flags : List Bool) (atom : Atom) (number : ℕ) (p : Package) → slice_get flags number ≡ Some true → slice_get r.packages number ≡ Some p
     → Matches r.architecture atom p → Any (Matches r.architecture atom) (members_of r.packages flags)
 provider-any r flags atom number p member here matches =
     member-any (Matches r.architecture atom) r.packages flags number member (at-has (Matches r.architecture atom) r.packages number p here matches)
-
-pub not-matched : (r : PackageList) (flags : List Bool) (atom : Atom) (number : ℕ) (p : Package) → slice_get r.packages number ≡ Some p → ¬ Matches r.architecture atom p
-    → ¬ IsMemberAnd r.packages flags number (Matches r.architecture atom)
-not-matched r flags atom number p here none m = none (has-at (Matches r.architecture atom) r.packages number p here m.has)
 
 -- some member meets an alternative
 abbrev pub IsMetBy : PackageList → List Bool → Atom → Type 0
@@ -145,7 +104,3 @@ pub named-any : (r : PackageList) (flags : List Bool) (name : List ℕ) (number 
     → p.name ≡ name → Any (IsNamed name) (members_of r.packages flags)
 named-any r flags name number p member here is =
     member-any (IsNamed name) r.packages flags number member (at-has (IsNamed name) r.packages number p here is)
-
-pub not-named : (r : PackageList) (flags : List Bool) (name : List ℕ) (number : ℕ) (p : Package) → slice_get r.packages number ≡ Some p → p.name ≢ name
-    → ¬ IsMemberAnd r.packages flags number (IsNamed name)
-not-named r flags name number p here other m = other (has-at (IsNamed name) r.packages number p here m.has)

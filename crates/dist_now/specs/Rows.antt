@@ -1,5 +1,5 @@
 -- The least place of one member's faults.
-use Rattle.std.specs.Prelude.{◌≡◌, ℕ, ◌<◌, Bool, List, Option, MatchOption, IsSomeAnd, slice_get}
+use Rattle.std.specs.Prelude.{ℕ, ◌<◌, Bool, List, Option, MatchOption, IsSomeAnd, slice_get}
 use Rattle.dist_relation.specs.declared.atom.Atom.{Atom}
 use Rattle.dist_repo.specs.Healthy.{IsMet}
 use Rattle.dist_repo.specs.PackageList.{PackageList}

@@ -10,7 +10,12 @@ use dist_clause::Assignment;
 use dist_repo::{Package, Repository};
 
 /// The least member behind one, of the same name.
-fn later_version(repo: &Repository, members: &Assignment, first: u32, package: &Package) -> Option<u32>
+fn later_version(
+    repo: &Repository,
+    members: &Assignment,
+    first: u32,
+    package: &Package,
+) -> Option<u32>
     requires one_each { IsOneEach repo.now members.now }
     requires first { slice_get repo.now.packages first ≡ Some «package».now }
     ensures { IsLeastIfAny (IsLater repo.now members.now first (λ q. «package».now.name ≡ q.name)) result }

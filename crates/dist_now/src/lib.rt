@@ -10,3 +10,6 @@ mod members;
 pub use judging::health;
 pub use kinds::Health;
 pub use laws::one_health;
+
+#[cfg(test)]
+mod tests;
