@@ -6,3 +6,5 @@ pub mod LaterLemmas
 pub mod Decided
 pub mod HealthyLemmas
 pub mod OneHealth
+pub mod RejectedLemmas
+pub mod ConflictLemmas

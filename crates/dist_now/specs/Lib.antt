@@ -3,3 +3,4 @@ pub mod Least
 pub mod Members
 pub mod Fit
 pub mod Rows
+pub mod Rejected

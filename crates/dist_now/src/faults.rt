@@ -1,8 +1,7 @@
 //! The least fault of each kind: rows of pairs, each gone through from its least.
 ghost use Rattle.std.specs.Prelude.{◌≡◌, ◌<◌, Some, length, slice_get};
-ghost use Rattle.dist_repo.specs.Conflict.{AreInConflict};
 ghost use Rattle.dist_now.specs.Fit.{IsOneEach};
-ghost use Rattle.dist_now.specs.Health.{AreTwoVersions, AreConflicting, IsUnmetAt};
+ghost use Rattle.dist_now.specs.Health.{AreTwoVersions, IsUnmetAt};
 ghost use Rattle.dist_now.specs.Rows.{IsLater, IsLeastIfAny, IsLeastPairIfAny, IsUnmetItem};
 
 use crate::members::{is_member, is_met};
@@ -27,26 +26,6 @@ fn later_version(
             return None;
         }
         if is_member(repo, members, second) {
-            return Some(second);
-        }
-    }
-    None
-}
-
-/// The least member behind one that is in conflict with it.
-fn later_conflict(
-    repo: &Repository,
-    members: &Assignment,
-    first: u32,
-    package: &Package,
-) -> Option<u32>
-    requires one_each { IsOneEach repo.now members.now }
-    requires first { first < length repo.now.packages }
-    ensures { IsLeastIfAny (IsLater repo.now members.now first (AreInConflict repo.now.architecture «package».now)) result }
-{
-    let end = repo.len();
-    for second in first + 1..end {
-        if is_member(repo, members, second) && repo.conflict(package, repo.package(second)) {
             return Some(second);
         }
     }
@@ -96,18 +75,6 @@ fn unmet_row(repo: &Repository, members: &Assignment, number: u32) -> Option<usi
     unmet_item(repo, members, number, repo.package(number))
 }
 
-/// The least member behind a member that is in conflict with it.
-fn conflict_row(repo: &Repository, members: &Assignment, first: u32) -> Option<u32>
-    requires one_each { IsOneEach repo.now members.now }
-    requires first { first < length repo.now.packages }
-    ensures { IsLeastIfAny (AreConflicting repo.now members.now first) result }
-{
-    if !is_member(repo, members, first) {
-        return None;
-    }
-    later_conflict(repo, members, first, repo.package(first))
-}
-
 /// The least two members of one name.
 pub(crate) fn two_versions(repo: &Repository, members: &Assignment) -> Option<(u32, u32)>
     requires { IsOneEach repo.now members.now }
@@ -129,19 +96,6 @@ pub(crate) fn unmet(repo: &Repository, members: &Assignment) -> Option<(u32, usi
     for number in 0..repo.len() {
         if let Some(place) = unmet_row(repo, members, number) {
             return Some((number, place));
-        }
-    }
-    None
-}
-
-/// The least two members in conflict.
-pub(crate) fn conflict(repo: &Repository, members: &Assignment) -> Option<(u32, u32)>
-    requires { IsOneEach repo.now members.now }
-    ensures { IsLeastPairIfAny (AreConflicting repo.now members.now) result }
-{
-    for first in 0..repo.len() {
-        if let Some(second) = conflict_row(repo, members, first) {
-            return Some((first, second));
         }
     }
     None

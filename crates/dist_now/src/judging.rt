@@ -4,7 +4,8 @@ ghost use Rattle.dist_now.specs.Fit.{IsOneEach};
 ghost use Rattle.dist_now.specs.Health.{IsHealth, IsMissing};
 ghost use Rattle.dist_now.specs.Rows.{IsLeastIfAny};
 
-use crate::faults::{conflict, two_versions, unmet};
+use crate::conflicts::conflict;
+use crate::faults::{two_versions, unmet};
 use crate::kinds::Health;
 use crate::members::is_named;
 use dist_clause::Assignment;

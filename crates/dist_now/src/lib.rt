@@ -1,6 +1,7 @@
 //! The present: whether an installation of a repository's packages is healthy, and where it is not.
 #![tactic(auto)]
 
+mod conflicts;
 mod faults;
 mod judging;
 mod kinds;

@@ -1,0 +1,7 @@
+use Rattle.dist_now.specs.Rows.{IsLeastIfAny}
+use Rattle.dist_now.proofs.RejectedLemmas.{IsRejectedBefore}
+use Rattle.dist_now.proofs.conflicts.rejected.Given as goal
+
+-- the least that the atoms so far reject
+abbrev pub invariant-loop-place : goal.invariant-loop-place
+invariant-loop-place l = IsLeastIfAny (IsRejectedBefore l.repo l.members l.number l.package.conflicts l.place) l.least
