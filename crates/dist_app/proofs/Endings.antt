@@ -152,7 +152,7 @@ module _ (words : List (List ℕ)) (limits : Limits) (desk desk' : DeskView) (ou
   cut_health packages list status text (work.TooLarge limit) is_health decides front cause = absurd cause
   cut_health packages list status text work.WriteFault is_health decides front cause = record {
     ending = record { status = WriteFault; out = front.front; err = refusal_text refusal.WriteFault; files = desk.files };
-    comes = inr (inr (inr (inl (record { decided = answered desk.files status text; decides = inr (packages, list, is_health, decides); front = front.is_front; is = refl }))));
+    comes = inr (inr (inr (inl (record { decided = answered desk.files status text; decides = inr (packages, list, is_health, decides); answers = refl; front = front.is_front; is = refl }))));
     status = refl;
     told = refl;
     files = refl;
@@ -163,7 +163,7 @@ module _ (words : List (List ℕ)) (limits : Limits) (desk desk' : DeskView) (ou
   }
   cut_health packages list status text work.NoMemory is_health decides front cause = record {
     ending = record { status = NoMemory; out = front.front; err = refusal_text refusal.NoMemory; files = desk.files };
-    comes = inr (inr (inr (inr (record { decided = answered desk.files status text; decides = inr (packages, list, is_health, decides); front = front.is_front; is = refl }))));
+    comes = inr (inr (inr (inr (record { decided = answered desk.files status text; decides = inr (packages, list, is_health, decides); answers = refl; front = front.is_front; is = refl }))));
     status = refl;
     told = refl;
     files = refl;

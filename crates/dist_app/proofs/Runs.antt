@@ -1,5 +1,6 @@
 -- What a run promises, from how carrying out its command ends.
 use Rattle.std.proofs.Common.{◌≡◌, ◌⊎◌, ℕ, List, [], inl, inr, Option, Result, Ok, Err, ap, sym, ◌∙◌, subst}
+use Rattle.dist_outside.specs.Counts.{Rose}
 use Rattle.dist_outside.specs.Files.{Files}
 use Rattle.dist_outside.specs.DeskView.{DeskView, OnlyReads}
 use Rattle.dist_outside.specs.SinkView.{SinkView, Grew}
@@ -8,7 +9,7 @@ use Rattle.dist_outside.specs.declared.trouble.WorkError.{WorkError}
 use Rattle.dist_outside.specs.declared.trouble.WorkError.TheVariants as work
 use Rattle.dist_app.specs.Carried.{IsAnswered, IsRefused}
 use Rattle.dist_app.specs.Refusal.{status_of, refusal_text}
-use Rattle.dist_app.specs.Run.{IsBadWords, Decides, Comes, IsInterrupted, IsTold, TellsFiles, IsFaultless, Runs}
+use Rattle.dist_app.specs.Run.{IsBadWords, Decides, Comes, IsCutShort, IsInterrupted, IsTold, TellsFiles, Runs}
 use Rattle.dist_app.specs.Stages.{Ending, refused}
 use Rattle.dist_app.specs.Writes.{Writes}
 use Rattle.dist_app.specs.declared.refusal.Refusal.{Refusal}
@@ -46,8 +47,8 @@ answered_runs exact words limits status desk desk' out out' err a reads nothing 
   words_told = λ bad. a.status_is ∙ status_of_words words desk.files limits a.ending a.decides bad;
   read_fault = λ is. absurd (not_read_fault words desk.files limits a.ending a.decides (sym a.status_is ∙ is));
   write_fault = λ is. absurd (not_write_fault words desk.files limits a.ending a.decides (sym a.status_is ∙ is));
-  refusal_comes = λ tells faultless r decides. inl (alone exact words desk limits r a.ending tells decides a.decides);
-  answer_comes = λ tells faultless. inl a.decides;
+  refusal_comes = λ tells read r decides. inl (alone exact words desk limits r a.ending tells decides a.decides);
+  answer_comes = λ tells read printed. inl a.decides;
 }
 
 read_fault_of : (r : Refusal) → status_of r ≡ ReadFault → r ≡ refusal.ReadFault
@@ -68,6 +69,10 @@ write_fault_of refusal.NoMemory is = cc
 write_fault_of (refusal.TooLarge limit) is = cc
 write_fault_of (refusal.BadList line) is = cc
 
+-- a refusal has a line
+told_not_empty : (r : Refusal) → ¬ (refusal_text r ≡ [])
+told_not_empty r is = cc
+
 told_of : (text : List ℕ) (result : Result (Unit {0}) WorkError) (old new : SinkView) → Writes text result old new → IsTold text old new
 told_of text (Ok done) old new grew = inl grew
 told_of text (Err work.WriteFault) old new (front, cause) = inr (front, inl cause)
@@ -86,13 +91,19 @@ interrupted_status words files limits ending (inr (inr (inr cut))) = inr (inr (a
 -- A refusal, whose line is told on `err`.
 module _ (exact : AreExact) (words : List (List ℕ)) (limits : Limits) (desk desk' : DeskView) (out out' : SinkView) (r : Refusal) (b : IsRefused words limits desk desk' out out' r) where
   -- where nothing was counted, want of memory is the only end that may come at any time
-  unstored_alone : IsFaultless desk desk' out out' → IsInterrupted words desk.files limits b.ending → status_of r ≡ NoMemory
-  unstored_alone faultless interrupted =
+  unstored_alone : ¬ Rose desk.read_faults desk'.read_faults → ¬ Rose out.faults out'.faults → IsInterrupted words desk.files limits b.ending → status_of r ≡ NoMemory
+  unstored_alone read printed interrupted =
       elim (interrupted_status words desk.files limits b.ending interrupted) [
-        | inl read ↦ absurd (faultless.read (b.read_fault (read_fault_of r (sym b.status ∙ read))))
-        | inr (inl written) ↦ absurd (faultless.printed (b.write_fault (write_fault_of r (sym b.status ∙ written))))
-        | inr (inr memory) ↦ sym b.status ∙ memory
+        | inl is ↦ absurd (read (b.read_fault (read_fault_of r (sym b.status ∙ is))))
+        | inr (inl is) ↦ absurd (printed (b.write_fault (write_fault_of r (sym b.status ∙ is))))
+        | inr (inr is) ↦ sym b.status ∙ is
       ]
+
+  -- where the inputs decide a refusal, no answer is cut short
+  no_cut : TellsFiles desk → (other fault : Refusal) → Decides words desk.files limits (refused desk.files other) → ¬ IsCutShort words desk.files limits fault b.ending
+  no_cut tells other fault first cut =
+      let same : cut.decided ≡ refused desk.files other = alone exact words desk limits other cut.decided tells first cut.decides in
+      told_not_empty other (sym (ap (λ (e : Ending). e.err) same) ∙ cut.answers)
 
   refused_words : Comes words desk.files limits b.ending → status_of r ≡ BadWords → IsBadWords words
   refused_words (inl decides) is = words_of_status words desk.files limits b.ending decides (b.status ∙ is)
@@ -103,15 +114,18 @@ module _ (exact : AreExact) (words : List (List ℕ)) (limits : Limits) (desk de
         | inr (inr memory) ↦ let e = b.status in let f = memory in cc
       ]
 
-  refusal_comes : Comes words desk.files limits b.ending → TellsFiles desk → IsFaultless desk desk' out out' → (other : Refusal)
+  refusal_comes : Comes words desk.files limits b.ending → TellsFiles desk → ¬ Rose desk.read_faults desk'.read_faults → (other : Refusal)
       → Decides words desk.files limits (refused desk.files other) → (b.ending ≡ refused desk.files other) ⊎ (status_of r ≡ NoMemory)
-  refusal_comes (inl decides) tells faultless other first = inl (alone exact words desk limits other b.ending tells first decides)
-  refusal_comes (inr interrupted) tells faultless other first = inr (unstored_alone faultless interrupted)
+  refusal_comes (inl decides) tells read other first = inl (alone exact words desk limits other b.ending tells first decides)
+  refusal_comes (inr (inl is)) tells read other first = absurd (read (b.read_fault (read_fault_of r (sym b.status ∙ ap (λ (e : Ending). e.status) is))))
+  refusal_comes (inr (inr (inl is))) tells read other first = inr (sym b.status ∙ ap (λ (e : Ending). e.status) is)
+  refusal_comes (inr (inr (inr (inl cut)))) tells read other first = absurd (no_cut tells other refusal.WriteFault first cut)
+  refusal_comes (inr (inr (inr (inr cut)))) tells read other first = absurd (no_cut tells other refusal.NoMemory first cut)
 
-  answer_comes : Comes words desk.files limits b.ending → TellsFiles desk → IsFaultless desk desk' out out'
+  answer_comes : Comes words desk.files limits b.ending → TellsFiles desk → ¬ Rose desk.read_faults desk'.read_faults → ¬ Rose out.faults out'.faults
       → Decides words desk.files limits b.ending ⊎ (status_of r ≡ NoMemory)
-  answer_comes (inl decides) tells faultless = inl decides
-  answer_comes (inr interrupted) tells faultless = inr (unstored_alone faultless interrupted)
+  answer_comes (inl decides) tells read printed = inl decides
+  answer_comes (inr interrupted) tells read printed = inr (unstored_alone read printed interrupted)
 
   pub refused_runs : (result : Result (Unit {0}) WorkError) (err err' : SinkView) → OnlyReads desk desk' → Writes (refusal_text r) result err err'
       → Runs words limits (status_of r) desk desk' out out' err err'

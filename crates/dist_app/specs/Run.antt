@@ -29,10 +29,11 @@ Decides words files limits ending =
     (IsBadWords words × (ending ≡ refused files BadWords))
     ⊎ ((packages : List ℕ) × (list : List ℕ) × IsHealth words packages list × HealthDecides files limits packages list ending)
 
--- The text of an end that was decided could not be written whole: a front of it was.
+-- The text of an answer that was decided could not be written whole: a front of it was.
 pub record IsCutShort (words : List (List ℕ)) (files : Option Files) (limits : Limits) (refusal : Refusal) (ending : Ending) : Type 0 where
   pub decided : Ending
   pub decides : Decides words files limits decided
+  pub answers : decided.err ≡ []
   pub front : IsFrontOf decided.out ending.out
   pub is : ending ≡ record { status = status_of refusal; out = ending.out; err = refusal_text refusal; files = decided.files }
 
@@ -63,12 +64,6 @@ IsTold text old new = Grew text old new ⊎ (GrewByFront text old new × (Rose o
 abbrev pub TellsFiles : DeskView → Type 0
 TellsFiles desk = (files : Files) × (desk.files ≡ Some files)
 
--- no fault was counted
-pub record IsFaultless (desk desk' : DeskView) (out out' : SinkView) : Type 0 where
-  pub read : ¬ Rose desk.read_faults desk'.read_faults
-  pub written : ¬ Rose desk.write_faults desk'.write_faults
-  pub printed : ¬ Rose out.faults out'.faults
-
 -- What a run promises of its end.
 pub record Runs (words : List (List ℕ)) (limits : Limits) (result : Status) (desk desk' : DeskView) (out out' err err' : SinkView) : Type 0 where
   -- The status, what `out` grew by, the line on `err` and the files are those of an end that may come.
@@ -82,11 +77,12 @@ pub record Runs (words : List (List ℕ)) (limits : Limits) (result : Status) (d
   -- Faults are told only where they were counted.
   pub read_fault : result ≡ status.ReadFault → Rose desk.read_faults desk'.read_faults
   pub write_fault : result ≡ status.WriteFault → Rose out.faults out'.faults
-  -- Where the desk tells its files and no fault is counted: a refusal that the inputs decide is the end, and else the
-  -- end is one that they decide, but for want of memory.
-  pub refusal_comes : TellsFiles desk → IsFaultless desk desk' out out' → (refusal : Refusal)
+  -- Where the desk tells its files and no fault of reading is counted, a refusal that the inputs decide is the end, but
+  -- for want of memory. Where `out` counts no fault either, the end is one that the inputs decide, but for want of memory.
+  pub refusal_comes : TellsFiles desk → ¬ Rose desk.read_faults desk'.read_faults → (refusal : Refusal)
       → Decides words desk.files limits (refused desk.files refusal) → (ending ≡ refused desk.files refusal) ⊎ (result ≡ status.NoMemory)
-  pub answer_comes : TellsFiles desk → IsFaultless desk desk' out out' → Decides words desk.files limits ending ⊎ (result ≡ status.NoMemory)
+  pub answer_comes : TellsFiles desk → ¬ Rose desk.read_faults desk'.read_faults → ¬ Rose out.faults out'.faults
+      → Decides words desk.files limits ending ⊎ (result ≡ status.NoMemory)
 
 -- the stated limits
 abbrev pub stated_limits : Limits

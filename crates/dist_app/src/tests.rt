@@ -283,3 +283,22 @@ fn other_words_are_refused(rt: HostRuntime) -> Result<(), Fail> {
     }
     Ok(())
 }
+
+#[test]
+fn packages_are_taken_apart_before_the_list_is_read(rt: HostRuntime) -> Result<(), Fail> {
+    let alloc = rt.alloc();
+    let words = words_of(alloc, &["health", "packages", "list"])?;
+    let files: [(&str, Status); 2] = [
+        ("packages", Status::BadPackages),
+        ("other", Status::ReadFault),
+    ];
+    for (name, wanted) in files {
+        let mut desk = MemoryDesk::new(alloc, 7, &[])?;
+        desk.put(name, b"Package: a\n")?;
+        let mut out = MemorySink::new(alloc, 10, &[])?;
+        let mut err = MemorySink::new(alloc, 10, &[])?;
+        let status = run(alloc, &words, &mut desk, &mut out, &mut err);
+        assert_eq!(rt; status, wanted);
+    }
+    Ok(())
+}
