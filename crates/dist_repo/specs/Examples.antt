@@ -1,5 +1,5 @@
 -- Worked examples: two mail transport agents that provide and conflict with one name, and a version that a bound asks for.
-use Rattle.std.specs.Prelude.{◌≡◌, ◌≢◌, ℕ, false, List, [], ◌∷◌, None, Some, codes, refl}
+use Rattle.std.specs.Prelude.{◌≡◌, ℕ, false, List, [], ◌∷◌, None, Some, codes, refl}
 use Rattle.std.proofs.Common.{inl, inr, lit<}
 use Rattle.dist_relation.specs.declared.atom.Atom.{Atom}
 use Rattle.dist_relation.specs.declared.atom.Op.TheVariants.{Ge}
@@ -48,9 +48,9 @@ unversioned_meets_no_bound : ¬ MatchesByEntry None bounded (record { name = cod
 unfolding bounded
 unversioned_meets_no_bound matched = matched.bound
 
--- so one is in conflict with another, but never with itself, though it matches its own conflict atom
-agents_are_in_conflict : (other : codes "exim4" ≢ codes "postfix") → AreInConflict None (mailer (codes "exim4")) (mailer (codes "postfix"))
-agents_are_in_conflict other = record { different = λ same. other same.0; matched = inl (0, agent, lit< tt, refl, agent-matches (codes "postfix")) }
+-- so one is in conflict with another
+agents_are_in_conflict : AreInConflict None (mailer (codes "exim4")) (mailer (codes "postfix"))
+agents_are_in_conflict = record { different = λ same. let names : codes "exim4" ≡ codes "postfix" = same.0 in cc; matched = inl (0, agent, lit< tt, refl, agent-matches (codes "postfix")) }
 
 -- at mode plain no name is required
 plain_requires_nothing : required_names false (mailer (codes "exim4") ∷ []) ≡ []
