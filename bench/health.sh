@@ -10,7 +10,7 @@ trap 'rm -rf "$folder"' EXIT
 if [ $# -ge 1 ]; then cp "$1" "$folder/packages"; else python3 "$top/bench/make-packages.py" 63440 >"$folder/packages"; fi
 if [ $# -ge 2 ]; then cp "$2" "$folder/list"; else : >"$folder/list"; fi
 python3 - "${DISTFUTURE:-$top/crates/distfuture/out/distfuture}" "$folder" <<'PYTHON'
-import os, resource, subprocess, sys, time
+import os, subprocess, sys, time
 
 program, folder = sys.argv[1], sys.argv[2]
 
@@ -34,7 +34,10 @@ for part in (4, 2, 1):
     health = best([program, "health", path, listed], 5)
     lines = best(["wc", "-l", path], 5)
     print(f"1/{part} of the file, {os.path.getsize(path)} bytes: health {health:.3f} s, wc -l {lines:.3f} s, ratio {health / lines:.1f}")
-answer = subprocess.run([program, "health", path, f"{folder}/list"], capture_output=True, text=True)
+# A small process of its own runs the program, so that its children's memory is the program's.
+measure = """import resource, subprocess, sys
+answer = subprocess.run(sys.argv[1:], capture_output=True, text=True)
 print("status", answer.returncode, answer.stdout.strip(), answer.stderr.strip())
-print(f"at most {resource.getrusage(resource.RUSAGE_CHILDREN).ru_maxrss / 1000:.0f} MB")
+print(f"at most {resource.getrusage(resource.RUSAGE_CHILDREN).ru_maxrss / 1000:.0f} MB")"""
+subprocess.run([sys.executable, "-c", measure, program, "health", path, f"{folder}/list"])
 PYTHON
