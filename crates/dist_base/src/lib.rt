@@ -1,11 +1,22 @@
-//! What all layers share: the stated limits, and the words for what a reader answers and for a front of a text.
+//! What all layers share: the stated limits, lists kept flat, and the words for what a reader answers and for a front of a
+//! text.
 #![tactic(auto)]
+
+mod pieces;
+
+pub use pieces::Flat;
 
 /// Bytes of a Packages file, and of a list.
 pub const MAX_BYTES: u64 = 268_435_456;
 
 /// Stanzas of a Packages file, doubles included.
 pub const MAX_STANZAS: u32 = 200_000;
+
+/// Packages of a repository that is asked.
+pub const MAX_PACKAGES: u32 = 16_000_000;
+
+/// Atoms and entries of Provides of all its packages together.
+pub const MAX_RELATIONS: u64 = 268_435_456;
 
 /// Variables of a set of clauses.
 pub const MAX_VARIABLES: u32 = 16_000_000;

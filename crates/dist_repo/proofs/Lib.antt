@@ -1,4 +1,3 @@
-pub mod FlatLemmas
 pub mod Search
 pub mod HeldLemmas
 pub mod NameSearch

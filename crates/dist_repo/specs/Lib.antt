@@ -7,7 +7,7 @@ pub mod Order
 pub mod PackageList
 pub mod Providers
 pub mod Strong
-pub mod Flat
+pub mod Size
 pub mod Total
 pub mod Indexed
 pub mod Tally

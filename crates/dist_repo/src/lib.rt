@@ -2,7 +2,6 @@
 #![tactic(auto)]
 
 mod builder;
-mod flat;
 mod key;
 mod matching;
 mod names;

@@ -4,7 +4,7 @@ ghost use Rattle.std.specs.Cmp.Lexicographic.{slice_cmp};
 ghost use Rattle.std.specs.List.Sorted.{IsStrictlySortedBy};
 ghost use Rattle.std.specs.Ordering.{nat_cmp};
 
-use crate::flat::Flat;
+use dist_base::Flat;
 use std::cmp::Ordering;
 
 /// A table of names in order, with the numbers that belong to each.

@@ -1,6 +1,6 @@
 use Rattle.std.proofs.Common.{◌-◌, [], length, get_or, take, drop, ap, sym, ◌∙◌, arith}
-use Rattle.dist_repo.proofs.FlatLemmas.{AreEnds-at, get_or-pieces}
-use Rattle.dist_repo.proofs.flat.list_at.Goals as goal
+use Rattle.dist_base.proofs.PieceLemmas.{AreEnds-at, get_or-pieces}
+use Rattle.dist_base.proofs.pieces.list_at.Goals as goal
 
 pub slice_bounds-result-count : goal.slice_bounds-result-count
 slice_bounds-result-count g c =

@@ -1,5 +1,5 @@
 -- Lists kept one after another in a single list, with the place where each of them ends.
-use Rattle.std.specs.Prelude.{◌≡◌, ℕ, zero, suc, ◌+◌, ◌≤◌, List, [], ◌∷◌, ◌++◌, length, slice_index, refl}
+use Rattle.std.specs.Prelude.{◌≡◌, ℕ, zero, suc, ◌+◌, ◌≤◌, List, [], ◌∷◌, ◌++◌, length, slice_index, sum_by, refl}
 use Rattle.std.specs.List.{slice_range}
 
 -- the pieces of a list that end at the given places, the first of them beginning at `start`
@@ -11,6 +11,10 @@ pieces start (end ∷ ends) xs = slice_range xs start end ∷ pieces end ends xs
 abbrev pub AreEnds : ℕ → List ℕ → ℕ → Type 0
 AreEnds start [] n = start ≡ n
 AreEnds start (end ∷ ends) n = (start ≤ end) × AreEnds end ends n
+
+-- how many items the lists have together
+abbrev pub total : {X : Type 0} → List (List X) → ℕ
+total lists = sum_by (λ list. length list) lists
 
 -- where the piece at a place begins
 abbrev pub begin_of : ℕ → List ℕ → ℕ → ℕ

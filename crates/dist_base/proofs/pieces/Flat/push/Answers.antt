@@ -1,5 +1,5 @@
-use Rattle.dist_repo.proofs.FlatLemmas.{AreEnds-after, pieces-after_ok, pieces-after_err}
-use Rattle.dist_repo.proofs.flat.Flat.push.Goals as goal
+use Rattle.dist_base.proofs.PieceLemmas.{AreEnds-after, pieces-after_ok, pieces-after_err}
+use Rattle.dist_base.proofs.pieces.Flat.push.Goals as goal
 
 pub invariant_of-self : goal.invariant_of-self
 invariant_of-self g c =

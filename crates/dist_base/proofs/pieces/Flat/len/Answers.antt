@@ -1,6 +1,6 @@
 use Rattle.std.proofs.Common.{◌≡◌, length, subst, arith}
-use Rattle.dist_repo.proofs.FlatLemmas.{length-pieces}
-use Rattle.dist_repo.proofs.flat.Flat.len.Goals as goal
+use Rattle.dist_base.proofs.PieceLemmas.{length-pieces}
+use Rattle.dist_base.proofs.pieces.Flat.len.Goals as goal
 
 pub returns : goal.returns
 returns g c =

@@ -1,6 +1,6 @@
 use Rattle.std.proofs.Common.{length, ap, arith}
-use Rattle.dist_repo.proofs.FlatLemmas.{length-pieces}
-use Rattle.dist_repo.proofs.flat.Flat.get.Goals as goal
+use Rattle.dist_base.proofs.PieceLemmas.{length-pieces}
+use Rattle.dist_base.proofs.pieces.Flat.get.Goals as goal
 
 pub list_at-requires-clause-place : goal.list_at-requires-clause-place
 list_at-requires-clause-place g c =

@@ -1,8 +1,10 @@
 -- Lists kept one after another in a single list: each piece, their number, their joint length, and one more piece.
 use Rattle.std.proofs.Common.{◌≡◌, ℕ, zero, suc, ◌+◌, ◌-◌, ◌<◌, ◌≤◌, List, [], ◌∷◌, ◌++◌, length, get_or, take, drop, Result, Ok, Err, OnOk, OnErr, refl, ap, sym, ◌∙◌, arith, length-drop, length-append}
 use Rattle.std.proofs.lemmas.List.{drop_at, take-append-le, drop-append-le}
+use Rattle.std.proofs.lemmas.List.Edits.{length-between}
+use Rattle.std.proofs.lemmas.List.Sums.{sum_by-cons}
 use Rattle.std.specs.List.{slice_range}
-use Rattle.dist_repo.specs.Flat.{pieces, AddsPiece, AreEnds, begin_of}
+use Rattle.dist_base.specs.Pieces.{pieces, total, AddsPiece, AreEnds, begin_of}
 
 pub length-pieces : {X : Type 0} (start : ℕ) (ends : List ℕ) (xs : List X) → length (pieces start ends xs) ≡ length ends
 length-pieces start [] xs = refl
@@ -88,3 +90,12 @@ pub pieces-after_err : {X A E : Type 0} (r : Result A E) (items : List X) (ends 
     OnErr r (new_items ≡ items) → OnErr r (new_ends ≡ ends) → (old : List (List X)) → pieces 0 ends items ≡ old → OnErr r (pieces 0 new_ends new_items ≡ old)
 pieces-after_err (Ok v) items ends new_items new_ends same_items same_ends old is = tt
 pieces-after_err (Err e) items ends new_items new_ends same_items same_ends old is = rw (same_items, same_ends) is
+
+pub total-pieces : {X : Type 0} (start : ℕ) (ends : List ℕ) (xs : List X) → AreEnds start ends (length xs) → total (pieces start ends xs) + start ≡ length xs
+total-pieces start [] xs h = omega arith
+total-pieces start (end ∷ ends) xs h =
+    let end_within = AreEnds-le end ends (length xs) h.1 in
+    let first = length-between xs start end end_within in
+    let rest = total-pieces end ends xs h.1 in
+    let split = sum_by-cons (λ c. length c) (slice_range xs start end) (pieces end ends xs) in
+    omega (arith, h.0)
