@@ -38,3 +38,6 @@ pub const MAX_CERTIFICATE: u64 = 68_719_476_736;
 
 /// Bytes of one line of a certificate, its line feed included.
 pub const MAX_RECORD_LINE: u64 = 1_073_741_824;
+
+#[cfg(test)]
+mod tests;

@@ -1,3 +1,2 @@
-pub mod FlatLemmas
-pub mod SetLemmas
 pub mod BitsLemmas
+pub mod SetLemmas

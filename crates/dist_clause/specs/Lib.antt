@@ -1,7 +1,6 @@
 pub mod Formula
 pub mod ClauseList
 pub mod Bits
-pub mod Flat
 pub mod Stored
 pub mod Words
 pub mod Examples

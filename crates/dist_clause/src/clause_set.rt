@@ -1,12 +1,11 @@
 //! Lists of clauses, kept flat: 64 million literals and 16 million clauses take 320 MB.
 
-ghost use Rattle.std.specs.Prelude.{◌≡◌, ◌+◌, ◌^◌, ◌<◌, ◌≤◌, ◌↔◌, [], ◌∷◌, ◌++◌, length, slice_index_or, OnOk, OnErr, Err};
+ghost use Rattle.std.specs.Prelude.{◌≡◌, ◌+◌, ◌<◌, ◌≤◌, ◌↔◌, [], ◌∷◌, ◌++◌, length, OnOk, OnErr, Err};
 ghost use Rattle.dist_clause.specs.Formula.{IsClauseOver};
-ghost use Rattle.dist_clause.specs.Flat.{pieces, AreEnds, AddsPiece, begin_of};
 ghost use Rattle.dist_clause.specs.ClauseList.{clause_at, literal_count, IsWithinLimits};
 
 use crate::Lit;
-use dist_base::{MAX_CLAUSES, MAX_LITERALS, MAX_VARIABLES};
+use dist_base::{Flat, MAX_CLAUSES, MAX_LITERALS, MAX_VARIABLES};
 use std::alloc::{AllocError, Global};
 use std::marker::Model;
 
@@ -24,10 +23,7 @@ pub enum PushError {
 /// number of their literals.
 #[derive(Debug, Drop)]
 pub struct ClauseSet {
-    /// The literals of all clauses, one clause after another.
-    literals: Vec<Lit>,
-    /// For each clause the place in `literals` where it ends.
-    ends: Vec<u32>,
+    clauses: Flat<Lit>,
     variables: u32,
     clause_limit: u32,
     literal_limit: u32,
@@ -55,8 +51,7 @@ impl ClauseSet {
             ≡ record { clauses = []; variables = variables; clause_limit = clauses; literal_limit = literals } }
     {
         ClauseSet {
-            literals: Vec::new(alloc),
-            ends: Vec::new(alloc),
+            clauses: Flat::new(alloc),
             variables,
             clause_limit: clauses,
             literal_limit: literals,
@@ -77,7 +72,7 @@ impl ClauseSet {
         ensures stated { result ≤ MAX_CLAUSES }
         ensures within { IsWithinLimits self.now }
     {
-        self.ends.len() as u32
+        self.clauses.len() as u32
     }
 
     /// The clause of a number; the first one has the number 1.
@@ -87,7 +82,7 @@ impl ClauseSet {
         ensures value { result.now ≡ clause_at self.now.clauses number }
         ensures over_variables { IsClauseOver self.now.variables result.now }
     {
-        piece_at(&self.literals, &self.ends, number as usize - 1)
+        self.clauses.get(number as usize - 1)
     }
 
     /// Adds a clause as the last one.
@@ -101,56 +96,15 @@ impl ClauseSet {
             ↔ (length self.old.clauses < self.old.clause_limit)
             × (self.old.literal_limit < literal_count self.old.clauses + length clause.now) }
     {
-        if self.ends.len() >= self.clause_limit as usize {
+        if self.clauses.len() >= self.clause_limit as usize {
             return Err(PushError::TooManyClauses);
         }
-        let end = self.literals.len() + clause.len();
-        if end > self.literal_limit as usize {
+        if self.clauses.total() + clause.len() > self.literal_limit as usize {
             return Err(PushError::TooManyLiterals);
         }
-        if let Err(AllocError) = add_piece(&mut self.literals, &mut self.ends, clause) {
+        if let Err(AllocError) = self.clauses.push(clause) {
             return Err(PushError::NoMemory);
         }
         Ok(())
-    }
-}
-
-/// Adds a piece at the end of lists that are kept one after another.
-fn add_piece(items: &mut Vec<Lit>, ends: &mut Vec<u32>, piece: &[Lit]) -> Result<(), AllocError>
-    requires ends { AreEnds 0 ends.old.items (length items.old.items) }
-    requires fits { length items.old.items + length piece.now < 2 ^ 32 }
-    ensures ok { OnOk result (AddsPiece items.old.items ends.old.items piece.now items.new.items ends.new.items) }
-    ensures err_items { OnErr result (items.new.items ≡ items.old.items) }
-    ensures err_ends { OnErr result (ends.new.items ≡ ends.old.items) }
-{
-    let end = (items.len() + piece.len()) as u32;
-    // Room for the end first: once the literals are in, nothing may fail any more.
-    ends.reserve(1)?;
-    items.extend_from_slice(piece)?;
-    // There is room for it, so this takes no memory.
-    let _ = ends.push(end);
-    Ok(())
-}
-
-/// The piece at a place of lists that are kept one after another.
-fn piece_at<'a>(items: &'a [Lit], ends: &[u32], place: usize) -> &'a [Lit]
-    requires ends { AreEnds 0 ends.now (length items.now) }
-    requires place { place < length ends.now }
-    ensures { result.now ≡ slice_index_or (pieces 0 ends.now items.now) place [] }
-{
-    let start = begin_of(ends, place);
-    let end = ends[place] as usize;
-    &items[start..end]
-}
-
-/// Where the piece at a place begins.
-fn begin_of(ends: &[u32], place: usize) -> usize
-    requires { place < length ends.now }
-    ensures { result ≡ begin_of 0 ends.now place }
-{
-    if place == 0 {
-        0
-    } else {
-        ends[place - 1] as usize
     }
 }
