@@ -6,13 +6,15 @@ ghost use Rattle.dist_relation.specs.Faults.{IsNoName};
 
 use crate::bytes::is_name;
 use crate::error::RelationError;
+use smallvec::SmallVec;
 use std::alloc::{AllocError, Global};
 use std::marker::Model;
 
 /// A name, seen as its bytes: a letter or a digit, and then letters, digits and `+ - . _`.
 #[derive(Debug, Drop)]
 pub struct Name {
-    bytes: Vec<u8>,
+    /// Most names are short, and take no memory of their own.
+    bytes: SmallVec<u8, 16>,
 }
 
 impl Model for Name {
@@ -43,7 +45,7 @@ impl Name {
         ensures { IfOk result (λ name. name ≡ bytes.now) }
     {
         Ok(Name {
-            bytes: Vec::from_slice(alloc, bytes)?,
+            bytes: SmallVec::from_slice(alloc, bytes)?,
         })
     }
 
@@ -77,7 +79,7 @@ impl PartialEq for Name {
         ensures value { result ≡ bytes_eq self.now other.now }
         ensures same { IsTrue result ↔ (self.now ≡ other.now) }
     {
-        self.bytes == other.bytes
+        self.bytes() == other.bytes()
     }
 }
 

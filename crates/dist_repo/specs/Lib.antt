@@ -13,3 +13,4 @@ pub mod Indexed
 pub mod Tally
 pub mod Latest
 pub mod Equality
+pub mod InstallationExamples

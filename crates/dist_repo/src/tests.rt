@@ -128,3 +128,102 @@ fn matches(rt: HostRuntime) -> Result<(), Fail> {
     }
     Ok(())
 }
+
+#[test]
+fn usable(rt: HostRuntime) -> Result<(), Fail> {
+    let alloc = rt.alloc();
+    let repository = Builder::new(alloc).finish(Some(Name::read(alloc, b"amd64")?))?;
+    for (atom, expected) in [
+        ("x", true),
+        ("x:any", true),
+        ("x:native", true),
+        ("x:amd64", true),
+        ("x:all", false),
+        ("x:i386", false),
+    ] {
+        let atoms = read_atoms(alloc, atom.as_bytes())?;
+        if atoms.len() == 0 {
+            Err("no atom")?;
+        }
+        assert!(rt; repository.usable(&atoms.get(0).qualifier) == expected);
+    }
+    Ok(())
+}
+
+/// Whether `a`, which provides x, is in conflict with `b`, from the conflicts of the one and what the other provides.
+fn clash(alloc: Global, conflicts: &str, provides: &str) -> Result<bool, Fail> {
+    let repository = Builder::new(alloc).finish(None)?;
+    let a = package(alloc, ("a", "1"), relations(alloc, "", conflicts, "x")?)?;
+    let b = package(alloc, ("b", "1"), relations(alloc, "", "", provides)?)?;
+    if repository.conflict(&a, &a) {
+        Err("a package is never in conflict with itself")?;
+    }
+    Ok(repository.conflict(&a, &b) && repository.conflict(&b, &a))
+}
+
+#[test]
+fn conflicts(rt: HostRuntime) -> Result<(), Fail> {
+    for (conflicts, provides, expected) in [
+        ("b", "", true),
+        ("b (<< 1)", "", false),
+        ("b:i386", "", false),
+        ("x", "", false),
+        ("x", "x", true),
+        ("x (>= 1)", "x", false),
+        ("x (>= 1)", "x (= 2)", true),
+    ] {
+        assert!(rt; clash(rt.alloc(), conflicts, provides)? == expected);
+    }
+    Ok(())
+}
+
+/// Packages a, b and c: a depends on one thing and conflicts with another, b provides x, and c provides x for another architecture.
+fn linked(alloc: Global, depends: &str, conflicts: &str) -> Result<Repository, Fail> {
+    let mut builder = Builder::new(alloc);
+    let a = package(alloc, ("a", "1"), relations(alloc, depends, conflicts, "")?)?;
+    let b = package(alloc, ("b", "1"), relations(alloc, "", "", "x")?)?;
+    let c = package(alloc, ("c", "1"), relations(alloc, "", "", "x:i386")?)?;
+    let added = [
+        add(&mut builder, a, 1),
+        add(&mut builder, b, 3),
+        add(&mut builder, c, 5),
+    ];
+    if added != [0, 0, 0] {
+        Err("not added as they should be")?;
+    }
+    Ok(builder.finish(None)?)
+}
+
+/// The providers of an alternative of the first package, where it is there.
+fn of_alternative<'r>(repository: &'r Repository, item: usize, place: usize) -> Option<&'r [u32]> {
+    if repository.len() == 0 || item >= repository.package(0).depends.len() {
+        return None;
+    }
+    let alternatives = repository.package(0).depends.get(item);
+    if place >= alternatives.len() {
+        return None;
+    }
+    let _ = alternatives.get(place);
+    Some(repository.alternative_providers(0, item, place))
+}
+
+/// The providers of a conflict atom of the first package, where it is there.
+fn of_conflict<'r>(repository: &'r Repository, place: usize) -> Option<&'r [u32]> {
+    if repository.len() == 0 || place >= repository.package(0).conflicts.len() {
+        return None;
+    }
+    let _ = repository.package(0).conflicts.get(place);
+    Some(repository.conflict_providers(0, place))
+}
+
+#[test]
+fn providers_of_an_atom(rt: HostRuntime) -> Result<(), Fail> {
+    let repository = linked(rt.alloc(), "z, c | x (>= 1)", "y, b")?;
+    let b: [u32; 1] = [1];
+    let c: [u32; 1] = [2];
+    assert!(rt; of_alternative(&repository, 1, 0) == Some(c.as_slice()));
+    assert!(rt; of_alternative(&repository, 1, 1) == Some(b.as_slice()));
+    assert!(rt; of_conflict(&repository, 0) == Some(&[]));
+    assert!(rt; of_conflict(&repository, 1) == Some(b.as_slice()));
+    Ok(())
+}

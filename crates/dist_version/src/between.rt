@@ -7,6 +7,7 @@ ghost use Rattle.dist_version.specs.Kept.{Keeps};
 
 use crate::Version;
 use crate::reading::{Places, are_digits, places_of, rsplit_once};
+use smallvec::SmallVec;
 use std::alloc::AllocError;
 
 /// Whether the last byte is a digit.
@@ -21,7 +22,7 @@ fn ends_in_digit(bytes: &[u8]) -> bool
 }
 
 /// Puts so many tildes at the end. A length that no `usize` holds is want of memory.
-fn push_tildes(text: &mut Vec<u8>, tildes: usize) -> Result<(), AllocError>
+fn push_tildes(text: &mut SmallVec<u8, 16>, tildes: usize) -> Result<(), AllocError>
     ensures { OnOk result (text.new.items ≡ text.old.items ++ replicate tildes tilde) }
 {
     match text.len().checked_add(tildes) {
@@ -31,7 +32,11 @@ fn push_tildes(text: &mut Vec<u8>, tildes: usize) -> Result<(), AllocError>
 }
 
 /// Puts at the end what makes this revision a little greater.
-fn push_extension(text: &mut Vec<u8>, revision: &[u8], tildes: usize) -> Result<(), AllocError>
+fn push_extension(
+    text: &mut SmallVec<u8, 16>,
+    revision: &[u8],
+    tildes: usize,
+) -> Result<(), AllocError>
     ensures { OnOk result (text.new.items ≡ text.old.items ++ extension revision.now tildes) }
 {
     if !ends_in_digit(revision) {
@@ -68,10 +73,10 @@ fn rebuilt(text: &[u8]) -> Option<(&[u8], Places)>
 
 impl Version {
     /// The text just above this one.
-    fn text_after(&self, tildes: usize) -> Result<Vec<u8>, AllocError>
+    fn text_after(&self, tildes: usize) -> Result<SmallVec<u8, 16>, AllocError>
         ensures { IfOk result (λ text. text.items ≡ above_text self.now tildes) }
     {
-        let mut text = Vec::from_slice(*self.text.allocator(), self.text())?;
+        let mut text = SmallVec::from_slice(*self.text.allocator(), self.text())?;
         match self.revision() {
             Some(revision) => push_extension(&mut text, revision, tildes)?,
             None => {
@@ -103,7 +108,7 @@ impl Version {
         ensures text { IfOk result (λ below. below ≡ below_text self.now) }
         ensures below { IfOk result (λ below. IsBelow below self.now) }
     {
-        let mut text = Vec::new(*self.text.allocator());
+        let mut text = SmallVec::new(*self.text.allocator());
         let end = self.text().len() + 1;
         push_tildes(&mut text, end)?;
         Ok(Version {
@@ -122,7 +127,7 @@ impl Version {
     {
         match rebuilt(self.text()) {
             Some((base, places)) => Ok(Version {
-                text: Vec::from_slice(*self.text.allocator(), base)?,
+                text: SmallVec::from_slice(*self.text.allocator(), base)?,
                 places,
             }),
             None => self.try_clone(),

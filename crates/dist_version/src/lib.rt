@@ -21,6 +21,7 @@ pub use laws::{
 };
 use order::compare_parts;
 use reading::{Places, places_of};
+use smallvec::SmallVec;
 use std::alloc::{AllocError, Global};
 use std::cmp::Ordering;
 use std::marker::Model;
@@ -31,7 +32,8 @@ pub const MAX_EPOCH: u32 = 2_147_483_647;
 /// A version, seen as its text. The text is kept once, with the places of its parts.
 #[derive(Debug, Drop)]
 pub struct Version {
-    text: Vec<u8>,
+    /// Most texts are short, and take no memory of their own.
+    text: SmallVec<u8, 16>,
     places: Places,
 }
 
@@ -50,7 +52,7 @@ impl Version {
         ensures { Answers (ReadsVersion bytes.now) (HasFault bytes.now) VersionError.NoMemory result }
     {
         let places = places_of(bytes)?;
-        let text = Vec::from_slice(alloc, bytes)?;
+        let text = SmallVec::from_slice(alloc, bytes)?;
         Ok(Version { text, places })
     }
 
@@ -74,15 +76,15 @@ impl Version {
     pub fn upstream(&self) -> &[u8]
         ensures { result.now ≡ upstream_of self.now }
     {
-        &self.text[self.places.start..self.places.end]
+        &self.text()[self.places.start..self.places.end]
     }
 
     /// The revision, where the text has one.
     pub fn revision(&self) -> Option<&[u8]>
         ensures { option_copied result ≡ revision_of self.now }
     {
-        if self.places.end < self.text.len() {
-            Some(&self.text[self.places.end + 1..])
+        if self.places.end < self.text().len() {
+            Some(&self.text()[self.places.end + 1..])
         } else {
             None
         }
@@ -92,7 +94,7 @@ impl Version {
     pub fn compare(&self, other: &Version) -> Ordering
         ensures { result ≡ version_cmp self.now other.now }
     {
-        if self.text == other.text {
+        if self.text() == other.text() {
             Ordering::Equal
         } else {
             self.compare_by_parts(other)
@@ -121,7 +123,7 @@ impl Version {
     pub fn try_clone(&self) -> Result<Version, AllocError>
         ensures { IfOk result (λ version. version ≡ self.now) }
     {
-        let text = Vec::from_slice(*self.text.allocator(), self.text())?;
+        let text = SmallVec::from_slice(*self.text.allocator(), self.text())?;
         Ok(Version {
             text,
             places: self.places,
@@ -143,7 +145,7 @@ impl PartialEq for Version {
         ensures value { result ≡ bytes_eq self.now other.now }
         ensures same { IsTrue result ↔ (self.now ≡ other.now) }
     {
-        self.text == other.text
+        self.text() == other.text()
     }
 }
 
