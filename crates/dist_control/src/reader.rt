@@ -1,5 +1,5 @@
 //! The reader of the stanzas of a text.
-ghost use Rattle.std.specs.Prelude.{◌≡◌, ℕ, ◌+◌, ◌<◌, ◌≤◌, ◌^◌, ◌↔◌, Ok, None, true, false, length, IsTrue, IsErrOf, sum_by};
+ghost use Rattle.std.specs.Prelude.{◌≡◌, ℕ, ◌+◌, ◌<◌, ◌≤◌, ◌^◌, ◌↔◌, [], Ok, None, true, false, length, IsTrue, IsErrOf, sum_by};
 ghost use Rattle.dist_base.specs.Answers.{Answers};
 ghost use Rattle.dist_control.specs.Faults.{HasFault};
 ghost use Rattle.dist_control.specs.Lines.{lines};
@@ -72,12 +72,12 @@ impl<'a> Stanzas<'a> {
         if !self.has_next() {
             return Ok(None);
         }
-        match read_fields(alloc, self.rest, self.line) {
-            Ok((fields, rest, line)) => {
-                let stanza = Stanza {
-                    line: self.line,
-                    fields,
-                };
+        let mut stanza = Stanza {
+            line: self.line,
+            fields: Fields::new(alloc),
+        };
+        match read_fields(alloc, &mut stanza.fields, self.rest, self.line) {
+            Ok((rest, line)) => {
                 let (rest, line) = skip_blank_lines(rest, line);
                 self.rest = rest;
                 self.line = line;
@@ -92,28 +92,30 @@ impl<'a> Stanzas<'a> {
     }
 }
 
-/// The fields of the stanza at the front, what comes after its last line, and the number of the line there.
+/// Reads the fields of the stanza at the front. Answers what comes after its last line, and the number of the line there.
+/// The fields are filled where they stand, since they are a kilobyte to move.
 fn read_fields<'a>(
     alloc: Global,
+    fields: &mut Fields<'a>,
     bytes: &'a [u8],
     number: u64,
-) -> Result<(Fields<'a>, &'a [u8], u64), ControlError>
+) -> Result<(&'a [u8], u64), ControlError>
+    requires no_fields { fields.old ≡ [] }
     requires room { number + length bytes.now < 2 ^ 64 }
     requires some { 0 < length bytes.now }
     requires at_stanza { IsAtStanza (lines bytes.now) }
-    ensures answers { Answers (λ read. ReadsFields number bytes.now read.0 read.1.now read.2)
+    ensures answers { Answers (λ read. ReadsFields number bytes.now fields.new read.0.now read.1)
         (HasFault (raw_here number bytes.now)) ControlError.NoMemory result }
 {
     if !is_at_field(bytes) {
         return Err(ControlError::OrphanContinuation(number));
     }
-    let mut fields = Fields::new(alloc);
     let mut late = NameSet::new(alloc);
     let mut rest = bytes;
     let mut line = number;
     while is_at_field(rest) {
         let (field, after, next) = read_field(rest, line)?;
-        let Ok(added) = add_field(alloc, &mut fields, &mut late, field) else {
+        let Ok(added) = add_field(alloc, fields, &mut late, field) else {
             return Err(ControlError::NoMemory);
         };
         if !added {
@@ -122,5 +124,5 @@ fn read_fields<'a>(
         rest = after;
         line = next;
     }
-    Ok((fields, rest, line))
+    Ok((rest, line))
 }

@@ -1,14 +1,14 @@
-use Rattle.std.proofs.Common.{◌≡◌, ℕ, List, true, false, not, sym, ap, ◌∙◌, arith, refl, inl, inr, subst, Result, Bor}
+use Rattle.std.proofs.Common.{ℕ, List, sym, ◌∙◌, refl, inr, subst, Result, Bor}
 use Rattle.std.proofs.lemmas.Bool.{not-true, not-false, OnTrue_at}
 use Rattle.std.proofs.lemmas.Result.{err_from_is_err_and}
 use Rattle.dist_base.specs.Answers.{Answers}
-use Rattle.dist_control.specs.FieldText.{FieldText, field_text}
+use Rattle.dist_control.specs.FieldText.{field_text}
 use Rattle.dist_control.specs.Faults.{HasFault}
 use Rattle.dist_control.specs.Lines.{lines}
 use Rattle.dist_control.specs.Pieces.{ReadsFields, raw_here}
 use Rattle.dist_control.specs.declared.error.ControlError.{ControlError}
 use Rattle.dist_control.specs.declared.error.ControlError.TheVariants.{NoMemory}
-use Rattle.dist_control.proofs.StanzaLemmas.{reads-first, reads-more, reads-all, field-fault, double-fault, orphan-fault}
+use Rattle.dist_control.proofs.StanzaLemmas.{reads-more, field-fault, double-fault, orphan-fault}
 use Rattle.dist_control.proofs.ReaderLemmas.{some-lines}
 use Rattle.dist_control.proofs.reader.read_fields.Goals as goal
 
@@ -21,8 +21,8 @@ pub returns-in_err-field : goal.returns-in_err-field
 returns-in_err-field c =
     let exit = err_from_is_err_and c.from_residual.result c.from_residual.ensures.1 in
     let raw = raw_here c.args.number c.args.bytes.now in
-    let P : Result (List FieldText × Bor (List ℕ) × ℕ) ControlError → Type 0 =
-    λ r. Answers (λ read. ReadsFields c.args.number c.args.bytes.now read.0 read.1.now read.2) (HasFault raw) NoMemory r in
+    let P : Result (Bor (List ℕ) × ℕ) ControlError → Type 0 =
+    λ r. Answers (λ read. ReadsFields c.args.number c.args.bytes.now c.loop-alloc.fields read.0.now read.1) (HasFault raw) NoMemory r in
     record {
       answers = subst P (sym exit.1) (inr (subst (HasFault raw) (sym exit.2)
           (field-fault _ _ _ _ _ _ c.loop-alloc.invariant (c.loop-alloc-test.ensures.field refl) _ c.in_err-field.ensures)));
