@@ -1,12 +1,12 @@
 -- Each raw stanza has exactly one reading or exactly one first fault.
-use Rattle.std.proofs.Common.{◌≡◌, ◌≢◌, ℕ, zero, suc, ◌+◌, ◌<◌, List, Option, Some, None, length, refl, sym, ap, ◌∙◌, arith, inl, inr, ◌⊎◌, add-one}
+use Rattle.std.proofs.Common.{◌≡◌, ℕ, zero, suc, ◌<◌, List, Option, Some, None, length, refl, sym, ap, ◌∙◌, arith, inl, inr, ◌⊎◌}
 use Rattle.std.proofs.lemmas.Bool.{cases_order}
 use borrow.Author.Count.{below_more}
 use Rattle.dist_control.specs.FieldText.{FieldText}
 use Rattle.dist_control.specs.declared.error.ControlError.{ControlError}
 use Rattle.dist_control.specs.declared.field_list.Stanza.{Stanza}
-use Rattle.dist_control.specs.ControlText.{IsReading, IsExactStanza}
-use Rattle.dist_control.specs.Faults.{fault_at, IsSoundBelow, IsSound, HasFault}
+use Rattle.dist_control.specs.ControlText.{IsExactStanza}
+use Rattle.dist_control.specs.Faults.{fault_at, IsSoundBelow, HasFault}
 use Rattle.dist_control.specs.Fields.{fields_from}
 use Rattle.dist_control.specs.RawStanza.{RawStanza}
 

@@ -1,16 +1,14 @@
 -- The pieces of a field.
-use Rattle.std.proofs.Common.{◌≡◌, ℕ, suc, ◌+◌, ◌-◌, ◌<◌, ◌≤◌, ◌^◌, true, false, Bool, ◌||◌, List, [], ◌∷◌, ◌++◌, Option, Some, None, length, get_or, take, drop, refl, sym, ap, ◌∙◌, arith, subst, inl, inr, MatchOption, append_assoc, length-append}
-use Rattle.std.specs.List.{list_any, position_or_len, after_first, before_first, join_with_byte, flat_map}
+use Rattle.std.proofs.Common.{◌≡◌, ℕ, suc, ◌+◌, ◌-◌, ◌<◌, ◌≤◌, false, List, [], ◌∷◌, ◌++◌, Option, Some, None, length, get_or, take, drop, refl, sym, ap, ◌∙◌, arith, inl, inr, MatchOption, append_assoc, length-append}
+use Rattle.std.specs.List.{list_any, position_or_len, join_with_byte}
 use Rattle.std.proofs.lemmas.Bool.{false_from_ne_true, or_from}
-use Rattle.std.proofs.lemmas.List.{append-nil, append_cancel_right, drop-append-le, take_at, flat_map_more, length-drop, length_push}
+use Rattle.std.proofs.lemmas.List.{append-nil, append_cancel_right, drop-append-le, take_at, flat_map_more, length-drop}
 use Rattle.std.proofs.lemmas.List.Folds.{list_any_at}
 use Rattle.std.proofs.lemmas.List.Sums.{position_or_len_is}
 use Rattle.memchr.specs.Find.{IsFirstByte, is_byte}
-use Rattle.dist_control.specs.Bytes.{is_colon, is_continuation}
-use Rattle.dist_control.specs.Fields.{trim, name_of, field_spelled}
-use Rattle.dist_control.specs.FieldText.{FieldText}
+use Rattle.dist_control.specs.Bytes.{is_colon}
+use Rattle.dist_control.specs.Fields.{trim}
 use Rattle.dist_control.specs.Lines.{lines}
-use Rattle.dist_control.specs.RawStanza.{run}
 use Rattle.dist_control.specs.Pieces.{IsFirstColon, IsCutAtLine, HasInFront, IsFieldInFront, IsContinuedTo, AreContinuations, ended}
 use Rattle.dist_control.proofs.TrimLemmas.{trim-end}
 

@@ -1,16 +1,14 @@
 -- One step of a reader.
-use Rattle.std.proofs.Common.{◌≡◌, ◌≢◌, ℕ, ◌+◌, ◌<◌, Bool, true, false, not, ◌==◌, cond, eqb, List, [], ◌∷◌, length, refl, sym, ap, ◌∙◌, subst, arith, IsTrue}
+use Rattle.std.proofs.Common.{◌≡◌, ◌≢◌, ℕ, ◌<◌, Bool, true, false, not, ◌==◌, cond, eqb, List, [], ◌∷◌, length, refl, sym, ap, ◌∙◌, arith, IsTrue}
 use Rattle.std.proofs.lemmas.Bool.{both_ways, ne_eqb}
 use Rattle.dist_control.specs.FieldText.{FieldText}
-use Rattle.dist_control.specs.ControlText.{IsReading}
 use Rattle.dist_control.specs.Faults.{HasFault}
 use Rattle.dist_control.specs.Lines.{lines, in_front}
 use Rattle.dist_control.specs.Pieces.{IsAtStanza, ReadsFields, raw_here}
-use Rattle.dist_control.specs.RawStanza.{RawStanza, run, raw_stanzas_from}
+use Rattle.dist_control.specs.RawStanza.{RawStanza, raw_stanzas_from}
 use Rattle.dist_control.specs.Reader.{HasNext, Takes, Refuses}
 use Rattle.dist_control.specs.Unread.{Unread}
 use Rattle.dist_control.specs.declared.error.ControlError.{ControlError}
-use Rattle.dist_control.specs.declared.field_list.Stanza.{Stanza}
 use Rattle.dist_control.proofs.StanzaLemmas.{raw-begins}
 
 -- the state of a reader at a place

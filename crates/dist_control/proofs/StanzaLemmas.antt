@@ -1,13 +1,13 @@
 -- The lines of one stanza, field by field, and the stanzas after it.
-use Rattle.std.proofs.Common.{◌≡◌, ℕ, suc, ◌+◌, ◌<◌, ◌^◌, true, false, Bool, not, ◌||◌, cond, eqb, List, [], ◌∷◌, ◌++◌, Option, Some, None, length, get_or, take, map, filter, refl, sym, ap, ◌∙◌, arith, subst, inl, inr, append_assoc, length-append}
+use Rattle.std.proofs.Common.{◌≡◌, ℕ, suc, ◌+◌, ◌<◌, ◌^◌, true, false, not, ◌||◌, cond, eqb, List, [], ◌∷◌, ◌++◌, Some, None, length, get_or, take, map, filter, refl, sym, ap, ◌∙◌, arith, subst, inl, inr, append_assoc, length-append}
 use Rattle.std.specs.List.{list_any}
 use Rattle.std.proofs.lemmas.Bool.{cond-true, cond-false, not_from_true, not_from_false, ne_eqb, both_ways, cases_Bool}
 use Rattle.std.proofs.lemmas.List.{append-nil, take_at, get_or_at, map-append, length_push}
 use borrow.Author.Count.{below_more}
 use Rattle.dist_control.specs.declared.error.ControlError.{ControlError}
-use Rattle.dist_control.specs.declared.error.ControlError.TheVariants.{NoColon, BadFieldName, OrphanContinuation, DoubleField}
+use Rattle.dist_control.specs.declared.error.ControlError.TheVariants.{OrphanContinuation, DoubleField}
 use Rattle.dist_control.specs.Bytes.{is_colon, is_blank, is_continuation, is_field_name}
-use Rattle.dist_control.specs.Faults.{line_fault, fault_at, IsSoundBelow, IsSound, HasFault}
+use Rattle.dist_control.specs.Faults.{line_fault, fault_at, IsSoundBelow, HasFault}
 use Rattle.dist_control.specs.Fields.{name_of, continuations, field_spelled, fields_from, is_same_name, field_names}
 use Rattle.dist_control.specs.FieldText.{FieldText}
 use Rattle.dist_control.specs.Lines.{lines}

@@ -1,7 +1,7 @@
 -- White space at both ends of a text, by the places of the bytes that are not white.
-use Rattle.std.proofs.Common.{◌≡◌, ◌≢◌, ℕ, zero, suc, ◌+◌, ◌-◌, ◌<◌, ◌≤◌, true, false, not, ◌||◌, cond, eqb, List, [], ◌∷◌, ◌++◌, length, get_or, take, drop, reverse, refl, sym, ap, ◌∙◌, arith, subst}
-use Rattle.std.proofs.lemmas.Bool.{cond-true, cond-false, not-true, false≢true}
-use Rattle.std.proofs.lemmas.List.{get_or-reverse, get_or-take, reverse-append, reverse-reverse, length-reverse, length-drop, length-take-le, take-append-drop, drop_at, nil_from_length, drop_all}
+use Rattle.std.proofs.Common.{◌≡◌, ℕ, zero, suc, ◌+◌, ◌-◌, ◌<◌, ◌≤◌, true, false, not, ◌||◌, cond, eqb, List, [], ◌∷◌, ◌++◌, length, get_or, take, drop, reverse, refl, sym, ap, ◌∙◌, arith}
+use Rattle.std.proofs.lemmas.Bool.{cond-true, cond-false, not-true}
+use Rattle.std.proofs.lemmas.List.{get_or-reverse, get_or-take, reverse-append, reverse-reverse, length-reverse, length-drop, length-take-le, take-append-drop, drop_at}
 use Rattle.bstr.specs.Bytes.{is_in, not_in}
 use Rattle.dist_control.specs.Bytes.{is_white}
 use Rattle.dist_control.specs.Fields.{trim_start, trim}

@@ -1,7 +1,6 @@
 -- Control text (Debian Policy 5.1): a text and its stanzas, each a list of fields.
 use Rattle.std.specs.Prelude.{◌≡◌, ℕ, List, [], ◌∷◌}
 use Rattle.dist_base.specs.Answers.{IsExact}
-use Rattle.dist_control.specs.declared.error.ControlError.{ControlError}
 use Rattle.dist_control.specs.declared.field_list.Stanza.{Stanza}
 use Rattle.dist_control.specs.Faults.{IsSound, HasFault}
 use Rattle.dist_control.specs.Fields.{fields_from}

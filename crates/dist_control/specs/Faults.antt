@@ -1,5 +1,5 @@
 -- The faults of the lines of a stanza (Debian Policy 5.1), and the first of them.
-use Rattle.std.specs.Prelude.{◌≡◌, ℕ, ◌+◌, ◌<◌, List, [], ◌∷◌, if◌then◌else◌, not, ◌==◌, Option, Some, None, length, take, slice_index_or}
+use Rattle.std.specs.Prelude.{◌≡◌, ℕ, ◌+◌, ◌<◌, List, [], if◌then◌else◌, not, ◌==◌, Option, Some, None, length, take, slice_index_or}
 use Rattle.std.specs.List.{list_any}
 use Rattle.dist_control.specs.declared.error.ControlError.{ControlError}
 use Rattle.dist_control.specs.declared.error.ControlError.TheVariants.{NoColon, BadFieldName, OrphanContinuation, DoubleField}

@@ -1,7 +1,7 @@
-use Rattle.std.proofs.Common.{◌≡◌, ◌+◌, ℕ, List, ◌∷◌, take, sym, ap, ◌∙◌, arith}
+use Rattle.std.proofs.Common.{◌≡◌, ◌+◌, ℕ, List, ◌∷◌, sym, ap, ◌∙◌, arith}
 use Rattle.std.specs.List.{join_with_byte}
 use Rattle.dist_control.specs.Bytes.{is_field_name}
-use Rattle.dist_control.specs.Fields.{trim, name_of, field_spelled}
+use Rattle.dist_control.specs.Fields.{trim}
 use Rattle.dist_control.specs.FieldText.{FieldText}
 use Rattle.dist_control.proofs.FieldLemmas.{value-spelled}
 use Rattle.dist_control.proofs.field.read_field.Goals as goal

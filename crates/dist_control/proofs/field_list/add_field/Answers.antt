@@ -1,4 +1,4 @@
-use Rattle.std.proofs.Common.{◌≡◌, ◌<◌, ◌≤◌, ℕ, List, true, false, not, length, sym, ap, ◌∙◌, subst, arith, refl}
+use Rattle.std.proofs.Common.{List, not, sym, ap, ◌∙◌, subst, arith}
 use Rattle.dist_control.specs.FieldText.{FieldText, field_text}
 use Rattle.dist_control.specs.Pieces.{AreLateNames}
 use Rattle.dist_control.proofs.NameLemmas.{any-late, late-early, late-more}

@@ -1,4 +1,4 @@
-use Rattle.std.proofs.Common.{◌≡◌, ℕ, List, true, false, not, sym, ap, ◌∙◌, arith, refl, inl, inr, subst, Result, Bor}
+use Rattle.std.proofs.Common.{ℕ, List, sym, ◌∙◌, refl, inr, subst, Result, Bor}
 use Rattle.std.proofs.lemmas.Bool.{not-true, not-false, OnTrue_at}
 use Rattle.std.proofs.lemmas.Result.{err_from_is_err_and}
 use Rattle.dist_base.specs.Answers.{Answers}
@@ -8,7 +8,7 @@ use Rattle.dist_control.specs.Lines.{lines}
 use Rattle.dist_control.specs.Pieces.{ReadsFields, raw_here}
 use Rattle.dist_control.specs.declared.error.ControlError.{ControlError}
 use Rattle.dist_control.specs.declared.error.ControlError.TheVariants.{NoMemory}
-use Rattle.dist_control.proofs.StanzaLemmas.{reads-first, reads-more, reads-all, field-fault, double-fault, orphan-fault}
+use Rattle.dist_control.proofs.StanzaLemmas.{reads-more, field-fault, double-fault, orphan-fault}
 use Rattle.dist_control.proofs.ReaderLemmas.{some-lines}
 use Rattle.dist_control.proofs.reader.read_fields.Goals as goal
 

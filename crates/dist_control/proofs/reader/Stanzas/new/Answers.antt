@@ -1,4 +1,3 @@
-use Rattle.std.proofs.Common.{sum_by}
 use Rattle.dist_control.proofs.Bounds.{size-raw_stanzas}
 use Rattle.dist_control.proofs.reader.Stanzas.new.Goals as goal
 
