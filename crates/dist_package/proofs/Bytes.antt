@@ -1,15 +1,11 @@
 -- The packages of a file have together at most as many atoms and entries as the file has bytes.
-use Rattle.std.proofs.Common.{◌≡◌, ◌≢◌, ℕ, suc, ◌+◌, ◌-◌, ◌<◌, ◌≤◌, Bool, true, false, cond, List, [], ◌∷◌, ◌++◌, Some, Less, Equal, length, get_or, sum_by, refl, sym, ap, ◌∙◌, subst, arith, inl, inr, length-append}
-use Rattle.std.specs.Prelude.{All, AllPairs, Any, find}
-use Rattle.std.specs.List.{remove}
+use Rattle.std.proofs.Common.{◌≡◌, ℕ, ◌+◌, ◌≤◌, Bool, true, false, cond, List, [], ◌∷◌, ◌++◌, Some, length, get_or, map, sum_by, refl, ap, ◌∙◌, subst, arith, length-append}
+use Rattle.std.specs.Prelude.{All, Any, Contains, find}
 use Rattle.std.specs.Option.{option_map_or}
 use Rattle.std.specs.Str.{bytes_eq}
-use Rattle.std.proofs.lemmas.Bool.{cases_lt, cond-true, cond-false}
-use Rattle.std.proofs.lemmas.Cmp.{tied_itself}
-use Rattle.std.proofs.lemmas.List.{get_or_default}
-use Rattle.std.proofs.lemmas.List.Edits.{length-remove, get_or-remove_below, get_or-remove_above}
-use Rattle.std.proofs.lemmas.List.Elements.{All-head, All-tail}
-use Rattle.std.proofs.lemmas.List.Sums.{sum_by-cons, sum_by-append, sum_by-remove}
+use Rattle.std.proofs.lemmas.Bool.{cond-true, cond-false}
+use Rattle.std.proofs.lemmas.List.{get_or-map, length-map}
+use Rattle.std.proofs.lemmas.List.Sums.{sum_by-cons, sum_by-append}
 use Rattle.std.proofs.lemmas.Slice.Eq.{bytes_eq-Decides}
 use Rattle.dist_control.specs.FieldText.{FieldText}
 use Rattle.dist_control.specs.Fields.{fields_from, folded, is_same_name, value_bytes}
@@ -18,52 +14,15 @@ use Rattle.dist_control.specs.declared.field_list.Stanza.{Stanza}
 use Rattle.dist_relation.specs.Grammar.{ReadsDepends, ReadsAtoms, ReadsProvides}
 use Rattle.dist_relation.specs.declared.atom.Atom.{Atom}
 use Rattle.dist_relation.specs.declared.atom.Provide.{Provide}
-use Rattle.dist_repo.specs.Order.{package_cmp}
+use Rattle.dist_repo.specs.Order.{IsInOrder}
 use Rattle.dist_repo.specs.PackageList.{PackageList}
 use Rattle.dist_repo.specs.Size.{relations_of, relation_count}
-use Rattle.dist_repo.specs.Total.{package_total}
 use Rattle.dist_repo.specs.declared.package.Package.{Package}
 use Rattle.dist_package.specs.FirstFault.{Read, AreReadAfter}
 use Rattle.dist_package.specs.Named.{value_of, name_of}
 use Rattle.dist_package.specs.PackageOf.{ReadsRelations}
 use Rattle.dist_package.specs.RepositoryOf.{IsRepositoryOf}
 use Rattle.dist_package.specs.declared.error.RelationField.TheVariants.{PreDepends, Depends, Conflicts, Breaks, Provides}
-
--- ---- elements of a list, each once
-
-module _ {X Y : Type 0} (of : Y → X) where
-  is-apart : (ys : List Y) (p q : X) (n k : ℕ) (y z : Y) → p ≢ q → n < length ys → get_or ys n y ≡ y → of y ≡ p → get_or ys k z ≡ z → of z ≡ q → k ≢ n
-  is-apart ys p q n k y z apart within at_y of_y at_z of_z same =
-      let one : y ≡ z = sym at_y ∙ get_or_default ys n y z within ∙ ap (λ i. get_or ys i z) (sym same) ∙ at_z in
-      apart (sym of_y ∙ ap of one ∙ of_z)
-
-  any-removed : (ys : List Y) (q : X) (n : ℕ) → n < length ys → (a : Any (λ y. of y ≡ q) ys) → a.0 ≢ n → Any (λ y. of y ≡ q) (remove ys n)
-  any-removed ys q n within a apart =
-      let fits = a.2 in
-      let long = length-remove ys n within in
-      elim (cases_lt a.0 n) [
-        | inl below ↦ (a.0, a.1, omega (arith, fits, long, below, within), get_or-remove_below ys n a.1 a.0 below within ∙ a.3, a.4)
-        | inr not_below ↦ elim (cases_lt n a.0) [
-          | inr not_above ↦ absurd (apart (omega (arith, not_below, not_above)))
-          | inl above ↦
-              let k = a.0 - 1 in
-              let next : k + 1 ≡ a.0 = omega (arith, above) in
-              (k, a.1, omega (arith, fits, long, above), get_or-remove_above ys n a.1 k (omega (arith, above)) within ∙ ap (λ i. get_or ys i a.1) next ∙ a.3, a.4)
-        ]
-      ]
-
-  -- their sum is at most that of the list
-  pub sum-within : (f : X → ℕ) (ps : List X) (ys : List Y) → AllPairs (λ p q. p ≢ q) ps → All (λ p. Any (λ y. of y ≡ p) ys) ps → sum_by f ps ≤ sum_by (λ y. f (of y)) ys
-  sum-within f [] ys apart there = omega arith
-  sum-within f (p ∷ ps) ys apart there =
-      let a = All-head (λ p. Any (λ y. of y ≡ p) ys) p ps there in
-      let rest : List Y = remove ys a.0 in
-      let others : All (λ q. Any (λ y. of y ≡ q) rest) ps = λ k d within.
-      let b = All-tail (λ p. Any (λ y. of y ≡ p) ys) p ps there k d within in
-      let differ : p ≢ get_or ps k d = apart 0 (suc k) d (omega arith) (omega (arith, within)) in
-      any-removed ys (get_or ps k d) a.0 a.2 b (is-apart ys p (get_or ps k d) a.0 b.0 a.1 b.1 differ a.2 a.3 a.4 b.3 b.4) in
-      let few = sum-within f ps rest (λ i j d less within. apart (suc i) (suc j) d (omega (arith, less)) (omega (arith, within))) others in
-      omega (arith, few, sum_by-cons f p ps, sum_by-remove (λ y. f (of y)) ys a.0 a.1 a.2, ap (λ y. f (of y)) a.3, ap f a.4)
 
 -- ---- the values of fields of different names
 
@@ -134,14 +93,25 @@ values-within (field ∷ fields) names apart =
 
 -- ---- what stands in them
 
-less-apart : (p q : Package) → package_cmp p q ≡ Less → p ≢ q
-less-apart p q less same =
-    let tied : package_cmp p q ≡ Equal = ap (package_cmp p) (sym same) ∙ tied_itself package_total p in
-    cc
+-- the packages that stanzas read as
+abbrev packages_read : List Read → List Package
+packages_read reads = map (λ (read : Read). read.package_) reads
+
+all-read : (packages : List Package) (reads : List Read) → All (λ p. Any (λ read. read.package_ ≡ p) reads) packages → All (Contains (packages_read reads)) packages
+all-read packages reads from k d within =
+    let p = get_or packages k d in
+    let a = from k d within in
+    (a.0, omega (arith, a.2, length-map reads (λ (read : Read). read.package_)), get_or-map (λ (read : Read). read.package_) reads a.0 a.1 p a.2 ∙ ap (λ (read : Read). read.package_) a.3 ∙ a.4)
+
+count-read : (reads : List Read) → relation_count (packages_read reads) ≡ sum_by (λ read. relations_of read.package_) reads
+count-read [] = refl
+count-read (read ∷ reads) =
+    omega (arith, sum_by-cons relations_of read.package_ (packages_read reads), sum_by-cons (λ (read : Read). relations_of read.package_) read reads, count-read reads)
 
 module _ (depends : (value : List ℕ) (items : List (List Atom)) → ReadsDepends value items → sum_by (λ item. length item) items ≤ length value)
     (atoms : (value : List ℕ) (atoms : List Atom) → ReadsAtoms value atoms → length atoms ≤ length value)
     (provides : (value : List ℕ) (entries : List Provide) → ReadsProvides value entries → length entries ≤ length value)
+    (relations : (packages whole : List Package) → IsInOrder packages → All (Contains whole) packages → relation_count packages ≤ relation_count whole)
     (texts : (text : List ℕ) → sum_by (λ raw. value_bytes (fields_from raw.line raw.lines)) (raw_stanzas text) ≤ length text) where
   package-within : (stanza : Stanza) (p : Package) → ReadsRelations stanza p.depends p.conflicts p.provides → relations_of p ≤ value_bytes stanza.fields
   package-within stanza p reads =
@@ -179,6 +149,4 @@ module _ (depends : (value : List ℕ) (items : List (List Atom)) → ReadsDepen
 
   pub bounded : (text : List ℕ) (limit : ℕ) (repository : PackageList) → IsRepositoryOf text limit repository → relation_count repository.packages ≤ length text
   bounded text limit repository is =
-      let differ : AllPairs (λ p q. p ≢ q) repository.packages = λ i j d before fits.
-      less-apart (get_or repository.packages i d) (get_or repository.packages j d) (is.in_order i j d before fits) in
-      omega (arith, sum-within (λ (read : Read). read.package_) relations_of repository.packages is.reads differ is.from_stanzas, reads-within [] (raw_stanzas text) is.reads is.read, texts text)
+      omega (arith, relations repository.packages (packages_read is.reads) is.in_order (all-read repository.packages is.reads is.from_stanzas), count-read is.reads, reads-within [] (raw_stanzas text) is.reads is.read, texts text)

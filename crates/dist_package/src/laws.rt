@@ -10,6 +10,7 @@ ghost use Rattle.dist_repo.specs.Size.{relation_count};
 
 use dist_control::{one_reading_or_fault, values_take_bytes};
 use dist_relation::{faults_come, items_take_bytes, values_are_exact};
+use dist_repo::each_stands_once;
 use dist_version::texts_are_exact;
 
 /// The kind of a file's first fault never carries want of memory.
@@ -27,6 +28,7 @@ pub fn packages_are_exact()
     one_reading_or_fault();
     texts_are_exact();
     values_are_exact();
+    each_stands_once();
 }
 
 /// The packages of a file's repository have together at most as many atoms and entries of Provides as the file has bytes.
@@ -35,5 +37,6 @@ pub fn relations_take_bytes()
         → relation_count repository.packages ≤ length text }
 {
     items_take_bytes();
+    each_stands_once();
     values_take_bytes();
 }
