@@ -1,11 +1,14 @@
 //! The stages that read files.
-ghost use Rattle.std.specs.Prelude.{ℕ, List, IfOk, IfErr, Option};
+ghost use Rattle.std.specs.Prelude.{ℕ, ◌≤◌, List, length, IfOk, IfErr, Option};
+ghost use Rattle.dist_base.specs.declared.TheConstants.{MAX_BYTES, MAX_STANZAS};
 ghost use Rattle.dist_outside.specs.Files.{Files, IsNotWriting};
 ghost use Rattle.dist_outside.specs.DeskView.{OnlyReads};
 ghost use Rattle.dist_app.specs.Stages.{Ending, Goes, Ends, Then};
 ghost use Rattle.dist_app.specs.TextStage.{TextStage};
 ghost use Rattle.dist_app.specs.RepositoryStage.{RepositoryStage};
 ghost use Rattle.dist_app.specs.Due.{IsDue, IsGivenUp};
+ghost use Rattle.dist_app.specs.Run.{IsWithinStated};
+ghost use Rattle.dist_repo.specs.Size.{IsWithinSize};
 
 use crate::refusal::{Refusal, refusal_of};
 use dist_outside::{Desk, Limits, What, read_whole};
@@ -33,8 +36,11 @@ pub(crate) fn text_of<D: Desk>(
 
 /// The repository of a Packages text.
 fn repository_of(alloc: Global, text: &[u8], stanzas: u32) -> Result<Repository, Refusal>
+    requires bytes { length text.now ≤ MAX_BYTES }
+    requires stanzas { stanzas ≤ MAX_STANZAS }
     ensures goes { IfOk result (λ repository. (files : Option Files) → RepositoryStage files stanzas text.now (Goes repository)) }
     ensures given_up { IfErr result (λ refusal. (files : Option Files) → IsGivenUp (λ ending. RepositoryStage files stanzas text.now (Ends ending)) files refusal) }
+    ensures within_size { IfOk result (λ repository. IsWithinSize repository) }
 {
     match read_packages(alloc, text, stanzas) {
         Ok(repository) => Ok(repository),
@@ -51,11 +57,13 @@ pub(crate) fn read_repository<D: Desk>(
     name: &str,
     limits: &Limits,
 ) -> Result<Repository, Refusal>
-    requires { IsNotWriting (D.view desk.old).mode }
+    requires not_writing { IsNotWriting (D.view desk.old).mode }
+    requires within { IsWithinStated limits.now }
     ensures goes { IfOk result (λ repository. (text : List ℕ) × TextStage (D.view desk.old).files name.now limits.now.bytes (Goes text)
         × RepositoryStage (D.view desk.old).files limits.now.stanzas text (Goes repository)) }
     ensures due { IfErr result (IsDue (Then (TextStage (D.view desk.old).files name.now limits.now.bytes)
         (λ text ending. RepositoryStage (D.view desk.old).files limits.now.stanzas text (Ends ending))) (D.view desk.old) (D.view desk.new)) }
+    ensures within_size { IfOk result (λ repository. IsWithinSize repository) }
     ensures only_reads { OnlyReads (D.view desk.old) (D.view desk.new) }
 {
     match text_of(alloc, desk, name, limits.bytes) {

@@ -4,6 +4,7 @@ ghost use Rattle.dist_outside.specs.Files.{Files};
 ghost use Rattle.dist_app.specs.PackageText.{label};
 ghost use Rattle.dist_app.specs.Stages.{answered};
 ghost use Rattle.dist_app.specs.Health.{IsPairLine, HasItem, IsUnmetLine, Judges};
+ghost use Rattle.dist_repo.specs.Size.{IsWithinSize};
 
 use crate::status::Status;
 use dist_clause::Assignment;
@@ -25,7 +26,8 @@ pub(crate) fn judge(
     repository: &Repository,
     members: &Assignment,
 ) -> Result<Answer, AllocError>
-    requires { length members.now ≡ length repository.now.packages }
+    requires one_each { length members.now ≡ length repository.now.packages }
+    requires within_size { IsWithinSize repository.now }
     ensures { IfOk result (λ answer. (files : Option Files) → Judges files repository.now members.now (answered files answer.status answer.text.items)) }
 {
     let (status, text) = match health(repository, false, members) {
@@ -80,7 +82,7 @@ fn unmet_line(
     alloc: Global,
     repository: &Repository,
     number: u32,
-    place: usize,
+    place: u32,
 ) -> Result<Vec<u8>, AllocError>
     requires { HasItem repository.now.packages number place }
     ensures { IfOk result (λ line. IsUnmetLine repository.now.packages number place line.items) }
@@ -89,7 +91,7 @@ fn unmet_line(
     let mut line = b"unmet ".to_vec(alloc)?;
     write_label(package, &mut line)?;
     line.extend_from_slice(b": ")?;
-    print_alternatives(package.depends.get(place), &mut line)?;
+    print_alternatives(package.depends.get(place as usize), &mut line)?;
     line.push(b'\n')?;
     Ok(line)
 }

@@ -6,6 +6,8 @@ ghost use Rattle.dist_app.specs.Stages.{Ending, Goes, Ends, Then, answered};
 ghost use Rattle.dist_app.specs.TextStage.{TextStage};
 ghost use Rattle.dist_app.specs.Health.{ListStage, ListDecides, HealthDecides};
 ghost use Rattle.dist_app.specs.Due.{IsDue, IsGivenUp};
+ghost use Rattle.dist_app.specs.Run.{IsWithinStated};
+ghost use Rattle.dist_repo.specs.Size.{IsWithinSize};
 
 use crate::files::{read_repository, text_of};
 use crate::health::{Answer, judge};
@@ -24,7 +26,8 @@ pub(crate) fn run_health<D: Desk>(
     files: &HealthFiles<'_>,
     limits: &Limits,
 ) -> Result<Answer, Refusal>
-    requires { IsNotWriting (D.view desk.old).mode }
+    requires not_writing { IsNotWriting (D.view desk.old).mode }
+    requires within { IsWithinStated limits.now }
     ensures answers { IfOk result (λ answer. HealthDecides (D.view desk.old).files limits.now files.now.packages.now files.now.list.now
         (answered (D.view desk.old).files answer.status answer.text.items)) }
     ensures due { IfErr result (IsDue (HealthDecides (D.view desk.old).files limits.now files.now.packages.now files.now.list.now)
@@ -45,7 +48,8 @@ fn judge_list<D: Desk>(
     list: &str,
     limits: &Limits,
 ) -> Result<Answer, Refusal>
-    requires { IsNotWriting (D.view desk.old).mode }
+    requires not_writing { IsNotWriting (D.view desk.old).mode }
+    requires within_size { IsWithinSize repository.now }
     ensures answers { IfOk result (λ answer. ListDecides (D.view desk.old).files limits.now repository.now list.now
         (answered (D.view desk.old).files answer.status answer.text.items)) }
     ensures due { IfErr result (IsDue (ListDecides (D.view desk.old).files limits.now repository.now list.now) (D.view desk.old) (D.view desk.new)) }

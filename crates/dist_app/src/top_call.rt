@@ -69,7 +69,8 @@ fn carry_out<D: Desk, W: Sink>(
     out: &mut W,
     limits: &Limits,
 ) -> Result<Status, Refusal>
-    requires { IsNotWriting (D.view desk.old).mode }
+    requires not_writing { IsNotWriting (D.view desk.old).mode }
+    requires within { IsWithinStated limits.now }
     ensures ends { MatchResult result
         (IsAnswered (map string_bytes words.now) limits.now (D.view desk.old) (W.view out.old) (W.view out.new))
         (IsRefused (map string_bytes words.now) limits.now (D.view desk.old) (D.view desk.new) (W.view out.old) (W.view out.new)) }

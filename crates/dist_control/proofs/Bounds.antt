@@ -6,20 +6,20 @@ use Rattle.dist_control.specs.Lines.{lines, in_front}
 use Rattle.dist_control.specs.RawStanza.{RawStanza, run, raw_stanzas_from, size_of}
 
 -- the bytes of lines, with a line feed after each
-abbrev total : List (List ℕ) → ℕ
+abbrev pub total : List (List ℕ) → ℕ
 total ls = sum_by (λ line. length line + 1) ls
 
-abbrev sizes : List RawStanza → ℕ
+abbrev pub sizes : List RawStanza → ℕ
 sizes raws = sum_by size_of raws
 
 record AreWithin (number : ℕ) (ls : List (List ℕ)) : Type 0 where
   apart : sizes (raw_stanzas_from number true ls) ≤ total ls
   within : total (run ls) + sizes (raw_stanzas_from number false ls) ≤ total ls
 
-total-cons : (line : List ℕ) (rest : List (List ℕ)) → total (line ∷ rest) ≡ length line + 1 + total rest
+pub total-cons : (line : List ℕ) (rest : List (List ℕ)) → total (line ∷ rest) ≡ length line + 1 + total rest
 total-cons line rest = sum_by-cons (λ line. length line + 1) line rest
 
-sizes-cons : (raw : RawStanza) (rest : List RawStanza) → sizes (raw ∷ rest) ≡ size_of raw + sizes rest
+pub sizes-cons : (raw : RawStanza) (rest : List RawStanza) → sizes (raw ∷ rest) ≡ size_of raw + sizes rest
 sizes-cons raw rest = sum_by-cons size_of raw rest
 
 le-first : (all here left whole line others rest : ℕ) → all ≡ here + left → here ≡ line + others → whole ≡ line + rest → others + left ≤ rest → all ≤ whole

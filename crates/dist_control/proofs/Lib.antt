@@ -6,3 +6,4 @@ pub mod StanzaLemmas
 pub mod Exactness
 pub mod ReaderLemmas
 pub mod Bounds
+pub mod Values

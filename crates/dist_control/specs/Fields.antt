@@ -1,6 +1,6 @@
 -- The fields of the lines of a stanza (Debian Policy 5.1): a field is one field line and the continuation
 -- lines up to the next field line.
-use Rattle.std.specs.Prelude.{ℕ, ◌+◌, List, [], ◌∷◌, if◌then◌else◌, map, reverse, not, filter, Bool}
+use Rattle.std.specs.Prelude.{ℕ, ◌+◌, List, [], ◌∷◌, if◌then◌else◌, length, map, reverse, not, filter, sum_by, Bool}
 use Rattle.std.specs.Char.{to_ascii_lowercase}
 use Rattle.std.specs.List.{before_first, after_first, join_with_byte}
 use Rattle.std.specs.Str.{bytes_eq}
@@ -53,3 +53,7 @@ is_same_name name other = bytes_eq (folded name) (folded other)
 -- the names of the field lines among these
 abbrev pub field_names : List (List ℕ) → List (List ℕ)
 field_names lines = map name_of (filter (λ line. not (is_continuation line)) lines)
+
+-- how many bytes the values of these fields have together
+abbrev pub value_bytes : List FieldText → ℕ
+value_bytes fields = sum_by (λ field. length field.value) fields

@@ -1,15 +1,18 @@
 -- The least two members in conflict, by what each member rejects.
 use Rattle.std.proofs.Common.{◌≡◌, ◌≢◌, ◌⊎◌, ℕ, ◌+◌, ◌<◌, ◌≤◌, Bool, true, List, length, get_or, Some, None, Option, Less, Equal, refl, sym, ap, ◌∙◌, subst, arith, inl, inr, slice_get}
 use Rattle.std.specs.Prelude.{Any, MatchOption}
+use Rattle.std.specs.Cmp.Lexicographic.{slice_cmp}
+use Rattle.std.specs.Ordering.{nat_cmp, ordering_then}
 use Rattle.std.proofs.lemmas.Bool.{cases_lt}
+use Rattle.std.proofs.lemmas.Cmp.{nat_list_cmp_total, tied_itself}
 use Rattle.std.proofs.lemmas.Option.{slice_get-get_or, get_or_from_slice_get, slice_get_within}
+use Rattle.dist_version.specs.Order.{version_cmp}
 use Rattle.dist_relation.specs.declared.atom.Atom.{Atom}
 use Rattle.dist_repo.specs.Conflict.{AreInConflict}
 use Rattle.dist_repo.specs.Match.{Matches}
 use Rattle.dist_repo.specs.Order.{package_cmp, IsInOrder, IsSamePackage}
 use Rattle.dist_repo.specs.PackageList.{PackageList, IsPackageAnd}
 use Rattle.dist_repo.specs.declared.package.Package.{Package}
-use Rattle.dist_repo.proofs.HeldLemmas.{tied-from_same}
 use Rattle.dist_now.specs.Health.{AreConflicting}
 use Rattle.dist_now.specs.Least.{IsAtMost, IsLeast}
 use Rattle.dist_now.specs.Rejected.{IsRejected, IsLesserPair}
@@ -25,7 +28,8 @@ never-same packages a b p q ordered before is_p is_q same =
     let second : get_or packages b p ≡ q = get_or_from_slice_get packages b q p is_q in
     let less : package_cmp (get_or packages a p) (get_or packages b p) ≡ Less = ordered a b p before (slice_get_within packages b q is_q) in
     let less' : package_cmp p q ≡ Less = sym (ap (λ (x : Package). package_cmp x (get_or packages b p)) first ∙ ap (λ (x : Package). package_cmp p x) second) ∙ less in
-    let tied : package_cmp p q ≡ Equal = tied-from_same p q same in
+    let names : slice_cmp nat_cmp p.name q.name ≡ Equal = ap (slice_cmp nat_cmp p.name) (sym same.0) ∙ tied_itself nat_list_cmp_total p.name in
+    let tied : package_cmp p q ≡ Equal = ap (λ o. ordering_then o (version_cmp p.version q.version)) names ∙ same.1 in
     cc
 
 conflicting : (r : PackageList) (flags : List Bool) (a b : ℕ) (p q : Package) → IsInOrder r.packages → a < b → slice_get r.packages a ≡ Some p → slice_get r.packages b ≡ Some q

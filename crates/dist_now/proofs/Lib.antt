@@ -1,4 +1,5 @@
 pub mod Places
+pub mod Sizes
 pub mod MemberLemmas
 pub mod LeastLemmas
 pub mod NameLemmas

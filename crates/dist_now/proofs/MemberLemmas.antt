@@ -3,13 +3,12 @@ use Rattle.std.proofs.Common.{◌≡◌, ◌⊎◌, ℕ, zero, suc, ◌<◌, ◌
 use Rattle.std.specs.Prelude.{Any, Contains, IsSomeAnd}
 use Rattle.std.proofs.lemmas.List.{get_or_default}
 use Rattle.dist_relation.specs.declared.atom.Atom.{Atom}
-use Rattle.dist_repo.proofs.Search.{at-weaker}
 use Rattle.dist_repo.specs.Match.{Matches, MatchesByEntry}
 use Rattle.dist_repo.specs.PackageList.{PackageList, IsPackageAnd}
 use Rattle.dist_repo.specs.Providers.{AreProviders, IsProvider}
 use Rattle.dist_repo.specs.declared.package.Package.{Package}
 use Rattle.dist_now.specs.Members.{IsMemberAnd, members_of}
-use Rattle.dist_now.proofs.Places.{any-head, any-later, at-has}
+use Rattle.dist_now.proofs.Places.{any-head, any-later, at-has, at-weaker}
 
 pub any-cases : {X : Type 0} (P : X → Type 0) (x : X) (xs : List X) → Any P (x ∷ xs) → P x ⊎ Any P xs
 any-cases P x xs any = at any.0 any.1 any.2 any.3 any.4

@@ -22,6 +22,12 @@ has-at {X} P xs k x is here = let Q : Option X → Type 0 = λ o. IsSomeAnd o P 
 pub at-has : {X : Type 0} (P : X → Type 0) (xs : List X) (k : ℕ) (x : X) → slice_get xs k ≡ Some x → P x → IsSomeAnd (slice_get xs k) P
 at-has {X} P xs k x is holds = let Q : Option X → Type 0 = λ o. IsSomeAnd o P in subst Q (sym is) holds
 
+pub at-weaker : {X : Type 0} (P Q : X → Type 0) (xs : List X) (k : ℕ) → ((x : X) → P x → Q x) → IsSomeAnd (slice_get xs k) P → IsSomeAnd (slice_get xs k) Q
+at-weaker P Q xs k more here =
+    let x = some-element P xs k here in
+    let is = element-is P xs k here in
+    at-has Q xs k x is (more x (has-at P xs k x is here))
+
 pub any-head : {X : Type 0} (P : X → Type 0) (x : X) (xs : List X) → P x → Any P (x ∷ xs)
 any-head P x xs holds = (0, x, omega arith, refl, holds)
 

@@ -9,12 +9,11 @@ use Rattle.dist_repo.specs.Match.{Matches}
 use Rattle.dist_repo.specs.PackageList.{PackageList}
 use Rattle.dist_repo.specs.Providers.{AreProviders, IsProvider}
 use Rattle.dist_repo.specs.declared.package.Package.{Package}
-use Rattle.dist_repo.proofs.Search.{at-weaker}
 use Rattle.dist_now.specs.Least.{IsLeast}
 use Rattle.dist_now.specs.Rejected.{IsRejected, IsRejectedBy}
 use Rattle.dist_now.specs.Rows.{IsLeastIfAny}
 use Rattle.dist_now.proofs.MemberLemmas.{matched-provides}
-use Rattle.dist_now.proofs.Places.{at-has, has-at, some-element, element-is}
+use Rattle.dist_now.proofs.Places.{at-has, has-at, some-element, element-is, at-weaker}
 use Rattle.std.proofs.lemmas.Option.{slice_get_within}
 
 -- ---- one atom

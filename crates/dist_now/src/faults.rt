@@ -1,5 +1,6 @@
 //! The least fault of each kind: rows of pairs, each gone through from its least.
 ghost use Rattle.std.specs.Prelude.{◌≡◌, ◌<◌, Some, length, slice_get};
+ghost use Rattle.dist_repo.specs.Size.{IsWithinSize};
 ghost use Rattle.dist_now.specs.Fit.{IsOneEach};
 ghost use Rattle.dist_now.specs.Health.{AreTwoVersions, IsUnmetAt};
 ghost use Rattle.dist_now.specs.Rows.{IsLater, IsLeastIfAny, IsLeastPairIfAny, IsUnmetItem};
@@ -38,14 +39,16 @@ fn unmet_item(
     members: &Assignment,
     number: u32,
     package: &Package,
-) -> Option<usize>
+) -> Option<u32>
     requires one_each { IsOneEach repo.now members.now }
+    requires within_size { IsWithinSize repo.now }
     requires number { slice_get repo.now.packages number ≡ Some «package».now }
     ensures { IsLeastIfAny (IsUnmetItem repo.now members.now «package».now.depends) result }
 {
     for place in 0..package.depends.len() {
         if !is_met(repo, members, number, place, package.depends.get(place)) {
-            return Some(place);
+            // An item has an atom, so the place is less than the number of atoms.
+            return Some(place as u32);
         }
     }
     None
@@ -64,8 +67,9 @@ fn version_row(repo: &Repository, members: &Assignment, first: u32) -> Option<u3
 }
 
 /// The least place of an unmet item of a member.
-fn unmet_row(repo: &Repository, members: &Assignment, number: u32) -> Option<usize>
+fn unmet_row(repo: &Repository, members: &Assignment, number: u32) -> Option<u32>
     requires one_each { IsOneEach repo.now members.now }
+    requires within_size { IsWithinSize repo.now }
     requires number { number < length repo.now.packages }
     ensures { IsLeastIfAny (IsUnmetAt repo.now members.now number) result }
 {
@@ -89,8 +93,9 @@ pub(crate) fn two_versions(repo: &Repository, members: &Assignment) -> Option<(u
 }
 
 /// The least member with an unmet item, and the place of the first one.
-pub(crate) fn unmet(repo: &Repository, members: &Assignment) -> Option<(u32, usize)>
-    requires { IsOneEach repo.now members.now }
+pub(crate) fn unmet(repo: &Repository, members: &Assignment) -> Option<(u32, u32)>
+    requires one_each { IsOneEach repo.now members.now }
+    requires within_size { IsWithinSize repo.now }
     ensures { IsLeastPairIfAny (IsUnmetAt repo.now members.now) result }
 {
     for number in 0..repo.len() {

@@ -1,5 +1,6 @@
 //! Whether a set of packages is a healthy installation: the kinds of fault in their order.
 ghost use Rattle.std.specs.Prelude.{◌≡◌};
+ghost use Rattle.dist_repo.specs.Size.{IsWithinSize};
 ghost use Rattle.dist_now.specs.Fit.{IsOneEach};
 ghost use Rattle.dist_now.specs.Health.{IsHealth, IsMissing};
 ghost use Rattle.dist_now.specs.Rows.{IsLeastIfAny};
@@ -28,7 +29,8 @@ fn missing(repo: &Repository, members: &Assignment) -> Option<u32>
 /// Whether the members are a healthy installation, or else the first kind of fault that there is, with its least place.
 /// Where `essential` is false, no name is required.
 pub fn health(repo: &Repository, essential: bool, members: &Assignment) -> Health
-    requires { IsOneEach repo.now members.now }
+    requires one_each { IsOneEach repo.now members.now }
+    requires within_size { IsWithinSize repo.now }
     ensures { IsHealth repo.now essential members.now result }
 {
     if let Some((first, second)) = two_versions(repo, members) {

@@ -7,7 +7,7 @@ pub enum Health {
     /// Two members of one name.
     TwoVersions(u32, u32),
     /// A member, and an item of its dependencies that no member meets.
-    Unmet(u32, usize),
+    Unmet(u32, u32),
     /// Two members in conflict.
     Conflict(u32, u32),
     /// An essential package whose name no member has.

@@ -48,7 +48,8 @@ pub(crate) fn is_met(
 ) -> bool
     requires one_each { IsOneEach repo.now members.now }
     requires item { IsItemAt repo.now.packages number item alternatives.now }
-    ensures { IsTrue result ↔ IsMet repo.now.architecture (members_of repo.now.packages members.now) alternatives.now }
+    ensures some { 0 < length alternatives.now }
+    ensures met { IsTrue result ↔ IsMet repo.now.architecture (members_of repo.now.packages members.now) alternatives.now }
 {
     for place in 0..alternatives.len() {
         let atom = alternatives.get(place);

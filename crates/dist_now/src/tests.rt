@@ -48,8 +48,8 @@ fn two(alloc: Global, depends: &str) -> Result<Repository, Fail> {
 fn health_of_first(alloc: Global, depends: &str) -> Result<Health, Fail> {
     let repository = two(alloc, depends)?;
     let mut members = Assignment::new(alloc, repository.len())?;
-    if repository.len() == 0 {
-        Err("no package")?;
+    if repository.len() == 0 || !repository.is_within_size() {
+        Err("no package, or too many")?;
     }
     members.set(1, true);
     Ok(health(&repository, true, &members))

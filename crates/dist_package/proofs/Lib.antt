@@ -3,3 +3,4 @@ pub mod OneStanza
 pub mod FieldLemmas
 pub mod SoFar
 pub mod Memory
+pub mod Bytes

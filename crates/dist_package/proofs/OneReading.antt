@@ -1,17 +1,12 @@
 -- A file has one answer: where each stanza has one reading or one fault, there is one list of readings, one
 -- repository, and one reason why there is none, and never both.
-use Rattle.std.proofs.Common.{◌≡◌, ◌⊎◌, ℕ, zero, suc, ◌<◌, List, [], ◌∷◌, ◌++◌, Option, length, get_or, refl, sym, ap, ◌∙◌, subst, arith, inl, inr, append_assoc}
-use Rattle.std.specs.Cmp.{IsTotalOrder}
-use Rattle.std.specs.List.{All, AllPairs, Any, Contains}
-use Rattle.std.specs.Ordering.{ordering_reverse}
-use Rattle.std.specs.declared.cmp.Ordering.{Ordering}
-use Rattle.std.specs.declared.cmp.Ordering.TheVariants.{Less, Greater}
+use Rattle.std.proofs.Common.{◌≡◌, ◌⊎◌, ℕ, List, [], ◌∷◌, ◌++◌, Option, length, refl, sym, ap, ◌∙◌, subst, arith, inl, inr, append_assoc}
+use Rattle.std.specs.List.{All, Any, Contains}
 use Rattle.std.proofs.lemmas.List.{append-nil, length-append}
 use Rattle.std.proofs.lemmas.List.Elements.{All-contains}
 use Rattle.dist_control.specs.RawStanza.{RawStanza, raw_stanzas}
-use Rattle.dist_repo.specs.Order.{package_cmp}
+use Rattle.dist_repo.specs.Order.{IsInOrder}
 use Rattle.dist_repo.specs.PackageList.{PackageList}
-use Rattle.dist_repo.specs.Total.{package_total}
 use Rattle.dist_repo.specs.declared.package.Package.{Package}
 use Rattle.dist_package.specs.declared.error.Fault.{Fault}
 use Rattle.dist_package.specs.declared.error.PackagesError.{PackagesError}
@@ -37,69 +32,6 @@ two_cuts (z ∷ before) after (w ∷ before') after' x y is =
         | inr first ↦ let front : before ≡ before' ++ y ∷ first.0 = first.1 in inr (inr (first.0, (cc)))
       ]
     ]
-
-module _ {X : Type 0} (R : X → X → Ordering) (total : IsTotalOrder R) where
-  abbrev IsBelow : X → X → Type 0
-  IsBelow x y = R x y ≡ Less
-
-  not_both : (x y : X) → IsBelow x y → ¬ IsBelow y x
-  not_both x y below above =
-      let turned : Less ≡ Greater = sym above ∙ total.antisymm y x ∙ ap ordering_reverse below in
-      cc
-
-  not_itself : (x y : X) → y ≡ x → ¬ IsBelow x y
-  not_itself x y is below = not_both x y below (subst (λ (z : X). IsBelow z x) (sym is) (subst (λ (z : X). IsBelow x z) is below))
-
-  ordered-tail : (x : X) (xs : List X) → AllPairs IsBelow (x ∷ xs) → AllPairs IsBelow xs
-  ordered-tail x xs ordered i j d before within = ordered (suc i) (suc j) d (omega arith) (omega arith)
-
-  head-below : (x : X) (xs : List X) (y : X) → AllPairs IsBelow (x ∷ xs) → Contains xs y → IsBelow x y
-  head-below x xs y ordered there =
-      subst (λ (z : X). IsBelow x z) there.2 (ordered 0 (suc there.0) y (omega arith) (omega (arith, there.1)))
-
-  contains-head : (x : X) (xs : List X) → Contains (x ∷ xs) x
-  contains-head x xs = (0, omega arith, refl)
-
-  contains-later : (x : X) (xs : List X) (y : X) → Contains xs y → Contains (x ∷ xs) y
-  contains-later x xs y there = (suc there.0, omega (arith, there.1), there.2)
-
-  contains-at : (x : X) (xs : List X) (y : X) (k : ℕ) → k < length (x ∷ xs) → get_or (x ∷ xs) k y ≡ y → (x ≡ y) ⊎ Contains xs y
-  contains-at x xs y zero within is = inl is
-  contains-at x xs y (suc k) within is = inr (k, omega arith, is)
-
-  contains-cases : (x : X) (xs : List X) (y : X) → Contains (x ∷ xs) y → (x ≡ y) ⊎ Contains xs y
-  contains-cases x xs y there = contains-at x xs y there.0 there.1 there.2
-
-  abbrev Within : List X → List X → Type 0
-  Within a b = (y : X) → Contains a y → Contains b y
-
-  same_head : (x y : X) (xs ys : List X) → AllPairs IsBelow (x ∷ xs) → AllPairs IsBelow (y ∷ ys) → Within (x ∷ xs) (y ∷ ys) → Within (y ∷ ys) (x ∷ xs) → x ≡ y
-  same_head x y xs ys x_ordered y_ordered to from =
-      elim (contains-cases y ys x (to x (contains-head x xs))) [
-        | inl is ↦ sym is
-        | inr later ↦ elim (contains-cases x xs y (from y (contains-head y ys))) [
-          | inl is ↦ is
-          | inr behind ↦ absurd (not_both y x (head-below y ys x y_ordered later) (head-below x xs y x_ordered behind))
-        ]
-      ]
-
-  within-tail : (x y : X) (xs ys : List X) → x ≡ y → AllPairs IsBelow (x ∷ xs) → Within (x ∷ xs) (y ∷ ys) → Within xs ys
-  within-tail x y xs ys same ordered to z there =
-      elim (contains-cases y ys z (to z (contains-later x xs z there))) [
-        | inl is ↦ absurd (not_itself x z (sym is ∙ sym same) (head-below x xs z ordered there))
-        | inr later ↦ later
-      ]
-
-  -- Two lists in order that have the same elements are one.
-  pub one_order : (xs ys : List X) → AllPairs IsBelow xs → AllPairs IsBelow ys → Within xs ys → Within ys xs → xs ≡ ys
-  one_order [] [] x_ordered y_ordered to from = refl
-  one_order [] (y ∷ ys) x_ordered y_ordered to from = absurd (omega (arith, (from y (contains-head y ys)).1))
-  one_order (x ∷ xs) [] x_ordered y_ordered to from = absurd (omega (arith, (to x (contains-head x xs)).1))
-  one_order (x ∷ xs) (y ∷ ys) x_ordered y_ordered to from =
-      let same : x ≡ y = same_head x y xs ys x_ordered y_ordered to from in
-      let rest : xs ≡ ys = one_order xs ys (ordered-tail x xs x_ordered) (ordered-tail y ys y_ordered)
-      (within-tail x y xs ys same x_ordered to) (within-tail y x ys xs (sym same) y_ordered from) in
-      cc
 
 -- ---- readings of stanzas
 
@@ -141,9 +73,9 @@ length-reads earlier (raw ∷ raws) (x ∷ reads) all = omega (arith, length-rea
 
 -- each package of one repository is in another of the same stanzas
 carried : (a b : List Package) (reads : List Read) → All (λ p. Any (λ read. read.package_ ≡ p) reads) a → All (λ read. Contains b read.package_) reads →
-    (p : Package) → Contains a p → Contains b p
-carried a b reads from all p there =
-    let some = All-contains (λ p. Any (λ read. read.package_ ≡ p) reads) a p from there in
+    All (Contains b) a
+carried a b reads from all k d within =
+    let some = from k d within in
     let P : Package → Type 0 = λ q. Contains b q in
     subst P some.4 (All-contains (λ read. Contains b read.package_) reads some.1 all (some.0, some.2, some.3))
 
@@ -221,12 +153,13 @@ module _ (one_read : (earlier : List Read) (raw : RawStanza) (a b : Read) → Re
   one_error raws limit TooMany NoMemory first second = absurd second
   one_error raws limit NoMemory f first second = absurd first
 
-  pub one_repository : (text : List ℕ) (limit : ℕ) (r s : PackageList) → IsRepositoryOf text limit r → IsRepositoryOf text limit s → s ≡ r
-  one_repository text limit r s is also =
+  pub one_repository : ((packages others : List Package) → IsInOrder packages → IsInOrder others → All (Contains others) packages → All (Contains packages) others → packages ≡ others) →
+      (text : List ℕ) (limit : ℕ) (r s : PackageList) → IsRepositoryOf text limit r → IsRepositoryOf text limit s → s ≡ r
+  one_repository one_list text limit r s is also =
       let reads : also.reads ≡ is.reads = same_reads (raw_stanzas text) is.reads also.reads is.read also.read in
       let From : List Read → Type 0 = λ l. All (λ p. Any (λ read. read.package_ ≡ p) l) s.packages in
       let There : List Read → Type 0 = λ l. All (λ read. Contains s.packages read.package_) l in
-      let packages : s.packages ≡ r.packages = one_order package_cmp package_total s.packages r.packages also.in_order is.in_order
+      let packages : s.packages ≡ r.packages = one_list s.packages r.packages also.in_order is.in_order
       (carried s.packages r.packages is.reads (subst From reads also.from_stanzas) is.all_stanzas)
       (carried r.packages s.packages is.reads is.from_stanzas (subst There reads also.all_stanzas)) in
       let architecture : s.architecture ≡ r.architecture = also.architecture ∙ ap architecture_of reads ∙ sym is.architecture in

@@ -1,12 +1,16 @@
-//! What holds of the faults of files, apart from any call.
-ghost use Rattle.std.specs.Prelude.{ℕ, List};
+//! What holds of files, their repositories and their faults, apart from any call.
+ghost use Rattle.std.specs.Prelude.{ℕ, ◌≤◌, List, length};
 ghost use Rattle.dist_control.specs.RawStanza.{RawStanza};
 ghost use Rattle.dist_package.specs.FirstFault.{HasFirstFault, CarriesNoMemory};
 ghost use Rattle.dist_package.specs.declared.error.Fault.{Fault};
 ghost use Rattle.dist_package.specs.OneAnswer.{HasOneAnswer};
+ghost use Rattle.dist_package.specs.RepositoryOf.{IsRepositoryOf};
+ghost use Rattle.dist_repo.specs.PackageList.{PackageList};
+ghost use Rattle.dist_repo.specs.Size.{relation_count};
 
-use dist_control::one_reading_or_fault;
-use dist_relation::{faults_come, values_are_exact};
+use dist_control::{one_reading_or_fault, values_take_bytes};
+use dist_relation::{faults_come, items_take_bytes, values_are_exact};
+use dist_repo::each_stands_once;
 use dist_version::texts_are_exact;
 
 /// The kind of a file's first fault never carries want of memory.
@@ -24,4 +28,15 @@ pub fn packages_are_exact()
     one_reading_or_fault();
     texts_are_exact();
     values_are_exact();
+    each_stands_once();
+}
+
+/// The packages of a file's repository have together at most as many atoms and entries of Provides as the file has bytes.
+pub fn relations_take_bytes()
+    ensures { (text : List ℕ) (limit : ℕ) (repository : PackageList) → IsRepositoryOf text limit repository
+        → relation_count repository.packages ≤ length text }
+{
+    items_take_bytes();
+    each_stands_once();
+    values_take_bytes();
 }

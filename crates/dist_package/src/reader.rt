@@ -6,9 +6,11 @@ ghost use Rattle.dist_control.specs.RawStanza.{raw_stanzas};
 ghost use Rattle.dist_package.specs.FirstFault.{IsBad, IsLineFault, IsRefused};
 ghost use Rattle.dist_package.specs.RepositoryOf.{IsRepositoryOf};
 ghost use Rattle.dist_package.specs.Steps.{Gives, IsFaulty, Adds, IsClashFault};
+ghost use Rattle.dist_repo.specs.Size.{relation_count};
 
 use crate::error::{Kind, PackagesError};
 use crate::fields::bad;
+use crate::laws::relations_take_bytes;
 use crate::package::{Described, read_package};
 use dist_control::{ControlError, Stanzas};
 use dist_relation::Name;
@@ -76,7 +78,9 @@ pub fn read_packages(alloc: Global, bytes: &[u8], stanzas: u32) -> Result<Reposi
     ensures answers { Answers (IsRepositoryOf bytes.now stanzas) (IsRefused (raw_stanzas bytes.now) stanzas)
         PackagesError.NoMemory result }
     ensures fewer { IfOk result (λ repository. length repository.packages ≤ stanzas) }
+    ensures bounded { IfOk result (λ repository. relation_count repository.packages ≤ length bytes.now) }
 {
+    relations_take_bytes();
     let mut reader = Stanzas::new(bytes);
     let mut builder = Builder::new(alloc);
     let mut architecture: Option<Name> = None;

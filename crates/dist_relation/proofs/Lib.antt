@@ -12,3 +12,4 @@ pub mod ThreeKinds
 pub mod Starts
 pub mod Loops
 pub mod Canon
+pub mod Lengths

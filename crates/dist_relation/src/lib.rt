@@ -13,7 +13,7 @@ mod values;
 
 pub use atom::{Atom, Bound, Op, Provide, Qualifier, satisfies};
 pub use error::RelationError;
-pub use laws::{faults_come, values_are_exact};
+pub use laws::{faults_come, items_take_bytes, values_are_exact};
 pub use lists::{Alternatives, Atoms, Items, Provides};
 pub use name::Name;
 pub use printing::print_alternatives;

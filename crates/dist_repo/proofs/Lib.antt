@@ -7,3 +7,4 @@ pub mod TallyLemmas
 pub mod NotedLemmas
 pub mod FlatTally
 pub mod NewestLemmas
+pub mod EachOnce

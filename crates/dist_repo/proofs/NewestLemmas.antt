@@ -11,8 +11,11 @@ use Rattle.std.proofs.lemmas.Slice.Eq.{bytes_eq-Decides}
 use Rattle.dist_version.specs.OrderLaws.{version_total}
 use Rattle.dist_version.specs.Order.{version_cmp}
 use Rattle.dist_repo.specs.Latest.{is_last_of_name, last_of_names}
-use Rattle.dist_repo.specs.Order.{package_cmp, IsFlat, IsInOrder, IsNewest}
+use Rattle.dist_repo.specs.Order.{package_cmp, IsFlat, IsInOrder, IsNewest, IsLatestOf}
+use Rattle.dist_repo.specs.PackageList.{PackageList}
+use Rattle.dist_repo.specs.Size.{IsWithinSize}
 use Rattle.dist_repo.specs.declared.package.Package.{Package}
+use Rattle.dist_repo.proofs.EachOnce.{fewer-packages, fewer-relations, one-list}
 use Rattle.dist_repo.proofs.HeldLemmas.{names-tied, same_names}
 use Rattle.dist_repo.proofs.OrderLemmas.{then-less, between-equal}
 
@@ -169,11 +172,35 @@ flat-from_newest ps kept ordered newest i j d before within same =
     let there = newest q (Contains-get_or kept j d within) in
     All-contains (NotBelow p) ps q here.newest there.there (sym same) (version-below p q (ordered i j d before within) same)
 
-pub latest-newest : (ps qs : List Package) → IsInOrder ps → qs ≡ last_of_names ps → (p : Package) → Contains qs p ↔ IsNewest ps p
-latest-newest ps qs ordered is p =
-    let P : List Package → Type 0 = λ list. Contains list p ↔ IsNewest ps p in subst P (sym is) (kept-newest ps ordered p)
+-- ---- the repository of the newest versions
 
-pub latest-flat : (ps qs : List Package) → IsInOrder ps → qs ≡ last_of_names ps → IsFlat qs
-latest-flat ps qs ordered is =
-    let P : List Package → Type 0 = IsFlat in
-    subst P (sym is) (flat-from_newest ps (last_of_names ps) (in_order-kept ps ordered) (λ q there. (kept-newest ps ordered q).0 there))
+pub is-latest : (r : PackageList) → IsInOrder r.packages → IsLatestOf r (record { architecture = r.architecture; packages = last_of_names r.packages })
+is-latest r ordered = record {
+  newest = kept-newest r.packages ordered;
+  in_order = in_order-kept r.packages ordered;
+  flat = flat-from_newest r.packages (last_of_names r.packages) (in_order-kept r.packages ordered) (λ q there. (kept-newest r.packages ordered q).0 there);
+  architecture = refl;
+}
+
+pub some-latest : (r : PackageList) → IsInOrder r.packages → (latest : PackageList) × IsLatestOf r latest
+some-latest r ordered = (record { architecture = r.architecture; packages = last_of_names r.packages }, is-latest r ordered)
+
+all-through : (r a b : PackageList) → IsLatestOf r a → IsLatestOf r b → All (Contains b.packages) a.packages
+all-through r a b first second k d within =
+    let p = get_or a.packages k d in
+    (second.newest p).1 ((first.newest p).0 (Contains-get_or a.packages k d within))
+
+pub one-latest : (r latest other : PackageList) → IsLatestOf r latest → IsLatestOf r other → other ≡ latest
+one-latest r latest other first second =
+    let packages : other.packages ≡ latest.packages = one-list other.packages latest.packages second.in_order first.in_order (all-through r other latest second first) (all-through r latest other first second) in
+    let architecture : other.architecture ≡ latest.architecture = second.architecture ∙ sym first.architecture in
+    λ i. record { architecture = architecture i; packages = packages i }
+
+pub latest-within : (r latest : PackageList) → IsLatestOf r latest → IsWithinSize r → IsWithinSize latest
+latest-within r latest is size =
+    let there : All (Contains r.packages) latest.packages = λ k d within.
+    ((is.newest (get_or latest.packages k d)).0 (Contains-get_or latest.packages k d within)).there in
+    record {
+      packages = omega (arith, size.packages, fewer-packages latest.packages r.packages is.in_order there);
+      relations = omega (arith, size.relations, fewer-relations latest.packages r.packages is.in_order there);
+    }

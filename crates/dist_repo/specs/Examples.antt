@@ -8,6 +8,7 @@ use Rattle.dist_relation.specs.declared.atom.Qualifier.TheVariants.{Plain, Named
 use Rattle.dist_repo.specs.Conflict.{AreInConflict}
 use Rattle.dist_repo.specs.Healthy.{required_names}
 use Rattle.dist_repo.specs.Match.{IsUsable, Matches, MatchesByEntry}
+use Rattle.dist_repo.specs.Size.{relation_count}
 use Rattle.dist_repo.specs.declared.package.Package.{Package}
 
 -- the name of which only one agent may be installed
@@ -55,3 +56,7 @@ agents_are_in_conflict = record { different = λ same. let names : codes "exim4"
 -- at mode plain no name is required
 plain_requires_nothing : required_names false (mailer (codes "exim4") ∷ []) ≡ []
 plain_requires_nothing = refl
+
+-- each of them has a conflict atom and an entry
+two_have_four : relation_count (mailer (codes "exim4") ∷ mailer (codes "postfix") ∷ []) ≡ 4
+two_have_four = refl

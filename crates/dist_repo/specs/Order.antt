@@ -1,10 +1,11 @@
 -- The order of packages, by the bytes of their names and then by version, and the newest version of each name.
-use Rattle.std.specs.Prelude.{◌≡◌, ◌≢◌, ℕ, List, All, AllPairs, Contains}
+use Rattle.std.specs.Prelude.{◌≡◌, ◌≢◌, ◌↔◌, ℕ, List, All, AllPairs, Contains}
 use Rattle.std.specs.Cmp.Lexicographic.{slice_cmp}
 use Rattle.std.specs.Ordering.{nat_cmp, ordering_then}
 use Rattle.std.specs.declared.cmp.Ordering.{Ordering}
 use Rattle.std.specs.declared.cmp.Ordering.TheVariants.{Less, Equal}
 use Rattle.dist_version.specs.Order.{version_cmp}
+use Rattle.dist_repo.specs.PackageList.{PackageList}
 use Rattle.dist_repo.specs.declared.package.Package.{Package}
 
 -- names and versions, by the bytes of the names and then by version
@@ -30,3 +31,10 @@ IsFlat packages = AllPairs (λ p q. p.name ≢ q.name) packages
 pub record IsNewest (packages : List Package) (p : Package) : Type 0 where
   pub there : Contains packages p
   pub newest : All (λ q. q.name ≡ p.name → version_cmp p.version q.version ≢ Less) packages
+
+-- The repository of the newest versions: the newest package of each name, and nothing else, for the same architecture.
+pub record IsLatestOf (r latest : PackageList) : Type 0 where
+  pub newest : (p : Package) → Contains latest.packages p ↔ IsNewest r.packages p
+  pub in_order : IsInOrder latest.packages
+  pub flat : IsFlat latest.packages
+  pub architecture : latest.architecture ≡ r.architecture

@@ -1,5 +1,5 @@
 -- How large a repository is that the calls above take.
-use Rattle.std.specs.Prelude.{ℕ, ◌+◌, ◌≤◌, List, length, sum_by}
+use Rattle.std.specs.Prelude.{◌≡◌, ℕ, ◌+◌, ◌<◌, ◌≤◌, List, Option, MatchOption, length, sum_by}
 use Rattle.dist_base.specs.declared.TheConstants.{MAX_PACKAGES, MAX_RELATIONS}
 use Rattle.dist_repo.specs.PackageList.{PackageList}
 use Rattle.dist_repo.specs.declared.package.Package.{Package}
@@ -15,3 +15,7 @@ relation_count packages = sum_by relations_of packages
 pub record IsWithinSize (repository : PackageList) : Type 0 where
   pub packages : length repository.packages ≤ MAX_PACKAGES
   pub relations : relation_count repository.packages ≤ MAX_RELATIONS
+
+-- what a limit leaves beside a count, where it reaches
+abbrev pub Leaves : (limit count : ℕ) → Option ℕ → Type 0
+Leaves limit count left = MatchOption left (limit < count) (λ rest. rest + count ≡ limit)

@@ -3,13 +3,16 @@
 
 mod builder;
 mod key;
+mod laws;
 mod matching;
 mod names;
 mod package;
 mod repository;
+mod size;
 mod tally;
 
 pub use builder::{AddError, Added, Builder};
+pub use laws::{each_stands_once, latest_is_one};
 pub use package::Package;
 pub use repository::Repository;
 

@@ -1,20 +1,22 @@
 //! The packages of a file in order, and what can be asked of them without taking memory.
-ghost use Rattle.std.specs.Prelude.{◌≡◌, ◌<◌, ◌^◌, ◌↔◌, ℕ, [], Some, Contains, length, slice_get, slice_index_or, IsTrue, IfOk, MatchOption};
+ghost use Rattle.std.specs.Prelude.{◌≡◌, ◌<◌, ◌^◌, ◌↔◌, ℕ, [], Some, length, slice_get, slice_index_or, IsTrue, IfOk, MatchOption};
 ghost use Rattle.std.specs.Option.{option_copied};
 ghost use Rattle.dist_relation.specs.declared.atom.Atom.{Atom};
 ghost use Rattle.dist_repo.specs.Conflict.{AreInConflict};
 ghost use Rattle.dist_repo.specs.Latest.{is_last_of_name, last_of_names};
 ghost use Rattle.dist_repo.specs.Match.{IsUsable, Matches};
-ghost use Rattle.dist_repo.specs.Order.{key_cmp, IsFlat, IsInOrder, IsNewest};
+ghost use Rattle.dist_repo.specs.Order.{key_cmp, IsFlat, IsInOrder, IsLatestOf};
 ghost use Rattle.dist_repo.specs.PackageList.{IsAlternativeAt, IsConflictAt};
 ghost use Rattle.dist_repo.specs.Providers.{AreProviders, IsPackageAt};
-ghost use Rattle.dist_repo.specs.declared.package.Package.{Package};
+ghost use Rattle.dist_repo.specs.Size.{IsWithinSize};
 
 use crate::key::compare;
 use crate::matching;
 use crate::names::{NameIndex, place_of};
 use crate::package::Package;
+use crate::size::has_few_relations;
 use crate::tally::tally_of;
+use dist_base::MAX_PACKAGES;
 use dist_relation::{Atom, Name, Qualifier};
 use dist_version::Version;
 use std::alloc::{AllocError, Global};
@@ -144,6 +146,13 @@ impl Repository {
         matching::are_in_conflict(&self.architecture, first, second)
     }
 
+    /// Whether there are at most the stated numbers of packages, and of atoms and entries.
+    pub fn is_within_size(&self) -> bool
+        ensures { IsTrue result ↔ IsWithinSize self.now }
+    {
+        self.packages.len() <= MAX_PACKAGES as usize && has_few_relations(&self.packages)
+    }
+
     /// Whether each name has one version.
     pub fn is_flat(&self) -> bool
         ensures { IsTrue result ↔ IsFlat self.now.packages }
@@ -158,10 +167,7 @@ impl Repository {
 
     /// The newest version of each name, for the same architecture.
     pub fn latest(&self) -> Result<Repository, AllocError>
-        ensures newest { IfOk result (λ latest. (p : Package) → Contains latest.packages p ↔ IsNewest self.now.packages p) }
-        ensures in_order { IfOk result (λ latest. IsInOrder latest.packages) }
-        ensures flat { IfOk result (λ latest. IsFlat latest.packages) }
-        ensures architecture { IfOk result (λ latest. latest.architecture ≡ self.now.architecture) }
+        ensures { IfOk result (IsLatestOf self.now) }
     {
         let alloc = *self.packages.allocator();
         let architecture = match &self.architecture {

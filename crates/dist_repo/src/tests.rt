@@ -86,7 +86,7 @@ fn versions_of_a_name(rt: HostRuntime) -> Result<(), Fail> {
     );
     assert_eq!(rt; repository.find(b"b", &Version::read(alloc, b"2")?), None);
     assert!(rt; repository.providers(b"a") == [0, 1].as_slice());
-    assert!(rt; !repository.is_flat());
+    assert!(rt; !repository.is_flat() && repository.is_within_size());
     let latest = repository.latest()?;
     assert_eq!(rt; latest.len(), 2);
     assert!(rt; latest.is_flat() && latest.architecture().is_none());

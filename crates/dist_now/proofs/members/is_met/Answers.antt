@@ -8,8 +8,8 @@ is_alternative_met-requires-clause-providers c =
     c.alternative_providers-providers.ensures c.get-atom.result.now
     (record { holder = c.requires.item.holder; alternatives = c.args.alternatives.now; is_holder = c.requires.item.is_holder; is_item = c.requires.item.is_item; is_atom = c.get-atom.ensures })
 
-pub returns-then-is_alternative_met : goal.returns-then-is_alternative_met
-returns-then-is_alternative_met c =
+pub returns-then-is_alternative_met-clause-met : goal.returns-then-is_alternative_met-clause-met
+returns-then-is_alternative_met-clause-met c =
     (λ _. any-at _ c.args.alternatives.now c.loop-place.place c.get-atom.result.now c.get-atom.ensures (c.if-is_alternative_met.ensures.0 refl), λ _. refl)
 
 pub loop-place-preserved : goal.loop-place-preserved
@@ -17,8 +17,8 @@ loop-place-preserved c =
     none-at-more (IsMetBy c.args.repo.now c.args.members.now) c.args.alternatives.now c.loop-place.place c.get-atom.result.now c.get-atom.ensures c.loop-place.invariant
     (λ any. let is = c.if-is_alternative_met.ensures.1 any in cc)
 
-pub returns : goal.returns
-returns c = (
+pub returns-clause-met : goal.returns-clause-met
+returns-clause-met c = (
   λ is. cc,
   λ any. absurd (none-any (IsMetBy c.args.repo.now c.args.members.now) c.args.alternatives.now c.loop-place.place
       (let e = c.len-place-end.ensures.value in omega (arith, e, c.loop-place-test.false)) c.loop-place.invariant any),

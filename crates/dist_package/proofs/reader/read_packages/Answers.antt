@@ -15,6 +15,7 @@ pub returns-then-count-stanzas : goal.returns-then-count-stanzas
 returns-then-count-stanzas c = record {
   answers = inr (too-many _ _ _ _ _ _ c.loop-reader.invariant (c.loop-reader-test.ensures.0 refl) c.if-count-stanzas.true);
   fewer = tt;
+  bounded = tt;
 }
 
 pub returns-in-Err : goal.returns-in-Err
@@ -25,6 +26,7 @@ returns-in-Err c = record {
         (λ f h. file-fault _ _ _ _ _ _ c.loop-reader.invariant f c.if-count-stanzas.false h) c.in-Err.error fault)
   ];
   fewer = tt;
+  bounded = tt;
 }
 
 pub returns-in-Err-add_package : goal.returns-in-Err-add_package
@@ -38,6 +40,7 @@ returns-in-Err-add_package c =
             (λ f h. file-clash _ _ _ _ _ _ c.loop-reader.invariant _ d gives f c.if-count-stanzas.false h) c.in-Err-add_package.error fault)
       ];
       fewer = tt;
+      bounded = tt;
     }
 
 pub loop-reader-preserved : goal.loop-reader-preserved
@@ -46,8 +49,11 @@ loop-reader-preserved c =
     file-more _ _ _ _ _ _ c.loop-reader.invariant _ c.in-Ok-Some.described gives _ _ c.if-count-stanzas.false c.in-Ok.ensures c.first_of-architecture.ensures
 
 pub returns-in-Ok-finish : goal.returns-in-Ok-finish
-returns-in-Ok-finish c = record {
-  answers = file-all _ _ _ _ _ _ c.loop-reader.invariant c.in-Ok-finish.repository (λ next. false≢true (c.loop-reader-test.ensures.1 next))
-      c.in-Ok-finish.ensures.packages c.in-Ok-finish.ensures.architecture c.in-Ok-finish.ensures.in_order;
-  fewer = file-fewer _ _ _ _ _ _ c.loop-reader.invariant _ c.in-Ok-finish.ensures.packages;
-}
+returns-in-Ok-finish c =
+    let is = file-all _ _ _ _ _ _ c.loop-reader.invariant c.in-Ok-finish.repository (λ next. false≢true (c.loop-reader-test.ensures.1 next))
+    c.in-Ok-finish.ensures.packages c.in-Ok-finish.ensures.architecture c.in-Ok-finish.ensures.in_order in
+    record {
+      answers = is;
+      fewer = file-fewer _ _ _ _ _ _ c.loop-reader.invariant _ c.in-Ok-finish.ensures.packages;
+      bounded = c.relations_take_bytes.ensures c.args.bytes.now c.args.stanzas c.in-Ok-finish.repository is;
+    }

@@ -1,0 +1,8 @@
+use Rattle.std.specs.Prelude.{◌≡◌, ◌+◌, take}
+use Rattle.dist_base.specs.declared.TheConstants.{MAX_RELATIONS}
+use Rattle.dist_repo.specs.Size.{relation_count}
+use Rattle.dist_repo.proofs.size.has_few_relations.Given as goal
+
+-- the packages so far were taken off
+abbrev pub invariant-loop-package : goal.invariant-loop-package
+invariant-loop-package l = l.left + relation_count (take l.package-index l.packages) ≡ MAX_RELATIONS
