@@ -3,12 +3,12 @@ ghost use Rattle.std.specs.Prelude.{ℕ, ◌≤◌, List, length, IfOk, IfErr, O
 ghost use Rattle.dist_base.specs.declared.TheConstants.{MAX_BYTES, MAX_STANZAS};
 ghost use Rattle.dist_outside.specs.Files.{Files, IsNotWriting};
 ghost use Rattle.dist_outside.specs.DeskView.{OnlyReads};
+ghost use Rattle.dist_repo.specs.Size.{IsWithinSize};
 ghost use Rattle.dist_app.specs.Stages.{Ending, Goes, Ends, Then};
 ghost use Rattle.dist_app.specs.TextStage.{TextStage};
 ghost use Rattle.dist_app.specs.RepositoryStage.{RepositoryStage};
 ghost use Rattle.dist_app.specs.Due.{IsDue, IsGivenUp};
 ghost use Rattle.dist_app.specs.Run.{IsWithinStated};
-ghost use Rattle.dist_repo.specs.Size.{IsWithinSize};
 
 use crate::refusal::{Refusal, refusal_of};
 use dist_outside::{Desk, Limits, What, read_whole};

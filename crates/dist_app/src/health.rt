@@ -1,10 +1,10 @@
 //! What `health` says of a set of packages, in one line.
 ghost use Rattle.std.specs.Prelude.{◌≡◌, ◌++◌, ◌<◌, ℕ, List, Option, length, codes, IfOk, OnOk};
 ghost use Rattle.dist_outside.specs.Files.{Files};
+ghost use Rattle.dist_repo.specs.Size.{IsWithinSize};
 ghost use Rattle.dist_app.specs.PackageText.{label};
 ghost use Rattle.dist_app.specs.Stages.{answered};
 ghost use Rattle.dist_app.specs.Health.{IsPairLine, HasItem, IsUnmetLine, Judges};
-ghost use Rattle.dist_repo.specs.Size.{IsWithinSize};
 
 use crate::status::Status;
 use dist_clause::Assignment;

@@ -2,12 +2,12 @@
 ghost use Rattle.std.specs.Prelude.{◌≡◌, ℕ, List, Option, IfOk, IfErr, length};
 ghost use Rattle.dist_outside.specs.Files.{Files, IsNotWriting};
 ghost use Rattle.dist_outside.specs.DeskView.{OnlyReads};
+ghost use Rattle.dist_repo.specs.Size.{IsWithinSize};
 ghost use Rattle.dist_app.specs.Stages.{Ending, Goes, Ends, Then, answered};
 ghost use Rattle.dist_app.specs.TextStage.{TextStage};
 ghost use Rattle.dist_app.specs.Health.{ListStage, ListDecides, HealthDecides};
 ghost use Rattle.dist_app.specs.Due.{IsDue, IsGivenUp};
 ghost use Rattle.dist_app.specs.Run.{IsWithinStated};
-ghost use Rattle.dist_repo.specs.Size.{IsWithinSize};
 
 use crate::files::{read_repository, text_of};
 use crate::health::{Answer, judge};

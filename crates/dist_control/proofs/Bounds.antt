@@ -3,11 +3,15 @@ use Rattle.std.proofs.Common.{◌≡◌, ℕ, suc, ◌+◌, ◌≤◌, Bool, tru
 use Rattle.std.proofs.lemmas.List.Sums.{sum_by-cons}
 use Rattle.dist_control.specs.Bytes.{is_blank}
 use Rattle.dist_control.specs.Lines.{lines, in_front}
-use Rattle.dist_control.specs.RawStanza.{RawStanza, run, raw_stanzas_from, size_of}
+use Rattle.dist_control.specs.RawStanza.{RawStanza, run, raw_stanzas_from}
 
 -- the bytes of lines, with a line feed after each
 abbrev pub total : List (List ℕ) → ℕ
 total ls = sum_by (λ line. length line + 1) ls
+
+-- and those of raw stanzas
+abbrev pub size_of : RawStanza → ℕ
+size_of raw = total raw.lines
 
 abbrev pub sizes : List RawStanza → ℕ
 sizes raws = sum_by size_of raws

@@ -1,6 +1,6 @@
 -- The raw stanzas of a text (Debian Policy 5.1): the longest runs of lines that are not blank, each with
 -- the number, from 1, of its first line.
-use Rattle.std.specs.Prelude.{ℕ, ◌+◌, sum_by, length, Bool, true, false, List, [], ◌∷◌, if◌then◌else◌}
+use Rattle.std.specs.Prelude.{ℕ, ◌+◌, Bool, true, false, List, [], ◌∷◌, if◌then◌else◌}
 use Rattle.dist_control.specs.Bytes.{is_blank}
 use Rattle.dist_control.specs.Lines.{lines}
 
@@ -26,7 +26,3 @@ raw_stanzas_from number false (line ∷ rest) =
 
 abbrev pub raw_stanzas : List ℕ → List RawStanza
 raw_stanzas text = raw_stanzas_from 1 true (lines text)
-
--- how many bytes a raw stanza takes, with a line feed after each line
-abbrev pub size_of : RawStanza → ℕ
-size_of raw = sum_by (λ line. length line + 1) raw.lines

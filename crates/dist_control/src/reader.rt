@@ -1,5 +1,5 @@
 //! The reader of the stanzas of a text.
-ghost use Rattle.std.specs.Prelude.{◌≡◌, ℕ, ◌+◌, ◌<◌, ◌≤◌, ◌^◌, ◌↔◌, [], Ok, None, true, false, length, IsTrue, IsErrOf, sum_by};
+ghost use Rattle.std.specs.Prelude.{◌≡◌, ℕ, ◌+◌, ◌<◌, ◌^◌, ◌↔◌, [], Ok, None, true, false, length, IsTrue, IsErrOf};
 ghost use Rattle.dist_base.specs.Answers.{Answers};
 ghost use Rattle.dist_control.specs.Faults.{HasFault};
 ghost use Rattle.dist_control.specs.Lines.{lines};
@@ -40,13 +40,12 @@ impl<'a> Model for Stanzas<'a> {
 }
 
 impl<'a> Stanzas<'a> {
-    ghost use Rattle.dist_control.specs.RawStanza.{raw_stanzas, size_of};
+    ghost use Rattle.dist_control.specs.RawStanza.{raw_stanzas};
     ghost use Rattle.dist_control.specs.Reader.{HasNext, Gives, Refuses};
 
     /// A reader at the start of a text.
     pub fn new(bytes: &'a [u8]) -> Stanzas<'a>
-        ensures start { result ≡ record { left = raw_stanzas bytes.now; refused = false } }
-        ensures size { sum_by size_of result.left ≤ length bytes.now + 1 }
+        ensures { result ≡ record { left = raw_stanzas bytes.now; refused = false } }
     {
         let (rest, line) = skip_blank_lines(bytes, 1);
         Stanzas {

@@ -1,12 +1,12 @@
 //! What holds of files, their repositories and their faults, apart from any call.
 ghost use Rattle.std.specs.Prelude.{ℕ, ◌≤◌, List, length};
 ghost use Rattle.dist_control.specs.RawStanza.{RawStanza};
+ghost use Rattle.dist_repo.specs.PackageList.{PackageList};
+ghost use Rattle.dist_repo.specs.Size.{relation_count};
 ghost use Rattle.dist_package.specs.FirstFault.{HasFirstFault, CarriesNoMemory};
 ghost use Rattle.dist_package.specs.declared.error.Fault.{Fault};
 ghost use Rattle.dist_package.specs.OneAnswer.{HasOneAnswer};
 ghost use Rattle.dist_package.specs.RepositoryOf.{IsRepositoryOf};
-ghost use Rattle.dist_repo.specs.PackageList.{PackageList};
-ghost use Rattle.dist_repo.specs.Size.{relation_count};
 
 use dist_control::{one_reading_or_fault, values_take_bytes};
 use dist_relation::{faults_come, items_take_bytes, values_are_exact};

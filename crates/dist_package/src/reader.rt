@@ -3,10 +3,10 @@ ghost use Rattle.std.specs.Prelude.{◌≡◌, ◌⊎◌, ◌<◌, ◌≤◌, le
 ghost use Rattle.std.specs.Option.{option_or};
 ghost use Rattle.dist_base.specs.Answers.{Answers};
 ghost use Rattle.dist_control.specs.RawStanza.{raw_stanzas};
+ghost use Rattle.dist_repo.specs.Size.{relation_count};
 ghost use Rattle.dist_package.specs.FirstFault.{IsBad, IsLineFault, IsRefused};
 ghost use Rattle.dist_package.specs.RepositoryOf.{IsRepositoryOf};
 ghost use Rattle.dist_package.specs.Steps.{Gives, IsFaulty, Adds, IsClashFault};
-ghost use Rattle.dist_repo.specs.Size.{relation_count};
 
 use crate::error::{Kind, PackagesError};
 use crate::fields::bad;

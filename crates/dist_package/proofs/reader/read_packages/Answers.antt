@@ -9,7 +9,7 @@ use Rattle.dist_package.proofs.reader.read_packages.Goals as goal
 pub loop-reader-init : goal.loop-reader-init
 loop-reader-init c =
     let P : List Held → Type 0 = λ held. IsFileSoFar c.args.bytes.now c.args.stanzas c.new-reader.result held None 0 in
-    subst P (sym c.new-builder.ensures) (file-none _ _ _ c.new-reader.ensures.start)
+    subst P (sym c.new-builder.ensures) (file-none _ _ _ c.new-reader.ensures)
 
 pub returns-then-count-stanzas : goal.returns-then-count-stanzas
 returns-then-count-stanzas c = record {
