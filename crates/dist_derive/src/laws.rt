@@ -43,13 +43,16 @@ pub fn unit_steps_are_hints()
 {}
 
 /// A clause is settled, that is, not false, and what it gives is true: by a true literal, or by two literals of different
-/// variables that are not false. A unit clause stays unit under more true literals while its literal is unset.
+/// variables that are not false; and wherever it is neither false nor unit. A unit clause stays unit under more true
+/// literals while its literal is unset.
 pub fn what_settles_a_clause()
     ensures true_literal { (trues clause : List Literal) (l : Literal) → IsConsistent trues → Contains clause l
         → Contains trues l → (¬ AllFalse trues clause) × IsPropagated trues clause }
     ensures two_literals { (trues clause : List Literal) (l m : Literal) → Contains clause l → Contains clause m
         → l.variable ≢ m.variable → (¬ IsFalse trues l) → (¬ IsFalse trues m)
         → (¬ AllFalse trues clause) × IsPropagated trues clause }
+    ensures neither { (trues clause : List Literal) → (¬ AllFalse trues clause)
+        → ((l : Literal) → ¬ IsUnit trues clause l) → IsPropagated trues clause }
     ensures unit_stays { (trues more clause : List Literal) (l : Literal) → ContainsAll more trues → IsUnset more l
         → IsUnit trues clause l → IsUnit more clause l }
 {}
