@@ -1,0 +1,136 @@
+//! One descent of the search: decisions are taken one after another until a model, a refutation or a conflict comes.
+
+ghost use Rattle.std.specs.Prelude.{◌≡◌, ◌<◌, ◌≤◌, ◌↔◌, ℕ, List, length, map, reverse, All, Contains, IfOk, IfSome, IfNone, MatchOption};
+ghost use Rattle.dist_clause.specs.Formula.{literal, negation, IsClauseOver, Literal};
+ghost use Rattle.dist_derive.specs.ClauseLog.{ClauseLog, inputs_of};
+ghost use Rattle.dist_derive.specs.Follows.{EndsFalse};
+ghost use Rattle.dist_derive.specs.Cone.{InCone};
+ghost use Rattle.dist_solver.specs.Evidence.{IsShort};
+ghost use Rattle.dist_solver.specs.Trail.{IsSet, IsNextDecision};
+ghost use Rattle.dist_solver.specs.Descent.{IsDecided, AreValues, IsEnd, GoesOn};
+
+use crate::answers::Hints;
+use crate::trail::Trail;
+use dist_clause::{Assignment, Lit};
+use dist_derive::{
+    Log, cone_is_closed, cone_models_extend, settled_literals_make_new, unit_steps_are_hints,
+    what_settles_a_clause,
+};
+use std::alloc::{AllocError, Global};
+
+/// How a descent ends.
+#[derive(Debug, Drop)]
+pub(crate) enum Descent {
+    /// A model in which the assumptions are true.
+    Model(Assignment),
+    /// Hints by which the assumptions alone end in a false clause.
+    Refutation(Hints),
+    /// A clause that is new, and the hints by which it follows.
+    Lesson(Vec<Lit>, Hints),
+}
+
+/// Goes down from the assumptions. The cone is given by its variables.
+pub(crate) fn descend(
+    alloc: Global,
+    log: &Log,
+    trail: &mut Trail,
+    cone: &[u32],
+    assumptions: &[Lit],
+) -> Result<Descent, AllocError>
+    requires assumptions { IsClauseOver log.now.variables assumptions.now }
+    requires in_range { All (λ v. (1 ≤ v) × (v ≤ log.now.variables)) cone.now }
+    requires cone { (v : ℕ) → Contains cone.now v ↔ InCone (inputs_of log.now) assumptions.now v }
+    requires trail { trail.old.variables ≡ log.now.variables }
+    ensures ends { IfOk result (IsEnd log.now assumptions.now) }
+    ensures same_variables { trail.new.variables ≡ trail.old.variables }
+{
+    cone_is_closed();
+    let mut start = Vec::from_slice(alloc, assumptions)?;
+    loop {
+        if let Some(end) = step(alloc, log, trail, cone, assumptions, &mut start)? {
+            return Ok(end);
+        }
+    }
+}
+
+/// Propagates from the assumptions and the decisions. Without an end the first unset variable of the cone is decided
+/// false, as one more literal of the start.
+fn step(
+    alloc: Global,
+    log: &Log,
+    trail: &mut Trail,
+    cone: &[u32],
+    assumptions: &[Lit],
+    start: &mut Vec<Lit>,
+) -> Result<Option<Descent>, AllocError>
+    requires in_range { All (λ v. (1 ≤ v) × (v ≤ log.now.variables)) cone.now }
+    requires cone { (v : ℕ) → Contains cone.now v ↔ InCone (inputs_of log.now) assumptions.now v }
+    requires trail { trail.old.variables ≡ log.now.variables }
+    requires decided { IsDecided log.now assumptions.now start.old.items }
+    ensures ends { IfOk result (GoesOn log.now assumptions.now start.old.items start.new.items) }
+    ensures same_variables { trail.new.variables ≡ trail.old.variables }
+{
+    if let Some(hints) = trail.propagate_from(alloc, log, start)? {
+        return Ok(Some(conclude(alloc, start, assumptions.len(), hints)?));
+    }
+    match trail.next_decision(cone) {
+        Some(decision) => {
+            start.push(decision)?;
+            Ok(None)
+        }
+        None => Ok(Some(Descent::Model(trail.values(alloc, log.variables(), cone)?))),
+    }
+}
+
+/// What follows where a start ends in a false clause: a refutation if it has no decisions, else the clause of its negated
+/// literals, the last one first.
+fn conclude(
+    alloc: Global,
+    start: &[Lit],
+    assumptions: usize,
+    hints: Hints,
+) -> Result<Descent, AllocError>
+    ensures { (log : ClauseLog) (assumed : List Literal) → length assumed ≡ assumptions
+        → IsDecided log assumed start.now → EndsFalse log.clauses start.now hints
+        → IsShort log.variables hints → IfOk result (IsEnd log assumed) }
+{
+    unit_steps_are_hints();
+    settled_literals_make_new();
+    if start.len() == assumptions {
+        return Ok(Descent::Refutation(hints));
+    }
+    let clause = start.iter().rev().map(|l| l.negated()).collect(alloc)?;
+    Ok(Descent::Lesson(clause, hints))
+}
+
+impl Trail {
+    /// The first variable of the cone that has no value, made false.
+    fn next_decision(&self, cone: &[u32]) -> Option<Lit>
+        requires { All (λ v. (1 ≤ v) × (v ≤ self.now.variables)) cone.now }
+        ensures { MatchOption result (All (IsSet self.now.literals) cone.now)
+            (IsNextDecision self.now.literals cone.now) }
+    {
+        for variable in cone {
+            if self.value(*variable).is_none() {
+                return Some(Lit::new(*variable, false));
+            }
+        }
+        None
+    }
+
+    /// The values of the cone's variables; every other variable is false.
+    fn values(&self, alloc: Global, variables: u32, cone: &[u32]) -> Result<Assignment, AllocError>
+        requires variables { variables ≡ self.now.variables }
+        requires in_range { All (λ v. (1 ≤ v) × (v ≤ self.now.variables)) cone.now }
+        ensures length { IfOk result (λ values. length values ≡ self.now.variables) }
+        ensures values { IfOk result (AreValues self.now.literals cone.now) }
+    {
+        let mut values = Assignment::new(alloc, variables)?;
+        for variable in cone {
+            if self.value(*variable) == Some(true) {
+                values.set(*variable, true);
+            }
+        }
+        Ok(values)
+    }
+}
