@@ -1,0 +1,3 @@
+pub mod StartLemmas
+pub mod SweepLemmas
+pub mod ValueLemmas

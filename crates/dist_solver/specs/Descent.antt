@@ -34,7 +34,7 @@ pub record IsDecided (log : ClauseLog) (assumptions start : List Literal) : Type
 
 -- values in which the true literals of the cone's variables are true, and every variable outside the cone is false
 pub record AreValues (trues : List Literal) (cone : List ℕ) (values : List Bool) : Type 0 where
-  pub true_ones : (variable : ℕ) → Contains cone variable → Contains trues (literal variable true) → value_of values variable ≡ true
+  pub true_ones : (variable : ℕ) → 1 ≤ variable → Contains cone variable → Contains trues (literal variable true) → value_of values variable ≡ true
   pub false_ones : (variable : ℕ) → 1 ≤ variable → Contains trues (literal variable false) → value_of values variable ≡ false
   pub outside : (variable : ℕ) → 1 ≤ variable → (¬ Contains cone variable) → value_of values variable ≡ false
 

@@ -127,9 +127,8 @@ impl Trail {
     {
         let mut values = Assignment::new(alloc, variables)?;
         for variable in cone {
-            if self.value(*variable) == Some(true) {
-                values.set(*variable, true);
-            }
+            let value = self.value(*variable).unwrap_or(false);
+            values.set(*variable, value);
         }
         Ok(values)
     }

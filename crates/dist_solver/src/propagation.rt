@@ -90,10 +90,13 @@ impl Trail {
         ensures visits { IfOk result (Visits log.now.clauses self.old self.new number) }
         ensures same_variables { self.new.variables ≡ self.old.variables }
     {
-        let outcome = self.outcome(log.clause(number));
-        if let Outcome::Unit(literal) = outcome {
-            self.imply(literal, number)?;
+        match self.outcome(log.clause(number)) {
+            Outcome::Conflict => Ok(Outcome::Conflict),
+            Outcome::Unit(literal) => {
+                self.imply(literal, number)?;
+                Ok(Outcome::Unit(literal))
+            }
+            Outcome::Open => Ok(Outcome::Open),
         }
-        Ok(outcome)
     }
 }

@@ -96,11 +96,12 @@ impl Trail {
         ensures consistent { IsConsistent self.now.literals }
         ensures stated { self.now.variables ≤ MAX_VARIABLES }
     {
+        let trues = &self.trues;
         let literal = Lit::new(variable, true);
-        if self.trues.is_unset(literal) {
+        if trues.is_unset(literal) {
             return None;
         }
-        match self.trues.status(literal) {
+        match trues.status(literal) {
             Truth::True => Some(true),
             Truth::False => Some(false),
             Truth::Unset => None,
