@@ -1,3 +1,6 @@
 pub mod StartLemmas
 pub mod SweepLemmas
 pub mod ValueLemmas
+pub mod LessonLemmas
+pub mod DecisionLemmas
+pub mod ModelLemmas

@@ -3,6 +3,8 @@
 ghost use Rattle.std.specs.Prelude.{◌≡◌, ◌<◌, ◌≤◌, ◌↔◌, ℕ, List, length, map, reverse, All, Contains, IfOk, IfSome, IfNone, MatchOption};
 ghost use Rattle.dist_clause.specs.Formula.{literal, negation, IsClauseOver, Literal};
 ghost use Rattle.dist_derive.specs.ClauseLog.{ClauseLog, inputs_of};
+ghost use Rattle.dist_derive.specs.Containment.{ContainsAll};
+ghost use Rattle.dist_derive.specs.Sweep.{AllOpen};
 ghost use Rattle.dist_derive.specs.Follows.{EndsFalse};
 ghost use Rattle.dist_derive.specs.Cone.{InCone};
 ghost use Rattle.dist_solver.specs.Evidence.{IsShort};
@@ -44,6 +46,7 @@ pub(crate) fn descend(
     ensures ends { IfOk result (IsEnd log.now assumptions.now) }
     ensures same_variables { trail.new.variables ≡ trail.old.variables }
 {
+    unit_steps_are_hints();
     cone_is_closed();
     let mut start = Vec::from_slice(alloc, assumptions)?;
     loop {
@@ -53,8 +56,7 @@ pub(crate) fn descend(
     }
 }
 
-/// Propagates from the assumptions and the decisions. Without an end the first unset variable of the cone is decided
-/// false, as one more literal of the start.
+/// Propagates from the assumptions and the decisions. Without an end there is one more decision in the start.
 fn step(
     alloc: Global,
     log: &Log,
@@ -70,15 +72,9 @@ fn step(
     ensures ends { IfOk result (GoesOn log.now assumptions.now start.old.items start.new.items) }
     ensures same_variables { trail.new.variables ≡ trail.old.variables }
 {
-    if let Some(hints) = trail.propagate_from(alloc, log, start)? {
-        return Ok(Some(conclude(alloc, start, assumptions.len(), hints)?));
-    }
-    match trail.next_decision(cone) {
-        Some(decision) => {
-            start.push(decision)?;
-            Ok(None)
-        }
-        None => Ok(Some(Descent::Model(trail.values(alloc, log.variables(), cone)?))),
+    match trail.propagate_from(alloc, log, start)? {
+        Some(hints) => Ok(Some(conclude(alloc, start, assumptions.len(), hints)?)),
+        None => decide(alloc, log, trail, cone, assumptions, start),
     }
 }
 
@@ -99,8 +95,49 @@ fn conclude(
     if start.len() == assumptions {
         return Ok(Descent::Refutation(hints));
     }
-    let clause = start.iter().rev().map(|l| l.negated()).collect(alloc)?;
+    let clause = negated(alloc, start)?;
     Ok(Descent::Lesson(clause, hints))
+}
+
+/// The negated literals of a start, the last one first.
+fn negated(alloc: Global, start: &[Lit]) -> Result<Vec<Lit>, AllocError>
+    ensures { IfOk result (λ clause. clause.items ≡ map negation (reverse start.now)) }
+{
+    start.iter().rev().map(|l| l.negated()).collect(alloc)
+}
+
+/// What follows where propagation has settled all clauses: a model if all variables of the cone are set, else the first
+/// one that is unset is decided false.
+fn decide(
+    alloc: Global,
+    log: &Log,
+    trail: &Trail,
+    cone: &[u32],
+    assumptions: &[Lit],
+    start: &mut Vec<Lit>,
+) -> Result<Option<Descent>, AllocError>
+    requires in_range { All (λ v. (1 ≤ v) × (v ≤ log.now.variables)) cone.now }
+    requires cone { (v : ℕ) → Contains cone.now v ↔ InCone (inputs_of log.now) assumptions.now v }
+    requires trail { trail.now.variables ≡ log.now.variables }
+    requires decided { IsDecided log.now assumptions.now start.old.items }
+    requires started { ContainsAll trail.now.literals start.old.items }
+    requires settled { AllOpen trail.now.literals log.now.clauses }
+    ensures { IfOk result (GoesOn log.now assumptions.now start.old.items start.new.items) }
+{
+    what_settles_a_clause();
+    cone_is_closed();
+    cone_models_extend();
+    let _clauses = log.len();
+    match trail.next_decision(cone) {
+        Some(decision) => {
+            start.push(decision)?;
+            Ok(None)
+        }
+        None => {
+            let values = trail.values(alloc, log.variables(), cone)?;
+            Ok(Some(Descent::Model(values)))
+        }
+    }
 }
 
 impl Trail {
