@@ -4,3 +4,5 @@ pub mod ValueLemmas
 pub mod LessonLemmas
 pub mod DecisionLemmas
 pub mod ModelLemmas
+pub mod KeptLemmas
+pub mod EvidenceLemmas
