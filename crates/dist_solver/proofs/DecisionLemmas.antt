@@ -1,10 +1,10 @@
 -- One more decision behind a start.
-use Rattle.std.proofs.Common.{◌≡◌, ◌≢◌, ℕ, ◌+◌, ◌<◌, ◌≤◌, ◌⊎◌, ⊎_elim, inl, inr, Bool, true, false, not, List, [], ◌∷◌, ◌++◌, length, get_or, refl, ap, sym, subst, ◌∙◌, arith}
-use Rattle.std.specs.List.{All, Contains}
+use Rattle.std.proofs.Common.{◌≡◌, ◌≢◌, ◌≤◌, ◌⊎◌, ⊎_elim, inl, inr, Bool, true, false, not, List, [], ◌∷◌, ◌++◌, length, get_or, refl, ap, subst, ◌∙◌, arith}
+use Rattle.std.specs.List.{Contains}
 use Rattle.std.proofs.lemmas.List.{length_push}
-use Rattle.std.proofs.lemmas.List.Elements.{All-push, All-contains, Contains-get_or}
+use Rattle.std.proofs.lemmas.List.Elements.{All-push, All-contains}
 use Rattle.std.proofs.lemmas.List.Quantifiers.{all_pairs_push}
-use Rattle.dist_clause.specs.Formula.{Literal, literal, IsClauseOver}
+use Rattle.dist_clause.specs.Formula.{Literal, literal}
 use Rattle.dist_derive.specs.ClauseLog.{ClauseLog, inputs_of}
 use Rattle.dist_derive.specs.Containment.{ContainsAll}
 use Rattle.dist_derive.specs.Propagation.{IsUnset, IsSettled}

@@ -1,5 +1,5 @@
 -- One more line behind those that a question has added.
-use Rattle.std.proofs.Common.{◌≡◌, ℕ, ◌+◌, ◌<◌, ◌≤◌, ◌^◌, ◌↔◌, Bool, List, [], ◌∷◌, ◌++◌, length, take, refl, ap, sym, subst, ◌∙◌, append_assoc, arith, Err, Result, length-append}
+use Rattle.std.proofs.Common.{◌≡◌, ℕ, ◌+◌, ◌<◌, ◌≤◌, ◌^◌, ◌↔◌, Bool, List, [], ◌∷◌, ◌++◌, length, take, ap, sym, subst, ◌∙◌, append_assoc, arith, Err, length-append}
 use Rattle.std.specs.List.{All, Contains}
 use Rattle.std.proofs.lemmas.List.{append-nil, length_push, take-append-le}
 use Rattle.std.proofs.lemmas.List.Elements.{All-push, All-nil}
@@ -10,7 +10,7 @@ use Rattle.dist_derive.specs.Cone.{InCone}
 use Rattle.dist_derive.specs.New.{IsNew, EachIsNew}
 use Rattle.dist_solver.specs.Derived.{DerivedLine}
 use Rattle.dist_solver.specs.Evidence.{EachIsEvidence, IsShort, Adds}
-use Rattle.dist_solver.specs.Ask.{IsModelUnder, IsUndecided, HasNext, IsAnswer}
+use Rattle.dist_solver.specs.Ask.{IsModelUnder, IsUndecided, IsAnswer}
 use Rattle.dist_solver.specs.Descent.{IsLesson}
 use Rattle.dist_solver.specs.Learning.{IsRefused}
 use Rattle.dist_solver.specs.declared.answers.AskError.{AskError}

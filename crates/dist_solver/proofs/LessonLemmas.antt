@@ -2,12 +2,12 @@
 use Rattle.std.proofs.Common.{◌≡◌, ◌≢◌, ℕ, ◌-◌, ◌<◌, ◌≤◌, Bool, true, false, not, List, [], ◌∷◌, ◌++◌, length, map, reverse, get_or, take, refl, ap, sym, subst, ◌∙◌, arith}
 use Rattle.std.specs.List.{All, AllPairs, Contains}
 use Rattle.std.proofs.lemmas.List.{get_or-map, get_or-reverse, get_or_default, length-map, length-reverse, reverse-append}
-use Rattle.std.proofs.lemmas.List.Elements.{All-map, All-weaker, All-contains, All-same}
+use Rattle.std.proofs.lemmas.List.Elements.{All-map, All-weaker, All-contains}
 use Rattle.dist_clause.specs.Formula.{Literal, literal, negation, IsClauseOver}
 use Rattle.dist_derive.specs.ClauseLog.{ClauseLog, inputs_of}
 use Rattle.dist_derive.specs.Containment.{ContainsAll}
 use Rattle.dist_derive.specs.Propagation.{IsFalse, IsUnset, AllFalse, IsSettled}
-use Rattle.dist_derive.specs.Follows.{EndsFalse, Follows}
+use Rattle.dist_derive.specs.Follows.{EndsFalse}
 use Rattle.dist_derive.specs.Cone.{InCone, IsWithinCone}
 use Rattle.dist_derive.specs.New.{IsNew}
 use Rattle.dist_solver.specs.Evidence.{IsShort}

@@ -1,9 +1,8 @@
 -- A model, where all variables of the cone are set and all clauses are settled.
-use Rattle.std.proofs.Common.{◌≡◌, ℕ, zero, suc, ◌<◌, ◌≤◌, ◌⊎◌, ⊎_elim, inl, inr, Bool, true, false, List, [], ◌∷◌, length, get_or, take, refl, ap, sym, subst, ◌∙◌, arith}
+use Rattle.std.proofs.Common.{◌≡◌, ℕ, zero, suc, ◌≤◌, ◌⊎◌, ⊎_elim, inl, inr, Bool, true, false, List, [], ◌∷◌, get_or, refl, arith}
 use Rattle.std.specs.List.{All, Any, Contains}
-use Rattle.std.proofs.lemmas.List.Elements.{All-nil, All-cons, All-head, All-tail, All-contains, All-take}
+use Rattle.std.proofs.lemmas.List.Elements.{All-nil, All-cons, All-head, All-tail, All-contains}
 use Rattle.dist_clause.specs.Formula.{Literal, literal, negation, value_of, IsTrueLiteral, MakesTrue, IsClauseOver}
-use Rattle.dist_derive.specs.Containment.{ContainsAll}
 use Rattle.dist_derive.specs.Propagation.{IsFalse, AllFalse}
 use Rattle.dist_solver.specs.Trail.{IsSet}
 use Rattle.dist_solver.specs.Descent.{AreValues}

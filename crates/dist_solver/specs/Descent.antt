@@ -1,5 +1,5 @@
 -- How the search goes down by decisions, and how it ends.
-use Rattle.std.specs.Prelude.{◌≡◌, ◌<◌, ◌≤◌, ◌⊎◌, ℕ, Bool, true, false, List, [], ◌∷◌, ◌++◌, length, map, Contains, Option, Some, None}
+use Rattle.std.specs.Prelude.{◌≡◌, ◌<◌, ◌≤◌, ◌⊎◌, ℕ, Bool, true, false, List, [], ◌∷◌, ◌++◌, length, Contains, Option, Some, None}
 use Rattle.dist_clause.specs.Formula.{Literal, literal, value_of, IsClauseOver}
 use Rattle.dist_derive.specs.ClauseLog.{ClauseLog, inputs_of}
 use Rattle.dist_derive.specs.Containment.{ContainsAll}

@@ -129,7 +129,7 @@ fn search(
     ensures same_variables { trail.new.variables ≡ trail.old.variables }
 {
     new_lines_are_few();
-    let _inputs = log.inputs();
+    let _clauses = log.len();
     for _ in 0..limit {
         match descend(alloc, log, trail, cone, assumptions)? {
             Descent::Model(values) => return Ok(Answer::Found(values)),

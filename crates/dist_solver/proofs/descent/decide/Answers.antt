@@ -1,8 +1,8 @@
-use Rattle.std.proofs.Common.{◌≡◌, ◌<◌, ◌≤◌, List, length, get_or, take, ap, sym, subst, ◌∙◌, arith, ◌++◌, ◌∷◌, []}
-use Rattle.std.specs.List.{All, Contains}
+use Rattle.std.proofs.Common.{◌≤◌, length, get_or, ap, sym, subst, ◌∙◌, arith}
+use Rattle.std.specs.List.{Contains}
 use Rattle.std.proofs.lemmas.List.{length_push}
 use Rattle.std.proofs.lemmas.List.Elements.{All-weaker, All-contains, All-take}
-use Rattle.dist_clause.specs.Formula.{Literal, IsClauseOver, value_of}
+use Rattle.dist_clause.specs.Formula.{IsClauseOver, value_of}
 use Rattle.dist_derive.specs.ClauseLog.{inputs_of}
 use Rattle.dist_derive.specs.Propagation.{AllFalse, IsPropagated, IsSettled}
 use Rattle.dist_derive.specs.TrueLiterals.{HasOutcome}

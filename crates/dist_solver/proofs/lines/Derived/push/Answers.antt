@@ -1,4 +1,4 @@
-use Rattle.std.proofs.Common.{◌≡◌, [], ◌∷◌, ◌++◌, ℕ, List, ap, sym, ◌∙◌}
+use Rattle.std.proofs.Common.{[], ◌∷◌, ◌++◌, ap, sym, ◌∙◌}
 use Rattle.dist_solver.specs.Kept.{lines_kept}
 use Rattle.dist_solver.specs.declared.lines.Line.{Line}
 use Rattle.dist_solver.proofs.KeptLemmas.{kept_under, kept_more, whatever_err}

@@ -1,9 +1,8 @@
-use Rattle.std.proofs.Common.{◌≡◌, ◌≤◌, ◌-◌, Bool, true, false, List, ◌∷◌, [], ◌++◌, length, take, get_or, set, sym, subst, ap, ◌∙◌, arith, length-set}
+use Rattle.std.proofs.Common.{◌≡◌, ◌≤◌, ◌-◌, false, ◌∷◌, [], ◌++◌, length, take, get_or, set, sym, subst, ap, ◌∙◌, arith, length-set}
 use Rattle.std.specs.Option.{unwrap_or}
 use Rattle.std.proofs.lemmas.List.{take_more, take_all}
 use Rattle.std.proofs.lemmas.List.Elements.{All-get_or}
-use Rattle.dist_solver.specs.Descent.{AreValues}
-use Rattle.dist_solver.proofs.ValueLemmas.{ValuesSoFar, values_none, values_more, values_all}
+use Rattle.dist_solver.proofs.ValueLemmas.{ValuesSoFar, values_more, values_all}
 use Rattle.dist_solver.proofs.trail.Trail.values.Goals as goal
 
 pub loop-variable-preserved : goal.loop-variable-preserved

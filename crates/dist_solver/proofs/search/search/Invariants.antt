@@ -1,0 +1,10 @@
+use Rattle.std.proofs.Common.{◌≡◌, ◌+◌, length}
+use Rattle.dist_solver.specs.Evidence.{Adds}
+use Rattle.dist_solver.proofs.search.search.Given as goal
+
+abbrev pub invariant-loop : goal.invariant-loop
+invariant-loop l = record {
+  adds : Adds l.initial.log l.log l.derived l.assumptions l.counter;
+  exact : length l.log.clauses ≡ length l.initial.log.clauses + l.counter;
+  variables : l.trail.variables ≡ l.initial.log.variables;
+}
