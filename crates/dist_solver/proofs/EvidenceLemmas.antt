@@ -1,30 +1,16 @@
 -- One more line behind those that a question has added.
-use Rattle.std.proofs.Common.{◌≡◌, ℕ, ◌+◌, ◌<◌, ◌≤◌, ◌^◌, ◌↔◌, Bool, List, [], ◌∷◌, ◌++◌, length, take, ap, sym, subst, ◌∙◌, append_assoc, arith, Err, length-append}
-use Rattle.std.specs.List.{All, Contains}
+use Rattle.std.proofs.Common.{◌≡◌, ℕ, ◌+◌, ◌≤◌, Bool, List, [], ◌∷◌, ◌++◌, length, ap, sym, subst, ◌∙◌, append_assoc, arith}
+use Rattle.std.specs.List.{All}
 use Rattle.std.proofs.lemmas.List.{append-nil, length_push, take-append-le}
-use Rattle.std.proofs.lemmas.List.Elements.{All-push, All-nil}
+use Rattle.std.proofs.lemmas.List.Elements.{All-push}
 use Rattle.dist_clause.specs.Formula.{Literal, value_of, IsModel}
 use Rattle.dist_derive.specs.ClauseLog.{ClauseLog, inputs_of}
 use Rattle.dist_derive.specs.Follows.{Follows}
-use Rattle.dist_derive.specs.Cone.{InCone}
 use Rattle.dist_derive.specs.New.{IsNew, EachIsNew}
 use Rattle.dist_solver.specs.Derived.{DerivedLine}
 use Rattle.dist_solver.specs.Evidence.{EachIsEvidence, IsShort, Adds}
-use Rattle.dist_solver.specs.Ask.{IsModelUnder, IsUndecided, IsAnswer}
+use Rattle.dist_solver.specs.Ask.{IsModelUnder}
 use Rattle.dist_solver.specs.Descent.{IsLesson}
-use Rattle.dist_solver.specs.Learning.{IsRefused}
-use Rattle.dist_solver.specs.declared.answers.AskError.{AskError}
-use Rattle.dist_solver.specs.declared.answers.AskError.TheVariants.{TooManyLines, TooManyLiterals, NoMemory}
-
-pub adds_none : (old : ClauseLog) (assumptions : List Literal) → Adds old old [] assumptions 0
-adds_none old assumptions = record {
-  lines = [];
-  log = ap (λ cs. record old { clauses = cs }) (sym (append-nil old.clauses));
-  follow = tt;
-  are_new = tt;
-  short = All-nil (λ d. IsShort old.variables d.hints);
-  few = omega arith;
-}
 
 evidence_more : (clauses lines : List (List Literal)) (derived : List DerivedLine) (clause : List Literal) (d : DerivedLine) → EachIsEvidence clauses lines derived
     → d.line ≡ length (clauses ++ lines) + 1 → Follows (clauses ++ lines) clause d.hints → EachIsEvidence clauses (lines ++ clause ∷ []) (derived ++ d ∷ [])
@@ -61,13 +47,10 @@ module _ (old new : ClauseLog) (derived : List DerivedLine) (assumptions : List 
     few = omega (arith, adds.few, length_push adds.lines clause);
   }
 
-  pub adds_within : (limit : ℕ) → count ≤ limit → Adds old new derived assumptions limit
-  adds_within limit within = record { lines = adds.lines; log = adds.log; follow = adds.follow; are_new = adds.are_new; short = adds.short; few = omega (arith, adds.few, within) }
-
   pub inputs_same : old.inputs ≤ length old.clauses → inputs_of new ≡ inputs_of old
   inputs_same within = ap inputs_of adds.log ∙ take-append-le old.inputs old.clauses adds.lines within
 
-  pub variables_same : new.variables ≡ old.variables
+  variables_same : new.variables ≡ old.variables
   variables_same = ap (λ (l : ClauseLog). l.variables) adds.log
 
   pub model_of_old : (values : List Bool) → old.inputs ≤ length old.clauses → IsModelUnder new assumptions values → IsModelUnder old assumptions values
@@ -76,19 +59,3 @@ module _ (old new : ClauseLog) (derived : List DerivedLine) (assumptions : List 
     model = subst (λ cs. IsModel (value_of values) cs) (inputs_same within) m.model;
     assumed = m.assumed;
   }
-
-  pub undecided : (limit : ℕ) → length new.clauses ≡ length old.clauses + limit
-      → ((cone : List ℕ) → ((v : ℕ) → Contains cone v ↔ InCone (take old.inputs old.clauses) assumptions v) → EachIsNew old.clauses old.inputs assumptions adds.lines → length adds.lines ≤ 3 ^ length cone)
-      → IsUndecided old new assumptions limit
-  undecided limit exact few = record {
-    lines = exact;
-    limit_small = λ cone is_cone.
-        let lines : length adds.lines ≡ limit = omega (arith, exact, ap (λ (l : ClauseLog). length l.clauses) adds.log, length-append old.clauses adds.lines) in
-        subst (λ n. n ≤ 3 ^ length cone) lines (few cone is_cone adds.are_new);
-  }
-
-pub refused : (old new : ClauseLog) (assumptions : List Literal) (limit : ℕ) (clause : List Literal) (hints : List ℕ) (cause : AskError) → IsLesson new assumptions clause hints
-    → length new.clauses < length old.clauses + limit → IsRefused new clause cause → IsAnswer old new assumptions limit (Err cause)
-refused old new assumptions limit clause hints TooManyLines lesson left why = (clause, record { hints = hints; follows = lesson.follows; is_new = lesson.is_new; lines_left = left }, why)
-refused old new assumptions limit clause hints TooManyLiterals lesson left why = (clause, record { hints = hints; follows = lesson.follows; is_new = lesson.is_new; lines_left = left }, why.0, why.1)
-refused old new assumptions limit clause hints NoMemory lesson left why = tt

@@ -1,6 +1,6 @@
 -- What each answer to a question means. `old` is the log before the question, and `new` the log after it.
 use Rattle.std.specs.Prelude.{◌≡◌, ℕ, ◌+◌, ◌^◌, ◌<◌, ◌≤◌, ◌↔◌, Bool, List, length, map, All, Contains, Result, Ok, Err}
-use Rattle.dist_clause.specs.Formula.{Literal, negation, value_of, IsTrueLiteral, IsModel}
+use Rattle.dist_clause.specs.Formula.{Literal, negation, value_of, IsTrueLiteral, IsModel, IsClauseOver}
 use Rattle.dist_clause.specs.ClauseList.{literal_count}
 use Rattle.dist_derive.specs.ClauseLog.{ClauseLog, inputs_of, lines_of}
 use Rattle.dist_derive.specs.Follows.{Follows}
@@ -29,8 +29,9 @@ pub record IsUndecided (old new : ClauseLog) (assumptions : List Literal) (limit
   pub lines : length new.clauses ≡ length old.clauses + limit
   pub limit_small : (cone : List ℕ) → ((v : ℕ) → Contains cone v ↔ InCone (inputs_of old) assumptions v) → limit ≤ 3 ^ length cone
 
--- A clause that follows and is new, which the question had still lines for.
+-- A clause that follows by some hints and is new, and for which the question had lines left.
 pub record HasNext (old new : ClauseLog) (assumptions : List Literal) (limit : ℕ) (clause : List Literal) : Type 0 where
+  pub over : IsClauseOver new.variables clause
   pub hints : List ℕ
   pub follows : Follows new.clauses clause hints
   pub is_new : IsNew new.clauses new.inputs assumptions clause

@@ -1,1 +1,1 @@
--- Worked examples of what a question adds.
+-- Worked examples of what a question adds and of a refutation.
