@@ -1,10 +1,10 @@
 //! Questions at worked rows and limits, and small clause sets compared with trying all assignments.
 
-ghost use Rattle.std.specs.Prelude.{◌≡◌, ◌≢◌, ◌≤◌, All, IfOk, OnOk, IsTrue};
+ghost use Rattle.std.specs.Prelude.{◌≡◌, ◌≢◌, ◌≤◌, All, length, IfOk, OnOk, IsTrue};
 ghost use Rattle.dist_clause.specs.Formula.{IsClauseOver};
 
 use crate::{Answer, AskError, Solver};
-use dist_clause::{Assignment, ClauseSet, Lit, PushError};
+use dist_clause::{Assignment, ClauseSet, Lit};
 use dist_derive::Scratch;
 use std::alloc::Global;
 use std::test::Fail;
@@ -102,6 +102,30 @@ const FOUR: Puzzle<'static> = Puzzle {
     groups: &[],
 };
 
+/// One variable leads to the next, and the last excludes the first.
+const CHAIN: Puzzle<'static> = Puzzle {
+    clauses: &[&[-1, 2], &[-2, 3], &[-3, -1]],
+    groups: &[],
+};
+
+/// An odd number of three variables is true.
+const ODD: Puzzle<'static> = Puzzle {
+    clauses: &[&[1, 2, 3], &[1, -2, -3], &[-1, 2, -3], &[-1, -2, 3]],
+    groups: &[],
+};
+
+/// Exactly one of three variables is true.
+const ONE: Puzzle<'static> = Puzzle {
+    clauses: &[&[1, 2, 3]],
+    groups: &[&[1, 2, 3]],
+};
+
+/// No clause at all.
+const NONE: Puzzle<'static> = Puzzle {
+    clauses: &[],
+    groups: &[],
+};
+
 /// Four pigeons, each in one of three holes, no two in one.
 const PIGEONS: Puzzle<'static> = Puzzle {
     clauses: &[&[1, 5, 9], &[2, 6, 10], &[3, 7, 11], &[4, 8, 12]],
@@ -194,6 +218,79 @@ fn asked(
     let answer = solver.ask(&assumed, limit);
     let word = word_of(alloc, &solver, &assumed, &answer)?;
     Ok((word, solver.derived().len()))
+}
+
+/// Whether one of the assignments of the first three variables is a model in which the literals are true.
+fn is_possible(alloc: Global, clauses: &ClauseSet, literals: &[Lit]) -> Result<bool, Fail>
+    requires clauses { clauses.now.variables ≡ 21 }
+    requires literals { IsClauseOver 21 literals.now }
+{
+    let mut values = Assignment::new(alloc, 21)?;
+    for bits in 0..8u32 {
+        values.set(1, bits & 1 != 0);
+        values.set(2, bits & 2 != 0);
+        values.set(3, bits & 4 != 0);
+        if values.holds(clauses) && are_true(&values, literals) {
+            return Ok(true);
+        }
+    }
+    Ok(false)
+}
+
+/// Whether all literals are true.
+fn are_true(values: &Assignment, literals: &[Lit]) -> bool
+    requires values { length values.now ≡ 21 }
+    requires literals { IsClauseOver 21 literals.now }
+{
+    literals
+        .iter()
+        .all(|l| values.value(l.variable()) == l.positive())
+}
+
+/// Whether the answer under assumptions is what trying all assignments gives.
+fn agrees(
+    alloc: Global,
+    puzzle: &Puzzle<'_>,
+    solver: &mut Solver,
+    numbers: &[i32],
+) -> Result<bool, Fail>
+    requires { solver.old.log.variables ≡ 21 }
+    ensures { solver.new.log.variables ≡ 21 }
+{
+    let clauses = set_of(alloc, puzzle.clauses, puzzle.groups)?;
+    let assumptions = clause(alloc, numbers)?;
+    let possible = is_possible(alloc, &clauses, &assumptions)?;
+    let answer = solver.ask(&assumptions, 10000);
+    if let Ok(Answer::Found(values)) = &answer {
+        return Ok(possible && values.holds(&clauses) && are_true(values, &assumptions));
+    }
+    let word = word_of(alloc, solver, &assumptions, &answer)?;
+    Ok(!possible && word == "refuted")
+}
+
+/// How many of the 27 lists of assumptions on three variables a solver answers as trying all assignments does.
+fn agreements(alloc: Global, puzzle: &Puzzle<'_>) -> Result<u32, Fail> {
+    let signs = [0, 1, -1i32];
+    let mut solver = solver_of(alloc, puzzle, 1000, 10000)?;
+    let mut count = 0u32;
+    for code in 0..27usize {
+        let first = signs[code % 3];
+        let second = signs[code / 3 % 3].wrapping_mul(2);
+        let third = signs[code / 9 % 3].wrapping_mul(3);
+        if agrees(alloc, puzzle, &mut solver, &[first, second, third])? {
+            count = count.saturating_add(1);
+        }
+    }
+    Ok(count)
+}
+
+#[test]
+fn small_sets_are_answered_as_by_trying_all(rt: HostRuntime) -> Result<(), Fail> {
+    let alloc = rt.alloc();
+    for puzzle in [&CONFLICT, &FOUR, &CHAIN, &ODD, &ONE, &NONE] {
+        assert_eq!(rt; agreements(alloc, puzzle)?, 27);
+    }
+    Ok(())
 }
 
 #[test]
