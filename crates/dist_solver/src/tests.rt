@@ -84,108 +84,125 @@ fn exclude(alloc: Global, set: &mut ClauseSet, number: i32, others: &[i32]) -> R
     Ok(())
 }
 
-/// Clauses, and groups of which at most one is true.
-struct Puzzle<'a> {
-    clauses: &'a [&'a [i32]],
-    groups: &'a [&'a [i32]],
+/// Sets of clauses that the tests ask about.
+#[derive(Clone, Copy, Debug)]
+enum Puzzle {
+    /// One conflict with the first variable.
+    Conflict,
+    /// All four clauses over two variables.
+    Four,
+    /// One variable leads to the next, and the last excludes the first.
+    Chain,
+    /// An odd number of three variables is true.
+    Odd,
+    /// Exactly one of three variables is true.
+    One,
+    /// No clause at all.
+    Nothing,
+    /// Four pigeons, each in one of three holes, no two in one.
+    Pigeons,
+    /// A package, variable 21, with five dependencies, each met by one of four, of which no two of one kind stand
+    /// together.
+    Crowded,
 }
 
-/// One conflict with the first variable.
-const CONFLICT: Puzzle<'static> = Puzzle {
-    clauses: &[&[-1, 2], &[-1, -2]],
-    groups: &[],
-};
+/// The clauses of a puzzle.
+fn clauses_of(alloc: Global, puzzle: Puzzle) -> Result<ClauseSet, Fail>
+    ensures { IfOk result (λ s. s.variables ≡ 21) }
+{
+    match puzzle {
+        Puzzle::Conflict => set_of(alloc, &[&[-1, 2], &[-1, -2]], &[]),
+        Puzzle::Four => set_of(alloc, &[&[1, 2], &[1, -2], &[-1, 2], &[-1, -2]], &[]),
+        Puzzle::Chain => set_of(alloc, &[&[-1, 2], &[-2, 3], &[-3, -1]], &[]),
+        Puzzle::Odd => odd(alloc),
+        Puzzle::One => set_of(alloc, &[&[1, 2, 3]], &[&[1, 2, 3]]),
+        Puzzle::Nothing => set_of(alloc, &[], &[]),
+        Puzzle::Pigeons => pigeons(alloc),
+        Puzzle::Crowded => crowded(alloc),
+    }
+}
 
-/// All four clauses over two variables.
-const FOUR: Puzzle<'static> = Puzzle {
-    clauses: &[&[1, 2], &[1, -2], &[-1, 2], &[-1, -2]],
-    groups: &[],
-};
+/// The clauses of the odd number.
+fn odd(alloc: Global) -> Result<ClauseSet, Fail>
+    ensures { IfOk result (λ s. s.variables ≡ 21) }
+{
+    set_of(
+        alloc,
+        &[&[1, 2, 3], &[1, -2, -3], &[-1, 2, -3], &[-1, -2, 3]],
+        &[],
+    )
+}
 
-/// One variable leads to the next, and the last excludes the first.
-const CHAIN: Puzzle<'static> = Puzzle {
-    clauses: &[&[-1, 2], &[-2, 3], &[-3, -1]],
-    groups: &[],
-};
+/// The clauses of the four pigeons.
+fn pigeons(alloc: Global) -> Result<ClauseSet, Fail>
+    ensures { IfOk result (λ s. s.variables ≡ 21) }
+{
+    let places: [&[i32]; 4] = [&[1, 5, 9], &[2, 6, 10], &[3, 7, 11], &[4, 8, 12]];
+    let holes: [&[i32]; 3] = [&[1, 2, 3, 4], &[5, 6, 7, 8], &[9, 10, 11, 12]];
+    set_of(alloc, &places, &holes)
+}
 
-/// An odd number of three variables is true.
-const ODD: Puzzle<'static> = Puzzle {
-    clauses: &[&[1, 2, 3], &[1, -2, -3], &[-1, 2, -3], &[-1, -2, 3]],
-    groups: &[],
-};
-
-/// Exactly one of three variables is true.
-const ONE: Puzzle<'static> = Puzzle {
-    clauses: &[&[1, 2, 3]],
-    groups: &[&[1, 2, 3]],
-};
-
-/// No clause at all.
-const NONE: Puzzle<'static> = Puzzle {
-    clauses: &[],
-    groups: &[],
-};
-
-/// Four pigeons, each in one of three holes, no two in one.
-const PIGEONS: Puzzle<'static> = Puzzle {
-    clauses: &[&[1, 5, 9], &[2, 6, 10], &[3, 7, 11], &[4, 8, 12]],
-    groups: &[&[1, 2, 3, 4], &[5, 6, 7, 8], &[9, 10, 11, 12]],
-};
-
-/// A package, variable 21, with five dependencies, each met by one of four, of which no two of one kind stand together.
-const CROWDED: Puzzle<'static> = Puzzle {
-    clauses: &[
+/// The clauses of the package with five dependencies.
+fn crowded(alloc: Global) -> Result<ClauseSet, Fail>
+    ensures { IfOk result (λ s. s.variables ≡ 21) }
+{
+    let dependencies: [&[i32]; 5] = [
         &[-21, 1, 6, 11, 16],
         &[-21, 2, 7, 12, 17],
         &[-21, 3, 8, 13, 18],
         &[-21, 4, 9, 14, 19],
         &[-21, 5, 10, 15, 20],
-    ],
-    groups: &[
+    ];
+    let kinds: [&[i32]; 4] = [
         &[1, 2, 3, 4, 5],
         &[6, 7, 8, 9, 10],
         &[11, 12, 13, 14, 15],
         &[16, 17, 18, 19, 20],
-    ],
-};
+    ];
+    set_of(alloc, &dependencies, &kinds)
+}
 
 /// A solver of a puzzle.
-fn solver_of(alloc: Global, puzzle: &Puzzle<'_>, lines: u32, literals: u32) -> Result<Solver, Fail>
+fn solver_of(alloc: Global, puzzle: Puzzle, lines: u32, literals: u32) -> Result<Solver, Fail>
     requires lines { lines ≤ 1000 }
     requires literals { literals ≤ 10000 }
     ensures { IfOk result (λ s. s.log.variables ≡ 21) }
 {
-    let set = set_of(alloc, puzzle.clauses, puzzle.groups)?;
+    let set = clauses_of(alloc, puzzle)?;
     Ok(Solver::new(alloc, set, lines, literals)?)
 }
 
-/// A word for an answer. Hints have to refute the assumptions.
-fn word_of(
+/// What a question came to.
+#[derive(Clone, Copy, Debug, PartialEq, Eq)]
+enum Seen {
+    Found,
+    Refuted,
+    /// Hints that do not refute the assumptions.
+    NotRefuted,
+    Undecided,
+    Refused(AskError),
+}
+
+/// What an answer comes to.
+fn seen_of(
     alloc: Global,
     solver: &Solver,
     assumptions: &[Lit],
     answer: &Result<Answer, AskError>,
-) -> Result<&'static str, Fail>
+) -> Result<Seen, Fail>
     requires variables { solver.now.log.variables ≡ 21 }
     requires assumptions { IsClauseOver 21 assumptions.now }
 {
     match answer {
-        Ok(Answer::Found(_)) => Ok("found"),
+        Ok(Answer::Found(_)) => Ok(Seen::Found),
         Ok(Answer::Refuted(hints)) => refuted(alloc, solver, assumptions, hints.as_slice()),
-        Ok(Answer::Undecided) => Ok("undecided"),
-        Err(AskError::TooManyLines) => Ok("too many lines"),
-        Err(AskError::TooManyLiterals) => Ok("too many literals"),
-        Err(AskError::NoMemory) => Ok("no memory"),
+        Ok(Answer::Undecided) => Ok(Seen::Undecided),
+        Err(error) => Ok(Seen::Refused(*error)),
     }
 }
 
-/// A word for hints.
-fn refuted(
-    alloc: Global,
-    solver: &Solver,
-    assumptions: &[Lit],
-    hints: &[u32],
-) -> Result<&'static str, Fail>
+/// Whether hints refute assumptions.
+fn refuted(alloc: Global, solver: &Solver, assumptions: &[Lit], hints: &[u32]) -> Result<Seen, Fail>
     requires variables { solver.now.log.variables ≡ 21 }
     requires assumptions { IsClauseOver 21 assumptions.now }
 {
@@ -195,29 +212,30 @@ fn refuted(
         add(&mut negated, literal.variable(), !literal.positive())?;
     }
     if solver.log().follows(&mut scratch, &negated, hints) {
-        Ok("refuted")
+        Ok(Seen::Refuted)
     } else {
-        Ok("hints that do not refute")
+        Ok(Seen::NotRefuted)
     }
 }
 
-/// The answer's word, and how many lines the question added.
+/// What a question under one assumption, or under none for 0, comes to, and how many lines it added.
 fn asked(
     alloc: Global,
-    puzzle: &Puzzle<'_>,
-    limits: (u32, u32),
-    assumptions: &[i32],
+    puzzle: Puzzle,
+    lines: u32,
+    literals: u32,
+    assumption: i32,
     limit: u32,
-) -> Result<(&'static str, usize), Fail>
-    requires lines { limits.0 ≤ 1000 }
-    requires literals { limits.1 ≤ 10000 }
-    requires limit { 1 ≤ limit }
-{
-    let mut solver = solver_of(alloc, puzzle, limits.0, limits.1)?;
-    let assumed = clause(alloc, assumptions)?;
-    let answer = solver.ask(&assumed, limit);
-    let word = word_of(alloc, &solver, &assumed, &answer)?;
-    Ok((word, solver.derived().len()))
+) -> Result<(Seen, usize), Fail> {
+    if lines > 1000 || literals > 10000 || limit == 0 {
+        Err("a limit is out of range")?
+    } else {
+        let mut solver = solver_of(alloc, puzzle, lines, literals)?;
+        let assumed = clause(alloc, &[assumption])?;
+        let answer = solver.ask(&assumed, limit);
+        let seen = seen_of(alloc, &solver, &assumed, &answer)?;
+        Ok((seen, solver.derived().len()))
+    }
 }
 
 /// Whether one of the assignments of the first three variables is a model in which the literals are true.
@@ -248,28 +266,23 @@ fn are_true(values: &Assignment, literals: &[Lit]) -> bool
 }
 
 /// Whether the answer under assumptions is what trying all assignments gives.
-fn agrees(
-    alloc: Global,
-    puzzle: &Puzzle<'_>,
-    solver: &mut Solver,
-    numbers: &[i32],
-) -> Result<bool, Fail>
+fn agrees(alloc: Global, puzzle: Puzzle, solver: &mut Solver, numbers: &[i32]) -> Result<bool, Fail>
     requires { solver.old.log.variables ≡ 21 }
     ensures { solver.new.log.variables ≡ 21 }
 {
-    let clauses = set_of(alloc, puzzle.clauses, puzzle.groups)?;
+    let clauses = clauses_of(alloc, puzzle)?;
     let assumptions = clause(alloc, numbers)?;
     let possible = is_possible(alloc, &clauses, &assumptions)?;
     let answer = solver.ask(&assumptions, 10000);
     if let Ok(Answer::Found(values)) = &answer {
         return Ok(possible && values.holds(&clauses) && are_true(values, &assumptions));
     }
-    let word = word_of(alloc, solver, &assumptions, &answer)?;
-    Ok(!possible && word == "refuted")
+    let seen = seen_of(alloc, solver, &assumptions, &answer)?;
+    Ok(!possible && seen == Seen::Refuted)
 }
 
 /// How many of the 27 lists of assumptions on three variables a solver answers as trying all assignments does.
-fn agreements(alloc: Global, puzzle: &Puzzle<'_>) -> Result<u32, Fail> {
+fn agreements(alloc: Global, puzzle: Puzzle) -> Result<u32, Fail> {
     let signs = [0, 1, -1i32];
     let mut solver = solver_of(alloc, puzzle, 1000, 10000)?;
     let mut count = 0u32;
@@ -287,7 +300,14 @@ fn agreements(alloc: Global, puzzle: &Puzzle<'_>) -> Result<u32, Fail> {
 #[test]
 fn small_sets_are_answered_as_by_trying_all(rt: HostRuntime) -> Result<(), Fail> {
     let alloc = rt.alloc();
-    for puzzle in [&CONFLICT, &FOUR, &CHAIN, &ODD, &ONE, &NONE] {
+    for puzzle in [
+        Puzzle::Conflict,
+        Puzzle::Four,
+        Puzzle::Chain,
+        Puzzle::Odd,
+        Puzzle::One,
+        Puzzle::Nothing,
+    ] {
         assert_eq!(rt; agreements(alloc, puzzle)?, 27);
     }
     Ok(())
@@ -296,34 +316,21 @@ fn small_sets_are_answered_as_by_trying_all(rt: HostRuntime) -> Result<(), Fail>
 #[test]
 fn questions_have_their_answers(rt: HostRuntime) -> Result<(), Fail> {
     let alloc = rt.alloc();
-    let ample = (1000, 10000);
-    for (puzzle, limits, assumptions, limit, word, lines) in [
-        (&CONFLICT, ample, [2].as_slice(), 1, "found", 0),
-        (&CONFLICT, ample, [1].as_slice(), 1, "refuted", 0),
-        (&CROWDED, ample, [21].as_slice(), 1, "undecided", 1),
-        (
-            &CROWDED,
-            (0, 10000),
-            [21].as_slice(),
-            1,
-            "too many lines",
-            0,
-        ),
-        (&CROWDED, (1, 0), [21].as_slice(), 1, "too many literals", 0),
-        (
-            &CROWDED,
-            (2, 10000),
-            [21].as_slice(),
-            5,
-            "too many lines",
-            2,
-        ),
-        (&PIGEONS, ample, [].as_slice(), 1, "undecided", 1),
-        (&PIGEONS, ample, [].as_slice(), 2, "undecided", 2),
+    let full = Seen::Refused(AskError::TooManyLines);
+    let long = Seen::Refused(AskError::TooManyLiterals);
+    for (puzzle, lines, literals, assumption, limit, expected, added) in [
+        (Puzzle::Conflict, 9, 99, 2, 1, Seen::Found, 0),
+        (Puzzle::Conflict, 9, 99, 1, 1, Seen::Refuted, 0),
+        (Puzzle::Crowded, 9, 99, 21, 1, Seen::Undecided, 1),
+        (Puzzle::Crowded, 0, 99, 21, 1, full, 0),
+        (Puzzle::Crowded, 1, 0, 21, 1, long, 0),
+        (Puzzle::Crowded, 2, 99, 21, 5, full, 2),
+        (Puzzle::Pigeons, 9, 99, 0, 1, Seen::Undecided, 1),
+        (Puzzle::Pigeons, 9, 99, 0, 2, Seen::Undecided, 2),
     ] {
-        let (seen, added) = asked(alloc, puzzle, limits, assumptions, limit)?;
-        assert!(rt; seen == word, "{seen} for {word} under {assumptions:?}");
-        assert_eq!(rt; added, lines);
+        let (seen, count) = asked(alloc, puzzle, lines, literals, assumption, limit)?;
+        assert_eq!(rt; seen, expected);
+        assert_eq!(rt; count, added);
     }
     Ok(())
 }
@@ -331,13 +338,13 @@ fn questions_have_their_answers(rt: HostRuntime) -> Result<(), Fail> {
 #[test]
 fn enough_lines_decide(rt: HostRuntime) -> Result<(), Fail> {
     let alloc = rt.alloc();
-    for (puzzle, assumptions, limit) in [
-        (&FOUR, [].as_slice(), 10),
-        (&PIGEONS, [].as_slice(), 10000),
-        (&CROWDED, [21].as_slice(), 10000),
+    for (puzzle, assumption, limit) in [
+        (Puzzle::Four, 0, 10),
+        (Puzzle::Pigeons, 0, 10000),
+        (Puzzle::Crowded, 21, 10000),
     ] {
-        let (seen, _) = asked(alloc, puzzle, (1000, 10000), assumptions, limit)?;
-        assert!(rt; seen == "refuted", "{seen} under {assumptions:?}");
+        let (seen, _) = asked(alloc, puzzle, 1000, 10000, assumption, limit)?;
+        assert_eq!(rt; seen, Seen::Refuted);
     }
     Ok(())
 }
@@ -345,12 +352,14 @@ fn enough_lines_decide(rt: HostRuntime) -> Result<(), Fail> {
 #[test]
 fn a_derived_line_has_its_number_and_hints(rt: HostRuntime) -> Result<(), Fail> {
     let alloc = rt.alloc();
-    let mut solver = solver_of(alloc, &FOUR, 10, 10)?;
-    assert!(rt; matches!(solver.ask(&[], 1), Ok(Answer::Undecided)));
+    let mut solver = solver_of(alloc, Puzzle::Four, 10, 10)?;
+    let _undecided = solver.ask(&[], 1)?;
     let derived = solver.derived();
     assert_eq!(rt; derived.len(), 1);
     assert_eq!(rt; derived.line(0), 5);
     assert!(rt; derived.hints(0) == [1, 2].as_slice());
-    assert!(rt; solver.log().clause(5) == clause(alloc, &[1])?.as_slice());
+    let log = solver.log();
+    assert_eq!(rt; log.len(), 5);
+    assert!(rt; log.clause(5) == clause(alloc, &[1])?.as_slice());
     Ok(())
 }
