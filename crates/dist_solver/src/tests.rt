@@ -219,6 +219,22 @@ fn refuted(alloc: Global, solver: &Solver, assumptions: &[Lit], hints: &[u32]) -
 }
 
 /// What a question under one assumption, or under none for 0, comes to, and how many lines it added.
+fn put(
+    alloc: Global,
+    solver: &mut Solver,
+    assumption: i32,
+    limit: u32,
+) -> Result<(Seen, usize), Fail>
+    requires variables { solver.old.log.variables ≡ 21 }
+    requires limit { 1 ≤ limit }
+{
+    let assumed = clause(alloc, &[assumption])?;
+    let answer = solver.ask(&assumed, limit);
+    let seen = seen_of(alloc, solver, &assumed, &answer)?;
+    Ok((seen, solver.derived().len()))
+}
+
+/// The same of a new solver with two limits.
 fn asked(
     alloc: Global,
     puzzle: Puzzle,
@@ -228,14 +244,10 @@ fn asked(
     limit: u32,
 ) -> Result<(Seen, usize), Fail> {
     if lines > 1000 || literals > 10000 || limit == 0 {
-        Err("a limit is out of range")?
-    } else {
-        let mut solver = solver_of(alloc, puzzle, lines, literals)?;
-        let assumed = clause(alloc, &[assumption])?;
-        let answer = solver.ask(&assumed, limit);
-        let seen = seen_of(alloc, &solver, &assumed, &answer)?;
-        Ok((seen, solver.derived().len()))
+        return Ok((Seen::NotRefuted, 0));
     }
+    let mut solver = solver_of(alloc, puzzle, lines, literals)?;
+    put(alloc, &mut solver, assumption, limit)
 }
 
 /// Whether one of the assignments of the first three variables is a model in which the literals are true.
@@ -353,7 +365,8 @@ fn enough_lines_decide(rt: HostRuntime) -> Result<(), Fail> {
 fn a_derived_line_has_its_number_and_hints(rt: HostRuntime) -> Result<(), Fail> {
     let alloc = rt.alloc();
     let mut solver = solver_of(alloc, Puzzle::Four, 10, 10)?;
-    let _undecided = solver.ask(&[], 1)?;
+    let (seen, _) = put(alloc, &mut solver, 0, 1)?;
+    assert_eq!(rt; seen, Seen::Undecided);
     let derived = solver.derived();
     assert_eq!(rt; derived.len(), 1);
     assert_eq!(rt; derived.line(0), 5);
