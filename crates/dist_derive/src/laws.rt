@@ -10,10 +10,14 @@ ghost use Rattle.dist_derive.specs.Follows.{IsNumberOf, EndsFalse, Follows, Step
 ghost use Rattle.dist_derive.specs.Cone.{InCone, IsWithinCone};
 ghost use Rattle.dist_derive.specs.New.{IsNew, EachIsNew};
 
-/// Where each derived line follows from the clauses before it, every model of the input clauses is one of all clauses.
+/// Where each derived line follows from the clauses before it, every model of the input clauses is one of all clauses, and
+/// makes true whatever follows from them.
 pub fn lines_keep_models()
-    ensures { (inputs : ℕ) (clauses : List (List Literal)) (value : ℕ → Bool) → EachLineFollows inputs clauses
+    ensures all { (inputs : ℕ) (clauses : List (List Literal)) (value : ℕ → Bool) → EachLineFollows inputs clauses
         → IsModel value (take inputs clauses) → IsModel value clauses }
+    ensures what_follows { (inputs : ℕ) (clauses : List (List Literal)) (clause : List Literal) (hints : List ℕ)
+        (value : ℕ → Bool) → EachLineFollows inputs clauses → Follows clauses clause hints
+        → IsModel value (take inputs clauses) → MakesTrue value clause }
 {}
 
 /// What follows still does when clauses are added behind, and a log in which every line follows keeps that with a line

@@ -1,13 +1,14 @@
 -- The clause of the negated literals of a start, the last one first.
 use Rattle.std.proofs.Common.{◌≡◌, ◌≢◌, ℕ, ◌-◌, ◌<◌, ◌≤◌, Bool, true, false, not, List, [], ◌∷◌, ◌++◌, length, map, reverse, get_or, take, refl, ap, sym, subst, ◌∙◌, arith}
 use Rattle.std.specs.List.{All, AllPairs, Contains}
+use Rattle.std.proofs.lemmas.Bool.{false≢true}
 use Rattle.std.proofs.lemmas.List.{get_or-map, get_or-reverse, get_or_default, length-map, length-reverse, reverse-append}
 use Rattle.std.proofs.lemmas.List.Elements.{All-map, All-weaker, All-contains}
-use Rattle.dist_clause.specs.Formula.{Literal, literal, negation, IsClauseOver}
+use Rattle.dist_clause.specs.Formula.{Literal, literal, negation, IsClauseOver, IsTrueLiteral, MakesTrue, IsModel}
 use Rattle.dist_derive.specs.ClauseLog.{ClauseLog, inputs_of}
 use Rattle.dist_derive.specs.Containment.{ContainsAll}
 use Rattle.dist_derive.specs.Propagation.{IsFalse, IsUnset, AllFalse, IsSettled}
-use Rattle.dist_derive.specs.Follows.{EndsFalse}
+use Rattle.dist_derive.specs.Follows.{EndsFalse, Follows}
 use Rattle.dist_derive.specs.Cone.{InCone, IsWithinCone}
 use Rattle.dist_derive.specs.New.{IsNew}
 use Rattle.dist_solver.specs.Evidence.{IsShort}
@@ -83,12 +84,27 @@ denied trues front kept =
 unset_negation : (trues : List Literal) (l : Literal) → IsUnset trues l → IsUnset trues (negation l)
 unset_negation trues l unset = (unset.1, λ here. unset.0 (subst (λ m. Contains trues m) (negation_twice l) here))
 
+-- where all literals are true, no negated one is
+denial_not_true : (value : ℕ → Bool) (clause : List Literal) → All (IsTrueLiteral value) clause → ¬ MakesTrue value (map negation clause)
+denial_not_true value clause all made =
+    let inside : made.0 < length clause = omega (arith, made.2, length-map clause negation) in
+    let l = get_or clause made.0 made.1 in
+    let is : negation l ≡ made.1 = sym (get_or-map negation clause made.0 made.1 made.1 inside) ∙ made.3 in
+    not_itself l.positive (sym (subst (λ m. IsTrueLiteral value m) (sym is) made.4) ∙ all made.0 made.1 inside)
+  where
+    not_itself : (b : Bool) → not b ≡ b → ⊥
+    not_itself true e = false≢true e
+    not_itself false e = false≢true (sym e)
+
 module _ (log : ClauseLog) (assumed start : List Literal) (hints : List ℕ) (decided : IsDecided log assumed start) (ends : EndsFalse log.clauses start hints) (short : IsShort log.variables hints) where
-  pub refutation : start ≡ assumed → IsRefutation log assumed hints
-  refutation same = record {
-    follows = subst (λ ts. EndsFalse log.clauses ts hints) (same ∙ sym (all_twice assumed)) ends;
-    short = short;
-  }
+  pub refutation : start ≡ assumed → ((clause : List Literal) (value : ℕ → Bool) → Follows log.clauses clause hints → IsModel value (inputs_of log) → MakesTrue value clause) → IsRefutation log assumed hints
+  refutation same sound =
+      let follows : Follows log.clauses (map negation assumed) hints = subst (λ ts. EndsFalse log.clauses ts hints) (same ∙ sym (all_twice assumed)) ends in
+      record {
+        follows = follows;
+        short = short;
+        no_model = λ value model all. denial_not_true value assumed all (sound (map negation assumed) value follows model);
+      }
 
   pub lesson : (clause : List Literal) → clause ≡ denial start → IsDecision log.clauses assumed start
       → ((trues other : List Literal) → ContainsAll trues other → ContainsAll other trues → EndsFalse log.clauses trues hints → EndsFalse log.clauses other hints)

@@ -18,10 +18,12 @@ pub record IsModelUnder (log : ClauseLog) (assumptions : List Literal) (values :
   pub model : IsModel (value_of values) (inputs_of log)
   pub assumed : All (IsTrueLiteral (value_of values)) assumptions
 
--- Refuted: the clause of the negated assumptions follows from the log by the hints.
+-- Refuted: the clause of the negated assumptions follows from the log by the hints, so that no model of the input clauses
+-- makes the assumptions true.
 pub record IsRefutation (log : ClauseLog) (assumptions : List Literal) (hints : List ℕ) : Type 0 where
   pub follows : Follows log.clauses (map negation assumptions) hints
   pub short : IsShort log.variables hints
+  pub no_model : (value : ℕ → Bool) → IsModel value (inputs_of log) → ¬ All (IsTrueLiteral value) assumptions
 
 -- Undecided: the question added exactly `limit` lines. Such a limit is at most 3 to the power of the number of the
 -- cone's variables; the cone is given by a list of them.

@@ -5,7 +5,7 @@ ghost use Rattle.dist_clause.specs.Formula.{literal, negation, IsClauseOver, Lit
 ghost use Rattle.dist_derive.specs.ClauseLog.{ClauseLog, inputs_of};
 ghost use Rattle.dist_derive.specs.Containment.{ContainsAll};
 ghost use Rattle.dist_derive.specs.Sweep.{AllOpen};
-ghost use Rattle.dist_derive.specs.Follows.{EndsFalse};
+ghost use Rattle.dist_derive.specs.Follows.{EndsFalse, EachLineFollows};
 ghost use Rattle.dist_derive.specs.Cone.{InCone};
 ghost use Rattle.dist_solver.specs.Evidence.{IsShort};
 ghost use Rattle.dist_solver.specs.Trail.{IsSet, IsNextDecision};
@@ -15,8 +15,8 @@ use crate::answers::Hints;
 use crate::trail::Trail;
 use dist_clause::{Assignment, Lit};
 use dist_derive::{
-    Log, cone_is_closed, cone_models_extend, settled_literals_make_new, unit_steps_are_hints,
-    what_settles_a_clause,
+    Log, cone_is_closed, cone_models_extend, lines_keep_models, settled_literals_make_new,
+    unit_steps_are_hints, what_settles_a_clause,
 };
 use std::alloc::{AllocError, Global};
 
@@ -43,6 +43,7 @@ pub(crate) fn descend(
     requires in_range { All (λ v. (1 ≤ v) × (v ≤ log.now.variables)) cone.now }
     requires cone { (v : ℕ) → Contains cone.now v ↔ InCone (inputs_of log.now) assumptions.now v }
     requires trail { trail.old.variables ≡ log.now.variables }
+    requires lines_follow { EachLineFollows log.now.inputs log.now.clauses }
     ensures ends { IfOk result (IsEnd log.now assumptions.now) }
     ensures same_variables { trail.new.variables ≡ trail.old.variables }
 {
@@ -68,6 +69,7 @@ fn step(
     requires in_range { All (λ v. (1 ≤ v) × (v ≤ log.now.variables)) cone.now }
     requires cone { (v : ℕ) → Contains cone.now v ↔ InCone (inputs_of log.now) assumptions.now v }
     requires trail { trail.old.variables ≡ log.now.variables }
+    requires lines_follow { EachLineFollows log.now.inputs log.now.clauses }
     requires decided { IsDecided log.now assumptions.now start.old.items }
     ensures ends { IfOk result (GoesOn log.now assumptions.now start.old.items start.new.items) }
     ensures same_variables { trail.new.variables ≡ trail.old.variables }
@@ -87,11 +89,12 @@ fn conclude(
     hints: Hints,
 ) -> Result<Descent, AllocError>
     ensures { (log : ClauseLog) (assumed : List Literal) → length assumed ≡ assumptions
-        → IsDecided log assumed start.now → EndsFalse log.clauses start.now hints
+        → EachLineFollows log.inputs log.clauses → IsDecided log assumed start.now → EndsFalse log.clauses start.now hints
         → IsShort log.variables hints → IfOk result (IsEnd log assumed) }
 {
     unit_steps_are_hints();
     settled_literals_make_new();
+    lines_keep_models();
     if start.len() == assumptions {
         return Ok(Descent::Refutation(hints));
     }

@@ -3,6 +3,7 @@
 ghost use Rattle.std.specs.Prelude.{◌≡◌, ◌<◌, ◌≤◌, ◌↔◌, ℕ, [], length, All, Contains, IfOk};
 ghost use Rattle.dist_clause.specs.Formula.{IsClauseOver};
 ghost use Rattle.dist_derive.specs.ClauseLog.{inputs_of};
+ghost use Rattle.dist_derive.specs.Follows.{EachLineFollows};
 ghost use Rattle.dist_derive.specs.Cone.{InCone};
 ghost use Rattle.dist_solver.specs.Evidence.{Adds};
 ghost use Rattle.dist_solver.specs.Ask.{IsAnswer};
@@ -14,7 +15,7 @@ use crate::lines::Derived;
 use crate::trail::Trail;
 use dist_base::{MAX_LINE_LITERALS, MAX_LINES};
 use dist_clause::{ClauseSet, Lit};
-use dist_derive::{Log, VariableSet, new_lines_are_few};
+use dist_derive::{Log, VariableSet, more_clauses_keep_what_follows, new_lines_are_few};
 use std::alloc::{AllocError, Global};
 use std::marker::Model;
 
@@ -29,14 +30,14 @@ pub struct Solver {
 }
 
 impl Model for Solver {
-    ghost use Rattle.std.specs.Prelude.{◌≡◌};
     ghost use Rattle.dist_solver.specs.Derived.{SolverState};
+    ghost use Rattle.dist_solver.specs.Kept.{IsSound};
 
     ghost Value = { SolverState };
 
     ghost view = { λ a. record { log = a.entries; derived = a.added } };
 
-    ghost invariant = { λ a. (a.trail.variables ≡ a.entries.variables) × (a.cone.variables ≡ a.entries.variables) };
+    ghost invariant = { λ a. IsSound a.entries a.trail.variables a.cone.variables };
 }
 
 impl Solver {
@@ -95,7 +96,8 @@ impl Solver {
 
     /// The input clauses and all lines derived from them.
     pub fn log(&self) -> &Log
-        ensures { result.now ≡ self.now.log }
+        ensures value { result.now ≡ self.now.log }
+        ensures lines_follow { EachLineFollows self.now.log.inputs self.now.log.clauses }
     {
         &self.entries
     }
@@ -124,11 +126,14 @@ fn search(
     requires cone { (v : ℕ) → Contains cone.now v ↔ InCone (inputs_of log.old) assumptions.now v }
     requires trail { trail.old.variables ≡ log.old.variables }
     requires none { derived.old ≡ [] }
+    requires lines_follow { EachLineFollows log.old.inputs log.old.clauses }
     ensures adds { Adds log.old log.new derived.new assumptions.now limit }
     ensures answer { IsAnswer log.old log.new assumptions.now limit result }
+    ensures lines_follow { EachLineFollows log.new.inputs log.new.clauses }
     ensures same_variables { trail.new.variables ≡ trail.old.variables }
 {
     new_lines_are_few();
+    more_clauses_keep_what_follows();
     let _clauses = log.len();
     for _ in 0..limit {
         match descend(alloc, log, trail, cone, assumptions)? {

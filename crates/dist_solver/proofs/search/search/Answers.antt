@@ -2,6 +2,7 @@ use Rattle.std.proofs.Common.{ℕ, ◌↔◌, length, ap, sym, subst, ◌∙◌,
 use Rattle.std.specs.List.{Contains}
 use Rattle.std.proofs.lemmas.List.{length_push}
 use Rattle.dist_derive.specs.ClauseLog.{ClauseLog}
+use Rattle.dist_derive.specs.Follows.{EachLineFollows}
 use Rattle.dist_derive.specs.Cone.{InCone}
 use Rattle.dist_solver.specs.Descent.{IsEnd, IsLesson}
 use Rattle.dist_solver.proofs.EvidenceLemmas.{inputs_same, model_of_old, adds_more}
@@ -28,5 +29,10 @@ loop-preserved c =
     record {
       adds = adds_more c.args.log.now log c.loop.derived assumptions c.loop.counter c.loop.invariant.adds c.learn.new.log c.learn.new.derived c.deref.result.now c.as_slice.result.now as_passed learned.0 learned.1;
       exact = omega (arith, ap (λ (l : ClauseLog). length l.clauses) learned.0, length_push log.clauses c.deref.result.now, c.loop.invariant.exact);
+      lines_follow = subst (λ (l : ClauseLog). EachLineFollows l.inputs l.clauses) (sym learned.0)
+          (c.more_clauses_keep_what_follows.ensures.lines log.inputs log.clauses c.deref.result.now c.as_slice.result.now c.loop.invariant.lines_follow as_passed.follows);
       variables = c.descend.ensures.same_variables ∙ c.loop.invariant.variables;
     }
+
+pub returns-in_err-learn-in-Lesson-clause-lines_follow : goal.returns-in_err-learn-in-Lesson-clause-lines_follow
+returns-in_err-learn-in-Lesson-clause-lines_follow c = subst (λ (l : ClauseLog). EachLineFollows l.inputs l.clauses) (sym c.in_err-learn-in-Lesson.ensures.0) c.loop.invariant.lines_follow
