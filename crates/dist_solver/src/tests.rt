@@ -373,12 +373,22 @@ fn has_added(alloc: Global, solver: &Solver) -> Result<bool, Fail> {
     Ok(is_last && derived.hints(0) == [1, 2].as_slice())
 }
 
+/// Whether a question with the limit of one line adds that line.
+fn adds_one(alloc: Global, solver: &mut Solver) -> Result<bool, Fail>
+    requires { solver.old.log.variables ≡ 21 }
+{
+    let (seen, _) = put(alloc, solver, 0, 1)?;
+    Ok(seen == Seen::Undecided && has_added(alloc, solver)?)
+}
+
+/// The same of a new solver of the four clauses.
+fn adds_the_line(alloc: Global) -> Result<bool, Fail> {
+    let mut solver = solver_of(alloc, Puzzle::Four, 10, 10)?;
+    adds_one(alloc, &mut solver)
+}
+
 #[test]
 fn a_derived_line_has_its_number_and_hints(rt: HostRuntime) -> Result<(), Fail> {
-    let alloc = rt.alloc();
-    let mut solver = solver_of(alloc, Puzzle::Four, 10, 10)?;
-    let (seen, _) = put(alloc, &mut solver, 0, 1)?;
-    assert_eq!(rt; seen, Seen::Undecided);
-    assert!(rt; has_added(alloc, &solver)?);
+    assert!(rt; adds_the_line(rt.alloc())?);
     Ok(())
 }
