@@ -93,7 +93,7 @@ pub refuted_before : (clauses : List (List Literal)) (start now : LiteralList) �
 refuted_before clauses start now h refuted = λ trues all propagated no_conflict. refuted trues (h.forced trues all propagated) propagated no_conflict
 
 -- where no clause is false or unit, all is propagated
-open_propagated : (trues clause : List Literal) → HasOutcome trues clause Open → IsPropagated trues clause
+pub open_propagated : (trues clause : List Literal) → HasOutcome trues clause Open → IsPropagated trues clause
 open_propagated trues clause is_open = λ l here others.
     elim (contains_or_not trues l) [
       | inl is_true ↦ is_true

@@ -10,14 +10,14 @@ use Rattle.dist_derive.specs.Cone.{IsClosedUnder, InCone}
 use Rattle.dist_derive.specs.New.{LeavesUnset, IsNew}
 
 -- the literals `n` and `-n`
-abbrev yes : ℕ → Literal
+abbrev pub yes : ℕ → Literal
 yes n = literal n true
 
-abbrev no : ℕ → Literal
+abbrev pub no : ℕ → Literal
 no n = literal n false
 
 -- the clauses `-1 2` and `-1 -2`
-abbrev both : List (List Literal)
+abbrev pub both : List (List Literal)
 both = (no 1 ∷ yes 2 ∷ []) ∷ (no 1 ∷ no 2 ∷ []) ∷ []
 
 -- the clauses `-1 2` and `-2 3`
@@ -48,7 +48,7 @@ one_three e = omega (arith, e)
 
 -- ---- following by hints: `-1` from `both`
 
-follows_by_both : Follows both (no 1 ∷ []) (1 ∷ 2 ∷ [])
+pub follows_by_both : Follows both (no 1 ∷ []) (1 ∷ 2 ∷ [])
 follows_by_both = (
   (lit≤ tt, lit≤ tt),
   inr (

@@ -10,10 +10,14 @@ ghost use Rattle.dist_derive.specs.Follows.{IsNumberOf, EndsFalse, Follows, Step
 ghost use Rattle.dist_derive.specs.Cone.{InCone, IsWithinCone};
 ghost use Rattle.dist_derive.specs.New.{IsNew, EachIsNew};
 
-/// Where each derived line follows from the clauses before it, every model of the input clauses is one of all clauses.
+/// Where each derived line follows from the clauses before it, every model of the input clauses is one of all clauses, and
+/// makes true whatever follows from them.
 pub fn lines_keep_models()
-    ensures { (inputs : ℕ) (clauses : List (List Literal)) (value : ℕ → Bool) → EachLineFollows inputs clauses
+    ensures all { (inputs : ℕ) (clauses : List (List Literal)) (value : ℕ → Bool) → EachLineFollows inputs clauses
         → IsModel value (take inputs clauses) → IsModel value clauses }
+    ensures what_follows { (inputs : ℕ) (clauses : List (List Literal)) (clause : List Literal) (hints : List ℕ)
+        (value : ℕ → Bool) → EachLineFollows inputs clauses → Follows clauses clause hints
+        → IsModel value (take inputs clauses) → MakesTrue value clause }
 {}
 
 /// What follows still does when clauses are added behind, and a log in which every line follows keeps that with a line
@@ -43,13 +47,16 @@ pub fn unit_steps_are_hints()
 {}
 
 /// A clause is settled, that is, not false, and what it gives is true: by a true literal, or by two literals of different
-/// variables that are not false. A unit clause stays unit under more true literals while its literal is unset.
+/// variables that are not false; and wherever it is neither false nor unit. A unit clause stays unit under more true
+/// literals while its literal is unset.
 pub fn what_settles_a_clause()
     ensures true_literal { (trues clause : List Literal) (l : Literal) → IsConsistent trues → Contains clause l
         → Contains trues l → (¬ AllFalse trues clause) × IsPropagated trues clause }
     ensures two_literals { (trues clause : List Literal) (l m : Literal) → Contains clause l → Contains clause m
         → l.variable ≢ m.variable → (¬ IsFalse trues l) → (¬ IsFalse trues m)
         → (¬ AllFalse trues clause) × IsPropagated trues clause }
+    ensures neither { (trues clause : List Literal) → (¬ AllFalse trues clause)
+        → ((l : Literal) → ¬ IsUnit trues clause l) → IsPropagated trues clause }
     ensures unit_stays { (trues more clause : List Literal) (l : Literal) → ContainsAll more trues → IsUnset more l
         → IsUnit trues clause l → IsUnit more clause l }
 {}

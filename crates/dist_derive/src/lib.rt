@@ -1,5 +1,5 @@
 //! The log of derived clauses and the two tests on which certificates rest: whether a clause follows by hints, and
-//! whether it is new.
+//! whether it is new. The literals that are true for now are public, so that a search propagates over the same ones.
 #![tactic(auto)]
 
 mod cone;
@@ -21,4 +21,5 @@ pub use laws::{
 };
 pub use log::{AppendError, Log};
 pub use scratch::Scratch;
+pub use true_literals::{Outcome, TrueLiterals, Truth};
 pub use variable_set::VariableSet;

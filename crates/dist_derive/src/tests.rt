@@ -4,9 +4,10 @@ ghost use Rattle.std.specs.Prelude.{◌≡◌, ◌≢◌, ◌≤◌, All, IfOk, 
 ghost use Rattle.dist_clause.specs.Formula.{IsClauseOver};
 
 use crate::{
-    AppendError, Log, Scratch, VariableSet, cone_is_closed, cone_models_extend, lines_keep_models,
-    more_clauses_keep_what_follows, new_is_no_copy, new_lines_are_few, settled_literals_make_new,
-    unit_steps_are_hints, what_settles_a_clause, what_the_cone_depends_on,
+    AppendError, Log, Outcome, Scratch, TrueLiterals, Truth, VariableSet, cone_is_closed,
+    cone_models_extend, lines_keep_models, more_clauses_keep_what_follows, new_is_no_copy,
+    new_lines_are_few, settled_literals_make_new, unit_steps_are_hints, what_settles_a_clause,
+    what_the_cone_depends_on,
 };
 use dist_clause::{ClauseSet, Lit};
 use std::alloc::Global;
@@ -170,6 +171,21 @@ fn a_cone_has_what_the_assumptions_reach(rt: HostRuntime) -> Result<(), Fail> {
     assert!(rt; !none.contains(3));
     none.clear();
     assert!(rt; none.members().is_empty());
+    Ok(())
+}
+
+#[test]
+fn true_literals_settle_a_clause(rt: HostRuntime) -> Result<(), Fail> {
+    let alloc = rt.alloc();
+    let line = clause(alloc, &[-1, 2])?;
+    let mut trues = TrueLiterals::new(alloc, 5)?;
+    assert!(rt; matches!(trues.outcome(&line), Outcome::Open));
+    trues.make_true(Lit::new(1, true));
+    assert!(rt; matches!(trues.status(Lit::new(1, false)), Truth::False));
+    assert!(rt; trues.is_unset(Lit::new(2, true)));
+    assert!(rt; matches!(trues.outcome(&line), Outcome::Unit(_)));
+    trues.clear();
+    assert!(rt; trues.is_unset(Lit::new(1, true)));
     Ok(())
 }
 

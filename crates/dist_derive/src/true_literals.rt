@@ -87,7 +87,7 @@ impl TrueLiterals {
     }
 
     /// Makes the negation of each literal of a clause true, where no literal is true before.
-    pub fn deny(&mut self, clause: &[Lit])
+    pub(crate) fn deny(&mut self, clause: &[Lit])
         requires none { self.old.literals ≡ [] }
         requires clause { IsClauseOver self.old.variables clause.now }
         ensures { self.new ≡ record self.old { literals = map negation clause.now } }
@@ -98,7 +98,7 @@ impl TrueLiterals {
     }
 
     /// Makes a literal true, unless it is false; answers whether it is true then.
-    pub fn assume(&mut self, literal: Lit) -> bool
+    pub(crate) fn assume(&mut self, literal: Lit) -> bool
         requires { literal.variable ≤ self.old.variables }
         ensures { Assumes self.old self.new literal result }
     {
@@ -113,7 +113,7 @@ impl TrueLiterals {
     }
 
     /// Makes literals true, up to one that is false; answers whether all are true then.
-    pub fn assume_all(&mut self, literals: &[Lit]) -> bool
+    pub(crate) fn assume_all(&mut self, literals: &[Lit]) -> bool
         requires { All (λ l. l.variable ≤ self.old.variables) literals.now }
         ensures same_variables { self.new.variables ≡ self.old.variables }
         ensures kept { ContainsAll self.new.literals self.old.literals }

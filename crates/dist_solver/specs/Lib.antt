@@ -1,0 +1,9 @@
+pub mod Derived
+pub mod Kept
+pub mod Evidence
+pub mod Ask
+pub mod Refusal
+pub mod Trail
+pub mod Descent
+pub mod Learning
+pub mod Examples

@@ -1,0 +1,165 @@
+//! A solver, and the question that it is asked.
+
+ghost use Rattle.std.specs.Prelude.{◌≡◌, ◌<◌, ◌≤◌, ◌↔◌, ℕ, [], length, All, Contains, IfOk};
+ghost use Rattle.dist_clause.specs.Formula.{IsClauseOver};
+ghost use Rattle.dist_derive.specs.ClauseLog.{inputs_of};
+ghost use Rattle.dist_derive.specs.Follows.{EachLineFollows};
+ghost use Rattle.dist_derive.specs.Cone.{InCone};
+ghost use Rattle.dist_solver.specs.Evidence.{Adds};
+ghost use Rattle.dist_solver.specs.Ask.{IsAnswer};
+ghost use Rattle.dist_solver.specs.Learning.{Learns};
+
+use crate::answers::{Answer, AskError};
+use crate::descent::{Descent, descend};
+use crate::lines::Derived;
+use crate::trail::Trail;
+use dist_base::{MAX_LINE_LITERALS, MAX_LINES};
+use dist_clause::{ClauseSet, Lit};
+use dist_derive::{Log, VariableSet, more_clauses_keep_what_follows, new_lines_are_few};
+use std::alloc::{AllocError, Global};
+use std::marker::Model;
+
+/// Input clauses with the lines derived from them, and the room in which questions are answered.
+#[derive(Debug, Drop)]
+pub struct Solver {
+    entries: Log,
+    added: Derived,
+    trail: Trail,
+    cone: VariableSet,
+    alloc: Global,
+}
+
+impl Model for Solver {
+    ghost use Rattle.dist_solver.specs.Derived.{SolverState};
+    ghost use Rattle.dist_solver.specs.Kept.{IsSound};
+
+    ghost Value = { SolverState };
+
+    ghost view = { λ a. record { log = a.entries; derived = a.added } };
+
+    ghost invariant = { λ a. IsSound a.entries a.trail.variables a.cone.variables };
+}
+
+impl Solver {
+    /// A solver of input clauses, with the two limits of its log. They stay for good. Where there is no memory, the
+    /// clauses are given up.
+    pub fn new(
+        alloc: Global,
+        clauses: ClauseSet,
+        lines: u32,
+        line_literals: u32,
+    ) -> Result<Solver, AllocError>
+        requires lines { lines ≤ MAX_LINES }
+        requires line_literals { line_literals ≤ MAX_LINE_LITERALS }
+        ensures { IfOk result (λ solver. solver ≡ record {
+          log = record {
+            clauses = clauses.clauses;
+            inputs = length clauses.clauses;
+            variables = clauses.variables;
+            line_limit = lines;
+            line_literal_limit = line_literals;
+          };
+          derived = [];
+        }) }
+    {
+        let trail = Trail::new(alloc, clauses.variables())?;
+        let cone = VariableSet::new(alloc, clauses.variables())?;
+        Ok(Solver {
+            entries: Log::new(alloc, clauses, lines, line_literals),
+            added: Derived::new(alloc),
+            trail,
+            cone,
+            alloc,
+        })
+    }
+
+    /// Asks for a model in which the assumptions are true, with leave to add at most `limit` lines to the log. Every
+    /// answer, an error too, comes with the evidence of the lines that were added.
+    pub fn ask(&mut self, assumptions: &[Lit], limit: u32) -> Result<Answer, AskError>
+        requires limit { 1 ≤ limit }
+        requires assumptions { IsClauseOver self.old.log.variables assumptions.now }
+        ensures adds { Adds self.old.log self.new.log self.new.derived assumptions.now limit }
+        ensures answer { IsAnswer self.old.log self.new.log assumptions.now limit result }
+    {
+        self.added.clear();
+        self.entries.mark_cone(&mut self.cone, assumptions);
+        search(
+            self.alloc,
+            &mut self.entries,
+            &mut self.added,
+            &mut self.trail,
+            self.cone.members(),
+            assumptions,
+            limit,
+        )
+    }
+
+    /// The input clauses and all lines derived from them.
+    pub fn log(&self) -> &Log
+        ensures value { result.now ≡ self.now.log }
+        ensures lines_follow { EachLineFollows self.now.log.inputs self.now.log.clauses }
+    {
+        &self.entries
+    }
+
+    /// The lines that the last question added.
+    pub fn derived(&self) -> &Derived
+        ensures { result.now ≡ self.now.derived }
+    {
+        &self.added
+    }
+}
+
+/// Descends until an answer comes, at most `limit` times; each descent without one adds a line. The cone is given by its
+/// variables.
+fn search(
+    alloc: Global,
+    log: &mut Log,
+    derived: &mut Derived,
+    trail: &mut Trail,
+    cone: &[u32],
+    assumptions: &[Lit],
+    limit: u32,
+) -> Result<Answer, AskError>
+    requires assumptions { IsClauseOver log.old.variables assumptions.now }
+    requires in_range { All (λ v. (1 ≤ v) × (v ≤ log.old.variables)) cone.now }
+    requires cone { (v : ℕ) → Contains cone.now v ↔ InCone (inputs_of log.old) assumptions.now v }
+    requires trail { trail.old.variables ≡ log.old.variables }
+    requires none { derived.old ≡ [] }
+    requires lines_follow { EachLineFollows log.old.inputs log.old.clauses }
+    ensures adds { Adds log.old log.new derived.new assumptions.now limit }
+    ensures answer { IsAnswer log.old log.new assumptions.now limit result }
+    ensures lines_follow { EachLineFollows log.new.inputs log.new.clauses }
+    ensures same_variables { trail.new.variables ≡ trail.old.variables }
+{
+    new_lines_are_few();
+    more_clauses_keep_what_follows();
+    let _clauses = log.len();
+    for _ in 0..limit {
+        match descend(alloc, log, trail, cone, assumptions)? {
+            Descent::Model(values) => return Ok(Answer::Found(values)),
+            Descent::Refutation(hints) => return Ok(Answer::Refuted(hints)),
+            Descent::Lesson(clause, hints) => learn(log, derived, &clause, hints.as_slice())?,
+        }
+    }
+    Ok(Answer::Undecided)
+}
+
+/// Adds a line to the log, and to the derived lines its number and hints; or to neither.
+fn learn(
+    log: &mut Log,
+    derived: &mut Derived,
+    clause: &[Lit],
+    hints: &[u32],
+) -> Result<(), AskError>
+    requires { IsClauseOver log.old.variables clause.now }
+    ensures { Learns log.old log.new derived.old derived.new clause.now hints.now result }
+{
+    let number = log.len() + 1;
+    derived.push(number, hints)?;
+    if let Err(cause) = log.append(clause) {
+        derived.pop();
+        return Err(AskError::from(cause));
+    }
+    Ok(())
+}
