@@ -8,3 +8,5 @@ pub mod HealthyLemmas
 pub mod OneHealth
 pub mod RejectedLemmas
 pub mod ConflictLemmas
+pub mod RisingRows
+pub mod DemandLists

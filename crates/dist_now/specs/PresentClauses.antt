@@ -48,7 +48,8 @@ IsDemand r essential (Apart first second) =
     (first < second) × IsPackageAnd r.packages first (λ p. IsPackageAnd r.packages second (λ q. (p.name ≡ q.name) ⊎ AreInConflict r.architecture p q))
 IsDemand r essential (Required name) = Contains (required_names essential r.packages) name
 
-abbrev IsLesser : (first second n k : ℕ) → Type 0
+-- the lesser of two pairs of numbers, by the first and then by the second
+abbrev pub IsLesser : (first second n k : ℕ) → Type 0
 IsLesser first second n k = (first < n) ⊎ ((first ≡ n) × (second < k))
 
 -- Items come first, then pairs of packages, each by their two numbers, and then names, by their bytes.
