@@ -212,7 +212,7 @@ no-unmet r flags essential healthy n k unmet =
     item.holds (all-at (IsMet r.architecture (members_of r.packages flags)) holder.value.depends each k item.value item.is_value)
 
 -- what holds of each image holds of each element's
-all-before_map : {X Y : Type 0} (P : Y → Type 0) (f : X → Y) (xs : List X) → All P (map f xs) → All (λ x. P (f x)) xs
+pub all-before_map : {X Y : Type 0} (P : Y → Type 0) (f : X → Y) (xs : List X) → All P (map f xs) → All (λ x. P (f x)) xs
 all-before_map P f [] all = All-nil (λ x. P (f x))
 all-before_map P f (x ∷ xs) all =
     All-cons (λ y. P (f y)) x xs (all 0 (f x) (omega arith)) (all-before_map P f xs (All-tail P (f x) (map f xs) all))

@@ -10,3 +10,4 @@ pub mod RejectedLemmas
 pub mod ConflictLemmas
 pub mod RisingRows
 pub mod DemandLists
+pub mod SetLemmas
