@@ -11,3 +11,4 @@ pub mod ConflictLemmas
 pub mod RisingRows
 pub mod DemandLists
 pub mod SetLemmas
+pub mod ModelLemmas
