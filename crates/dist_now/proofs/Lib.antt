@@ -12,3 +12,8 @@ pub mod RisingRows
 pub mod DemandLists
 pub mod SetLemmas
 pub mod ModelLemmas
+pub mod AddsLemmas
+pub mod NumberLemmas
+pub mod VersionLemmas
+pub mod PairLemmas
+pub mod PartnerLemmas
