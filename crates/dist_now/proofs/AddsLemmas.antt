@@ -13,10 +13,13 @@ abbrev pub AddsUpTo : {X : Type 0} → (old new : List X) → (ℕ → X → Typ
 AddsUpTo old new P count = Adds old new (UpTo P count)
 
 pub adds-none : {X : Type 0} (xs : List X) (P : ℕ → X → Type 0) (count : ℕ) → ((i : ℕ) (x : X) → i < count → ¬ P i x) → AddsUpTo xs xs P count
-adds-none xs P count none x = (λ there. inl there, λ either. elim either [
-  | inl there ↦ there
-  | inr up ↦ absurd (none up.0 x up.1 up.2)
-])
+adds-none xs P count none x = (
+  λ there. inl there,
+  λ either. elim either [
+    | inl there ↦ there
+    | inr up ↦ absurd (none up.0 x up.1 up.2)
+  ],
+)
 
 pub adds-more : {X : Type 0} (old mid new : List X) (P : ℕ → X → Type 0) (count : ℕ) → AddsUpTo old mid P count → Adds mid new (P count) → AddsUpTo old new P (count + 1)
 adds-more old mid new P count before step x = (
@@ -61,10 +64,13 @@ adds-one xs y P holds only x = (
 )
 
 pub adds-nothing : {X : Type 0} (xs : List X) (P : X → Type 0) → ((x : X) → ¬ P x) → Adds xs xs P
-adds-nothing xs P none x = (λ there. inl there, λ either. elim either [
-  | inl first ↦ first
-  | inr p ↦ absurd (none x p)
-])
+adds-nothing xs P none x = (
+  λ there. inl there,
+  λ either. elim either [
+    | inl first ↦ first
+    | inr p ↦ absurd (none x p)
+  ],
+)
 
 -- what was added to nothing
 pub adds-exact : {X : Type 0} (new : List X) (P : X → Type 0) → Adds [] new P → (x : X) → Contains new x ↔ P x

@@ -88,7 +88,6 @@ one-clause r (Required name) clause other (numbers, are, is) (others, more, also
 abbrev pub Row : Type 0
 Row = Demand × List Literal
 
-
 one-image : (r : PackageList) → HasOneImage (λ (a : Row). a.0) (λ a. IsClauseFor r a.0 a.1) (λ a. a.1)
 one-image r x y same first second =
     let Of : Demand → Type 0 = λ d. IsClauseFor r d x.1 in one-clause r y.0 x.1 y.1 (subst Of same first) second
@@ -96,14 +95,14 @@ one-image r x y same first second =
 pub one-list : (r : PackageList) (P : Demand → Type 0) (clauses other : List (List Literal)) → AreClausesOf r P clauses → AreClausesOf r P other → other ≡ clauses
 one-list r P clauses other are also =
     also.are ∙ rows-same (λ (a : Row). a.0) IsBefore (λ a. IsClauseFor r a.0 a.1) (λ a. a.1) demands-asymmetric (one-image r) are.rows also.rows are.rising also.rising are.each also.each
-        (λ d has. (also.exact d).1 ((are.exact d).0 has)) (λ d has. (are.exact d).1 ((also.exact d).0 has))
+    (λ d has. (also.exact d).1 ((are.exact d).0 has)) (λ d has. (are.exact d).1 ((also.exact d).0 has))
     ∙ sym are.are
 
 pub goes-on : (r : PackageList) (essential : Bool) (d : Demand) (whole front : List (List Literal)) (clause : List Literal) → ArePresentClauses r essential whole → AreClausesBefore r essential d front
     → IsDemand r essential d → IsClauseFor r d clause → GoesOn whole front clause
 goes-on r essential d whole front clause are before is_demand is_clause =
     let on = rows-front (λ (a : Row). a.0) IsBefore (λ a. IsClauseFor r a.0 a.1) (λ a. a.1) demands-asymmetric (one-image r) (d, clause) is_clause are.rows before.rows are.rising before.rising are.each before.each
-        ((are.exact d).1 is_demand) (λ e has below. (before.exact e).1 ((are.exact e).0 has, below)) (λ e has. (are.exact e).1 ((before.exact e).0 has).0) (λ e has. ((before.exact e).0 has).1) in
+    ((are.exact d).1 is_demand) (λ e has below. (before.exact e).1 ((are.exact e).0 has, below)) (λ e has. (are.exact e).1 ((before.exact e).0 has).0) (λ e has. ((before.exact e).0 has).1) in
     record { rest = on.rest; is = are.are ∙ on.is ∙ ap (λ (xs : List (List Literal)). xs ++ clause ∷ on.rest) (sym before.are) }
 
 -- ---- fronts

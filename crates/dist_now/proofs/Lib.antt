@@ -17,3 +17,6 @@ pub mod NumberLemmas
 pub mod VersionLemmas
 pub mod PairLemmas
 pub mod PartnerLemmas
+pub mod FrontLemmas
+pub mod ClauseShape
+pub mod NameFronts

@@ -157,7 +157,7 @@ none-apart r essential clauses values are model R apart n k members =
     let Second : Package → Type 0 = λ p. IsPackageAnd r.packages k (R p) in
     let Either : Package → Package → Type 0 = λ p q. (p.name ≡ q.name) ⊎ AreInConflict r.architecture p q in
     let demand : IsDemand r essential (Apart n k) =
-        (members.in_order, at-more Second (λ p. IsPackageAnd r.packages k (Either p)) (λ p here. at-more (R p) (Either p) (apart p) r.packages k here) r.packages n members.related.has) in
+    (members.in_order, at-more Second (λ p. IsPackageAnd r.packages k (Either p)) (λ p here. at-more (R p) (Either p) (apart p) r.packages k here) r.packages n members.related.has) in
     let made = true-clause r (IsDemand r essential) clauses values (Apart n k) are model demand in
     never-both values n k (subst (MakesTrue (value_of values)) made.is_clause made.holds) members.related.member members.second_member
 
@@ -290,7 +290,7 @@ item-true r essential members n k clause healthy is =
           let member = member-at r members healthy.chosen (Matches r.architecture atom) by in
           let Meets : Package → Type 0 = IsMetBy r.architecture at.item in
           let wider : IsPackageAnd r.packages member.number Meets =
-              at-more (Matches r.architecture atom) Meets (λ q matches. any-contained (λ a. Matches r.architecture a q) at.item atom (met.0, met.2, met.3) matches) r.packages member.number member.has in
+          at-more (Matches r.architecture atom) Meets (λ q matches. any-contained (λ a. Matches r.architecture a q) at.item atom (met.0, met.2, met.3) matches) r.packages member.number member.has in
           any-later One (not_installed n) (map installed numbers) (some-true r members Meets numbers at.holds (record { number = member.number; is = member.is; has = wider }))
     ])
 
@@ -349,7 +349,7 @@ model-from r essential clauses members ordered are healthy =
     let All' : List (List Literal) → Type 0 = λ xs. All True xs in
     subst All' (sym are.are) (All-map True (λ (a : Row). a.1) are.rows
     (all-contained (λ (a : Row). True a.1) are.rows (λ a there.
-        demand-true r essential members a.0 a.1 ordered healthy ((are.exact a.0).0 (there.0, a, there.1, there.2, refl)) (All-contains (λ (b : Row). IsClauseFor r b.0 b.1) are.rows a are.each there))))
+    demand-true r essential members a.0 a.1 ordered healthy ((are.exact a.0).0 (there.0, a, there.1, there.2, refl)) (All-contains (λ (b : Row). IsClauseFor r b.0 b.1) are.rows a are.each there))))
 
 same-members : (r : PackageList) (members : List Package) → All (Contains r.packages) members → AreSamePackages members (members_of r.packages (values_for r.packages members))
 same-members r members chosen p = (

@@ -43,8 +43,8 @@ pub adds-all : (r : PackageList) (name : List ℕ) (providers : List ℕ) (P : P
 adds-all r name providers P count old new past are provides adds =
     adds-same old new (UpTo (IsAtAnd r providers P) count) (λ k. IsPackageAnd r.packages k P) (λ k up. up.2.1)
     (λ k here.
-        let there : Contains providers k = (are.exact k).1 (at-more P (IsProvider r.architecture name) provides r.packages k here) in
-        (there.0, omega (arith, there.1, past), (get_or_default providers there.0 0 k there.1 ∙ there.2, here)))
+    let there : Contains providers k = (are.exact k).1 (at-more P (IsProvider r.architecture name) provides r.packages k here) in
+    (there.0, omega (arith, there.1, past), (get_or_default providers there.0 0 k there.1 ∙ there.2, here)))
     adds
 
 -- ---- the packages that meet an item

@@ -64,12 +64,15 @@ pairs-all r number atom providers count old new past are adds =
     adds-same old new (UpTo (IsPairAt r number providers P) count) (IsPairWith r number P)
     (λ x up. record { other = get_or providers up.0 0; is_pair = up.2.is_pair; has = up.2.has })
     (λ x with.
-        let there : Contains providers with.other = (are.exact with.other).1 (at-more P _ (matched-provides r.architecture atom) r.packages with.other with.has) in
-        let is : get_or providers there.0 0 ≡ with.other = get_or_default providers there.0 0 with.other there.1 ∙ there.2 in
-        (there.0, omega (arith, there.1, past), record {
-          is_pair = subst (λ (k : ℕ). IsPairOf number k x) (sym is) with.is_pair;
-          has = subst (λ (k : ℕ). IsPackageAnd r.packages k P) (sym is) with.has;
-        }))
+    let there : Contains providers with.other = (are.exact with.other).1 (at-more P _ (matched-provides r.architecture atom) r.packages with.other with.has) in
+    let is : get_or providers there.0 0 ≡ with.other = get_or_default providers there.0 0 with.other there.1 ∙ there.2 in (
+      there.0,
+      omega (arith, there.1, past),
+      record {
+        is_pair = subst (λ (k : ℕ). IsPairOf number k x) (sym is) with.is_pair;
+        has = subst (λ (k : ℕ). IsPackageAnd r.packages k P) (sym is) with.has;
+      },
+    ))
     adds
 
 -- ---- the pairs of a package and those that it rejects
@@ -87,20 +90,23 @@ pub rejected-all : (r : PackageList) (number : ℕ) (p : Package) (count : ℕ) 
 rejected-all r number p count old new past adds =
     adds-same old new (UpTo (IsRejectedAt r number p.conflicts) count) (IsPairWith r number (Rejects r p))
     (λ x up.
-        let Here : Atom → Type 0 = λ a. IsPairWith r number (Matches r.architecture a) x in
-        let atom = some-element Here p.conflicts up.0 up.2 in
-        let is = element-is Here p.conflicts up.0 up.2 in
-        let with = has-at Here p.conflicts up.0 atom is up.2 in
-        record { other = with.other; is_pair = with.is_pair; has = at-more (Matches r.architecture atom) (Rejects r p) (λ q matches. any-at (λ a. Matches r.architecture a q) p.conflicts up.0 atom is matches) r.packages with.other with.has })
+    let Here : Atom → Type 0 = λ a. IsPairWith r number (Matches r.architecture a) x in
+    let atom = some-element Here p.conflicts up.0 up.2 in
+    let is = element-is Here p.conflicts up.0 up.2 in
+    let with = has-at Here p.conflicts up.0 atom is up.2 in
+    record { other = with.other; is_pair = with.is_pair; has = at-more (Matches r.architecture atom) (Rejects r p) (λ q matches. any-at (λ a. Matches r.architecture a q) p.conflicts up.0 atom is matches) r.packages with.other with.has })
     (λ x with.
-        let Of : Package → Type 0 = Rejects r p in
-        let q = some-element Of r.packages with.other with.has in
-        let is_q = element-is Of r.packages with.other with.has in
-        let any : Of q = has-at Of r.packages with.other q is_q with.has in
-        let atom : Atom = any.1 in
-        let is : slice_get p.conflicts any.0 ≡ Some atom = slice_get-get_or p.conflicts any.0 atom any.2 ∙ ap (λ (a : Atom). Some a) any.3 in
-        (any.0, omega (arith, any.2, past), at-has (λ (a : Atom). IsPairWith r number (Matches r.architecture a) x) p.conflicts any.0 atom is
-            (record { other = with.other; is_pair = with.is_pair; has = at-has (Matches r.architecture atom) r.packages with.other q is_q any.4 })))
+    let Of : Package → Type 0 = Rejects r p in
+    let q = some-element Of r.packages with.other with.has in
+    let is_q = element-is Of r.packages with.other with.has in
+    let any : Of q = has-at Of r.packages with.other q is_q with.has in
+    let atom : Atom = any.1 in
+    let is : slice_get p.conflicts any.0 ≡ Some atom = slice_get-get_or p.conflicts any.0 atom any.2 ∙ ap (λ (a : Atom). Some a) any.3 in (
+      any.0,
+      omega (arith, any.2, past),
+      at-has (λ (a : Atom). IsPairWith r number (Matches r.architecture a) x) p.conflicts any.0 atom is
+          (record { other = with.other; is_pair = with.is_pair; has = at-has (Matches r.architecture atom) r.packages with.other q is_q any.4 }),
+    ))
     adds
 
 -- ---- the pairs of all packages

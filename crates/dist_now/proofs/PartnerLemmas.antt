@@ -70,23 +70,23 @@ pub partners-all : (pairs : List (ℕ × ℕ)) (number start place : ℕ) (old n
 partners-all pairs number start place old new sorted split passed end adds =
     adds-same old new (UpTo (IsPartnerAt pairs start) place) (λ k. Contains pairs (number, k))
     (λ k up.
-        let i = up.0 in
-        let short : i < length pairs = up.2.1 in
-        let first : (get_or pairs i (0, 0)).0 ≡ number = passed.have i up.2.0 up.1 short in
-        let second : (get_or pairs i (0, 0)).1 ≡ k = up.2.2 in
-        let whole : get_or pairs i (0, 0) ≡ (number, k) = λ j. (first j, second j) in
-        (i, short, get_or_default pairs i (number, k) (0, 0) short ∙ whole))
+    let i = up.0 in
+    let short : i < length pairs = up.2.1 in
+    let first : (get_or pairs i (0, 0)).0 ≡ number = passed.have i up.2.0 up.1 short in
+    let second : (get_or pairs i (0, 0)).1 ≡ k = up.2.2 in
+    let whole : get_or pairs i (0, 0) ≡ (number, k) = λ j. (first j, second j) in
+    (i, short, get_or_default pairs i (number, k) (0, 0) short ∙ whole))
     (λ k there.
-        let i = there.0 in
-        let whole : get_or pairs i (0, 0) ≡ (number, k) = get_or_default pairs i (0, 0) (number, k) there.1 ∙ there.2 in
-        let first : (get_or pairs i (0, 0)).0 ≡ number = ap (λ (x : ℕ × ℕ). x.0) whole in
-        let low : start ≤ i = elim (cases_lt i start) [
-          | inl early ↦ absurd (let h = split.before i (0, 0) early there.1 in omega arith)
-          | inr late ↦ late
-        ] in
-        let high : i < place = elim (cases_lt i place) [
-          | inl less ↦ less
-          | inr more ↦ absurd (let h = greater-from pairs number start place sorted split passed end i more there.1 in omega arith)
-        ] in
-        (i, high, (low, there.1, ap (λ (x : ℕ × ℕ). x.1) whole)))
+    let i = there.0 in
+    let whole : get_or pairs i (0, 0) ≡ (number, k) = get_or_default pairs i (0, 0) (number, k) there.1 ∙ there.2 in
+    let first : (get_or pairs i (0, 0)).0 ≡ number = ap (λ (x : ℕ × ℕ). x.0) whole in
+    let low : start ≤ i = elim (cases_lt i start) [
+      | inl early ↦ absurd (let h = split.before i (0, 0) early there.1 in omega arith)
+      | inr late ↦ late
+    ] in
+    let high : i < place = elim (cases_lt i place) [
+      | inl less ↦ less
+      | inr more ↦ absurd (let h = greater-from pairs number start place sorted split passed end i more there.1 in omega arith)
+    ] in
+    (i, high, (low, there.1, ap (λ (x : ℕ × ℕ). x.1) whole)))
     adds

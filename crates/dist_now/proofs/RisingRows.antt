@@ -68,7 +68,7 @@ rows-same key B P image asymmetric one (x ∷ xs) (y ∷ ys) first second all al
     let same : key x ≡ key y = heads key B x xs y ys asymmetric first second (to (key x) (any-head (λ a. key a ≡ key x) x xs refl)) (back (key y) (any-head (λ a. key a ≡ key y) y ys refl)) in
     let head : image y ≡ image x = one y x (sym same) (also 0 y (omega arith)) (all 0 x (omega arith)) in
     let rest = rows-same key B P image asymmetric one xs ys (pairs-tail (λ a b. B (key a) (key b)) x xs first) (pairs-tail (λ a b. B (key a) (key b)) y ys second) (All-tail P x xs all) (All-tail P y ys also)
-        (λ k. tails key B x xs y ys k asymmetric first same (to k)) (λ k. tails key B y ys x xs k asymmetric second (sym same) (back k)) in
+    (λ k. tails key B x xs y ys k asymmetric first same (to k)) (λ k. tails key B y ys x xs k asymmetric second (sym same) (back k)) in
     ap₂ (λ a b. a ∷ b) head rest
 
 -- how the images of all rows go on behind those of a front
@@ -89,10 +89,10 @@ rows-front key B P image asymmetric one d holds (x ∷ xs) (y ∷ ys) first seco
     let first_below : B (key y) (key d) = below (key y) (any-head (λ a. key a ≡ key y) y ys refl) in
     let there : Has key (x ∷ xs) (key y) = back (key y) (any-head (λ a. key a ≡ key y) y ys refl) in
     let differs : key x ≡ key d → ⊥ = λ same.
-        elim (any-cases (λ a. key a ≡ key y) x xs there) [
-          | inl here ↦ let loop : B (key d) (key d) = subst (λ z. B z (key d)) (sym here ∙ same) first_below in asymmetric (key d) (key d) loop loop
-          | inr later ↦ asymmetric (key y) (key d) first_below (subst (λ z. B z (key y)) same (head-before key B x xs (key y) first later))
-        ] in
+    elim (any-cases (λ a. key a ≡ key y) x xs there) [
+      | inl here ↦ let loop : B (key d) (key d) = subst (λ z. B z (key d)) (sym here ∙ same) first_below in asymmetric (key d) (key d) loop loop
+      | inr later ↦ asymmetric (key y) (key d) first_below (subst (λ z. B z (key y)) same (head-before key B x xs (key y) first later))
+    ] in
     let later : Has key xs (key d) = elim (any-cases (λ a. key a ≡ key d) x xs has) [
       | inl here ↦ absurd (differs here)
       | inr there ↦ there
@@ -100,9 +100,9 @@ rows-front key B P image asymmetric one d holds (x ∷ xs) (y ∷ ys) first seco
     let head_below : B (key x) (key d) = head-before key B x xs (key d) first later in
     let same : key x ≡ key y = heads key B x xs y ys asymmetric first second (to (key x) (any-head (λ a. key a ≡ key x) x xs refl) head_below) there in
     let rest = rows-front key B P image asymmetric one d holds xs ys (pairs-tail (λ a b. B (key a) (key b)) x xs first) (pairs-tail (λ a b. B (key a) (key b)) y ys second) (All-tail P x xs all) (All-tail P y ys also) later
-        (λ k there before. tails key B x xs y ys k asymmetric first same (λ h. to k h before) there)
-        (λ k. tails key B y ys x xs k asymmetric second (sym same) (back k))
-        (λ k there. below k (any-later (λ a. key a ≡ k) y ys there)) in
+    (λ k there before. tails key B x xs y ys k asymmetric first same (λ h. to k h before) there)
+    (λ k. tails key B y ys x xs k asymmetric second (sym same) (back k))
+    (λ k there. below k (any-later (λ a. key a ≡ k) y ys there)) in
     record { rest = rest.rest; is = ap₂ (λ a b. a ∷ b) (one x y same (all 0 x (omega arith)) (also 0 y (omega arith))) rest.is }
 
 -- ---- rising numbers
@@ -120,6 +120,6 @@ asymmetric-less x y less more = omega arith
 pub same-numbers : (xs ys : List ℕ) → IsStrictlyIncreasing xs → IsStrictlyIncreasing ys → ((k : ℕ) → Contains xs k → Contains ys k) → ((k : ℕ) → Contains ys k → Contains xs k) → ys ≡ xs
 same-numbers xs ys first second to back =
     sym (map-id ys) ∙ rows-same (λ (n : ℕ). n) (λ (a b : ℕ). a < b) (λ (n : ℕ). Unit {0}) (λ (n : ℕ). n) asymmetric-less (λ x y same p q. same) xs ys
-        (AllPairs-from_increasing xs first) (AllPairs-from_increasing ys second) (λ k d short. tt) (λ k d short. tt)
-        (λ k has. has-number ys k (to k (number-has xs k has))) (λ k has. has-number xs k (back k (number-has ys k has)))
+    (AllPairs-from_increasing xs first) (AllPairs-from_increasing ys second) (λ k d short. tt) (λ k d short. tt)
+    (λ k has. has-number ys k (to k (number-has xs k has))) (λ k has. has-number xs k (back k (number-has ys k has)))
     ∙ map-id xs

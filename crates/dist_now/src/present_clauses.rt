@@ -1,18 +1,18 @@
 //! The clauses of the present, made in their order, so that the first limit that they pass ends the work. It takes time
 //! for the providers of the names in atoms and for the literals made.
-ghost use Rattle.std.specs.Prelude.{◌≡◌, ◌+◌, ◌<◌, ◌≤◌, ◌↔◌, ℕ, false, true, Contains, IfErr, IfOk, IsTrue, OnOk, Some, slice_get, [], length};
-ghost use Rattle.std.specs.List.Sorted.{IsStrictlyIncreasing};
-ghost use Rattle.dist_base.specs.declared.TheConstants.{MAX_CLAUSES, MAX_LITERALS, MAX_PACKAGES};
+ghost use Rattle.std.specs.Prelude.{◌≡◌, ◌+◌, ◌<◌, ◌≤◌, ◌↔◌, ◌∷◌, ℕ, false, true, All, Contains, IfErr, IfOk, IsTrue, OnOk, Some, slice_get, length, map};
+ghost use Rattle.std.specs.List.Sorted.{IsNonDecreasingBy, IsStrictlyIncreasing};
+ghost use Rattle.dist_base.specs.declared.TheConstants.{MAX_CLAUSES, MAX_LITERALS, MAX_PACKAGES, MAX_VARIABLES};
 ghost use Rattle.dist_clause.specs.declared.clause_set.PushError.TheVariants.{TooManyClauses, TooManyLiterals};
-ghost use Rattle.dist_now.specs.Gathering.{IsCauseAt, IsEssentialSet, IsFront, IsNamedBelow, IsNamedFront, IsPlainSet};
+ghost use Rattle.dist_now.specs.Gathering.{AreSplitAt, IsCauseAt, IsEssentialSet, IsFront, IsNamedBelow, IsNamedFront, IsPlainSet, IsRejectingPair};
 ghost use Rattle.dist_now.specs.Members.{IsItemAt};
-ghost use Rattle.dist_now.specs.PresentClauses.{Apart, Item, IsDemand};
+ghost use Rattle.dist_now.specs.PresentClauses.{Apart, Item, Required, IsClauseFor, IsDemand, installed, not_installed};
 ghost use Rattle.dist_now.specs.PresentSet.{IsCause, IsExactly, IsSetOf, PassesClauses, PassesLiterals};
 
 use crate::clause_text::{add_clause, add_installed, not_installed};
 use crate::numbers::{add_versions, gather_meeting, gather_named, put_in_order};
 use crate::rejections::{add_partners, rejections};
-use dist_base::{MAX_CLAUSES, MAX_LITERALS, MAX_PACKAGES};
+use dist_base::{MAX_CLAUSES, MAX_LITERALS, MAX_PACKAGES, MAX_VARIABLES};
 use dist_clause::{ClauseSet, Lit, PushError};
 use dist_relation::{Alternatives, Name};
 use dist_repo::{Package, Repository};
@@ -34,14 +34,21 @@ impl Scratch {
     }
 
     /// Writes the clause of an item: without its package, or with one of those that meet it.
-    fn write_item(&mut self, number: u32) -> Result<(), AllocError> {
+    fn write_item(&mut self, number: u32) -> Result<(), AllocError>
+        requires number { number < MAX_VARIABLES }
+        requires numbers { All (λ k. k < MAX_VARIABLES) self.old.numbers.items }
+        ensures { OnOk result (self.new.clause.items ≡ not_installed number ∷ map installed self.old.numbers.items) }
+    {
         self.clause.clear();
         self.clause.push(not_installed(number))?;
         add_installed(&mut self.clause, &self.numbers)
     }
 
     /// Gathers the packages of a name and writes its clause: with one of them.
-    fn write_name(&mut self, repo: &Repository, name: &Name) -> Result<(), AllocError> {
+    fn write_name(&mut self, repo: &Repository, name: &Name) -> Result<(), AllocError>
+        requires { length repo.now.packages ≤ MAX_PACKAGES }
+        ensures { OnOk result (IsClauseFor repo.now (Required name.now) self.new.clause.items) }
+    {
         gather_named(repo, name, &mut self.numbers)?;
         self.clause.clear();
         add_installed(&mut self.clause, &self.numbers)
@@ -153,7 +160,16 @@ fn gather_apart(
     pairs: &[(u32, u32)],
     start: usize,
     numbers: &mut Vec<u32>,
-) -> Result<usize, AllocError> {
+) -> Result<usize, AllocError>
+    requires first { first < length repo.now.packages }
+    requires exact { (pair : ℕ × ℕ) → Contains pairs.now pair ↔ IsRejectingPair repo.now pair }
+    requires in_order { IsNonDecreasingBy (λ pair. pair.0) pairs.now }
+    requires split { AreSplitAt pairs.now first start }
+    ensures rising { OnOk result (IsStrictlyIncreasing numbers.new.items) }
+    ensures exact { OnOk result ((second : ℕ) → Contains numbers.new.items second ↔ IsDemand repo.now false (Apart first second)) }
+    ensures split { IfOk result (λ end. AreSplitAt pairs.now (first + 1) end) }
+{
+    let _end = repo.len();
     numbers.clear();
     add_versions(repo, first, repo.package(first), numbers)?;
     let end = add_partners(pairs, first, start, numbers)?;
@@ -169,6 +185,8 @@ fn push_pairs(
     set: &mut ClauseSet,
 ) -> Result<(), PushError>
     requires packages { length repo.now.packages ≤ MAX_PACKAGES }
+    requires exact { (pair : ℕ × ℕ) → Contains pairs.now pair ↔ IsRejectingPair repo.now pair }
+    requires in_order { IsNonDecreasingBy (λ pair. pair.0) pairs.now }
     requires front { IsFront repo.now (Apart 0 0) set.old set.old }
     ensures ok { OnOk result (IsPlainSet repo.now set.old set.new) }
     ensures err { IfErr result (IsCauseAt repo.now false set.old) }

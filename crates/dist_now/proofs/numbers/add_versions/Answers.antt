@@ -16,9 +16,9 @@ pub loop-second-preserved : goal.loop-second-preserved
 loop-second-preserved c = (
   omega (arith, c.loop-second.invariant.0),
   let same = names-same c.package.result.now.name c.args.package.now.name c.if-ne.ensures in
-  rw c.in_ok-push.ensures.items
-  (adds-more c.args.numbers.now.items c.loop-second.numbers.items _ (IsVersionAt c.args.repo.now c.args.first c.args.package.now.name) c.loop-second.second c.loop-second.invariant.1
-  (versions-more c.args.repo.now c.args.first c.loop-second.second c.args.package.now.name c.package.result.now c.loop-second.numbers.items c.loop-second.invariant.0 c.package.ensures (sym same))),
+      rw c.in_ok-push.ensures.items
+      (adds-more c.args.numbers.now.items c.loop-second.numbers.items _ (IsVersionAt c.args.repo.now c.args.first c.args.package.now.name) c.loop-second.second c.loop-second.invariant.1
+      (versions-more c.args.repo.now c.args.first c.loop-second.second c.args.package.now.name c.package.result.now c.loop-second.numbers.items c.loop-second.invariant.0 c.package.ensures (sym same))),
 )
 
 pub returns : goal.returns

@@ -29,6 +29,6 @@ pub returns : goal.returns
 returns c =
     let P : Package → Type 0 = λ p. p.name ≡ c.args.name.now in
     let are : AreProviders c.args.repo.now c.args.name.now c.providers-providers.result.now =
-        subst (λ (name : List ℕ). AreProviders c.args.repo.now name c.providers-providers.result.now) c.bytes.ensures.value c.providers-providers.ensures in
+    subst (λ (name : List ℕ). AreProviders c.args.repo.now name c.providers-providers.result.now) c.bytes.ensures.value c.providers-providers.ensures in
     numbers-from c.args.repo.now P c.loop-number.numbers.items c.put_in_order.new.numbers.items c.put_in_order.ensures.rising c.put_in_order.ensures.same
     (adds-all c.args.repo.now c.args.name.now c.providers-providers.result.now P c.loop-number.number-index [] c.loop-number.numbers.items c.loop-number-test.false are (λ p same. inl same) c.loop-number.invariant)
