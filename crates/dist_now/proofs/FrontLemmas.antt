@@ -255,3 +255,22 @@ pub cause-too : (r : PackageList) (essential : Bool) (c l : ℕ) (error : PushEr
 cause-too r essential c l TooManyClauses cause = stopped-too r essential c l _ cause
 cause-too r essential c l TooManyLiterals cause = stopped-too r essential c l _ cause
 cause-too r essential c l NoMemory cause = tt
+
+-- ---- one set after another
+
+pub set-own : (r : PackageList) (P : Demand → Type 0) (c l : ℕ) (set : ClauseList) → IsSetOf r P c l set → IsSetOf r P set.clause_limit set.literal_limit set
+set-own r P c l set of = record { clauses = of.clauses; variables = of.variables; clause_limit_is = refl; literal_limit_is = refl }
+
+pub set-chain : (r : PackageList) (P Q : Demand → Type 0) (c l : ℕ) (set new : ClauseList) → IsSetOf r P c l set → IsSetOf r Q set.clause_limit set.literal_limit new → IsSetOf r Q c l new
+set-chain r P Q c l set new of then = record {
+  clauses = then.clauses;
+  variables = then.variables;
+  clause_limit_is = then.clause_limit_is ∙ of.clause_limit_is;
+  literal_limit_is = then.literal_limit_is ∙ of.literal_limit_is;
+}
+
+pub cause-chain : (r : PackageList) (essential : Bool) (P : Demand → Type 0) (c l : ℕ) (set : ClauseList) (error : PushError) → IsSetOf r P c l set → IsCauseAt r essential set error → IsCause r essential c l error
+cause-chain r essential P c l set error of cause =
+    let First : ℕ → Type 0 = λ n. IsCause r essential n set.literal_limit error in
+    let Second : ℕ → Type 0 = λ n. IsCause r essential c n error in
+    subst Second of.literal_limit_is (subst First of.clause_limit_is cause)

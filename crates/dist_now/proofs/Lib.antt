@@ -20,3 +20,5 @@ pub mod PartnerLemmas
 pub mod FrontLemmas
 pub mod ClauseShape
 pub mod NameFronts
+pub mod PairFronts
+pub mod PushLemmas

@@ -256,6 +256,7 @@ fn push_name(
     ensures ok { OnOk result (IsNamedFront repo.now (number + 1) set.old set.new) }
     ensures err { IfErr result (IsCauseAt repo.now true set.old) }
 {
+    let _end = repo.len();
     if !package.essential || has_essential_before(repo, number, package) {
         return Ok(());
     }
