@@ -1,5 +1,5 @@
 -- The pairs of one package, in the order of their second numbers.
-use Rattle.std.proofs.Common.{◌≡◌, ◌≢◌, ◌⊎◌, ◌↔◌, ℕ, ◌+◌, ◌<◌, ◌≤◌, Bool, true, false, List, [], ◌∷◌, ◌++◌, length, get_or, refl, sym, ap, subst, ◌∙◌, arith, inl, inr, Some, slice_get}
+use Rattle.std.proofs.Common.{◌≡◌, ◌≢◌, ◌⊎◌, ◌↔◌, ℕ, ◌+◌, ◌<◌, ◌≤◌, Bool, true, false, List, [], ◌∷◌, ◌++◌, length, get_or, refl, sym, ap, ap₂, subst, ◌∙◌, arith, inl, inr, Some, slice_get}
 use Rattle.std.specs.Prelude.{AllPairs, Any, Contains, IsSomeAnd}
 use Rattle.std.specs.List.Sorted.{IsStrictlyIncreasing}
 use Rattle.std.proofs.lemmas.Bool.{cases_lt}
@@ -143,3 +143,12 @@ seconds-are r first p pairs mid old new ordered is_p exact versions partners sam
                 (record { other = first; is_pair = record { are = inr (refl, refl); rising = demand.0 }; has = at-has (Rejects r q) r.packages first p is_p rejects }))
           ])))
         ]
+
+pub pair-within : (r : PackageList) (first second : ℕ) → IsDemand r false (Apart first second) → second < length r.packages
+pair-within r first second demand =
+    let Inner : Package → Type 0 = λ p. IsPackageAnd r.packages second (Apart-either r p) in
+    let p = some-element Inner r.packages first demand.1 in
+    within-from (Apart-either r p) r.packages second (has-at Inner r.packages first p (element-is Inner r.packages first demand.1) demand.1)
+
+pub pair-written : (r : PackageList) (first second : ℕ) (a b : Literal) → a ≡ not_installed first → b ≡ not_installed second → (a ∷ b ∷ []) ≡ (not_installed first ∷ not_installed second ∷ [])
+pair-written r first second a b one two = ap₂ (λ x y. x ∷ y ∷ []) one two

@@ -14,7 +14,16 @@ returns-then-ne c = (
 )
 
 pub returns-then-other : goal.returns-then-other
-returns-then-other c = ?
+returns-then-other c = (
+  λ _. some-below c.args.repo.now c.args.number (c.loop-before.before - 1) c.args.package.now.name c.package-other.result.now
+      (let h = c.loop-before.invariant.0 in let g = c.loop-before-test.true in omega arith) c.package-other.ensures c.if-other.true
+      (names-same c.package-other.result.now.name c.args.package.now.name c.if-ne.ensures),
+  λ _. refl,
+)
 
 pub loop-before-preserved : goal.loop-before-preserved
-loop-before-preserved c = ?
+loop-before-preserved c = (
+  (let h = c.loop-before.invariant.0 in omega arith),
+  none-more c.args.repo.now c.args.number c.args.package.now.name (c.loop-before.before - 1) c.package-other.result.now c.package-other.ensures c.if-other.false
+      (λ k low high. c.loop-before.invariant.1 k (let g = c.loop-before-test.true in omega arith) high),
+)
