@@ -98,12 +98,17 @@ one-list r P clauses other are also =
     (λ d has. (also.exact d).1 ((are.exact d).0 has)) (λ d has. (are.exact d).1 ((also.exact d).0 has))
     ∙ sym are.are
 
+-- the clauses go on behind those of the demands before one, with the clause of that one
+pub goes-on-of : (r : PackageList) (P : Demand → Type 0) (d : Demand) (whole front : List (List Literal)) (clause : List Literal) → AreClausesOf r P whole → AreClausesOf r (λ e. P e × IsBefore e d) front → P d → IsClauseFor r d clause
+    → GoesOn whole front clause
+goes-on-of r P d whole front clause are before here is_clause =
+    let on = rows-front (λ (a : Row). a.0) IsBefore (λ a. IsClauseFor r a.0 a.1) (λ a. a.1) demands-asymmetric (one-image r) (d, clause) is_clause are.rows before.rows are.rising before.rising are.each before.each
+    ((are.exact d).1 here) (λ e has below. (before.exact e).1 ((are.exact e).0 has, below)) (λ e has. (are.exact e).1 ((before.exact e).0 has).0) (λ e has. ((before.exact e).0 has).1) in
+    record { rest = on.rest; is = are.are ∙ on.is ∙ ap (λ (xs : List (List Literal)). xs ++ clause ∷ on.rest) (sym before.are) }
+
 pub goes-on : (r : PackageList) (essential : Bool) (d : Demand) (whole front : List (List Literal)) (clause : List Literal) → ArePresentClauses r essential whole → AreClausesBefore r essential d front
     → IsDemand r essential d → IsClauseFor r d clause → GoesOn whole front clause
-goes-on r essential d whole front clause are before is_demand is_clause =
-    let on = rows-front (λ (a : Row). a.0) IsBefore (λ a. IsClauseFor r a.0 a.1) (λ a. a.1) demands-asymmetric (one-image r) (d, clause) is_clause are.rows before.rows are.rising before.rising are.each before.each
-    ((are.exact d).1 is_demand) (λ e has below. (before.exact e).1 ((are.exact e).0 has, below)) (λ e has. (are.exact e).1 ((before.exact e).0 has).0) (λ e has. ((before.exact e).0 has).1) in
-    record { rest = on.rest; is = are.are ∙ on.is ∙ ap (λ (xs : List (List Literal)). xs ++ clause ∷ on.rest) (sym before.are) }
+goes-on r essential d = goes-on-of r (IsDemand r essential) d
 
 -- ---- fronts
 

@@ -22,3 +22,4 @@ pub mod ClauseShape
 pub mod NameFronts
 pub mod PairFronts
 pub mod PushLemmas
+pub mod ExactLemmas

@@ -28,7 +28,6 @@ HasNoneFrom r number name before = (k : ℕ) → before ≤ k → k < number →
 
 -- ---- the order of names
 
-
 pub names-in-order : (packages : List Package) (i j : ℕ) (p q : Package) → IsInOrder packages → i < j → slice_get packages i ≡ Some p → slice_get packages j ≡ Some q → slice_cmp nat_cmp p.name q.name ≢ Greater
 names-in-order packages i j p q ordered before is_p is_q =
     let first : get_or packages i p ≡ p = get_or_from_slice_get packages i p p is_p in
@@ -156,13 +155,16 @@ named-skipped r number p limits set is skipped of = set-shift r (NamedBefore r n
     from : (d : Demand) → NamedBefore r (number + 1) d → NamedBefore r number d
     from (Item a b) before = before
     from (Apart a b) before = before
-    from (Required name) before = (before.0, elim (below-cases r number p name is before.1) [
-      | inl below ↦ below
-      | inr here ↦ elim skipped [
-        | inl plain ↦ absurd (false≢true (sym plain ∙ here.0))
-        | inr below ↦ subst (IsNamedBelow r number) here.1 below
-      ]
-    ])
+    from (Required name) before = (
+      before.0,
+      elim (below-cases r number p name is before.1) [
+        | inl below ↦ below
+        | inr here ↦ elim skipped [
+          | inl plain ↦ absurd (false≢true (sym plain ∙ here.0))
+          | inr below ↦ subst (IsNamedBelow r number) here.1 below
+        ]
+      ],
+    )
 
 -- names of essential packages before a number are those below the name of its package
 name-before : (r : PackageList) (number : ℕ) (p : Package) (name : List ℕ) → IsInOrder r.packages → slice_get r.packages number ≡ Some p → ¬ IsNamedBelow r number p.name → IsNamedBelow r number name → slice_cmp nat_cmp name p.name ≡ Less

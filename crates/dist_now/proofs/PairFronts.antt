@@ -48,15 +48,15 @@ pub pair-next : (r : PackageList) (first : ℕ) (seconds : List ℕ) (count : �
 pair-next r first seconds count limits set rising are short of =
     pair-shifted r first of.bound (get_or seconds count 0) limits set (of.high count (omega arith) short)
     (λ i up below demand.
-        let there : Contains seconds i = (are i).1 demand in
-        let is = at-index seconds i there in
-        elim (cases_lt there.0 count) [
-          | inl less ↦ let h = of.low there.0 less there.1 in omega arith
-          | inr more ↦ elim (cases_lt count there.0) [
-            | inl less ↦ let h = rises seconds count there.0 rising less there.1 in omega arith
-            | inr most ↦ let same : there.0 ≡ count = omega arith in let also : get_or seconds there.0 0 ≡ get_or seconds count 0 = ap (λ (n : ℕ). get_or seconds n 0) same in omega arith
-          ]
-        ])
+    let there : Contains seconds i = (are i).1 demand in
+    let is = at-index seconds i there in
+    elim (cases_lt there.0 count) [
+      | inl less ↦ let h = of.low there.0 less there.1 in omega arith
+      | inr more ↦ elim (cases_lt count there.0) [
+        | inl less ↦ let h = rises seconds count there.0 rising less there.1 in omega arith
+        | inr most ↦ let same : there.0 ≡ count = omega arith in let also : get_or seconds there.0 0 ≡ get_or seconds count 0 = ap (λ (n : ℕ). get_or seconds n 0) same in omega arith
+      ]
+    ])
     of.front
 
 pub second-demand : (r : PackageList) (first : ℕ) (seconds : List ℕ) (count : ℕ) → AreSeconds r first seconds → count < length seconds → IsDemand r false (Apart first (get_or seconds count 0))
@@ -78,10 +78,10 @@ pub pairs-done : (r : PackageList) (first : ℕ) (seconds : List ℕ) (count : �
 pairs-done r first seconds count limits set are past of =
     pairs-end r first of.bound limits set
     (λ i up demand.
-        let there : Contains seconds i = (are i).1 demand in
-        let is = at-index seconds i there in
-        let h = of.low there.0 (omega (arith, past, there.1)) there.1 in
-        omega arith)
+    let there : Contains seconds i = (are i).1 demand in
+    let is = at-index seconds i there in
+    let h = of.low there.0 (omega (arith, past, there.1)) there.1 in
+    omega arith)
     of.front
 
 -- ---- which they are
@@ -101,14 +101,18 @@ rejecting-conflict r first second ordered rejecting =
     elim with.is_pair.are [
       | inl h ↦
           let at_p : slice_get r.packages first ≡ Some p = ap (λ (i : ℕ). slice_get r.packages i) h.0 ∙ is_p in
-          let at_q : slice_get r.packages second ≡ Some q = ap (λ (i : ℕ). slice_get r.packages i) h.1 ∙ is_q in
-          (less, at-has (λ (x : Package). IsPackageAnd r.packages second (Either x)) r.packages first p at_p (at-has (Either p) r.packages second q at_q
-              (inr (record { different = never-same r.packages first second p q ordered less at_p at_q; matched = inl rejects }))))
+          let at_q : slice_get r.packages second ≡ Some q = ap (λ (i : ℕ). slice_get r.packages i) h.1 ∙ is_q in (
+            less,
+            at-has (λ (x : Package). IsPackageAnd r.packages second (Either x)) r.packages first p at_p (at-has (Either p) r.packages second q at_q
+                (inr (record { different = never-same r.packages first second p q ordered less at_p at_q; matched = inl rejects }))),
+          )
       | inr h ↦
           let at_q : slice_get r.packages first ≡ Some q = ap (λ (i : ℕ). slice_get r.packages i) h.0 ∙ is_q in
-          let at_p : slice_get r.packages second ≡ Some p = ap (λ (i : ℕ). slice_get r.packages i) h.1 ∙ is_p in
-          (less, at-has (λ (x : Package). IsPackageAnd r.packages second (Either x)) r.packages first q at_q (at-has (Either q) r.packages second p at_p
-              (inr (record { different = never-same r.packages first second q p ordered less at_q at_p; matched = inr rejects }))))
+          let at_p : slice_get r.packages second ≡ Some p = ap (λ (i : ℕ). slice_get r.packages i) h.1 ∙ is_p in (
+            less,
+            at-has (λ (x : Package). IsPackageAnd r.packages second (Either x)) r.packages first q at_q (at-has (Either q) r.packages second p at_p
+                (inr (record { different = never-same r.packages first second q p ordered less at_q at_p; matched = inr rejects }))),
+          )
     ]
 
 abbrev Apart-either : PackageList → Package → Package → Type 0
@@ -137,10 +141,16 @@ seconds-are r first p pairs mid old new ordered is_p exact versions partners sam
         elim either [
           | inl named ↦ (partners second).1 (inl ((adds-exact mid (IsVersion r first p.name) versions second).1 (demand.0, at-has (λ (z : Package). p.name ≡ z.name) r.packages second q is_q named)))
           | inr conflict ↦ (partners second).1 (inr ((exact (first, second)).1 (elim conflict.matched [
-            | inl rejects ↦ (first, at-has (λ (x : Package). IsPairWith r first (Rejects r x) (first, second)) r.packages first p is_p
-                (record { other = second; is_pair = record { are = inl (refl, refl); rising = demand.0 }; has = at-has (Rejects r p) r.packages second q is_q rejects }))
-            | inr rejects ↦ (second, at-has (λ (x : Package). IsPairWith r second (Rejects r x) (first, second)) r.packages second q is_q
-                (record { other = first; is_pair = record { are = inr (refl, refl); rising = demand.0 }; has = at-has (Rejects r q) r.packages first p is_p rejects }))
+            | inl rejects ↦ (
+              first,
+              at-has (λ (x : Package). IsPairWith r first (Rejects r x) (first, second)) r.packages first p is_p
+                  (record { other = second; is_pair = record { are = inl (refl, refl); rising = demand.0 }; has = at-has (Rejects r p) r.packages second q is_q rejects }),
+            )
+            | inr rejects ↦ (
+              second,
+              at-has (λ (x : Package). IsPairWith r second (Rejects r x) (first, second)) r.packages second q is_q
+                  (record { other = first; is_pair = record { are = inr (refl, refl); rising = demand.0 }; has = at-has (Rejects r q) r.packages first p is_p rejects }),
+            )
           ])))
         ]
 

@@ -3,6 +3,7 @@
 ghost use Rattle.std.specs.Prelude.{◌≡◌, ◌+◌, ◌<◌, ◌≤◌, ◌↔◌, ◌∷◌, ℕ, false, true, All, Contains, IfErr, IfOk, IsTrue, OnOk, Some, slice_get, length, map};
 ghost use Rattle.std.specs.List.Sorted.{IsNonDecreasingBy, IsStrictlyIncreasing};
 ghost use Rattle.dist_base.specs.declared.TheConstants.{MAX_CLAUSES, MAX_LITERALS, MAX_PACKAGES, MAX_VARIABLES};
+ghost use Rattle.dist_clause.specs.ClauseList.{IsWithinLimits};
 ghost use Rattle.dist_clause.specs.declared.clause_set.PushError.TheVariants.{TooManyClauses, TooManyLiterals};
 ghost use Rattle.dist_now.specs.Gathering.{AreSplitAt, IsCauseAt, IsEssentialSet, IsFront, IsNamedBelow, IsNamedFront, IsPlainSet, IsRejectingPair};
 ghost use Rattle.dist_now.specs.Members.{IsItemAt};
@@ -295,6 +296,7 @@ fn made_clauses(
     requires clauses { clauses ≤ MAX_CLAUSES }
     requires literals { literals ≤ MAX_LITERALS }
     ensures ok { IfOk result (IsSetOf repo.now (IsDemand repo.now essential) clauses literals) }
+    ensures within { IfOk result IsWithinLimits }
     ensures err { IfErr result (IsCause repo.now essential clauses literals) }
 {
     let mut set = ClauseSet::new(alloc, repo.len(), clauses, literals);
@@ -303,6 +305,7 @@ fn made_clauses(
     if essential {
         push_names(repo, &mut scratch, &mut set)?;
     }
+    let _count = set.len();
     Ok(set)
 }
 
