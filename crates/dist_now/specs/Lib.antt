@@ -8,3 +8,4 @@ pub mod PresentClauses
 pub mod PresentSet
 pub mod PresentLaws
 pub mod Gathering
+pub mod PresentExamples
