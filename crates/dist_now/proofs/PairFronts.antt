@@ -118,12 +118,12 @@ rejecting-conflict r first second ordered rejecting =
 abbrev Apart-either : PackageList → Package → Package → Type 0
 Apart-either r x y = (x.name ≡ y.name) ⊎ AreInConflict r.architecture x y
 
-pub seconds-are : (r : PackageList) (first : ℕ) (p : Package) (pairs : List (ℕ × ℕ)) (mid old new : List ℕ) → IsInOrder r.packages → slice_get r.packages first ≡ Some p → ((pair : ℕ × ℕ) → Contains pairs pair ↔ IsRejectingPair r pair)
+pub seconds-are : (r : PackageList) (first : ℕ) (p : Package) (pairs : List (ℕ × ℕ)) (mid old new : List ℕ) → IsInOrder r.packages → slice_get r.packages first ≡ Some p → ((k : ℕ) → Contains pairs (first, k) ↔ IsRejectingPair r (first, k))
     → Adds [] mid (IsVersion r first p.name) → Adds mid old (λ k. Contains pairs (first, k)) → ((k : ℕ) → Contains new k ↔ Contains old k) → AreSeconds r first new
 seconds-are r first p pairs mid old new ordered is_p exact versions partners same second = (
   (λ there. elim ((partners second).0 ((same second).0 there)) [
     | inl version ↦ from-version ((adds-exact mid (IsVersion r first p.name) versions second).0 version)
-    | inr pair ↦ rejecting-conflict r first second ordered ((exact (first, second)).0 pair)
+    | inr pair ↦ rejecting-conflict r first second ordered ((exact second).0 pair)
   ]),
   λ demand. (same second).1 (to demand),
 )
@@ -140,7 +140,7 @@ seconds-are r first p pairs mid old new ordered is_p exact versions partners sam
         let either : Apart-either r p q = has-at (Apart-either r p) r.packages second q is_q inner in
         elim either [
           | inl named ↦ (partners second).1 (inl ((adds-exact mid (IsVersion r first p.name) versions second).1 (demand.0, at-has (λ (z : Package). p.name ≡ z.name) r.packages second q is_q named)))
-          | inr conflict ↦ (partners second).1 (inr ((exact (first, second)).1 (elim conflict.matched [
+          | inr conflict ↦ (partners second).1 (inr ((exact second).1 (elim conflict.matched [
             | inl rejects ↦ (
               first,
               at-has (λ (x : Package). IsPairWith r first (Rejects r x) (first, second)) r.packages first p is_p

@@ -90,3 +90,10 @@ partners-all pairs number start place old new sorted split passed end adds =
     ] in
     (i, high, (low, there.1, ap (λ (x : ℕ × ℕ). x.1) whole)))
     adds
+
+-- all first numbers are at least the first one
+pub split-start : (pairs : List (ℕ × ℕ)) (number : ℕ) → ((pair : ℕ × ℕ) → Contains pairs pair → number ≤ pair.0) → AreSplitAt pairs number 0
+split-start pairs number least = record {
+  before = λ k d less short. absurd (omega arith);
+  behind = λ k d low short. least (get_or pairs k d) (k, short, get_or_default pairs k (get_or pairs k d) d short);
+}

@@ -25,6 +25,16 @@ pub record IsPairWith (r : PackageList) (n : ℕ) (P : Package → Type 0) (pair
   pub is_pair : IsPairOf n other pair
   pub has : IsPackageAnd r.packages other P
 
+-- the pair's first number is one of those from one number up to another
+abbrev pub IsPairIn : (start end : ℕ) → ℕ × ℕ → Type 0
+IsPairIn start end pair = (start ≤ pair.0) × (pair.0 < end)
+
+-- such a pair of a package and another one that has a property
+pub record IsPairWithin (r : PackageList) (start end number other : ℕ) (P : Package → Type 0) (pair : ℕ × ℕ) : Type 0 where
+  pub is_pair : IsPairOf number other pair
+  pub is_in : IsPairIn start end pair
+  pub has : IsPackageAnd r.packages other P
+
 -- a conflict atom of the first package matches the second
 abbrev pub Rejects : PackageList → (p q : Package) → Type 0
 Rejects r p q = Any (λ atom. Matches r.architecture atom q) p.conflicts

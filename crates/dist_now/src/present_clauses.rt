@@ -5,14 +5,14 @@ ghost use Rattle.std.specs.List.Sorted.{IsNonDecreasingBy, IsStrictlyIncreasing}
 ghost use Rattle.dist_base.specs.declared.TheConstants.{MAX_CLAUSES, MAX_LITERALS, MAX_PACKAGES, MAX_VARIABLES};
 ghost use Rattle.dist_clause.specs.ClauseList.{IsWithinLimits};
 ghost use Rattle.dist_clause.specs.declared.clause_set.PushError.TheVariants.{TooManyClauses, TooManyLiterals};
-ghost use Rattle.dist_now.specs.Gathering.{AreSplitAt, IsCauseAt, IsEssentialSet, IsFront, IsNamedBelow, IsNamedFront, IsPlainSet, IsRejectingPair};
+ghost use Rattle.dist_now.specs.Gathering.{AreSplitAt, IsCauseAt, IsEssentialSet, IsFront, IsNamedBelow, IsNamedFront, IsPairIn, IsPlainSet, IsRejectingPair};
 ghost use Rattle.dist_now.specs.Members.{IsItemAt};
 ghost use Rattle.dist_now.specs.PresentClauses.{Apart, Item, Required, IsClauseFor, IsDemand, installed, not_installed};
 ghost use Rattle.dist_now.specs.PresentSet.{IsCause, IsExactly, IsSetOf, PassesClauses, PassesLiterals};
 
 use crate::clause_text::{add_clause, add_installed, not_installed};
 use crate::numbers::{add_versions, gather_meeting, gather_named, put_in_order};
-use crate::rejections::{add_partners, rejections};
+use crate::rejections::{add_partners, next_rejections};
 use dist_base::{MAX_CLAUSES, MAX_LITERALS, MAX_PACKAGES, MAX_VARIABLES};
 use dist_clause::{ClauseSet, Lit, PushError};
 use dist_relation::{Alternatives, Name};
@@ -163,7 +163,7 @@ fn gather_apart(
     numbers: &mut Vec<u32>,
 ) -> Result<usize, AllocError>
     requires first { first < length repo.now.packages }
-    requires exact { (pair : ℕ × ℕ) → Contains pairs.now pair ↔ IsRejectingPair repo.now pair }
+    requires exact { (second : ℕ) → Contains pairs.now (first, second) ↔ IsRejectingPair repo.now (first, second) }
     requires in_order { IsNonDecreasingBy (λ pair. pair.0) pairs.now }
     requires split { AreSplitAt pairs.now first start }
     ensures rising { OnOk result (IsStrictlyIncreasing numbers.new.items) }
@@ -178,27 +178,56 @@ fn gather_apart(
     Ok(end)
 }
 
-/// Adds the clauses of all pairs.
-fn push_pairs(
+/// Adds the clauses of the pairs with first numbers from one up to another.
+fn push_pairs_from(
     repo: &Repository,
+    from: u32,
+    to: u32,
     pairs: &[(u32, u32)],
     numbers: &mut Vec<u32>,
     set: &mut ClauseSet,
 ) -> Result<(), PushError>
     requires packages { length repo.now.packages ≤ MAX_PACKAGES }
-    requires exact { (pair : ℕ × ℕ) → Contains pairs.now pair ↔ IsRejectingPair repo.now pair }
+    requires rising { from ≤ to }
+    requires within { to ≤ length repo.now.packages }
+    requires exact { (pair : ℕ × ℕ) → Contains pairs.now pair ↔ (IsPairIn from to pair × IsRejectingPair repo.now pair) }
     requires in_order { IsNonDecreasingBy (λ pair. pair.0) pairs.now }
-    requires front { IsFront repo.now (Apart 0 0) set.old set.old }
-    ensures ok { OnOk result (IsPlainSet repo.now set.old set.new) }
+    requires front { IsFront repo.now (Apart from 0) set.old set.old }
+    ensures ok { OnOk result (IsFront repo.now (Apart to 0) set.old set.new) }
     ensures err { IfErr result (IsCauseAt repo.now false set.old) }
 {
     let mut start = 0;
-    for first in 0..repo.len() {
+    for first in from..to {
         match gather_apart(repo, first, pairs, start, numbers) {
             Ok(end) => start = end,
             Err(AllocError) => return Err(PushError::NoMemory),
         }
         push_pairs_of(repo, first, numbers, set)?;
+    }
+    Ok(())
+}
+
+/// Adds the clauses of all pairs.
+fn push_pairs(
+    alloc: Global,
+    repo: &Repository,
+    numbers: &mut Vec<u32>,
+    set: &mut ClauseSet,
+) -> Result<(), PushError>
+    requires packages { length repo.now.packages ≤ MAX_PACKAGES }
+    requires front { IsFront repo.now (Apart 0 0) set.old set.old }
+    ensures ok { OnOk result (IsPlainSet repo.now set.old set.new) }
+    ensures err { IfErr result (IsCauseAt repo.now false set.old) }
+{
+    let end = repo.len();
+    let mut first = 0;
+    while first < end {
+        let next = match next_rejections(alloc, repo, first) {
+            Ok(next) => next,
+            Err(AllocError) => return Err(PushError::NoMemory),
+        };
+        push_pairs_from(repo, first, next.end, &next.pairs, numbers, set)?;
+        first = next.end;
     }
     Ok(())
 }
@@ -216,10 +245,7 @@ fn push_plain(
     ensures err { IfErr result (IsCauseAt repo.now false set.old) }
 {
     push_items(repo, scratch, set)?;
-    match rejections(alloc, repo) {
-        Ok(pairs) => push_pairs(repo, &pairs, &mut scratch.numbers, set),
-        Err(AllocError) => Err(PushError::NoMemory),
-    }
+    push_pairs(alloc, repo, &mut scratch.numbers, set)
 }
 
 /// Whether an essential package before one has its name.

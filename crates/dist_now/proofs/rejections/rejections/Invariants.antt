@@ -5,4 +5,4 @@ use Rattle.dist_now.proofs.rejections.rejections.Given as goal
 
 -- the pairs of the packages so far were added
 abbrev pub invariant-loop-number : goal.invariant-loop-number
-invariant-loop-number l = AddsUpTo [] l.pairs.items (IsPairOfPackage l.repo) l.number
+invariant-loop-number l = AddsUpTo [] l.pairs.items (IsPairOfPackage l.repo l.span.start l.span.end) l.number
