@@ -1,6 +1,6 @@
 -- Clauses of demands: one list for a repository, its fronts, and what adds a clause to a front.
-use Rattle.std.proofs.Common.{◌≡◌, ◌⊎◌, ℕ, ◌+◌, ◌<◌, Bool, List, [], ◌∷◌, ◌++◌, length, get_or, map, nat_cmp, Ordering, Less, Equal, Greater, refl, sym, ap, ap₂, subst, ◌∙◌, arith, inl, inr, Some, Option, slice_get}
-use Rattle.std.specs.Prelude.{All, AllPairs, Any, Contains, IsSomeAnd}
+use Rattle.std.proofs.Common.{◌≡◌, ◌⊎◌, ℕ, ◌<◌, Bool, List, [], ◌∷◌, ◌++◌, length, get_or, map, nat_cmp, Less, refl, sym, ap, subst, ◌∙◌, arith, inl, inr, Some, slice_get}
+use Rattle.std.specs.Prelude.{Any, IsSomeAnd}
 use Rattle.std.specs.Cmp.Lexicographic.{slice_cmp}
 use Rattle.std.proofs.lemmas.Cmp.{nat_list_cmp_total}
 use Rattle.std.proofs.lemmas.List.{get_or_default, map-append}
@@ -8,14 +8,14 @@ use Rattle.std.proofs.lemmas.List.Elements.{All-nil, All-push}
 use Rattle.std.proofs.lemmas.List.Quantifiers.{all_pairs_push, Any-push}
 use Rattle.dist_clause.specs.Formula.{Literal}
 use Rattle.dist_relation.specs.declared.atom.Atom.{Atom}
-use Rattle.dist_repo.specs.PackageList.{PackageList, IsPackageAnd}
+use Rattle.dist_repo.specs.PackageList.{PackageList}
 use Rattle.dist_repo.specs.declared.package.Package.{Package}
 use Rattle.dist_now.specs.PresentClauses.{Demand, Item, Apart, Required, AreClausesOf, AreNumbersOf, ArePresentClauses, AreClausesBefore, IsBefore, IsClauseFor, IsDemand, IsLesser, IsItemAnd, IsMetBy, installed, not_installed}
 use Rattle.dist_now.specs.PresentLaws.{GoesOn}
 use Rattle.dist_now.proofs.HealthyLemmas.{pairs-none}
 use Rattle.dist_now.proofs.MemberLemmas.{any-cases}
 use Rattle.dist_now.proofs.Places.{any-head, any-later, has-at, some-element, element-is}
-use Rattle.dist_now.proofs.RisingRows.{Has, HasOneImage, IsAsymmetric, rows-same, rows-front, same-numbers}
+use Rattle.dist_now.proofs.RisingRows.{HasOneImage, IsAsymmetric, rows-same, rows-front, same-numbers}
 
 -- ---- the order of demands
 

@@ -1,13 +1,12 @@
 -- Fronts of the clauses of the present, up to an item or a pair, and why a set stops there.
-use Rattle.std.proofs.Common.{◌≡◌, ◌≢◌, ◌⊎◌, ◌↔◌, ℕ, zero, suc, ◌+◌, ◌<◌, ◌≤◌, Bool, true, false, List, [], ◌∷◌, ◌++◌, length, get_or, refl, sym, ap, ap₂, subst, ◌∙◌, arith, inl, inr, Some, slice_get}
-use Rattle.std.specs.Prelude.{Any, Contains, IsSomeAnd}
+use Rattle.std.proofs.Common.{◌≡◌, ◌⊎◌, ℕ, ◌+◌, ◌<◌, ◌≤◌, Bool, false, List, [], ◌∷◌, ◌++◌, length, refl, sym, ap, ap₂, subst, ◌∙◌, arith, inl, inr, Some, slice_get}
+use Rattle.std.specs.Prelude.{IsSomeAnd}
 use Rattle.std.proofs.lemmas.Bool.{cases_lt}
-use Rattle.dist_clause.specs.ClauseList.{ClauseList, literal_count}
+use Rattle.dist_clause.specs.ClauseList.{ClauseList}
 use Rattle.dist_clause.specs.Formula.{Literal}
 use Rattle.dist_clause.specs.declared.clause_set.PushError.{PushError}
 use Rattle.dist_clause.specs.declared.clause_set.PushError.TheVariants.{TooManyClauses, TooManyLiterals, NoMemory}
-use Rattle.dist_relation.specs.declared.atom.Atom.{Atom}
-use Rattle.dist_repo.specs.PackageList.{PackageList, IsPackageAnd}
+use Rattle.dist_repo.specs.PackageList.{PackageList}
 use Rattle.dist_repo.specs.declared.package.Package.{Package}
 use Rattle.dist_now.specs.Gathering.{IsCauseAt, IsFront, IsPlainSet, IsRefused}
 use Rattle.dist_now.specs.PresentClauses.{Demand, Item, Apart, Required, AreClausesOf, IsBefore, IsClauseFor, IsDemand, IsMetBy}

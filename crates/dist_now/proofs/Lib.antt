@@ -23,3 +23,4 @@ pub mod NameFronts
 pub mod PairFronts
 pub mod PushLemmas
 pub mod ExactLemmas
+pub mod SomeClauses

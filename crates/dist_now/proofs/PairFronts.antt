@@ -1,6 +1,6 @@
 -- The pairs of one package, in the order of their second numbers.
-use Rattle.std.proofs.Common.{◌≡◌, ◌≢◌, ◌⊎◌, ◌↔◌, ℕ, ◌+◌, ◌<◌, ◌≤◌, Bool, true, false, List, [], ◌∷◌, ◌++◌, length, get_or, refl, sym, ap, ap₂, subst, ◌∙◌, arith, inl, inr, Some, slice_get}
-use Rattle.std.specs.Prelude.{AllPairs, Any, Contains, IsSomeAnd}
+use Rattle.std.proofs.Common.{◌≡◌, ◌⊎◌, ◌↔◌, ℕ, ◌+◌, ◌<◌, ◌≤◌, false, List, [], ◌∷◌, ◌++◌, length, get_or, refl, ap, ap₂, ◌∙◌, arith, inl, inr, Some, slice_get}
+use Rattle.std.specs.Prelude.{Contains}
 use Rattle.std.specs.List.Sorted.{IsStrictlyIncreasing}
 use Rattle.std.proofs.lemmas.Bool.{cases_lt}
 use Rattle.std.proofs.lemmas.List.{get_or_default}
@@ -8,12 +8,11 @@ use Rattle.std.proofs.lemmas.List.Kept.{AllPairs-from_increasing}
 use Rattle.dist_clause.specs.ClauseList.{ClauseList}
 use Rattle.dist_clause.specs.Formula.{Literal}
 use Rattle.dist_repo.specs.Conflict.{AreInConflict}
-use Rattle.dist_repo.specs.Match.{Matches}
 use Rattle.dist_repo.specs.Order.{IsInOrder}
 use Rattle.dist_repo.specs.PackageList.{PackageList, IsPackageAnd}
 use Rattle.dist_repo.specs.declared.package.Package.{Package}
-use Rattle.dist_now.specs.Gathering.{Adds, IsFront, IsPairOf, IsPairWith, IsRejectingPair, Rejects}
-use Rattle.dist_now.specs.PresentClauses.{Demand, Item, Apart, Required, IsClauseFor, IsDemand, not_installed}
+use Rattle.dist_now.specs.Gathering.{Adds, IsFront, IsPairWith, IsRejectingPair, Rejects}
+use Rattle.dist_now.specs.PresentClauses.{Apart, IsDemand, not_installed}
 use Rattle.dist_now.proofs.AddsLemmas.{adds-exact}
 use Rattle.dist_now.proofs.ConflictLemmas.{never-same}
 use Rattle.dist_now.proofs.FrontLemmas.{pair-pushed, pair-shifted, pairs-end}

@@ -1,9 +1,7 @@
 -- Pairs of numbers of packages of which one rejects the other.
-use Rattle.std.proofs.Common.{◌≡◌, ◌≢◌, ◌⊎◌, ◌↔◌, ℕ, ◌+◌, ◌<◌, ◌≤◌, List, [], ◌∷◌, ◌++◌, length, get_or, refl, sym, ap, subst, ◌∙◌, arith, inl, inr, Some, slice_get}
-use Rattle.std.specs.Prelude.{Any, Contains, IsSomeAnd}
-use Rattle.std.specs.List.Sorted.{IsNonDecreasingBy}
+use Rattle.std.proofs.Common.{◌≡◌, ◌↔◌, ℕ, ◌≤◌, List, [], ◌∷◌, ◌++◌, length, get_or, sym, ap, subst, ◌∙◌, arith, inl, inr, Some, slice_get}
+use Rattle.std.specs.Prelude.{Contains, IsSomeAnd}
 use Rattle.std.proofs.lemmas.List.{get_or_default}
-use Rattle.std.proofs.lemmas.Bool.{cases_lt}
 use Rattle.std.proofs.lemmas.Option.{slice_get-get_or}
 use Rattle.dist_relation.specs.declared.atom.Atom.{Atom}
 use Rattle.dist_repo.specs.Match.{Matches}
@@ -14,7 +12,7 @@ use Rattle.dist_now.specs.Gathering.{Adds, IsPairIn, IsPairOf, IsPairWithin, IsP
 use Rattle.dist_now.proofs.AddsLemmas.{UpTo, AddsUpTo, adds-exact, adds-nothing, adds-one, adds-same}
 use Rattle.dist_now.proofs.MemberLemmas.{matched-provides, within-from}
 use Rattle.dist_now.proofs.Places.{any-at, at-has, has-at, some-element, element-is}
-use Rattle.dist_now.proofs.SetLemmas.{at-more, same-at}
+use Rattle.dist_now.proofs.SetLemmas.{at-more}
 
 -- ---- the pairs of a package and those that an atom matches
 

@@ -1,8 +1,7 @@
 -- What one call that adds a clause does to a front.
-use Rattle.std.proofs.Common.{◌≡◌, ◌≢◌, ◌⊎◌, ◌↔◌, ℕ, ◌+◌, ◌<◌, ◌≤◌, Bool, true, false, List, [], ◌∷◌, ◌++◌, length, get_or, map, refl, sym, ap, subst, ◌∙◌, arith, inl, inr, Some, slice_get, eqb, eqb-true, eq-eqb}
-use Rattle.std.specs.Prelude.{All, Any, Contains, IsSomeAnd, IfErr, OnOk, Result}
+use Rattle.std.proofs.Common.{◌≡◌, ℕ, ◌<◌, ◌≤◌, Bool, true, false, List, [], ◌∷◌, ◌++◌, length, get_or, map, sym, subst, ◌∙◌, arith, slice_get, eqb, eqb-true, eq-eqb}
+use Rattle.std.specs.Prelude.{Contains, IsSomeAnd, IfErr, OnOk, Result}
 use Rattle.std.proofs.lemmas.Bool.{false≢true}
-use Rattle.std.proofs.lemmas.List.{get_or_default}
 use Rattle.std.proofs.lemmas.Option.{slice_get_within}
 use Rattle.std.proofs.lemmas.Result.{IfErr-weaker, on_ok_weaker}
 use Rattle.dist_clause.specs.ClauseList.{ClauseList}
@@ -11,11 +10,11 @@ use Rattle.dist_clause.specs.declared.clause_set.PushError.{PushError}
 use Rattle.dist_relation.specs.declared.atom.Atom.{Atom}
 use Rattle.dist_repo.specs.PackageList.{PackageList, IsPackageAnd}
 use Rattle.dist_repo.specs.declared.package.Package.{Package}
-use Rattle.dist_now.specs.Gathering.{IsCauseAt, IsFront, IsRefused}
+use Rattle.dist_now.specs.Gathering.{IsCauseAt, IsRefused}
 use Rattle.dist_now.specs.Members.{IsItemAt}
-use Rattle.dist_now.specs.PresentClauses.{Demand, Item, Apart, Required, AreNumbersOf, IsBefore, IsClauseFor, IsDemand, IsMetBy, installed, not_installed}
+use Rattle.dist_now.specs.PresentClauses.{Demand, Item, AreNumbersOf, IsBefore, IsClauseFor, IsDemand, IsMetBy, installed, not_installed}
 use Rattle.dist_now.specs.PresentSet.{IsSetOf}
-use Rattle.dist_now.proofs.FrontLemmas.{item-pushed, item-skipped, stops}
+use Rattle.dist_now.proofs.FrontLemmas.{stops}
 use Rattle.dist_now.proofs.Places.{at-has, has-at}
 
 -- ---- a test whether a number is there

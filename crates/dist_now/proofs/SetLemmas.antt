@@ -1,25 +1,21 @@
 -- Lists of packages: which packages are in them, and what depends on that alone.
-use Rattle.std.proofs.Common.{◌≡◌, ◌≢◌, ◌⊎◌, ◌↔◌, ℕ, zero, suc, ◌<◌, Bool, true, false, cond, List, [], ◌∷◌, length, get_or, map, Some, None, Option, Ordering, Less, Equal, Greater, refl, sym, ap, subst, ◌∙◌, arith, inl, inr, slice_get}
-use Rattle.std.specs.Prelude.{All, AllPairs, Any, Contains, IsSomeAnd, filter}
+use Rattle.std.proofs.Common.{◌≡◌, ◌≢◌, ℕ, zero, suc, Bool, List, [], ◌∷◌, get_or, Some, Option, sym, ap, subst, ◌∙◌, arith, inl, inr, slice_get}
+use Rattle.std.specs.Prelude.{All, AllPairs, Any, Contains, IsSomeAnd}
 use Rattle.std.specs.Ordering.{ordering_reverse}
 use Rattle.std.proofs.lemmas.Bool.{cases_lt}
 use Rattle.std.proofs.lemmas.List.{get_or_default}
 use Rattle.std.proofs.lemmas.List.Elements.{All-contains}
-use Rattle.std.proofs.lemmas.Option.{slice_get-get_or, slice_get_within, get_or_from_slice_get}
-use Rattle.dist_version.specs.Order.{version_cmp}
+use Rattle.std.proofs.lemmas.Option.{slice_get-get_or}
 use Rattle.dist_version.specs.OrderLaws.{version_total}
 use Rattle.dist_relation.specs.declared.atom.Atom.{Atom}
 use Rattle.dist_repo.specs.Conflict.{AreInConflict}
-use Rattle.dist_repo.specs.Healthy.{Healthy, IsMet, required_names}
+use Rattle.dist_repo.specs.Healthy.{IsMet, required_names}
 use Rattle.dist_repo.specs.Match.{Matches}
 use Rattle.dist_repo.specs.Order.{IsSamePackage}
-use Rattle.dist_repo.specs.PackageList.{PackageList, IsPackageAnd}
+use Rattle.dist_repo.specs.PackageList.{PackageList}
 use Rattle.dist_repo.specs.Strong.{IsInstallation}
 use Rattle.dist_repo.specs.declared.package.Package.{Package}
 use Rattle.dist_now.specs.PresentLaws.{AreSamePackages, HasNoRepeats}
-use Rattle.dist_now.proofs.HealthyLemmas.{contains-at, all-at}
-use Rattle.dist_now.proofs.MemberLemmas.{any-cases}
-use Rattle.dist_now.proofs.Places.{any-head, any-later, has-at, some-element, element-is}
 
 -- ---- places
 

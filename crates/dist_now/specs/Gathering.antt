@@ -1,5 +1,5 @@
 -- What is gathered on the way to the clauses of the present.
-use Rattle.std.specs.Prelude.{◌≡◌, ◌≢◌, ◌⊎◌, ◌↔◌, ℕ, ◌+◌, ◌<◌, ◌≤◌, Bool, true, false, List, Any, Contains, length, slice_index_or}
+use Rattle.std.specs.Prelude.{◌≡◌, ◌⊎◌, ◌↔◌, ℕ, ◌+◌, ◌<◌, ◌≤◌, Bool, true, false, List, Any, Contains, length, slice_index_or}
 use Rattle.dist_clause.specs.ClauseList.{ClauseList, literal_count}
 use Rattle.dist_clause.specs.Formula.{Literal}
 use Rattle.dist_clause.specs.declared.clause_set.PushError.{PushError}

@@ -1,10 +1,9 @@
 -- Worked examples of the clauses of the present: package a depends on b, and b conflicts with a.
-use Rattle.std.specs.Prelude.{◌≡◌, ◌⊎◌, ℕ, zero, suc, ◌+◌, ◌<◌, true, false, List, [], ◌∷◌, None, Any, Contains, codes, length, refl}
-use Rattle.std.proofs.Common.{ap, arith, get_or, inl, inr, lit<, sym, subst, ◌∙◌}
+use Rattle.std.specs.Prelude.{◌≡◌, ℕ, zero, suc, ◌<◌, true, false, List, [], ◌∷◌, None, Contains, codes, length, refl}
+use Rattle.std.proofs.Common.{ap, arith, get_or, inl, inr, lit<, sym, subst}
 use Rattle.dist_clause.specs.Formula.{literal}
 use Rattle.dist_relation.specs.declared.atom.Atom.{Atom}
 use Rattle.dist_relation.specs.declared.atom.Qualifier.TheVariants.{Plain}
-use Rattle.dist_repo.specs.Conflict.{AreInConflict}
 use Rattle.dist_repo.specs.Match.{Matches}
 use Rattle.dist_repo.specs.PackageList.{PackageList, IsPackageAnd}
 use Rattle.dist_repo.specs.declared.package.Package.{Package}

@@ -42,6 +42,7 @@ pub(crate) fn add_clause(set: &mut ClauseSet, clause: &[Lit]) -> Result<(), Push
     ensures ok { OnOk result (set.new ≡ record set.old { clauses = set.old.clauses ++ clause.now ∷ [] }) }
     ensures err { IfErr result (IsRefused set.old clause.now) }
 {
+    // What this call tells is that the set is within its limits.
     let _count = set.len();
     set.push(clause)
 }

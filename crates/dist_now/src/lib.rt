@@ -18,7 +18,8 @@ pub use kinds::Health;
 pub use laws::one_health;
 pub use present_clauses::clauses_of;
 pub use present_laws::{
-    health_is_of_sets, models_are_installations, present_clauses_are_one, present_clauses_go_on,
+    health_is_of_sets, models_are_installations, present_clauses_are_one,
+    present_clauses_are_there, present_clauses_go_on,
 };
 
 #[cfg(test)]

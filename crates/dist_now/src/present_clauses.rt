@@ -1,5 +1,5 @@
-//! The clauses of the present, made in their order, so that the first limit that they pass ends the work. It takes time
-//! for the providers of the names in atoms and for the literals made.
+//! The clauses of the present, made in their order, so that the first limit that they pass ends the work. The time goes
+//! into the providers of the names in atoms, and into the literals that are written.
 ghost use Rattle.std.specs.Prelude.{◌≡◌, ◌+◌, ◌<◌, ◌≤◌, ◌↔◌, ◌∷◌, ℕ, false, true, All, Contains, IfErr, IfOk, IsTrue, OnOk, Some, slice_get, length, map};
 ghost use Rattle.std.specs.List.Sorted.{IsNonDecreasingBy, IsStrictlyIncreasing};
 ghost use Rattle.dist_base.specs.declared.TheConstants.{MAX_CLAUSES, MAX_LITERALS, MAX_PACKAGES, MAX_VARIABLES};
@@ -27,6 +27,7 @@ struct Scratch {
 }
 
 impl Scratch {
+    /// Empty vectors.
     fn new(alloc: Global) -> Scratch {
         Scratch {
             numbers: Vec::new(alloc),
@@ -170,6 +171,7 @@ fn gather_apart(
     ensures exact { OnOk result ((second : ℕ) → Contains numbers.new.items second ↔ IsDemand repo.now false (Apart first second)) }
     ensures split { IfOk result (λ end. AreSplitAt pairs.now (first + 1) end) }
 {
+    // What this call tells is that packages are in order.
     let _end = repo.len();
     numbers.clear();
     add_versions(repo, first, repo.package(first), numbers)?;
@@ -253,7 +255,7 @@ fn has_essential_before(repo: &Repository, number: u32, package: &Package) -> bo
     requires { slice_get repo.now.packages number ≡ Some «package».now }
     ensures { IsTrue result ↔ IsNamedBelow repo.now number «package».now.name }
 {
-    // Packages are in the order of their names, so those of one name stand together.
+    // Packages are in the order of their names, as this call tells, so those of one name stand together.
     let _end = repo.len();
     let mut before = number;
     while before > 0 {
@@ -283,6 +285,7 @@ fn push_name(
     ensures ok { OnOk result (IsNamedFront repo.now (number + 1) set.old set.new) }
     ensures err { IfErr result (IsCauseAt repo.now true set.old) }
 {
+    // What this call tells is that packages are in order.
     let _end = repo.len();
     if !package.essential || has_essential_before(repo, number, package) {
         return Ok(());
@@ -331,6 +334,7 @@ fn made_clauses(
     if essential {
         push_names(repo, &mut scratch, &mut set)?;
     }
+    // What this call tells is that the set is within its limits.
     let _count = set.len();
     Ok(set)
 }

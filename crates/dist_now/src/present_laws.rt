@@ -8,6 +8,11 @@ ghost use Rattle.dist_repo.specs.declared.package.Package.{Package};
 ghost use Rattle.dist_now.specs.PresentClauses.{ArePresentClauses, AreClausesBefore, Demand, IsClauseFor, IsDemand};
 ghost use Rattle.dist_now.specs.PresentLaws.{AreModelsInstallations, AreSamePackages, GoesOn, HasNoRepeats};
 
+/// There is a list of clauses of the present.
+pub fn present_clauses_are_there()
+    ensures { (r : PackageList) (essential : Bool) → IsInOrder r.packages → (clauses : List (List Literal)) × ArePresentClauses r essential clauses }
+{}
+
 /// A repository has one list of clauses of the present.
 pub fn present_clauses_are_one()
     ensures { (r : PackageList) (essential : Bool) (clauses other : List (List Literal)) → ArePresentClauses r essential clauses

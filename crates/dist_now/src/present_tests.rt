@@ -21,6 +21,7 @@ type Stanza = (
     bool,
 );
 
+/// The package of a stanza.
 fn package(alloc: Global, stanza: &Stanza) -> Result<Package, Fail> {
     let (name, version, depends, conflicts, provides, essential) = *stanza;
     Ok(Package {
@@ -46,6 +47,7 @@ fn add(builder: &mut Builder, package: Package) -> Result<(), Fail>
     }
 }
 
+/// The repository of some stanzas.
 fn repository(alloc: Global, stanzas: &[Stanza]) -> Result<Repository, Fail>
     requires { length stanzas.now < 100 }
 {

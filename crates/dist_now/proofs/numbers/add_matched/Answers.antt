@@ -1,4 +1,4 @@
-use Rattle.std.proofs.Common.{refl, true, sym, ◌∙◌, get_or}
+use Rattle.std.proofs.Common.{refl}
 use Rattle.std.proofs.lemmas.Bool.{false≢true}
 use Rattle.dist_repo.specs.Match.{Matches}
 use Rattle.dist_now.proofs.AddsLemmas.{adds-more}

@@ -1,4 +1,4 @@
-use Rattle.std.proofs.Common.{◌≡◌, ◌<◌, ◌+◌, arith, sym}
+use Rattle.std.proofs.Common.{arith, sym}
 use Rattle.dist_now.proofs.AddsLemmas.{adds-more}
 use Rattle.dist_now.proofs.NameLemmas.{names-apart}
 use Rattle.dist_now.proofs.VersionLemmas.{IsVersionAt, names-same, versions-all, versions-end, versions-more, versions-none}

@@ -1,4 +1,4 @@
-use Rattle.std.specs.Prelude.{◌≡◌, ◌<◌}
+use Rattle.std.specs.Prelude.{◌<◌}
 use Rattle.dist_now.proofs.AddsLemmas.{AddsUpTo}
 use Rattle.dist_now.proofs.VersionLemmas.{IsVersionAt}
 use Rattle.dist_now.proofs.numbers.add_versions.Given as goal

@@ -1,5 +1,5 @@
-use Rattle.std.proofs.Common.{◌≡◌, ℕ, ◌-◌, ◌+◌, arith, true, refl}
-use Rattle.dist_now.proofs.NameFronts.{none-below, none-more, none-named, some-below}
+use Rattle.std.proofs.Common.{◌-◌, arith, refl}
+use Rattle.dist_now.proofs.NameFronts.{none-more, none-named, some-below}
 use Rattle.dist_now.proofs.NameLemmas.{names-apart}
 use Rattle.dist_now.proofs.VersionLemmas.{names-same}
 use Rattle.dist_now.proofs.present_clauses.has_essential_before.Goals as goal

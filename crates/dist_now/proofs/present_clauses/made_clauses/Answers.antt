@@ -1,7 +1,6 @@
-use Rattle.std.proofs.Common.{◌≡◌, ℕ, false, List, [], subst, sym, refl}
+use Rattle.std.proofs.Common.{false, subst, sym, refl}
 use Rattle.std.proofs.lemmas.Result.{err_from_is_err_and}
 use Rattle.dist_clause.specs.ClauseList.{ClauseList}
-use Rattle.dist_clause.specs.Formula.{Literal}
 use Rattle.dist_now.specs.Gathering.{IsCauseAt, IsFront}
 use Rattle.dist_now.specs.PresentClauses.{Item}
 use Rattle.dist_now.proofs.FrontLemmas.{cause-too, front-start}

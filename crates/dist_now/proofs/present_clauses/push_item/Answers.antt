@@ -1,9 +1,8 @@
-use Rattle.std.proofs.Common.{◌≡◌, ℕ, ◌+◌, ◌<◌, ◌≤◌, false, List, ◌∷◌, length, map, arith, sym, subst, ◌∙◌}
-use Rattle.std.specs.Prelude.{All, Contains}
-use Rattle.dist_base.specs.declared.TheConstants.{MAX_PACKAGES, MAX_VARIABLES}
-use Rattle.dist_clause.specs.ClauseList.{ClauseList}
+use Rattle.std.proofs.Common.{ℕ, ◌+◌, false, List, ◌∷◌, length, map, arith, subst, ◌∙◌}
+use Rattle.std.specs.Prelude.{Contains}
+use Rattle.dist_base.specs.declared.TheConstants.{MAX_VARIABLES}
 use Rattle.dist_now.specs.Gathering.{IsFront}
-use Rattle.dist_now.specs.PresentClauses.{Item, IsDemand, IsMetBy, installed, not_installed}
+use Rattle.dist_now.specs.PresentClauses.{Item, IsMetBy, installed, not_installed}
 use Rattle.dist_now.proofs.ClauseShape.{below-more, item-clause, numbers-below}
 use Rattle.dist_now.proofs.FrontLemmas.{item-pushed, item-skipped}
 use Rattle.dist_now.proofs.PushLemmas.{contains-false, contains-true, item-demand, item-is-clause, item-within, itself-meets, over-set, pushed-err, pushed-ok}

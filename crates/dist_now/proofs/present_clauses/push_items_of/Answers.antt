@@ -1,5 +1,4 @@
 use Rattle.std.proofs.Common.{arith}
-use Rattle.dist_now.specs.PresentClauses.{Item}
 use Rattle.dist_now.proofs.FrontLemmas.{items-end}
 use Rattle.dist_now.proofs.present_clauses.push_items_of.Goals as goal
 

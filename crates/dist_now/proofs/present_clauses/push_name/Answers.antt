@@ -1,7 +1,5 @@
-use Rattle.std.proofs.Common.{◌≡◌, ℕ, ◌+◌, true, false, List, length, map, arith, sym, subst, ◌∙◌, inl, inr, refl}
+use Rattle.std.proofs.Common.{◌+◌, true, length, map, sym, subst, ◌∙◌, inl, inr, refl}
 use Rattle.std.proofs.lemmas.Bool.{false≢true}
-use Rattle.dist_clause.specs.ClauseList.{ClauseList}
-use Rattle.dist_clause.specs.Formula.{Literal}
 use Rattle.dist_now.specs.Gathering.{IsNamedBelow, IsNamedFront}
 use Rattle.dist_now.specs.PresentClauses.{Required, IsClauseFor, installed}
 use Rattle.dist_now.proofs.ClauseShape.{installed-clause}

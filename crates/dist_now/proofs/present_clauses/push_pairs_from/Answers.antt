@@ -1,7 +1,4 @@
-use Rattle.std.proofs.Common.{◌≡◌, ◌↔◌, ℕ, ◌<◌, ◌≤◌, List, arith, subst, sym}
-use Rattle.std.specs.Prelude.{Contains}
-use Rattle.dist_now.specs.Gathering.{IsFront, IsRejectingPair}
-use Rattle.dist_now.specs.PresentClauses.{Apart}
+use Rattle.std.proofs.Common.{subst, sym}
 use Rattle.dist_now.proofs.PairFronts.{AreSeconds}
 use Rattle.dist_now.proofs.PartnerLemmas.{split-start}
 use Rattle.dist_now.proofs.present_clauses.push_pairs_from.Goals as goal

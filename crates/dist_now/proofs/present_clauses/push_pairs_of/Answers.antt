@@ -1,7 +1,7 @@
-use Rattle.std.proofs.Common.{◌≡◌, ℕ, ◌+◌, ◌<◌, ◌≤◌, false, List, [], ◌∷◌, length, get_or, arith, sym, subst, ◌∙◌, refl}
+use Rattle.std.proofs.Common.{◌+◌, false, length, get_or, arith, sym, subst}
 use Rattle.std.proofs.lemmas.Result.{err_from_is_err_and}
 use Rattle.dist_clause.specs.ClauseList.{ClauseList}
-use Rattle.dist_now.specs.PresentClauses.{Apart, IsDemand, not_installed}
+use Rattle.dist_now.specs.PresentClauses.{Apart}
 use Rattle.dist_now.proofs.ClauseShape.{pair-clause}
 use Rattle.dist_now.proofs.FrontLemmas.{stops}
 use Rattle.dist_now.proofs.PairFronts.{IsPairFront, pair-more, pair-next, pair-within, pair-written, pairs-done, pairs-start, second-demand}

@@ -1,7 +1,6 @@
-use Rattle.std.proofs.Common.{◌≡◌, refl}
-use Rattle.std.proofs.lemmas.Bool.{false≢true}
+use Rattle.std.proofs.Common.{refl}
 use Rattle.dist_repo.specs.Match.{Matches}
-use Rattle.dist_now.proofs.PairLemmas.{pair-added, pair-itself, pair-not, pair-not-in}
+use Rattle.dist_now.proofs.PairLemmas.{pair-added, pair-itself}
 use Rattle.dist_now.proofs.rejections.add_match.Goals as goal
 
 pub returns-then-other-number : goal.returns-then-other-number

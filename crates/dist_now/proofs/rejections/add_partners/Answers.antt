@@ -1,5 +1,4 @@
-use Rattle.std.proofs.Common.{◌≡◌, ◌≢◌, ◌<◌, ◌≤◌, length, arith, sym, ◌∙◌, inl, inr, ap, ℕ, get_or}
-use Rattle.std.proofs.lemmas.List.{get_or_default}
+use Rattle.std.proofs.Common.{inl, inr}
 use Rattle.dist_now.proofs.AddsLemmas.{adds-more}
 use Rattle.dist_now.proofs.PartnerLemmas.{IsPartnerAt, partner-more, partners-all, partners-none, passed-more, passed-none, split-next}
 use Rattle.dist_now.proofs.rejections.add_partners.Goals as goal

@@ -1,5 +1,4 @@
-use Rattle.std.proofs.Common.{◌-◌, ◌≤◌, length}
-use Rattle.dist_now.specs.Gathering.{AreSplitAt}
+use Rattle.std.proofs.Common.{◌-◌, length}
 use Rattle.dist_now.proofs.AddsLemmas.{AddsUpTo}
 use Rattle.dist_now.proofs.PartnerLemmas.{IsPartnerAt, ArePassed}
 use Rattle.dist_now.proofs.rejections.add_partners.Given as goal

@@ -1,4 +1,4 @@
-use Rattle.std.proofs.Common.{◌≡◌, ℕ, ◌<◌, List, length, arith, sym, subst}
+use Rattle.std.proofs.Common.{ℕ, ◌<◌, List, length, arith, sym, subst}
 use Rattle.std.specs.Prelude.{All}
 use Rattle.dist_base.specs.declared.TheConstants.{MAX_VARIABLES}
 use Rattle.dist_now.proofs.ClauseShape.{below-more, numbers-below}
