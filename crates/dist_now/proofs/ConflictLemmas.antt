@@ -22,7 +22,7 @@ use Rattle.dist_now.proofs.Places.{any-at, at-has, has-at, some-element, element
 -- ---- conflicts
 
 -- packages at two places are different
-never-same : (packages : List Package) (a b : ℕ) (p q : Package) → IsInOrder packages → a < b → slice_get packages a ≡ Some p → slice_get packages b ≡ Some q → ¬ IsSamePackage p q
+pub never-same : (packages : List Package) (a b : ℕ) (p q : Package) → IsInOrder packages → a < b → slice_get packages a ≡ Some p → slice_get packages b ≡ Some q → ¬ IsSamePackage p q
 never-same packages a b p q ordered before is_p is_q same =
     let first : get_or packages a p ≡ p = get_or_from_slice_get packages a p p is_p in
     let second : get_or packages b p ≡ q = get_or_from_slice_get packages b q p is_q in

@@ -17,44 +17,44 @@ use Rattle.dist_now.proofs.Places.{at-has}
 -- ---- lists
 
 -- the element that has a property
-record Found {X : Type 0} (P : X → Type 0) (o : Option X) : Type 0 where
-  value : X
-  is_value : o ≡ Some value
-  holds : P value
+pub record Found {X : Type 0} (P : X → Type 0) (o : Option X) : Type 0 where
+  pub value : X
+  pub is_value : o ≡ Some value
+  pub holds : P value
 
-found : {X : Type 0} (P : X → Type 0) (o : Option X) → IsSomeAnd o P → Found P o
+pub found : {X : Type 0} (P : X → Type 0) (o : Option X) → IsSomeAnd o P → Found P o
 found P None here = absurd here
 found P (Some x) here = record { value = x; is_value = refl; holds = here }
 
-contains-at : {X : Type 0} (xs : List X) (k : ℕ) (x : X) → slice_get xs k ≡ Some x → Contains xs x
+pub contains-at : {X : Type 0} (xs : List X) (k : ℕ) (x : X) → slice_get xs k ≡ Some x → Contains xs x
 contains-at xs k x is = (k, slice_get_within xs k x is, get_or_from_slice_get xs k x x is)
 
-all-at : {X : Type 0} (P : X → Type 0) (xs : List X) → All P xs → (k : ℕ) (x : X) → slice_get xs k ≡ Some x → P x
+pub all-at : {X : Type 0} (P : X → Type 0) (xs : List X) → All P xs → (k : ℕ) (x : X) → slice_get xs k ≡ Some x → P x
 all-at P xs all k x is = All-contains P xs x all (contains-at xs k x is)
 
-all-from : {X : Type 0} (P : X → Type 0) (xs : List X) → ((k : ℕ) (x : X) → slice_get xs k ≡ Some x → P x) → All P xs
+pub all-from : {X : Type 0} (P : X → Type 0) (xs : List X) → ((k : ℕ) (x : X) → slice_get xs k ≡ Some x → P x) → All P xs
 all-from P xs each k d short = each k (get_or xs k d) (slice_get-get_or xs k d short)
 
-pairs-none : {X : Type 0} (R : X → X → Type 0) → AllPairs R []
+pub pairs-none : {X : Type 0} (R : X → X → Type 0) → AllPairs R []
 pairs-none R i j d in_order short = absurd (omega arith)
 
-pairs-head : {X : Type 0} (R : X → X → Type 0) (x : X) (xs : List X) → AllPairs R (x ∷ xs) → All (R x) xs
+pub pairs-head : {X : Type 0} (R : X → X → Type 0) (x : X) (xs : List X) → AllPairs R (x ∷ xs) → All (R x) xs
 pairs-head R x xs pairs k d short = pairs zero (suc k) d (omega arith) (omega arith)
 
-pairs-tail : {X : Type 0} (R : X → X → Type 0) (x : X) (xs : List X) → AllPairs R (x ∷ xs) → AllPairs R xs
+pub pairs-tail : {X : Type 0} (R : X → X → Type 0) (x : X) (xs : List X) → AllPairs R (x ∷ xs) → AllPairs R xs
 pairs-tail R x xs pairs i j d in_order short = pairs (suc i) (suc j) d (omega arith) (omega arith)
 
 -- ---- the elements that pass a test
 
 -- each element that passes has the property
-abbrev EachPassed : {X : Type 0} → (X → Bool) → (X → Type 0) → List X → Type 0
+abbrev pub EachPassed : {X : Type 0} → (X → Bool) → (X → Type 0) → List X → Type 0
 EachPassed {X} test P xs = (k : ℕ) (x : X) → slice_get xs k ≡ Some x → test x ≡ true → P x
 
 passed-more : {X : Type 0} (test : X → Bool) (P : X → Type 0) (x : X) (xs : List X) (answer : Bool) → test x ≡ answer → (test x ≡ true → P x) → All P (filter test xs) → All P (cond answer (x ∷ filter test xs) (filter test xs))
 passed-more test P x xs true passes here later = All-cons P x (filter test xs) (here passes) later
 passed-more test P x xs false fails here later = later
 
-all-passed : {X : Type 0} (test : X → Bool) (P : X → Type 0) (xs : List X) → EachPassed test P xs → All P (filter test xs)
+pub all-passed : {X : Type 0} (test : X → Bool) (P : X → Type 0) (xs : List X) → EachPassed test P xs → All P (filter test xs)
 all-passed test P [] each = All-nil P
 all-passed test P (x ∷ xs) each =
     passed-more test P x xs (test x) refl (each 0 x refl) (all-passed test P xs (λ k y is. each (suc k) y is))
@@ -67,7 +67,7 @@ passed-later : {X : Type 0} (test : X → Bool) (P : X → Type 0) (x : X) (xs :
 passed-later test P x xs true all = All-tail P x (filter test xs) all
 passed-later test P x xs false all = all
 
-passed-at : {X : Type 0} (test : X → Bool) (P : X → Type 0) (xs : List X) → All P (filter test xs) → EachPassed test P xs
+pub passed-at : {X : Type 0} (test : X → Bool) (P : X → Type 0) (xs : List X) → All P (filter test xs) → EachPassed test P xs
 passed-at test P [] all k x is passes = cc
 passed-at {X} test P (y ∷ ys) all zero x is passes =
     let same : y ≡ x = cc in
@@ -79,17 +79,17 @@ passed-at test P (y ∷ ys) all (suc k) x is passes =
 -- ---- members, by their numbers
 
 -- the package of a number is a member
-record IsMember (packages : List Package) (flags : List Bool) (number : ℕ) (p : Package) : Type 0 where
-  member : slice_get flags number ≡ Some true
-  there : slice_get packages number ≡ Some p
+pub record IsMember (packages : List Package) (flags : List Bool) (number : ℕ) (p : Package) : Type 0 where
+  pub member : slice_get flags number ≡ Some true
+  pub there : slice_get packages number ≡ Some p
 
-abbrev EachMember : (Package → Type 0) → List Package → List Bool → Type 0
+abbrev pub EachMember : (Package → Type 0) → List Package → List Bool → Type 0
 EachMember P packages flags = (k : ℕ) (p : Package) → IsMember packages flags k p → P p
 
-abbrev EachTwoMembers : (Package → Package → Type 0) → List Package → List Bool → Type 0
+abbrev pub EachTwoMembers : (Package → Package → Type 0) → List Package → List Bool → Type 0
 EachTwoMembers R packages flags = (i j : ℕ) (p q : Package) → i < j → IsMember packages flags i p → IsMember packages flags j q → R p q
 
-all-members : (P : Package → Type 0) (packages : List Package) (flags : List Bool) → EachMember P packages flags → All P (members_of packages flags)
+pub all-members : (P : Package → Type 0) (packages : List Package) (flags : List Bool) → EachMember P packages flags → All P (members_of packages flags)
 all-members P [] flags each = All-nil P
 all-members P (p ∷ packages) [] each = All-nil P
 all-members P (p ∷ packages) (true ∷ flags) each =
@@ -98,7 +98,7 @@ all-members P (p ∷ packages) (true ∷ flags) each =
 all-members P (p ∷ packages) (false ∷ flags) each =
     all-members P packages flags (λ k q m. each (suc k) q (record { member = m.member; there = m.there }))
 
-each-member : (P : Package → Type 0) (packages : List Package) (flags : List Bool) → All P (members_of packages flags) → EachMember P packages flags
+pub each-member : (P : Package → Type 0) (packages : List Package) (flags : List Bool) → All P (members_of packages flags) → EachMember P packages flags
 each-member P [] flags all k q m = let there = m.there in cc
 each-member P (p ∷ packages) [] all k q m = let member = m.member in cc
 each-member P (p ∷ packages) (true ∷ flags) all zero q m =
@@ -109,7 +109,7 @@ each-member P (p ∷ packages) (true ∷ flags) all (suc k) q m =
 each-member P (p ∷ packages) (false ∷ flags) all (suc k) q m =
     each-member P packages flags all k q (record { member = m.member; there = m.there })
 
-all-two : (R : Package → Package → Type 0) (packages : List Package) (flags : List Bool) → EachTwoMembers R packages flags → AllPairs R (members_of packages flags)
+pub all-two : (R : Package → Package → Type 0) (packages : List Package) (flags : List Bool) → EachTwoMembers R packages flags → AllPairs R (members_of packages flags)
 all-two R [] flags each = pairs-none R
 all-two R (p ∷ packages) [] each = pairs-none R
 all-two R (p ∷ packages) (true ∷ flags) each =
@@ -122,7 +122,7 @@ all-two R (p ∷ packages) (false ∷ flags) each =
     all-two R packages flags
     (λ i j q s in_order m n. each (suc i) (suc j) q s (omega arith) (record { member = m.member; there = m.there }) (record { member = n.member; there = n.there }))
 
-each-two : (R : Package → Package → Type 0) (packages : List Package) (flags : List Bool) → AllPairs R (members_of packages flags) → EachTwoMembers R packages flags
+pub each-two : (R : Package → Package → Type 0) (packages : List Package) (flags : List Bool) → AllPairs R (members_of packages flags) → EachTwoMembers R packages flags
 each-two R [] flags pairs i j p q in_order m n = let there = m.there in cc
 each-two R (y ∷ packages) [] pairs i j p q in_order m n = let member = m.member in cc
 each-two R (y ∷ packages) (b ∷ flags) pairs i zero p q in_order m n = absurd (omega arith)
@@ -140,7 +140,7 @@ each-two R (y ∷ packages) (false ∷ flags) pairs (suc i) (suc j) p q in_order
 
 -- ---- pairs of members in a relation
 
-two-from : (r : PackageList) (flags : List Bool) (R : Package → Package → Type 0) → IsNoPair (AreMembers r flags R) → AllPairs (λ p q. ¬ R p q) (members_of r.packages flags)
+pub two-from : (r : PackageList) (flags : List Bool) (R : Package → Package → Type 0) → IsNoPair (AreMembers r flags R) → AllPairs (λ p q. ¬ R p q) (members_of r.packages flags)
 two-from r flags R none = all-two (λ p q. ¬ R p q) r.packages flags
     (λ i j p q in_order m n related. none i j (record {
       in_order = in_order;
@@ -148,7 +148,7 @@ two-from r flags R none = all-two (λ p q. ¬ R p q) r.packages flags
       related = record { member = m.member; has = at-has (λ x. IsPackageAnd r.packages j (R x)) r.packages i p m.there (at-has (R p) r.packages j q n.there related) };
     }))
 
-no-two : (r : PackageList) (flags : List Bool) (R : Package → Package → Type 0) → AllPairs (λ p q. ¬ R p q) (members_of r.packages flags) → IsNoPair (AreMembers r flags R)
+pub no-two : (r : PackageList) (flags : List Bool) (R : Package → Package → Type 0) → AllPairs (λ p q. ¬ R p q) (members_of r.packages flags) → IsNoPair (AreMembers r flags R)
 no-two r flags R pairs i j are =
     let first = found (λ x. IsPackageAnd r.packages j (R x)) (slice_get r.packages i) are.related.has in
     let second = found (R first.value) (slice_get r.packages j) first.holds in
@@ -172,10 +172,10 @@ met-from r flags none = all-members (λ p. All (IsMet r.architecture (members_of
 -- ---- essential packages
 
 -- some member has the name
-abbrev HasName : PackageList → List Bool → List ℕ → Type 0
+abbrev pub HasName : PackageList → List Bool → List ℕ → Type 0
 HasName r flags name = Any (λ q. q.name ≡ name) (members_of r.packages flags)
 
-names-from : (r : PackageList) (flags : List Bool) (essential : Bool) → (essential ≡ true → (n : ℕ) → ¬ IsMissing r flags n) → All (HasName r flags) (required_names essential r.packages)
+pub names-from : (r : PackageList) (flags : List Bool) (essential : Bool) → (essential ≡ true → (n : ℕ) → ¬ IsMissing r flags n) → All (HasName r flags) (required_names essential r.packages)
 names-from r flags false none = All-nil (HasName r flags)
 names-from r flags true none =
     All-map (HasName r flags) (λ p. p.name) (filter (λ p. p.essential) r.packages)
@@ -212,7 +212,7 @@ no-unmet r flags essential healthy n k unmet =
     item.holds (all-at (IsMet r.architecture (members_of r.packages flags)) holder.value.depends each k item.value item.is_value)
 
 -- what holds of each image holds of each element's
-all-before_map : {X Y : Type 0} (P : Y → Type 0) (f : X → Y) (xs : List X) → All P (map f xs) → All (λ x. P (f x)) xs
+pub all-before_map : {X Y : Type 0} (P : Y → Type 0) (f : X → Y) (xs : List X) → All P (map f xs) → All (λ x. P (f x)) xs
 all-before_map P f [] all = All-nil (λ x. P (f x))
 all-before_map P f (x ∷ xs) all =
     All-cons (λ y. P (f y)) x xs (all 0 (f x) (omega arith)) (all-before_map P f xs (All-tail P (f x) (map f xs) all))

@@ -11,14 +11,14 @@ use Rattle.std.proofs.lemmas.Slice.Eq.{bytes_eq-Decides}
 use Rattle.dist_repo.specs.Order.{IsInOrder}
 use Rattle.dist_repo.specs.declared.package.Package.{Package}
 
-same_names : (a b : List ℕ) → slice_cmp nat_cmp a b ≡ Equal → a ≡ b
+pub same_names : (a b : List ℕ) → slice_cmp nat_cmp a b ≡ Equal → a ≡ b
 same_names a b is = (bytes_eq-Decides a b).0 (sym (is_eq-slice_cmp a b) ∙ ap is_eq is)
 
 -- names that a comparison of bytes tells apart
 pub names-apart : (a b : List ℕ) → true ≡ not (bytes_eq a b) → a ≢ b
 names-apart a b apart same = false≢true (sym (apart ∙ ap not ((bytes_eq-Decides a b).1 same)))
 
-then-less : (a b : Ordering) → ordering_then a b ≡ Less → a ≢ Greater
+pub then-less : (a b : Ordering) → ordering_then a b ≡ Less → a ≢ Greater
 then-less Less b is e = cc
 then-less Equal b is e = cc
 then-less Greater b is e = cc

@@ -4,3 +4,8 @@ pub mod Members
 pub mod Fit
 pub mod Rows
 pub mod Rejected
+pub mod PresentClauses
+pub mod PresentSet
+pub mod PresentLaws
+pub mod Gathering
+pub mod PresentExamples

@@ -1,0 +1,31 @@
+use Rattle.std.proofs.Common.{refl}
+use Rattle.std.proofs.lemmas.Bool.{false≢true}
+use Rattle.dist_repo.specs.Match.{Matches}
+use Rattle.dist_now.proofs.AddsLemmas.{adds-more}
+use Rattle.dist_now.proofs.MemberLemmas.{matched-provides}
+use Rattle.dist_now.proofs.NumberLemmas.{IsAtAnd, adds-all, adds-at, adds-not, provider-within}
+use Rattle.dist_now.proofs.numbers.add_matched.Goals.{then-matches+in_ok-push, else-matches}
+use Rattle.dist_now.proofs.numbers.add_matched.Goals as goal
+
+pub package-requires : goal.package-requires
+package-requires c = provider-within c.args.repo.now c.args.atom.now.name c.args.providers.now c.loop-number.number-index c.requires c.loop-number-test.true
+
+pub loop-number-preserved : goal.loop-number-preserved
+loop-number-preserved c =
+    let P = Matches c.args.repo.now.architecture c.args.atom.now in
+    let Of = IsAtAnd c.args.repo.now c.args.providers.now P in
+    elim c.if-matches.branch [
+      | then-matches+in_ok-push w ↦
+          rw (w.numbers-is, w.in_ok-push.ensures.items)
+          (adds-more c.args.numbers.now.items c.loop-number.numbers.items _ Of c.loop-number.number-index c.loop-number.invariant
+          (adds-at c.args.repo.now c.args.providers.now P c.loop-number.number-index c.package.result.now c.loop-number.numbers.items c.package.ensures (w.if-matches.ensures.0 refl)))
+      | else-matches w ↦
+          rw w.numbers-is
+          (adds-more c.args.numbers.now.items c.loop-number.numbers.items c.loop-number.numbers.items Of c.loop-number.number-index c.loop-number.invariant
+          (adds-not c.args.repo.now c.args.providers.now P c.loop-number.number-index c.package.result.now c.loop-number.numbers.items c.package.ensures (λ matches. false≢true (w.if-matches.ensures.1 matches))))
+    ]
+
+pub returns : goal.returns
+returns c =
+    adds-all c.args.repo.now c.args.atom.now.name c.args.providers.now (Matches c.args.repo.now.architecture c.args.atom.now) c.loop-number.number-index c.args.numbers.now.items c.loop-number.numbers.items
+    c.loop-number-test.false c.requires (matched-provides c.args.repo.now.architecture c.args.atom.now) c.loop-number.invariant

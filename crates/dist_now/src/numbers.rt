@@ -1,0 +1,101 @@
+//! Numbers of packages that a clause speaks of, gathered into one vector that is used again and again.
+ghost use Rattle.std.specs.Prelude.{◌≡◌, ◌≢◌, ◌<◌, ◌↔◌, ℕ, Any, Contains, OnOk, Some, slice_get};
+ghost use Rattle.std.specs.List.Sorted.{IsStrictlyIncreasing};
+ghost use Rattle.dist_repo.specs.Match.{Matches};
+ghost use Rattle.dist_repo.specs.PackageList.{IsPackageAnd};
+ghost use Rattle.dist_repo.specs.Providers.{AreProviders};
+ghost use Rattle.dist_now.specs.Gathering.{Adds};
+ghost use Rattle.dist_now.specs.Members.{IsItemAt};
+ghost use Rattle.dist_now.specs.PresentClauses.{AreNumbersOf, IsMetBy};
+
+use dist_relation::{Alternatives, Atom, Name};
+use dist_repo::{Package, Repository};
+use std::alloc::AllocError;
+
+/// Puts numbers in their order, each once.
+pub(crate) fn put_in_order(numbers: &mut Vec<u32>)
+    ensures rising { IsStrictlyIncreasing numbers.new.items }
+    ensures same { (k : ℕ) → Contains numbers.new.items k ↔ Contains numbers.old.items k }
+{
+    numbers.sort_unstable();
+    numbers.dedup();
+}
+
+/// Adds the packages that an atom matches.
+fn add_matched(
+    repo: &Repository,
+    atom: &Atom,
+    providers: &[u32],
+    numbers: &mut Vec<u32>,
+) -> Result<(), AllocError>
+    requires { AreProviders repo.now atom.now.name providers.now }
+    ensures { OnOk result (Adds numbers.old.items numbers.new.items (λ k. IsPackageAnd repo.now.packages k (Matches repo.now.architecture atom.now))) }
+{
+    for number in providers {
+        if repo.matches(atom, repo.package(*number)) {
+            numbers.push(*number)?;
+        }
+    }
+    Ok(())
+}
+
+/// Gathers the packages that meet the item at a place of a package.
+pub(crate) fn gather_meeting(
+    repo: &Repository,
+    number: u32,
+    item: usize,
+    alternatives: &Alternatives,
+    numbers: &mut Vec<u32>,
+) -> Result<(), AllocError>
+    requires { IsItemAt repo.now.packages number item alternatives.now }
+    ensures { OnOk result (AreNumbersOf repo.now (IsMetBy repo.now.architecture alternatives.now) numbers.new.items) }
+{
+    numbers.clear();
+    for place in 0..alternatives.len() {
+        let atom = alternatives.get(place);
+        let providers = repo.alternative_providers(number, item, place);
+        add_matched(repo, atom, providers, numbers)?;
+    }
+    put_in_order(numbers);
+    Ok(())
+}
+
+/// Gathers the packages of a name.
+pub(crate) fn gather_named(
+    repo: &Repository,
+    name: &Name,
+    numbers: &mut Vec<u32>,
+) -> Result<(), AllocError>
+    ensures { OnOk result (AreNumbersOf repo.now (λ p. p.name ≡ name.now) numbers.new.items) }
+{
+    numbers.clear();
+    let providers = repo.providers(name.bytes());
+    for number in providers {
+        if repo.package(*number).name == *name {
+            numbers.push(*number)?;
+        }
+    }
+    put_in_order(numbers);
+    Ok(())
+}
+
+/// Adds the packages behind a package that have its name.
+pub(crate) fn add_versions(
+    repo: &Repository,
+    first: u32,
+    package: &Package,
+    numbers: &mut Vec<u32>,
+) -> Result<(), AllocError>
+    requires { slice_get repo.now.packages first ≡ Some «package».now }
+    ensures { OnOk result (Adds numbers.old.items numbers.new.items (λ k. (first < k) × IsPackageAnd repo.now.packages k (λ q. «package».now.name ≡ q.name))) }
+{
+    // Packages are in the order of their names, so those of one name stand together.
+    let end = repo.len();
+    for second in first + 1..end {
+        if repo.package(second).name != package.name {
+            return Ok(());
+        }
+        numbers.push(second)?;
+    }
+    Ok(())
+}
