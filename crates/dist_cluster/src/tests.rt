@@ -1,0 +1,2 @@
+//! Worked rows: clusters of packages by source, source version and version.
+use super::*;
