@@ -1,5 +1,5 @@
 -- What is found of all members is their partition, and there is one.
-use Rattle.std.proofs.Common.{◌≡◌, ◌≢◌, ◌↔◌, ◌⊎◌, ℕ, zero, suc, ◌+◌, ◌<◌, ◌≤◌, List, [], ◌∷◌, length, get_or, Some, None, Option, refl, sym, ap, subst, ◌∙◌, arith, inl, inr, slice_get}
+use Rattle.std.proofs.Common.{◌≡◌, ◌≢◌, ◌↔◌, ◌⊎◌, ℕ, zero, suc, ◌+◌, ◌^◌, ◌<◌, ◌≤◌, List, [], ◌∷◌, length, get_or, Some, None, Option, refl, sym, ap, subst, ◌∙◌, arith, inl, inr, slice_get}
 use Rattle.std.specs.Prelude.{All, AllPairs, Any, Contains, IsSomeAnd}
 use Rattle.std.specs.List.Sorted.{IsStrictlyIncreasing}
 use Rattle.std.proofs.lemmas.Bool.{cases_lt}
@@ -250,3 +250,21 @@ one-partition members a b p q =
       ]
     ] in
     same_lists a b lengths (λ k d short. get_or_default a k d [] short ∙ ((agree k).0 short).1 ∙ get_or_default b k [] d (omega (arith, short)))
+
+-- ---- clusters as they are kept
+
+pub listed-place : (clusters tops : List (List ℕ)) (cluster_of : List ℕ) → IsListed clusters tops cluster_of → (m : ℕ) → Any (λ cluster. Contains cluster m) clusters → m < length cluster_of
+listed-place clusters tops cluster_of listed m any =
+    let is : slice_get clusters any.0 ≡ Some any.1 = slice_get-get_or clusters any.0 any.1 any.2 ∙ ap (λ list. Some list) any.3 in
+    slice_get_within cluster_of m any.0 ((listed.placed any.0 m).0 (some-at (λ (list : List ℕ). Contains list m) (slice_get clusters any.0) any.1 is any.4))
+
+pub listed-exact : (clusters tops : List (List ℕ)) (cluster_of : List ℕ) → IsListed clusters tops cluster_of → (m r : ℕ) → m < length cluster_of → r ≡ get_or cluster_of m r → (c : ℕ) → IsIn clusters c m ↔ (c ≡ r)
+listed-exact clusters tops cluster_of listed m r short is c =
+    let at : slice_get cluster_of m ≡ Some r = slice_get-get_or cluster_of m r short ∙ ap (λ k. Some k) (sym is) in (
+      (λ here. same_Some _ _ (sym ((listed.placed c m).0 here) ∙ at)),
+      λ same. (listed.placed c m).1 (at ∙ ap (λ k. Some k) (sym same)),
+    )
+
+pub listed-from : (members : List Member) (n : ℕ) (numbers : List (Member × ℕ)) (clusters tops : List (List ℕ)) (cluster_of : List ℕ) → n < 2 ^ 32 → AreFound members n numbers clusters cluster_of →
+    length tops ≡ length clusters → IsListed clusters tops cluster_of
+listed-from members n numbers clusters tops cluster_of small found aligned = record { aligned = aligned; few = let few = found.few in omega arith; placed = found.placed }

@@ -1,11 +1,13 @@
 -- The top of a cluster, member by member.
-use Rattle.std.proofs.Common.{◌≡◌, ◌≢◌, ◌↔◌, ◌⊎◌, ℕ, ◌+◌, ◌<◌, List, [], ◌∷◌, ◌++◌, length, get_or, take, nat_cmp, Ordering, Less, Equal, Greater, Some, None, Option, refl, sym, ap, subst, ◌∙◌, arith, inl, inr, slice_get}
+use Rattle.std.proofs.Common.{◌≡◌, ◌≢◌, ◌↔◌, ◌⊎◌, ℕ, Bool, IsTrue, is_lt, ◌+◌, ◌<◌, List, [], ◌∷◌, ◌++◌, length, get_or, take, nat_cmp, Ordering, Less, Equal, Greater, Some, None, Option, refl, sym, ap, subst, ◌∙◌, arith, inl, inr, slice_get}
 use Rattle.std.specs.Prelude.{Any, Contains, IsSomeAnd}
 use Rattle.std.specs.Cmp.{IsTotalOrder}
 use Rattle.std.specs.Cmp.Lexicographic.{slice_cmp}
 use Rattle.std.specs.Ordering.{ordering_then, ordering_reverse}
 use Rattle.std.proofs.lemmas.Cmp.{back_total, nat_list_cmp_total, then_total, tied_itself, tied_back}
-use Rattle.std.proofs.lemmas.Option.{slice_get_within, slice_get-get_or, get_or_from_slice_get, same_Some}
+use Rattle.std.proofs.lemmas.Bool.{cases_lt}
+use Rattle.std.proofs.lemmas.List.{length_push, get_or_append_left, get_or_default, get_or_push}
+use Rattle.std.proofs.lemmas.Option.{same_Some}
 use Rattle.dist_version.specs.Order.{version_cmp, IsBelow}
 use Rattle.dist_version.specs.OrderLaws.{version_total}
 use Rattle.dist_cluster.specs.Found.{top_cmp}
@@ -109,3 +111,41 @@ module _ (members : List Member) (cluster : List ℕ) (place n : ℕ) (member : 
           not_above (ap (top_cmp top) same ∙ less)
     ],
   )
+
+lt-is : (o : Ordering) → IsTrue (is_lt o) ↔ (o ≡ Less)
+lt-is Less = ((λ _. refl), λ _. refl)
+lt-is Equal = ((λ e. cc), λ e. cc)
+lt-is Greater = ((λ e. cc), λ e. cc)
+
+pub lt-iff : (b : Bool) (o whole : Ordering) → b ≡ is_lt o → o ≡ whole → IsTrue b ↔ (whole ≡ Less)
+lt-iff b o whole is same =
+    let lt = lt-is o in ((λ holds. sym same ∙ lt.0 (sym is ∙ holds)), λ less. is ∙ lt.1 (same ∙ less))
+
+-- ---- the tops of the clusters so far
+
+pub record AreTopsSoFar (members : List Member) (clusters tops : List (List ℕ)) (count : ℕ) : Type 0 where
+  pub counted : length tops ≡ count
+  pub each : (c : ℕ) → c < count → IsTop members (get_or clusters c []) (get_or tops c [])
+
+pub tops-none : (members : List Member) (clusters : List (List ℕ)) → AreTopsSoFar members clusters [] 0
+tops-none members clusters = record { counted = refl; each = λ c short. absurd (omega arith) }
+
+pub tops-more : (members : List Member) (clusters tops : List (List ℕ)) (count : ℕ) (cluster top : List ℕ) → count < length clusters → cluster ≡ get_or clusters count cluster → IsTop members cluster top →
+    AreTopsSoFar members clusters tops count → AreTopsSoFar members clusters (tops ++ top ∷ []) (count + 1)
+tops-more members clusters tops count cluster top short is highest before = record {
+  counted = length_push tops top ∙ ap (λ k. k + 1) before.counted;
+  each = λ c below. elim (cases_lt c count) [
+    | inl h ↦
+        let P : List ℕ → Type 0 = λ t. IsTop members (get_or clusters c []) t in
+        subst P (sym (get_or_append_left tops (top ∷ []) [] c (omega (arith, before.counted)))) (before.each c h)
+    | inr h ↦
+        let last : count ≡ c = omega arith in
+        let P : List ℕ → Type 0 = λ t. IsTop members cluster t in
+        let Q : List ℕ → Type 0 = λ list. IsTop members list (get_or (tops ++ top ∷ []) count []) in
+        let R : ℕ → Type 0 = λ k. IsTop members (get_or clusters k []) (get_or (tops ++ top ∷ []) k []) in
+        subst R last (subst Q (is ∙ get_or_default clusters count cluster [] short) (subst P (sym (get_or_push tops top [] count before.counted)) highest))
+  ];
+}
+
+pub tops-all : (members : List Member) (clusters tops : List (List ℕ)) (count : ℕ) → count ≡ length clusters → AreTopsSoFar members clusters tops count → AreTops members (record { members = clusters; tops = tops })
+tops-all members clusters tops count all so_far = record { aligned = so_far.counted ∙ all; each = λ c short. so_far.each c (omega arith) }
