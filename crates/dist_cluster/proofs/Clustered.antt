@@ -1,5 +1,5 @@
 -- To be clustered is a tie in a total order, so that it is an equivalence.
-use Rattle.std.proofs.Common.{◌≡◌, ◌≢◌, ℕ, List, Bool, true, false, cond, [], ◌∷◌, Ordering, Less, Equal, Greater, nat_cmp, is_eq, Option, Some, None, refl, sym, ap, ◌∙◌}
+use Rattle.std.proofs.Common.{◌≡◌, ℕ, List, Bool, true, cond, [], ◌∷◌, Ordering, Less, Equal, Greater, nat_cmp, is_eq, Some, refl, sym, ap, ◌∙◌}
 use Rattle.std.specs.BTreeMap.{is_at}
 use Rattle.std.specs.Cmp.Lexicographic.{slice_cmp}
 use Rattle.std.specs.Map.{lookup}

@@ -1,19 +1,19 @@
 -- What one more member changes of what is found, and what is found of all members.
-use Rattle.std.proofs.Common.{◌≡◌, ◌≢◌, ◌↔◌, ◌⊎◌, ℕ, ◌+◌, ◌<◌, ◌≤◌, Bool, true, false, cond, List, [], ◌∷◌, ◌++◌, length, get_or, set, Some, None, Option, refl, sym, ap, subst, ◌∙◌, arith, inl, inr, slice_get}
-use Rattle.std.specs.Prelude.{All, AllPairs, Any, Contains, IsSomeAnd}
+use Rattle.std.proofs.Common.{◌≡◌, ◌≢◌, ◌↔◌, ◌⊎◌, ℕ, ◌+◌, ◌<◌, cond, List, [], ◌∷◌, ◌++◌, length, get_or, set, Some, None, Option, refl, sym, ap, subst, ◌∙◌, arith, inl, inr, slice_get}
+use Rattle.std.specs.Prelude.{Contains, IsSomeAnd}
 use Rattle.std.specs.BTreeMap.{is_at}
 use Rattle.std.specs.List.Sorted.{IsStrictlyIncreasing}
 use Rattle.std.proofs.lemmas.Bool.{cases_Bool, cases_eq}
 use Rattle.std.proofs.lemmas.List.{length-set, length_push, get_or-set_same, get_or-set_other, get_or_append_left, get_or_default}
-use Rattle.std.proofs.lemmas.List.Elements.{All-set, All-push, All-get_or, Contains-append_left, Contains-push, Contains-push_cases}
+use Rattle.std.proofs.lemmas.List.Elements.{All-set, All-push, Contains-append_left, Contains-push, Contains-push_cases}
 use Rattle.std.proofs.lemmas.List.Quantifiers.{all_pairs_push}
-use Rattle.std.proofs.lemmas.Option.{slice_get_within, slice_get-get_or, get_or_from_slice_get, same_Some}
+use Rattle.std.proofs.lemmas.Option.{slice_get_within, slice_get-get_or, same_Some}
 use Rattle.dist_cluster.specs.Found.{AreFound, IsIn, number_at}
 use Rattle.dist_cluster.specs.Partition.{least}
 use Rattle.dist_cluster.specs.Relation.{Member, AreClustered}
 use Rattle.dist_cluster.specs.Total.{member_cmp}
 use Rattle.dist_cluster.proofs.Clustered.{clustered-joined, clustered-turned, number-same, clustered-found, found-itself}
-use Rattle.dist_cluster.proofs.Places.{some-of, some-at, contains-at, get-left, get-here, get-cases, get-set_same, get-set_other, increasing-push, increasing-one}
+use Rattle.dist_cluster.proofs.Places.{some-of, some-at, get-left, get-here, get-cases, get-set_same, get-set_other, increasing-push, increasing-one}
 
 -- ---- nothing is found of no members
 
@@ -50,7 +50,7 @@ contains-least xs some = (0, some, get_or_default xs 0 (least xs) 0 some)
 -- ---- a member joins a cluster
 
 module _ (members : List Member) (n c : ℕ) (member : Member) (numbers : List (Member × ℕ)) (clusters : List (List ℕ)) (cluster_of : List ℕ)
-  (found : AreFound members n numbers clusters cluster_of) (at : slice_get members n ≡ Some member) (number : number_at numbers member ≡ Some c) where
+    (found : AreFound members n numbers clusters cluster_of) (at : slice_get members n ≡ Some member) (number : number_at numbers member ≡ Some c) where
   old : List ℕ
   old = get_or clusters c []
 
@@ -146,8 +146,8 @@ module _ (members : List Member) (n c : ℕ) (member : Member) (numbers : List (
 -- ---- a member begins a cluster
 
 module _ (members : List Member) (n : ℕ) (member : Member) (before after : List (Member × ℕ)) (clusters : List (List ℕ)) (cluster_of : List ℕ)
-  (found : AreFound members n before clusters cluster_of) (at : slice_get members n ≡ Some member) (missing : number_at before member ≡ None)
-  (updates : (q : Member) → number_at after q ≡ cond (is_at (member_cmp member) q) (Some (length clusters)) (number_at before q)) where
+    (found : AreFound members n before clusters cluster_of) (at : slice_get members n ≡ Some member) (missing : number_at before member ≡ None)
+    (updates : (q : Member) → number_at after q ≡ cond (is_at (member_cmp member) q) (Some (length clusters)) (number_at before q)) where
   abbrev begun : List (List ℕ)
   begun = clusters ++ (n ∷ []) ∷ []
 
@@ -206,8 +206,8 @@ module _ (members : List Member) (n : ℕ) (member : Member) (before after : Lis
     few = let few = found.few in omega (arith, length_push clusters (n ∷ []));
     rising = All-push IsStrictlyIncreasing clusters (n ∷ []) found.rising (increasing-one n);
     in_order = all_pairs_push (λ (c d : List ℕ). least c < least d) clusters (n ∷ []) found.in_order (λ k d short.
-    let is : slice_get clusters k ≡ Some (get_or clusters k d) = slice_get-get_or clusters k d short in
-    below-next members n before clusters cluster_of found k (least (get_or clusters k d)) (is-in clusters k _ (get_or clusters k d) is (contains-least (get_or clusters k d) (found.some k d short))));
+        let is : slice_get clusters k ≡ Some (get_or clusters k d) = slice_get-get_or clusters k d short in
+        below-next members n before clusters cluster_of found k (least (get_or clusters k d)) (is-in clusters k _ (get_or clusters k d) is (contains-least (get_or clusters k d) (found.some k d short))));
     some = All-push (λ (list : List ℕ). 0 < length list) clusters (n ∷ []) found.some (omega arith);
     placed = placed-begun;
     numbered = λ m e other is numbered. elim (get-cases cluster_of (length clusters) m e numbered) [

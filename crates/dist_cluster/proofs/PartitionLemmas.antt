@@ -1,6 +1,6 @@
 -- What is found of all members is their partition, and there is one.
-use Rattle.std.proofs.Common.{◌≡◌, ◌≢◌, ◌↔◌, ◌⊎◌, ℕ, zero, suc, ◌+◌, ◌^◌, ◌<◌, ◌≤◌, List, [], ◌∷◌, length, get_or, Some, None, Option, refl, sym, ap, subst, ◌∙◌, arith, inl, inr, slice_get}
-use Rattle.std.specs.Prelude.{All, AllPairs, Any, Contains, IsSomeAnd}
+use Rattle.std.proofs.Common.{◌≡◌, ◌↔◌, ◌⊎◌, ℕ, zero, suc, ◌+◌, ◌^◌, ◌<◌, ◌≤◌, List, [], ◌∷◌, length, get_or, Some, refl, sym, ap, subst, ◌∙◌, arith, inl, inr, slice_get}
+use Rattle.std.specs.Prelude.{All, Any, Contains, IsSomeAnd}
 use Rattle.std.specs.List.Sorted.{IsStrictlyIncreasing}
 use Rattle.std.proofs.lemmas.Bool.{cases_lt}
 use Rattle.std.proofs.lemmas.List.{get_or_default, same_lists}
@@ -9,9 +9,8 @@ use Rattle.std.proofs.lemmas.Option.{slice_get_within, slice_get-get_or, get_or_
 use Rattle.dist_cluster.specs.Found.{AreFound, IsIn, IsListed, number_at}
 use Rattle.dist_cluster.specs.Partition.{least, IsClusterOf, IsPartition}
 use Rattle.dist_cluster.specs.Relation.{Member, AreClustered, AreTogether}
-use Rattle.dist_cluster.specs.Top.{AreTops, ClusterList}
 use Rattle.dist_cluster.proofs.Clustered.{number-same}
-use Rattle.dist_cluster.proofs.Places.{some-of, some-at, standing, any-at, contains-at, at-contains}
+use Rattle.dist_cluster.proofs.Places.{some-of, some-at, standing, any-at, contains-at}
 
 -- ---- what is found of all members
 
@@ -34,7 +33,7 @@ in-cluster clusters c m cluster is here =
     subst In (same_Some _ _ (sym one.1 ∙ is)) one.2
 
 module _ (members : List Member) (n : ℕ) (numbers : List (Member × ℕ)) (clusters : List (List ℕ)) (cluster_of : List ℕ)
-  (all : n ≡ length members) (found : AreFound members n numbers clusters cluster_of) where
+    (all : n ≡ length members) (found : AreFound members n numbers clusters cluster_of) where
   -- a member of a cluster, by its number
   member-of : (c m : ℕ) → slice_get cluster_of m ≡ Some c → (a : Member) × (slice_get members m ≡ Some a)
   member-of c m is = standing members m (let short = slice_get_within cluster_of m c is in omega (arith, found.counted))
@@ -229,9 +228,11 @@ agree-next members a b p q i before short =
     let heads : least (get_or b i []) ≡ x = omega (arith, first.1, second.1) in
     let In : ℕ → Type 0 = λ m. Contains (get_or b i []) m in
     let there : Contains (get_or a i []) x = contains-least (get_or a i []) (p.some i [] short) in
-    let other : Contains (get_or b i []) x = subst In heads (contains-least (get_or b i []) (q.some i [] first.0)) in
-    (first.0, same-rising (get_or a i []) (get_or b i []) (p.rising i [] short) (q.rising i [] first.0)
-    (have-same members (get_or a i []) (get_or b i []) x (cluster-of members a p i x short there) (cluster-of members b q i x first.0 other)))
+    let other : Contains (get_or b i []) x = subst In heads (contains-least (get_or b i []) (q.some i [] first.0)) in (
+      first.0,
+      same-rising (get_or a i []) (get_or b i []) (p.rising i [] short) (q.rising i [] first.0)
+          (have-same members (get_or a i []) (get_or b i []) x (cluster-of members a p i x short there) (cluster-of members b q i x first.0 other)),
+    )
 
 agree-below : (members : List Member) (a b : List (List ℕ)) → IsPartition members a → IsPartition members b → (n i : ℕ) → i < n → AgreeAt a b i
 agree-below members a b p q zero i below = absurd (omega arith)

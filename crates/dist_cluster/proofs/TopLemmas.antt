@@ -1,19 +1,19 @@
 -- The top of a cluster, member by member.
-use Rattle.std.proofs.Common.{◌≡◌, ◌≢◌, ◌↔◌, ◌⊎◌, ℕ, Bool, IsTrue, is_lt, ◌+◌, ◌<◌, List, [], ◌∷◌, ◌++◌, length, get_or, take, nat_cmp, Ordering, Less, Equal, Greater, Some, None, Option, refl, sym, ap, subst, ◌∙◌, arith, inl, inr, slice_get}
-use Rattle.std.specs.Prelude.{Any, Contains, IsSomeAnd}
+use Rattle.std.proofs.Common.{◌≡◌, ◌≢◌, ◌↔◌, ◌⊎◌, ℕ, Bool, IsTrue, is_lt, ◌+◌, ◌<◌, List, [], ◌∷◌, ◌++◌, length, get_or, take, nat_cmp, Ordering, Less, Equal, Greater, Some, refl, sym, ap, subst, ◌∙◌, arith, inl, inr, slice_get}
+use Rattle.std.specs.Prelude.{IsSomeAnd}
 use Rattle.std.specs.Cmp.{IsTotalOrder}
 use Rattle.std.specs.Cmp.Lexicographic.{slice_cmp}
 use Rattle.std.specs.Ordering.{ordering_then, ordering_reverse}
-use Rattle.std.proofs.lemmas.Cmp.{back_total, nat_list_cmp_total, then_total, tied_itself, tied_back}
+use Rattle.std.proofs.lemmas.Cmp.{back_total, nat_list_cmp_total, then_total, tied_itself}
 use Rattle.std.proofs.lemmas.Bool.{cases_lt}
 use Rattle.std.proofs.lemmas.List.{length_push, get_or_append_left, get_or_default, get_or_push}
 use Rattle.std.proofs.lemmas.Option.{same_Some}
-use Rattle.dist_version.specs.Order.{version_cmp, IsBelow}
+use Rattle.dist_version.specs.Order.{version_cmp}
 use Rattle.dist_version.specs.OrderLaws.{version_total}
 use Rattle.dist_cluster.specs.Found.{top_cmp}
 use Rattle.dist_cluster.specs.Relation.{Member}
-use Rattle.dist_cluster.specs.Top.{AreTops, ClusterList, IsTop, IsVersionIn}
-use Rattle.dist_cluster.proofs.Clustered.{same_names, then-first, then-second}
+use Rattle.dist_cluster.specs.Top.{AreTops, IsTop, IsVersionIn}
+use Rattle.dist_cluster.proofs.Clustered.{same_names, then-second}
 use Rattle.dist_cluster.proofs.Places.{any-take, some-of, some-at, take-any_here, take-any_left}
 
 pub top_total : IsTotalOrder top_cmp
@@ -46,10 +46,13 @@ top-highest members cluster top h = record {
 }
 
 pub highest-top : (members : List Member) (cluster top : List ℕ) → IsTop members cluster top → IsHighest members cluster top
-highest-top members cluster top h = (h.there, λ v is less. elim (then-less_cases (version_cmp top v) (slice_cmp nat_cmp v top) less) [
-  | inl g ↦ h.greatest v is g
-  | inr g ↦ h.least_text v is g.0 g.1
-])
+highest-top members cluster top h = (
+  h.there,
+  λ v is less. elim (then-less_cases (version_cmp top v) (slice_cmp nat_cmp v top) less) [
+    | inl g ↦ h.greatest v is g
+    | inr g ↦ h.least_text v is g.0 g.1
+  ],
+)
 
 not-less-either : (a b : List ℕ) (o : Ordering) → top_cmp a b ≡ o → o ≢ Less → top_cmp b a ≢ Less → a ≡ b
 not-less-either a b Less is first second = absurd (first refl)
@@ -83,7 +86,7 @@ highest-first members cluster n member first at = (
 )
 
 module _ (members : List Member) (cluster : List ℕ) (place n : ℕ) (member : Member) (top : List ℕ)
-  (here : slice_get cluster place ≡ Some n) (at : slice_get members n ≡ Some member) (highest : IsHighest members (take place cluster) top) where
+    (here : slice_get cluster place ≡ Some n) (at : slice_get members n ≡ Some member) (highest : IsHighest members (take place cluster) top) where
   abbrev Of : List ℕ → ℕ → Type 0
   Of v k = IsSomeAnd (slice_get members k) (λ m. m.version ≡ v)
 

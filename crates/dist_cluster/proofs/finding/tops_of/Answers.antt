@@ -1,4 +1,4 @@
-use Rattle.std.proofs.Common.{◌≡◌, ◌++◌, ◌∷◌, ◌+◌, [], ℕ, List, arith, sym, ap, subst, ◌∙◌}
+use Rattle.std.proofs.Common.{◌++◌, ◌∷◌, ◌+◌, [], ℕ, List, arith, sym, ap, subst, ◌∙◌}
 use Rattle.dist_cluster.specs.Top.{IsTop}
 use Rattle.dist_cluster.proofs.TopLemmas.{AreTopsSoFar, tops-none, tops-more, tops-all}
 use Rattle.dist_cluster.proofs.finding.tops_of.Goals as goal

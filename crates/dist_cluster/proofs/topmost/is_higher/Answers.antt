@@ -1,4 +1,4 @@
-use Rattle.std.proofs.Common.{◌≡◌, Less, Equal, Greater, is_lt, refl, sym, ap, ap₂, ◌∙◌, nat_cmp}
+use Rattle.std.proofs.Common.{◌≡◌, Less, Equal, Greater, refl, sym, ap, ap₂, ◌∙◌, nat_cmp}
 use Rattle.std.specs.Cmp.Lexicographic.{slice_cmp}
 use Rattle.std.specs.Ordering.{ordering_then, ordering_reverse}
 use Rattle.dist_version.specs.Order.{version_cmp}

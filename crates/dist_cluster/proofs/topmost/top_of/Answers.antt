@@ -1,10 +1,9 @@
-use Rattle.std.proofs.Common.{◌≡◌, ◌≢◌, ◌+◌, ◌<◌, ℕ, List, Some, Less, length, get_or, take, slice_get, refl, sym, ap, subst, ◌∙◌, arith}
+use Rattle.std.proofs.Common.{◌≡◌, ◌≢◌, ◌+◌, ◌<◌, ℕ, List, Some, Less, length, get_or, take, slice_get, refl, sym, ap, subst, ◌∙◌}
 use Rattle.std.proofs.lemmas.Bool.{false≢true}
 use Rattle.std.proofs.lemmas.List.{take_all}
 use Rattle.std.proofs.lemmas.Option.{slice_get_read, slice_get-get_or}
 use Rattle.dist_cluster.specs.Found.{top_cmp}
 use Rattle.dist_cluster.specs.Relation.{Member}
-use Rattle.dist_cluster.specs.Top.{IsTop}
 use Rattle.dist_cluster.proofs.TopLemmas.{IsHighest, highest-first, highest-next, highest-still, top-highest}
 use Rattle.dist_cluster.proofs.topmost.top_of.Goals as goal
 use Rattle.dist_cluster.proofs.topmost.top_of.Goals.{then-is_higher, else-is_higher}

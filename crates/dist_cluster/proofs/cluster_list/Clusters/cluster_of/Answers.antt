@@ -1,4 +1,4 @@
-use Rattle.std.proofs.Common.{◌≡◌, ◌<◌, List, ℕ, sym, subst, length, arith}
+use Rattle.std.proofs.Common.{◌≡◌, ℕ, sym, subst, arith}
 use Rattle.std.specs.Prelude.{Any, Contains}
 use Rattle.dist_cluster.specs.Found.{IsIn}
 use Rattle.dist_cluster.specs.Top.{ClusterList}
