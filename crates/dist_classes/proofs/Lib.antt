@@ -1,0 +1,3 @@
+pub mod VersionOrder
+pub mod ClassLemmas
+pub mod MatchLemmas

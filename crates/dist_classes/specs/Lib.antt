@@ -1,0 +1,5 @@
+pub mod Atoms
+pub mod Cuts
+pub mod ClassList
+pub mod NewVersion
+pub mod NewNames

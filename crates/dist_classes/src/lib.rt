@@ -1,0 +1,8 @@
+//! Classes of later versions: the versions above a cluster's top, and those of a new name, cut at what a repository's atoms tell apart.
+#![tactic(auto)]
+
+mod class_value;
+mod laws;
+
+pub use class_value::{Class, example, print_class};
+pub use laws::{new_names_match_alike, new_versions_match_alike, versions_are_in_one_class};
