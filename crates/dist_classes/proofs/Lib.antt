@@ -1,3 +1,5 @@
 pub mod VersionOrder
 pub mod ClassLemmas
+pub mod ClassOfLemmas
 pub mod MatchLemmas
+pub mod SortedLemmas

@@ -1,8 +1,15 @@
 //! Classes of later versions: the versions above a cluster's top, and those of a new name, cut at what a repository's atoms tell apart.
 #![tactic(auto)]
 
+
+mod class_list;
 mod class_value;
+mod clusters;
+mod keys;
 mod laws;
 
+
+pub use class_list::{Classes, class_of};
 pub use class_value::{Class, example, print_class};
+pub use clusters::repository_clusters;
 pub use laws::{new_names_match_alike, new_versions_match_alike, versions_are_in_one_class};
