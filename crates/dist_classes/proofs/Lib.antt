@@ -3,3 +3,4 @@ pub mod ClassLemmas
 pub mod ClassOfLemmas
 pub mod MatchLemmas
 pub mod SortedLemmas
+pub mod TableLemmas

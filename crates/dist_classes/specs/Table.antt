@@ -33,3 +33,7 @@ IsPackageBound architecture name version p =
 -- beside each name are the versions that the atoms of the repository have in their bounds on it
 abbrev pub IsTableOf : PackageList → Entries → Type 0
 IsTableOf r table = (q v : List ℕ) → Contains (versions_at table q) v ↔ IsBoundOn r (λ name. name ≡ q) v
+
+-- the texts of another set are added to what was found
+abbrev pub Adds : (old new : List (List ℕ)) → (List ℕ → Type 0) → Type 0
+Adds old new P = (v : List ℕ) → Contains new v ↔ (Contains old v ⊎ P v)

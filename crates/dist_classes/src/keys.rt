@@ -93,7 +93,7 @@ impl Eq for TextKey<'_> {
 /// A name, by its bytes.
 #[derive(Drop)]
 pub(crate) struct NameKey<'a> {
-    name: &'a Name,
+    pub(crate) name: &'a Name,
 }
 
 impl<'a> Model for NameKey<'a> {

@@ -1,15 +1,16 @@
 //! Classes of later versions: the versions above a cluster's top, and those of a new name, cut at what a repository's atoms tell apart.
 #![tactic(auto)]
 
-
+mod bound_table;
 mod class_list;
 mod class_value;
 mod clusters;
+mod cut_finding;
 mod keys;
 mod laws;
-
 
 pub use class_list::{Classes, class_of};
 pub use class_value::{Class, example, print_class};
 pub use clusters::repository_clusters;
+pub use cut_finding::{CutFinder, classes_of, classes_of_new_name};
 pub use laws::{new_names_match_alike, new_versions_match_alike, versions_are_in_one_class};
