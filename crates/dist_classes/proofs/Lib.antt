@@ -4,3 +4,4 @@ pub mod ClassOfLemmas
 pub mod MatchLemmas
 pub mod SortedLemmas
 pub mod TableLemmas
+pub mod FoundCuts
