@@ -21,13 +21,13 @@ use Rattle.dist_classes.proofs.TableLemmas.{any-none, any-take, any-whole}
 
 -- ---- sets of texts
 
-adds-iff : (a b : List (List ℕ)) (P Q : List ℕ → Type 0) → ((v : List ℕ) → P v ↔ Q v) → Adds a b P → Adds a b Q
+pub adds-iff : (a b : List (List ℕ)) (P Q : List ℕ → Type 0) → ((v : List ℕ) → P v ↔ Q v) → Adds a b P → Adds a b Q
 adds-iff a b P Q same adds v = (
   (λ there. elim ((adds v).0 there) [ inl h ↦ inl h | inr h ↦ inr ((same v).0 h) ]),
   λ either. (adds v).1 (elim either [ inl h ↦ inl h | inr h ↦ inr ((same v).1 h) ]),
 )
 
-adds-both : (a b c : List (List ℕ)) (P Q : List ℕ → Type 0) → Adds a b P → Adds b c Q → Adds a c (λ v. P v ⊎ Q v)
+pub adds-both : (a b c : List (List ℕ)) (P Q : List ℕ → Type 0) → Adds a b P → Adds b c Q → Adds a c (λ v. P v ⊎ Q v)
 adds-both a b c P Q first second v = (
   (λ there. elim ((second v).0 there) [
     | inl h ↦ elim ((first v).0 h) [ inl g ↦ inl g | inr g ↦ inr (inl g) ]
@@ -39,7 +39,7 @@ adds-both a b c P Q first second v = (
   ]),
 )
 
-adds-nothing : (a : List (List ℕ)) (P : List ℕ → Type 0) → ((v : List ℕ) → ¬ P v) → Adds a a P
+pub adds-nothing : (a : List (List ℕ)) (P : List ℕ → Type 0) → ((v : List ℕ) → ¬ P v) → Adds a a P
 adds-nothing a P none v = ((λ there. inl there), λ either. elim either [ inl h ↦ h | inr h ↦ absurd (none v h) ])
 
 -- ---- versions in bounds on names

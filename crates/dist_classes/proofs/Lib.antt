@@ -5,3 +5,4 @@ pub mod MatchLemmas
 pub mod SortedLemmas
 pub mod TableLemmas
 pub mod FoundCuts
+pub mod FreshLemmas

@@ -21,3 +21,7 @@ pub record IsNewName (r : PackageList) (name : List ℕ) : Type 0 where
 pub record AreNewNames (r : PackageList) (names : List (List ℕ)) : Type 0 where
   pub rising : IsStrictlySortedBy (slice_cmp nat_cmp) names
   pub exact : (name : List ℕ) → Contains names name ↔ IsNewName r name
+
+-- a usable atom on this name, which no package has or provides
+abbrev pub IsFreshAtom : PackageList → List ℕ → Atom → Type 0
+IsFreshAtom r name atom = IsUsable r.architecture atom.qualifier × (atom.name ≡ name) × (¬ Any (λ p. IsProvider r.architecture name p) r.packages)

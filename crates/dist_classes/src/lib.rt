@@ -6,6 +6,7 @@ mod class_list;
 mod class_value;
 mod clusters;
 mod cut_finding;
+mod fresh_names;
 mod keys;
 mod laws;
 
@@ -13,4 +14,5 @@ pub use class_list::{Classes, class_of};
 pub use class_value::{Class, example, print_class};
 pub use clusters::repository_clusters;
 pub use cut_finding::{CutFinder, classes_of, classes_of_new_name};
+pub use fresh_names::{Names, new_names};
 pub use laws::{new_names_match_alike, new_versions_match_alike, versions_are_in_one_class};
