@@ -2,10 +2,10 @@
 use Rattle.std.proofs.Common.{◌≡◌, ◌↔◌, ◌⊎◌, ℕ, zero, suc, ◌+◌, ◌<◌, ◌≤◌, get_or, slice_get, List, [], ◌∷◌, length, Option, Some, None, refl, sym, ap, subst, ◌∙◌, inl, inr, arith}
 use Rattle.std.specs.Prelude.{IsSomeAnd}
 use Rattle.std.proofs.lemmas.Bool.{cases_lt}
-use Rattle.std.proofs.lemmas.Option.{slice_get-get_or}
+use Rattle.std.proofs.lemmas.Option.{slice_get-get_or, same_Some}
 use Rattle.dist_version.specs.Order.{IsBelow}
 use Rattle.dist_classes.specs.Answers.{IsClassList}
-use Rattle.dist_classes.specs.ClassList.{AreClassesAbove, AreClassesOfAll, IsOfClass, IsOfClassAt, classes_above, classes_of_all}
+use Rattle.dist_classes.specs.ClassList.{AreClassesAbove, AreClassesOfAll, HasVersions, IsOfClass, IsOfClassAt, classes_above, classes_of_all}
 use Rattle.dist_classes.specs.Cuts.{Rises, RisesFrom}
 use Rattle.dist_classes.specs.declared.class_value.Class.{Class}
 use Rattle.dist_classes.proofs.ClassLemmas.{above-top, one-class_above, one-class_of_all}
@@ -92,3 +92,25 @@ holds-at classes v n class short is =
     let at : slice_get classes n ≡ Some class = slice_get-get_or classes n class short ∙ ap (λ c. Some c) (sym is) in
     let Here : Option Class → Type 0 = λ o. IsSomeAnd o (λ c. IsOfClass c v) in
     ((λ here. subst Here at here), λ here. subst Here (sym at) here)
+
+-- ---- no class is empty
+
+some-above : (top : List ℕ) (cuts : List (List ℕ)) → RisesFrom top cuts → (k : ℕ) (class : Class) → slice_get (classes_above top cuts) k ≡ Some class → HasVersions class
+some-above top [] rising zero class is = let P : Class → Type 0 = HasVersions in subst P (same_Some _ _ is) tt
+some-above top [] rising (suc k) class is = cc
+some-above top (cut ∷ cuts) rising zero class is = let P : Class → Type 0 = HasVersions in subst P (same_Some _ _ is) rising.0
+some-above top (cut ∷ cuts) rising (suc zero) class is = let P : Class → Type 0 = HasVersions in subst P (same_Some _ _ is) tt
+some-above top (cut ∷ cuts) rising (suc (suc k)) class is = some-above cut cuts rising.1 k class is
+
+some-of_all : (cuts : List (List ℕ)) → Rises cuts → (k : ℕ) (class : Class) → slice_get (classes_of_all cuts) k ≡ Some class → HasVersions class
+some-of_all [] rising zero class is = let P : Class → Type 0 = HasVersions in subst P (same_Some _ _ is) tt
+some-of_all [] rising (suc k) class is = cc
+some-of_all (cut ∷ cuts) rising zero class is = let P : Class → Type 0 = HasVersions in subst P (same_Some _ _ is) tt
+some-of_all (cut ∷ cuts) rising (suc zero) class is = let P : Class → Type 0 = HasVersions in subst P (same_Some _ _ is) tt
+some-of_all (cut ∷ cuts) rising (suc (suc k)) class is = some-above cut cuts rising k class is
+
+pub all-have : (classes : List Class) → IsClassList classes → (k : ℕ) (class : Class) → slice_get classes k ≡ Some class → HasVersions class
+all-have classes list k class is = elim list.between [
+  | inl above ↦ some-above above.top above.cuts above.rising k class (ap (λ (c : List Class). slice_get c k) (sym above.are) ∙ is)
+  | inr all ↦ some-of_all all.cuts all.rising k class (ap (λ (c : List Class). slice_get c k) (sym all.are) ∙ is)
+]

@@ -16,7 +16,7 @@ use Rattle.dist_classes.specs.NewVersion.{IsMovedName, IsMoving}
 use Rattle.dist_classes.specs.Sorted.{cuts_after, cuts_of, text_cmp}
 use Rattle.dist_classes.specs.Table.{Adds, Entries, IsTableOf, versions_at}
 use Rattle.dist_classes.specs.declared.class_value.Class.{Class}
-use Rattle.dist_classes.proofs.SortedLemmas.{cuts-above, cuts-all, ordered-from_sorted}
+use Rattle.dist_classes.proofs.SortedLemmas.{cuts-above, cuts-all, cuts-rise, ordered-from_sorted}
 use Rattle.dist_classes.proofs.TableLemmas.{any-none, any-take, any-whole}
 
 -- ---- sets of texts
@@ -176,6 +176,7 @@ cluster-classes r members top found sorted classes adds permuted up is =
     record {
       cuts = cuts_after top sorted;
       are_cuts = cuts-above (IsClusterCut r members top) top sorted (ordered-from_sorted sorted up) (λ v. ((λ h. (h.0, (same v).0 h.1)), λ h. (h.0, (same v).1 h.1)));
+      rising = cuts-rise top sorted;
       are = is;
     }
 

@@ -6,3 +6,4 @@ pub mod SortedLemmas
 pub mod TableLemmas
 pub mod FoundCuts
 pub mod FreshLemmas
+pub mod ClusterLemmas

@@ -1,5 +1,5 @@
 -- The cuts among version texts in order.
-use Rattle.std.proofs.Common.{◌≡◌, ◌≢◌, ◌⊎◌, ◌↔◌, ℕ, zero, suc, ◌+◌, ◌≤◌, ◌<◌, Bool, true, false, cond, List, [], ◌∷◌, length, get_or, Ordering, Less, Equal, Greater, is_lt, nat_cmp, refl, sym, ap, subst, ◌∙◌, inl, inr, arith}
+use Rattle.std.proofs.Common.{◌≡◌, ◌≢◌, ◌⊎◌, ◌↔◌, ℕ, zero, suc, ◌+◌, ◌≤◌, ◌<◌, Bool, true, false, cond, List, [], ◌∷◌, length, get_or, Ordering, Less, Equal, Greater, is_eq, is_lt, nat_cmp, refl, sym, ap, subst, ◌∙◌, inl, inr, arith}
 use Rattle.std.specs.Prelude.{All, Any, Contains}
 use Rattle.std.specs.Cmp.Lexicographic.{slice_cmp}
 use Rattle.std.specs.List.Sorted.{IsSorted, IsSortedBy}
@@ -7,7 +7,9 @@ use Rattle.std.specs.Ordering.{is_gt, ordering_then, ordering_reverse}
 use Rattle.std.proofs.lemmas.Bool.{cases_Bool}
 use Rattle.std.proofs.lemmas.Cmp.{nat_list_cmp_total, tied_itself}
 use Rattle.std.proofs.lemmas.List.{get_or_default}
-use Rattle.std.proofs.lemmas.List.Elements.{Contains-get_or}
+use Rattle.std.proofs.lemmas.List.Elements.{All-contains, Contains-get_or}
+use Rattle.std.proofs.lemmas.Map.Text.{is_eq-slice_cmp}
+use Rattle.std.proofs.lemmas.Slice.Eq.{bytes_eq-Decides}
 use Rattle.std.proofs.lemmas.List.Sorted.{ranks_by, sorted_far}
 use Rattle.dist_version.specs.Order.{version_cmp, IsBelow}
 use Rattle.dist_classes.specs.Cuts.{AreCuts, IsLeastText, Rises, RisesFrom}
@@ -236,3 +238,63 @@ cuts-all Has (x ∷ xs) ordered same = first-cuts Has x xs ordered same
 pub all-rise : (xs : List (List ℕ)) → Rises (cuts_of xs)
 all-rise [] = tt
 all-rise (x ∷ xs) = cuts-rise x xs
+
+-- ---- one list of cuts
+
+-- two least texts of equal versions are one
+one-text : (a b : List ℕ) (o : Ordering) → slice_cmp nat_cmp a b ≡ o → slice_cmp nat_cmp a b ≢ Less → slice_cmp nat_cmp b a ≢ Less → a ≡ b
+one-text a b Less is first second = absurd (first is)
+one-text a b Equal is first second = (bytes_eq-Decides a b).0 (sym (is_eq-slice_cmp a b) ∙ ap is_eq is)
+one-text a b Greater is first second = absurd (second (nat_list_cmp_total.antisymm b a ∙ ap ordering_reverse is))
+
+-- the cuts are the least texts
+cut-iff : (Has : List ℕ → Type 0) (cuts : List (List ℕ)) → AreCuts Has cuts → (c : List ℕ) → Contains cuts c ↔ IsLeastText Has c
+cut-iff Has cuts are c = (
+  (λ there. All-contains (IsLeastText Has) cuts c are.least there),
+  λ least.
+      let told = are.every c least.0 in
+      let d : List ℕ = told.1 in
+      let inside : Contains cuts d = (told.0, told.2, told.3) in
+      let other = All-contains (IsLeastText Has) cuts d are.least inside in
+      let In : List ℕ → Type 0 = λ v. Contains cuts v in
+      let same : d ≡ c = one-text d c (slice_cmp nat_cmp d c) refl (least.1 d other.0 (equal-back c d told.4)) (other.1 c least.0 told.4) in
+      subst In same inside,
+)
+
+abbrev HaveSame : List (List ℕ) → List (List ℕ) → Type 0
+HaveSame xs ys = (v : List ℕ) → Contains xs v ↔ Contains ys v
+
+same-heads : (x y : List ℕ) (xs ys : List (List ℕ)) → RisesFrom x xs → RisesFrom y ys → HaveSame (x ∷ xs) (y ∷ ys) → x ≡ y
+same-heads x y xs ys first second same = elim (contains-cases y x ys ((same x).0 (0, omega arith, refl))) [
+  | inl h ↦ sym h
+  | inr h ↦ elim (contains-cases x y xs ((same y).1 (0, omega arith, refl))) [
+    | inl g ↦ g
+    | inr g ↦ absurd (not-both y x (cut-above y ys x second h) (cut-above x xs y first g))
+  ]
+]
+
+tail-same : (x y : List ℕ) (xs ys : List (List ℕ)) → x ≡ y → RisesFrom x xs → ((v : List ℕ) → Contains (x ∷ xs) v → Contains (y ∷ ys) v) → (v : List ℕ) → Contains xs v → Contains ys v
+tail-same x y xs ys heads rising into v there = elim (contains-cases y v ys (into v (contains-later x v xs there))) [
+  | inl h ↦
+      let Below : List ℕ → Type 0 = λ w. IsBelow x w in
+      absurd (less-not_equal x x (subst Below (sym (heads ∙ h)) (cut-above x xs v rising there)) (equal-itself x))
+  | inr h ↦ h
+]
+
+same-lists : (xs ys : List (List ℕ)) → Rises xs → Rises ys → HaveSame xs ys → xs ≡ ys
+same-lists [] [] first second same = refl
+same-lists [] (y ∷ ys) first second same = absurd (let there = (same y).1 (0, omega arith, refl) in omega (arith, there.1))
+same-lists (x ∷ xs) [] first second same = absurd (let there = (same x).0 (0, omega arith, refl) in omega (arith, there.1))
+same-lists (x ∷ xs) (y ∷ ys) first second same =
+    let heads = same-heads x y xs ys first second same in
+    let rest : HaveSame xs ys = λ v. (
+      tail-same x y xs ys heads first (λ w. (same w).0) v,
+      tail-same y x ys xs (sym heads) second (λ w. (same w).1) v,
+    ) in
+    ap (λ list. x ∷ list) (same-lists xs ys (rises x xs first) (rises y ys second) rest) ∙ ap (λ head. head ∷ ys) heads
+
+pub one-cuts : (Has : List ℕ → Type 0) (a b : List (List ℕ)) → AreCuts Has a → AreCuts Has b → a ≡ b
+one-cuts Has a b first second = same-lists a b first.rising second.rising (λ v. (
+  (λ there. (cut-iff Has b second v).1 ((cut-iff Has a first v).0 there)),
+  λ there. (cut-iff Has a first v).1 ((cut-iff Has b second v).0 there),
+))

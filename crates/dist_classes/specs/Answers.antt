@@ -6,7 +6,7 @@ use Rattle.dist_cluster.specs.Top.{AreTops, ClusterList}
 use Rattle.dist_repo.specs.PackageList.{PackageList}
 use Rattle.dist_repo.specs.declared.package.Package.{Package}
 use Rattle.dist_classes.specs.ClassList.{AreClassesAbove, AreClassesOfAll, classes_above, classes_of_all}
-use Rattle.dist_classes.specs.Cuts.{AreCuts, IsClusterCut, IsNameCut}
+use Rattle.dist_classes.specs.Cuts.{AreCuts, IsClusterCut, IsNameCut, RisesFrom}
 use Rattle.dist_classes.specs.declared.class_value.Class.{Class}
 
 -- what clusters know of a package
@@ -22,6 +22,7 @@ pub record AreClustersOf (r : PackageList) (clusters : ClusterList) : Type 0 whe
 pub record AreClassesOf (r : PackageList) (members top : List ℕ) (classes : List Class) : Type 0 where
   pub cuts : List (List ℕ)
   pub are_cuts : AreCuts (IsClusterCut r members top) cuts
+  pub rising : RisesFrom top cuts
   pub are : classes ≡ classes_above top cuts
 
 -- the classes of the versions of a new name, between its cuts

@@ -6,3 +6,4 @@ pub mod NewVersion
 pub mod NewNames
 pub mod Sorted
 pub mod Table
+pub mod Examples

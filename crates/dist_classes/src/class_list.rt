@@ -1,7 +1,7 @@
 //! Classes in a row, between cuts, and the class of a version.
 ghost use Rattle.std.specs.Prelude.{◌≡◌, ◌++◌, ◌∷◌, ◌↔◌, ◌<◌, ◌⊎◌, [], ℕ, List, IfOk, OnOk, IsTrue, IsSome, None, Some, length, slice_get};
 ghost use Rattle.dist_version.specs.Order.{IsBelow};
-ghost use Rattle.dist_classes.specs.ClassList.{IsOfClass, IsOfClassAt, classes_above, classes_of_all, AreClassesAbove, AreClassesOfAll};
+ghost use Rattle.dist_classes.specs.ClassList.{HasVersions, IsOfClass, IsOfClassAt, classes_above, classes_of_all, AreClassesAbove, AreClassesOfAll};
 ghost use Rattle.dist_classes.specs.Cuts.{Rises, RisesFrom};
 ghost use Rattle.dist_classes.specs.Sorted.{cuts_after, cuts_of};
 
@@ -51,7 +51,8 @@ impl Classes {
     /// The class of a number.
     pub fn get(&self, place: usize) -> &Class
         requires { place < length self.now }
-        ensures { slice_get self.now place ≡ Some result.now }
+        ensures value { slice_get self.now place ≡ Some result.now }
+        ensures some { HasVersions result.now }
     {
         &self.classes[place]
     }

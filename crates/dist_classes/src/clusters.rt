@@ -1,6 +1,5 @@
 //! The source clusters of a repository's packages.
 ghost use Rattle.std.specs.Prelude.{◌≡◌, ◌<◌, IfOk, length, map};
-ghost use Rattle.dist_repo.specs.Size.{IsWithinSize};
 ghost use Rattle.dist_classes.specs.Answers.{AreClustersOf, member_of};
 
 use dist_cluster::{Clusters, Keys, clusters_of};
@@ -25,7 +24,7 @@ fn keys_of(alloc: Global, repo: &Repository) -> Result<Keys, AllocError>
 
 /// The clusters of the packages of a repository, by their numbers.
 pub fn repository_clusters(alloc: Global, repo: &Repository) -> Result<Clusters, AllocError>
-    requires { IsWithinSize repo.now }
+    requires { length repo.now.packages < 4294967295 }
     ensures { IfOk result (AreClustersOf repo.now) }
 {
     let keys = keys_of(alloc, repo)?;

@@ -1,7 +1,7 @@
 //! The classes of a cluster and of a new name: their cuts are the versions that atoms have in bounds on their names.
-ghost use Rattle.std.specs.Prelude.{◌≡◌, ◌<◌, ◌↔◌, ◌⊎◌, ℕ, List, All, Any, IfOk, IsSomeAnd, IsTrue, OnOk, length, slice_get};
+ghost use Rattle.std.specs.Prelude.{◌≡◌, ◌<◌, ◌↔◌, ◌⊎◌, [], ℕ, List, All, Any, IfOk, IsSomeAnd, IsTrue, OnOk, length, slice_get, slice_index_or};
 ghost use Rattle.dist_repo.specs.PackageList.{IsPackageAnd};
-ghost use Rattle.dist_classes.specs.Answers.{AreClassesOf, AreClassesOfName};
+ghost use Rattle.dist_classes.specs.Answers.{AreClassesOf, AreClassesOfName, AreClustersOf};
 ghost use Rattle.dist_classes.specs.Atoms.{IsBoundOn};
 ghost use Rattle.dist_classes.specs.Cuts.{IsNameOfCluster};
 ghost use Rattle.dist_classes.specs.NewVersion.{IsAt, IsMovedName, IsMoving};
@@ -10,6 +10,7 @@ ghost use Rattle.dist_classes.specs.Table.{Adds};
 use crate::bound_table::{Table, table_of};
 use crate::class_list::{Classes, classes_above, classes_of_all};
 use crate::keys::TextKey;
+use dist_cluster::Clusters;
 use dist_relation::{Name, Provide};
 use dist_repo::{Package, Repository};
 use dist_version::Version;
@@ -111,6 +112,19 @@ impl<'a> CutFinder<'a> {
         self.collect_members(members, &mut found)?;
         found.sort()?;
         classes_above(self.alloc, top, &found)
+    }
+
+    /// The classes of the versions above the top of a cluster of the repository, by its number.
+    pub fn classes_of_cluster(
+        &self,
+        clusters: &Clusters,
+        cluster: u32,
+    ) -> Result<Classes, AllocError>
+        requires clusters { AreClustersOf self.now clusters.now }
+        requires cluster { cluster < length clusters.now.members }
+        ensures { IfOk result (AreClassesOf self.now (slice_index_or clusters.now.members cluster []) (slice_index_or clusters.now.tops cluster [])) }
+    {
+        self.classes_of(clusters.members(cluster), clusters.top(cluster))
     }
 
     /// The classes of the versions of a new name.

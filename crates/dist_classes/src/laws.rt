@@ -17,6 +17,12 @@ pub fn versions_are_in_one_class()
     ensures all { (cuts : List (List ℕ)) → Rises cuts → (v : List ℕ) → IsInOneClass (classes_of_all cuts) v }
 {}
 
+/// A cluster has one list of cuts, and so has a new name.
+pub fn cuts_are_one()
+    ensures cluster { (r : PackageList) (members top : List ℕ) (a b : List (List ℕ)) → AreCuts (IsClusterCut r members top) a → AreCuts (IsClusterCut r members top) b → a ≡ b }
+    ensures name { (r : PackageList) (name : List ℕ) (a b : List (List ℕ)) → AreCuts (IsNameCut r name) a → AreCuts (IsNameCut r name) b → a ≡ b }
+{}
+
 /// New versions of one member at versions of one class, with the same entries of Provides left out, match the same atoms.
 pub fn new_versions_match_alike()
     ensures { (r : PackageList) (members top : List ℕ) (cuts : List (List ℕ)) → AreCuts (IsClusterCut r members top) cuts →
