@@ -1,11 +1,11 @@
 -- The class of a version in a list of classes.
-use Rattle.std.proofs.Common.{◌≡◌, ◌↔◌, ◌⊎◌, ℕ, zero, suc, ◌+◌, ◌<◌, ◌≤◌, get_or, slice_get, List, [], ◌∷◌, length, Option, Some, None, refl, sym, ap, subst, ◌∙◌, inl, inr, arith}
+use Rattle.std.proofs.Common.{◌≡◌, ◌↔◌, ℕ, zero, suc, ◌+◌, ◌<◌, ◌≤◌, get_or, slice_get, List, [], ◌∷◌, length, Option, Some, None, refl, sym, ap, subst, ◌∙◌, inl, inr, arith}
 use Rattle.std.specs.Prelude.{IsSomeAnd}
 use Rattle.std.proofs.lemmas.Bool.{cases_lt}
 use Rattle.std.proofs.lemmas.Option.{slice_get-get_or, same_Some}
 use Rattle.dist_version.specs.Order.{IsBelow}
 use Rattle.dist_classes.specs.Answers.{IsClassList}
-use Rattle.dist_classes.specs.ClassList.{AreClassesAbove, AreClassesOfAll, HasVersions, IsOfClass, IsOfClassAt, classes_above, classes_of_all}
+use Rattle.dist_classes.specs.ClassList.{HasVersions, IsOfClass, IsOfClassAt, classes_above, classes_of_all}
 use Rattle.dist_classes.specs.Cuts.{Rises, RisesFrom}
 use Rattle.dist_classes.specs.declared.class_value.Class.{Class}
 use Rattle.dist_classes.proofs.ClassLemmas.{above-top, one-class_above, one-class_of_all}

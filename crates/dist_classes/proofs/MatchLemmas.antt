@@ -1,6 +1,6 @@
 -- What new versions of a member match, and what packages of a new name do: at versions of one class, the same atoms.
-use Rattle.std.proofs.Common.{◌≡◌, ◌≢◌, ◌⊎◌, ◌↔◌, ℕ, zero, suc, ◌<◌, Bool, true, false, List, [], ◌∷◌, length, get_or, Option, Some, None, Ordering, Less, Equal, Greater, refl, sym, ap, subst, ◌∙◌, inl, inr, arith, slice_get}
-use Rattle.std.specs.Prelude.{All, Any, Contains, IfSome, IsSomeAnd}
+use Rattle.std.proofs.Common.{◌≡◌, ◌⊎◌, ◌↔◌, ℕ, zero, suc, Bool, true, false, List, [], ◌∷◌, Option, Some, None, Ordering, Less, Equal, Greater, refl, sym, subst, ◌∙◌, inl, inr, arith, slice_get}
+use Rattle.std.specs.Prelude.{Any, Contains, IfSome, IsSomeAnd}
 use Rattle.dist_version.specs.Order.{version_cmp, IsBelow}
 use Rattle.dist_relation.specs.Satisfies.{AllowsOrder, Satisfies}
 use Rattle.dist_relation.specs.declared.atom.Atom.{Atom}
@@ -8,14 +8,14 @@ use Rattle.dist_relation.specs.declared.atom.Bound.{Bound}
 use Rattle.dist_relation.specs.declared.atom.Provide.{Provide}
 use Rattle.dist_relation.specs.declared.atom.Qualifier.{Qualifier}
 use Rattle.dist_repo.specs.Match.{IsUsable, Matches, MatchesByEntry, MatchesByName}
-use Rattle.dist_repo.specs.PackageList.{PackageList, IsPackageAnd}
+use Rattle.dist_repo.specs.PackageList.{PackageList}
 use Rattle.dist_repo.specs.declared.package.Package.{Package}
 use Rattle.dist_classes.specs.Atoms.{IsAtomOf, IsBoundOn}
 use Rattle.dist_classes.specs.ClassList.{classes_above, classes_of_all, AreInOneClass}
-use Rattle.dist_classes.specs.Cuts.{AreCuts, IsClusterCut, IsLeastText, IsNameCut, IsNameOfCluster, Rises, RisesFrom}
-use Rattle.dist_classes.specs.NewVersion.{AreCarried, IsAt, IsCarried, IsMovedName, IsMoving, IsNewVersionOf, IsOfNewName}
+use Rattle.dist_classes.specs.Cuts.{AreCuts, IsClusterCut, IsNameCut, IsNameOfCluster, RisesFrom}
+use Rattle.dist_classes.specs.NewVersion.{AreCarried, IsAt, IsCarried, IsMovedName, IsNewVersionOf, IsOfNewName}
 use Rattle.dist_classes.proofs.ClassLemmas.{IsTold, same-side, same-side_of_all}
-use Rattle.dist_classes.proofs.VersionOrder.{alike-left, cases-order, equal-back, less-not_equal}
+use Rattle.dist_classes.proofs.VersionOrder.{alike-left, cases-order, less-not_equal}
 
 some-of : {X : Type 0} (P : X → Type 0) (o : Option X) → IsSomeAnd o P → (x : X) × (o ≡ Some x) × P x
 some-of P None h = absurd h
@@ -122,8 +122,8 @@ rises-above r members top [] are = tt
 rises-above r members top (cut ∷ cuts) are = ((are.least 0 cut (omega arith)).0.0, are.rising)
 
 module _ (r : PackageList) (members top : List ℕ) (cuts : List (List ℕ)) (are : AreCuts (IsClusterCut r members top) cuts)
-  (number : ℕ) (p : Package) (there : Contains members number) (at : slice_get r.packages number ≡ Some p)
-  (v w : List ℕ) (one : AreInOneClass (classes_above top cuts) v w) (atom : Atom) (is : IsAtomOf r atom) where
+    (number : ℕ) (p : Package) (there : Contains members number) (at : slice_get r.packages number ≡ Some p)
+    (v w : List ℕ) (one : AreInOneClass (classes_above top cuts) v w) (atom : Atom) (is : IsAtomOf r atom) where
   moved-alike : IsMovedName r.architecture p atom.name → AreAlike atom v w
   moved-alike moved bound bound_is =
       let allowed : IsNameOfCluster r members atom.name = (there.0, number, there.1, there.2, some-at (λ (q : Package). IsMovedName r.architecture q atom.name) (slice_get r.packages number) p at moved) in

@@ -1,12 +1,10 @@
 -- The cuts among version texts in order.
-use Rattle.std.proofs.Common.{◌≡◌, ◌≢◌, ◌⊎◌, ◌↔◌, ℕ, zero, suc, ◌+◌, ◌≤◌, ◌<◌, Bool, true, false, cond, List, [], ◌∷◌, length, get_or, Ordering, Less, Equal, Greater, is_eq, is_lt, nat_cmp, refl, sym, ap, subst, ◌∙◌, inl, inr, arith}
-use Rattle.std.specs.Prelude.{All, Any, Contains}
+use Rattle.std.proofs.Common.{◌≡◌, ◌≢◌, ◌⊎◌, ◌↔◌, ℕ, zero, suc, ◌+◌, ◌<◌, Bool, true, false, cond, List, [], ◌∷◌, length, get_or, Ordering, Less, Equal, Greater, is_eq, is_lt, nat_cmp, refl, sym, ap, subst, ◌∙◌, inl, inr, arith}
+use Rattle.std.specs.Prelude.{Contains}
 use Rattle.std.specs.Cmp.Lexicographic.{slice_cmp}
 use Rattle.std.specs.List.Sorted.{IsSorted, IsSortedBy}
 use Rattle.std.specs.Ordering.{is_gt, ordering_then, ordering_reverse}
-use Rattle.std.proofs.lemmas.Bool.{cases_Bool}
 use Rattle.std.proofs.lemmas.Cmp.{nat_list_cmp_total, tied_itself}
-use Rattle.std.proofs.lemmas.List.{get_or_default}
 use Rattle.std.proofs.lemmas.List.Elements.{All-contains, Contains-get_or}
 use Rattle.std.proofs.lemmas.Map.Text.{is_eq-slice_cmp}
 use Rattle.std.proofs.lemmas.Slice.Eq.{bytes_eq-Decides}
@@ -15,7 +13,7 @@ use Rattle.dist_version.specs.Order.{version_cmp, IsBelow}
 use Rattle.dist_classes.specs.Cuts.{AreCuts, IsLeastText, Rises, RisesFrom}
 use Rattle.dist_classes.specs.Sorted.{cuts_after, cuts_of, text_cmp, text_total}
 use Rattle.dist_classes.proofs.ClassLemmas.{IsTold}
-use Rattle.dist_classes.proofs.VersionOrder.{above-below, alike-left, alike-right, below-above, below-trans, cases-order, equal-back, equal-itself, less-not_equal, not-above_below, not-both}
+use Rattle.dist_classes.proofs.VersionOrder.{above-below, below-above, below-trans, cases-order, equal-back, equal-itself, less-not_equal, not-above_below, not-both}
 
 -- ---- texts in order
 

@@ -1,5 +1,5 @@
 -- The order of versions, as it is used: what is below, above and equal.
-use Rattle.std.proofs.Common.{◌≡◌, ◌≢◌, ◌⊎◌, ℕ, List, Ordering, Less, Equal, Greater, refl, sym, ap, ◌∙◌, inl, inr}
+use Rattle.std.proofs.Common.{◌≡◌, ◌⊎◌, ℕ, List, Ordering, Less, Equal, Greater, refl, sym, ap, ◌∙◌, inl, inr}
 use Rattle.std.specs.Ordering.{ordering_reverse}
 use Rattle.std.proofs.lemmas.Cmp.{alike_right, tied_back, tied_itself}
 use Rattle.dist_version.specs.Order.{version_cmp, IsBelow}

@@ -1,5 +1,5 @@
 -- Classes of versions, their lists between cuts, the texts of classes and of an example in each.
-use Rattle.std.specs.Prelude.{◌≡◌, ◌⊎◌, ℕ, List, [], ◌∷◌, ◌++◌, IsSomeAnd, codes, length, slice_get}
+use Rattle.std.specs.Prelude.{◌≡◌, ℕ, List, [], ◌∷◌, ◌++◌, IsSomeAnd, codes, length, slice_get}
 use Rattle.std.specs.declared.cmp.Ordering.TheVariants.{Equal}
 use Rattle.dist_version.specs.Between.{above_text, below_text}
 use Rattle.dist_version.specs.Order.{version_cmp, IsBelow}

@@ -1,17 +1,16 @@
 -- Worked examples: a library with two bounds on it, a provided interface that moves with its package, and a name that nobody has.
-use Rattle.std.proofs.Common.{◌≡◌, ◌⊎◌, ℕ, zero, suc, ap, sym, subst, ◌∙◌, true, false, List, [], ◌∷◌, None, Some, lit<, inl, inr, refl, arith}
+use Rattle.std.proofs.Common.{◌≡◌, ℕ, zero, suc, ap, sym, subst, ◌∙◌, true, false, List, [], ◌∷◌, None, Some, lit<, inl, inr, refl, arith}
 use Rattle.std.specs.Prelude.{Any, codes, slice_index}
-use Rattle.std.specs.declared.cmp.Ordering.TheVariants.{Less, Equal}
-use Rattle.dist_version.specs.Between.{above_text, below_text}
+use Rattle.dist_version.specs.Between.{above_text}
 use Rattle.dist_version.specs.Order.{version_cmp, part_cmp, weights_of}
 use Rattle.dist_version.specs.Spelling.{epoch_of, epoch_digits, after_epoch, upstream_of, revision_of}
 use Rattle.dist_relation.specs.declared.atom.Atom.{Atom}
-use Rattle.dist_relation.specs.declared.atom.Op.TheVariants.{Lt, Ge, Eq}
+use Rattle.dist_relation.specs.declared.atom.Op.TheVariants.{Lt}
 use Rattle.dist_relation.specs.declared.atom.Provide.{Provide}
 use Rattle.dist_relation.specs.declared.atom.Qualifier.TheVariants.{Plain}
 use Rattle.dist_repo.specs.PackageList.{PackageList}
 use Rattle.dist_repo.specs.declared.package.Package.{Package}
-use Rattle.dist_classes.specs.Atoms.{IsAtomOf, IsBoundOn}
+use Rattle.dist_classes.specs.Atoms.{IsBoundOn}
 use Rattle.dist_classes.specs.ClassList.{IsOfClass, class_text, classes_above, classes_of_all, example_text}
 use Rattle.dist_classes.specs.Cuts.{IsClusterCut, IsNameOfCluster, RisesFrom}
 use Rattle.dist_classes.specs.NewNames.{IsNewName}

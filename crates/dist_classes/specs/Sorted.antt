@@ -8,9 +8,6 @@ use Rattle.std.specs.declared.cmp.Ordering.{Ordering}
 use Rattle.std.proofs.lemmas.Cmp.{nat_list_cmp_total, then_total}
 use Rattle.dist_version.specs.Order.{version_cmp}
 use Rattle.dist_version.specs.OrderLaws.{version_total}
-use Rattle.dist_classes.specs.ClassList.{classes_above}
-use Rattle.dist_classes.specs.declared.class_value.Class.{Class}
-use Rattle.dist_classes.specs.declared.class_value.Class.TheVariants.{Point, Below, Any}
 
 -- by version, and equal versions by their texts
 abbrev pub text_cmp : List ℕ → List ℕ → Ordering

@@ -156,11 +156,7 @@ impl<'a> Table<'a> {
     }
 
     /// Notes all atoms of a package.
-    fn note_package(
-        &mut self,
-        repo: &Repository,
-        package: &'a Package,
-    ) -> Result<(), AllocError>
+    fn note_package(&mut self, repo: &Repository, package: &'a Package) -> Result<(), AllocError>
         ensures { OnOk result (Notes self.old self.new (λ q v. IsPackageBound repo.now.architecture q v «package».now)) }
     {
         self.note_items(repo, &package.depends)?;

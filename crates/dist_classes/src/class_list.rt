@@ -98,11 +98,7 @@ fn push_cut(classes: &mut Vec<Class>, low: &Version, cut: &Version) -> Result<()
 }
 
 /// Adds the classes above a version. The cuts are those versions that are above the one before.
-fn push_above(
-    classes: &mut Vec<Class>,
-    low: &Version,
-    sorted: &[TextKey],
-) -> Result<(), AllocError>
+fn push_above(classes: &mut Vec<Class>, low: &Version, sorted: &[TextKey]) -> Result<(), AllocError>
     ensures { OnOk result (classes.new.items ≡ classes.old.items ++ classes_above low.now (cuts_after low.now sorted.now)) }
 {
     let mut last = low;

@@ -15,7 +15,9 @@ pub use class_value::{Class, example, print_class};
 pub use clusters::repository_clusters;
 pub use cut_finding::{CutFinder, classes_of, classes_of_new_name};
 pub use fresh_names::{Names, new_names};
-pub use laws::{cuts_are_one, new_names_match_alike, new_versions_match_alike, versions_are_in_one_class};
+pub use laws::{
+    cuts_are_one, new_names_match_alike, new_versions_match_alike, versions_are_in_one_class,
+};
 
 #[cfg(test)]
 mod tests;

@@ -74,7 +74,11 @@ fn report(alloc: Global, repo: &Repository) -> Result<Vec<u8>, Fail>
     let clusters = repository_clusters(alloc, repo)?;
     let finder = CutFinder::new(alloc, repo)?;
     for cluster in 0..clusters.len() {
-        print_classes(alloc, &finder.classes_of_cluster(&clusters, cluster)?, &mut out)?;
+        print_classes(
+            alloc,
+            &finder.classes_of_cluster(&clusters, cluster)?,
+            &mut out,
+        )?;
         out.push(b'|')?;
     }
     let names = new_names(alloc, repo)?;
@@ -106,19 +110,47 @@ fn classes_are_cut_at_bounds(rt: HostRuntime) -> Result<(), Fail> {
         // A bound at or below the top is no cut, equal bounds are one in the text least in bytes, and conflicts have bounds too.
         (
             ("a", "2", "a", "", "", ""),
-            ("p", "1", "p", "a (<< 2-0), a (>= 1), a (= 3-0)", "a (<< 3), a (>= 0:3)", ""),
+            (
+                "p",
+                "1",
+                "p",
+                "a (<< 2-0), a (>= 1), a (= 3-0)",
+                "a (<< 3), a (>= 0:3)",
+                "",
+            ),
             ">> 2, << 0:3 2-0A~~~;= 0:3 0:3;>> 0:3 0:3-0A;|>> 1 1-0A;|",
         ),
         // A provided name that moves with its package has its cuts, and one that doesn't, or can't be used, has none.
         (
-            ("libx", "1", "s", "", "", "abi (= 0:1), old (= 0.9), other:i386 (= 1)"),
-            ("p", "1", "s", "abi (= 5), old (= 6), other (= 7), other", "", ""),
+            (
+                "libx",
+                "1",
+                "s",
+                "",
+                "",
+                "abi (= 0:1), old (= 0.9), other:i386 (= 1)",
+            ),
+            (
+                "p",
+                "1",
+                "s",
+                "abi (= 5), old (= 6), other (= 7), other",
+                "",
+                "",
+            ),
             ">> 1, << 5 1-0A~;= 5 5;>> 5 5-0A;|other:<< 7 ~~;= 7 7;>> 7 7-0A;",
         ),
         // The greatest version of a cluster is its top, rebuild suffix included.
         (
             ("a", "3.11.2-1+b1", "s", "b (>= 3.11.2-1~)", "", ""),
-            ("b", "3.11.2-1", "s", "c:any (<< 1), c:i386 (>= 2), d", "c (>= 1)", ""),
+            (
+                "b",
+                "3.11.2-1",
+                "s",
+                "c:any (<< 1), c:i386 (>= 2), d",
+                "c (>= 1)",
+                "",
+            ),
             ">> 3.11.2-1+b1 3.11.2-1+b1A;|c:<< 1 ~~;= 1 1;>> 1 1-0A;d:any 0;",
         ),
     ] {

@@ -1,5 +1,4 @@
-use Rattle.std.proofs.Common.{ℕ, List, [], arith, subst, sym}
-use Rattle.std.specs.Prelude.{Any}
+use Rattle.std.proofs.Common.{ℕ, List, [], arith}
 use Rattle.dist_repo.specs.declared.package.Package.{Package}
 use Rattle.dist_classes.specs.Table.{IsPackageBound}
 use Rattle.dist_classes.proofs.TableLemmas.{notes-more, notes-whole, table-from}

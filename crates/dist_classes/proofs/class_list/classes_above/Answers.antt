@@ -1,4 +1,4 @@
-use Rattle.std.proofs.Common.{inl, ◌∙◌, refl, ap, ◌++◌, [], List}
+use Rattle.std.proofs.Common.{inl, ◌∙◌, ap, ◌++◌, List}
 use Rattle.dist_classes.specs.ClassList.{classes_above}
 use Rattle.dist_classes.specs.Sorted.{cuts_after}
 use Rattle.dist_classes.specs.declared.class_value.Class.{Class}

@@ -1,4 +1,4 @@
-use Rattle.std.proofs.Common.{inr, ◌∙◌, refl, ap, ◌++◌, [], List}
+use Rattle.std.proofs.Common.{inr, ◌∙◌, ap, ◌++◌, List}
 use Rattle.dist_classes.specs.ClassList.{classes_of_all}
 use Rattle.dist_classes.specs.Sorted.{cuts_of}
 use Rattle.dist_classes.specs.declared.class_value.Class.{Class}

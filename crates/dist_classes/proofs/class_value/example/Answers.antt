@@ -1,4 +1,4 @@
-use Rattle.std.proofs.Common.{◌≡◌, ℕ, List, sym, subst, ◌∙◌, ap}
+use Rattle.std.proofs.Common.{ℕ, List, sym, subst}
 use Rattle.dist_classes.specs.ClassList.{IsOfClass}
 use Rattle.dist_classes.specs.declared.class_value.Class.{Class}
 use Rattle.dist_classes.proofs.VersionOrder.{equal-itself}

@@ -1,4 +1,4 @@
-use Rattle.std.proofs.Common.{◌≡◌, List, ℕ, length, refl, sym, ap, subst, ◌∙◌}
+use Rattle.std.proofs.Common.{List, ℕ, refl, subst}
 use Rattle.dist_repo.specs.Providers.{AreProviders}
 use Rattle.dist_classes.proofs.FreshLemmas.{unprovided, empty-iff}
 use Rattle.dist_classes.proofs.fresh_names.is_fresh.Goals as goal

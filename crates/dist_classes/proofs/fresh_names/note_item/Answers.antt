@@ -1,5 +1,4 @@
 use Rattle.std.proofs.Common.{ℕ, List, arith}
-use Rattle.std.specs.Prelude.{Any}
 use Rattle.dist_relation.specs.declared.atom.Atom.{Atom}
 use Rattle.dist_classes.specs.NewNames.{IsFreshAtom}
 use Rattle.dist_classes.proofs.FreshLemmas.{adds-more, adds-whole}

@@ -1,4 +1,4 @@
-use Rattle.std.proofs.Common.{◌≡◌, ◌<◌, ℕ, List, Some, ap, sym, subst, ◌∙◌, slice_get, length}
+use Rattle.std.proofs.Common.{◌≡◌, ◌<◌, List, Some, ap, sym, subst, ◌∙◌, slice_get, length}
 use Rattle.std.proofs.lemmas.Option.{slice_get-get_or}
 use Rattle.dist_classes.specs.declared.class_value.Class.{Class}
 use Rattle.dist_classes.proofs.ClassOfLemmas.{all-have}

@@ -1,12 +1,10 @@
-use Rattle.std.proofs.Common.{◌≡◌, ◌∙◌, List, ℕ, [], sym, ap, subst}
-use Rattle.std.specs.Prelude.{IsPermutation}
-use Rattle.std.specs.List.Sorted.{IsSorted}
+use Rattle.std.proofs.Common.{◌≡◌, ◌∙◌, List, ℕ, ap, subst}
 use Rattle.std.proofs.lemmas.Result.{IfOk-weaker}
 use Rattle.dist_classes.specs.Answers.{AreClassesOf}
 use Rattle.dist_classes.specs.Atoms.{IsBoundOn}
 use Rattle.dist_classes.specs.ClassList.{classes_above}
 use Rattle.dist_classes.specs.Cuts.{IsNameOfCluster}
-use Rattle.dist_classes.specs.Sorted.{cuts_after, text_cmp}
+use Rattle.dist_classes.specs.Sorted.{cuts_after}
 use Rattle.dist_classes.specs.Table.{Adds}
 use Rattle.dist_classes.proofs.FoundCuts.{cluster-classes}
 use Rattle.dist_classes.proofs.cut_finding.CutFinder.classes_of.Goals as goal
