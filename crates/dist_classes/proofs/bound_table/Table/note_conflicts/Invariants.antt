@@ -1,0 +1,7 @@
+use Rattle.std.proofs.Common.{take}
+use Rattle.std.specs.Prelude.{Any}
+use Rattle.dist_classes.specs.Table.{IsAtomBound, Notes}
+use Rattle.dist_classes.proofs.bound_table.Table.note_conflicts.Given as goal
+
+abbrev pub invariant-loop-place : goal.invariant-loop-place
+invariant-loop-place l = Notes l.fn.self l.self (λ q v. Any (IsAtomBound l.repo.architecture q v) (take l.place l.atoms))

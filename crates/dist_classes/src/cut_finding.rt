@@ -1,0 +1,163 @@
+//! The classes of a cluster and of a new name: their cuts are the versions that atoms have in bounds on their names.
+ghost use Rattle.std.specs.Prelude.{◌≡◌, ◌<◌, ◌↔◌, ◌⊎◌, [], ℕ, List, All, Any, IfOk, IsSomeAnd, IsTrue, OnOk, length, slice_get, slice_index_or};
+ghost use Rattle.dist_repo.specs.PackageList.{IsPackageAnd};
+ghost use Rattle.dist_classes.specs.Answers.{AreClassesOf, AreClassesOfName, AreClustersOf};
+ghost use Rattle.dist_classes.specs.Atoms.{IsBoundOn};
+ghost use Rattle.dist_classes.specs.Cuts.{IsNameOfCluster};
+ghost use Rattle.dist_classes.specs.NewVersion.{IsAt, IsMovedName, IsMoving};
+ghost use Rattle.dist_classes.specs.Table.{Adds};
+
+use crate::bound_table::{Table, table_of};
+use crate::class_list::{Classes, classes_above, classes_of_all};
+use crate::keys::TextKey;
+use dist_cluster::Clusters;
+use dist_relation::{Name, Provide};
+use dist_repo::{Package, Repository};
+use dist_version::Version;
+use std::alloc::{AllocError, Global};
+use std::marker::Model;
+
+/// A repository with the versions in bounds of its atoms, name by name, which gives the classes of each cluster and of each
+/// new name without another walk over its atoms.
+#[derive(Drop)]
+pub struct CutFinder<'a> {
+    alloc: Global,
+    repo: &'a Repository,
+    table: Table<'a>,
+}
+
+impl<'a> Model for CutFinder<'a> {
+    ghost use Rattle.dist_repo.specs.PackageList.{PackageList};
+    ghost use Rattle.dist_classes.specs.Table.{IsTableOf};
+
+    ghost Value = { PackageList };
+
+    ghost view = { λ finder. finder.repo.now };
+
+    ghost invariant = { λ finder. IsTableOf finder.repo.now finder.table };
+}
+
+/// Whether an entry of Provides has a version that is equal to another one.
+fn is_at(entry: &Provide, version: &Version) -> bool
+    ensures { IsTrue result ↔ IsAt entry.now version.now }
+{
+    match &entry.version {
+        Some(own) => own.compare(version).is_eq(),
+        None => false,
+    }
+}
+
+/// Whether an entry goes with its package to a new version.
+fn is_moving(repo: &Repository, package: &Package, entry: &Provide) -> bool
+    ensures { IsTrue result ↔ IsMoving repo.now.architecture «package».now entry.now }
+{
+    repo.usable(&entry.qualifier) && is_at(entry, &package.version)
+}
+
+impl<'a> CutFinder<'a> {
+    /// Goes through the atoms of a repository once.
+    pub fn new(alloc: Global, repo: &'a Repository) -> Result<CutFinder<'a>, AllocError>
+        ensures { IfOk result (λ finder. finder ≡ repo.now) }
+    {
+        let table = table_of(alloc, repo)?;
+        Ok(CutFinder { alloc, repo, table })
+    }
+
+    /// Adds the versions in bounds on a name.
+    fn collect(&self, name: &'a Name, found: &mut Vec<TextKey<'a>>) -> Result<(), AllocError>
+        ensures { OnOk result (Adds found.old.items found.new.items (IsBoundOn self.now (λ other. other ≡ name.now))) }
+    {
+        self.table.collect(name, found)
+    }
+
+    /// Adds the versions in bounds on the names that a new version of a package has at its own version.
+    fn collect_package(
+        &self,
+        package: &'a Package,
+        found: &mut Vec<TextKey<'a>>,
+    ) -> Result<(), AllocError>
+        ensures { OnOk result (Adds found.old.items found.new.items (IsBoundOn self.now (IsMovedName self.now.architecture «package».now))) }
+    {
+        self.collect(&package.name, found)?;
+        for place in 0..package.provides.len() {
+            let entry = package.provides.get(place);
+            if is_moving(self.repo, package, entry) {
+                self.collect(&entry.name, found)?;
+            }
+        }
+        Ok(())
+    }
+
+    /// Adds the versions in bounds on the names of the members of a cluster.
+    fn collect_members(
+        &self,
+        members: &[u32],
+        found: &mut Vec<TextKey<'a>>,
+    ) -> Result<(), AllocError>
+        requires { All (λ number. number < length self.now.packages) members.now }
+        ensures { OnOk result (Adds found.old.items found.new.items (IsBoundOn self.now (IsNameOfCluster self.now members.now))) }
+    {
+        for number in members {
+            self.collect_package(self.repo.package(*number), found)?;
+        }
+        Ok(())
+    }
+
+    /// The classes of the versions above the top of a cluster.
+    pub fn classes_of(&self, members: &[u32], top: &Version) -> Result<Classes, AllocError>
+        requires { All (λ number. number < length self.now.packages) members.now }
+        ensures { IfOk result (AreClassesOf self.now members.now top.now) }
+    {
+        let mut found = Vec::new(self.alloc);
+        self.collect_members(members, &mut found)?;
+        found.sort()?;
+        classes_above(self.alloc, top, &found)
+    }
+
+    /// The classes of the versions above the top of a cluster of the repository, by its number.
+    pub fn classes_of_cluster(
+        &self,
+        clusters: &Clusters,
+        cluster: u32,
+    ) -> Result<Classes, AllocError>
+        requires clusters { AreClustersOf self.now clusters.now }
+        requires cluster { cluster < length clusters.now.members }
+        ensures { IfOk result (AreClassesOf self.now (slice_index_or clusters.now.members cluster []) (slice_index_or clusters.now.tops cluster [])) }
+    {
+        self.classes_of(clusters.members(cluster), clusters.top(cluster))
+    }
+
+    /// The classes of the versions of a new name.
+    pub fn classes_of_new_name(&self, name: &'a Name) -> Result<Classes, AllocError>
+        ensures { IfOk result (AreClassesOfName self.now name.now) }
+    {
+        let mut found = Vec::new(self.alloc);
+        self.collect(name, &mut found)?;
+        found.sort()?;
+        classes_of_all(self.alloc, &found)
+    }
+}
+
+/// The classes of the versions above the top of a cluster. For those of many clusters see [`CutFinder`].
+pub fn classes_of(
+    alloc: Global,
+    repo: &Repository,
+    members: &[u32],
+    top: &Version,
+) -> Result<Classes, AllocError>
+    requires { All (λ number. number < length repo.now.packages) members.now }
+    ensures { IfOk result (AreClassesOf repo.now members.now top.now) }
+{
+    CutFinder::new(alloc, repo)?.classes_of(members, top)
+}
+
+/// The classes of the versions of a new name. For those of many names see [`CutFinder`].
+pub fn classes_of_new_name(
+    alloc: Global,
+    repo: &Repository,
+    name: &Name,
+) -> Result<Classes, AllocError>
+    ensures { IfOk result (AreClassesOfName repo.now name.now) }
+{
+    CutFinder::new(alloc, repo)?.classes_of_new_name(name)
+}

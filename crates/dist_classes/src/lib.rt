@@ -1,0 +1,23 @@
+//! Classes of later versions: the versions above a cluster's top, and those of a new name, cut at what a repository's atoms tell apart.
+#![tactic(auto)]
+
+mod bound_table;
+mod class_list;
+mod class_value;
+mod clusters;
+mod cut_finding;
+mod fresh_names;
+mod keys;
+mod laws;
+
+pub use class_list::{Classes, class_of};
+pub use class_value::{Class, example, print_class};
+pub use clusters::repository_clusters;
+pub use cut_finding::{CutFinder, classes_of, classes_of_new_name};
+pub use fresh_names::{Names, new_names};
+pub use laws::{
+    cuts_are_one, new_names_match_alike, new_versions_match_alike, versions_are_in_one_class,
+};
+
+#[cfg(test)]
+mod tests;

@@ -1,0 +1,5 @@
+pub mod Places
+pub mod Clustered
+pub mod FoundLemmas
+pub mod PartitionLemmas
+pub mod TopLemmas

@@ -1,0 +1,8 @@
+use Rattle.dist_cluster.proofs.PartitionLemmas.{one-partition, one-cluster}
+use Rattle.dist_cluster.proofs.laws.partitions_are_one.Goals as goal
+
+pub returns-clause-one : goal.returns-clause-one
+returns-clause-one c = one-partition
+
+pub returns-clause-one_cluster : goal.returns-clause-one_cluster
+returns-clause-one_cluster c = one-cluster

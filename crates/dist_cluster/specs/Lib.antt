@@ -1,0 +1,6 @@
+pub mod Relation
+pub mod Partition
+pub mod Top
+pub mod Examples
+pub mod Found
+pub mod Total

@@ -1,0 +1,24 @@
+//! Laws of clusters, apart from the work: what holds of all packages. The functions do nothing.
+ghost use Rattle.std.specs.Prelude.{◌≡◌, ◌<◌, ℕ, List, length};
+ghost use Rattle.dist_cluster.specs.Found.{IsIn};
+ghost use Rattle.dist_cluster.specs.Partition.{IsPartition};
+ghost use Rattle.dist_cluster.specs.Relation.{Member, AreClustered};
+ghost use Rattle.dist_cluster.specs.Top.{IsTop};
+
+/// To be clustered is an equivalence.
+pub fn clustered_is_an_equivalence()
+    ensures itself { (a : Member) → AreClustered a a }
+    ensures turned { (a b : Member) → AreClustered a b → AreClustered b a }
+    ensures joined { (a b c : Member) → AreClustered a b → AreClustered b c → AreClustered a c }
+{}
+
+/// There is one partition, and in it each member is in one cluster.
+pub fn partitions_are_one()
+    ensures one { (members : List Member) (a b : List (List ℕ)) → IsPartition members a → IsPartition members b → a ≡ b }
+    ensures one_cluster { (members : List Member) (clusters : List (List ℕ)) → IsPartition members clusters → (c d m : ℕ) → IsIn clusters c m → IsIn clusters d m → c ≡ d }
+{}
+
+/// A cluster has one top.
+pub fn tops_are_one()
+    ensures { (members : List Member) (cluster a b : List ℕ) → IsTop members cluster a → IsTop members cluster b → a ≡ b }
+{}
