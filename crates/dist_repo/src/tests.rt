@@ -72,7 +72,11 @@ fn three(alloc: Global) -> Result<Repository, Fail> {
     if added != [0, 0, 0, 7, 9] {
         Err("not added as they should be")?;
     }
-    Ok(builder.finish(None)?)
+    let repository = builder.finish(None)?;
+    if !repository.is_within_size() {
+        Err("larger than stated")?;
+    }
+    Ok(repository)
 }
 
 #[test]
@@ -86,7 +90,7 @@ fn versions_of_a_name(rt: HostRuntime) -> Result<(), Fail> {
     );
     assert_eq!(rt; repository.find(b"b", &Version::read(alloc, b"2")?), None);
     assert!(rt; repository.providers(b"a") == [0, 1].as_slice());
-    assert!(rt; !repository.is_flat() && repository.is_within_size());
+    assert!(rt; !repository.is_flat());
     let latest = repository.latest()?;
     assert_eq!(rt; latest.len(), 2);
     assert!(rt; latest.is_flat() && latest.architecture().is_none());
