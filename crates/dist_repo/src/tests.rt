@@ -79,23 +79,36 @@ fn three(alloc: Global) -> Result<Repository, Fail> {
     Ok(repository)
 }
 
+/// The number of the package of a name and a version.
+fn found(
+    repository: &Repository,
+    alloc: Global,
+    name: &str,
+    version: &str,
+) -> Result<Option<u32>, Fail> {
+    let version = Version::read(alloc, version.as_bytes())?;
+    Ok(repository.find(name.as_bytes(), &version))
+}
+
 #[test]
 fn versions_of_a_name(rt: HostRuntime) -> Result<(), Fail> {
     let alloc = rt.alloc();
     let repository = three(alloc)?;
-    assert_eq!(rt; repository.len(), 3);
-    assert_eq!(rt;
-        repository.find(b"a", &Version::read(alloc, b"1.0-0")?),
-        Some(0)
-    );
-    assert_eq!(rt; repository.find(b"b", &Version::read(alloc, b"2")?), None);
+    assert!(rt; found(&repository, alloc, "a", "1.0-0")? == Some(0));
+    assert!(rt; found(&repository, alloc, "b", "2")?.is_none());
     assert!(rt; repository.providers(b"a") == [0, 1].as_slice());
-    assert!(rt; !repository.is_flat());
+    Ok(())
+}
+
+#[test]
+fn newest_versions(rt: HostRuntime) -> Result<(), Fail> {
+    let repository = three(rt.alloc())?;
     let latest = repository.latest()?;
+    assert!(rt; !repository.is_flat() && latest.is_flat());
+    assert!(rt; latest.architecture().is_none());
     assert_eq!(rt; latest.len(), 2);
-    assert!(rt; latest.is_flat() && latest.architecture().is_none());
-    assert!(rt; latest.package(0) == repository.package(1));
-    assert!(rt; repository.package(2).try_clone()? == *latest.package(1));
+    let copy = latest.package(0).try_clone()?;
+    assert!(rt; copy == *repository.package(1));
     Ok(())
 }
 
