@@ -1,0 +1,10 @@
+//! Certificates as text: the records of their lines, a writer and a reader.
+#![tactic(auto)]
+
+mod faults;
+mod lists;
+mod records;
+
+pub use faults::{CertCause, CertFault, ReadCertError};
+pub use lists::{Claims, Items, Literals, Numbers, Pairs};
+pub use records::{CertKind, CertRecord, Claim, Header};
