@@ -2,9 +2,12 @@
 #![tactic(auto)]
 
 mod faults;
+mod line_text;
 mod lists;
 mod records;
+mod writing;
 
 pub use faults::{CertCause, CertFault, ReadCertError};
 pub use lists::{Claims, Items, Literals, Numbers, Pairs};
 pub use records::{CertKind, CertRecord, Claim, Header};
+pub use writing::Writer;
