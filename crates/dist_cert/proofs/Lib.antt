@@ -1,1 +1,2 @@
+pub mod OneForm
 pub mod WritingLemmas
