@@ -1,9 +1,11 @@
 -- A line is the text of one record at most, and of one first line at most.
-use Rattle.std.proofs.Common.{◌≡◌, ◌≢◌, ℕ, zero, suc, ◌+◌, ◌<◌, ◌≤◌, ◌^◌, Bool, true, false, List, [], ◌∷◌, ◌++◌, All, length, drop, get_or, map, decimal, codes, refl, ap, sym, ◌∙◌, arith, rules, append_assoc, nat_eq, if◌then◌else◌}
+use Rattle.std.proofs.Common.{◌≡◌, ◌≢◌, ℕ, zero, suc, ◌+◌, ◌<◌, ◌≤◌, ◌^◌, Bool, true, false, List, [], ◌∷◌, ◌++◌, All, length, drop, get_or, map, decimal, codes, refl, ap, sym, ◌∙◌, arith, rules, append_assoc, nat_eq}
 use Rattle.std.specs.List.{flat_map}
 use Rattle.std.proofs.lemmas.List.Elements.{All-head, All-tail, All-map, All-cons, All-nil}
 use Rattle.std.proofs.lemmas.Fmt.{decimal_by_steps, decimal_injective}
 use Rattle.dist_cert.specs.Form.{Word, word_text, signed_text, words_text, plain, plains, pair_words, separator, letter, words, record_text, AreFromOne, ArePairs, AreLiterals, KeepsRules, IsSmall, HasForm, kind_text, mode_text, header_text, KeepsLimit, HasHeaderForm}
+use Rattle.dist_cert.specs.Parts.{HasNoSpace, IsBehind}
+use Rattle.dist_cert.specs.Decoded.{before, after, numbers, pairs, first, rest, decoded}
 use Rattle.dist_cert.specs.declared.records.CertKind.{CertKind}
 use Rattle.dist_cert.specs.declared.records.CertKind.TheVariants as kinds
 use Rattle.dist_cert.specs.declared.records.CertRecord.{CertRecord}
@@ -30,22 +32,13 @@ digits_of_decimal n small = decimal_by_steps (λ k ds. Digits ds)
 
 -- ---- where a word ends
 
-abbrev pub HasNoSpace : List ℕ → Type 0
-HasNoSpace [] = Unit {0}
-HasNoSpace (c ∷ cs) = (c ≢ 32) × HasNoSpace cs
-
--- nothing, or a space first
-abbrev pub IsBehind : List ℕ → Type 0
-IsBehind [] = Unit {0}
-IsBehind (c ∷ cs) = c ≡ 32
-
-heads : (a b : ℕ) (r s : List ℕ) → a ∷ r ≡ b ∷ s → a ≡ b
+pub heads : (a b : ℕ) (r s : List ℕ) → a ∷ r ≡ b ∷ s → a ≡ b
 heads a b r s e = ap (λ l. get_or l 0 0) e
 
-tails : (a b : ℕ) (r s : List ℕ) → a ∷ r ≡ b ∷ s → r ≡ s
+pub tails : (a b : ℕ) (r s : List ℕ) → a ∷ r ≡ b ∷ s → r ≡ s
 tails a b r s e = ap (λ l. drop 1 l) e
 
-not_empty : (c : ℕ) (cs : List ℕ) → [] ≡ c ∷ cs → ⊥
+pub not_empty : (c : ℕ) (cs : List ℕ) → [] ≡ c ∷ cs → ⊥
 not_empty c cs e = let bad : 0 ≡ suc (length cs) = ap (λ l. length l) e in omega arith
 
 pub one_end : (a b r s : List ℕ) → HasNoSpace a → HasNoSpace b → IsBehind r → IsBehind s → a ++ r ≡ b ++ s → (a ≡ b) × (r ≡ s)
@@ -72,7 +65,7 @@ behind_word (w ∷ ws) = refl
 
 -- ---- a word is read in one way
 
-no_minus : (cs ds : List ℕ) → Digits cs → cs ≡ 45 ∷ ds → ⊥
+pub no_minus : (cs ds : List ℕ) → Digits cs → cs ≡ 45 ∷ ds → ⊥
 no_minus [] ds all e = not_empty 45 ds e
 no_minus (c ∷ cs) ds all e = let is : c ≡ 45 = heads c 45 cs ds e in omega (arith, all.0.0)
 
@@ -97,47 +90,6 @@ one_list_of_words (v ∷ vs) (w ∷ ws) hv hw e =
     λ i. same i ∷ rest i
 
 -- ---- a letter and words are of one record
-
-abbrev pub before : List Word → List Word
-before [] = []
-before ((zero, positive) ∷ ws) = []
-before ((suc n, positive) ∷ ws) = (suc n, positive) ∷ before ws
-
-abbrev pub after : List Word → List Word
-after [] = []
-after ((zero, positive) ∷ ws) = ws
-after ((suc n, positive) ∷ ws) = after ws
-
-abbrev pub numbers : List Word → List ℕ
-numbers ws = map (λ w. w.0) ws
-
-abbrev pub pairs : List Word → List (ℕ × ℕ)
-pairs [] = []
-pairs (v ∷ []) = []
-pairs (v ∷ w ∷ ws) = (v.0, w.0) ∷ pairs ws
-
-abbrev pub first : List Word → ℕ
-first [] = 0
-first (w ∷ ws) = w.0
-
-abbrev pub rest : List Word → List Word
-rest [] = []
-rest (w ∷ ws) = ws
-
--- the record that a line with this letter and these words is of, if it is of any
-abbrev pub decoded : ℕ → List Word → CertRecord
-decoded c ws =
-    if nat_eq c 113 then Question ws else (
-    if nat_eq c 100 then Derived (before ws) (numbers (after ws)) else (
-    if nat_eq c 102 then Refuted (numbers ws) else (
-    if nat_eq c 109 then Installation (numbers ws) else (
-    if nat_eq c 117 then Undecided else (
-    if nat_eq c 120 then NotInstallable (first ws) else (
-    if nat_eq c 121 then Unknown (first ws) else (
-    if nat_eq c 115 then Strong (first ws) (numbers (before (rest ws))) (numbers (before (after (rest ws)))) (numbers (after (after (rest ws)))) else (
-    if nat_eq c 111 then Outdated (first ws) else (
-    if nat_eq c 97 then Alive (first ws) (first (rest ws)) else (
-    if nat_eq c 99 then Challenged (first ws) (numbers (before (rest ws))) (pairs (before (after (rest ws)))) (pairs (after (after (rest ws)))) else End))))))))))
 
 pub before_at : (a b : List Word) → All (λ w. 1 ≤ w.0) a → before (a ++ (separator ∷ b)) ≡ a
 before_at [] b all = refl
