@@ -1,0 +1,2 @@
+pub mod OneForm
+pub mod WritingLemmas

@@ -1,0 +1,15 @@
+//! Certificates as text: the records of their lines, a writer and a reader.
+#![tactic(auto)]
+
+mod faults;
+mod laws;
+mod line_text;
+mod lists;
+mod records;
+mod writing;
+
+pub use faults::{CertCause, CertFault, ReadCertError};
+pub use laws::one_form;
+pub use lists::{Claims, Items, Literals, Numbers, Pairs};
+pub use records::{CertKind, CertRecord, Claim, Header};
+pub use writing::Writer;
