@@ -1,10 +1,10 @@
 -- What the lines before a line hold: numbered clauses, numbered installations, claims, the open question, and the group
 -- of a claim. The lines are those after the first line, as records.
 use Rattle.std.specs.Prelude.{◌≡◌, ℕ, ◌+◌, ◌-◌, ◌<◌, ◌≤◌, Bool, true, false, if◌then◌else◌, List, [], ◌∷◌, ◌++◌, length, map, slice_index_or}
-use Rattle.std.specs.List.{flat_map, filter, list_any, AllPass}
+use Rattle.std.specs.List.{flat_map, list_any, AllPass}
 use Rattle.dist_clause.specs.Formula.{Literal, literal}
 use Rattle.dist_cert.specs.declared.records.CertRecord.{CertRecord}
-use Rattle.dist_cert.specs.declared.records.CertRecord.TheVariants.{Question, Derived, Refuted, Installation, Undecided, NotInstallable, Unknown, Strong, Outdated, Alive, Challenged, End}
+use Rattle.dist_cert.specs.declared.records.CertRecord.TheVariants.{Question, Derived, Refuted, Installation, Undecided, NotInstallable, Unknown, Strong, Outdated, Alive, Challenged}
 use Rattle.dist_cert.specs.Form.{Word}
 use Rattle.dist_cert.specs.Subject.{Matter}
 

@@ -1,7 +1,7 @@
 -- What can be wrong with a line of a certificate that has a form: one condition for each cause, on the lines before it
 -- (those after the first line, as records) and the line itself.
-use Rattle.std.specs.Prelude.{◌≡◌, ◌≢◌, ◌⊎◌, ℕ, ◌+◌, ◌<◌, true, List, [], ◌∷◌, ◌++◌, All, Any, length, map}
-use Rattle.dist_clause.specs.Formula.{Literal, negation}
+use Rattle.std.specs.Prelude.{◌≡◌, ◌≢◌, ◌⊎◌, ℕ, ◌+◌, ◌<◌, true, List, [], ◌++◌, Any, length, map}
+use Rattle.dist_clause.specs.Formula.{negation}
 use Rattle.dist_derive.specs.Follows.{Follows}
 use Rattle.dist_derive.specs.New.{EachIsNew}
 use Rattle.dist_cert.specs.declared.faults.CertCause.{CertCause}
