@@ -5,4 +5,5 @@ pub mod ClaimRules
 pub mod LineRules
 pub mod Refusal
 pub mod Accepted
+pub mod OneVerdict
 pub mod Examples
