@@ -6,4 +6,5 @@ pub mod LineRules
 pub mod Refusal
 pub mod Accepted
 pub mod OneVerdict
+pub mod SomeVerdict
 pub mod Examples
