@@ -60,16 +60,16 @@ letter End = 101
 -- the words behind the letter
 abbrev pub words : CertRecord → List Word
 words (Question literals) = literals
-words (Derived literals hints) = literals ++ separator ∷ plains hints
+words (Derived literals hints) = literals ++ (separator ∷ plains hints)
 words (Refuted hints) = plains hints
 words (Installation variables) = plains variables
 words Undecided = []
 words (NotInstallable p) = plain p ∷ []
 words (Unknown p) = plain p ∷ []
-words (Strong p installations on undecided) = plain p ∷ plains installations ++ separator ∷ plains on ++ separator ∷ plains undecided
+words (Strong p installations on undecided) = plain p ∷ (plains installations ++ (separator ∷ (plains on ++ (separator ∷ plains undecided))))
 words (Outdated p) = plain p ∷ []
 words (Alive p installation) = plain p ∷ plain installation ∷ []
-words (Challenged p installations by undecided) = plain p ∷ plains installations ++ separator ∷ pair_words by ++ separator ∷ pair_words undecided
+words (Challenged p installations by undecided) = plain p ∷ (plains installations ++ (separator ∷ (pair_words by ++ (separator ∷ pair_words undecided))))
 words End = []
 
 -- the line of a record, without its line feed
@@ -125,7 +125,7 @@ mode_text true = codes "essential"
 mode_text false = codes "plain"
 
 abbrev pub header_text : Header → List ℕ
-header_text h = codes "distfuture-certificate 1 " ++ kind_text h.kind ++ 32 ∷ mode_text h.essential ++ words_text (plains (h.limit ∷ h.packages ∷ h.variables ∷ h.clauses ∷ []))
+header_text h = codes "distfuture-certificate 1 " ++ (kind_text h.kind ++ (32 ∷ (mode_text h.essential ++ words_text (plains (h.limit ∷ h.packages ∷ h.variables ∷ h.clauses ∷ [])))))
 
 -- the limit is from 1 to 1,000,000
 abbrev pub KeepsLimit : Header → Type 0

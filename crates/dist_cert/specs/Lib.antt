@@ -1,10 +1,10 @@
 pub mod Form
+pub mod Writing
 pub mod Subject
 pub mod Groups
 pub mod ClaimRules
 pub mod LineRules
 pub mod Refusal
 pub mod Accepted
-pub mod OneVerdict
-pub mod SomeVerdict
+pub mod Told
 pub mod Examples

@@ -14,14 +14,8 @@ use Rattle.dist_cert.specs.Form.{record_text, HasForm, header_text, HasHeaderFor
 use Rattle.dist_cert.specs.Subject.{Subject}
 use Rattle.dist_cert.specs.Groups.{is_some_number}
 use Rattle.dist_cert.specs.Refusal.{line_feed, IsOneLine, lines_text, certificate_text, Reads, HasFirstFault, HasLineFault, in_order, IsFirstOf, AreFaultless, IsFirstRefused, IsLaterRefused, Refusal}
+use Rattle.dist_cert.proofs.OneLine.{FormsAreClear}
 use Rattle.dist_cert.specs.Accepted.{claims_in, Accepted}
-
--- The forms can be told apart: a line has at most one form, and the text of a form has no line feed.
-pub record FormsAreClear : Type 0 where
-  pub one_header : (line : List ℕ) (h other : Header) → HasHeaderForm line h → HasHeaderForm line other → h ≡ other
-  pub one_record : (line : List ℕ) (step other : CertRecord) → HasForm line step → HasForm line other → step ≡ other
-  pub header_line : (h : Header) → IsOneLine (header_text h)
-  pub record_line : (step : CertRecord) → IsOneLine (record_text step)
 
 -- ---- first causes
 
@@ -88,7 +82,7 @@ one_is_front clear [] twos rest other ha hb e = inl (twos, refl, e)
 one_is_front clear (a ∷ ones) [] rest other ha hb e = inr (a, ones, refl, sym e)
 one_is_front clear (a ∷ ones) (b ∷ twos) rest other ha hb e =
     let Form : CertRecord → Type 0 = λ step. HasForm (record_text step) step in
-    let lines = one_line (record_text a) (record_text b) (lines_text ones ++ rest) (lines_text twos ++ other) (clear.record_line a) (clear.record_line b) (sym (first_line_of a ones rest) ∙ e ∙ first_line_of b twos other) in
+    let lines = one_line (record_text a) (record_text b) (lines_text ones ++ rest) (lines_text twos ++ other) (clear.record_line a (ha 0 a (omega arith))) (clear.record_line b (hb 0 b (omega arith))) (sym (first_line_of a ones rest) ∙ e ∙ first_line_of b twos other) in
     let same : a ≡ b = clear.one_record (record_text a) a b (ha 0 a (omega arith)) (subst (λ line. HasForm line b) (sym lines.0) (hb 0 b (omega arith))) in
     ⊎_elim
         (λ h. inl (h.0, subst (λ c. b ∷ twos ≡ c ∷ ones ++ h.0) (sym same) (ap (λ ds. b ∷ ds) h.1), h.2))
@@ -102,7 +96,7 @@ same_lines : FormsAreClear → (text : List ℕ) (h other : Header) (ones twos :
 same_lines clear text h other ones twos rest more r s =
     let split : (k : Header) (steps : List CertRecord) (tail : List ℕ) → certificate_text k steps ++ tail ≡ header_text k ++ line_feed ∷ (lines_text steps ++ tail)
         = λ k steps tail. append_assoc (header_text k) (line_feed ∷ lines_text steps) tail in
-    let lines = one_line (header_text h) (header_text other) (lines_text ones ++ rest) (lines_text twos ++ more) (clear.header_line h) (clear.header_line other)
+    let lines = one_line (header_text h) (header_text other) (lines_text ones ++ rest) (lines_text twos ++ more) (clear.header_line h r.header) (clear.header_line other s.header)
         (sym (split h ones rest) ∙ sym r.text_is ∙ s.text_is ∙ split other twos more) in
     (clear.one_header (header_text h) h other r.header (subst (λ line. HasHeaderForm line other) (sym lines.0) s.header), lines.1)
 

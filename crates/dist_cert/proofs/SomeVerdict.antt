@@ -13,15 +13,8 @@ use Rattle.dist_cert.specs.declared.records.Header.{Header}
 use Rattle.dist_cert.specs.Form.{record_text, HasForm, header_text, HasHeaderForm}
 use Rattle.dist_cert.specs.Subject.{Subject}
 use Rattle.dist_cert.specs.Refusal.{line_feed, IsOneLine, BeginsWith, lines_text, HasFirstFault, HasLineFault, in_order, IsFirstOf, AreFaultless, Refusal}
+use Rattle.dist_cert.specs.Told.{CanBeTold}
 use Rattle.dist_cert.specs.Accepted.{claims_in, Accepted}
-
--- Each form and each fault can be told: it is there or it is not.
-pub record CanBeTold (subject : Subject) (limits : Limits) : Type 0 where
-  pub header : (line : List ℕ) → ((h : Header) × HasHeaderForm line h) ⊎ ((h : Header) → ¬ HasHeaderForm line h)
-  pub form : (line : List ℕ) → ((step : CertRecord) × HasForm line step) ⊎ ((step : CertRecord) → ¬ HasForm line step)
-  pub first : (text : List ℕ) (cause : CertCause) → HasFirstFault subject limits text cause ⊎ (¬ HasFirstFault subject limits text cause)
-  pub later : (h : Header) (before : List CertRecord) (rest : List ℕ) (cause : CertCause)
-      → HasLineFault subject limits h before rest cause ⊎ (¬ HasLineFault subject limits h before rest cause)
 
 -- ---- causes
 
