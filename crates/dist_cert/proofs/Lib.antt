@@ -1,5 +1,3 @@
 pub mod OneForm
 pub mod WritingLemmas
 pub mod OneLine
-pub mod OneVerdict
-pub mod SomeVerdict

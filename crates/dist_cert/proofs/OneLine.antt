@@ -1,5 +1,5 @@
 -- The text of a form is one line, without a line feed, and of one form alone.
-use Rattle.std.proofs.Common.{◌≡◌, ◌≢◌, ℕ, ◌<◌, ◌^◌, Bool, true, false, not, List, [], ◌∷◌, ◌++◌, map, codes, refl, ap, sym, subst, ◌∙◌, arith, ⊎_elim, inl, inr}
+use Rattle.std.proofs.Common.{◌≡◌, ◌≢◌, ◌==◌, ℕ, ◌<◌, ◌^◌, Bool, true, false, not, List, [], ◌∷◌, ◌++◌, map, codes, refl, ap, sym, subst, ◌∙◌, arith, ⊎_elim, inl, inr}
 use Rattle.std.specs.List.{All, list_all, flat_map}
 use Rattle.std.proofs.lemmas.Bool.{false≢true, cases_eq, and_parts}
 use Rattle.std.proofs.lemmas.List.Elements.{All-head, All-tail, All-cons, All-nil, All-append}
@@ -10,10 +10,8 @@ use Rattle.dist_cert.specs.declared.records.CertRecord.TheVariants.{Question, De
 use Rattle.dist_cert.specs.declared.records.Header.{Header}
 use Rattle.dist_cert.specs.Form.{Word, IsSmall, signed_text, word_text, words_text, plains, letter, words, record_text, HasForm, kind_text, mode_text, header_text, HasHeaderForm}
 use Rattle.dist_cert.specs.Refusal.{line_feed, IsOneLine}
+use Rattle.dist_cert.specs.ClearForms.{FormsAreClear}
 use Rattle.dist_cert.proofs.OneForm.{Digits, digits_of_decimal, header_words_small, one_record, one_header}
-
-IsOther : ℕ → Type 0
-IsOther byte = byte ≢ line_feed
 
 digits_line : (cs : List ℕ) → Digits cs → IsOneLine cs
 digits_line [] all = All-nil (λ byte. byte ≢ line_feed)
@@ -66,19 +64,25 @@ mode_line : (essential : Bool) → IsOneLine (mode_text essential)
 mode_line true = fixed_line (mode_text true) refl
 mode_line false = fixed_line (mode_text false) refl
 
+-- the same, as a word that does not unfold
+NoFeed : List ℕ → Type 0
+NoFeed bytes = IsOneLine bytes
+
+to_line : (bytes : List ℕ) → NoFeed bytes → IsOneLine bytes
+unfolding NoFeed
+to_line bytes h = h
+
+joined : (a b c d : List ℕ) → IsOneLine a → IsOneLine b → IsOneLine c → IsOneLine d → NoFeed (a ++ b ++ 32 ∷ (c ++ d))
+unfolding NoFeed
+joined a b c d ha hb hc hd =
+    let both : (x y : List ℕ) → IsOneLine x → IsOneLine y → IsOneLine (x ++ y) = All-append (λ byte. byte ≢ line_feed) in
+    both (a ++ b) (32 ∷ (c ++ d)) (both a b ha hb) (All-cons (λ byte. byte ≢ line_feed) 32 (c ++ d) (λ e. omega (arith, e)) (both c d hc hd))
+
 header_line : (h : Header) → HasHeaderForm (header_text h) h → IsOneLine (header_text h)
-header_line h form =
-    let both : (a b : List ℕ) → IsOneLine a → IsOneLine b → IsOneLine (a ++ b) = All-append (λ byte. byte ≢ line_feed) in
-    both _ _ (both _ _ (both _ _ (fixed_line (codes "distfuture-certificate 1 ") refl) (kind_line h.kind))
-        (All-cons (λ byte. byte ≢ line_feed) 32 (mode_text h.essential) (λ e. omega (arith, e)) (mode_line h.essential)))
-        (words_line (plains (h.limit ∷ h.packages ∷ h.variables ∷ h.clauses ∷ [])) (header_words_small (header_text h) h form))
+header_line h form = to_line (header_text h)
+    (joined (codes "distfuture-certificate 1 ") (kind_text h.kind) (mode_text h.essential) (words_text (plains (h.limit ∷ h.packages ∷ h.variables ∷ h.clauses ∷ [])))
+    (fixed_line (codes "distfuture-certificate 1 ") refl) (kind_line h.kind) (mode_line h.essential)
+    (words_line (plains (h.limit ∷ h.packages ∷ h.variables ∷ h.clauses ∷ [])) (header_words_small (header_text h) h form)))
 
--- The forms can be told apart: a line has at most one form, and the text of a form has no line feed.
-pub record FormsAreClear : Type 0 where
-  pub one_header : (line : List ℕ) (h other : Header) → HasHeaderForm line h → HasHeaderForm line other → h ≡ other
-  pub one_record : (line : List ℕ) (step other : CertRecord) → HasForm line step → HasForm line other → step ≡ other
-  pub header_line : (h : Header) → HasHeaderForm (header_text h) h → IsOneLine (header_text h)
-  pub record_line : (step : CertRecord) → HasForm (record_text step) step → IsOneLine (record_text step)
-
-pub forms_are_clear : FormsAreClear
-forms_are_clear = record { one_header = one_header; one_record = one_record; header_line = header_line; record_line = record_line }
+pub clear : FormsAreClear
+clear = record { one_header = one_header; one_record = one_record; header_line = header_line; record_line = record_line }

@@ -6,5 +6,10 @@ pub mod ClaimRules
 pub mod LineRules
 pub mod Refusal
 pub mod Accepted
+pub mod ClearForms
+pub mod OneVerdict
 pub mod Told
+pub mod SomeVerdict
+pub mod ByRecords
 pub mod Examples
+pub mod AcceptedExamples

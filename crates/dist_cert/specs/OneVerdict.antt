@@ -14,7 +14,7 @@ use Rattle.dist_cert.specs.Form.{record_text, HasForm, header_text, HasHeaderFor
 use Rattle.dist_cert.specs.Subject.{Subject}
 use Rattle.dist_cert.specs.Groups.{is_some_number}
 use Rattle.dist_cert.specs.Refusal.{line_feed, IsOneLine, lines_text, certificate_text, Reads, HasFirstFault, HasLineFault, in_order, IsFirstOf, AreFaultless, IsFirstRefused, IsLaterRefused, Refusal}
-use Rattle.dist_cert.proofs.OneLine.{FormsAreClear}
+use Rattle.dist_cert.specs.ClearForms.{FormsAreClear}
 use Rattle.dist_cert.specs.Accepted.{claims_in, Accepted}
 
 -- ---- first causes
@@ -52,7 +52,7 @@ first_other : (x : ℕ) (xs : List ℕ) → IsOneLine (x ∷ xs) → x ≢ line_
 first_other x xs h = h 0 0 (omega arith)
 
 -- two lines with their line feeds, each with more behind, are the same where the whole texts are
-one_line : (a b more other : List ℕ) → IsOneLine a → IsOneLine b → a ++ line_feed ∷ more ≡ b ++ line_feed ∷ other → (a ≡ b) × (more ≡ other)
+pub one_line : (a b more other : List ℕ) → IsOneLine a → IsOneLine b → a ++ line_feed ∷ more ≡ b ++ line_feed ∷ other → (a ≡ b) × (more ≡ other)
 one_line [] [] more other ha hb e = (refl, same_tail line_feed line_feed more other e)
 one_line [] (y ∷ b) more other ha hb e = absurd (first_other y b hb (sym (same_head line_feed y more (b ++ line_feed ∷ other) e)))
 one_line (x ∷ a) [] more other ha hb e = absurd (first_other x a ha (same_head x line_feed (a ++ line_feed ∷ more) other e))
@@ -64,7 +64,7 @@ one_line (x ∷ a) (y ∷ b) more other ha hb e =
 AreRecords : List CertRecord → Type 0
 AreRecords steps = All (λ step. HasForm (record_text step) step) steps
 
-first_line_of : (step : CertRecord) (steps : List CertRecord) (rest : List ℕ) → lines_text (step ∷ steps) ++ rest ≡ record_text step ++ line_feed ∷ (lines_text steps ++ rest)
+pub first_line_of : (step : CertRecord) (steps : List CertRecord) (rest : List ℕ) → lines_text (step ∷ steps) ++ rest ≡ record_text step ++ line_feed ∷ (lines_text steps ++ rest)
 first_line_of step steps rest = append_assoc (record_text step ++ line_feed ∷ []) (lines_text steps) rest ∙ append_assoc (record_text step) (line_feed ∷ []) (lines_text steps ++ rest)
 
 -- the first list is a front of the second, with the rest that this leaves
@@ -85,9 +85,9 @@ one_is_front clear (a ∷ ones) (b ∷ twos) rest other ha hb e =
     let lines = one_line (record_text a) (record_text b) (lines_text ones ++ rest) (lines_text twos ++ other) (clear.record_line a (ha 0 a (omega arith))) (clear.record_line b (hb 0 b (omega arith))) (sym (first_line_of a ones rest) ∙ e ∙ first_line_of b twos other) in
     let same : a ≡ b = clear.one_record (record_text a) a b (ha 0 a (omega arith)) (subst (λ line. HasForm line b) (sym lines.0) (hb 0 b (omega arith))) in
     ⊎_elim
-        (λ h. inl (h.0, subst (λ c. b ∷ twos ≡ c ∷ ones ++ h.0) (sym same) (ap (λ ds. b ∷ ds) h.1), h.2))
-        (λ h. inr (h.0, h.1, subst (λ c. c ∷ ones ≡ b ∷ twos ++ h.0 ∷ h.1) (sym same) (ap (λ ds. b ∷ ds) h.2), h.3))
-        (one_is_front clear ones twos rest other (All-tail Form a ones ha) (All-tail Form b twos hb) lines.1)
+    (λ h. inl (h.0, subst (λ c. b ∷ twos ≡ c ∷ ones ++ h.0) (sym same) (ap (λ ds. b ∷ ds) h.1), h.2))
+    (λ h. inr (h.0, h.1, subst (λ c. c ∷ ones ≡ b ∷ twos ++ h.0 ∷ h.1) (sym same) (ap (λ ds. b ∷ ds) h.2), h.3))
+    (one_is_front clear ones twos rest other (All-tail Form a ones ha) (All-tail Form b twos hb) lines.1)
 
 -- ---- readings of one text
 
@@ -95,9 +95,9 @@ same_lines : FormsAreClear → (text : List ℕ) (h other : Header) (ones twos :
     → (h ≡ other) × (lines_text ones ++ rest ≡ lines_text twos ++ more)
 same_lines clear text h other ones twos rest more r s =
     let split : (k : Header) (steps : List CertRecord) (tail : List ℕ) → certificate_text k steps ++ tail ≡ header_text k ++ line_feed ∷ (lines_text steps ++ tail)
-        = λ k steps tail. append_assoc (header_text k) (line_feed ∷ lines_text steps) tail in
+    = λ k steps tail. append_assoc (header_text k) (line_feed ∷ lines_text steps) tail in
     let lines = one_line (header_text h) (header_text other) (lines_text ones ++ rest) (lines_text twos ++ more) (clear.header_line h r.header) (clear.header_line other s.header)
-        (sym (split h ones rest) ∙ sym r.text_is ∙ s.text_is ∙ split other twos more) in
+    (sym (split h ones rest) ∙ sym r.text_is ∙ s.text_is ∙ split other twos more) in
     (clear.one_header (header_text h) h other r.header (subst (λ line. HasHeaderForm line other) (sym lines.0) s.header), lines.1)
 
 -- ---- the laws
@@ -137,17 +137,17 @@ one_later : FormsAreClear → (subject : Subject) (limits : Limits) (text : List
 one_later clear subject limits text fault gault h other ones twos rest more x y =
     let read = readings clear text h other ones twos rest more x.faultless.reads y.faultless.reads in
     ⊎_elim
-        (λ same.
-            let there : IsFirstOf in_order (HasLineFault subject limits other twos more) fault.cause
-                = subst (λ bytes. IsFirstOf in_order (HasLineFault subject limits other twos bytes) fault.cause) same.1
-                    (subst (λ steps. IsFirstOf in_order (HasLineFault subject limits other steps rest) fault.cause) same.0
-                        (subst (λ k. IsFirstOf in_order (HasLineFault subject limits k ones rest) fault.cause) read.0 x.cause)) in
-            same_fault fault gault (x.line ∙ ap (λ steps. length steps + 2) same.0 ∙ sym y.line) (one_first (HasLineFault subject limits other twos more) in_order fault.cause gault.cause there y.cause))
-        (λ apart. ⊎_elim
-            (λ shorter. absurd (not_faulty subject limits text h other ones twos rest more fault.cause read.0 y.faultless shorter (has_first (HasLineFault subject limits h ones rest) in_order fault.cause x.cause)))
-            (λ shorter. absurd (not_faulty subject limits text other h twos ones more rest gault.cause (sym read.0) x.faultless shorter (has_first (HasLineFault subject limits other twos more) in_order gault.cause y.cause)))
-            apart)
-        read.1
+    (λ same.
+    let there : IsFirstOf in_order (HasLineFault subject limits other twos more) fault.cause
+    = subst (λ bytes. IsFirstOf in_order (HasLineFault subject limits other twos bytes) fault.cause) same.1
+    (subst (λ steps. IsFirstOf in_order (HasLineFault subject limits other steps rest) fault.cause) same.0
+    (subst (λ k. IsFirstOf in_order (HasLineFault subject limits k ones rest) fault.cause) read.0 x.cause)) in
+    same_fault fault gault (x.line ∙ ap (λ steps. length steps + 2) same.0 ∙ sym y.line) (one_first (HasLineFault subject limits other twos more) in_order fault.cause gault.cause there y.cause))
+    (λ apart. ⊎_elim
+    (λ shorter. absurd (not_faulty subject limits text h other ones twos rest more fault.cause read.0 y.faultless shorter (has_first (HasLineFault subject limits h ones rest) in_order fault.cause x.cause)))
+    (λ shorter. absurd (not_faulty subject limits text other h twos ones more rest gault.cause (sym read.0) x.faultless shorter (has_first (HasLineFault subject limits other twos more) in_order gault.cause y.cause)))
+    apart)
+    read.1
 
 -- nothing stands behind the end of a text
 nothing_more : (few many : List CertRecord) (more : List ℕ) → ¬ IsShorter few [] many more
@@ -159,13 +159,13 @@ pub one_refusal : FormsAreClear → (subject : Subject) (limits : Limits) (text 
     → Refusal subject limits text fault → Refusal subject limits text other → fault ≡ other
 one_refusal clear subject limits text fault gault r s = ⊎_elim
     (λ x. ⊎_elim
-        (λ y. same_fault fault gault (x.line ∙ sym y.line) (one_first (HasFirstFault subject limits text) in_order fault.cause gault.cause x.cause y.cause))
-        (λ y. absurd (not_first_and_later subject limits text fault y.0 y.1 y.2 x y.3.faultless))
-        s)
+    (λ y. same_fault fault gault (x.line ∙ sym y.line) (one_first (HasFirstFault subject limits text) in_order fault.cause gault.cause x.cause y.cause))
+    (λ y. absurd (not_first_and_later subject limits text fault y.0 y.1 y.2 x y.3.faultless))
+    s)
     (λ x. ⊎_elim
-        (λ y. absurd (not_first_and_later subject limits text gault x.0 x.1 x.2 y x.3.faultless))
-        (λ y. one_later clear subject limits text fault gault x.0 y.0 x.1 y.1 x.2 y.2 x.3 y.3)
-        s)
+    (λ y. absurd (not_first_and_later subject limits text gault x.0 x.1 x.2 y x.3.faultless))
+    (λ y. one_later clear subject limits text fault gault x.0 y.0 x.1 y.1 x.2 y.2 x.3 y.3)
+    s)
     r
 
 -- An accepted text has no refusal.
@@ -175,28 +175,27 @@ never_both clear subject limits text h made fault accepted refusal =
     let steps = accepted.0 in
     let whole = accepted.1 in
     ⊎_elim
-        (λ x. not_first_and_later subject limits text fault h steps [] x whole.faultless)
-        (λ x.
-            let read = readings clear text x.0 h x.1 steps x.2 [] x.3.faultless.reads whole.faultless.reads in
-            let faulty : HasLineFault subject limits x.0 x.1 x.2 fault.cause = has_first (HasLineFault subject limits x.0 x.1 x.2) in_order fault.cause x.3.cause in
-            ⊎_elim
-                (λ same. whole.ends fault.cause
-                    (subst (λ bytes. HasLineFault subject limits h steps bytes fault.cause) same.1
-                        (subst (λ lines. HasLineFault subject limits h lines x.2 fault.cause) same.0
-                            (subst (λ k. HasLineFault subject limits k x.1 x.2 fault.cause) read.0 faulty))))
-                (λ apart. ⊎_elim
-                    (λ shorter. not_faulty subject limits text x.0 h x.1 steps x.2 [] fault.cause read.0 whole.faultless shorter faulty)
-                    (λ shorter. nothing_more steps x.1 x.2 shorter)
-                    apart)
-                read.1)
-        refusal
+    (λ x. not_first_and_later subject limits text fault h steps [] x whole.faultless)
+    (λ x.
+    let read = readings clear text x.0 h x.1 steps x.2 [] x.3.faultless.reads whole.faultless.reads in
+    let faulty : HasLineFault subject limits x.0 x.1 x.2 fault.cause = has_first (HasLineFault subject limits x.0 x.1 x.2) in_order fault.cause x.3.cause in
+    ⊎_elim
+    (λ same. whole.ends fault.cause
+    (subst (λ bytes. HasLineFault subject limits h steps bytes fault.cause) same.1
+    (subst (λ lines. HasLineFault subject limits h lines x.2 fault.cause) same.0
+    (subst (λ k. HasLineFault subject limits k x.1 x.2 fault.cause) read.0 faulty))))
+    (λ apart. ⊎_elim
+    (λ shorter. not_faulty subject limits text x.0 h x.1 steps x.2 [] fault.cause read.0 whole.faultless shorter faulty)
+    (λ shorter. nothing_more steps x.1 x.2 shorter)
+    apart)
+    read.1)
+    refusal
 
 -- A text is accepted with one header and one list of claims at most.
 pub one_acceptance : FormsAreClear → (subject : Subject) (limits : Limits) (text : List ℕ) (h other : Header) (made claims : List Claim)
     → Accepted subject limits text h made → Accepted subject limits text other claims → (h ≡ other) × (made ≡ claims)
 one_acceptance clear subject limits text h other made claims x y =
-    let read = readings clear text h other x.0 y.0 [] [] x.1.faultless.reads y.1.faultless.reads in
-    (
+    let read = readings clear text h other x.0 y.0 [] [] x.1.faultless.reads y.1.faultless.reads in (
       read.0,
       ⊎_elim
           (λ same. x.2 ∙ ap claims_in same.0 ∙ sym y.2)

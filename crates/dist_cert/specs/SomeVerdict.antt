@@ -55,9 +55,9 @@ split_line [] = inr (All-nil (λ byte. byte ≢ line_feed))
 split_line (x ∷ text) = ⊎_elim
     (λ feed. inl ([], text, record { ended = ap (λ y. y ∷ text) feed; one_line = All-nil (λ byte. byte ≢ line_feed) }))
     (λ other. ⊎_elim
-        (λ h. inl (x ∷ h.0, h.1, record { ended = ap (λ ys. x ∷ ys) h.2.ended; one_line = All-cons (λ byte. byte ≢ line_feed) x h.0 other h.2.one_line }))
-        (λ one. inr (All-cons (λ byte. byte ≢ line_feed) x text other one))
-        (split_line text))
+    (λ h. inl (x ∷ h.0, h.1, record { ended = ap (λ ys. x ∷ ys) h.2.ended; one_line = All-cons (λ byte. byte ≢ line_feed) x h.0 other h.2.one_line }))
+    (λ one. inr (All-cons (λ byte. byte ≢ line_feed) x text other one))
+    (split_line text))
     (cases_eq x line_feed)
 
 tail_of : {X : Type 0} → List X → List X
@@ -91,8 +91,8 @@ push_text : (steps : List CertRecord) (step : CertRecord) (rest line more : List
 push_text steps step rest line more begins form =
     let one : CertRecord → List ℕ = λ s. record_text s ++ line_feed ∷ [] in
     let last : lines_text (step ∷ []) ++ more ≡ rest
-        = append_assoc (record_text step ++ line_feed ∷ []) [] more ∙ append_assoc (record_text step) (line_feed ∷ []) more
-            ∙ ap (λ l. l ++ line_feed ∷ more) (sym form.text) ∙ sym begins.ended in
+    = append_assoc (record_text step ++ line_feed ∷ []) [] more ∙ append_assoc (record_text step) (line_feed ∷ []) more
+    ∙ ap (λ l. l ++ line_feed ∷ more) (sym form.text) ∙ sym begins.ended in
     ap (λ bytes. bytes ++ more) (flat_map-append one steps (step ∷ [])) ∙ append_assoc (lines_text steps) (lines_text (step ∷ [])) more ∙ ap (λ bytes. lines_text steps ++ bytes) last
 
 grown : (subject : Subject) (limits : Limits) (text : List ℕ) (h : Header) (before : List CertRecord) (rest line more : List ℕ) (step : CertRecord)
@@ -114,13 +114,13 @@ grown subject limits text h before rest line more step faultless none begins for
         → (cause : CertCause) → ¬ HasLineFault subject limits h earlier (lines_text (s ∷ others) ++ more) cause
     later earlier s others e cause fault = ⊎_elim
         (λ x.
-            let bytes : lines_text (s ∷ others) ++ more ≡ rest
-                = ap (λ r. lines_text (r ∷ others) ++ more) x.1 ∙ ap (λ rs. lines_text (step ∷ rs) ++ more) x.2 ∙ push_text [] step rest line more begins form in
-            none cause (subst (λ bs. HasLineFault subject limits h before bs cause) bytes (subst (λ steps. HasLineFault subject limits h steps (lines_text (s ∷ others) ++ more) cause) x.0 fault)))
+        let bytes : lines_text (s ∷ others) ++ more ≡ rest
+        = ap (λ r. lines_text (r ∷ others) ++ more) x.1 ∙ ap (λ rs. lines_text (step ∷ rs) ++ more) x.2 ∙ push_text [] step rest line more begins form in
+        none cause (subst (λ bs. HasLineFault subject limits h before bs cause) bytes (subst (λ steps. HasLineFault subject limits h steps (lines_text (s ∷ others) ++ more) cause) x.0 fault)))
         (λ x.
-            let bytes : lines_text (s ∷ others) ++ more ≡ lines_text (s ∷ x.0) ++ rest
-                = ap (λ rs. lines_text (s ∷ rs) ++ more) x.2 ∙ push_text (s ∷ x.0) step rest line more begins form in
-            faultless.later earlier s x.0 x.1 cause (subst (λ bs. HasLineFault subject limits h earlier bs cause) bytes fault))
+        let bytes : lines_text (s ∷ others) ++ more ≡ lines_text (s ∷ x.0) ++ rest
+        = ap (λ rs. lines_text (s ∷ rs) ++ more) x.2 ∙ push_text (s ∷ x.0) step rest line more begins form in
+        faultless.later earlier s x.0 x.1 cause (subst (λ bs. HasLineFault subject limits h earlier bs cause) bytes fault))
         (split_push before earlier others s step e)
 
 -- ---- the law
@@ -137,16 +137,16 @@ judge_rest subject limits told text h zero before rest enough faultless = absurd
 judge_rest subject limits told text h (suc fuel) before rest enough faultless = ⊎_elim
     (λ found. inr (record { line = length before + 2; cause = found.0 }, inr (h, before, rest, record { faultless = faultless; line = refl; cause = found.1 })))
     (λ n.
-        let none : (cause : CertCause) → ¬ HasLineFault subject limits h before rest cause = not_any (HasLineFault subject limits h before rest) n in
-        ⊎_elim
-            (λ s. ⊎_elim
-                (λ f.
-                    let size : length rest ≡ length s.0 + length (line_feed ∷ s.1) = ap length s.2.ended ∙ length-append s.0 (line_feed ∷ s.1) in
-                    judge_rest subject limits told text h fuel (before ++ f.0 ∷ []) s.1 (omega (arith, enough, size)) (grown subject limits text h before rest s.0 s.1 f.0 faultless none s.2 f.1))
-                (λ f. absurd (none causes.BadRecord (s.0, s.1, s.2, inr f)))
-                (told.form s.0))
-            (λ one. at_the_end rest one faultless none)
-            (split_line rest))
+    let none : (cause : CertCause) → ¬ HasLineFault subject limits h before rest cause = not_any (HasLineFault subject limits h before rest) n in
+    ⊎_elim
+    (λ s. ⊎_elim
+    (λ f.
+    let size : length rest ≡ length s.0 + length (line_feed ∷ s.1) = ap length s.2.ended ∙ length-append s.0 (line_feed ∷ s.1) in
+    judge_rest subject limits told text h fuel (before ++ f.0 ∷ []) s.1 (omega (arith, enough, size)) (grown subject limits text h before rest s.0 s.1 f.0 faultless none s.2 f.1))
+    (λ f. absurd (none causes.BadRecord (s.0, s.1, s.2, inr f)))
+    (told.form s.0))
+    (λ one. at_the_end rest one faultless none)
+    (split_line rest))
     (first_or_none (HasLineFault subject limits h before rest) (told.later h before rest) in_order)
   where
     at_the_end : (left : List ℕ) → IsOneLine left → AreFaultless subject limits text h before left
@@ -160,22 +160,22 @@ pub some_verdict : (subject : Subject) (limits : Limits) → CanBeTold subject l
 some_verdict subject limits told text = ⊎_elim
     (λ found. inr (record { line = 1; cause = found.0 }, inl (record { line = refl; cause = found.1 })))
     (λ n.
-        let none : (cause : CertCause) → ¬ HasFirstFault subject limits text cause = not_any (HasFirstFault subject limits text) n in
-        ⊎_elim
-            (λ s. ⊎_elim
-                (λ f. judge_rest subject limits told text f.0 (suc (length s.1)) [] s.1 (omega arith) (record {
-                  reads = record {
-                    text_is = s.2.ended ∙ ap (λ l. l ++ line_feed ∷ s.1) f.1.text ∙ sym (append_assoc (header_text f.0) (line_feed ∷ []) s.1);
-                    header = subst (λ l. HasHeaderForm l f.0) f.1.text f.1;
-                    records = All-nil (λ step. HasForm (record_text step) step);
-                  };
-                  first = none;
-                  later = λ earlier step others e. absurd (not_among earlier step others e);
-                }))
-                (λ f. absurd (none causes.BadHeader (s.0, s.1, s.2, λ h form. absurd (f h form))))
-                (told.header s.0))
-            (λ one. absurd (none causes.Truncated one))
-            (split_line text))
+    let none : (cause : CertCause) → ¬ HasFirstFault subject limits text cause = not_any (HasFirstFault subject limits text) n in
+    ⊎_elim
+    (λ s. ⊎_elim
+    (λ f. judge_rest subject limits told text f.0 (suc (length s.1)) [] s.1 (omega arith) (record {
+      reads = record {
+        text_is = s.2.ended ∙ ap (λ l. l ++ line_feed ∷ s.1) f.1.text ∙ sym (append_assoc (header_text f.0) (line_feed ∷ []) s.1);
+        header = subst (λ l. HasHeaderForm l f.0) f.1.text f.1;
+        records = All-nil (λ step. HasForm (record_text step) step);
+      };
+      first = none;
+      later = λ earlier step others e. absurd (not_among earlier step others e);
+    }))
+    (λ f. absurd (none causes.BadHeader (s.0, s.1, s.2, λ h form. absurd (f h form))))
+    (told.header s.0))
+    (λ one. absurd (none causes.Truncated one))
+    (split_line text))
     (first_or_none (HasFirstFault subject limits text) (told.first text) in_order)
   where
     not_among : (earlier : List CertRecord) (step : CertRecord) (others : List CertRecord) → [] ≡ earlier ++ step ∷ others → ⊥
