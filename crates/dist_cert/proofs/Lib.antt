@@ -1,2 +1,3 @@
 pub mod OneForm
 pub mod WritingLemmas
+pub mod OneLine

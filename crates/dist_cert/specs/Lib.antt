@@ -2,4 +2,16 @@ pub mod Form
 pub mod Writing
 pub mod Parts
 pub mod Decoded
+pub mod Subject
+pub mod Groups
+pub mod ClaimRules
+pub mod LineRules
+pub mod Refusal
+pub mod Accepted
+pub mod ClearForms
+pub mod OneVerdict
+pub mod Told
+pub mod SomeVerdict
+pub mod ByRecords
 pub mod Examples
+pub mod AcceptedExamples

@@ -1,6 +1,7 @@
 //! Certificates as text: the records of their lines, a writer and a reader.
 #![tactic(auto)]
 
+mod clear_forms;
 mod faults;
 mod laws;
 mod line_text;
@@ -8,6 +9,7 @@ mod lists;
 mod records;
 mod writing;
 
+pub use clear_forms::forms_are_clear;
 pub use faults::{CertCause, CertFault, ReadCertError};
 pub use laws::one_form;
 pub use lists::{Claims, Items, Literals, Numbers, Pairs};
