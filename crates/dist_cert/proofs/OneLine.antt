@@ -1,7 +1,7 @@
 -- The text of a form is one line, without a line feed, and of one form alone.
-use Rattle.std.proofs.Common.{◌≡◌, ◌≢◌, ◌==◌, ℕ, ◌<◌, ◌^◌, Bool, true, false, not, List, [], ◌∷◌, ◌++◌, map, codes, refl, ap, sym, subst, ◌∙◌, arith, ⊎_elim, inl, inr}
-use Rattle.std.specs.List.{All, list_all, flat_map}
-use Rattle.std.proofs.lemmas.Bool.{false≢true, cases_eq, and_parts}
+use Rattle.std.proofs.Common.{◌≡◌, ◌≢◌, ◌==◌, ℕ, Bool, true, false, not, List, [], ◌∷◌, ◌++◌, codes, refl, ap, sym, ◌∙◌, arith}
+use Rattle.std.specs.List.{All, list_all}
+use Rattle.std.proofs.lemmas.Bool.{false≢true, and_parts}
 use Rattle.std.proofs.lemmas.List.Elements.{All-head, All-tail, All-cons, All-nil, All-append}
 use Rattle.dist_cert.specs.declared.records.CertKind.{CertKind}
 use Rattle.dist_cert.specs.declared.records.CertKind.TheVariants as kinds

@@ -1,8 +1,8 @@
 -- Worked examples: the archive of `a`, which depends on `b`, and `b`. Variable 1 is a, variable 2 is b, and the input clause
 -- is `-1 2`. The lines of its certificate of ten lines, and edits of them with their faults.
-use Rattle.std.proofs.Common.{◌≡◌, ◌≢◌, ◌⊎◌, inl, inr, ℕ, zero, suc, ◌+◌, ◌<◌, Bool, true, false, List, [], ◌∷◌, ◌++◌, length, refl, ap, sym, arith, lit<, lit≤, length-append}
-use Rattle.std.specs.List.{All, Any, Contains}
-use Rattle.dist_clause.specs.Formula.{Literal, literal}
+use Rattle.std.proofs.Common.{◌≡◌, inl, zero, suc, true, false, List, [], ◌∷◌, ◌++◌, length, refl, ap, arith, lit<, lit≤, length-append}
+use Rattle.std.specs.List.{Contains}
+use Rattle.dist_clause.specs.Formula.{literal}
 use Rattle.dist_derive.specs.Propagation.{AllFalse}
 use Rattle.dist_derive.specs.Follows.{Follows}
 use Rattle.dist_cert.specs.declared.records.CertKind.TheVariants as kinds
@@ -11,7 +11,7 @@ use Rattle.dist_cert.specs.declared.records.CertRecord.TheVariants.{Question, Re
 use Rattle.dist_cert.specs.declared.records.Claim.TheVariants as claims
 use Rattle.dist_cert.specs.declared.records.Header.{Header}
 use Rattle.dist_cert.specs.Subject.{Matter}
-use Rattle.dist_cert.specs.Groups.{clause_of, numbered, installations, claim_count, group, IsOpen}
+use Rattle.dist_cert.specs.Groups.{numbered, installations, claim_count, group, IsOpen}
 use Rattle.dist_cert.specs.ClaimRules.{yes, no}
 use Rattle.dist_cert.specs.LineRules.{IsOutOfRange, IsOutOfOrder, IsBadLine, IsTooEarly}
 use Rattle.dist_cert.specs.Accepted.{claims_in}

@@ -1,22 +1,20 @@
 -- A law for writers: what the lines of known records need to be accepted, and how a bad one is refused. Where a line is
 -- the text of a record and short enough, and no `e` line stands before it, its faults are those of its record.
-use Rattle.std.proofs.Common.{Bool, true, false, ◌||◌, ◌≡◌, ◌≢◌, ◌⊎◌, ⊎_elim, inl, inr, ℕ, zero, suc, ◌+◌, ◌<◌, ◌≤◌, List, [], ◌∷◌, ◌++◌, length, get_or, take, refl, ap, sym, subst, ◌∙◌, append_assoc, arith, length-append}
-use Rattle.std.specs.List.{All, Contains, flat_map, list_any}
+use Rattle.std.proofs.Common.{Bool, true, false, ◌||◌, ◌≡◌, ◌≢◌, ⊎_elim, inl, inr, ℕ, zero, suc, ◌+◌, ◌<◌, List, [], ◌∷◌, ◌++◌, length, get_or, take, refl, ap, sym, subst, ◌∙◌, append_assoc, arith, length-append}
+use Rattle.std.specs.List.{All, Contains, list_any}
 use Rattle.std.proofs.lemmas.Bool.{true≢false}
-use Rattle.std.proofs.lemmas.List.{append-nil, take-append-le}
+use Rattle.std.proofs.lemmas.List.{append-nil}
 use Rattle.std.proofs.lemmas.List.Elements.{All-nil, All-cons, All-tail}
-use Rattle.std.proofs.lemmas.Grind.{flat_map-append}
 use Rattle.dist_outside.specs.declared.limits.Limits.{Limits}
 use Rattle.dist_cert.specs.declared.faults.CertCause.{CertCause}
 use Rattle.dist_cert.specs.declared.faults.CertCause.TheVariants as causes
-use Rattle.dist_cert.specs.declared.faults.CertFault.{CertFault}
 use Rattle.dist_cert.specs.declared.records.CertRecord.{CertRecord}
-use Rattle.dist_cert.specs.declared.records.CertRecord.TheVariants.{Question, Derived, Refuted, Installation, Undecided, NotInstallable, Unknown, Strong, Outdated, Alive, Challenged, End}
+use Rattle.dist_cert.specs.declared.records.CertRecord.TheVariants.{End}
 use Rattle.dist_cert.specs.declared.records.Header.{Header}
 use Rattle.dist_cert.specs.Form.{record_text, HasForm, header_text, HasHeaderForm}
 use Rattle.dist_cert.specs.Subject.{Matter, Subject}
 use Rattle.dist_cert.specs.LineRules.{HasRecordFault}
-use Rattle.dist_cert.specs.Refusal.{line_feed, IsOneLine, BeginsWith, lines_text, certificate_text, Reads, IsTooLong, Fits, IsBadStep, HasFirstFault, HasLineFault, in_order, IsFirstOf, AreFaultless, Refusal}
+use Rattle.dist_cert.specs.Refusal.{line_feed, IsOneLine, lines_text, certificate_text, Fits, IsBadStep, HasFirstFault, HasLineFault, in_order, IsFirstOf, AreFaultless, Refusal}
 use Rattle.dist_cert.specs.Accepted.{claims_in, Accepted}
 use Rattle.dist_cert.specs.ClearForms.{FormsAreClear}
 use Rattle.dist_cert.specs.OneVerdict.{one_line, first_line_of}

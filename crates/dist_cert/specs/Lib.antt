@@ -1,7 +1,5 @@
 pub mod Form
 pub mod Writing
-pub mod Parts
-pub mod Decoded
 pub mod Subject
 pub mod Groups
 pub mod ClaimRules

@@ -8,7 +8,7 @@ use Rattle.dist_cert.specs.Form.{HasForm, HasHeaderForm}
 use Rattle.dist_cert.specs.Subject.{Subject}
 use Rattle.dist_cert.specs.Refusal.{HasFirstFault, HasLineFault}
 
--- Each form and each fault is there or is not. A subject for which its tests of futures and of health can be told has this.
+-- Each form and each fault is there or is not. It is a premise of the law of `SomeVerdict`, and is not proved of any subject here.
 pub record CanBeTold (subject : Subject) (limits : Limits) : Type 0 where
   pub header : (line : List ℕ) → ((h : Header) × HasHeaderForm line h) ⊎ ((h : Header) → ¬ HasHeaderForm line h)
   pub form : (line : List ℕ) → ((step : CertRecord) × HasForm line step) ⊎ ((step : CertRecord) → ¬ HasForm line step)

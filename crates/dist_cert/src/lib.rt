@@ -1,4 +1,4 @@
-//! Certificates as text: the records of their lines, a writer and a reader.
+//! Certificates as text: the records of their lines, their writer, and when a text is accepted.
 #![tactic(auto)]
 
 mod clear_forms;
@@ -7,6 +7,8 @@ mod laws;
 mod line_text;
 mod lists;
 mod records;
+#[cfg(test)]
+mod tests;
 mod writing;
 
 pub use clear_forms::forms_are_clear;
