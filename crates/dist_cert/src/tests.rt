@@ -130,16 +130,11 @@ fn a_certificate_of_two_packages_is_its_text(rt: HostRuntime) -> Result<(), Fail
 
 /// Adds the lines of records with no list.
 fn add_short_lines(text: &mut Vec<u8>) -> Result<(), AllocError> {
-    for step in [
-        CertRecord::Undecided,
-        CertRecord::NotInstallable(5),
-        CertRecord::Unknown(6),
-        CertRecord::Outdated(8),
-        CertRecord::Alive(9, 4_294_967_295),
-    ] {
-        add_record(text, &step)?;
-    }
-    Ok(())
+    add_record(text, &CertRecord::Undecided)?;
+    add_record(text, &CertRecord::NotInstallable(5))?;
+    add_record(text, &CertRecord::Unknown(6))?;
+    add_record(text, &CertRecord::Outdated(8))?;
+    add_record(text, &CertRecord::Alive(9, 4_294_967_295))
 }
 
 #[test]
@@ -167,42 +162,52 @@ fn write_all<D: Desk>(desk: &mut D, writer: &mut Writer, header: &Header) -> Res
     writer.put(desk, &CertRecord::End)
 }
 
-/// What writing it within limits gives, where the call of this number fails, and how many bytes the file has then.
+/// What writing it within limits gives, where the calls of these numbers fail, and how many bytes the file has then.
 fn written(
     alloc: Global,
     fails: &[u64],
-    record_line: u64,
-    certificate: u64,
+    limits: &Limits,
 ) -> Result<(Result<(), WorkError>, usize), Fail> {
     let mut desk = MemoryDesk::new(alloc, 7, fails)?;
     desk.create("a")?;
-    let mut limits = Limits::stated();
-    limits.record_line = record_line;
-    limits.certificate = certificate;
-    let mut writer = Writer::new(alloc, &limits);
+    let mut writer = Writer::new(alloc, limits);
     let answer = write_all(&mut desk, &mut writer, &header(CertKind::Strong, false));
     Ok((answer, desk.get("a").unwrap_or(b"").len()))
 }
 
+/// Whether a writer of these limits gives this answer and a file of so many bytes.
+fn gives(
+    alloc: Global,
+    record_line: u64,
+    certificate: u64,
+    answer: Result<(), WorkError>,
+    length: usize,
+) -> Result<bool, Fail> {
+    let mut limits = Limits::stated();
+    limits.record_line = record_line;
+    limits.certificate = certificate;
+    let given = written(alloc, &[], &limits)?;
+    Ok(given.0 == answer && given.1 == length)
+}
+
 #[test]
 fn a_writer_stops_at_its_limits(rt: HostRuntime) -> Result<(), Fail> {
-    for (record_line, certificate, answer, length) in [
-        (50, 56, Ok(()), 56),
-        (49, 56, Err(WorkError::TooLarge(What::RecordLine)), 0),
-        (50, 55, Err(WorkError::TooLarge(What::Certificate)), 54),
-        (50, 49, Err(WorkError::TooLarge(What::Certificate)), 0),
-    ] {
-        let given = written(rt.alloc(), &[], record_line, certificate)?;
-        assert_eq!(rt; given, (answer, length), "certificate {certificate}");
-    }
+    let alloc = rt.alloc();
+    let line = Err(WorkError::TooLarge(What::RecordLine));
+    let whole = Err(WorkError::TooLarge(What::Certificate));
+    assert!(rt; gives(alloc, 50, 56, Ok(()), 56)?);
+    assert!(rt; gives(alloc, 49, 56, line, 0)?);
+    assert!(rt; gives(alloc, 50, 55, whole, 54)?);
+    assert!(rt; gives(alloc, 50, 49, whole, 0)?);
     Ok(())
 }
 
 #[test]
 fn a_writer_stops_where_the_desk_fails(rt: HostRuntime) -> Result<(), Fail> {
     // Calls: create, then writes of 7 bytes, the third of which fails.
-    let given = written(rt.alloc(), &[4], 50, 56)?;
-    assert_eq!(rt; given, (Err(WorkError::WriteFault), 14));
+    let (answer, length) = written(rt.alloc(), &[4], &Limits::stated())?;
+    assert_eq!(rt; answer, Err(WorkError::WriteFault));
+    assert_eq!(rt; length, 14);
     Ok(())
 }
 
