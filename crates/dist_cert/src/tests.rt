@@ -219,7 +219,8 @@ fn lists_keep_their_order(rt: HostRuntime) -> Result<(), Fail> {
     if numbers.len() == 2 {
         assert_eq!(rt; numbers.get(1), 6);
     }
-    assert_eq!(rt; numbers.into_vec().as_slice(), [5, 6].as_slice());
+    assert_eq!(rt; numbers.as_slice(), [5, 6].as_slice());
+    assert_eq!(rt; numbers.into_vec().len(), 2);
     Ok(())
 }
 
