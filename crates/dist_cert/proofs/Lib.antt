@@ -1,0 +1,5 @@
+pub mod Parts
+pub mod Decoded
+pub mod OneForm
+pub mod WritingLemmas
+pub mod OneLine

@@ -1,0 +1,15 @@
+pub mod Form
+pub mod Writing
+pub mod Subject
+pub mod Groups
+pub mod ClaimRules
+pub mod LineRules
+pub mod Refusal
+pub mod Accepted
+pub mod ClearForms
+pub mod OneVerdict
+pub mod Told
+pub mod SomeVerdict
+pub mod ByRecords
+pub mod Examples
+pub mod AcceptedExamples

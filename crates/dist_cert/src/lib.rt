@@ -1,0 +1,19 @@
+//! Certificates as text: the records of their lines, their writer, and when a text is accepted.
+#![tactic(auto)]
+
+mod clear_forms;
+mod faults;
+mod laws;
+mod line_text;
+mod lists;
+mod records;
+#[cfg(test)]
+mod tests;
+mod writing;
+
+pub use clear_forms::forms_are_clear;
+pub use faults::{CertCause, CertFault, ReadCertError};
+pub use laws::one_form;
+pub use lists::{Claims, Items, Literals, Numbers, Pairs};
+pub use records::{CertKind, CertRecord, Claim, Header};
+pub use writing::Writer;
