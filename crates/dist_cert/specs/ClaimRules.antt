@@ -65,10 +65,11 @@ IsPairFor matter p pair = (1 ≤ pair.0) × (pair.0 ≤ length matter.clusters) 
 abbrev pub IsPairBelow : ℕ × ℕ → ℕ × ℕ → Type 0
 IsPairBelow pair later = (pair.0 < later.0) ⊎ ((pair.0 ≡ later.0) × (pair.1 < later.1))
 
--- The installation has the cluster at this class, or has no package of the cluster, neither present nor new.
+-- the installation has no package of the cluster, neither present nor new
 abbrev pub HasNone : Matter → Cluster → List ℕ → Type 0
 HasNone matter cluster members = All (λ r. (¬ Contains members (matter.present r)) × ((class : ℕ) → 1 ≤ class → class ≤ cluster.classes → ¬ Contains members (matter.new r class))) cluster.members
 
+-- The installation has no package of the pair's cluster, or has the cluster at the pair's class.
 abbrev pub Covers : Matter → ℕ × ℕ → List ℕ → Type 0
 Covers matter pair members = HasNone matter (cluster_at matter pair.0) members ⊎ Contains members (matter.at pair.0 pair.1)
 

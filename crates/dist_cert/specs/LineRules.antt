@@ -87,7 +87,7 @@ IsIncomplete matter before (Challenged p named by undecided) = OmitsPair matter 
 IsIncomplete matter before End = claim_count before < matter.packages
 IsIncomplete matter before step = ⊥
 
--- the line has a fault of this cause; those of form are conditions on the text and stand in `Faults`
+-- the line has a fault of this cause; those of form are conditions on the text and stand in `Refusal`
 abbrev pub HasRecordFault : Matter → Header → List CertRecord → CertRecord → CertCause → Type 0
 HasRecordFault matter h before step causes.OutOfRange = IsOutOfRange matter step
 HasRecordFault matter h before step causes.OutOfOrder = IsOutOfOrder matter before step

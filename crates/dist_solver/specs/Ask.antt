@@ -31,11 +31,12 @@ pub record IsUndecided (old new : ClauseLog) (assumptions : List Literal) (limit
   pub lines : length new.clauses ≡ length old.clauses + limit
   pub limit_small : (cone : List ℕ) → ((v : ℕ) → Contains cone v ↔ InCone (inputs_of old) assumptions v) → limit ≤ 3 ^ length cone
 
--- A clause that follows by some hints and is new, and for which the question had lines left.
+-- A clause that follows by some hints, not too many, and is new, and for which the question had lines left.
 pub record HasNext (old new : ClauseLog) (assumptions : List Literal) (limit : ℕ) (clause : List Literal) : Type 0 where
   pub over : IsClauseOver new.variables clause
   pub hints : List ℕ
   pub follows : Follows new.clauses clause hints
+  pub short : IsShort new.variables hints
   pub is_new : IsNew new.clauses new.inputs assumptions clause
   pub lines_left : length new.clauses < length old.clauses + limit
 
