@@ -1,0 +1,189 @@
+-- What a new version of a member matches, and what a package of a new name does: what the variables of its class match.
+use Rattle.std.proofs.Common.{◌≡◌, ◌⊎◌, ◌↔◌, ℕ, zero, suc, ◌<◌, Bool, true, false, List, [], ◌∷◌, Option, Some, None, Ordering, Less, Equal, Greater, length, get_or, refl, sym, ap, subst, ◌∙◌, inl, inr, arith, slice_get}
+use Rattle.std.specs.Prelude.{Any, Contains, IfSome, IsSomeAnd, slice_index, if◌then◌else◌}
+use Rattle.std.specs.Ordering.{is_eq}
+use Rattle.std.proofs.lemmas.Option.{get_or_from_slice_get, slice_get_within}
+use Rattle.dist_version.specs.Order.{version_cmp, IsBelow}
+use Rattle.dist_version.specs.Spelling.{IsVersion}
+use Rattle.dist_relation.specs.declared.atom.Atom.{Atom}
+use Rattle.dist_relation.specs.declared.atom.Provide.{Provide}
+use Rattle.dist_relation.specs.declared.atom.Qualifier.{Qualifier}
+use Rattle.dist_cluster.specs.Found.{IsIn}
+use Rattle.dist_repo.specs.Match.{IsUsable, Matches, MatchesByEntry, MatchesByName}
+use Rattle.dist_repo.specs.PackageList.{PackageList}
+use Rattle.dist_repo.specs.declared.package.Package.{Package}
+use Rattle.dist_classes.specs.Answers.{AreClassesOf, AreClassesOfName}
+use Rattle.dist_classes.specs.Atoms.{IsAtomOf}
+use Rattle.dist_classes.specs.ClassList.{AreInOneClass, IsInOneClass, IsOfClassAt, classes_above, classes_of_all}
+use Rattle.dist_classes.specs.Cuts.{AreCuts, IsClusterCut, IsNameCut, Rises, RisesFrom}
+use Rattle.dist_classes.specs.NewVersion.{AreCarried, IsAt, IsCarried, IsNewVersionOf, IsOfNewName}
+use Rattle.dist_classes.specs.declared.class_value.Class.{Class}
+use Rattle.dist_future.specs.Space.{IsExample, IsMatched, IsMatchedBy, IsMeaning, IsSpace, MeetsBound, SpaceView, cluster_classes, example_at, fresh_classes, member_classes, moved_entry, moved_version}
+use Rattle.dist_future.specs.declared.meaning.Meaning.TheVariants.{New, Kept, Fresh}
+use Rattle.dist_future.proofs.Lists.{ElementAt, FoundAt, any-at, any-cases, any-head, any-later, at-has, contains-at, element-at, found-at, found-here, has-at}
+use Rattle.dist_future.proofs.VersionOrder.{equal-itself}
+
+-- ---- the laws of classes
+
+-- Each version above a top is in one class, and no other version is. New versions of one member, and packages of one new name,
+-- match alike at versions of one class.
+pub record ClassLaws : Type 0 where
+  pub above : (top : List ℕ) (cuts : List (List ℕ)) → RisesFrom top cuts → (v : List ℕ) → IsBelow top v → IsInOneClass (classes_above top cuts) v
+  pub below : (top : List ℕ) (cuts : List (List ℕ)) → RisesFrom top cuts → (v : List ℕ) (number : ℕ) → IsOfClassAt (classes_above top cuts) number v → IsBelow top v
+  pub all : (cuts : List (List ℕ)) → Rises cuts → (v : List ℕ) → IsInOneClass (classes_of_all cuts) v
+  pub members : (r : PackageList) (members top : List ℕ) (cuts : List (List ℕ)) → AreCuts (IsClusterCut r members top) cuts →
+      (number : ℕ) (p : Package) → Contains members number → slice_get r.packages number ≡ Some p →
+      (kept : List Bool) (first second : Package) → IsNewVersionOf p kept first → IsNewVersionOf p kept second →
+      AreInOneClass (classes_above top cuts) first.version second.version →
+      (atom : Atom) → IsAtomOf r atom → Matches r.architecture atom first ↔ Matches r.architecture atom second
+  pub names : (r : PackageList) (name : List ℕ) (cuts : List (List ℕ)) → AreCuts (IsNameCut r name) cuts →
+      (first second : Package) → IsOfNewName name first → IsOfNewName name second →
+      AreInOneClass (classes_of_all cuts) first.version second.version →
+      (atom : Atom) → IsAtomOf r atom → Matches r.architecture atom first ↔ Matches r.architecture atom second
+
+-- ---- entries that are kept
+
+-- none, or one alone
+pub nones : List Provide → List Bool
+nones [] = []
+nones (entry ∷ entries) = false ∷ nones entries
+
+pub one-alone : List Provide → ℕ → List Bool
+one-alone [] j = []
+one-alone (entry ∷ entries) zero = true ∷ nones entries
+one-alone (entry ∷ entries) (suc j) = false ∷ one-alone entries j
+
+pub carried-none : (old new : List ℕ) (entries : List Provide) → AreCarried old new (nones entries) entries []
+unfolding nones
+carried-none old new [] = refl
+carried-none old new (entry ∷ entries) = carried-none old new entries
+
+pub carried-one : (old new : List ℕ) (entries : List Provide) (j : ℕ) (entry carried : Provide) → slice_get entries j ≡ Some entry → IsCarried old new entry carried
+    → AreCarried old new (one-alone entries j) entries (carried ∷ [])
+unfolding one-alone
+carried-one old new [] j entry carried is h = absurd (let no : None ≡ Some entry = is in cc)
+carried-one old new (first ∷ entries) zero entry carried is h =
+    let same : entry ≡ first = cc in
+    (carried, [], refl, subst (λ (e : Provide). IsCarried old new e carried) same h, carried-none old new entries)
+carried-one old new (first ∷ entries) (suc j) entry carried is h = carried-one old new entries j entry carried is h
+
+-- the entry that a carried one comes from
+pub record IsFrom (old new : List ℕ) (kept : List Bool) (entries : List Provide) (carried : Provide) : Type 0 where
+  pub place : ℕ
+  pub entry : Provide
+  pub is : slice_get entries place ≡ Some entry
+  pub kept_is : slice_get kept place ≡ Some true
+  pub carries : IsCarried old new entry carried
+
+from-later : (old new : List ℕ) (kept : List Bool) (flag : Bool) (entry : Provide) (entries : List Provide) (carried : Provide) → IsFrom old new kept entries carried → IsFrom old new (flag ∷ kept) (entry ∷ entries) carried
+from-later old new kept flag entry entries carried h = record { place = suc h.place; entry = h.entry; is = h.is; kept_is = h.kept_is; carries = h.carries }
+
+from-first : (old new : List ℕ) (kept : List Bool) (entry : Provide) (entries : List Provide) (first : Provide) (rest : List Provide) (e : Provide) → IsCarried old new entry first
+    → (Contains rest e → IsFrom old new kept entries e) → Contains (first ∷ rest) e → IsFrom old new (true ∷ kept) (entry ∷ entries) e
+from-first old new kept entry entries first rest e carries later (zero, short, is) =
+    record { place = 0; entry = entry; is = refl; kept_is = refl; carries = subst (λ (x : Provide). IsCarried old new entry x) is carries }
+from-first old new kept entry entries first rest e carries later (suc k, short, is) = from-later old new kept true entry entries e (later (k, omega (arith, short), is))
+
+pub carried-from : (old new : List ℕ) (kept : List Bool) (entries carried : List Provide) (e : Provide) → AreCarried old new kept entries carried → Contains carried e → IsFrom old new kept entries e
+carried-from old new [] [] carried e are there = absurd (let inside = there.1 in let none = ap (λ (xs : List Provide). length xs) are in omega arith)
+carried-from old new [] (entry ∷ entries) carried e are there = absurd are
+carried-from old new (true ∷ kept) [] carried e are there = absurd are
+carried-from old new (false ∷ kept) [] carried e are there = absurd are
+carried-from old new (false ∷ kept) (entry ∷ entries) carried e are there = from-later old new kept false entry entries e (carried-from old new kept entries carried e are there)
+carried-from old new (true ∷ kept) (entry ∷ entries) carried e are there =
+    from-first old new kept entry entries are.0 are.1 e are.3 (carried-from old new kept entries are.1 e are.4) (subst (λ (xs : List Provide). Contains xs e) are.2 there)
+
+-- where an entry that is kept goes
+pub record IsTaken (old new : List ℕ) (carried : List Provide) (entry : Provide) : Type 0 where
+  pub place : ℕ
+  pub taken : Provide
+  pub is : slice_get carried place ≡ Some taken
+  pub carries : IsCarried old new entry taken
+
+taken-later : (old new : List ℕ) (first : Provide) (rest carried : List Provide) (entry : Provide) → carried ≡ first ∷ rest → IsTaken old new rest entry → IsTaken old new carried entry
+taken-later old new first rest carried entry are h =
+    record { place = suc h.place; taken = h.taken; is = ap (λ (xs : List Provide). slice_get xs (suc h.place)) are ∙ h.is; carries = h.carries }
+
+pub carried-taken : (old new : List ℕ) (kept : List Bool) (entries carried : List Provide) (j : ℕ) (entry : Provide) → AreCarried old new kept entries carried → slice_get entries j ≡ Some entry → slice_get kept j ≡ Some true
+    → IsTaken old new carried entry
+carried-taken old new [] [] carried j entry are is flag = absurd (let no : None ≡ Some entry = is in cc)
+carried-taken old new [] (e ∷ entries) carried j entry are is flag = absurd are
+carried-taken old new (true ∷ kept) [] carried j entry are is flag = absurd are
+carried-taken old new (false ∷ kept) [] carried j entry are is flag = absurd are
+carried-taken old new (true ∷ kept) (e ∷ entries) carried zero entry are is flag =
+    let same : e ≡ entry = cc in
+    record { place = 0; taken = are.0; is = ap (λ (xs : List Provide). slice_get xs 0) are.2; carries = subst (λ (x : Provide). IsCarried old new x are.0) same are.3 }
+carried-taken old new (false ∷ kept) (e ∷ entries) carried zero entry are is flag = absurd (let no : false ≡ true = cc in cc)
+carried-taken old new (true ∷ kept) (e ∷ entries) carried (suc j) entry are is flag = taken-later old new are.0 are.1 carried entry are.2 (carried-taken old new kept entries are.1 j entry are.4 is flag)
+carried-taken old new (false ∷ kept) (e ∷ entries) carried (suc j) entry are is flag = carried-taken old new kept entries carried j entry are is flag
+
+-- an entry as it is moved is carried
+chosen : (o : Ordering) (a b : Option (List ℕ)) → o ≡ Equal → (if is_eq o then a else b) ≡ a
+chosen Less a b is = cc
+chosen Equal a b is = refl
+chosen Greater a b is = cc
+
+other : (o : Ordering) (a b : Option (List ℕ)) → ¬ (o ≡ Equal) → (if is_eq o then a else b) ≡ b
+other Less a b not = refl
+other Equal a b not = absurd (not refl)
+other Greater a b not = refl
+
+moved-at : (old new : List ℕ) (version : Option (List ℕ)) → IsSomeAnd version (λ v. version_cmp v old ≡ Equal) → moved_version old new version ≡ Some new
+moved-at old new None at = absurd at
+moved-at old new (Some v) at = chosen (version_cmp v old) (Some new) (Some v) at
+
+moved-stays : (old new : List ℕ) (version : Option (List ℕ)) → ¬ IsSomeAnd version (λ v. version_cmp v old ≡ Equal) → moved_version old new version ≡ version
+moved-stays old new None not_at = refl
+moved-stays old new (Some v) not_at = other (version_cmp v old) (Some new) (Some v) not_at
+
+pub moved-carried : (old new : List ℕ) (entry : Provide) → IsVersion new → IsCarried old new entry (moved_entry old new entry)
+moved-carried old new entry version = record {
+  name = refl;
+  qualifier = refl;
+  moved = λ at. let P : Option (List ℕ) → Type 0 = λ o. IsSomeAnd o (λ v. version_cmp v new ≡ Equal) in subst P (sym (moved-at old new entry.version at)) (equal-itself new);
+  stays = moved-stays old new entry.version;
+}
+
+-- ---- a member of a cluster
+
+-- a package that provides some entries alone
+abbrev pub with_version : Package → List ℕ → List Provide → Package
+with_version p version entries = record p { version = version; provides = entries }
+
+pub bare-new : (p : Package) (version : List ℕ) → IsVersion version → IsNewVersionOf p (nones p.provides) (with_version p version [])
+bare-new p version is = record { name = refl; version = is; provides = carried-none p.version version p.provides }
+
+pub single-new : (p : Package) (version : List ℕ) (j : ℕ) (entry carried : Provide) → IsVersion version → slice_get p.provides j ≡ Some entry → IsCarried p.version version entry carried
+    → IsNewVersionOf p (one-alone p.provides j) (with_version p version (carried ∷ []))
+single-new p version j entry carried is at carries = record { name = refl; version = is; provides = carried-one p.version version p.provides j entry carried at carries }
+
+-- what is known of a member and a class of its cluster
+pub record IsMemberAt (s : SpaceView) (r k : ℕ) (p : Package) : Type 0 where
+  pub is : slice_get s.repository.packages r ≡ Some p
+  pub short : k < length (member_classes s r)
+  pub example : IsExample (member_classes s r) k
+  pub alike : (kept : List Bool) (first second : Package) → IsNewVersionOf p kept first → IsNewVersionOf p kept second →
+      IsOfClassAt (member_classes s r) k first.version → IsOfClassAt (member_classes s r) k second.version →
+      (atom : Atom) → IsAtomOf s.repository atom → Matches s.repository.architecture atom first ↔ Matches s.repository.architecture atom second
+
+-- the cluster of a package
+pub record HasCluster (s : SpaceView) (r : ℕ) : Type 0 where
+  pub within : slice_index s.cluster_of r < length s.clusters.members
+  pub there : Contains (get_or s.clusters.members (slice_index s.cluster_of r) []) r
+
+pub member-at : ClassLaws → (s : SpaceView) → IsSpace s → (r k : ℕ) (p : Package) → HasCluster s r → slice_get s.repository.packages r ≡ Some p → k < length (member_classes s r) → IsMemberAt s r k p
+member-at laws s space r k p has is short =
+    let c = slice_index s.cluster_of r in
+    let members = get_or s.clusters.members c [] in
+    let top = get_or s.clusters.tops c [] in
+    let are = space.classes c has.within in
+    record {
+      is = is;
+      short = short;
+      example = space.examples c k short;
+      alike = λ kept first second one two at also atom of.
+          let At : Package → List Class → Type 0 = λ q classes. IsOfClassAt classes k q.version in
+          laws.members s.repository members top are.cuts are.are_cuts r p has.there is kept first second one two
+          (record { number = k; first = subst (At first) are.are at; second = subst (At second) are.are also }) atom of;
+    }
+

@@ -1,0 +1,5 @@
+pub mod Future
+pub mod Outdated
+pub mod Space
+pub mod SpaceClauses
+pub mod SpaceLaws

@@ -1,0 +1,114 @@
+-- The clauses of a space: what an assignment must meet to stand for a future and a healthy installation in it, a clause for
+-- each demand.
+use Rattle.std.specs.Prelude.{◌≡◌, ◌≢◌, ◌↔◌, ℕ, ◌<◌, true, false, List, [], ◌∷◌, All, AllPairs, Any, Contains, IsSomeAnd, length, map, slice_get, slice_index}
+use Rattle.std.specs.Cmp.Lexicographic.{slice_cmp}
+use Rattle.std.specs.Ordering.{nat_cmp}
+use Rattle.std.specs.declared.cmp.Ordering.TheVariants.{Less}
+use Rattle.dist_clause.specs.Formula.{Literal, literal}
+use Rattle.dist_relation.specs.declared.atom.Atom.{Atom}
+use Rattle.dist_repo.specs.Conflict.{AreInConflict}
+use Rattle.dist_repo.specs.Healthy.{required_names}
+use Rattle.dist_repo.specs.Match.{Matches}
+use Rattle.dist_repo.specs.PackageList.{IsPackageAnd}
+use Rattle.dist_repo.specs.declared.package.Package.{Package}
+use Rattle.dist_future.specs.Space.{SpaceView, AreMeaningsOf, IsMatched, IsMeaning, IsMetBy, cluster_classes, fresh_classes, key_of, name_of, variable_of}
+use Rattle.dist_future.specs.declared.meaning.Meaning.{Meaning}
+use Rattle.dist_future.specs.declared.meaning.Meaning.TheVariants.{Now, Present, At, New, Kept, Fresh}
+
+-- that a meaning holds, and that it does not
+abbrev pub yes : SpaceView → Meaning → Literal
+yes s m = literal (variable_of s m) true
+
+abbrev pub no : SpaceView → Meaning → Literal
+no s m = literal (variable_of s m) false
+
+-- What an assignment must meet. Of a cluster: one class at most; none where a member is installed as it is today; its class
+-- where a new version of that class is installed; the new version where an entry of it is kept. Of a new name: one class at
+-- most. Of a package as it is today: an item, by its place; that another package is not installed. Of the archive of today:
+-- that a cluster is not at a class, and that there is no package of a new name. And that a name is installed.
+pub data Demand : Type 0 where
+  OneClass : (cluster first second : ℕ) → Demand
+  Gone : (member class : ℕ) → Demand
+  Moved : (member class : ℕ) → Demand
+  Carried : (member class entry : ℕ) → Demand
+  OneFresh : (name first second : ℕ) → Demand
+  Item : (number place : ℕ) → Demand
+  Apart : (number : ℕ) (other : Meaning) → Demand
+  StaysNow : (cluster class : ℕ) → Demand
+  AbsentNow : (name class : ℕ) → Demand
+  Required : (name : List ℕ) → Demand
+
+-- another package stands behind in the order of variables, has another name and is in conflict
+abbrev pub Excludes : SpaceView → ℕ → Package → Meaning → Type 0
+Excludes s number p (Present other) = (number < other) × IsPackageAnd s.repository.packages other (AreInConflict s.repository.architecture p)
+Excludes s number p m = IsSomeAnd (name_of s m) (λ name. name ≢ p.name) × IsMetBy s p.conflicts m
+
+-- an item of a package, by their numbers, with a property
+abbrev pub IsItemAnd : SpaceView → (number place : ℕ) → (Package → List Atom → Type 0) → Type 0
+IsItemAnd s number place P = IsPackageAnd s.repository.packages number (λ p. IsSomeAnd (slice_get p.depends place) (P p))
+
+-- The demands of a space: the numbers are in range; an item is none that its own package meets; and at mode essential the names
+-- of the repository's essential packages are required.
+abbrev pub IsDemand : SpaceView → Demand → Type 0
+IsDemand s (OneClass c k l) = (k < l) × (l < length (cluster_classes s c))
+IsDemand s (Gone r k) = IsMeaning s (New r k)
+IsDemand s (Moved r k) = IsMeaning s (New r k)
+IsDemand s (Carried r k j) = IsMeaning s (Kept r k j)
+IsDemand s (OneFresh x k l) = (k < l) × (l < length (fresh_classes s x))
+IsDemand s (Item number place) = IsItemAnd s number place (λ p item. ¬ Any (λ atom. Matches s.repository.architecture atom p) item)
+IsDemand s (Apart number other) = IsMeaning s other × IsPackageAnd s.repository.packages number (λ p. Excludes s number p other)
+IsDemand s (StaysNow c k) = IsMeaning s (At c k)
+IsDemand s (AbsentNow x k) = IsMeaning s (Fresh x k)
+IsDemand s (Required name) = Contains (required_names s.essential s.repository.packages) name
+
+-- The order of demands, by groups and in each by numbers.
+abbrev pub demand_key : SpaceView → Demand → List ℕ
+demand_key s (OneClass c k l) = 1 ∷ c ∷ k ∷ l ∷ []
+demand_key s (Gone r k) = 2 ∷ slice_index s.cluster_of r ∷ k ∷ r ∷ 0 ∷ []
+demand_key s (Moved r k) = 2 ∷ slice_index s.cluster_of r ∷ k ∷ r ∷ 1 ∷ []
+demand_key s (Carried r k j) = 2 ∷ slice_index s.cluster_of r ∷ k ∷ r ∷ 2 ∷ j ∷ []
+demand_key s (OneFresh x k l) = 3 ∷ x ∷ k ∷ l ∷ []
+demand_key s (Item number place) = 4 ∷ number ∷ place ∷ []
+demand_key s (Apart number other) = 5 ∷ number ∷ key_of s other
+demand_key s (StaysNow c k) = 6 ∷ 0 ∷ c ∷ k ∷ []
+demand_key s (AbsentNow x k) = 6 ∷ 1 ∷ x ∷ k ∷ []
+demand_key s (Required name) = 7 ∷ name
+
+abbrev pub IsBefore : SpaceView → Demand → Demand → Type 0
+IsBefore s d e = slice_cmp nat_cmp (demand_key s d) (demand_key s e) ≡ Less
+
+-- a package as it is today, or a new version, of a name
+abbrev pub IsBearer : SpaceView → List ℕ → Meaning → Type 0
+IsBearer s name (Present r) = IsPackageAnd s.repository.packages r (λ p. p.name ≡ name)
+IsBearer s name (New r k) = IsPackageAnd s.repository.packages r (λ p. p.name ≡ name)
+IsBearer s name m = ⊥
+
+-- The clause of a demand.
+abbrev pub IsClauseFor : SpaceView → Demand → List Literal → Type 0
+IsClauseFor s (OneClass c k l) clause = clause ≡ no s (At c k) ∷ no s (At c l) ∷ []
+IsClauseFor s (Gone r k) clause = clause ≡ no s (Present r) ∷ no s (At (slice_index s.cluster_of r) k) ∷ []
+IsClauseFor s (Moved r k) clause = clause ≡ no s (New r k) ∷ yes s (At (slice_index s.cluster_of r) k) ∷ []
+IsClauseFor s (Carried r k j) clause = clause ≡ no s (Kept r k j) ∷ yes s (New r k) ∷ []
+IsClauseFor s (OneFresh x k l) clause = clause ≡ no s (Fresh x k) ∷ no s (Fresh x l) ∷ []
+IsClauseFor s (Item number place) clause =
+    (matching : List Meaning) × IsItemAnd s number place (λ p item. AreMeaningsOf s (IsMetBy s item) matching) × (clause ≡ no s (Present number) ∷ map (yes s) matching)
+IsClauseFor s (Apart number other) clause = clause ≡ no s (Present number) ∷ no s other ∷ []
+IsClauseFor s (StaysNow c k) clause = clause ≡ no s Now ∷ no s (At c k) ∷ []
+IsClauseFor s (AbsentNow x k) clause = clause ≡ no s Now ∷ no s (Fresh x k) ∷ []
+IsClauseFor s (Required name) clause = (bearers : List Meaning) × AreMeaningsOf s (IsBearer s name) bearers × (clause ≡ map (yes s) bearers)
+
+-- The clauses of the demands with a property: one for each demand, in the order of demands.
+pub record AreClausesOf (s : SpaceView) (P : Demand → Type 0) (clauses : List (List Literal)) : Type 0 where
+  pub rows : List (Demand × List Literal)
+  pub rising : AllPairs (λ a b. IsBefore s a.0 b.0) rows
+  pub exact : (d : Demand) → Any (λ a. a.0 ≡ d) rows ↔ P d
+  pub each : All (λ a. IsClauseFor s a.0 a.1) rows
+  pub are : clauses ≡ map (λ a. a.1) rows
+
+-- The clauses of the space.
+abbrev pub AreSpaceClauses : SpaceView → List (List Literal) → Type 0
+AreSpaceClauses s = AreClausesOf s (IsDemand s)
+
+-- those that stand before a demand's
+abbrev pub AreClausesBefore : SpaceView → Demand → List (List Literal) → Type 0
+AreClausesBefore s d = AreClausesOf s (λ e. IsDemand s e × IsBefore s e d)

@@ -1,0 +1,30 @@
+-- What the clauses of a space mean.
+use Rattle.std.specs.Prelude.{◌≡◌, ◌↔◌, ℕ, true, Bool, List, [], ◌∷◌, All, length, slice_get, Some}
+use Rattle.dist_clause.specs.Formula.{Literal, IsModel, value_of}
+use Rattle.dist_cluster.specs.Found.{IsIn}
+use Rattle.dist_repo.specs.declared.package.Package.{Package}
+use Rattle.dist_version.specs.Spelling.{IsVersion}
+use Rattle.dist_classes.specs.ClassList.{IsOfClassAt}
+use Rattle.dist_repo.specs.Strong.{IsInstallable}
+use Rattle.dist_future.specs.Outdated.{IsInstallableAt, IsInstallableLater}
+use Rattle.dist_future.specs.Space.{SpaceView, cluster_classes, variable_of}
+use Rattle.dist_future.specs.declared.meaning.Meaning.{Meaning}
+use Rattle.dist_future.specs.declared.meaning.Meaning.TheVariants.{Now, Present, At}
+
+-- Some model of the clauses, with one truth value for each variable, makes all the meanings true.
+pub record HasModelWith (s : SpaceView) (clauses : List (List Literal)) (meanings : List Meaning) : Type 0 where
+  pub values : List Bool
+  pub one_each : length values ≡ length s.meanings
+  pub model : IsModel (value_of values) clauses
+  pub true_meanings : All (λ m. value_of values (variable_of s m) ≡ true) meanings
+
+-- The models of the clauses stand for futures, for the futures that hold a cluster at a version, and for today's archive.
+pub record StandForFutures (s : SpaceView) (clauses : List (List Literal)) : Type 0 where
+  pub later : (n : ℕ) (p : Package) → slice_get s.repository.packages n ≡ Some p
+      → HasModelWith s clauses (Present n ∷ []) ↔ IsInstallableLater s.essential s.repository p
+  pub at_version : (n : ℕ) (p : Package) → slice_get s.repository.packages n ≡ Some p
+      → (c k m : ℕ) (q : Package) → IsIn s.clusters.members c m → slice_get s.repository.packages m ≡ Some q
+      → (version : List ℕ) → IsVersion version → IsOfClassAt (cluster_classes s c) k version
+      → HasModelWith s clauses (Present n ∷ At c k ∷ []) ↔ IsInstallableAt s.essential s.repository q version p
+  pub today : (n : ℕ) (p : Package) → slice_get s.repository.packages n ≡ Some p
+      → HasModelWith s clauses (Now ∷ Present n ∷ []) ↔ IsInstallable s.essential s.repository p
