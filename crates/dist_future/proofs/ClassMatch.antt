@@ -20,7 +20,7 @@ use Rattle.dist_classes.specs.NewVersion.{AreCarried, IsAt, IsCarried, IsNewVers
 use Rattle.dist_classes.specs.declared.class_value.Class.{Class}
 use Rattle.dist_future.specs.Space.{IsExample, IsMatched, IsMatchedBy, IsMeaning, IsSpace, MeetsBound, SpaceView, cluster_classes, example_at, fresh_classes, member_classes, moved_entry, moved_version}
 use Rattle.dist_future.specs.declared.meaning.Meaning.TheVariants.{New, Kept, Fresh}
-use Rattle.dist_future.proofs.Lists.{ElementAt, FoundAt, any-at, any-cases, any-head, any-later, at-has, contains-at, element-at, found-at, found-here, has-at}
+use Rattle.dist_future.proofs.Lists.{ElementAt, FoundAt, any-at, any-cases, any-head, any-later, at-has, contains-at, element-at, found-at, here-at, has-at}
 use Rattle.dist_future.proofs.VersionOrder.{equal-itself}
 
 -- ---- the laws of classes
@@ -187,3 +187,196 @@ member-at laws s space r k p has is short =
           (record { number = k; first = subst (At first) are.are at; second = subst (At second) are.are also }) atom of;
     }
 
+-- a new version is matched as its class is, or as an entry is that it has kept
+abbrev pub IsKeptMatch : SpaceView → ℕ → ℕ → List Bool → Atom → ℕ → Type 0
+IsKeptMatch s r k kept atom j = (slice_get kept j ≡ Some true) × IsMeaning s (Kept r k j) × IsMatched s atom (Kept r k j)
+
+abbrev pub IsNewMatch : SpaceView → ℕ → ℕ → List Bool → Atom → Type 0
+IsNewMatch s r k kept atom = IsMatched s atom (New r k) ⊎ (j : ℕ) × IsKeptMatch s r k kept atom j
+
+none-matched : {X : Type 0} (P : X → Type 0) → ¬ Any P []
+none-matched P any = omega (arith, any.2)
+
+one-matched : {X : Type 0} (P : X → Type 0) (x : X) → Any P (x ∷ []) → P x
+one-matched P x any = elim (any-cases P x [] any) [
+  | inl here ↦ here
+  | inr later ↦ absurd (none-matched P later)
+]
+
+module _ (s : SpaceView) (r k : ℕ) (p : Package) (member : IsMemberAt s r k p) (atom : Atom) (of : IsAtomOf s.repository atom) where
+  abbrev architecture : Option (List ℕ)
+  architecture = s.repository.architecture
+
+  abbrev example : List ℕ
+  example = example_at (member_classes s r) k
+
+  abbrev ByEntry : Provide → Type 0
+  ByEntry e = MatchesByEntry architecture atom e
+
+  -- by the name
+  abbrev NameMeets : Package → Type 0
+  NameMeets q = (q.name ≡ atom.name) × MeetsBound atom example
+
+  new-at : IsUsable architecture atom.qualifier → p.name ≡ atom.name → MeetsBound atom example → IsMatched s atom (New r k)
+  new-at usable name meets = (usable, at-has NameMeets s.repository.packages r p member.is (name, meets))
+
+  at-new : IsMatched s atom (New r k) → NameMeets p
+  at-new matched = has-at NameMeets s.repository.packages r p member.is matched.1
+
+  -- by an entry
+  abbrev EntryMeets : ℕ → Package → Type 0
+  EntryMeets j q = IsSomeAnd (slice_get q.provides j) (λ entry. ByEntry (moved_entry q.version example entry))
+
+  kept-at : (j : ℕ) (entry : Provide) → slice_get p.provides j ≡ Some entry → IsUsable architecture atom.qualifier → ByEntry (moved_entry p.version example entry) → IsMatched s atom (Kept r k j)
+  kept-at j entry is usable matches =
+      (usable, at-has (EntryMeets j) s.repository.packages r p member.is (at-has (λ e. ByEntry (moved_entry p.version example e)) p.provides j entry is matches))
+
+  abbrev Usable : ℕ → Package → Type 0
+  Usable j q = IsSomeAnd (slice_get q.provides j) (λ entry. IsUsable architecture entry.qualifier)
+
+  meaning-at : (j : ℕ) (entry : Provide) → slice_get p.provides j ≡ Some entry → IsUsable architecture entry.qualifier → IsMeaning s (Kept r k j)
+  meaning-at j entry is usable =
+      (at-has (Usable j) s.repository.packages r p member.is (at-has (λ e. IsUsable architecture e.qualifier) p.provides j entry is usable), member.short)
+
+  -- a package of the member's name with one entry, or none
+  bare : List ℕ → Package
+  bare version = with_version p version []
+
+  by-name-cases : (version : List ℕ) (entries : List Provide) → Matches architecture atom (with_version p version entries) → ((p.name ≡ atom.name) × MeetsBound atom version) ⊎ Any ByEntry entries
+  by-name-cases version entries matches = elim matches.matched [
+    | inl by_name ↦ inl (by_name.name, by_name.bound)
+    | inr any ↦ inr any
+  ]
+
+  name-matches : (version : List ℕ) (entries : List Provide) → IsUsable architecture atom.qualifier → p.name ≡ atom.name → MeetsBound atom version → Matches architecture atom (with_version p version entries)
+  name-matches version entries usable name meets = record { usable = usable; matched = inl (record { name = name; bound = meets }) }
+
+  entry-matches : (version : List ℕ) (entry : Provide) → IsUsable architecture atom.qualifier → ByEntry entry → Matches architecture atom (with_version p version (entry ∷ []))
+  entry-matches version entry usable matches = record { usable = usable; matched = inr (any-head ByEntry entry [] matches) }
+
+  -- the two packages with the member's name and one entry, at the new version and at the example
+  single-alike : (version : List ℕ) (j : ℕ) (entry carried : Provide) → IsVersion version → IsOfClassAt (member_classes s r) k version → slice_get p.provides j ≡ Some entry → IsCarried p.version version entry carried
+      → Matches architecture atom (with_version p version (carried ∷ [])) ↔ Matches architecture atom (with_version p example (moved_entry p.version example entry ∷ []))
+  single-alike version j entry carried is class at carries =
+      member.alike (one-alone p.provides j) (with_version p version (carried ∷ [])) (with_version p example (moved_entry p.version example entry ∷ []))
+      (single-new p version j entry carried is at carries) (single-new p example j entry (moved_entry p.version example entry) member.example.0 at (moved-carried p.version example entry member.example.0))
+      class member.example.1 atom of
+
+  bare-alike : (version : List ℕ) → IsVersion version → IsOfClassAt (member_classes s r) k version
+      → Matches architecture atom (with_version p version []) ↔ Matches architecture atom (with_version p example [])
+  bare-alike version is class =
+      member.alike (nones p.provides) (with_version p version []) (with_version p example []) (bare-new p version is) (bare-new p example member.example.0) class member.example.1 atom of
+
+  to-new-by_name : (n : Package) (version : IsVersion n.version) → IsOfClassAt (member_classes s r) k n.version → IsUsable architecture atom.qualifier → p.name ≡ atom.name → MeetsBound atom n.version → IsMatched s atom (New r k)
+  to-new-by_name n version class usable name meets =
+      elim (by-name-cases example [] ((bare-alike n.version version class).0 (name-matches n.version [] usable name meets))) [
+        | inl h ↦ new-at usable h.0 h.1
+        | inr any ↦ absurd (none-matched ByEntry any)
+      ]
+
+  to-new-by_entry : (n : Package) (kept : List Bool) → IsNewVersionOf p kept n → IsOfClassAt (member_classes s r) k n.version → IsUsable architecture atom.qualifier → Any ByEntry n.provides → IsNewMatch s r k kept atom
+  to-new-by_entry n kept new class usable any =
+      let at = found-at ByEntry n.provides any in
+      let from = carried-from p.version n.version kept p.provides n.provides at.element new.provides (contains-at n.provides at.place at.element at.is) in
+      let example_matches = (single-alike n.version from.place from.entry at.element new.version class from.is from.carries).0 (entry-matches n.version at.element usable at.holds) in
+      elim (by-name-cases example (moved_entry p.version example from.entry ∷ []) example_matches) [
+        | inl h ↦ inl (new-at usable h.0 h.1)
+        | inr any_entry ↦
+            let matches = one-matched ByEntry (moved_entry p.version example from.entry) any_entry in
+            inr (from.place, (from.kept_is, meaning-at from.place from.entry from.is matches.usable, kept-at from.place from.entry from.is usable matches))
+      ]
+
+  -- what matches a new version matches a variable of its class
+  pub to-new : (n : Package) (kept : List Bool) → IsNewVersionOf p kept n → IsOfClassAt (member_classes s r) k n.version → Matches architecture atom n → IsNewMatch s r k kept atom
+  to-new n kept new class matches = elim matches.matched [
+    | inl by_name ↦ inl (to-new-by_name n new.version class matches.usable (sym new.name ∙ by_name.name) by_name.bound)
+    | inr any ↦ to-new-by_entry n kept new class matches.usable any
+  ]
+
+  -- and the other way round
+  n-by-name : (n : Package) (kept : List Bool) → IsNewVersionOf p kept n → IsUsable architecture atom.qualifier → p.name ≡ atom.name → MeetsBound atom n.version → Matches architecture atom n
+  n-by-name n kept new usable name meets = record { usable = usable; matched = inl (record { name = new.name ∙ name; bound = meets }) }
+
+  pub from-new : (n : Package) (kept : List Bool) → IsNewVersionOf p kept n → IsOfClassAt (member_classes s r) k n.version → IsMatched s atom (New r k) → Matches architecture atom n
+  from-new n kept new class matched =
+      let at = at-new matched in
+      elim (by-name-cases n.version [] ((bare-alike n.version new.version class).1 (name-matches example [] matched.0 at.0 at.1))) [
+        | inl h ↦ n-by-name n kept new matched.0 h.0 h.1
+        | inr any ↦ absurd (none-matched ByEntry any)
+      ]
+
+  pub from-kept : (n : Package) (kept : List Bool) (j : ℕ) → IsNewVersionOf p kept n → IsOfClassAt (member_classes s r) k n.version → slice_get kept j ≡ Some true → IsMatched s atom (Kept r k j) → Matches architecture atom n
+  from-kept n kept j new class flag matched =
+      let here : EntryMeets j p = has-at (EntryMeets j) s.repository.packages r p member.is matched.1 in
+      let at = here-at (λ entry. ByEntry (moved_entry p.version example entry)) p.provides j here in
+      let taken = carried-taken p.version n.version kept p.provides n.provides j at.element new.provides at.is flag in
+      let own = (single-alike n.version j at.element taken.taken new.version class at.is taken.carries).1 (entry-matches example (moved_entry p.version example at.element) matched.0 at.holds) in
+      elim (by-name-cases n.version (taken.taken ∷ []) own) [
+        | inl h ↦ n-by-name n kept new matched.0 h.0 h.1
+        | inr any_entry ↦ record { usable = matched.0; matched = inr (any-at ByEntry n.provides taken.place taken.taken taken.is (one-matched ByEntry taken.taken any_entry)) }
+      ]
+
+-- ---- a package of a new name
+
+abbrev pub fresh_package : List ℕ → List ℕ → Package
+fresh_package name version = record {
+  name = name;
+  version = version;
+  source = name;
+  source_version = version;
+  depends = [];
+  conflicts = [];
+  provides = [];
+  essential = false;
+}
+
+-- what is known of a new name and a class of it
+pub record IsFreshAt (s : SpaceView) (x k : ℕ) (name : List ℕ) : Type 0 where
+  pub is : slice_get s.names x ≡ Some name
+  pub short : k < length (fresh_classes s x)
+  pub example : IsExample (fresh_classes s x) k
+  pub alike : (first second : Package) → IsOfNewName name first → IsOfNewName name second →
+      IsOfClassAt (fresh_classes s x) k first.version → IsOfClassAt (fresh_classes s x) k second.version →
+      (atom : Atom) → IsAtomOf s.repository atom → Matches s.repository.architecture atom first ↔ Matches s.repository.architecture atom second
+
+pub fresh-at : ClassLaws → (s : SpaceView) → IsSpace s → (x k : ℕ) (name : List ℕ) → slice_get s.names x ≡ Some name → k < length (fresh_classes s x) → IsFreshAt s x k name
+fresh-at laws s space x k name is short =
+    let are = space.name_classes x (slice_get_within s.names x name is) in
+    let same : get_or s.names x [] ≡ name = get_or_from_slice_get s.names x name [] is in
+    let Cuts : List ℕ → Type 0 = λ n. AreCuts (IsNameCut s.repository n) are.cuts in
+    record {
+      is = is;
+      short = short;
+      example = space.name_examples x k short;
+      alike = λ first second one two at also atom of.
+          let At : Package → List Class → Type 0 = λ q classes. IsOfClassAt classes k q.version in
+          laws.names s.repository name are.cuts (subst Cuts same are.are_cuts) first second one two
+          (record { number = k; first = subst (At first) are.are at; second = subst (At second) are.are also }) atom of;
+    }
+
+pub fresh-new : (name version : List ℕ) → IsVersion version → IsOfNewName name (fresh_package name version)
+fresh-new name version is = record { name = refl; version = is; provides = refl }
+
+module _ (s : SpaceView) (x k : ℕ) (name : List ℕ) (fresh : IsFreshAt s x k name) (atom : Atom) (of : IsAtomOf s.repository atom) where
+  abbrev FreshMeets : List ℕ → Type 0
+  FreshMeets other = (other ≡ atom.name) × MeetsBound atom (example_at (fresh_classes s x) k)
+
+  example-package : Package
+  example-package = fresh_package name (example_at (fresh_classes s x) k)
+
+  n-alike : (n : Package) → IsOfNewName name n → IsOfClassAt (fresh_classes s x) k n.version → Matches s.repository.architecture atom n ↔ Matches s.repository.architecture atom (fresh_package name (example_at (fresh_classes s x) k))
+  n-alike n new class =
+      fresh.alike n (fresh_package name (example_at (fresh_classes s x) k)) new (fresh-new name (example_at (fresh_classes s x) k) fresh.example.0) class fresh.example.1 atom of
+
+  pub to-fresh : (n : Package) → IsOfNewName name n → IsOfClassAt (fresh_classes s x) k n.version → Matches s.repository.architecture atom n → IsMatched s atom (Fresh x k)
+  to-fresh n new class matches =
+      let other = (n-alike n new class).0 matches in
+      (matches.usable, at-has FreshMeets s.names x name fresh.is (elim other.matched [
+        | inl by_name ↦ (by_name.name, by_name.bound)
+        | inr any ↦ absurd (none-matched (λ e. MatchesByEntry s.repository.architecture atom e) any)
+      ]))
+
+  pub from-fresh : (n : Package) → IsOfNewName name n → IsOfClassAt (fresh_classes s x) k n.version → IsMatched s atom (Fresh x k) → Matches s.repository.architecture atom n
+  from-fresh n new class matched =
+      let at : FreshMeets name = has-at FreshMeets s.names x name fresh.is matched.1 in
+      (n-alike n new class).1 (record { usable = matched.0; matched = inl (record { name = at.0; bound = at.1 }) })

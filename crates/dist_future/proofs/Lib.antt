@@ -2,3 +2,4 @@ pub mod Lists
 pub mod Decided
 pub mod VersionOrder
 pub mod ClassMatch
+pub mod DemandLemmas

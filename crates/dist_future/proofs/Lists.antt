@@ -74,8 +74,14 @@ pub record FoundAt {X : Type 0} (P : X → Type 0) (xs : List X) : Type 0 where
 pub found-at : {X : Type 0} (P : X → Type 0) (xs : List X) → Any P xs → FoundAt P xs
 found-at {X} P xs any = record { place = any.0; element = any.1; is = slice_get-get_or xs any.0 any.1 any.2 ∙ ap (λ (y : X). Some y) any.3; holds = any.4 }
 
-pub found-here : {X : Type 0} (P : X → Type 0) (xs : List X) (k : ℕ) → IsSomeAnd (slice_get xs k) P → FoundAt P xs
-found-here P xs k here = record { place = k; element = some-element P xs k here; is = element-is P xs k here; holds = has-at P xs k (some-element P xs k here) (element-is P xs k here) here }
+-- what is known to have a property at a place
+pub record HereAt {X : Type 0} (P : X → Type 0) (xs : List X) (k : ℕ) : Type 0 where
+  pub element : X
+  pub is : slice_get xs k ≡ Some element
+  pub holds : P element
+
+pub here-at : {X : Type 0} (P : X → Type 0) (xs : List X) (k : ℕ) → IsSomeAnd (slice_get xs k) P → HereAt P xs k
+here-at P xs k here = record { element = some-element P xs k here; is = element-is P xs k here; holds = has-at P xs k (some-element P xs k here) (element-is P xs k here) here }
 
 pub contains-at : {X : Type 0} (xs : List X) (k : ℕ) (x : X) → slice_get xs k ≡ Some x → Contains xs x
 contains-at xs k x is = (k, slice_get_within xs k x is, get_or_from_slice_get xs k x x is)
