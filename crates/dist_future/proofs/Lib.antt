@@ -3,3 +3,4 @@ pub mod Decided
 pub mod VersionOrder
 pub mod ClassMatch
 pub mod DemandLemmas
+pub mod SpaceLemmas
