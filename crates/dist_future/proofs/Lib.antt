@@ -4,3 +4,4 @@ pub mod VersionOrder
 pub mod ClassMatch
 pub mod DemandLemmas
 pub mod SpaceLemmas
+pub mod FutureToModel
