@@ -2,8 +2,8 @@
 use Rattle.std.proofs.Common.{◌≡◌, ◌≢◌, ◌⊎◌, ℕ, zero, suc, ◌<◌, Bool, true, false, List, [], ◌∷◌, Option, Some, None, length, get_or, map, refl, sym, ap, subst, ◌∙◌, inl, inr, arith, slice_get}
 use Rattle.std.specs.Prelude.{All, AllPairs, Any, Contains, IsSomeAnd, filter, slice_index}
 use Rattle.std.specs.Option.{option_map}
-use Rattle.std.proofs.lemmas.List.Elements.{All-contains}
-use Rattle.std.proofs.lemmas.Option.{get_or_from_slice_get, slice_get_within}
+use Rattle.std.proofs.lemmas.List.Elements.{All-contains, All-filter, All-map}
+use Rattle.std.proofs.lemmas.Option.{same_Some, slice_get_within}
 use Rattle.dist_relation.specs.declared.atom.Atom.{Atom}
 use Rattle.dist_repo.specs.Conflict.{AreInConflict}
 use Rattle.dist_repo.specs.Healthy.{IsMet, required_names}
@@ -25,7 +25,7 @@ use Rattle.dist_future.specs.declared.meaning.Meaning.TheVariants.{Now, Present,
 use Rattle.dist_future.proofs.ClassMatch.{ClassLaws, IsFreshAt, IsKeptMatch, IsMemberAt, fresh-at, from-fresh, from-kept, from-new, member-at, to-fresh, to-new}
 use Rattle.dist_future.proofs.Decided.{IsDecided, any-decided, text-decided}
 use Rattle.dist_future.proofs.DemandLemmas.{AreMet, IsMetIn}
-use Rattle.dist_future.proofs.Lists.{IsSymmetric, any-at, any-contained, at-has, contains-at, found-at, has-at, here-at, pair-from, place-of, within-from}
+use Rattle.dist_future.proofs.Lists.{FoundAt, all-contained, any-at, element-at, any-contained, at-has, contains-at, found-at, has-at, here-at, pair-from, place-of, within-from}
 use Rattle.dist_future.proofs.SpaceLemmas.{has-cluster, names-apart, never-at, one-class, one-of-name, fresh-class}
 use Rattle.dist_future.proofs.VersionOrder.{equal-back}
 
@@ -45,6 +45,17 @@ pub never-conflict : (architecture : Option (List ℕ)) (members : List Package)
     → ¬ AreInConflict architecture p q
 never-conflict architecture members p q apart first second names =
     pair-from (λ a b. ¬ AreInConflict architecture a b) (λ a b none other. none (conflict-back architecture b a other)) members p q apart first second (λ same. names (ap (λ (x : Package). x.name) same))
+
+-- ---- the package of a required name
+
+pub required-package : (essential : Bool) (packages : List Package) (name : List ℕ) → Contains (required_names essential packages) name → FoundAt (λ (q : Package). q.name ≡ name) packages
+required-package false packages name there = absurd (omega (arith, there.1))
+required-package true packages name there =
+    let Named : List ℕ → Type 0 = λ x. Any (λ (q : Package). q.name ≡ x) packages in
+    let each : All (λ (q : Package). Named q.name) (filter (λ q. q.essential) packages) =
+        All-filter (λ (q : Package). q.essential) (λ (q : Package). Named q.name) packages (all-contained (λ (q : Package). Named q.name) packages (λ q inside. any-contained (λ (x : Package). x.name ≡ q.name) packages q inside refl)) in
+    found-at (λ (q : Package). q.name ≡ name) packages
+    (All-contains Named (required_names true packages) name (All-map Named (λ (q : Package). q.name) (filter (λ q. q.essential) packages) each) there)
 
 -- ---- a future as a space sees it
 
@@ -230,3 +241,154 @@ module _ (laws : ClassLaws) (s : SpaceView) (space : IsSpace s) (future members 
               | inr to ↦ new-found atom (record { usable = usable; there = inl there }) at.place to.0 at.element n at.is to.1 inside (sym at.holds) matches
             ]
       ]
+
+  -- ---- packages of new names
+
+  untaken : (x : ℕ) (name : List ℕ) → slice_get s.names x ≡ Some name → ¬ IsTaken s.repository name
+  untaken x name is taken =
+      let new = (space.names.exact name).0 (contains-at s.names x name is) in
+      new.unprovided (taken.0, taken.1, taken.2, taken.3, inl taken.4)
+
+  record FreshMember (x k : ℕ) : Type 0 where
+    name : List ℕ
+    is : slice_get s.names x ≡ Some name
+    n : Package
+    there : Contains members n
+    name_is : n.name ≡ name
+    class : IsOfClassAt (fresh_classes s x) k n.version
+
+  fresh-member : (x k : ℕ) → Holds (Fresh x k) → FreshMember x k
+  fresh-member x k holds =
+      let at = here-at (λ (name : List ℕ). Any (IsFreshMember x k name) members) s.names x holds in
+      let any : Any (IsFreshMember x k at.element) members = at.holds in
+      record { name = at.element; is = at.is; n = any.1; there = (any.0, any.2, any.3); name_is = any.4.0; class = any.4.1 }
+
+  fresh-new : (x : ℕ) (name : List ℕ) (n : Package) → slice_get s.names x ≡ Some name → Contains members n → n.name ≡ name → IsOfNewName name n
+  fresh-new x name n is there same =
+      subst (λ (y : List ℕ). IsOfNewName y n) same (seen.fresh n (in_future n there) (λ taken. untaken x name is (subst (λ (y : List ℕ). IsTaken s.repository y) same taken))).0
+
+  -- ---- conflicts
+
+  rejects : (p n : Package) (place : ℕ) (atom : Atom) → Contains members p → Contains members n → p.name ≢ n.name → slice_get p.conflicts place ≡ Some atom → Matches s.repository.architecture atom n → ⊥
+  rejects p n place atom first second names is matches =
+      never-conflict s.repository.architecture members p n seen.healthy.no_conflict first second names
+      (record { different = λ same. names same.0; matched = inl (any-at (λ a. Matches s.repository.architecture a n) p.conflicts place atom is matches) })
+
+  conflict-atom : (r : ℕ) (p : Package) (place : ℕ) (atom : Atom) → slice_get s.repository.packages r ≡ Some p → slice_get p.conflicts place ≡ Some atom → IsUsable s.repository.architecture atom.qualifier → IsAtomOf s.repository atom
+  conflict-atom r p place atom is is_atom usable =
+      record { usable = usable; there = inr (any-at (λ (q : Package). Contains q.conflicts atom) s.repository.packages r p is (contains-at p.conflicts place atom is_atom)) }
+
+  member-of-class : (r k : ℕ) (q : Package) → slice_get s.repository.packages r ≡ Some q → k < length (member_classes s r) → IsMemberAt s r k q
+  member-of-class r k q is short = member-at laws s space r k q (has-cluster laws s space r (slice_get_within s.repository.packages r q is)) is short
+
+  -- another name than that of a member
+  other-name : (o : ℕ) (q : Package) (name : List ℕ) → slice_get s.repository.packages o ≡ Some q → IsSomeAnd (option_map (λ (x : Package). x.name) (slice_get s.repository.packages o)) (λ n. n ≢ name) → q.name ≢ name
+  other-name o q name is other =
+      let Differs : Option Package → Type 0 = λ x. IsSomeAnd (option_map (λ (y : Package). y.name) x) (λ n. n ≢ name) in
+      subst Differs is other
+
+  rejects-new : (r o k : ℕ) (p q : Package) → slice_get s.repository.packages r ≡ Some p → slice_get s.repository.packages o ≡ Some q → k < length (member_classes s o) → q.name ≢ p.name → Contains members p
+      → fate (slice_index s.cluster_of o) ≡ Some k → IsNamedMember o → (place : ℕ) (atom : Atom) → slice_get p.conflicts place ≡ Some atom → IsUsable s.repository.architecture atom.qualifier
+      → ((n : Package) → IsNewVersionOf q (kept_of o) n → IsOfClassAt (member_classes s o) k n.version → Matches s.repository.architecture atom n) → ⊥
+  rejects-new r o k p q is_p is_q short names there moves named place atom is usable matches =
+      let m = named-at o q is_q named in
+      let new = (flags-of o).1 k q m.n is_q moves m.there m.name in
+      let class = (moves-to o k q m.n is_q moves m.there m.name).1 in
+      rejects p m.n place atom there m.there (λ same. names (sym (same ∙ m.name))) is (matches m.n new class)
+
+  apart-from : (r : ℕ) (p : Package) (m : Meaning) → slice_get s.repository.packages r ≡ Some p → IsMeaning s m → Excludes s r p m → Holds (Present r) → Holds m → ⊥
+  apart-from r p Now is is_meaning excludes present holds = excludes.0
+  apart-from r p (At c k) is is_meaning excludes present holds = excludes.0
+  apart-from r p (Present o) is is_meaning excludes present holds =
+      let q = here-at (AreInConflict s.repository.architecture p) s.repository.packages o excludes.1 in
+      never-conflict s.repository.architecture members p q.element seen.healthy.no_conflict (present-at r p is present) (present-at o q.element q.is holds)
+      (λ same. let one = names-apart s.repository.packages r o p q.element space.flat is q.is same in omega (arith, excludes.0, one)) q.holds
+  apart-from r p (New o k) is is_meaning excludes present holds =
+      let q = element-at s.repository.packages o is_meaning.0 in
+      let at = found-at (λ atom. IsMatched s atom (New o k)) p.conflicts excludes.1 in
+      let of = conflict-atom r p at.place at.element is at.is at.holds.0 in
+      rejects-new r o k p q.element is q.is is_meaning.1 (other-name o q.element p.name q.is excludes.0) (present-at r p is present) holds.0 holds.1 at.place at.element at.is at.holds.0
+      (λ n new class. from-new s o k q.element (member-of-class o k q.element q.is is_meaning.1) at.element of n (kept_of o) new class at.holds)
+  apart-from r p (Kept o k j) is is_meaning excludes present holds =
+      let q = element-at s.repository.packages o (within-from (λ (x : Package). IsSomeAnd (slice_get x.provides j) (λ entry. IsUsable s.repository.architecture entry.qualifier)) s.repository.packages o is_meaning.0) in
+      let at = found-at (λ atom. IsMatched s atom (Kept o k j)) p.conflicts excludes.1 in
+      let of = conflict-atom r p at.place at.element is at.is at.holds.0 in
+      rejects-new r o k p q.element is q.is is_meaning.1 (other-name o q.element p.name q.is excludes.0) (present-at r p is present) holds.0 holds.1 at.place at.element at.is at.holds.0
+      (λ n new class. from-kept s o k q.element (member-of-class o k q.element q.is is_meaning.1) at.element of n (kept_of o) j new class holds.2 at.holds)
+  apart-from r p (Fresh x k) is is_meaning excludes present holds =
+      let m = fresh-member x k holds in
+      let at = found-at (λ atom. IsMatched s atom (Fresh x k)) p.conflicts excludes.1 in
+      let of = conflict-atom r p at.place at.element is at.is at.holds.0 in
+      let names : m.name ≢ p.name = has-at (λ (n : List ℕ). n ≢ p.name) s.names x m.name m.is excludes.0 in
+      rejects p m.n at.place at.element (present-at r p is present) m.there (λ same. names (sym (same ∙ m.name_is))) at.is
+      (from-fresh s x k m.name (fresh-at laws s space x k m.name m.is is_meaning) at.element of m.n (fresh-new x m.name m.n m.is m.there m.name_is) m.class at.holds)
+
+  -- ---- the demands
+
+  one-fresh : (x k l : ℕ) → k < l → l < length (fresh_classes s x) → Holds (Fresh x k) → Holds (Fresh x l) → ⊥
+  one-fresh x k l less short first second =
+      let a = fresh-member x k first in
+      let b = fresh-member x l second in
+      let name : a.name ≡ b.name = let p = a.is in let q = b.is in cc in
+      let same : a.n ≡ b.n = one-member a.n b.n a.there b.there (a.name_is ∙ name ∙ sym b.name_is) in
+      let one = fresh-class laws s space x b.n.version (slice_get_within s.names x b.name b.is) in
+      let k_is = one.alone k (subst (λ (n : Package). IsOfClassAt (fresh_classes s x) k n.version) same a.class) in
+      let l_is = one.alone l b.class in
+      omega (arith, less, k_is, l_is)
+
+  gone : (r k : ℕ) → IsMeaning s (New r k) → Holds (Present r) → Holds (At (slice_index s.cluster_of r) k) → ⊥
+  gone r k is_meaning present moves =
+      let p = element-at s.repository.packages r is_meaning.0 in
+      never-at laws s space r k p.element p.is (moves-to r k p.element p.element p.is moves (present-at r p.element p.is present) refl).1
+
+  met-item : (r place : ℕ) (p : Package) (item : List Atom) → slice_get s.repository.packages r ≡ Some p → slice_get p.depends place ≡ Some item → Holds (Present r) → IsMetIn s Holds (IsMetBy s item)
+  met-item r place p item is is_item present =
+      let Met : List Atom → Type 0 = IsMet s.repository.architecture members in
+      let items : All Met p.depends = All-contains (λ (q : Package). All Met q.depends) members p seen.healthy.met (present-at r p is present) in
+      let any : Met item = All-contains Met p.depends item items (contains-at p.depends place item is_item) in
+      let at = found-at (λ atom. Any (Matches s.repository.architecture atom) members) item any in
+      let n : Package = at.holds.1 in
+      let inside : Contains members n = (at.holds.0, at.holds.2, at.holds.3) in
+      let matches : Matches s.repository.architecture at.element n = at.holds.4 in
+      let dependency : IsDependencyAtom s.repository.packages at.element =
+          any-at (λ (q : Package). Any (λ i. Contains i at.element) q.depends) s.repository.packages r p is (any-at (λ i. Contains i at.element) p.depends place item is_item (contains-at item at.place at.element at.is)) in
+      let found = member-found at.element matches.usable dependency n inside matches in
+      record { meaning = found.meaning; is_meaning = found.is_meaning; holds = found.holds; has = any-at (λ atom. IsMatched s atom found.meaning) item at.place at.element at.is found.has }
+
+  bearer : (name : List ℕ) → Contains (required_names s.essential s.repository.packages) name → IsMetIn s Holds (IsBearer s name)
+  bearer name there =
+      let any : Any (λ (q : Package). q.name ≡ name) members = All-contains (λ (x : List ℕ). Any (λ (q : Package). q.name ≡ x) members) (required_names s.essential s.repository.packages) name seen.healthy.has_required there in
+      let n : Package = any.1 in
+      let inside : Contains members n = (any.0, any.2, any.3) in
+      let at = required-package s.essential s.repository.packages name there in
+      let same : n.name ≡ at.element.name = any.4 ∙ sym at.holds in
+      let within = slice_get_within s.repository.packages at.place at.element at.is in
+      let is_bearer = at-has (λ (p : Package). p.name ≡ name) s.repository.packages at.place at.element at.is at.holds in
+      elim (option-cases (fate (slice_index s.cluster_of at.place))) [
+        | inl stays ↦ record {
+            meaning = Present at.place;
+            is_meaning = within;
+            holds = at-has (λ (p : Package). Contains members p) s.repository.packages at.place at.element at.is (subst (λ (x : Package). Contains members x) (stays-itself at.place at.element n at.is stays inside same) inside);
+            has = is_bearer;
+          }
+        | inr to ↦ record {
+            meaning = New at.place to.0;
+            is_meaning = (within, short-of at.place to.0 n.version (moves-to at.place to.0 at.element n at.is to.1 inside same).1);
+            holds = (to.1, name-of-member at.place at.element n at.is inside same);
+            has = is_bearer;
+          }
+      ]
+
+  pub met-by-future : AreMet s Holds
+  met-by-future = record {
+    one_class = λ c k l less short first second. let same : k ≡ l = same_Some k l (sym first ∙ second) in omega (arith, less, same);
+    gone = gone;
+    moved = λ r k is_meaning holds. holds.0;
+    carried = λ r k j is_meaning holds. (holds.0, holds.1);
+    one_fresh = one-fresh;
+    met = met-item;
+    apart = apart-from;
+    stays = λ c k is_meaning now moves. let no : None ≡ Some k = sym (seen.now_stays now c) ∙ moves in cc;
+    absent = λ x k is_meaning now holds. let m = fresh-member x k holds in untaken x m.name m.is (subst (λ (name : List ℕ). IsTaken s.repository name) m.name_is (seen.now_taken now m.n (in_future m.n m.there)));
+    required = bearer;
+  }
