@@ -9,14 +9,14 @@ use Rattle.std.proofs.lemmas.Option.{slice_get-map, slice_get_within}
 use Rattle.dist_clause.specs.Formula.{Literal, IsTrueLiteral, MakesTrue, IsModel, value_of}
 use Rattle.dist_relation.specs.declared.atom.Atom.{Atom}
 use Rattle.dist_repo.specs.Healthy.{required_names}
-use Rattle.dist_repo.specs.Match.{Matches}
+use Rattle.dist_repo.specs.Match.{IsUsable, Matches}
 use Rattle.dist_repo.specs.declared.package.Package.{Package}
 use Rattle.dist_future.specs.Space.{SpaceView, AreMeaningsOf, IsMatched, IsMeaning, IsMetBy, cluster_classes, fresh_classes, variable_of}
 use Rattle.dist_future.specs.SpaceClauses.{Demand, OneClass, Gone, Moved, Carried, OneFresh, Item, Apart, StaysNow, AbsentNow, Required, AreClausesOf, AreSpaceClauses, Excludes, IsBearer, IsClauseFor, IsDemand, IsItemAnd, no, yes}
 use Rattle.dist_future.specs.declared.meaning.Meaning.{Meaning}
 use Rattle.dist_future.specs.declared.meaning.Meaning.TheVariants.{Now, Present, At, New, Kept, Fresh}
 use Rattle.dist_future.proofs.Decided.{any-decided, matches-decided}
-use Rattle.dist_future.proofs.Lists.{all-contained, any-at, any-cases, any-head, any-later, any-more, at-has, contains-at, element-at, found-at, has-at, here-at, place-of}
+use Rattle.dist_future.proofs.Lists.{all-contained, any-at, any-cases, any-head, any-later, any-more, at-has, contains-at, element-at, found-at, has-at, here-at, place-of, within-from}
 
 -- some meaning that holds meets the item, or has the name
 pub record IsMetIn (s : SpaceView) (T : Meaning → Type 0) (P : Meaning → Type 0) : Type 0 where
@@ -222,3 +222,22 @@ module _ (s : SpaceView) (values : List Bool) where
         subst (λ (xs : List (List Literal)). All Makes xs) (sym are.are)
         (All-map Makes (λ (a : Row). a.1) are.rows (all-contained (λ (a : Row). Makes a.1) are.rows
         (λ a there. true-for are_met a.0 a.1 ((are.exact a.0).0 (there.0, a, there.1, there.2, refl)) (All-contains (λ (b : Row). IsClauseFor s b.0 b.1) are.rows a are.each there))))
+
+-- ---- meanings that hold alike
+
+meets-more : (s : SpaceView) (T U P : Meaning → Type 0) → ((m : Meaning) → IsMeaning s m → T m → U m) → IsMetIn s T P → IsMetIn s U P
+meets-more s T U P to met = record { meaning = met.meaning; is_meaning = met.is_meaning; holds = to met.meaning met.is_meaning met.holds; has = met.has }
+
+pub met-alike : (s : SpaceView) (T U : Meaning → Type 0) → ((m : Meaning) → IsMeaning s m → T m → U m) → ((m : Meaning) → IsMeaning s m → U m → T m) → AreMet s T → AreMet s U
+met-alike s T U to back met = record {
+  one_class = λ c k l less short first second. met.one_class c k l less short (back (At c k) (omega (arith, less, short)) first) (back (At c l) short second);
+  gone = λ r k is present at. met.gone r k is (back (Present r) is.0 present) (back (At (slice_index s.cluster_of r) k) is.1 at);
+  moved = λ r k is holds. to (At (slice_index s.cluster_of r) k) is.1 (met.moved r k is (back (New r k) is holds));
+  carried = λ r k j is holds. to (New r k) (within-from (λ p. IsSomeAnd (slice_get p.provides j) (λ entry. IsUsable s.repository.architecture entry.qualifier)) s.repository.packages r is.0, is.1) (met.carried r k j is (back (Kept r k j) is holds));
+  one_fresh = λ x k l less short first second. met.one_fresh x k l less short (back (Fresh x k) (omega (arith, less, short)) first) (back (Fresh x l) short second);
+  met = λ r place p item is is_item holds. meets-more s T U (IsMetBy s item) to (met.met r place p item is is_item (back (Present r) (slice_get_within s.repository.packages r p is) holds));
+  apart = λ r p m is is_meaning excludes present holds. met.apart r p m is is_meaning excludes (back (Present r) (slice_get_within s.repository.packages r p is) present) (back m is_meaning holds);
+  stays = λ c k is now at. met.stays c k is (back Now tt now) (back (At c k) is at);
+  absent = λ x k is now holds. met.absent x k is (back Now tt now) (back (Fresh x k) is holds);
+  required = λ name there. meets-more s T U (IsBearer s name) to (met.required name there);
+}

@@ -5,3 +5,5 @@ pub mod ClassMatch
 pub mod DemandLemmas
 pub mod SpaceLemmas
 pub mod FutureToModel
+pub mod Variables
+pub mod FutureValues
