@@ -19,6 +19,7 @@ use Rattle.dist_classes.specs.Cuts.{AreCuts, IsClusterCut, IsNameCut, Rises, Ris
 use Rattle.dist_classes.specs.NewVersion.{AreCarried, IsAt, IsCarried, IsNewVersionOf, IsOfNewName}
 use Rattle.dist_classes.specs.declared.class_value.Class.{Class}
 use Rattle.dist_future.specs.Space.{IsExample, IsMatched, IsMatchedBy, IsMeaning, IsSpace, MeetsBound, SpaceView, cluster_classes, example_at, fresh_classes, member_classes, moved_entry, moved_version}
+use Rattle.dist_future.specs.Stands.{fresh_package}
 use Rattle.dist_future.specs.declared.meaning.Meaning.TheVariants.{New, Kept, Fresh}
 use Rattle.dist_future.proofs.Lists.{ElementAt, FoundAt, any-at, any-cases, any-head, any-later, at-has, contains-at, element-at, found-at, here-at, has-at}
 use Rattle.dist_future.proofs.VersionOrder.{equal-itself}
@@ -317,18 +318,6 @@ module _ (s : SpaceView) (r k : ℕ) (p : Package) (member : IsMemberAt s r k p)
       ]
 
 -- ---- a package of a new name
-
-abbrev pub fresh_package : List ℕ → List ℕ → Package
-fresh_package name version = record {
-  name = name;
-  version = version;
-  source = name;
-  source_version = version;
-  depends = [];
-  conflicts = [];
-  provides = [];
-  essential = false;
-}
 
 -- what is known of a new name and a class of it
 pub record IsFreshAt (s : SpaceView) (x k : ℕ) (name : List ℕ) : Type 0 where

@@ -75,7 +75,7 @@ pub record IsSeen (s : SpaceView) (future members : List Package) (N : Type 0) (
   pub now_stays : N → (c : ℕ) → fate c ≡ None
   pub now_taken : N → (n : Package) → Contains future n → IsTaken s.repository n.name
 
-option-cases : (o : Option ℕ) → (o ≡ None) ⊎ (k : ℕ) × (o ≡ Some k)
+pub option-cases : (o : Option ℕ) → (o ≡ None) ⊎ (k : ℕ) × (o ≡ Some k)
 option-cases None = inl refl
 option-cases (Some k) = inr (k, refl)
 

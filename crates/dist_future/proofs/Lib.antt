@@ -7,3 +7,5 @@ pub mod SpaceLemmas
 pub mod FutureToModel
 pub mod Variables
 pub mod FutureValues
+pub mod Parts
+pub mod ModelToFuture

@@ -3,3 +3,4 @@ pub mod Outdated
 pub mod Space
 pub mod SpaceClauses
 pub mod SpaceLaws
+pub mod Stands
