@@ -2,11 +2,14 @@
 use Rattle.std.proofs.Common.{◌≡◌, ◌≢◌, ◌⊎◌, ℕ, zero, suc, ◌<◌, Bool, true, false, List, [], ◌∷◌, Option, Some, None, Equal, Less, nat_cmp, length, get_or, refl, sym, ap, subst, ◌∙◌, inl, inr, arith, slice_get}
 use Rattle.std.specs.Prelude.{All, AllPairs, Any, Contains, IsSomeAnd, slice_index, if◌then◌else◌}
 use Rattle.std.specs.Cmp.Lexicographic.{slice_cmp}
+use Rattle.std.specs.List.Sorted.{IsStrictlySortedBy}
 use Rattle.std.specs.Option.{option_map}
+use Rattle.std.proofs.lemmas.Map.Keys.{Less-from_sorted}
 use Rattle.std.proofs.lemmas.Bool.{cases_lt, false≢true}
 use Rattle.std.proofs.lemmas.Cmp.{nat_list_cmp_total, tied_itself}
 use Rattle.std.proofs.lemmas.List.Elements.{All-contains, All-nil}
 use Rattle.std.proofs.lemmas.Option.{get_or_from_slice_get, same_Some, slice_get_within}
+use Rattle.dist_version.specs.Order.{version_cmp, IsBelow}
 use Rattle.dist_version.specs.Spelling.{IsVersion}
 use Rattle.dist_relation.specs.declared.atom.Atom.{Atom}
 use Rattle.dist_repo.specs.Conflict.{AreInConflict}
@@ -28,10 +31,25 @@ use Rattle.dist_future.specs.declared.meaning.Meaning.TheVariants.{Now, Present,
 use Rattle.dist_future.proofs.ClassMatch.{ClassLaws, IsMemberAt, fresh-at, fresh-new, from-fresh, from-kept, from-new, member-at, to-fresh, to-new}
 use Rattle.dist_future.proofs.DemandLemmas.{AreMet, IsMetIn}
 use Rattle.dist_future.proofs.FutureToModel.{conflict-back, option-cases}
-use Rattle.dist_future.proofs.Lists.{all-contained, any-at, any-contained, at-has, contains-at, element-at, found-at, has-at, here-at, place-of, within-from}
+use Rattle.dist_future.proofs.Lists.{all-contained, any-at, any-contained, at-has, contains-at, element-at, found-at, has-at, here-at, PlaceOf, place-of, within-from}
 use Rattle.dist_future.proofs.Parts.{first-none, first-some, flag-at, flag-is, if-some, if-true, kept-carried, length-flags, made, made-of, made-pairs, map-some, pairs-more}
 use Rattle.dist_future.proofs.SpaceLemmas.{above-top, class-above, clustered-same, has-cluster, names-apart}
 use Rattle.dist_future.proofs.VersionOrder.{equal-itself}
+
+-- a name stands once among names in order
+one-place : (names : List (List ℕ)) (m n : ℕ) (a b : List ℕ) → IsStrictlySortedBy (slice_cmp nat_cmp) names → slice_get names m ≡ Some a → slice_get names n ≡ Some b → a ≡ b → m ≡ n
+one-place names m n a b sorted first second same =
+    let Never : List ℕ → List ℕ → Type 0 = λ x y. slice_cmp nat_cmp x y ≡ Less in
+    let never : ¬ (slice_cmp nat_cmp a a ≡ Less) = λ less. let tied = tied_itself nat_list_cmp_total a in cc in
+    let at_m = get_or_from_slice_get names m a a first in
+    let at_n : get_or names n a ≡ a = get_or_from_slice_get names n b a second ∙ sym same in
+    elim (cases_lt m n) [
+      | inl less ↦ absurd (never (subst (λ x. Never x a) at_m (subst (λ x. Never (get_or names m a) x) at_n (Less-from_sorted (slice_cmp nat_cmp) names m n a sorted less (slice_get_within names n b second)))))
+      | inr more ↦ elim (cases_lt n m) [
+        | inl less ↦ absurd (never (subst (λ x. Never x a) at_n (subst (λ x. Never (get_or names n a) x) at_m (Less-from_sorted (slice_cmp nat_cmp) names n m a sorted less (slice_get_within names m a first)))))
+        | inr also ↦ omega (arith, more, also)
+      ]
+    ]
 
 -- the versions that are taken: one of each class
 abbrev pub AreVersions : SpaceView → (ℕ → ℕ → List ℕ) → Type 0
@@ -139,3 +157,256 @@ module _ (laws : ClassLaws) (s : SpaceView) (space : IsSpace s) (holds : Meaning
   later-given (New r k) n gives = absurd (let none : None ≡ Some n = gives in cc)
   later-given (Kept r k j) n gives = absurd (let none : None ≡ Some n = gives in cc)
   later-given (Fresh x k) n gives = given_fresh x k (fresh-given x k n gives)
+
+  -- a meaning of the space that gives a package
+  record GivenBy (P : Package → Meaning → Type 0) (n : Package) : Type 0 where
+    meaning : Meaning
+    is_meaning : IsMeaning s meaning
+    given : P n meaning
+
+  future-given : (n : Package) → Contains (future_of s holds version) n → GivenBy Given n
+  future-given n there =
+      let at = made-of (later_package s holds version) s.meanings n there in
+      record {
+        meaning = at.source;
+        is_meaning = ((space.meanings.exact at.source).0 (contains-at s.meanings at.place at.source at.is)).0;
+        given = later-given at.source n at.gives;
+      }
+
+  place-of-meaning : (m : Meaning) → IsMeaning s m → PlaceOf s.meanings m
+  place-of-meaning m is_meaning = place-of s.meanings m ((space.meanings.exact m).1 (is_meaning, tt))
+
+  in-future : (r : ℕ) (q : Package) → slice_get s.repository.packages r ≡ Some q → Contains (future_of s holds version) (moved_package s holds version r q (class_chosen s holds (slice_index s.cluster_of r)))
+  in-future r q is =
+      let at = place-of-meaning (Present r) (slice_get_within s.repository.packages r q is) in
+      made (later_package s holds version) s.meanings at.place (Present r) (moved_package s holds version r q (class_chosen s holds (slice_index s.cluster_of r))) at.is
+      (ap (option_map (λ p. moved_package s holds version r p (class_chosen s holds (slice_index s.cluster_of r)))) is)
+
+  fresh-gives : (x k : ℕ) (name : List ℕ) → slice_get s.names x ≡ Some name → holds (Fresh x k) ≡ true
+      → (if holds (Fresh x k) then option_map (λ name. fresh_package name (example_at (fresh_classes s x) k)) (slice_get s.names x) else None) ≡ Some (fresh_package name (example_at (fresh_classes s x) k))
+  fresh-gives x k name is true_is =
+      if-true (holds (Fresh x k)) (option_map (λ name. fresh_package name (example_at (fresh_classes s x) k)) (slice_get s.names x)) None true_is
+      ∙ ap (option_map (λ name. fresh_package name (example_at (fresh_classes s x) k))) is
+
+  fresh-in-future : (x k : ℕ) (name : List ℕ) → slice_get s.names x ≡ Some name → IsMeaning s (Fresh x k) → holds (Fresh x k) ≡ true → Contains (future_of s holds version) (fresh_package name (example_at (fresh_classes s x) k))
+  fresh-in-future x k name is is_meaning true_is =
+      let at = place-of-meaning (Fresh x k) is_meaning in
+      made (later_package s holds version) s.meanings at.place (Fresh x k) (fresh_package name (example_at (fresh_classes s x) k)) at.is (fresh-gives x k name is true_is)
+
+  -- ---- one package of a name
+
+  fresh-apart : (r x k : ℕ) (p n : Package) (q : Package) → slice_get s.repository.packages r ≡ Some q → p.name ≡ q.name → IsFreshPackage x k n → p.name ≢ n.name
+  fresh-apart r x k p n q is name fresh same =
+      untaken x fresh.name fresh.is (any-at (λ (y : Package). y.name ≡ fresh.name) s.repository.packages r q is (sym name ∙ same ∙ ap (λ (y : Package). y.name) fresh.same))
+
+  one-fresh : (x k y l : ℕ) (p n : Package) → IsMeaning s (Fresh x k) → IsMeaning s (Fresh y l) → Fresh x k ≢ Fresh y l → IsFreshPackage x k p → IsFreshPackage y l n → p.name ≢ n.name
+  one-fresh x k y l p n first second apart a b same =
+      let name : a.name ≡ b.name = sym (ap (λ (z : Package). z.name) a.same) ∙ same ∙ ap (λ (z : Package). z.name) b.same in
+      let one : x ≡ y = one-place s.names x y a.name b.name space.names.rising a.is b.is name in
+      let also : holds (Fresh x l) ≡ true = subst (λ (z : ℕ). holds (Fresh z l) ≡ true) (sym one) b.holds_is in
+      let short : l < length (fresh_classes s x) = subst (λ (z : ℕ). IsMeaning s (Fresh z l)) (sym one) second in
+      elim (cases_lt k l) [
+        | inl less ↦ met.one_fresh x k l less short a.holds_is also
+        | inr more ↦ elim (cases_lt l k) [
+          | inl less ↦ met.one_fresh x l k less first also a.holds_is
+          | inr equal ↦ let k_is : k ≡ l = omega (arith, more, equal) in apart (ap (λ (z : ℕ). Fresh z k) one ∙ ap (λ (z : ℕ). Fresh y z) k_is)
+        ]
+      ]
+
+  given-apart : (p n : Package) (a b : Meaning) → Given p a → Given n b → IsMeaning s a → IsMeaning s b → a ≢ b → p.name ≢ n.name
+  given-apart p n _ _ (given_later r l) (given_later o m) first second apart same =
+      apart (ap (λ (k : ℕ). Present k) (names-apart s.repository.packages r o l.q m.q space.flat l.is m.is (sym (later-name r p l) ∙ same ∙ later-name o n m)))
+  given-apart p n _ _ (given_later r l) (given_fresh x k f) first second apart same = fresh-apart r x k p n l.q l.is (later-name r p l) f same
+  given-apart p n _ _ (given_fresh x k f) (given_later r l) first second apart same = fresh-apart r x k n p l.q l.is (later-name r n l) f (sym same)
+  given-apart p n _ _ (given_fresh x k f) (given_fresh y l g) first second apart same = one-fresh x k y l p n first second apart f g same
+
+  -- two meanings at different places are two
+  meanings-apart : (i j : ℕ) (a b : Meaning) → i < j → slice_get s.meanings i ≡ Some a → slice_get s.meanings j ≡ Some b → a ≢ b
+  meanings-apart i j a b less first second same =
+      let before : StandsBefore s (get_or s.meanings i a) (get_or s.meanings j a) = space.meanings.rising i j a less (slice_get_within s.meanings j b second) in
+      let at_i = get_or_from_slice_get s.meanings i a a first in
+      let at_j : get_or s.meanings j a ≡ a = get_or_from_slice_get s.meanings j b a second ∙ sym same in
+      let self : StandsBefore s a a = subst (λ x. StandsBefore s x a) at_i (subst (λ x. StandsBefore s (get_or s.meanings i a) x) at_j before) in
+      let tied = tied_itself nat_list_cmp_total (key_of s a) in cc
+
+  future-flat : IsFlat (future_of s holds version)
+  future-flat =
+      made-pairs (later_package s holds version) (λ (p q : Package). p.name ≢ q.name) s.meanings
+      (λ i j a b p q less first second gives also. given-apart p q a b (later-given a p gives) (later-given b q also)
+      ((space.meanings.exact a).0 (contains-at s.meanings i a first)).0 ((space.meanings.exact b).0 (contains-at s.meanings j b second)).0 (meanings-apart i j a b less first second))
+
+  -- ---- clusters of the future
+
+  -- a package of the future that has the name of a package of the repository
+  named-later : (j : ℕ) (q n : Package) → slice_get s.repository.packages j ≡ Some q → Contains (future_of s holds version) n → n.name ≡ q.name → n ≡ moved_package s holds version j q (class_chosen s holds (slice_index s.cluster_of j))
+  named-later j q n is there name = let g = future-given n there in at g.meaning g.given
+    where
+      at : (m : Meaning) → Given n m → n ≡ moved_package s holds version j q (class_chosen s holds (slice_index s.cluster_of j))
+      at _ (given_later r l) =
+          let one : r ≡ j = names-apart s.repository.packages r j l.q q space.flat l.is is (sym (later-name r n l) ∙ name) in
+          let same : l.q ≡ q = let here : slice_get s.repository.packages j ≡ Some l.q = ap (λ (k : ℕ). slice_get s.repository.packages k) (sym one) ∙ l.is in cc in
+          l.same ∙ ap (λ (k : ℕ). moved_package s holds version k l.q (class_chosen s holds (slice_index s.cluster_of k))) one ∙ ap (λ (p : Package). moved_package s holds version j p (class_chosen s holds (slice_index s.cluster_of j))) same
+      at _ (given_fresh x k f) = absurd (fresh-apart j x k q n q is refl f (sym name))
+
+  same-cluster : (i j : ℕ) (c q : Package) → slice_get s.repository.packages i ≡ Some c → IsInClusterOf s.repository c q → slice_get s.repository.packages j ≡ Some q → slice_index s.cluster_of j ≡ slice_index s.cluster_of i
+  same-cluster i j c q is_c in_cluster is_q = clustered-same laws s space i j c q is_c is_q in_cluster.clustered
+
+  cluster-stays : (i : ℕ) (c : Package) → slice_get s.repository.packages i ≡ Some c → class_chosen s holds (slice_index s.cluster_of i) ≡ None → Stays s.repository (future_of s holds version) c
+  cluster-stays i c is none q n in_cluster there name =
+      let at = place-of s.repository.packages q in_cluster.there in
+      let same = same-cluster i at.place c q is in_cluster at.is in
+      named-later at.place q n at.is there name ∙ ap (moved_package s holds version at.place q) (ap (class_chosen s holds) same ∙ none)
+
+  cluster-moves : (i k : ℕ) (c : Package) → slice_get s.repository.packages i ≡ Some c → class_chosen s holds (slice_index s.cluster_of i) ≡ Some k → Moves s.repository (future_of s holds version) c
+  cluster-moves i k c is some =
+      let own = slice_index s.cluster_of i in
+      let short = (chosen-short own k some).0 in
+      let has = has-cluster laws s space i (slice_get_within s.repository.packages i c is) in
+      let class = versions own k short in
+      record {
+        version = version own k;
+        above = record {
+          is_version = class.0;
+          above = λ q in_cluster.
+              let at = place-of s.repository.packages q in_cluster.there in
+              let same = same-cluster i at.place c q is in_cluster at.is in
+              above-top laws s space at.place q (version own k) at.is
+              (subst (λ (x : ℕ). IsBelow (get_or s.clusters.tops x []) (version own k)) (sym same) (class-above laws s space own k (version own k) has.within class.1));
+        };
+        moved = λ q n in_cluster there name.
+            let at = place-of s.repository.packages q in_cluster.there in
+            let same = same-cluster i at.place c q is in_cluster at.is in
+            let n_is : n ≡ new_version s holds version at.place k q = named-later at.place q n at.is there name ∙ ap (moved_package s holds version at.place q) (ap (class_chosen s holds) same ∙ some) in
+            let here : k < length (member_classes s at.place) = subst (λ (x : ℕ). k < length (cluster_classes s x)) (sym same) short in
+            let new : IsNewOf q (new_version s holds version at.place k q) = (kept_of at.place k q, new-of at.place k q here) in
+            (subst (λ (x : Package). IsNewOf q x) (sym n_is) new, subst (λ (x : Package). version_cmp x.version (version own k) ≡ Equal) (sym n_is)
+            (subst (λ (x : ℕ). version_cmp (version x k) (version own k) ≡ Equal) (sym same) (equal-itself (version own k))));
+      }
+
+  pub future-is : IsFuture s.repository (future_of s holds version)
+  future-is = record {
+    one_of_a_name = future-flat;
+    clusters = λ c there.
+        let at = place-of s.repository.packages c there in
+        elim (option-cases (class_chosen s holds (slice_index s.cluster_of at.place))) [
+          | inl none ↦ inl (cluster-stays at.place c at.is none)
+          | inr some ↦ inr (cluster-moves at.place some.0 c at.is some.1)
+        ];
+    fresh = λ n there not_taken. let g = future-given n there in fresh-new-of n not_taken g.meaning g.is_meaning g.given;
+  }
+    where
+      fresh-new-of : (n : Package) → ¬ IsTaken s.repository n.name → (m : Meaning) → IsMeaning s m → Given n m → IsOfNewName n.name n × (¬ IsProvided s.repository n.name)
+      fresh-new-of n not_taken _ is_meaning (given_later r l) = absurd (not_taken (any-at (λ (y : Package). y.name ≡ n.name) s.repository.packages r l.q l.is (sym (later-name r n l))))
+      fresh-new-of n not_taken _ is_meaning (given_fresh x k f) =
+          let name : fresh_package f.name (example_at (fresh_classes s x) k) ≡ n = sym f.same in
+          subst (λ (y : Package). IsOfNewName y.name y × (¬ IsProvided s.repository y.name)) name (fresh-new f.name (example_at (fresh_classes s x) k) (space.name_examples x k is_meaning).0, unprovided x f.name f.is)
+
+  -- ---- what is installed
+
+  record IsOld (r : ℕ) (n : Package) : Type 0 where
+    is : slice_get s.repository.packages r ≡ Some n
+    holds_is : holds (Present r) ≡ true
+
+  record IsNew (r k : ℕ) (n : Package) : Type 0 where
+    q : Package
+    is : slice_get s.repository.packages r ≡ Some q
+    holds_is : holds (New r k) ≡ true
+    same : n ≡ new_version s holds version r k q
+
+  data Installed (n : Package) : Meaning → Type 0 where
+    installed_old : (r : ℕ) → IsOld r n → Installed n (Present r)
+    installed_new : (r k : ℕ) → IsNew r k n → Installed n (New r k)
+    installed_fresh : (x k : ℕ) → IsFreshPackage x k n → Installed n (Fresh x k)
+
+  installed-given : (m : Meaning) (n : Package) → installed_package s holds version m ≡ Some n → Installed n m
+  installed-given Now n gives = absurd (let none : None ≡ Some n = gives in cc)
+  installed-given (Present r) n gives =
+      let at = if-some (holds (Present r)) (slice_get s.repository.packages r) n gives in installed_old r (record { is = at.1; holds_is = at.0 })
+  installed-given (At c k) n gives = absurd (let none : None ≡ Some n = gives in cc)
+  installed-given (New r k) n gives =
+      let at = if-some (holds (New r k)) (option_map (λ (p : Package). new_version s holds version r k p) (slice_get s.repository.packages r)) n gives in
+      let q = map-some (λ (p : Package). new_version s holds version r k p) (slice_get s.repository.packages r) n at.1 in
+      installed_new r k (record { q = q.0; is = q.1; holds_is = at.0; same = sym q.2 })
+  installed-given (Kept r k j) n gives = absurd (let none : None ≡ Some n = gives in cc)
+  installed-given (Fresh x k) n gives = installed_fresh x k (fresh-given x k n gives)
+
+  member-given : (n : Package) → Contains (installation_of s holds version) n → GivenBy Installed n
+  member-given n there =
+      let at = made-of (installed_package s holds version) s.meanings n there in
+      record {
+        meaning = at.source;
+        is_meaning = ((space.meanings.exact at.source).0 (contains-at s.meanings at.place at.source at.is)).0;
+        given = installed-given at.source n at.gives;
+      }
+
+  pub old-member : (r : ℕ) (q : Package) → slice_get s.repository.packages r ≡ Some q → holds (Present r) ≡ true → Contains (installation_of s holds version) q
+  old-member r q is true_is =
+      let at = place-of-meaning (Present r) (slice_get_within s.repository.packages r q is) in
+      made (installed_package s holds version) s.meanings at.place (Present r) q at.is (if-true (holds (Present r)) (slice_get s.repository.packages r) None true_is ∙ is)
+
+  new-member : (r k : ℕ) (q : Package) → slice_get s.repository.packages r ≡ Some q → IsMeaning s (New r k) → holds (New r k) ≡ true → Contains (installation_of s holds version) (new_version s holds version r k q)
+  new-member r k q is is_meaning true_is =
+      let at = place-of-meaning (New r k) is_meaning in
+      made (installed_package s holds version) s.meanings at.place (New r k) (new_version s holds version r k q) at.is
+      (if-true (holds (New r k)) (option_map (λ (p : Package). new_version s holds version r k p) (slice_get s.repository.packages r)) None true_is ∙ ap (option_map (λ (p : Package). new_version s holds version r k p)) is)
+
+  fresh-member : (x k : ℕ) (name : List ℕ) → slice_get s.names x ≡ Some name → IsMeaning s (Fresh x k) → holds (Fresh x k) ≡ true → Contains (installation_of s holds version) (fresh_package name (example_at (fresh_classes s x) k))
+  fresh-member x k name is is_meaning true_is =
+      let at = place-of-meaning (Fresh x k) is_meaning in
+      made (installed_package s holds version) s.meanings at.place (Fresh x k) (fresh_package name (example_at (fresh_classes s x) k)) at.is (fresh-gives x k name is true_is)
+
+  -- a member whose package is installed as it is today stays
+  old-stays : (r : ℕ) → r < length s.repository.packages → holds (Present r) ≡ true → class_chosen s holds (slice_index s.cluster_of r) ≡ None
+  old-stays r within true_is = elim (option-cases (class_chosen s holds (slice_index s.cluster_of r))) [
+    | inl none ↦ none
+    | inr some ↦ let at = chosen-short (slice_index s.cluster_of r) some.0 some.1 in absurd (met.gone r some.0 (within, at.0) true_is at.1)
+  ]
+
+  new-moves : (r k : ℕ) → IsMeaning s (New r k) → holds (New r k) ≡ true → class_chosen s holds (slice_index s.cluster_of r) ≡ Some k
+  new-moves r k is_meaning true_is = chosen-is (slice_index s.cluster_of r) k is_meaning.1 (met.moved r k is_meaning true_is)
+
+  member-in-future : (n : Package) → Contains (installation_of s holds version) n → Contains (future_of s holds version) n
+  member-in-future n there = let g = member-given n there in at g.meaning g.is_meaning g.given
+    where
+      at : (m : Meaning) → IsMeaning s m → Installed n m → Contains (future_of s holds version) n
+      at _ is_meaning (installed_old r o) =
+          subst (λ (x : Package). Contains (future_of s holds version) x) (ap (moved_package s holds version r n) (old-stays r is_meaning o.holds_is)) (in-future r n o.is)
+      at _ is_meaning (installed_new r k w) =
+          subst (λ (x : Package). Contains (future_of s holds version) x) (ap (moved_package s holds version r w.q) (new-moves r k is_meaning w.holds_is) ∙ sym w.same) (in-future r w.q w.is)
+      at _ is_meaning (installed_fresh x k f) =
+          subst (λ (y : Package). Contains (future_of s holds version) y) (sym f.same) (fresh-in-future x k f.name f.is is_meaning f.holds_is)
+
+  -- ---- the installation has one package of a name
+
+  old-new-apart : (r o k : ℕ) (p n : Package) → IsMeaning s (New o k) → IsOld r p → IsNew o k n → p.name ≢ n.name
+  old-new-apart r o k p n is_meaning a b same =
+      let one : r ≡ o = names-apart s.repository.packages r o p b.q space.flat a.is b.is (same ∙ ap (λ (x : Package). x.name) b.same) in
+      met.gone o k is_meaning (subst (λ (x : ℕ). holds (Present x) ≡ true) one a.holds_is) (met.moved o k is_meaning b.holds_is)
+
+  new-new-apart : (r k o l : ℕ) (p n : Package) → IsMeaning s (New r k) → IsMeaning s (New o l) → New r k ≢ New o l → IsNew r k p → IsNew o l n → p.name ≢ n.name
+  new-new-apart r k o l p n first second apart a b same =
+      let one : r ≡ o = names-apart s.repository.packages r o a.q b.q space.flat a.is b.is (sym (ap (λ (x : Package). x.name) a.same) ∙ same ∙ ap (λ (x : Package). x.name) b.same) in
+      let k_is = new-moves r k first a.holds_is in
+      let l_is : class_chosen s holds (slice_index s.cluster_of r) ≡ Some l = ap (λ (x : ℕ). class_chosen s holds (slice_index s.cluster_of x)) one ∙ new-moves o l second b.holds_is in
+      let equal : k ≡ l = same_Some k l (sym k_is ∙ l_is) in
+      apart (ap (λ (z : ℕ). New z k) one ∙ ap (λ (z : ℕ). New o z) equal)
+
+  new-fresh-apart : (r k x l : ℕ) (p n : Package) → IsNew r k p → IsFreshPackage x l n → p.name ≢ n.name
+  new-fresh-apart r k x l p n a f = fresh-apart r x l p n a.q a.is (ap (λ (y : Package). y.name) a.same) f
+
+  installed-apart : (p n : Package) (a b : Meaning) → Installed p a → Installed n b → IsMeaning s a → IsMeaning s b → a ≢ b → p.name ≢ n.name
+  installed-apart p n _ _ (installed_old r u) (installed_old o v) first second apart same = apart (ap (λ (k : ℕ). Present k) (names-apart s.repository.packages r o p n space.flat u.is v.is same))
+  installed-apart p n _ _ (installed_old r u) (installed_new o k v) first second apart same = old-new-apart r o k p n second u v same
+  installed-apart p n _ _ (installed_old r u) (installed_fresh x k f) first second apart same = fresh-apart r x k p n p u.is refl f same
+  installed-apart p n _ _ (installed_new r k u) (installed_old o v) first second apart same = old-new-apart o r k n p first v u (sym same)
+  installed-apart p n _ _ (installed_new r k u) (installed_new o l v) first second apart same = new-new-apart r k o l p n first second apart u v same
+  installed-apart p n _ _ (installed_new r k u) (installed_fresh x l f) first second apart same = new-fresh-apart r k x l p n u f same
+  installed-apart p n _ _ (installed_fresh x k f) (installed_old o v) first second apart same = fresh-apart o x k n p n v.is refl f (sym same)
+  installed-apart p n _ _ (installed_fresh x k f) (installed_new o l v) first second apart same = new-fresh-apart o l x k n p v f (sym same)
+  installed-apart p n _ _ (installed_fresh x k f) (installed_fresh y l g) first second apart same = one-fresh x k y l p n first second apart f g same
+
+  members-flat : IsFlat (installation_of s holds version)
+  members-flat =
+      made-pairs (installed_package s holds version) (λ (p q : Package). p.name ≢ q.name) s.meanings
+      (λ i j a b p q less first second gives also. installed-apart p q a b (installed-given a p gives) (installed-given b q also)
+      ((space.meanings.exact a).0 (contains-at s.meanings i a first)).0 ((space.meanings.exact b).0 (contains-at s.meanings j b second)).0 (meanings-apart i j a b less first second))
