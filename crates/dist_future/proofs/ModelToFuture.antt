@@ -12,18 +12,20 @@ use Rattle.std.proofs.lemmas.Option.{get_or_from_slice_get, same_Some, slice_get
 use Rattle.dist_version.specs.Order.{version_cmp, IsBelow}
 use Rattle.dist_version.specs.Spelling.{IsVersion}
 use Rattle.dist_relation.specs.declared.atom.Atom.{Atom}
+use Rattle.dist_relation.specs.declared.atom.Provide.{Provide}
 use Rattle.dist_repo.specs.Conflict.{AreInConflict}
 use Rattle.dist_repo.specs.Healthy.{IsMet, required_names}
-use Rattle.dist_repo.specs.Match.{Matches}
+use Rattle.dist_repo.specs.Match.{IsUsable, Matches}
 use Rattle.dist_repo.specs.Order.{IsFlat}
 use Rattle.dist_repo.specs.PackageList.{IsPackageAnd}
+use Rattle.dist_repo.specs.Strong.{IsInstallation}
 use Rattle.dist_repo.specs.declared.package.Package.{Package}
-use Rattle.dist_classes.specs.Atoms.{IsAtomOf}
+use Rattle.dist_classes.specs.Atoms.{IsAtomOf, IsDependencyAtom}
 use Rattle.dist_classes.specs.ClassList.{IsOfClassAt}
 use Rattle.dist_classes.specs.NewVersion.{IsNewOf, IsNewVersionOf, IsOfNewName}
 use Rattle.dist_future.specs.Future.{IsFuture, IsInClusterOf, IsProvided, IsTaken, Moves, Stays}
-use Rattle.dist_future.specs.Outdated.{IsInstallationOf}
-use Rattle.dist_future.specs.Space.{IsMatched, IsMeaning, IsMetBy, IsSpace, SpaceView, StandsBefore, cluster_classes, example_at, fresh_classes, key_of, member_classes}
+use Rattle.dist_future.specs.Outdated.{HoldsCluster, IsInstallationOf}
+use Rattle.dist_future.specs.Space.{IsMatched, IsMeaning, IsMetBy, IsSpace, MeetsBound, SpaceView, StandsBefore, cluster_classes, example_at, fresh_classes, key_of, member_classes}
 use Rattle.dist_future.specs.SpaceClauses.{Excludes, IsBearer}
 use Rattle.dist_future.specs.Stands.{class_chosen, flags_from, fresh_package, future_of, installation_of, installed_package, later_package, moved_package, new_version}
 use Rattle.dist_future.specs.declared.meaning.Meaning.{Meaning}
@@ -410,3 +412,191 @@ module _ (laws : ClassLaws) (s : SpaceView) (space : IsSpace s) (holds : Meaning
       made-pairs (installed_package s holds version) (λ (p q : Package). p.name ≢ q.name) s.meanings
       (λ i j a b p q less first second gives also. installed-apart p q a b (installed-given a p gives) (installed-given b q also)
       ((space.meanings.exact a).0 (contains-at s.meanings i a first)).0 ((space.meanings.exact b).0 (contains-at s.meanings j b second)).0 (meanings-apart i j a b less first second))
+
+  -- ---- what meets items
+
+  abbrev architecture : Option (List ℕ)
+  architecture = s.repository.architecture
+
+  new-matches : (r k : ℕ) (q : Package) (atom : Atom) → IsAtomOf s.repository atom → slice_get s.repository.packages r ≡ Some q → IsMeaning s (New r k) → IsMatched s atom (New r k) → Matches s.repository.architecture atom (new_version s holds version r k q)
+  new-matches r k q atom of is is_meaning matched =
+      from-new s r k q (member-of-class r k q is is_meaning.1) atom of (new_version s holds version r k q) (kept_of r k q) (new-of r k q is_meaning.1) (class-of-new r k q is_meaning.1) matched
+
+  kept-matches : (r k j : ℕ) (q : Package) (atom : Atom) → IsAtomOf s.repository atom → slice_get s.repository.packages r ≡ Some q → IsMeaning s (Kept r k j) → holds (Kept r k j) ≡ true → IsMatched s atom (Kept r k j)
+      → Matches s.repository.architecture atom (new_version s holds version r k q)
+  kept-matches r k j q atom of is is_meaning true_is matched =
+      let here = has-at (λ (p : Package). IsSomeAnd (slice_get p.provides j) (λ entry. IsUsable s.repository.architecture entry.qualifier)) s.repository.packages r q is is_meaning.0 in
+      let entry = here-at (λ (e : Provide). IsUsable s.repository.architecture e.qualifier) q.provides j here in
+      from-kept s r k q (member-of-class r k q is is_meaning.1) atom of (new_version s holds version r k q) (kept_of r k q) j (new-of r k q is_meaning.1) (class-of-new r k q is_meaning.1)
+      (flag-is (λ i. holds (Kept r k i)) q.provides j entry.element entry.is true_is) matched
+
+  kept-within : (r k j : ℕ) → IsMeaning s (Kept r k j) → IsMeaning s (New r k)
+  kept-within r k j is_meaning = (within-from (λ (p : Package). IsSomeAnd (slice_get p.provides j) (λ entry. IsUsable s.repository.architecture entry.qualifier)) s.repository.packages r is_meaning.0, is_meaning.1)
+
+  member-for : (m : Meaning) → IsMeaning s m → holds m ≡ true → (atom : Atom) → IsAtomOf s.repository atom → IsMatched s atom m → Any (Matches s.repository.architecture atom) (installation_of s holds version)
+  member-for Now is_meaning true_is atom of matched = absurd matched.1
+  member-for (At c k) is_meaning true_is atom of matched = absurd matched.1
+  member-for (Present r) is_meaning true_is atom of matched =
+      let q = here-at (Matches s.repository.architecture atom) s.repository.packages r matched.1 in
+      any-contained (Matches s.repository.architecture atom) (installation_of s holds version) q.element (old-member r q.element q.is true_is) q.holds
+  member-for (New r k) is_meaning true_is atom of matched =
+      let q = element-at s.repository.packages r is_meaning.0 in
+      any-contained (Matches s.repository.architecture atom) (installation_of s holds version) (new_version s holds version r k q.element) (new-member r k q.element q.is is_meaning true_is)
+      (new-matches r k q.element atom of q.is is_meaning matched)
+  member-for (Kept r k j) is_meaning true_is atom of matched =
+      let within = kept-within r k j is_meaning in
+      let q = element-at s.repository.packages r within.0 in
+      any-contained (Matches s.repository.architecture atom) (installation_of s holds version) (new_version s holds version r k q.element) (new-member r k q.element q.is within (met.carried r k j is_meaning true_is))
+      (kept-matches r k j q.element atom of q.is is_meaning true_is matched)
+  member-for (Fresh x k) is_meaning true_is atom of matched =
+      let name = here-at (λ (n : List ℕ). (n ≡ atom.name) × MeetsBound atom (example_at (fresh_classes s x) k)) s.names x matched.1 in
+      let example = space.name_examples x k is_meaning in
+      any-contained (Matches s.repository.architecture atom) (installation_of s holds version) (fresh_package name.element (example_at (fresh_classes s x) k)) (fresh-member x k name.element name.is is_meaning true_is)
+      (from-fresh s x k name.element (fresh-at laws s space x k name.element name.is is_meaning) atom of (fresh_package name.element (example_at (fresh_classes s x) k)) (fresh-new name.element (example_at (fresh_classes s x) k) example.0) example.1 matched)
+
+  item-met : (r place : ℕ) (p : Package) (item : List Atom) → slice_get s.repository.packages r ≡ Some p → slice_get p.depends place ≡ Some item → holds (Present r) ≡ true → IsMet s.repository.architecture (installation_of s holds version) item
+  item-met r place p item is is_item true_is =
+      let some = met.met r place p item is is_item true_is in
+      let at = found-at (λ atom. IsMatched s atom some.meaning) item some.has in
+      let dependency : IsDependencyAtom s.repository.packages at.element =
+          any-at (λ (q : Package). Any (λ i. Contains i at.element) q.depends) s.repository.packages r p is (any-at (λ i. Contains i at.element) p.depends place item is_item (contains-at item at.place at.element at.is)) in
+      any-at (λ atom. Any (Matches s.repository.architecture atom) (installation_of s holds version)) item at.place at.element at.is
+      (member-for some.meaning some.is_meaning some.holds at.element (record { usable = at.holds.0; there = inl dependency }) at.holds)
+
+  all-met : All (λ p. All (IsMet s.repository.architecture (installation_of s holds version)) p.depends) (installation_of s holds version)
+  all-met = all-contained (λ p. All (IsMet s.repository.architecture (installation_of s holds version)) p.depends) (installation_of s holds version) (λ n there. let g = member-given n there in at n g.meaning g.given)
+    where
+      at : (n : Package) (m : Meaning) → Installed n m → All (IsMet s.repository.architecture (installation_of s holds version)) n.depends
+      at n _ (installed_old r o) =
+          all-contained (IsMet s.repository.architecture (installation_of s holds version)) n.depends (λ item there. let place = place-of n.depends item there in item-met r place.place n item o.is place.is o.holds_is)
+      at n _ (installed_new r k w) =
+          subst (λ (x : Package). All (IsMet s.repository.architecture (installation_of s holds version)) x.depends) (sym w.same) (All-nil (IsMet s.repository.architecture (installation_of s holds version)))
+      at n _ (installed_fresh x k f) =
+          subst (λ (x : Package). All (IsMet s.repository.architecture (installation_of s holds version)) x.depends) (sym f.same) (All-nil (IsMet s.repository.architecture (installation_of s holds version)))
+
+  -- ---- conflicts
+
+  conflict-atom : (r : ℕ) (p : Package) (place : ℕ) (atom : Atom) → slice_get s.repository.packages r ≡ Some p → slice_get p.conflicts place ≡ Some atom → IsUsable s.repository.architecture atom.qualifier → IsAtomOf s.repository atom
+  conflict-atom r p place atom is is_atom usable =
+      record { usable = usable; there = inr (any-at (λ (q : Package). Contains q.conflicts atom) s.repository.packages r p is (contains-at p.conflicts place atom is_atom)) }
+
+  other-name : (o : ℕ) (q : Package) (name : List ℕ) → slice_get s.repository.packages o ≡ Some q → q.name ≢ name → IsSomeAnd (option_map (λ (x : Package). x.name) (slice_get s.repository.packages o)) (λ n. n ≢ name)
+  other-name o q name is other =
+      let Differs : Option Package → Type 0 = λ x. IsSomeAnd (option_map (λ (y : Package). y.name) x) (λ n. n ≢ name) in
+      subst Differs (sym is) other
+
+  abbrev Rejects : Package → Package → Type 0
+  Rejects p n = Any (λ atom. Matches s.repository.architecture atom n) p.conflicts
+
+  old-rejects-old : (r o : ℕ) (p n : Package) → IsOld r p → IsOld o n → p.name ≢ n.name → ¬ Rejects p n
+  old-rejects-old r o p n a b names any =
+      let conflict : AreInConflict s.repository.architecture p n = record { different = λ same. names same.0; matched = inl any } in
+      elim (cases_lt r o) [
+        | inl less ↦ met.apart r p (Present o) a.is (slice_get_within s.repository.packages o n b.is) (less, at-has (AreInConflict s.repository.architecture p) s.repository.packages o n b.is conflict) a.holds_is b.holds_is
+        | inr more ↦ elim (cases_lt o r) [
+          | inl less ↦
+              met.apart o n (Present r) b.is (slice_get_within s.repository.packages r p a.is)
+              (less, at-has (AreInConflict s.repository.architecture n) s.repository.packages r p a.is (conflict-back s.repository.architecture p n conflict)) b.holds_is a.holds_is
+          | inr also ↦
+              let one : r ≡ o = omega (arith, more, also) in
+              let here : slice_get s.repository.packages o ≡ Some p = ap (λ (k : ℕ). slice_get s.repository.packages k) (sym one) ∙ a.is in
+              let there = b.is in
+              let same : p ≡ n = cc in names (ap (λ (x : Package). x.name) same)
+        ]
+      ]
+
+  old-rejects-new : (r o k : ℕ) (p n : Package) → IsOld r p → IsNew o k n → IsMeaning s (New o k) → p.name ≢ n.name → ¬ Rejects p n
+  old-rejects-new r o k p n a b is_meaning names any =
+      let at = found-at (λ atom. Matches s.repository.architecture atom n) p.conflicts any in
+      let of = conflict-atom r p at.place at.element a.is at.is at.holds.usable in
+      let other : b.q.name ≢ p.name = λ same. names (sym same ∙ sym (ap (λ (x : Package). x.name) b.same)) in
+      let matches : Matches s.repository.architecture at.element (new_version s holds version o k b.q) = subst (λ (x : Package). Matches s.repository.architecture at.element x) b.same at.holds in
+      elim (to-new s o k b.q (member-of-class o k b.q b.is is_meaning.1) at.element of (new_version s holds version o k b.q) (kept_of o k b.q) (new-of o k b.q is_meaning.1) (class-of-new o k b.q is_meaning.1) matches) [
+        | inl matched ↦
+            met.apart r p (New o k) a.is is_meaning (other-name o b.q p.name b.is other, any-at (λ atom. IsMatched s atom (New o k)) p.conflicts at.place at.element at.is matched) a.holds_is b.holds_is
+        | inr kept ↦
+            let j = kept.0 in
+            met.apart r p (Kept o k j) a.is kept.1.1 (other-name o b.q p.name b.is other, any-at (λ atom. IsMatched s atom (Kept o k j)) p.conflicts at.place at.element at.is kept.1.2) a.holds_is
+            (flag-at (λ i. holds (Kept o k i)) b.q.provides j kept.1.0)
+      ]
+
+  old-rejects-fresh : (r x k : ℕ) (p n : Package) → IsOld r p → IsFreshPackage x k n → IsMeaning s (Fresh x k) → p.name ≢ n.name → ¬ Rejects p n
+  old-rejects-fresh r x k p n a f is_meaning names any =
+      let at = found-at (λ atom. Matches s.repository.architecture atom n) p.conflicts any in
+      let of = conflict-atom r p at.place at.element a.is at.is at.holds.usable in
+      let example = space.name_examples x k is_meaning in
+      let matches : Matches s.repository.architecture at.element (fresh_package f.name (example_at (fresh_classes s x) k)) = subst (λ (y : Package). Matches s.repository.architecture at.element y) f.same at.holds in
+      let matched = to-fresh s x k f.name (fresh-at laws s space x k f.name f.is is_meaning) at.element of (fresh_package f.name (example_at (fresh_classes s x) k)) (fresh-new f.name (example_at (fresh_classes s x) k) example.0) example.1 matches in
+      let other : f.name ≢ p.name = λ same. names (sym same ∙ sym (ap (λ (y : Package). y.name) f.same)) in
+      met.apart r p (Fresh x k) a.is is_meaning (at-has (λ (n : List ℕ). n ≢ p.name) s.names x f.name f.is other, any-at (λ atom. IsMatched s atom (Fresh x k)) p.conflicts at.place at.element at.is matched) a.holds_is f.holds_is
+
+  nothing-rejected : (p n : Package) → p.conflicts ≡ [] → ¬ Rejects p n
+  nothing-rejected p n none any = let there = subst (λ (xs : List Atom). Any (λ atom. Matches s.repository.architecture atom n) xs) none any in omega (arith, there.2)
+
+  never-rejects : (p n : Package) (a b : Meaning) → Installed p a → Installed n b → IsMeaning s b → p.name ≢ n.name → ¬ Rejects p n
+  never-rejects p n _ _ (installed_old r u) (installed_old o v) is_meaning names = old-rejects-old r o p n u v names
+  never-rejects p n _ _ (installed_old r u) (installed_new o k v) is_meaning names = old-rejects-new r o k p n u v is_meaning names
+  never-rejects p n _ _ (installed_old r u) (installed_fresh x k f) is_meaning names = old-rejects-fresh r x k p n u f is_meaning names
+  never-rejects p n _ b (installed_new r k u) other is_meaning names = nothing-rejected p n (ap (λ (x : Package). x.conflicts) u.same)
+  never-rejects p n _ b (installed_fresh x k f) other is_meaning names = nothing-rejected p n (ap (λ (x : Package). x.conflicts) f.same)
+
+  no-conflict : (p n : Package) → Contains (installation_of s holds version) p → Contains (installation_of s holds version) n → p.name ≢ n.name → ¬ AreInConflict s.repository.architecture p n
+  no-conflict p n first second names conflict =
+      let a = member-given p first in
+      let b = member-given n second in
+      elim conflict.matched [
+        | inl any ↦ never-rejects p n a.meaning b.meaning a.given b.given b.is_meaning names any
+        | inr any ↦ never-rejects n p b.meaning a.meaning b.given a.given a.is_meaning (λ same. names (sym same)) any
+      ]
+
+  -- ---- required names
+
+  bears : (name : List ℕ) (m : Meaning) → IsMeaning s m → holds m ≡ true → IsBearer s name m → Any (λ (p : Package). p.name ≡ name) (installation_of s holds version)
+  bears name Now is_meaning true_is bearer = absurd bearer
+  bears name (At c k) is_meaning true_is bearer = absurd bearer
+  bears name (Kept r k j) is_meaning true_is bearer = absurd bearer
+  bears name (Fresh x k) is_meaning true_is bearer = absurd bearer
+  bears name (Present r) is_meaning true_is bearer =
+      let q = here-at (λ (p : Package). p.name ≡ name) s.repository.packages r bearer in
+      any-contained (λ (p : Package). p.name ≡ name) (installation_of s holds version) q.element (old-member r q.element q.is true_is) q.holds
+  bears name (New r k) is_meaning true_is bearer =
+      let q = here-at (λ (p : Package). p.name ≡ name) s.repository.packages r bearer in
+      any-contained (λ (p : Package). p.name ≡ name) (installation_of s holds version) (new_version s holds version r k q.element) (new-member r k q.element q.is is_meaning true_is) q.holds
+
+  pub healthy-is : IsInstallationOf s.essential s.repository (future_of s holds version) (installation_of s holds version)
+  healthy-is = record {
+    chosen = all-contained (Contains (future_of s holds version)) (installation_of s holds version) member-in-future;
+    one_of_a_name = members-flat;
+    met = all-met;
+    no_conflict = pairs-more (λ (p q : Package). p.name ≢ q.name) (λ p q. ¬ AreInConflict s.repository.architecture p q) (installation_of s holds version) no-conflict members-flat;
+    has_required = all-contained (λ name. Any (λ (p : Package). p.name ≡ name) (installation_of s holds version)) (required_names s.essential s.repository.packages)
+        (λ name there. let some = met.required name there in bears name some.meaning some.is_meaning some.holds some.has);
+  }
+
+  -- ---- a cluster at a version
+
+  pub holds-cluster : (c k m : ℕ) (q : Package) → slice_index s.cluster_of m ≡ c → slice_get s.repository.packages m ≡ Some q → k < length (cluster_classes s c) → holds (At c k) ≡ true → HoldsCluster s.repository (future_of s holds version) q (version c k)
+  holds-cluster c k m q cluster_is is short at p in_cluster =
+      let place = place-of s.repository.packages p in_cluster.there in
+      let same : slice_index s.cluster_of place.place ≡ c = same-cluster m place.place q p is in_cluster place.is ∙ cluster_is in
+      let chosen : class_chosen s holds (slice_index s.cluster_of place.place) ≡ Some k = ap (class_chosen s holds) same ∙ chosen-is c k short at in
+      let there : Contains (future_of s holds version) (new_version s holds version place.place k p) =
+          subst (λ (x : Package). Contains (future_of s holds version) x) (ap (moved_package s holds version place.place p) chosen) (in-future place.place p place.is) in
+      any-contained (λ (n : Package). (n.name ≡ p.name) × (version_cmp n.version (version c k) ≡ Equal)) (future_of s holds version) (new_version s holds version place.place k p) there
+      (refl, subst (λ (x : ℕ). version_cmp (version x k) (version c k) ≡ Equal) (sym same) (equal-itself (version c k)))
+
+  -- ---- the archive of today
+
+  pub today-is : holds Now ≡ true → IsInstallation s.essential s.repository (installation_of s holds version)
+  today-is now = record {
+    chosen = all-contained (Contains s.repository.packages) (installation_of s holds version) (λ n there. let g = member-given n there in at n g.meaning g.is_meaning g.given);
+    one_of_a_name = healthy-is.one_of_a_name;
+    met = healthy-is.met;
+    no_conflict = healthy-is.no_conflict;
+    has_required = healthy-is.has_required;
+  }
+    where
+      at : (n : Package) (m : Meaning) → IsMeaning s m → Installed n m → Contains s.repository.packages n
+      at n _ is_meaning (installed_old r o) = contains-at s.repository.packages r n o.is
+      at n _ is_meaning (installed_new r k w) = absurd (met.stays (slice_index s.cluster_of r) k is_meaning.1 now (met.moved r k is_meaning w.holds_is))
+      at n _ is_meaning (installed_fresh x k f) = absurd (met.absent x k is_meaning now f.holds_is)
