@@ -40,7 +40,7 @@ unfolding answer
 answer-true (inl p) holds = refl
 answer-true (inr never) holds = absurd (never holds)
 
-both-decided : {P Q : Type 0} → IsDecided P → IsDecided Q → IsDecided (P × Q)
+pub both-decided : {P Q : Type 0} → IsDecided P → IsDecided Q → IsDecided (P × Q)
 both-decided (inl p) (inl q) = inl (p, q)
 both-decided (inl p) (inr never) = inr (λ h. never h.1)
 both-decided (inr never) d = inr (λ h. never h.0)
@@ -53,7 +53,7 @@ some-decided : {X : Type 0} (P : X → Type 0) → ((x : X) → IsDecided (P x))
 some-decided P each None = inr (λ h. h)
 some-decided P each (Some x) = each x
 
-number-decided : (n k : ℕ) → IsDecided (n ≡ k)
+pub number-decided : (n k : ℕ) → IsDecided (n ≡ k)
 number-decided n k = elim (cases_lt n k) [
   | inl less ↦ inr (λ same. omega (arith, less, same))
   | inr more ↦ elim (cases_lt k n) [

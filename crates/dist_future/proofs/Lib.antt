@@ -9,3 +9,4 @@ pub mod Variables
 pub mod FutureValues
 pub mod Parts
 pub mod ModelToFuture
+pub mod SpaceMeaning
