@@ -1,0 +1,18 @@
+//! What the clauses of a space mean, apart from the work. These functions do nothing.
+ghost use Rattle.std.specs.Prelude.{List};
+ghost use Rattle.dist_clause.specs.Formula.{Literal};
+ghost use Rattle.dist_future.specs.Space.{IsSpace, SpaceView};
+ghost use Rattle.dist_future.specs.SpaceClauses.{AreSpaceClauses};
+ghost use Rattle.dist_future.specs.SpaceLaws.{StandForFutures};
+
+use dist_classes::{new_names_match_alike, new_versions_match_alike, versions_are_in_one_class};
+
+/// The models of the clauses of a space stand for the futures of its repository, for the futures in which a cluster is at a
+/// version, whichever version of a class that is, and for the archive of today.
+pub fn models_stand_for_futures()
+    ensures { (s : SpaceView) (clauses : List (List Literal)) → IsSpace s → AreSpaceClauses s clauses → StandForFutures s clauses }
+{
+    versions_are_in_one_class();
+    new_versions_match_alike();
+    new_names_match_alike();
+}
