@@ -18,7 +18,7 @@ use Rattle.dist_classes.specs.ClassList.{AreInOneClass, IsInOneClass, IsOfClassA
 use Rattle.dist_classes.specs.Cuts.{AreCuts, IsClusterCut, IsNameCut, Rises, RisesFrom}
 use Rattle.dist_classes.specs.NewVersion.{AreCarried, IsAt, IsCarried, IsNewVersionOf, IsOfNewName}
 use Rattle.dist_classes.specs.declared.class_value.Class.{Class}
-use Rattle.dist_future.specs.Space.{IsExample, IsMatched, IsMatchedBy, IsMeaning, IsSpace, MeetsBound, SpaceView, cluster_classes, example_at, fresh_classes, member_classes, moved_entry, moved_version}
+use Rattle.dist_future.specs.Space.{IsExample, IsMatched, IsMatchedBy, IsMeaning, IsFrame, MeetsBound, SpaceView, cluster_classes, example_at, fresh_classes, member_classes, moved_entry, moved_version}
 use Rattle.dist_future.specs.Stands.{fresh_package}
 use Rattle.dist_future.specs.declared.meaning.Meaning.TheVariants.{New, Kept, Fresh}
 use Rattle.dist_future.proofs.Lists.{ElementAt, FoundAt, any-at, any-cases, any-head, any-later, at-has, contains-at, element-at, found-at, here-at, has-at}
@@ -172,16 +172,16 @@ pub record HasCluster (s : SpaceView) (r : ℕ) : Type 0 where
   pub within : slice_index s.cluster_of r < length s.clusters.members
   pub there : Contains (get_or s.clusters.members (slice_index s.cluster_of r) []) r
 
-pub member-at : ClassLaws → (s : SpaceView) → IsSpace s → (r k : ℕ) (p : Package) → HasCluster s r → slice_get s.repository.packages r ≡ Some p → k < length (member_classes s r) → IsMemberAt s r k p
-member-at laws s space r k p has is short =
+pub member-at : ClassLaws → (s : SpaceView) → IsFrame s → (r k : ℕ) (p : Package) → HasCluster s r → slice_get s.repository.packages r ≡ Some p → k < length (member_classes s r) → IsMemberAt s r k p
+member-at laws s frame r k p has is short =
     let c = slice_index s.cluster_of r in
     let members = get_or s.clusters.members c [] in
     let top = get_or s.clusters.tops c [] in
-    let are = space.classes c has.within in
+    let are = frame.classes c has.within in
     record {
       is = is;
       short = short;
-      example = space.examples c k short;
+      example = frame.examples c k short;
       alike = λ kept first second one two at also atom of.
           let At : Package → List Class → Type 0 = λ q classes. IsOfClassAt classes k q.version in
           laws.members s.repository members top are.cuts are.are_cuts r p has.there is kept first second one two
@@ -328,15 +328,15 @@ pub record IsFreshAt (s : SpaceView) (x k : ℕ) (name : List ℕ) : Type 0 wher
       IsOfClassAt (fresh_classes s x) k first.version → IsOfClassAt (fresh_classes s x) k second.version →
       (atom : Atom) → IsAtomOf s.repository atom → Matches s.repository.architecture atom first ↔ Matches s.repository.architecture atom second
 
-pub fresh-at : ClassLaws → (s : SpaceView) → IsSpace s → (x k : ℕ) (name : List ℕ) → slice_get s.names x ≡ Some name → k < length (fresh_classes s x) → IsFreshAt s x k name
-fresh-at laws s space x k name is short =
-    let are = space.name_classes x (slice_get_within s.names x name is) in
+pub fresh-at : ClassLaws → (s : SpaceView) → IsFrame s → (x k : ℕ) (name : List ℕ) → slice_get s.names x ≡ Some name → k < length (fresh_classes s x) → IsFreshAt s x k name
+fresh-at laws s frame x k name is short =
+    let are = frame.name_classes x (slice_get_within s.names x name is) in
     let same : get_or s.names x [] ≡ name = get_or_from_slice_get s.names x name [] is in
     let Cuts : List ℕ → Type 0 = λ n. AreCuts (IsNameCut s.repository n) are.cuts in
     record {
       is = is;
       short = short;
-      example = space.name_examples x k short;
+      example = frame.name_examples x k short;
       alike = λ first second one two at also atom of.
           let At : Package → List Class → Type 0 = λ q classes. IsOfClassAt classes k q.version in
           laws.names s.repository name are.cuts (subst Cuts same are.are_cuts) first second one two

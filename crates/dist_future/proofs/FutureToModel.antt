@@ -91,7 +91,7 @@ module _ (laws : ClassLaws) (s : SpaceView) (space : IsSpace s) (future members 
   one-member n m first second same = one-of-name members n m seen.healthy.one_of_a_name first second same
 
   cluster-of : (r : ℕ) (q : Package) → slice_get s.repository.packages r ≡ Some q → slice_index s.cluster_of r < length s.clusters.members
-  cluster-of r q is = (has-cluster laws s space r (slice_get_within s.repository.packages r q is)).within
+  cluster-of r q is = (has-cluster s space.frame r (slice_get_within s.repository.packages r q is)).within
 
   stays-itself : (r : ℕ) (q n : Package) → slice_get s.repository.packages r ≡ Some q → fate (slice_index s.cluster_of r) ≡ None → Contains members n → n.name ≡ q.name → n ≡ q
   stays-itself r q n is stays there name =
@@ -197,7 +197,7 @@ module _ (laws : ClassLaws) (s : SpaceView) (space : IsSpace s) (future members 
       let class = (moves-to r k q n is moves there name).1 in
       let short = short-of r k n.version class in
       let within = slice_get_within s.repository.packages r q is in
-      let member = member-at laws s space r k q (has-cluster laws s space r within) is short in
+      let member = member-at laws s space.frame r k q (has-cluster s space.frame r within) is short in
       let named = name-of-member r q n is there name in
       elim (to-new s r k q member atom of n (kept_of r) ((flags-of r).1 k q n is moves there name) class matches) [
         | inl by_name ↦ record { meaning = New r k; is_meaning = (within, short); holds = (moves, named); has = by_name }
@@ -214,14 +214,14 @@ module _ (laws : ClassLaws) (s : SpaceView) (space : IsSpace s) (future members 
         | inr any ↦ absurd (let entry = subst (λ (xs : List _). Any (λ e. MatchesByEntry s.repository.architecture atom e) xs) new.0.provides any in omega (arith, entry.2))
       ] in
       let is_new : IsNewName s.repository n.name = record { atom = atom; usable = usable; there = there; named = named; unprovided = unprovided untaken new.1 } in
-      let at = place-of s.names n.name ((space.names.exact n.name).1 is_new) in
-      let class = fresh-class laws s space at.place n.version (slice_get_within s.names at.place n.name at.is) in
+      let at = place-of s.names n.name ((space.frame.names.exact n.name).1 is_new) in
+      let class = fresh-class laws s space.frame at.place n.version (slice_get_within s.names at.place n.name at.is) in
       let short = within-from (λ c. IsOfClass c n.version) (fresh_classes s at.place) class.number class.holds in
       record {
         meaning = Fresh at.place class.number;
         is_meaning = short;
         holds = at-has (λ (name : List ℕ). Any (IsFreshMember at.place class.number name) members) s.names at.place n.name at.is (any-contained (IsFreshMember at.place class.number n.name) members n inside (refl, class.holds));
-        has = to-fresh s at.place class.number n.name (fresh-at laws s space at.place class.number n.name at.is short) atom (record { usable = usable; there = inl there }) n new.0 class.holds matches;
+        has = to-fresh s at.place class.number n.name (fresh-at laws s space.frame at.place class.number n.name at.is short) atom (record { usable = usable; there = inl there }) n new.0 class.holds matches;
       }
     where
       unprovided : ¬ IsTaken s.repository n.name → ¬ IsProvided s.repository n.name → ¬ Any (λ p. IsProvider s.repository.architecture n.name p) s.repository.packages
@@ -246,7 +246,7 @@ module _ (laws : ClassLaws) (s : SpaceView) (space : IsSpace s) (future members 
 
   untaken : (x : ℕ) (name : List ℕ) → slice_get s.names x ≡ Some name → ¬ IsTaken s.repository name
   untaken x name is taken =
-      let new = (space.names.exact name).0 (contains-at s.names x name is) in
+      let new = (space.frame.names.exact name).0 (contains-at s.names x name is) in
       new.unprovided (taken.0, taken.1, taken.2, taken.3, inl taken.4)
 
   record FreshMember (x k : ℕ) : Type 0 where
@@ -279,7 +279,7 @@ module _ (laws : ClassLaws) (s : SpaceView) (space : IsSpace s) (future members 
       record { usable = usable; there = inr (any-at (λ (q : Package). Contains q.conflicts atom) s.repository.packages r p is (contains-at p.conflicts place atom is_atom)) }
 
   member-of-class : (r k : ℕ) (q : Package) → slice_get s.repository.packages r ≡ Some q → k < length (member_classes s r) → IsMemberAt s r k q
-  member-of-class r k q is short = member-at laws s space r k q (has-cluster laws s space r (slice_get_within s.repository.packages r q is)) is short
+  member-of-class r k q is short = member-at laws s space.frame r k q (has-cluster s space.frame r (slice_get_within s.repository.packages r q is)) is short
 
   -- another name than that of a member
   other-name : (o : ℕ) (q : Package) (name : List ℕ) → slice_get s.repository.packages o ≡ Some q → IsSomeAnd (option_map (λ (x : Package). x.name) (slice_get s.repository.packages o)) (λ n. n ≢ name) → q.name ≢ name
@@ -302,7 +302,7 @@ module _ (laws : ClassLaws) (s : SpaceView) (space : IsSpace s) (future members 
   apart-from r p (Present o) is is_meaning excludes present holds =
       let q = here-at (AreInConflict s.repository.architecture p) s.repository.packages o excludes.1 in
       never-conflict s.repository.architecture members p q.element seen.healthy.no_conflict (present-at r p is present) (present-at o q.element q.is holds)
-      (λ same. let one = names-apart s.repository.packages r o p q.element space.flat is q.is same in omega (arith, excludes.0, one)) q.holds
+      (λ same. let one = names-apart s.repository.packages r o p q.element space.frame.flat is q.is same in omega (arith, excludes.0, one)) q.holds
   apart-from r p (New o k) is is_meaning excludes present holds =
       let q = element-at s.repository.packages o is_meaning.0 in
       let at = found-at (λ atom. IsMatched s atom (New o k)) p.conflicts excludes.1 in
@@ -321,7 +321,7 @@ module _ (laws : ClassLaws) (s : SpaceView) (space : IsSpace s) (future members 
       let of = conflict-atom r p at.place at.element is at.is at.holds.0 in
       let names : m.name ≢ p.name = has-at (λ (n : List ℕ). n ≢ p.name) s.names x m.name m.is excludes.0 in
       rejects p m.n at.place at.element (present-at r p is present) m.there (λ same. names (sym (same ∙ m.name_is))) at.is
-      (from-fresh s x k m.name (fresh-at laws s space x k m.name m.is is_meaning) at.element of m.n (fresh-new x m.name m.n m.is m.there m.name_is) m.class at.holds)
+      (from-fresh s x k m.name (fresh-at laws s space.frame x k m.name m.is is_meaning) at.element of m.n (fresh-new x m.name m.n m.is m.there m.name_is) m.class at.holds)
 
   -- ---- the demands
 
@@ -331,7 +331,7 @@ module _ (laws : ClassLaws) (s : SpaceView) (space : IsSpace s) (future members 
       let b = fresh-member x l second in
       let name : a.name ≡ b.name = let p = a.is in let q = b.is in cc in
       let same : a.n ≡ b.n = one-member a.n b.n a.there b.there (a.name_is ∙ name ∙ sym b.name_is) in
-      let one = fresh-class laws s space x b.n.version (slice_get_within s.names x b.name b.is) in
+      let one = fresh-class laws s space.frame x b.n.version (slice_get_within s.names x b.name b.is) in
       let k_is = one.alone k (subst (λ (n : Package). IsOfClassAt (fresh_classes s x) k n.version) same a.class) in
       let l_is = one.alone l b.class in
       omega (arith, less, k_is, l_is)
@@ -339,7 +339,7 @@ module _ (laws : ClassLaws) (s : SpaceView) (space : IsSpace s) (future members 
   gone : (r k : ℕ) → IsMeaning s (New r k) → Holds (Present r) → Holds (At (slice_index s.cluster_of r) k) → ⊥
   gone r k is_meaning present moves =
       let p = element-at s.repository.packages r is_meaning.0 in
-      never-at laws s space r k p.element p.is (moves-to r k p.element p.element p.is moves (present-at r p.element p.is present) refl).1
+      never-at laws s space.frame r k p.element p.is (moves-to r k p.element p.element p.is moves (present-at r p.element p.is present) refl).1
 
   met-item : (r place : ℕ) (p : Package) (item : List Atom) → slice_get s.repository.packages r ≡ Some p → slice_get p.depends place ≡ Some item → Holds (Present r) → IsMetIn s Holds (IsMetBy s item)
   met-item r place p item is is_item present =

@@ -105,16 +105,16 @@ module _ (laws : ClassLaws) (s : SpaceView) (space : IsSpace s) (holds : Meaning
   class-of-new r k p short = (versions (slice_index s.cluster_of r) k short).1
 
   member-of-class : (r k : ℕ) (q : Package) → slice_get s.repository.packages r ≡ Some q → k < length (member_classes s r) → IsMemberAt s r k q
-  member-of-class r k q is short = member-at laws s space r k q (has-cluster laws s space r (slice_get_within s.repository.packages r q is)) is short
+  member-of-class r k q is short = member-at laws s space.frame r k q (has-cluster s space.frame r (slice_get_within s.repository.packages r q is)) is short
 
   untaken : (x : ℕ) (name : List ℕ) → slice_get s.names x ≡ Some name → ¬ IsTaken s.repository name
   untaken x name is taken =
-      let new = (space.names.exact name).0 (contains-at s.names x name is) in
+      let new = (space.frame.names.exact name).0 (contains-at s.names x name is) in
       new.unprovided (taken.0, taken.1, taken.2, taken.3, inl taken.4)
 
   unprovided : (x : ℕ) (name : List ℕ) → slice_get s.names x ≡ Some name → ¬ IsProvided s.repository name
   unprovided x name is provided =
-      let new = (space.names.exact name).0 (contains-at s.names x name is) in
+      let new = (space.frame.names.exact name).0 (contains-at s.names x name is) in
       new.unprovided (provided.0, provided.1, provided.2, provided.3, inr provided.4)
 
   -- ---- what is in the future
@@ -204,7 +204,7 @@ module _ (laws : ClassLaws) (s : SpaceView) (space : IsSpace s) (holds : Meaning
   one-fresh : (x k y l : ℕ) (p n : Package) → IsMeaning s (Fresh x k) → IsMeaning s (Fresh y l) → Fresh x k ≢ Fresh y l → IsFreshPackage x k p → IsFreshPackage y l n → p.name ≢ n.name
   one-fresh x k y l p n first second apart a b same =
       let name : a.name ≡ b.name = sym (ap (λ (z : Package). z.name) a.same) ∙ same ∙ ap (λ (z : Package). z.name) b.same in
-      let one : x ≡ y = one-place s.names x y a.name b.name space.names.rising a.is b.is name in
+      let one : x ≡ y = one-place s.names x y a.name b.name space.frame.names.rising a.is b.is name in
       let also : holds (Fresh x l) ≡ true = subst (λ (z : ℕ). holds (Fresh z l) ≡ true) (sym one) b.holds_is in
       let short : l < length (fresh_classes s x) = subst (λ (z : ℕ). IsMeaning s (Fresh z l)) (sym one) second in
       elim (cases_lt k l) [
@@ -217,7 +217,7 @@ module _ (laws : ClassLaws) (s : SpaceView) (space : IsSpace s) (holds : Meaning
 
   given-apart : (p n : Package) (a b : Meaning) → Given p a → Given n b → IsMeaning s a → IsMeaning s b → a ≢ b → p.name ≢ n.name
   given-apart p n _ _ (given_later r l) (given_later o m) first second apart same =
-      apart (ap (λ (k : ℕ). Present k) (names-apart s.repository.packages r o l.q m.q space.flat l.is m.is (sym (later-name r p l) ∙ same ∙ later-name o n m)))
+      apart (ap (λ (k : ℕ). Present k) (names-apart s.repository.packages r o l.q m.q space.frame.flat l.is m.is (sym (later-name r p l) ∙ same ∙ later-name o n m)))
   given-apart p n _ _ (given_later r l) (given_fresh x k f) first second apart same = fresh-apart r x k p n l.q l.is (later-name r p l) f same
   given-apart p n _ _ (given_fresh x k f) (given_later r l) first second apart same = fresh-apart r x k n p l.q l.is (later-name r n l) f (sym same)
   given-apart p n _ _ (given_fresh x k f) (given_fresh y l g) first second apart same = one-fresh x k y l p n first second apart f g same
@@ -245,13 +245,13 @@ module _ (laws : ClassLaws) (s : SpaceView) (space : IsSpace s) (holds : Meaning
     where
       at : (m : Meaning) → Given n m → n ≡ moved_package s holds version j q (class_chosen s holds (slice_index s.cluster_of j))
       at _ (given_later r l) =
-          let one : r ≡ j = names-apart s.repository.packages r j l.q q space.flat l.is is (sym (later-name r n l) ∙ name) in
+          let one : r ≡ j = names-apart s.repository.packages r j l.q q space.frame.flat l.is is (sym (later-name r n l) ∙ name) in
           let same : l.q ≡ q = let here : slice_get s.repository.packages j ≡ Some l.q = ap (λ (k : ℕ). slice_get s.repository.packages k) (sym one) ∙ l.is in cc in
           l.same ∙ ap (λ (k : ℕ). moved_package s holds version k l.q (class_chosen s holds (slice_index s.cluster_of k))) one ∙ ap (λ (p : Package). moved_package s holds version j p (class_chosen s holds (slice_index s.cluster_of j))) same
       at _ (given_fresh x k f) = absurd (fresh-apart j x k q n q is refl f (sym name))
 
   same-cluster : (i j : ℕ) (c q : Package) → slice_get s.repository.packages i ≡ Some c → IsInClusterOf s.repository c q → slice_get s.repository.packages j ≡ Some q → slice_index s.cluster_of j ≡ slice_index s.cluster_of i
-  same-cluster i j c q is_c in_cluster is_q = clustered-same laws s space i j c q is_c is_q in_cluster.clustered
+  same-cluster i j c q is_c in_cluster is_q = clustered-same s space.frame i j c q is_c is_q in_cluster.clustered
 
   cluster-stays : (i : ℕ) (c : Package) → slice_get s.repository.packages i ≡ Some c → class_chosen s holds (slice_index s.cluster_of i) ≡ None → Stays s.repository (future_of s holds version) c
   cluster-stays i c is none q n in_cluster there name =
@@ -263,7 +263,7 @@ module _ (laws : ClassLaws) (s : SpaceView) (space : IsSpace s) (holds : Meaning
   cluster-moves i k c is some =
       let own = slice_index s.cluster_of i in
       let short = (chosen-short own k some).0 in
-      let has = has-cluster laws s space i (slice_get_within s.repository.packages i c is) in
+      let has = has-cluster s space.frame i (slice_get_within s.repository.packages i c is) in
       let class = versions own k short in
       record {
         version = version own k;
@@ -272,8 +272,8 @@ module _ (laws : ClassLaws) (s : SpaceView) (space : IsSpace s) (holds : Meaning
           above = λ q in_cluster.
               let at = place-of s.repository.packages q in_cluster.there in
               let same = same-cluster i at.place c q is in_cluster at.is in
-              above-top laws s space at.place q (version own k) at.is
-              (subst (λ (x : ℕ). IsBelow (get_or s.clusters.tops x []) (version own k)) (sym same) (class-above laws s space own k (version own k) has.within class.1));
+              above-top s space.frame at.place q (version own k) at.is
+              (subst (λ (x : ℕ). IsBelow (get_or s.clusters.tops x []) (version own k)) (sym same) (class-above laws s space.frame own k (version own k) has.within class.1));
         };
         moved = λ q n in_cluster there name.
             let at = place-of s.repository.packages q in_cluster.there in
@@ -301,7 +301,7 @@ module _ (laws : ClassLaws) (s : SpaceView) (space : IsSpace s) (holds : Meaning
       fresh-new-of n not_taken _ is_meaning (given_later r l) = absurd (not_taken (any-at (λ (y : Package). y.name ≡ n.name) s.repository.packages r l.q l.is (sym (later-name r n l))))
       fresh-new-of n not_taken _ is_meaning (given_fresh x k f) =
           let name : fresh_package f.name (example_at (fresh_classes s x) k) ≡ n = sym f.same in
-          subst (λ (y : Package). IsOfNewName y.name y × (¬ IsProvided s.repository y.name)) name (fresh-new f.name (example_at (fresh_classes s x) k) (space.name_examples x k is_meaning).0, unprovided x f.name f.is)
+          subst (λ (y : Package). IsOfNewName y.name y × (¬ IsProvided s.repository y.name)) name (fresh-new f.name (example_at (fresh_classes s x) k) (space.frame.name_examples x k is_meaning).0, unprovided x f.name f.is)
 
   -- ---- what is installed
 
@@ -382,12 +382,12 @@ module _ (laws : ClassLaws) (s : SpaceView) (space : IsSpace s) (holds : Meaning
 
   old-new-apart : (r o k : ℕ) (p n : Package) → IsMeaning s (New o k) → IsOld r p → IsNew o k n → p.name ≢ n.name
   old-new-apart r o k p n is_meaning a b same =
-      let one : r ≡ o = names-apart s.repository.packages r o p b.q space.flat a.is b.is (same ∙ ap (λ (x : Package). x.name) b.same) in
+      let one : r ≡ o = names-apart s.repository.packages r o p b.q space.frame.flat a.is b.is (same ∙ ap (λ (x : Package). x.name) b.same) in
       met.gone o k is_meaning (subst (λ (x : ℕ). holds (Present x) ≡ true) one a.holds_is) (met.moved o k is_meaning b.holds_is)
 
   new-new-apart : (r k o l : ℕ) (p n : Package) → IsMeaning s (New r k) → IsMeaning s (New o l) → New r k ≢ New o l → IsNew r k p → IsNew o l n → p.name ≢ n.name
   new-new-apart r k o l p n first second apart a b same =
-      let one : r ≡ o = names-apart s.repository.packages r o a.q b.q space.flat a.is b.is (sym (ap (λ (x : Package). x.name) a.same) ∙ same ∙ ap (λ (x : Package). x.name) b.same) in
+      let one : r ≡ o = names-apart s.repository.packages r o a.q b.q space.frame.flat a.is b.is (sym (ap (λ (x : Package). x.name) a.same) ∙ same ∙ ap (λ (x : Package). x.name) b.same) in
       let k_is = new-moves r k first a.holds_is in
       let l_is : class_chosen s holds (slice_index s.cluster_of r) ≡ Some l = ap (λ (x : ℕ). class_chosen s holds (slice_index s.cluster_of x)) one ∙ new-moves o l second b.holds_is in
       let equal : k ≡ l = same_Some k l (sym k_is ∙ l_is) in
@@ -397,7 +397,7 @@ module _ (laws : ClassLaws) (s : SpaceView) (space : IsSpace s) (holds : Meaning
   new-fresh-apart r k x l p n a f = fresh-apart r x l p n a.q a.is (ap (λ (y : Package). y.name) a.same) f
 
   installed-apart : (p n : Package) (a b : Meaning) → Installed p a → Installed n b → IsMeaning s a → IsMeaning s b → a ≢ b → p.name ≢ n.name
-  installed-apart p n _ _ (installed_old r u) (installed_old o v) first second apart same = apart (ap (λ (k : ℕ). Present k) (names-apart s.repository.packages r o p n space.flat u.is v.is same))
+  installed-apart p n _ _ (installed_old r u) (installed_old o v) first second apart same = apart (ap (λ (k : ℕ). Present k) (names-apart s.repository.packages r o p n space.frame.flat u.is v.is same))
   installed-apart p n _ _ (installed_old r u) (installed_new o k v) first second apart same = old-new-apart r o k p n second u v same
   installed-apart p n _ _ (installed_old r u) (installed_fresh x k f) first second apart same = fresh-apart r x k p n p u.is refl f same
   installed-apart p n _ _ (installed_new r k u) (installed_old o v) first second apart same = old-new-apart o r k n p first v u (sym same)
@@ -450,9 +450,9 @@ module _ (laws : ClassLaws) (s : SpaceView) (space : IsSpace s) (holds : Meaning
       (kept-matches r k j q.element atom of q.is is_meaning true_is matched)
   member-for (Fresh x k) is_meaning true_is atom of matched =
       let name = here-at (λ (n : List ℕ). (n ≡ atom.name) × MeetsBound atom (example_at (fresh_classes s x) k)) s.names x matched.1 in
-      let example = space.name_examples x k is_meaning in
+      let example = space.frame.name_examples x k is_meaning in
       any-contained (Matches s.repository.architecture atom) (installation_of s holds version) (fresh_package name.element (example_at (fresh_classes s x) k)) (fresh-member x k name.element name.is is_meaning true_is)
-      (from-fresh s x k name.element (fresh-at laws s space x k name.element name.is is_meaning) atom of (fresh_package name.element (example_at (fresh_classes s x) k)) (fresh-new name.element (example_at (fresh_classes s x) k) example.0) example.1 matched)
+      (from-fresh s x k name.element (fresh-at laws s space.frame x k name.element name.is is_meaning) atom of (fresh_package name.element (example_at (fresh_classes s x) k)) (fresh-new name.element (example_at (fresh_classes s x) k) example.0) example.1 matched)
 
   item-met : (r place : ℕ) (p : Package) (item : List Atom) → slice_get s.repository.packages r ≡ Some p → slice_get p.depends place ≡ Some item → holds (Present r) ≡ true → IsMet s.repository.architecture (installation_of s holds version) item
   item-met r place p item is is_item true_is =
@@ -524,9 +524,9 @@ module _ (laws : ClassLaws) (s : SpaceView) (space : IsSpace s) (holds : Meaning
   old-rejects-fresh r x k p n a f is_meaning names any =
       let at = found-at (λ atom. Matches s.repository.architecture atom n) p.conflicts any in
       let of = conflict-atom r p at.place at.element a.is at.is at.holds.usable in
-      let example = space.name_examples x k is_meaning in
+      let example = space.frame.name_examples x k is_meaning in
       let matches : Matches s.repository.architecture at.element (fresh_package f.name (example_at (fresh_classes s x) k)) = subst (λ (y : Package). Matches s.repository.architecture at.element y) f.same at.holds in
-      let matched = to-fresh s x k f.name (fresh-at laws s space x k f.name f.is is_meaning) at.element of (fresh_package f.name (example_at (fresh_classes s x) k)) (fresh-new f.name (example_at (fresh_classes s x) k) example.0) example.1 matches in
+      let matched = to-fresh s x k f.name (fresh-at laws s space.frame x k f.name f.is is_meaning) at.element of (fresh_package f.name (example_at (fresh_classes s x) k)) (fresh-new f.name (example_at (fresh_classes s x) k) example.0) example.1 matches in
       let other : f.name ≢ p.name = λ same. names (sym same ∙ sym (ap (λ (y : Package). y.name) f.same)) in
       met.apart r p (Fresh x k) a.is is_meaning (at-has (λ (n : List ℕ). n ≢ p.name) s.names x f.name f.is other, any-at (λ atom. IsMatched s atom (Fresh x k)) p.conflicts at.place at.element at.is matched) a.holds_is f.holds_is
 

@@ -19,7 +19,7 @@ use Rattle.dist_classes.specs.declared.class_value.Class.{Class}
 use Rattle.dist_classes.specs.declared.class_value.Class.TheVariants.{Point, Between, Above, Below}
 use Rattle.dist_classes.specs.declared.class_value.Class.TheVariants as class
 use Rattle.dist_future.specs.Future.{IsAboveCluster, IsInClusterOf}
-use Rattle.dist_future.specs.Space.{IsSpace, SpaceView, cluster_classes, fresh_classes, member_classes}
+use Rattle.dist_future.specs.Space.{IsFrame, SpaceView, cluster_classes, fresh_classes, member_classes}
 use Rattle.dist_future.proofs.ClassMatch.{ClassLaws, HasCluster}
 use Rattle.dist_future.proofs.Lists.{at-has, contains-at, element-at, found-at, has-at, here-at, place-of, within-from}
 use Rattle.dist_future.proofs.VersionOrder.{alike-left, alike-right, equal-back, not-above_below, not-both}
@@ -60,7 +60,7 @@ one-of-name packages p q apart first second same =
     let at : slice_get packages b.place ≡ Some p = ap (λ (k : ℕ). slice_get packages k) (sym one) ∙ a.is in
     let also = b.is in cc
 
-module _ (laws : ClassLaws) (s : SpaceView) (space : IsSpace s) where
+module _ (s : SpaceView) (frame : IsFrame s) where
   abbrev packages : List Package
   packages = s.repository.packages
 
@@ -73,11 +73,11 @@ module _ (laws : ClassLaws) (s : SpaceView) (space : IsSpace s) where
   -- ---- the cluster of a package
 
   pub placed-in : (c m : ℕ) → IsIn s.clusters.members c m → slice_index s.cluster_of m ≡ c
-  placed-in c m is_in = get_or_from_slice_get s.cluster_of m c 0 ((space.placed c m).0 is_in)
+  placed-in c m is_in = get_or_from_slice_get s.cluster_of m c 0 ((frame.placed c m).0 is_in)
 
   pub has-cluster : (m : ℕ) → m < length s.repository.packages → HasCluster s m
   has-cluster m short =
-      let every = space.clusters.partition.every m (omega (arith, length-map s.repository.packages member_of)) in
+      let every = frame.clusters.partition.every m (omega (arith, length-map s.repository.packages member_of)) in
       let at = found-at (λ (cluster : List ℕ). Contains cluster m) s.clusters.members every in
       let is_in : IsIn s.clusters.members at.place m = at-has (λ (cluster : List ℕ). Contains cluster m) s.clusters.members at.place at.element at.is at.holds in
       let same : slice_index s.cluster_of m ≡ at.place = placed-in at.place m is_in in
@@ -95,7 +95,7 @@ module _ (laws : ClassLaws) (s : SpaceView) (space : IsSpace s) where
   -- a cluster has exactly what is clustered with one of it
   whole-at : (c m : ℕ) → c < length s.clusters.members → Contains (get_or s.clusters.members c []) m → IsClusterOf (map member_of s.repository.packages) (get_or s.clusters.members c []) m
   whole-at c m short there =
-      All-contains (IsClusterOf (map member_of s.repository.packages) (get_or s.clusters.members c [])) (get_or s.clusters.members c []) m (space.clusters.partition.whole c [] short) there
+      All-contains (IsClusterOf (map member_of s.repository.packages) (get_or s.clusters.members c [])) (get_or s.clusters.members c []) m (frame.clusters.partition.whole c [] short) there
 
   pub clustered-same : (m n : ℕ) (p q : Package) → slice_get s.repository.packages m ≡ Some p → slice_get s.repository.packages n ≡ Some q → AreClustered (member_of p) (member_of q)
       → slice_index s.cluster_of n ≡ slice_index s.cluster_of m
@@ -140,7 +140,7 @@ module _ (laws : ClassLaws) (s : SpaceView) (space : IsSpace s) where
   top_of c = get_or s.clusters.tops c []
 
   top-is : (c : ℕ) → c < length s.clusters.members → IsTop (map member_of s.repository.packages) (get_or s.clusters.members c []) (get_or s.clusters.tops c [])
-  top-is c short = space.clusters.tops.each c short
+  top-is c short = frame.clusters.tops.each c short
 
   pub above-top : (m : ℕ) (p : Package) (v : List ℕ) → slice_get s.repository.packages m ≡ Some p → IsBelow (get_or s.clusters.tops (slice_index s.cluster_of m) []) v → IsBelow p.version v
   above-top m p v is above =
@@ -166,15 +166,16 @@ module _ (laws : ClassLaws) (s : SpaceView) (space : IsSpace s) where
       let clustered = same-clustered m there.1 p q.package_is is q.is (placed-in c there.1 is_in) in
       subst (λ (t : List ℕ). IsBelow t v) version (above.above q.package_is (record { there = contains-at s.repository.packages there.1 q.package_is q.is; clustered = clustered }))
 
-  -- ---- classes of a cluster
+-- ---- classes of a cluster
 
+module _ (laws : ClassLaws) (s : SpaceView) (frame : IsFrame s) where
   pub record HasClass (classes : List Class) (v : List ℕ) : Type 0 where
     pub class : ℕ
     pub is : IsOfClassAt classes class v
 
   one-of : (c : ℕ) (v : List ℕ) → c < length s.clusters.members → IsBelow (get_or s.clusters.tops c []) v → IsInOneClass (cluster_classes s c) v
   one-of c v short above =
-      let are = space.classes c short in
+      let are = frame.classes c short in
       subst (λ (classes : List Class). IsInOneClass classes v) (sym are.are) (laws.above (get_or s.clusters.tops c []) are.cuts are.rising v above)
 
   pub class-of : (c : ℕ) (v : List ℕ) → c < length s.clusters.members → IsBelow (get_or s.clusters.tops c []) v → HasClass (cluster_classes s c) v
@@ -182,7 +183,7 @@ module _ (laws : ClassLaws) (s : SpaceView) (space : IsSpace s) where
 
   pub class-above : (c k : ℕ) (v : List ℕ) → c < length s.clusters.members → IsOfClassAt (cluster_classes s c) k v → IsBelow (get_or s.clusters.tops c []) v
   class-above c k v short is =
-      let are = space.classes c short in
+      let are = frame.classes c short in
       laws.below (get_or s.clusters.tops c []) are.cuts are.rising v k (subst (λ (classes : List Class). IsOfClassAt classes k v) are.are is)
 
   pub one-class : (c k l : ℕ) (v : List ℕ) → c < length s.clusters.members → IsOfClassAt (cluster_classes s c) k v → IsOfClassAt (cluster_classes s c) l v → k ≡ l
@@ -194,13 +195,13 @@ module _ (laws : ClassLaws) (s : SpaceView) (space : IsSpace s) where
   pub never-at : (m k : ℕ) (p : Package) → slice_get s.repository.packages m ≡ Some p → ¬ IsOfClassAt (member_classes s m) k p.version
   never-at m k p is at =
       let c = slice_index s.cluster_of m in
-      let has = has-cluster m (slice_get_within s.repository.packages m p is) in
-      let less = above-top m p p.version is (class-above c k p.version has.within at) in
+      let has = has-cluster s frame m (slice_get_within s.repository.packages m p is) in
+      let less = above-top s frame m p p.version is (class-above c k p.version has.within at) in
       not-both p.version p.version less less
 
   -- ---- classes of a new name
 
   pub fresh-class : (x : ℕ) (v : List ℕ) → x < length s.names → IsInOneClass (fresh_classes s x) v
   fresh-class x v short =
-      let are = space.name_classes x short in
+      let are = frame.name_classes x short in
       subst (λ (classes : List Class). IsInOneClass classes v) (sym are.are) (laws.all are.cuts are.are_cuts.rising v)

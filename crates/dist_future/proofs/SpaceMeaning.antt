@@ -35,7 +35,7 @@ module _ (laws : ClassLaws) (s : SpaceView) (space : IsSpace s) where
   -- ---- the fates of clusters in a future
 
   in-cluster : (m n : ℕ) (p q : Package) → slice_get s.repository.packages m ≡ Some p → slice_get s.repository.packages n ≡ Some q → slice_index s.cluster_of n ≡ slice_index s.cluster_of m → IsInClusterOf s.repository p q
-  in-cluster m n p q is_p is_q same = record { there = contains-at s.repository.packages n q is_q; clustered = same-clustered laws s space m n p q is_p is_q same }
+  in-cluster m n p q is_p is_q same = record { there = contains-at s.repository.packages n q is_q; clustered = same-clustered s space.frame m n p q is_p is_q same }
 
   abbrev HasFate : List Package → ℕ → Type 0
   HasFate future c = (o : Option ℕ) × IsFate s future c o
@@ -46,8 +46,8 @@ module _ (laws : ClassLaws) (s : SpaceView) (space : IsSpace s) where
   moves-fate : (future : List Package) (m : ℕ) (p : Package) → slice_get s.repository.packages m ≡ Some p → Moves s.repository future p → HasFate future (slice_index s.cluster_of m)
   moves-fate future m p is moves =
       let c = slice_index s.cluster_of m in
-      let has = has-cluster laws s space m (slice_get_within s.repository.packages m p is) in
-      let class = class-of laws s space c moves.version has.within (top-below laws s space m p moves.version is moves.above) in
+      let has = has-cluster s space.frame m (slice_get_within s.repository.packages m p is) in
+      let class = class-of laws s space.frame c moves.version has.within (top-below s space.frame m p moves.version is moves.above) in
       (Some class.class, λ n q x is_q same there name.
       let h = moves.moved q x (in-cluster m n p q is is_q same) there name in
       (h.0, class_at-same (cluster_classes s c) class.class moves.version x.version (equal-back x.version moves.version h.1) class.is))
@@ -56,12 +56,12 @@ module _ (laws : ClassLaws) (s : SpaceView) (space : IsSpace s) where
   fate-of future is_future c = elim (cases_lt c (length s.clusters.members)) [
     | inr past ↦ (None, λ short. absurd (omega (arith, past, short)))
     | inl short ↦
-        let first = element-at (get_or s.clusters.members c []) 0 (space.clusters.partition.some c [] short) in
+        let first = element-at (get_or s.clusters.members c []) 0 (space.frame.clusters.partition.some c [] short) in
         let there = contains-at (get_or s.clusters.members c []) 0 first.element first.is in
-        let p = in-package laws s space c first.element short there in
+        let p = in-package s space.frame c first.element short there in
         let is_in : IsIn s.clusters.members c first.element =
             at-has (λ (cluster : List ℕ). Contains cluster first.element) s.clusters.members c (get_or s.clusters.members c []) (slice_get-get_or s.clusters.members c [] short) there in
-        let same : slice_index s.cluster_of first.element ≡ c = placed-in laws s space c first.element is_in in
+        let same : slice_index s.cluster_of first.element ≡ c = placed-in s space.frame c first.element is_in in
         let fate : HasFate future (slice_index s.cluster_of first.element) = elim (is_future.clusters p.package_is (contains-at s.repository.packages first.element p.package_is p.is)) [
           | inl stays ↦ stays-fate future first.element p.package_is p.is stays
           | inr moves ↦ moves-fate future first.element p.package_is p.is moves
@@ -84,9 +84,9 @@ module _ (laws : ClassLaws) (s : SpaceView) (space : IsSpace s) where
 
   seen-today : (members : List Package) → IsInstallation s.essential s.repository members → IsSeen s s.repository.packages members (Unit {0}) (λ c. None)
   seen-today members healthy = record {
-    flat = space.flat;
+    flat = space.frame.flat;
     healthy = record { chosen = healthy.chosen; one_of_a_name = healthy.one_of_a_name; met = healthy.met; no_conflict = healthy.no_conflict; has_required = healthy.has_required };
-    fates = λ c short m q n is same there name. one-of-name s.repository.packages n q space.flat there (contains-at s.repository.packages m q is) name;
+    fates = λ c short m q n is same there name. one-of-name s.repository.packages n q space.frame.flat there (contains-at s.repository.packages m q is) name;
     fresh = λ n there not_taken. absurd (not_taken (any-contained (λ (q : Package). q.name ≡ n.name) s.repository.packages n there refl));
     now = inl tt;
     now_stays = λ h c. refl;
@@ -119,8 +119,8 @@ module _ (laws : ClassLaws) (s : SpaceView) (space : IsSpace s) where
         let seen = seen-by later.future later.installable.members later.is_future later.installable.healthy in
         let fate : ℕ → Option ℕ = λ x. (fate-of later.future later.is_future x).0 in
         let made = future-model laws s space later.future later.installable.members ⊥ fate seen clauses are in
-        let at : slice_index s.cluster_of m ≡ c = placed-in laws s space c m is_in in
-        let has = has-cluster laws s space m (slice_get_within s.repository.packages m q is_q) in
+        let at : slice_index s.cluster_of m ≡ c = placed-in s space.frame c m is_in in
+        let has = has-cluster s space.frame m (slice_get_within s.repository.packages m q is_q) in
         let short : c < length s.clusters.members = subst (λ (x : ℕ). x < length s.clusters.members) at has.within in
         let here = later.holds q (in-cluster m m q q is_q is_q refl) in
         let x : Package = here.1 in
@@ -131,11 +131,11 @@ module _ (laws : ClassLaws) (s : SpaceView) (space : IsSpace s) where
               let stays : IsFate s later.future c None = subst (IsFate s later.future c) none fates in
               let same : x ≡ q = stays m q x is_q at there here.4.0 in
               let equal : version_cmp version q.version ≡ Equal = equal-back q.version version (subst (λ (y : Package). version_cmp y.version version ≡ Equal) same here.4.1) in
-              absurd (never-at laws s space m k q is_q (subst (λ (y : ℕ). IsOfClassAt (cluster_classes s y) k q.version) (sym at) (class_at-same (cluster_classes s c) k version q.version equal class)))
+              absurd (never-at laws s space.frame m k q is_q (subst (λ (y : ℕ). IsOfClassAt (cluster_classes s y) k q.version) (sym at) (class_at-same (cluster_classes s c) k version q.version equal class)))
           | inr some ↦
               let moves : IsFate s later.future c (Some some.0) = subst (IsFate s later.future c) some.1 fates in
               let its = (moves m q x is_q at there here.4.0).1 in
-              some.1 ∙ ap (λ (y : ℕ). Some y) (one-class laws s space c some.0 k version short (class_at-same (cluster_classes s c) some.0 x.version version here.4.1 its) class)
+              some.1 ∙ ap (λ (y : ℕ). Some y) (one-class laws s space.frame c some.0 k version short (class_at-same (cluster_classes s c) some.0 x.version version here.4.1 its) class)
         ] in
         record {
           values = made.values;
@@ -171,11 +171,11 @@ module _ (laws : ClassLaws) (s : SpaceView) (space : IsSpace s) where
         let present : holds (Present n) ≡ true = All-head (IsTrueMeaning s has.values) (Present n) [] has.true_meanings in
         record {
           future = future_of s holds example_version;
-          is_future = future-is laws s space holds example_version space.examples met;
+          is_future = future-is laws s space holds example_version space.frame.examples met;
           installable = record {
             members = installation_of s holds example_version;
-            healthy = healthy-is laws s space holds example_version space.examples met;
-            holds = old-member laws s space holds example_version space.examples met n p is present;
+            healthy = healthy-is laws s space holds example_version space.frame.examples met;
+            holds = old-member laws s space holds example_version space.frame.examples met n p is present;
           };
         }
 
@@ -187,8 +187,8 @@ module _ (laws : ClassLaws) (s : SpaceView) (space : IsSpace s) where
         let present : holds (Present n) ≡ true = All-head (IsTrueMeaning s has.values) (Present n) [] (All-tail (IsTrueMeaning s has.values) Now (Present n ∷ []) has.true_meanings) in
         record {
           members = installation_of s holds example_version;
-          healthy = today-is laws s space holds example_version space.examples met now;
-          holds = old-member laws s space holds example_version space.examples met n p is present;
+          healthy = today-is laws s space holds example_version space.frame.examples met now;
+          holds = old-member laws s space holds example_version space.frame.examples met n p is present;
         }
 
     -- the version that is asked for at one class, and examples at the others
@@ -212,7 +212,7 @@ module _ (laws : ClassLaws) (s : SpaceView) (space : IsSpace s) where
           → IsVersion (taken o version (example_at (cluster_classes s d) l)) × IsOfClassAt (cluster_classes s d) l (taken o version (example_at (cluster_classes s d) l))
       unfolding taken
       of-taken d l (inl same) is class short = (is, subst (λ (x : ℕ). IsOfClassAt (cluster_classes s x) l version) (sym same.0) (subst (λ (x : ℕ). IsOfClassAt (cluster_classes s c) x version) (sym same.1) class))
-      of-taken d l (inr other) is class short = space.examples d l short
+      of-taken d l (inr other) is class short = space.frame.examples d l short
 
       are-versions : IsVersion version → IsOfClassAt (cluster_classes s c) k version → AreVersions s version_for
       unfolding version_for
@@ -235,7 +235,7 @@ module _ (laws : ClassLaws) (s : SpaceView) (space : IsSpace s) where
             future = future_of s holds version_for;
             is_future = future-is laws s space holds version_for versions met;
             holds = subst (λ (v : List ℕ). HoldsCluster s.repository (future_of s holds version_for) q v) version-asked
-                (holds-cluster laws s space holds version_for versions met c k m q (placed-in laws s space c m is_in) is_q short at);
+                (holds-cluster laws s space holds version_for versions met c k m q (placed-in s space.frame c m is_in) is_q short at);
             installable = record {
               members = installation_of s holds version_for;
               healthy = healthy-is laws s space holds version_for versions met;

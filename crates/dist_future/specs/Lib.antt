@@ -4,3 +4,4 @@ pub mod Space
 pub mod SpaceClauses
 pub mod SpaceLaws
 pub mod Stands
+pub mod Numbering

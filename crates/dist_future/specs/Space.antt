@@ -134,8 +134,8 @@ IsMetBy s atoms m = Any (λ atom. IsMatched s atom m) atoms
 abbrev pub IsExample : List Class → ℕ → Type 0
 IsExample classes k = IsVersion (example_at classes k) × IsOfClassAt classes k (example_at classes k)
 
--- The space of a flat repository: its clusters, classes and new names, and all that a variable may mean, in order.
-pub record IsSpace (s : SpaceView) : Type 0 where
+-- The clusters, classes and new names of a flat repository.
+pub record IsFrame (s : SpaceView) : Type 0 where
   pub flat : IsFlat s.repository.packages
   pub clusters : AreClustersOf s.repository s.clusters
   pub placed : (c m : ℕ) → IsIn s.clusters.members c m ↔ (slice_get s.cluster_of m ≡ Some c)
@@ -146,4 +146,8 @@ pub record IsSpace (s : SpaceView) : Type 0 where
   pub name_classes_beside : length s.name_classes ≡ length s.names
   pub name_classes : (x : ℕ) → x < length s.names → AreClassesOfName s.repository (slice_index_or s.names x []) (fresh_classes s x)
   pub name_examples : (x k : ℕ) → k < length (fresh_classes s x) → IsExample (fresh_classes s x) k
+
+-- The space of a flat repository: these, and all that a variable may mean, in order.
+pub record IsSpace (s : SpaceView) : Type 0 where
+  pub frame : IsFrame s
   pub meanings : AreMeaningsOf s (λ m. Unit {0}) s.meanings
