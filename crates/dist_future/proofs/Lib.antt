@@ -10,3 +10,6 @@ pub mod FutureValues
 pub mod Parts
 pub mod ModelToFuture
 pub mod SpaceMeaning
+pub mod Lex
+pub mod RisingParts
+pub mod NumberingLemmas
