@@ -13,3 +13,5 @@ pub mod SpaceMeaning
 pub mod Lex
 pub mod RisingParts
 pub mod NumberingLemmas
+pub mod ExampleLemmas
+pub mod FrameLemmas

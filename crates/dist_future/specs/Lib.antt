@@ -5,3 +5,4 @@ pub mod SpaceClauses
 pub mod SpaceLaws
 pub mod Stands
 pub mod Numbering
+pub mod Kept

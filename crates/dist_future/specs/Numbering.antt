@@ -33,9 +33,13 @@ abbrev pub provided_by : Option Package → List Provide
 provided_by None = []
 provided_by (Some p) = p.provides
 
+-- the usable entries of a member's new version of a class
+abbrev pub entries_part : SpaceView → ℕ → ℕ → List Meaning
+entries_part s k r = map (λ j. Kept r k j) (usable_from s.repository.architecture 0 (provided_by (slice_get s.repository.packages r)))
+
 -- a member's new version of a class, and then its usable entries
 abbrev pub member_part : SpaceView → ℕ → ℕ → List Meaning
-member_part s k r = New r k ∷ map (λ j. Kept r k j) (usable_from s.repository.architecture 0 (provided_by (slice_get s.repository.packages r)))
+member_part s k r = New r k ∷ entries_part s k r
 
 -- a class of a cluster, and then the new versions of the members
 abbrev pub class_part : SpaceView → ℕ → ℕ → List Meaning

@@ -1,8 +1,13 @@
 //! Futures: the archives that may come of a repository, and a finite space of clauses that stands for all of them.
 #![tactic(auto)]
 
+mod errors;
+mod exampled;
+mod frame;
 mod laws;
 mod meaning;
+mod numbering;
 
+pub use errors::SpaceError;
 pub use laws::models_stand_for_futures;
 pub use meaning::Meaning;
