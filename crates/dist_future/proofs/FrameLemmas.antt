@@ -1,10 +1,10 @@
 -- Lists that are gathered beside other ones, and members of clusters.
 use Rattle.std.proofs.Common.{◌≡◌, ◌⊎◌, ◌↔◌, ℕ, zero, suc, ◌+◌, ◌<◌, ◌≤◌, Bool, List, [], ◌∷◌, ◌++◌, Option, Some, None, length, get_or, map, refl, sym, ap, subst, ◌∙◌, inl, inr, arith, slice_get}
-use Rattle.std.specs.Prelude.{Any, Contains, IsSomeAnd}
+use Rattle.std.specs.Prelude.{All, Any, Contains, IsSomeAnd}
 use Rattle.std.proofs.lemmas.Bool.{cases_lt}
 use Rattle.std.proofs.lemmas.List.{get_or_past, length-map, length_push}
 use Rattle.std.proofs.lemmas.List.Elements.{All-contains}
-use Rattle.std.proofs.lemmas.Option.{get_or_from_slice_get, same_Some, slice_get_past, slice_get_within}
+use Rattle.std.proofs.lemmas.Option.{get_or_from_slice_get, same_Some, slice_get-get_or, slice_get_past, slice_get_within}
 use Rattle.dist_cluster.specs.Found.{IsIn}
 use Rattle.dist_cluster.specs.Partition.{IsClusterOf}
 use Rattle.dist_cluster.specs.Relation.{Member, AreClustered}
@@ -15,8 +15,8 @@ use Rattle.dist_classes.specs.Answers.{AreClustersOf, member_of}
 use Rattle.dist_classes.specs.NewNames.{AreNewNames}
 use Rattle.dist_classes.specs.declared.class_value.Class.{Class}
 use Rattle.dist_future.specs.Kept.{AreClassesBeside, AreExampled, AreNameClassesBeside}
-use Rattle.dist_future.specs.Space.{IsFrame}
-use Rattle.dist_future.proofs.Lists.{contains-at, here-at, within-from}
+use Rattle.dist_future.specs.Space.{IsFrame, SpaceView}
+use Rattle.dist_future.proofs.Lists.{all-contained, at-has, contains-at, here-at, within-from}
 
 -- one more element, and those before it
 pub push-old : {X : Type 0} (xs : List X) (x d : X) (k : ℕ) → k < length xs → get_or (xs ++ x ∷ []) k d ≡ get_or xs k d
@@ -123,3 +123,8 @@ framed r essential clusters cluster_of classes names name_classes flat are place
   name_classes = names_beside.are;
   name_examples = names_beside.examples;
 }
+
+pub members-within : (s : SpaceView) → IsFrame s → (c : ℕ) → c < length s.clusters.members → All (λ (m : ℕ). m < length s.repository.packages) (get_or s.clusters.members c [])
+members-within s frame c short =
+    all-contained (λ (m : ℕ). m < length s.repository.packages) (get_or s.clusters.members c [])
+    (λ m there. member-within s.repository s.clusters frame.clusters c m (at-has (λ (cluster : List ℕ). Contains cluster m) s.clusters.members c (get_or s.clusters.members c []) (slice_get-get_or s.clusters.members c [] short) there))

@@ -15,3 +15,5 @@ pub mod RisingParts
 pub mod NumberingLemmas
 pub mod ExampleLemmas
 pub mod FrameLemmas
+pub mod ExtendLemmas
+pub mod SizeLemmas

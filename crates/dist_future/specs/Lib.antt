@@ -6,3 +6,4 @@ pub mod SpaceLaws
 pub mod Stands
 pub mod Numbering
 pub mod Kept
+pub mod SpaceOf

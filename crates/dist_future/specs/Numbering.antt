@@ -33,6 +33,10 @@ abbrev pub provided_by : Option Package → List Provide
 provided_by None = []
 provided_by (Some p) = p.provides
 
+-- what an entry adds
+abbrev pub entry_part : Option (List ℕ) → Qualifier → Meaning → List Meaning
+entry_part architecture qualifier kept = if is_usable architecture qualifier then kept ∷ [] else []
+
 -- the usable entries of a member's new version of a class
 abbrev pub entries_part : SpaceView → ℕ → ℕ → List Meaning
 entries_part s k r = map (λ j. Kept r k j) (usable_from s.repository.architecture 0 (provided_by (slice_get s.repository.packages r)))

@@ -1,6 +1,7 @@
 //! The clusters, classes and new names of a repository.
-ghost use Rattle.std.specs.Prelude.{◌≡◌, ◌≤◌, ◌<◌, ◌↔◌, ◌^◌, ℕ, [], Any, Contains, IfOk, Some, length, slice_get, slice_index, slice_index_or};
+ghost use Rattle.std.specs.Prelude.{◌≡◌, ◌≤◌, ◌<◌, ◌↔◌, ◌^◌, ℕ, [], All, Any, Contains, IfOk, IsTrue, Some, length, slice_get, slice_index, slice_index_or};
 ghost use Rattle.dist_cluster.specs.Found.{IsIn};
+ghost use Rattle.dist_repo.specs.Match.{IsUsable};
 ghost use Rattle.dist_repo.specs.Order.{IsFlat};
 ghost use Rattle.dist_repo.specs.Size.{IsWithinSize};
 ghost use Rattle.dist_classes.specs.Answers.{AreClassesOf, AreClassesOfName, AreClustersOf};
@@ -11,7 +12,8 @@ ghost use Rattle.dist_future.specs.Space.{cluster_classes, fresh_classes};
 use crate::exampled::Exampled;
 use dist_classes::{CutFinder, Names, new_names, repository_clusters};
 use dist_cluster::Clusters;
-use dist_repo::Repository;
+use dist_relation::Qualifier;
+use dist_repo::{Package, Repository};
 use std::alloc::{AllocError, Global};
 use std::marker::Model;
 
@@ -143,6 +145,45 @@ impl Frame {
             names,
             name_classes,
         })
+    }
+
+    /// How many packages there are.
+    pub(crate) fn package_count(&self) -> u32
+        ensures { result ≡ length self.now.repository.packages }
+    {
+        self.repo.len()
+    }
+
+    /// The package of a number. Together the packages of a repository have fewer entries than 32 bits can number.
+    pub(crate) fn package(&self, number: u32) -> &Package
+        requires { number < length self.now.repository.packages }
+        ensures value { slice_get self.now.repository.packages number ≡ Some result.now }
+        ensures few_entries { length result.now.provides < 2 ^ 32 }
+    {
+        self.repo.package(number)
+    }
+
+    /// Whether an entry of Provides with this qualifier is usable.
+    pub(crate) fn usable(&self, qualifier: &Qualifier) -> bool
+        ensures { IsTrue result ↔ IsUsable self.now.repository.architecture qualifier.now }
+    {
+        self.repo.usable(qualifier)
+    }
+
+    /// How many clusters there are.
+    pub(crate) fn cluster_count(&self) -> u32
+        ensures { result ≡ length self.now.clusters.members }
+    {
+        self.clusters.len()
+    }
+
+    /// The members of a cluster.
+    pub(crate) fn members(&self, cluster: u32) -> &[u32]
+        requires { cluster < length self.now.clusters.members }
+        ensures value { slice_get self.now.clusters.members cluster ≡ Some result.now }
+        ensures within { All (λ member. member < length self.now.repository.packages) result.now }
+    {
+        self.clusters.members(cluster)
     }
 
     /// How many classes a cluster has.

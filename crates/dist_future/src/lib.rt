@@ -7,7 +7,9 @@ mod frame;
 mod laws;
 mod meaning;
 mod numbering;
+mod space;
 
 pub use errors::SpaceError;
 pub use laws::models_stand_for_futures;
 pub use meaning::Meaning;
+pub use space::{Space, space_of};

@@ -1,13 +1,14 @@
 //! The meanings of the variables, in order, up to a limit on their number.
-ghost use Rattle.std.specs.Prelude.{◌≡◌, ◌<◌, ◌≤◌, ◌+◌, ◌∷◌, [], All, IfErr, OnOk, IfOk, Some, length, map, slice_get};
+ghost use Rattle.std.specs.Prelude.{◌≡◌, ◌<◌, ◌≤◌, ◌+◌, ◌^◌, ◌∷◌, [], All, IfErr, OnOk, IfOk, Some, length, map, slice_get};
 ghost use Rattle.std.specs.List.{flat_map};
-ghost use Rattle.dist_future.specs.Numbering.{below, class_part, cluster_part, entries_part, fresh_part, meanings_of, member_part};
+ghost use Rattle.dist_future.specs.Numbering.{below, class_part, cluster_part, entries_part, entry_part, fresh_part, meanings_of, member_part};
 ghost use Rattle.dist_future.specs.Kept.{IsExtended, IsFull};
 ghost use Rattle.dist_future.specs.declared.meaning.Meaning.TheVariants as meaning;
 
 use crate::errors::SpaceError;
 use crate::frame::Frame;
 use crate::meaning::Meaning;
+use dist_relation::Qualifier;
 use dist_repo::Package;
 use std::alloc::Global;
 
@@ -26,6 +27,24 @@ fn add(meanings: &mut Vec<Meaning>, limit: u32, meaning: Meaning) -> Result<(), 
     }
 }
 
+/// Adds an entry of a member's new version, if it is usable.
+fn add_entry(
+    frame: &Frame,
+    kept: Meaning,
+    qualifier: &Qualifier,
+    meanings: &mut Vec<Meaning>,
+    limit: u32,
+) -> Result<(), SpaceError>
+    requires { length meanings.old.items ≤ limit }
+    ensures ok { OnOk result (IsExtended limit meanings.old.items (entry_part frame.now.repository.architecture qualifier.now kept) meanings.new.items) }
+    ensures err { IfErr result (IsFull limit (length meanings.old.items + length (entry_part frame.now.repository.architecture qualifier.now kept))) }
+{
+    if frame.usable(qualifier) {
+        return add(meanings, limit, kept);
+    }
+    Ok(())
+}
+
 /// Adds the usable entries of a member's new version.
 fn add_entries(
     frame: &Frame,
@@ -36,15 +55,14 @@ fn add_entries(
     limit: u32,
 ) -> Result<(), SpaceError>
     requires member { slice_get frame.now.repository.packages member ≡ Some «package».now }
+    requires few_entries { length «package».now.provides < 2 ^ 32 }
     requires within { length meanings.old.items ≤ limit }
     ensures ok { OnOk result (IsExtended limit meanings.old.items (entries_part frame.now class member) meanings.new.items) }
     ensures err { IfErr result (IsFull limit (length meanings.old.items + length (entries_part frame.now class member))) }
 {
     for place in 0..package.provides.len() {
-        if frame.repo.usable(&package.provides.get(place).qualifier) {
-            // Together the packages of a repository have fewer entries than 32 bits can number.
-            add(meanings, limit, Meaning::Kept(member, class, place as u32))?;
-        }
+        let kept = Meaning::Kept(member, class, place as u32);
+        add_entry(frame, kept, &package.provides.get(place).qualifier, meanings, limit)?;
     }
     Ok(())
 }
@@ -63,7 +81,7 @@ fn add_member(
     ensures err { IfErr result (IsFull limit (length meanings.old.items + length (member_part frame.now class member))) }
 {
     add(meanings, limit, Meaning::New(member, class))?;
-    add_entries(frame, member, frame.repo.package(member), class, meanings, limit)
+    add_entries(frame, member, frame.package(member), class, meanings, limit)
 }
 
 /// Adds the new versions of the members of a cluster, for a class.
@@ -99,7 +117,7 @@ fn add_class(
     ensures err { IfErr result (IsFull limit (length meanings.old.items + length (class_part frame.now cluster class))) }
 {
     add(meanings, limit, Meaning::At(cluster, class))?;
-    add_members(frame, frame.clusters.members(cluster), class, meanings, limit)
+    add_members(frame, frame.members(cluster), class, meanings, limit)
 }
 
 /// Adds the classes of a cluster.
@@ -126,7 +144,7 @@ fn add_clusters(frame: &Frame, meanings: &mut Vec<Meaning>, limit: u32) -> Resul
     ensures ok { OnOk result (IsExtended limit meanings.old.items (flat_map (cluster_part frame.now) (below (length frame.now.clusters.members))) meanings.new.items) }
     ensures err { IfErr result (IsFull limit (length meanings.old.items + length (flat_map (cluster_part frame.now) (below (length frame.now.clusters.members))))) }
 {
-    for cluster in 0..frame.clusters.len() {
+    for cluster in 0..frame.cluster_count() {
         add_cluster(frame, cluster, meanings, limit)?;
     }
     Ok(())
@@ -168,7 +186,7 @@ fn add_packages(frame: &Frame, meanings: &mut Vec<Meaning>, limit: u32) -> Resul
     ensures ok { OnOk result (IsExtended limit meanings.old.items (map meaning.Present (below (length frame.now.repository.packages))) meanings.new.items) }
     ensures err { IfErr result (IsFull limit (length meanings.old.items + length (map meaning.Present (below (length frame.now.repository.packages))))) }
 {
-    for number in 0..frame.repo.len() {
+    for number in 0..frame.package_count() {
         add(meanings, limit, Meaning::Present(number))?;
     }
     Ok(())

@@ -1,0 +1,21 @@
+use Rattle.std.proofs.Common.{◌≡◌, ℕ, ◌+◌, ◌<◌, ◌≤◌, ◌++◌, [], ◌∷◌, List, length, map, take, arith, subst, sym, ap, refl, ◌∙◌}
+use Rattle.std.specs.List.{flat_map}
+use Rattle.std.proofs.lemmas.Result.{err_from_is_err_and}
+use Rattle.dist_future.specs.Kept.{IsExtended, IsFull}
+use Rattle.dist_future.specs.Numbering.{below, class_part, cluster_part, entries_part, fresh_part, member_part, provided_by}
+use Rattle.dist_future.specs.Space.{cluster_classes, fresh_classes}
+use Rattle.dist_future.specs.declared.meaning.Meaning.{Meaning}
+use Rattle.dist_future.specs.declared.meaning.Meaning.TheVariants.{Now, Present, At, New, Kept, Fresh}
+use Rattle.dist_future.proofs.ExtendLemmas.{below-at, entries-all, extend-all, extend-entry, extend-more, extend-none, extend-on, extend-same, full-at, full-entry, full-first, full-second, length-below}
+use Rattle.dist_future.proofs.numbering.add_names.Goals as goal
+
+pub returns-in_err-add_name-clause-err : goal.returns-in_err-add_name-clause-err
+returns-in_err-add_name-clause-err c =
+    let p = err_from_is_err_and c.from_residual.result c.from_residual.ensures.1 in
+    rw (p.1, p.2) (full-at (fresh_part c.args.frame.now) c.args.limit c.args.meanings.now.items c.loop-name.meanings.items (below (length c.args.frame.now.names)) c.loop-name.name c.loop-name.name _ (below-at (length c.args.frame.now.names) c.loop-name.name (omega arith)) c.loop-name.invariant c.in_err-add_name.ensures.err)
+
+pub loop-name-preserved : goal.loop-name-preserved
+loop-name-preserved c = extend-more (fresh_part c.args.frame.now) c.args.limit c.args.meanings.now.items c.loop-name.meanings.items c.add_name.new.meanings.items (below (length c.args.frame.now.names)) c.loop-name.name c.loop-name.name (below-at (length c.args.frame.now.names) c.loop-name.name (omega arith)) c.loop-name.invariant c.in_ok-add_name.ensures.ok
+
+pub returns-clause-ok : goal.returns-clause-ok
+returns-clause-ok c = extend-all (fresh_part c.args.frame.now) c.args.limit c.args.meanings.now.items c.loop-name.meanings.items (below (length c.args.frame.now.names)) c.loop-name.name (omega (arith, length-below (length c.args.frame.now.names))) c.loop-name.invariant

@@ -1,0 +1,140 @@
+//! The space of the futures of a repository.
+ghost use Rattle.std.specs.Prelude.{◌≡◌, ◌≤◌, ◌<◌, ◌-◌, ◌^◌, IfErr, IfOk, Some, length, slice_get};
+ghost use Rattle.dist_base.specs.declared.TheConstants.{MAX_VARIABLES};
+ghost use Rattle.dist_repo.specs.Order.{IsFlat};
+ghost use Rattle.dist_repo.specs.Size.{IsWithinSize};
+ghost use Rattle.dist_future.specs.Space.{IsMeaning, IsSpace, cluster_classes, fresh_classes, variable_of};
+ghost use Rattle.dist_future.specs.SpaceOf.{IsSpaceOf, IsTooLarge};
+
+use crate::errors::SpaceError;
+use crate::frame::Frame;
+use crate::meaning::Meaning;
+use crate::numbering::number_meanings;
+use dist_classes::{Classes, Names};
+use dist_cluster::Clusters;
+use dist_repo::Repository;
+use std::alloc::Global;
+use std::marker::Model;
+
+/// A flat repository, the classes to which its clusters may move, and what each variable means. It is kept at mode essential
+/// or plain.
+#[derive(Drop)]
+pub struct Space {
+    pub(crate) frame: Frame,
+    /// The variable of a number, from 1, has the meaning at the place before.
+    pub(crate) meanings: Vec<Meaning>,
+}
+
+impl Model for Space {
+    ghost use Rattle.dist_future.specs.Kept.{IsWhole};
+    ghost use Rattle.dist_future.specs.Space.{SpaceView};
+
+    ghost Value = { SpaceView };
+
+    ghost view = { λ s. record {
+        repository = s.frame.repository;
+        essential = s.frame.essential;
+        clusters = s.frame.clusters;
+        cluster_of = s.frame.cluster_of;
+        classes = s.frame.classes;
+        names = s.frame.names;
+        name_classes = s.frame.name_classes;
+        meanings = s.meanings.items;
+    } };
+
+    ghost invariant = { λ s. IsWhole (record {
+        repository = s.frame.repository;
+        essential = s.frame.essential;
+        clusters = s.frame.clusters;
+        cluster_of = s.frame.cluster_of;
+        classes = s.frame.classes;
+        names = s.frame.names;
+        name_classes = s.frame.name_classes;
+        meanings = s.meanings.items;
+    }) };
+}
+
+/// The space of a flat repository, which is kept in it, at mode essential or plain. After an `Err` the repository is given up.
+pub fn space_of(
+    alloc: Global,
+    repo: Repository,
+    essential: bool,
+    variables: u32,
+) -> Result<Space, SpaceError>
+    requires flat { IsFlat repo.packages }
+    requires within_size { IsWithinSize repo }
+    requires variables { variables ≤ MAX_VARIABLES }
+    ensures ok { IfOk result (λ space. IsSpaceOf repo essential space) }
+    ensures within { IfOk result (λ space. length space.meanings ≤ variables) }
+    ensures err { IfErr result (IsTooLarge repo essential variables) }
+{
+    let frame = Frame::new(alloc, repo, essential)?;
+    let meanings = number_meanings(alloc, &frame, variables)?;
+    Ok(Space { frame, meanings })
+}
+
+impl Space {
+    /// The repository.
+    pub fn repo(&self) -> &Repository
+        ensures { result.now ≡ self.now.repository }
+    {
+        &self.frame.repo
+    }
+
+    /// Whether the space is at mode essential.
+    pub fn essential(&self) -> bool
+        ensures { result ≡ self.now.essential }
+    {
+        self.frame.essential
+    }
+
+    /// The clusters of the repository's packages.
+    pub fn clusters(&self) -> &Clusters
+        ensures { result.now ≡ self.now.clusters }
+    {
+        &self.frame.clusters
+    }
+
+    /// The new names.
+    pub fn names(&self) -> &Names
+        ensures { result.now ≡ self.now.names }
+    {
+        &self.frame.names
+    }
+
+    /// The classes of a cluster.
+    pub fn classes(&self, cluster: u32) -> &Classes
+        requires { cluster < length self.now.clusters.members }
+        ensures { result.now ≡ cluster_classes self.now cluster }
+    {
+        self.frame.classes[cluster as usize].classes()
+    }
+
+    /// The classes of a new name.
+    pub fn name_classes(&self, name: u32) -> &Classes
+        requires { name < length self.now.names }
+        ensures { result.now ≡ fresh_classes self.now name }
+    {
+        self.frame.name_classes[name as usize].classes()
+    }
+
+    /// How many variables there are.
+    pub fn variables(&self) -> u32
+        ensures value { result ≡ length self.now.meanings }
+        ensures stated { result ≤ MAX_VARIABLES }
+        ensures space { IsSpace self.now }
+    {
+        self.meanings.len() as u32
+    }
+
+    /// What a variable means; the first one has the number 1.
+    pub fn meaning(&self, variable: u32) -> Meaning
+        requires from_one { 1 ≤ variable }
+        requires in_range { variable ≤ length self.now.meanings }
+        ensures value { slice_get self.now.meanings (variable - 1) ≡ Some result }
+        ensures is_meaning { IsMeaning self.now result }
+        ensures back { variable_of self.now result ≡ variable }
+    {
+        self.meanings[variable as usize - 1]
+    }
+}
