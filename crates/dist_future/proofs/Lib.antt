@@ -17,3 +17,4 @@ pub mod ExampleLemmas
 pub mod FrameLemmas
 pub mod ExtendLemmas
 pub mod SizeLemmas
+pub mod WholeSpace

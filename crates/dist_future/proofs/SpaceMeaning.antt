@@ -17,7 +17,7 @@ use Rattle.dist_future.specs.Future.{IsFuture, IsInClusterOf, IsTaken, Moves, St
 use Rattle.dist_future.specs.Outdated.{HoldsCluster, IsInstallableAt, IsInstallableLater, IsInstallationOf}
 use Rattle.dist_future.specs.Space.{IsMeaning, IsSpace, SpaceView, cluster_classes, example_at, member_classes, variable_of}
 use Rattle.dist_future.specs.SpaceClauses.{AreSpaceClauses}
-use Rattle.dist_future.specs.SpaceLaws.{HasModelWith, StandForFutures}
+use Rattle.dist_future.specs.SpaceLaws.{HasModelWith, StandForFutures, StandsForFuture, examples_of, holds_under}
 use Rattle.dist_future.specs.Stands.{future_of, installation_of}
 use Rattle.dist_future.specs.declared.meaning.Meaning.{Meaning}
 use Rattle.dist_future.specs.declared.meaning.Meaning.TheVariants.{Now, Present, At}
@@ -249,3 +249,11 @@ module _ (laws : ClassLaws) (s : SpaceView) (space : IsSpace s) where
       at_version = λ n p is c k m q is_in is_q version is_version class. (at-model c k version n p is m q is_in is_q is_version class, model-at n p is c k m q is_in is_q version class);
       today = λ n p is. (today-model n p is, model-today n p is);
     }
+
+    pub stands-for-future : (values : List Bool) → IsModel (value_of values) clauses → StandsForFuture s values
+    stands-for-future values model =
+        let met = met-from-model s values clauses are model in
+        record {
+          is_future = future-is laws s space (holds_under s values) (examples_of s) space.frame.examples met;
+          healthy = healthy-is laws s space (holds_under s values) (examples_of s) space.frame.examples met;
+        }

@@ -2,8 +2,8 @@ pub mod Future
 pub mod Outdated
 pub mod Space
 pub mod SpaceClauses
-pub mod SpaceLaws
 pub mod Stands
+pub mod SpaceLaws
+pub mod SpaceOf
 pub mod Numbering
 pub mod Kept
-pub mod SpaceOf

@@ -11,7 +11,7 @@ use Rattle.dist_repo.specs.Healthy.{required_names}
 use Rattle.dist_repo.specs.Match.{Matches}
 use Rattle.dist_repo.specs.PackageList.{IsPackageAnd}
 use Rattle.dist_repo.specs.declared.package.Package.{Package}
-use Rattle.dist_future.specs.Space.{SpaceView, AreMeaningsOf, IsMatched, IsMeaning, IsMetBy, cluster_classes, fresh_classes, key_of, name_of, variable_of}
+use Rattle.dist_future.specs.Space.{SpaceView, AreMeaningsOf, IsMatched, IsMeaning, IsMetBy, cluster_classes, fresh_classes, name_of, variable_of}
 use Rattle.dist_future.specs.declared.meaning.Meaning.{Meaning}
 use Rattle.dist_future.specs.declared.meaning.Meaning.TheVariants.{Now, Present, At, New, Kept, Fresh}
 
@@ -61,21 +61,22 @@ IsDemand s (StaysNow c k) = IsMeaning s (At c k)
 IsDemand s (AbsentNow x k) = IsMeaning s (Fresh x k)
 IsDemand s (Required name) = Contains (required_names s.essential s.repository.packages) name
 
--- The order of demands, by groups and in each by numbers.
-abbrev pub demand_key : SpaceView → Demand → List ℕ
-demand_key s (OneClass c k l) = 1 ∷ c ∷ k ∷ l ∷ []
-demand_key s (Gone r k) = 2 ∷ slice_index s.cluster_of r ∷ k ∷ r ∷ 0 ∷ []
-demand_key s (Moved r k) = 2 ∷ slice_index s.cluster_of r ∷ k ∷ r ∷ 1 ∷ []
-demand_key s (Carried r k j) = 2 ∷ slice_index s.cluster_of r ∷ k ∷ r ∷ 2 ∷ j ∷ []
-demand_key s (OneFresh x k l) = 3 ∷ x ∷ k ∷ l ∷ []
-demand_key s (Item number place) = 4 ∷ number ∷ place ∷ []
-demand_key s (Apart number other) = 5 ∷ number ∷ key_of s other
-demand_key s (StaysNow c k) = 6 ∷ 0 ∷ c ∷ k ∷ []
-demand_key s (AbsentNow x k) = 6 ∷ 1 ∷ x ∷ k ∷ []
-demand_key s (Required name) = 7 ∷ name
+-- The order of demands: by groups, in a group by the variable that leads, and then by a second number. Of a new version, that
+-- its member is gone comes before that its cluster is at the class. Required names come by their bytes.
+abbrev pub rank_of : SpaceView → Demand → List ℕ
+rank_of s (OneClass c k l) = 1 ∷ variable_of s (At c k) ∷ l ∷ []
+rank_of s (Gone r k) = 2 ∷ variable_of s (New r k) ∷ 0 ∷ []
+rank_of s (Moved r k) = 2 ∷ variable_of s (New r k) ∷ 1 ∷ []
+rank_of s (Carried r k j) = 2 ∷ variable_of s (Kept r k j) ∷ 0 ∷ []
+rank_of s (OneFresh x k l) = 3 ∷ variable_of s (Fresh x k) ∷ l ∷ []
+rank_of s (Item number place) = 4 ∷ variable_of s (Present number) ∷ place ∷ []
+rank_of s (Apart number other) = 5 ∷ variable_of s (Present number) ∷ variable_of s other ∷ []
+rank_of s (StaysNow c k) = 6 ∷ variable_of s (At c k) ∷ 0 ∷ []
+rank_of s (AbsentNow x k) = 6 ∷ variable_of s (Fresh x k) ∷ 0 ∷ []
+rank_of s (Required name) = 7 ∷ name
 
 abbrev pub IsBefore : SpaceView → Demand → Demand → Type 0
-IsBefore s d e = slice_cmp nat_cmp (demand_key s d) (demand_key s e) ≡ Less
+IsBefore s d e = slice_cmp nat_cmp (rank_of s d) (rank_of s e) ≡ Less
 
 -- a package as it is today, or a new version, of a name
 abbrev pub IsBearer : SpaceView → List ℕ → Meaning → Type 0

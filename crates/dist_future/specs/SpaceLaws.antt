@@ -6,8 +6,10 @@ use Rattle.dist_repo.specs.declared.package.Package.{Package}
 use Rattle.dist_version.specs.Spelling.{IsVersion}
 use Rattle.dist_classes.specs.ClassList.{IsOfClassAt}
 use Rattle.dist_repo.specs.Strong.{IsInstallable}
-use Rattle.dist_future.specs.Outdated.{IsInstallableAt, IsInstallableLater}
-use Rattle.dist_future.specs.Space.{SpaceView, cluster_classes, variable_of}
+use Rattle.dist_future.specs.Future.{IsFuture}
+use Rattle.dist_future.specs.Stands.{future_of, installation_of}
+use Rattle.dist_future.specs.Outdated.{IsInstallableAt, IsInstallableLater, IsInstallationOf}
+use Rattle.dist_future.specs.Space.{SpaceView, cluster_classes, example_at, variable_of}
 use Rattle.dist_future.specs.declared.meaning.Meaning.{Meaning}
 use Rattle.dist_future.specs.declared.meaning.Meaning.TheVariants.{Now, Present, At}
 
@@ -28,3 +30,16 @@ pub record StandForFutures (s : SpaceView) (clauses : List (List Literal)) : Typ
       → HasModelWith s clauses (Present n ∷ At c k ∷ []) ↔ IsInstallableAt s.essential s.repository q version p
   pub today : (n : ℕ) (p : Package) → slice_get s.repository.packages n ≡ Some p
       → HasModelWith s clauses (Now ∷ Present n ∷ []) ↔ IsInstallable s.essential s.repository p
+
+-- the meaning holds under an assignment
+abbrev pub holds_under : SpaceView → List Bool → Meaning → Bool
+holds_under s values m = value_of values (variable_of s m)
+
+-- the example of each class
+abbrev pub examples_of : SpaceView → ℕ → ℕ → List ℕ
+examples_of s c k = example_at (cluster_classes s c) k
+
+-- The future and the installation that an assignment stands for are one, and a healthy installation in it.
+pub record StandsForFuture (s : SpaceView) (values : List Bool) : Type 0 where
+  pub is_future : IsFuture s.repository (future_of s (holds_under s values) (examples_of s))
+  pub healthy : IsInstallationOf s.essential s.repository (future_of s (holds_under s values) (examples_of s)) (installation_of s (holds_under s values) (examples_of s))

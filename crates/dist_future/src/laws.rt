@@ -1,9 +1,9 @@
 //! What the clauses of a space mean, apart from the work. These functions do nothing.
-ghost use Rattle.std.specs.Prelude.{List};
-ghost use Rattle.dist_clause.specs.Formula.{Literal};
+ghost use Rattle.std.specs.Prelude.{Bool, List};
+ghost use Rattle.dist_clause.specs.Formula.{IsModel, Literal, value_of};
 ghost use Rattle.dist_future.specs.Space.{IsSpace, SpaceView};
 ghost use Rattle.dist_future.specs.SpaceClauses.{AreSpaceClauses};
-ghost use Rattle.dist_future.specs.SpaceLaws.{StandForFutures};
+ghost use Rattle.dist_future.specs.SpaceLaws.{StandForFutures, StandsForFuture};
 
 use dist_classes::{new_names_match_alike, new_versions_match_alike, versions_are_in_one_class};
 
@@ -11,6 +11,16 @@ use dist_classes::{new_names_match_alike, new_versions_match_alike, versions_are
 /// version, whichever version of a class that is, and for the archive of today.
 pub fn models_stand_for_futures()
     ensures { (s : SpaceView) (clauses : List (List Literal)) → IsSpace s → AreSpaceClauses s clauses → StandForFutures s clauses }
+{
+    versions_are_in_one_class();
+    new_versions_match_alike();
+    new_names_match_alike();
+}
+
+/// Each model stands for a future and a healthy installation in it: what its true meanings say, with examples of the classes.
+pub fn each_model_is_a_future()
+    ensures { (s : SpaceView) (clauses : List (List Literal)) (values : List Bool) → IsSpace s → AreSpaceClauses s clauses
+        → IsModel (value_of values) clauses → StandsForFuture s values }
 {
     versions_are_in_one_class();
     new_versions_match_alike();

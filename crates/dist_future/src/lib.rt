@@ -10,6 +10,6 @@ mod numbering;
 mod space;
 
 pub use errors::SpaceError;
-pub use laws::models_stand_for_futures;
+pub use laws::{each_model_is_a_future, models_stand_for_futures};
 pub use meaning::Meaning;
 pub use space::{Space, space_of};

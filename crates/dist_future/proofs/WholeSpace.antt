@@ -1,0 +1,45 @@
+-- A frame with its meanings is a space.
+use Rattle.std.proofs.Common.{◌≡◌, ℕ, ◌+◌, ◌-◌, ◌<◌, ◌≤◌, Bool, List, [], length, Some, refl, sym, ap, subst, ◌∙◌, arith, slice_get}
+use Rattle.dist_repo.specs.PackageList.{PackageList}
+use Rattle.dist_future.specs.Kept.{IsFrameOf, IsFull}
+use Rattle.dist_future.specs.Numbering.{meanings_of}
+use Rattle.dist_future.specs.Space.{AreMeaningsOf, IsFrame, IsSpace, SpaceView, variable_of}
+use Rattle.dist_future.specs.SpaceOf.{HasMoreVariables, IsSpaceOf, IsTooLarge}
+use Rattle.dist_future.specs.declared.errors.SpaceError.{SpaceError}
+use Rattle.dist_future.specs.declared.errors.SpaceError.TheVariants.{TooManyVariables, NoMemory}
+use Rattle.dist_future.specs.declared.meaning.Meaning.{Meaning}
+use Rattle.dist_future.proofs.NumberingLemmas.{numbered}
+use Rattle.dist_future.proofs.Variables.{variable-at}
+
+abbrev pub with_meanings : SpaceView → List Meaning → SpaceView
+with_meanings s ms = record s { meanings = ms }
+
+framed-with : (s : SpaceView) (ms : List Meaning) → IsFrame s → IsFrame (with_meanings s ms)
+framed-with s ms frame = record {
+  flat = frame.flat;
+  clusters = frame.clusters;
+  placed = frame.placed;
+  classes_beside = frame.classes_beside;
+  classes = frame.classes;
+  examples = frame.examples;
+  names = frame.names;
+  name_classes_beside = frame.name_classes_beside;
+  name_classes = frame.name_classes;
+  name_examples = frame.name_examples;
+}
+
+pub whole : (s : SpaceView) (ms : List Meaning) → IsFrame s → ms ≡ meanings_of s → IsSpace (with_meanings s ms)
+whole s ms frame is =
+    let own = numbered s frame in
+    let at : AreMeaningsOf s (λ m. Unit {0}) ms = subst (AreMeaningsOf s (λ m. Unit {0})) (sym is) own in
+    record { frame = framed-with s ms frame; meanings = record { rising = at.rising; exact = at.exact } }
+
+pub whole-of : (r : PackageList) (essential : Bool) (s : SpaceView) (ms : List Meaning) → IsFrameOf r essential s → ms ≡ meanings_of s → IsSpaceOf r essential (with_meanings s ms)
+whole-of r essential s ms of is = record { space = whole s ms of.frame is; repository = of.repository; essential_is = of.essential_is }
+
+pub too-large : (r : PackageList) (essential : Bool) (s : SpaceView) (variables : ℕ) (e : SpaceError) → IsFrameOf r essential s → IsFull variables (length (meanings_of s)) e → IsTooLarge r essential variables e
+too-large r essential s variables TooManyVariables of full = (with_meanings s (meanings_of s), whole-of r essential s (meanings_of s) of refl, full)
+too-large r essential s variables NoMemory of full = tt
+
+pub variable-back : (s : SpaceView) (m : Meaning) (variable : ℕ) → IsSpace s → 1 ≤ variable → slice_get s.meanings (variable - 1) ≡ Some m → variable_of s m ≡ variable
+variable-back s m variable space from is = let at = variable-at s m (variable - 1) space.meanings.rising is in omega (arith, at, from)
