@@ -4,6 +4,8 @@ use Rattle.std.specs.Prelude.{AllPairs, Contains, count_by}
 use Rattle.std.specs.Cmp.Lexicographic.{slice_cmp}
 use Rattle.std.specs.Option.{option_map}
 use Rattle.std.specs.Ordering.{is_lt, ordering_reverse}
+use Rattle.std.specs.List.Sorted.{IsPartitionPoint, IsPartitionedBy}
+use Rattle.std.proofs.lemmas.Bool.{cases_lt, false≢true}
 use Rattle.std.proofs.lemmas.Cmp.{nat_list_cmp_total, tied_itself}
 use Rattle.std.proofs.lemmas.List.Sums.{sum_by-cons}
 use Rattle.std.proofs.lemmas.Option.{get_or_from_slice_get, slice_get-map, slice_get_within}
@@ -71,3 +73,41 @@ value-at s f m space is_meaning =
     let place : variable_of s m - 1 ≡ at.place = omega (arith, variable) in
     ap (λ (k : ℕ). get_or (map f s.meanings) k false) place
     ∙ get_or_from_slice_get (map f s.meanings) at.place (f m) false (slice_get-map f s.meanings at.place ∙ ap (option_map f) at.is)
+
+-- ---- where a meaning is found by halving
+
+abbrev pub before_it : SpaceView → Meaning → Meaning → Bool
+before_it s m a = is_lt (slice_cmp nat_cmp (key_of s a) (key_of s m))
+
+less-is : (o : Ordering) → is_lt o ≡ true → o ≡ Less
+less-is Less is = refl
+less-is Equal is = cc
+less-is Greater is = cc
+
+pub meanings-parted : (s : SpaceView) (m : Meaning) (ms : List Meaning) → AllPairs (StandsBefore s) ms → IsPartitionedBy (before_it s m) ms
+meanings-parted s m ms rising i j d less short holds = elim (cases_lt i j) [
+  | inl below ↦
+      let first = rising i j d below short in
+      let second = less-is (slice_cmp nat_cmp (key_of s (get_or ms j d)) (key_of s m)) holds in
+      ap is_lt (nat_list_cmp_total.trans (key_of s (get_or ms i d)) (key_of s (get_or ms j d)) (key_of s m) first second)
+  | inr same ↦ let is : j ≡ i = omega (arith, less, same) in subst (λ (k : ℕ). before_it s m (get_or ms k d) ≡ true) is holds
+]
+
+pub point-is : (s : SpaceView) (m : Meaning) (ms : List Meaning) (i : ℕ) → AllPairs (StandsBefore s) ms → Contains ms m → IsPartitionPoint (λ y. before_it s m y ≡ true) (λ y. before_it s m y ≡ false) ms i → slice_get ms i ≡ Some m
+point-is s m ms i rising there point =
+    let at = place-of ms m there in
+    let inside = slice_get_within ms at.place m at.is in
+    let here : get_or ms at.place m ≡ m = get_or_from_slice_get ms at.place m m at.is in
+    let same : i ≡ at.place = elim (cases_lt at.place i) [
+      | inl less ↦
+          let holds = subst (λ (y : Meaning). before_it s m y ≡ true) here (point.0 at.place m (omega arith) less) in
+          absurd (false≢true (sym (not-itself (key_of s) m) ∙ holds))
+      | inr more ↦ elim (cases_lt i at.place) [
+        | inl less ↦
+            let fails = point.1 i m (omega arith) (omega (arith, less, inside)) in
+            let before = subst (λ (y : Meaning). StandsBefore s (get_or ms i m) y) here (rising i at.place m less inside) in
+            absurd (false≢true (sym fails ∙ ap is_lt before))
+        | inr also ↦ omega (arith, more, also)
+      ]
+    ] in
+    ap (λ (k : ℕ). slice_get ms k) same ∙ at.is

@@ -7,6 +7,7 @@ mod frame;
 mod laws;
 mod meaning;
 mod numbering;
+mod place;
 mod space;
 
 pub use errors::SpaceError;
