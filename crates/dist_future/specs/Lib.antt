@@ -7,3 +7,4 @@ pub mod SpaceLaws
 pub mod SpaceOf
 pub mod Numbering
 pub mod Kept
+pub mod FutureExamples
