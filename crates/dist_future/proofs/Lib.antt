@@ -18,3 +18,5 @@ pub mod FrameLemmas
 pub mod ExtendLemmas
 pub mod SizeLemmas
 pub mod WholeSpace
+pub mod DemandLists
+pub mod Fronts

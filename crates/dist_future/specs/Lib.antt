@@ -2,9 +2,11 @@ pub mod Future
 pub mod Outdated
 pub mod Space
 pub mod SpaceClauses
+pub mod SpaceSet
 pub mod Stands
 pub mod SpaceLaws
 pub mod SpaceOf
 pub mod Numbering
 pub mod Kept
+pub mod Gathering
 pub mod FutureExamples

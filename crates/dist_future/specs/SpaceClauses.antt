@@ -61,19 +61,48 @@ IsDemand s (StaysNow c k) = IsMeaning s (At c k)
 IsDemand s (AbsentNow x k) = IsMeaning s (Fresh x k)
 IsDemand s (Required name) = Contains (required_names s.essential s.repository.packages) name
 
--- The order of demands: by groups, in a group by the variable that leads, and then by a second number. Of a new version, that
--- its member is gone comes before that its cluster is at the class. Required names come by their bytes.
+-- the group of a demand
+abbrev pub group_of : Demand → ℕ
+group_of (OneClass c k l) = 1
+group_of (Gone r k) = 2
+group_of (Moved r k) = 2
+group_of (Carried r k j) = 2
+group_of (OneFresh x k l) = 3
+group_of (Item number place) = 4
+group_of (Apart number other) = 5
+group_of (StaysNow c k) = 6
+group_of (AbsentNow x k) = 6
+group_of (Required name) = 7
+
+-- the meaning whose variable leads a demand in its group
+abbrev pub leading : Demand → Meaning
+leading (OneClass c k l) = At c k
+leading (Gone r k) = New r k
+leading (Moved r k) = New r k
+leading (Carried r k j) = Kept r k j
+leading (OneFresh x k l) = Fresh x k
+leading (Item number place) = Present number
+leading (Apart number other) = Present number
+leading (StaysNow c k) = At c k
+leading (AbsentNow x k) = Fresh x k
+leading (Required name) = Now
+
+-- what orders the demands that one variable leads: of a new version, that its member is gone comes first
+abbrev pub second_of : SpaceView → Demand → List ℕ
+second_of s (OneClass c k l) = l ∷ []
+second_of s (Gone r k) = 0 ∷ []
+second_of s (Moved r k) = 1 ∷ []
+second_of s (Carried r k j) = 0 ∷ []
+second_of s (OneFresh x k l) = l ∷ []
+second_of s (Item number place) = place ∷ []
+second_of s (Apart number other) = variable_of s other ∷ []
+second_of s (StaysNow c k) = 0 ∷ []
+second_of s (AbsentNow x k) = 0 ∷ []
+second_of s (Required name) = name
+
+-- The order of demands: by groups, in a group by the variables that lead, and then by the rest.
 abbrev pub rank_of : SpaceView → Demand → List ℕ
-rank_of s (OneClass c k l) = 1 ∷ variable_of s (At c k) ∷ l ∷ []
-rank_of s (Gone r k) = 2 ∷ variable_of s (New r k) ∷ 0 ∷ []
-rank_of s (Moved r k) = 2 ∷ variable_of s (New r k) ∷ 1 ∷ []
-rank_of s (Carried r k j) = 2 ∷ variable_of s (Kept r k j) ∷ 0 ∷ []
-rank_of s (OneFresh x k l) = 3 ∷ variable_of s (Fresh x k) ∷ l ∷ []
-rank_of s (Item number place) = 4 ∷ variable_of s (Present number) ∷ place ∷ []
-rank_of s (Apart number other) = 5 ∷ variable_of s (Present number) ∷ variable_of s other ∷ []
-rank_of s (StaysNow c k) = 6 ∷ variable_of s (At c k) ∷ 0 ∷ []
-rank_of s (AbsentNow x k) = 6 ∷ variable_of s (Fresh x k) ∷ 0 ∷ []
-rank_of s (Required name) = 7 ∷ name
+rank_of s d = group_of d ∷ variable_of s (leading d) ∷ second_of s d
 
 abbrev pub IsBefore : SpaceView → Demand → Demand → Type 0
 IsBefore s d e = slice_cmp nat_cmp (rank_of s d) (rank_of s e) ≡ Less
