@@ -20,3 +20,5 @@ pub mod SizeLemmas
 pub mod WholeSpace
 pub mod DemandLists
 pub mod Fronts
+pub mod PairClauses
+pub mod LedFronts

@@ -7,7 +7,9 @@ use Rattle.dist_clause.specs.ClauseList.{ClauseList, literal_count}
 use Rattle.dist_clause.specs.Formula.{Literal}
 use Rattle.dist_clause.specs.declared.clause_set.PushError.{PushError}
 use Rattle.dist_clause.specs.declared.clause_set.PushError.TheVariants.{TooManyClauses, TooManyLiterals, NoMemory}
-use Rattle.dist_future.specs.Space.{SpaceView}
+use Rattle.dist_base.specs.declared.TheConstants.{MAX_VARIABLES}
+use Rattle.dist_future.specs.declared.meaning.Meaning.{Meaning}
+use Rattle.dist_future.specs.Space.{IsMeaning, IsSpace, SpaceView, variable_of}
 use Rattle.dist_future.specs.SpaceClauses.{Demand, IsDemand, rank_of}
 use Rattle.dist_future.specs.SpaceSet.{IsCause, IsSetOf}
 
@@ -25,6 +27,13 @@ IsBelow s group variable second d = IsDemand s d × (slice_cmp nat_cmp (rank_of 
 -- the set has a variable for each of the space and the limits of another set, and holds the clauses of these demands
 abbrev pub IsFront : SpaceView → (group variable second : ℕ) → (limits set : ClauseList) → Type 0
 IsFront s group variable second limits set = IsSetOf s (IsBelow s group variable second) limits.clause_limit limits.literal_limit set
+
+-- a variable has a meaning
+pub record IsMeaningOf (s : SpaceView) (variable : ℕ) (m : Meaning) : Type 0 where
+  pub space : IsSpace s
+  pub is_meaning : IsMeaning s m
+  pub variable_is : variable_of s m ≡ variable
+  pub stated : variable ≤ MAX_VARIABLES
 
 -- why a set with limits refuses
 abbrev pub IsCauseAt : SpaceView → ClauseList → PushError → Type 0

@@ -1,10 +1,12 @@
 //! Futures: the archives that may come of a repository, and a finite space of clauses that stands for all of them.
 #![tactic(auto)]
 
+mod clause_text;
 mod errors;
 mod exampled;
 mod frame;
 mod laws;
+mod led_clauses;
 mod meaning;
 mod numbering;
 mod place;

@@ -36,7 +36,7 @@ impl Key {
 
 impl Space {
     /// The number of the cluster of a package.
-    fn cluster_of(&self, member: u32) -> u32
+    pub(crate) fn cluster_of(&self, member: u32) -> u32
         ensures { result ≡ slice_index self.now.cluster_of member }
     {
         *self.frame.cluster_of.get(member as usize).unwrap_or(&0)

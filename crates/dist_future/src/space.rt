@@ -3,6 +3,7 @@ ghost use Rattle.std.specs.Prelude.{◌≡◌, ◌≤◌, ◌<◌, ◌-◌, ◌^
 ghost use Rattle.dist_base.specs.declared.TheConstants.{MAX_VARIABLES};
 ghost use Rattle.dist_repo.specs.Order.{IsFlat};
 ghost use Rattle.dist_repo.specs.Size.{IsWithinSize};
+ghost use Rattle.dist_future.specs.Gathering.{IsMeaningOf};
 ghost use Rattle.dist_future.specs.Space.{IsMeaning, IsSpace, cluster_classes, fresh_classes, variable_of};
 ghost use Rattle.dist_future.specs.SpaceOf.{IsSpaceOf, IsTooLarge};
 
@@ -134,7 +135,28 @@ impl Space {
         ensures value { slice_get self.now.meanings (variable - 1) ≡ Some result }
         ensures is_meaning { IsMeaning self.now result }
         ensures back { variable_of self.now result ≡ variable }
+        ensures of { IsMeaningOf self.now variable result }
     {
         self.meanings[variable as usize - 1]
+    }
+
+    /// How many classes a cluster has. There are none of a number past the last cluster.
+    pub(crate) fn class_count(&self, cluster: u32) -> u32
+        ensures { result ≡ length (cluster_classes self.now cluster) }
+    {
+        match self.frame.classes.get(cluster as usize) {
+            Some(classes) => classes.len(),
+            None => 0,
+        }
+    }
+
+    /// How many classes a new name has. There are none of a number past the last name.
+    pub(crate) fn name_class_count(&self, name: u32) -> u32
+        ensures { result ≡ length (fresh_classes self.now name) }
+    {
+        match self.frame.name_classes.get(name as usize) {
+            Some(classes) => classes.len(),
+            None => 0,
+        }
     }
 }

@@ -3,14 +3,22 @@ use Rattle.std.proofs.lemmas.Option.{slice_get-get_or}
 use Rattle.dist_future.specs.Kept.{IsWhole}
 use Rattle.dist_future.specs.Space.{SpaceView}
 use Rattle.dist_future.specs.declared.meaning.Meaning.{Meaning}
+use Rattle.dist_future.proofs.PairClauses.{meaning-of}
 use Rattle.dist_future.proofs.WholeSpace.{variable-back}
 use Rattle.dist_future.proofs.space.Space.meaning.Goals as goal
 
-pub returns-clause-back : goal.returns-clause-back
-returns-clause-back c =
+is-at : (c : goal.After-result-1) → slice_get c.args.self.now.meanings (c.args.variable - 1) ≡ Some c.index.result.now
+is-at c =
     let s : SpaceView = c.args.self.now in
     let m : Meaning = c.index.result.now in
     let short : c.args.variable - 1 < length s.meanings = omega (arith, c.requires.from_one, c.requires.in_range) in
     let at : get_or s.meanings (c.args.variable - 1) m ≡ m = ap (λ (v : SpaceView). get_or v.meanings (c.args.variable - 1) m) (sym c.self.view_is) ∙ sym c.index.ensures in
-    let is : slice_get s.meanings (c.args.variable - 1) ≡ Some m = slice_get-get_or s.meanings (c.args.variable - 1) m short ∙ ap (λ (x : Meaning). Some x) at in
-    variable-back s m c.args.variable (subst IsWhole c.self.view_is c.self.invariant).space c.requires.from_one is
+    slice_get-get_or s.meanings (c.args.variable - 1) m short ∙ ap (λ (x : Meaning). Some x) at
+
+pub returns-clause-back : goal.returns-clause-back
+returns-clause-back c = variable-back c.args.self.now c.index.result.now c.args.variable (subst IsWhole c.self.view_is c.self.invariant).space c.requires.from_one (is-at c)
+
+pub returns-clause-of : goal.returns-clause-of
+returns-clause-of c =
+    let whole = subst IsWhole c.self.view_is c.self.invariant in
+    meaning-of c.args.self.now c.index.result.now c.args.variable whole.space c.requires.from_one (omega (arith, c.requires.in_range, whole.stated)) (is-at c)
