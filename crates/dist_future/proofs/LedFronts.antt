@@ -94,6 +94,10 @@ no-classes s m other d is group lead = omega (arith, group)
 
 -- ---- new versions
 
+-- the variable of a member's cluster at a class
+pub at-variable : (s : SpaceView) (r k cluster v : ℕ) → cluster ≡ slice_index s.cluster_of r → v ≡ variable_of s (At cluster k) → v ≡ variable_of s (At (slice_index s.cluster_of r) k)
+at-variable s r k cluster v is value = value ∙ ap (λ (x : ℕ). variable_of s (At x k)) is
+
 pub gone-pair : (s : SpaceView) (v r k : ℕ) → IsMeaningOf s v (New r k) → IsPairAt s 2 v 0 (Gone r k) (Present r) (At (slice_index s.cluster_of r) k) false false
 gone-pair s v r k of = record {
   few = omega arith;

@@ -144,7 +144,41 @@ pub(crate) fn push_one_fresh(
     }
 }
 
-/// That in the archive of today no cluster is at a class, and no package of a new name is there.
+/// That in the archive of today a cluster is not at a class.
+fn push_stays(
+    space: &Space,
+    variable: u32,
+    cluster: u32,
+    class: u32,
+    set: &mut ClauseSet,
+) -> Result<(), PushError>
+    requires meaning { IsMeaningOf space.now variable (meaning.At cluster class) }
+    requires front { IsFront space.now 6 variable 0 set.old set.old }
+    ensures ok { OnOk result (IsFront space.now 6 (variable + 1) 0 set.old set.new) }
+    ensures err { IfErr result (IsCauseAt space.now set.old) }
+{
+    let now = space.variable(&Meaning::Now);
+    add_pair(set, Lit::new(now, false), Lit::new(variable, false))
+}
+
+/// That in the archive of today there is no package of a new name.
+fn push_absent(
+    space: &Space,
+    variable: u32,
+    name: u32,
+    class: u32,
+    set: &mut ClauseSet,
+) -> Result<(), PushError>
+    requires meaning { IsMeaningOf space.now variable (meaning.Fresh name class) }
+    requires front { IsFront space.now 6 variable 0 set.old set.old }
+    ensures ok { OnOk result (IsFront space.now 6 (variable + 1) 0 set.old set.new) }
+    ensures err { IfErr result (IsCauseAt space.now set.old) }
+{
+    let now = space.variable(&Meaning::Now);
+    add_pair(set, Lit::new(now, false), Lit::new(variable, false))
+}
+
+/// The clause of a class of a cluster or of a new name in the archive of today.
 pub(crate) fn push_today(
     space: &Space,
     variable: u32,
@@ -157,10 +191,8 @@ pub(crate) fn push_today(
     ensures err { IfErr result (IsCauseAt space.now set.old) }
 {
     match space.meaning(variable) {
-        Meaning::At(_, _) | Meaning::Fresh(_, _) => {
-            let now = space.variable(&Meaning::Now);
-            add_pair(set, Lit::new(now, false), Lit::new(variable, false))
-        }
+        Meaning::At(cluster, class) => push_stays(space, variable, cluster, class, set),
+        Meaning::Fresh(name, class) => push_absent(space, variable, name, class, set),
         _ => Ok(()),
     }
 }

@@ -1,0 +1,26 @@
+use Rattle.std.proofs.Common.{ap, sym, ◌∙◌, false, true}
+use Rattle.std.proofs.lemmas.Result.{IfErr-weaker, on_ok_weaker}
+use Rattle.dist_clause.specs.Formula.{literal}
+use Rattle.dist_future.specs.SpaceClauses.{StaysNow}
+use Rattle.dist_future.specs.declared.meaning.Meaning.TheVariants.{At, Now}
+use Rattle.dist_future.proofs.LedFronts.{stays-pair, today-end, pair-more, pair-over, pair-stops}
+use Rattle.dist_future.proofs.led_clauses.push_stays.Goals as goal
+
+pub add_pair-requires : goal.add_pair-requires
+add_pair-requires c =
+    pair-over c.args.space.now c.requires.meaning.space c.args.set.now 6 c.args.variable 0 (StaysNow c.args.cluster c.args.class) Now (At c.args.cluster c.args.class) false false
+    (stays-pair c.args.space.now c.args.variable c.args.cluster c.args.class c.requires.meaning) c.args.set.now c.requires.front c.new.result c.new-2.result
+    (c.new.ensures ∙ ap (λ v. literal v false) c.variable-now.ensures.value) (c.new-2.ensures ∙ ap (λ v. literal v false) (sym c.requires.meaning.variable_is))
+
+pub returns-clause-ok : goal.returns-clause-ok
+returns-clause-ok c =
+    on_ok_weaker c.add_pair.result (λ is. today-end c.args.space.now c.args.set.now c.add_pair.new.set c.args.variable (At c.args.cluster c.args.class) c.requires.meaning
+    (pair-more c.args.space.now c.requires.meaning.space c.args.set.now 6 c.args.variable 0 (StaysNow c.args.cluster c.args.class) Now (At c.args.cluster c.args.class) false false
+    (stays-pair c.args.space.now c.args.variable c.args.cluster c.args.class c.requires.meaning) c.args.set.now c.requires.front c.new.result c.new-2.result
+    (c.new.ensures ∙ ap (λ v. literal v false) c.variable-now.ensures.value) (c.new-2.ensures ∙ ap (λ v. literal v false) (sym c.requires.meaning.variable_is)) c.add_pair.new.set is)) c.add_pair.ensures.ok
+
+pub returns-clause-err : goal.returns-clause-err
+returns-clause-err c =
+    IfErr-weaker c.add_pair.result _ _ (pair-stops c.args.space.now c.requires.meaning.space c.args.set.now 6 c.args.variable 0 (StaysNow c.args.cluster c.args.class) Now (At c.args.cluster c.args.class) false false
+    (stays-pair c.args.space.now c.args.variable c.args.cluster c.args.class c.requires.meaning) c.args.set.now c.requires.front c.new.result c.new-2.result
+    (c.new.ensures ∙ ap (λ v. literal v false) c.variable-now.ensures.value) (c.new-2.ensures ∙ ap (λ v. literal v false) (sym c.requires.meaning.variable_is))) c.add_pair.ensures.err
