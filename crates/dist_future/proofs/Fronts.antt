@@ -13,7 +13,7 @@ use Rattle.dist_repo.specs.declared.package.Package.{Package}
 use Rattle.dist_future.specs.Gathering.{IsBelow, IsCauseAt, IsFront, IsRefused}
 use Rattle.dist_future.specs.Space.{IsMeaning, IsSpace, SpaceView, cluster_classes, fresh_classes, variable_of}
 use Rattle.dist_future.specs.SpaceClauses.{Demand, OneClass, Gone, Moved, Carried, OneFresh, Item, Apart, StaysNow, AbsentNow, Required, AreClausesOf, Excludes, IsBefore, IsClauseFor, IsDemand, group_of, leading, rank_of, second_of}
-use Rattle.dist_future.specs.SpaceSet.{IsSetOf}
+use Rattle.dist_future.specs.SpaceSet.{IsCause, IsSetOf}
 use Rattle.dist_future.specs.declared.meaning.Meaning.{Meaning}
 use Rattle.dist_future.specs.declared.meaning.Meaning.TheVariants.{Now, Present, At, New, Kept, Fresh}
 use Rattle.dist_future.proofs.DemandLists.{clauses-more, clauses-none, clauses-shift}
@@ -276,3 +276,42 @@ module _ (s : SpaceView) (space : IsSpace s) (limits : ClauseList) where
             passes = (omega (arith, r.1, c), omega (arith, r.2, l));
           }
       by NoMemory r = tt
+
+  -- to the names, where all variables were gone through
+  pub front-last : (v : ℕ) (set : ClauseList) → length s.meanings < v → IsFront s 6 v 0 limits set → IsFront s 7 0 0 limits set
+  front-last v set past of =
+      set-shift (IsBelow s 6 v 0) (IsBelow s 7 0 0) limits.clause_limit limits.literal_limit set
+      (λ d h. (h.0, cases-below s d 7 0 0 (to d (below-cases s d 6 v 0 h.1))))
+      (λ d h. (h.0, cases-below s d 6 v 0 (back d h.0 (below-cases s d 7 0 0 h.1)))) of
+    where
+      to : (d : Demand) → IsLess (rank_of s d) (6 ∷ v ∷ 0 ∷ []) → IsLess (rank_of s d) (7 ∷ 0 ∷ 0 ∷ [])
+      to d (inl less) = inl (omega (arith, less))
+      to d (inr (group, rest)) = inl (omega (arith, group))
+
+      back : (d : Demand) → IsDemand s d → IsLess (rank_of s d) (7 ∷ 0 ∷ 0 ∷ []) → IsLess (rank_of s d) (6 ∷ v ∷ 0 ∷ [])
+      back d is (inr (group, inl less)) = absurd (omega (arith, less))
+      back d is (inr (group, inr (variable, second))) = absurd (let range = variable-range s (leading d) space (leading-is s d is) in omega (arith, variable, range.0))
+      back d is (inl less) = elim (cases_lt (group_of d) 6) [
+        | inl below ↦ inl below
+        | inr past_group ↦
+            let range = variable-range s (leading d) space (leading-is s d is) in
+            inr (omega (arith, less, past_group), inl (omega (arith, past, range.1)))
+      ]
+
+-- ---- the limits of one set and of another
+
+module _ (s : SpaceView) (limits : ClauseList) (g v b : ℕ) where
+  -- a set has its own limits
+  pub front-own : (set : ClauseList) → IsFront s g v b limits set → IsFront s g v b set set
+  front-own set of = record { clauses = of.clauses; variables = of.variables; clause_limit_is = refl; literal_limit_is = refl }
+
+  -- one front after another
+  pub front-from : (h w c : ℕ) (set new : ClauseList) → IsFront s g v b limits set → IsFront s h w c set new → IsFront s h w c limits new
+  front-from h w c set new of next = record { clauses = next.clauses; variables = next.variables; clause_limit_is = next.clause_limit_is ∙ of.clause_limit_is; literal_limit_is = next.literal_limit_is ∙ of.literal_limit_is }
+
+  -- a cause on the way is one
+  pub cause-from : (set : ClauseList) → IsFront s g v b limits set → (error : PushError) → IsCauseAt s set error → IsCauseAt s limits error
+  cause-from set of error cause =
+      let Clauses : ℕ → Type 0 = λ n. IsCause s n limits.literal_limit error in
+      let Literals : ℕ → Type 0 = λ n. IsCause s set.clause_limit n error in
+      subst Clauses of.clause_limit_is (subst Literals of.literal_limit_is cause)

@@ -7,6 +7,7 @@ mod exampled;
 mod frame;
 mod laws;
 mod led_clauses;
+mod led_groups;
 mod meaning;
 mod numbering;
 mod place;
