@@ -22,3 +22,5 @@ pub mod DemandLists
 pub mod Fronts
 pub mod PairClauses
 pub mod LedFronts
+pub mod RisingRows
+pub mod ExactLemmas

@@ -5,6 +5,7 @@ pub mod SpaceClauses
 pub mod SpaceSet
 pub mod Stands
 pub mod SpaceLaws
+pub mod ClauseLaws
 pub mod SpaceOf
 pub mod Numbering
 pub mod Kept

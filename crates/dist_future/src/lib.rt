@@ -1,6 +1,7 @@
 //! Futures: the archives that may come of a repository, and a finite space of clauses that stands for all of them.
 #![tactic(auto)]
 
+mod clause_laws;
 mod clause_text;
 mod errors;
 mod exampled;
@@ -13,6 +14,7 @@ mod numbering;
 mod place;
 mod space;
 
+pub use clause_laws::{one_limit_is_passed, space_clauses_are_one, space_clauses_go_on};
 pub use errors::SpaceError;
 pub use laws::{each_model_is_a_future, models_stand_for_futures};
 pub use meaning::Meaning;
