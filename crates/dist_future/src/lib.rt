@@ -19,3 +19,6 @@ pub use errors::SpaceError;
 pub use laws::{each_model_is_a_future, models_stand_for_futures};
 pub use meaning::Meaning;
 pub use space::{Space, space_of};
+
+#[cfg(test)]
+mod tests;
