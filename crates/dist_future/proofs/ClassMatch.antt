@@ -359,11 +359,13 @@ module _ (s : SpaceView) (x k : ℕ) (name : List ℕ) (fresh : IsFreshAt s x k 
 
   pub to-fresh : (n : Package) → IsOfNewName name n → IsOfClassAt (fresh_classes s x) k n.version → Matches s.repository.architecture atom n → IsMatched s atom (Fresh x k)
   to-fresh n new class matches =
-      let other = (n-alike n new class).0 matches in
-      (matches.usable, at-has FreshMeets s.names x name fresh.is (elim other.matched [
-        | inl by_name ↦ (by_name.name, by_name.bound)
-        | inr any ↦ absurd (none-matched (λ e. MatchesByEntry s.repository.architecture atom e) any)
-      ]))
+      let other = (n-alike n new class).0 matches in (
+        matches.usable,
+        at-has FreshMeets s.names x name fresh.is (elim other.matched [
+          | inl by_name ↦ (by_name.name, by_name.bound)
+          | inr any ↦ absurd (none-matched (λ e. MatchesByEntry s.repository.architecture atom e) any)
+        ]),
+      )
 
   pub from-fresh : (n : Package) → IsOfNewName name n → IsOfClassAt (fresh_classes s x) k n.version → IsMatched s atom (Fresh x k) → Matches s.repository.architecture atom n
   from-fresh n new class matched =

@@ -139,8 +139,8 @@ module _ (s : SpaceView) (values : List Bool) where
         let is = All-contains (λ (a : Row). IsClauseFor s a.0 a.1) are.rows row are.each there in
         let For : Demand → Type 0 = λ e. IsClauseFor s e row.1 in
         let within : Contains clauses row.1 =
-            subst (λ (xs : List (List Literal)). Contains xs row.1) (sym are.are)
-            (contained-map are.rows row there) in
+        subst (λ (xs : List (List Literal)). Contains xs row.1) (sym are.are)
+        (contained-map are.rows row there) in
         record { clause = row.1; is_clause = subst For any.4 is; holds = All-contains Makes clauses row.1 model within }
       where
         contained-map : (rows : List Row) (a : Row) → Contains rows a → Contains (map (λ (b : Row). b.1) rows) a.1

@@ -116,9 +116,15 @@ module _ (architecture : Option (List ℕ)) (kept : ℕ → Meaning) where
   entries-within place (e ∷ entries) (suc i) entry is =
       let at : place + 1 + i ≡ place + suc i = omega arith in
       let own = ap (λ (k : ℕ). length (entry_part architecture entry.qualifier (kept k))) at in
-      omega (arith, own, entries-within (place + 1) entries i entry is,
-      ap (λ (xs : List Meaning). length xs) (first-entry place e entries), length-append (entry_part architecture e.qualifier (kept place)) (Parts (place + 1) entries),
-      ap (λ (xs : List Meaning). length xs) (first-entry place e (take i entries)), length-append (entry_part architecture e.qualifier (kept place)) (Parts (place + 1) (take i entries)))
+      omega (
+        arith,
+        own,
+        entries-within (place + 1) entries i entry is,
+        ap (λ (xs : List Meaning). length xs) (first-entry place e entries),
+        length-append (entry_part architecture e.qualifier (kept place)) (Parts (place + 1) entries),
+        ap (λ (xs : List Meaning). length xs) (first-entry place e (take i entries)),
+        length-append (entry_part architecture e.qualifier (kept place)) (Parts (place + 1) (take i entries)),
+      )
 
   pub extend-entry : (limit : ℕ) (old cur new : List Meaning) (entries : List Provide) (i : ℕ) (entry : Provide) → slice_get entries i ≡ Some entry → IsExtended limit old (Parts 0 (take i entries)) cur
       → IsExtended limit cur (entry_part architecture entry.qualifier (kept i)) new → IsExtended limit old (Parts 0 (take (i + 1) entries)) new

@@ -71,8 +71,7 @@ numbers-more clusters numbers n cluster same are one c m short = elim (cases_lt 
   | inr more ↦
       let is : length numbers ≡ m = omega (arith, more, short, same) in
       let last : slice_get (numbers ++ cluster ∷ []) m ≡ Some cluster = ap (λ (i : ℕ). slice_get (numbers ++ cluster ∷ []) i) (sym is) ∙ get-last numbers cluster in
-      let number : n ≡ m = omega (arith, is, same) in
-      (
+      let number : n ≡ m = omega (arith, is, same) in (
         λ is_in. last ∙ ap (λ (x : ℕ). Some x) (sym ((one c).0 (subst (IsIn clusters c) (sym number) is_in))),
         λ at. subst (IsIn clusters c) number ((one c).1 (same_Some c cluster (sym at ∙ last))),
       )

@@ -53,7 +53,7 @@ required-package false packages name there = absurd (omega (arith, there.1))
 required-package true packages name there =
     let Named : List ℕ → Type 0 = λ x. Any (λ (q : Package). q.name ≡ x) packages in
     let each : All (λ (q : Package). Named q.name) (filter (λ q. q.essential) packages) =
-        All-filter (λ (q : Package). q.essential) (λ (q : Package). Named q.name) packages (all-contained (λ (q : Package). Named q.name) packages (λ q inside. any-contained (λ (x : Package). x.name ≡ q.name) packages q inside refl)) in
+    All-filter (λ (q : Package). q.essential) (λ (q : Package). Named q.name) packages (all-contained (λ (q : Package). Named q.name) packages (λ q inside. any-contained (λ (x : Package). x.name ≡ q.name) packages q inside refl)) in
     found-at (λ (q : Package). q.name ≡ name) packages
     (All-contains Named (required_names true packages) name (All-map Named (λ (q : Package). q.name) (filter (λ q. q.essential) packages) each) there)
 
@@ -118,11 +118,13 @@ module _ (laws : ClassLaws) (s : SpaceView) (space : IsSpace s) (future members 
       by-name q is k moves named =
           let n : Package = named.1 in
           let there : Contains members n = (named.0, named.2, named.3) in
-          let new = (moves-to r k q n is moves there named.4).0 in
-          (new.0, λ l p m at also other name.
-          let same_package : q ≡ p = cc in
-          let same_member : n ≡ m = one-member n m there other (named.4 ∙ ap (λ (x : Package). x.name) same_package ∙ sym name) in
-          subst (λ (x : Package). IsNewVersionOf x new.0 m) same_package (subst (λ (x : Package). IsNewVersionOf q new.0 x) same_member new.1))
+          let new = (moves-to r k q n is moves there named.4).0 in (
+            new.0,
+            λ l p m at also other name.
+                let same_package : q ≡ p = cc in
+                let same_member : n ≡ m = one-member n m there other (named.4 ∙ ap (λ (x : Package). x.name) same_package ∙ sym name) in
+                subst (λ (x : Package). IsNewVersionOf x new.0 m) same_package (subst (λ (x : Package). IsNewVersionOf q new.0 x) same_member new.1),
+          )
 
       by-fate : (q : Package) → slice_get s.repository.packages r ≡ Some q → (k : ℕ) → fate (slice_index s.cluster_of r) ≡ Some k → (kept : List Bool) × IsFlagsOf r kept
       by-fate q is k moves = elim (any-decided (λ (n : Package). n.name ≡ q.name) (λ n. text-decided n.name q.name) members) [
@@ -351,7 +353,7 @@ module _ (laws : ClassLaws) (s : SpaceView) (space : IsSpace s) (future members 
       let inside : Contains members n = (at.holds.0, at.holds.2, at.holds.3) in
       let matches : Matches s.repository.architecture at.element n = at.holds.4 in
       let dependency : IsDependencyAtom s.repository.packages at.element =
-          any-at (λ (q : Package). Any (λ i. Contains i at.element) q.depends) s.repository.packages r p is (any-at (λ i. Contains i at.element) p.depends place item is_item (contains-at item at.place at.element at.is)) in
+      any-at (λ (q : Package). Any (λ i. Contains i at.element) q.depends) s.repository.packages r p is (any-at (λ i. Contains i at.element) p.depends place item is_item (contains-at item at.place at.element at.is)) in
       let found = member-found at.element matches.usable dependency n inside matches in
       record { meaning = found.meaning; is_meaning = found.is_meaning; holds = found.holds; has = any-at (λ atom. IsMatched s atom found.meaning) item at.place at.element at.is found.has }
 
@@ -366,17 +368,17 @@ module _ (laws : ClassLaws) (s : SpaceView) (space : IsSpace s) (future members 
       let is_bearer = at-has (λ (p : Package). p.name ≡ name) s.repository.packages at.place at.element at.is at.holds in
       elim (option-cases (fate (slice_index s.cluster_of at.place))) [
         | inl stays ↦ record {
-            meaning = Present at.place;
-            is_meaning = within;
-            holds = at-has (λ (p : Package). Contains members p) s.repository.packages at.place at.element at.is (subst (λ (x : Package). Contains members x) (stays-itself at.place at.element n at.is stays inside same) inside);
-            has = is_bearer;
-          }
+          meaning = Present at.place;
+          is_meaning = within;
+          holds = at-has (λ (p : Package). Contains members p) s.repository.packages at.place at.element at.is (subst (λ (x : Package). Contains members x) (stays-itself at.place at.element n at.is stays inside same) inside);
+          has = is_bearer;
+        }
         | inr to ↦ record {
-            meaning = New at.place to.0;
-            is_meaning = (within, short-of at.place to.0 n.version (moves-to at.place to.0 at.element n at.is to.1 inside same).1);
-            holds = (to.1, name-of-member at.place at.element n at.is inside same);
-            has = is_bearer;
-          }
+          meaning = New at.place to.0;
+          is_meaning = (within, short-of at.place to.0 n.version (moves-to at.place to.0 at.element n at.is to.1 inside same).1);
+          holds = (to.1, name-of-member at.place at.element n at.is inside same);
+          has = is_bearer;
+        }
       ]
 
   pub met-by-future : AreMet s Holds

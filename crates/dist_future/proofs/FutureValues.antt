@@ -139,9 +139,9 @@ module _ (laws : ClassLaws) (s : SpaceView) (space : IsSpace s) (future members 
   future-model clauses are =
       let values : List Bool = map value s.meanings in
       let to : (m : Meaning) → IsMeaning s m → Holds laws s space future members N fate seen m → IsTrueMeaning s values m =
-          λ m is_meaning holds. value-at s value m space is_meaning ∙ answer-true (holds-decided m) holds in
+      λ m is_meaning holds. value-at s value m space is_meaning ∙ answer-true (holds-decided m) holds in
       let back : (m : Meaning) → IsMeaning s m → IsTrueMeaning s values m → Holds laws s space future members N fate seen m =
-          λ m is_meaning is. answer-from (holds-decided m) (sym (value-at s value m space is_meaning) ∙ is) in
+      λ m is_meaning is. answer-from (holds-decided m) (sym (value-at s value m space is_meaning) ∙ is) in
       record {
         values = values;
         one_each = length-map s.meanings value;

@@ -280,9 +280,11 @@ module _ (laws : ClassLaws) (s : SpaceView) (space : IsSpace s) (holds : Meaning
             let same = same-cluster i at.place c q is in_cluster at.is in
             let n_is : n ≡ new_version s holds version at.place k q = named-later at.place q n at.is there name ∙ ap (moved_package s holds version at.place q) (ap (class_chosen s holds) same ∙ some) in
             let here : k < length (member_classes s at.place) = subst (λ (x : ℕ). k < length (cluster_classes s x)) (sym same) short in
-            let new : IsNewOf q (new_version s holds version at.place k q) = (kept_of at.place k q, new-of at.place k q here) in
-            (subst (λ (x : Package). IsNewOf q x) (sym n_is) new, subst (λ (x : Package). version_cmp x.version (version own k) ≡ Equal) (sym n_is)
-            (subst (λ (x : ℕ). version_cmp (version x k) (version own k) ≡ Equal) (sym same) (equal-itself (version own k))));
+            let new : IsNewOf q (new_version s holds version at.place k q) = (kept_of at.place k q, new-of at.place k q here) in (
+              subst (λ (x : Package). IsNewOf q x) (sym n_is) new,
+              subst (λ (x : Package). version_cmp x.version (version own k) ≡ Equal) (sym n_is)
+                  (subst (λ (x : ℕ). version_cmp (version x k) (version own k) ≡ Equal) (sym same) (equal-itself (version own k))),
+            );
       }
 
   pub future-is : IsFuture s.repository (future_of s holds version)
@@ -459,7 +461,7 @@ module _ (laws : ClassLaws) (s : SpaceView) (space : IsSpace s) (holds : Meaning
       let some = met.met r place p item is is_item true_is in
       let at = found-at (λ atom. IsMatched s atom some.meaning) item some.has in
       let dependency : IsDependencyAtom s.repository.packages at.element =
-          any-at (λ (q : Package). Any (λ i. Contains i at.element) q.depends) s.repository.packages r p is (any-at (λ i. Contains i at.element) p.depends place item is_item (contains-at item at.place at.element at.is)) in
+      any-at (λ (q : Package). Any (λ i. Contains i at.element) q.depends) s.repository.packages r p is (any-at (λ i. Contains i at.element) p.depends place item is_item (contains-at item at.place at.element at.is)) in
       any-at (λ atom. Any (Matches s.repository.architecture atom) (installation_of s holds version)) item at.place at.element at.is
       (member-for some.meaning some.is_meaning some.holds at.element (record { usable = at.holds.0; there = inl dependency }) at.holds)
 
@@ -581,7 +583,7 @@ module _ (laws : ClassLaws) (s : SpaceView) (space : IsSpace s) (holds : Meaning
       let same : slice_index s.cluster_of place.place ≡ c = same-cluster m place.place q p is in_cluster place.is ∙ cluster_is in
       let chosen : class_chosen s holds (slice_index s.cluster_of place.place) ≡ Some k = ap (class_chosen s holds) same ∙ chosen-is c k short at in
       let there : Contains (future_of s holds version) (new_version s holds version place.place k p) =
-          subst (λ (x : Package). Contains (future_of s holds version) x) (ap (moved_package s holds version place.place p) chosen) (in-future place.place p place.is) in
+      subst (λ (x : Package). Contains (future_of s holds version) x) (ap (moved_package s holds version place.place p) chosen) (in-future place.place p place.is) in
       any-contained (λ (n : Package). (n.name ≡ p.name) × (version_cmp n.version (version c k) ≡ Equal)) (future_of s holds version) (new_version s holds version place.place k p) there
       (refl, subst (λ (x : ℕ). version_cmp (version x k) (version c k) ≡ Equal) (sym same) (equal-itself (version c k)))
 

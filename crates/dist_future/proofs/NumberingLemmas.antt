@@ -283,10 +283,10 @@ module _ (s : SpaceView) (frame : IsFrame s) where
       let names = flat_map (fresh_part s) (below (length s.names)) in
       let packages = map (λ r. Present r) (below (length s.repository.packages)) in
       let later : (a : Meaning) → Contains (clusters ++ names) a → (x : ℕ) → x < 2 → (b : Meaning) → Begins (x ∷ []) b → Before b a =
-          λ a there x less b begins. elim (Contains-append_cases clusters names a there) [
-            | inl here ↦ starts-before b a x 2 less begins (in-clusters a here)
-            | inr here ↦ starts-before b a x 3 (omega (arith, less)) begins (in-names a here)
-          ] in
+      λ a there x less b begins. elim (Contains-append_cases clusters names a there) [
+        | inl here ↦ starts-before b a x 2 less begins (in-clusters a here)
+        | inr here ↦ starts-before b a x 3 (omega (arith, less)) begins (in-names a here)
+      ] in
       let now : Begins (0 ∷ []) Now = record { rest = []; is = refl } in
       pairs-cons Before Now (packages ++ (clusters ++ names))
       (λ m there. elim (Contains-append_cases packages (clusters ++ names) m there) [
@@ -313,7 +313,7 @@ module _ (s : SpaceView) (frame : IsFrame s) where
             let place : usable.0 ≡ from.source = omega (arith, usable.1) in
             let At : List Provide → Type 0 = λ entries. IsUsableAt s.repository.architecture entries from.source in
             let at : IsUsableAt s.repository.architecture (provided_by (slice_get s.repository.packages r)) from.source =
-                subst (λ (x : ℕ). IsUsableAt s.repository.architecture (provided_by (slice_get s.repository.packages r)) x) place usable.2 in
+            subst (λ (x : ℕ). IsUsableAt s.repository.architecture (provided_by (slice_get s.repository.packages r)) x) place usable.2 in
             let own : IsUsableAt s.repository.architecture p.package_is.provides from.source = subst At (ap provided_by p.is) at in
             subst (IsMeaning s) from.gives
             (at-has (λ (q : Package). IsUsableAt s.repository.architecture q.provides from.source) s.repository.packages r p.package_is p.is own, here)
@@ -388,7 +388,7 @@ module _ (s : SpaceView) (frame : IsFrame s) where
       let p = here-at (λ (q : Package). IsUsableAt s.repository.architecture q.provides j) s.repository.packages r is.0 in
       let places = usable_from s.repository.architecture 0 (provided_by (slice_get s.repository.packages r)) in
       let own : IsUsableAt s.repository.architecture (provided_by (slice_get s.repository.packages r)) j =
-          subst (λ (entries : List Provide). IsUsableAt s.repository.architecture entries j) (sym (ap provided_by p.is)) p.holds in
+      subst (λ (entries : List Provide). IsUsableAt s.repository.architecture entries j) (sym (ap provided_by p.is)) p.holds in
       let there : Contains places j = subst (λ (x : ℕ). Contains places x) (zero-add j) (from-usable s.repository.architecture 0 (provided_by (slice_get s.repository.packages r)) j own) in
       in-member r k (Kept r k j) (slice_get_within s.repository.packages r p.element p.is) is.1 (contains-later (New r k) (Kept r k j) (map (λ i. Kept r k i) places) (map-in (λ i. Kept r k i) places j there))
   meaning-in (Fresh x k) is =

@@ -104,8 +104,8 @@ module _ (s : SpaceView) (frame : IsFrame s) where
       let has = has-cluster m (slice_get_within s.repository.packages m p is_p) in
       let Second : Member → Type 0 = λ a. IsSomeAnd (slice_get (map member_of s.repository.packages) n) (λ b. AreClustered a b) in
       let together : AreTogether (map member_of s.repository.packages) m n =
-          at-has Second (map member_of s.repository.packages) m (member_of p) (member-at m p is_p)
-          (at-has (λ b. AreClustered (member_of p) b) (map member_of s.repository.packages) n (member_of q) (member-at n q is_q) clustered) in
+      at-has Second (map member_of s.repository.packages) m (member_of p) (member-at m p is_p)
+      (at-has (λ b. AreClustered (member_of p) b) (map member_of s.repository.packages) n (member_of q) (member-at n q is_q) clustered) in
       let there = (whole-at c m has.within has.there n).1 together in
       placed-in c n (at-has (λ (cluster : List ℕ). Contains cluster n) s.clusters.members c (get_or s.clusters.members c []) (slice_get-get_or s.clusters.members c [] has.within) there)
 
@@ -149,7 +149,7 @@ module _ (s : SpaceView) (frame : IsFrame s) where
       let at = place-of (get_or s.clusters.members c []) m has.there in
       let Has : ℕ → Type 0 = λ n. IsSomeAnd (slice_get (map member_of s.repository.packages) n) (λ (a : Member). a.version ≡ p.version) in
       let in_cluster : IsVersionIn (map member_of s.repository.packages) (get_or s.clusters.members c []) p.version =
-          (has.there.0, m, has.there.1, has.there.2, at-has (λ (a : Member). a.version ≡ p.version) (map member_of s.repository.packages) m (member_of p) (member-at m p is) refl) in
+      (has.there.0, m, has.there.1, has.there.2, at-has (λ (a : Member). a.version ≡ p.version) (map member_of s.repository.packages) m (member_of p) (member-at m p is) refl) in
       not-above_below (get_or s.clusters.tops c []) p.version v ((top-is c has.within).greatest p.version in_cluster) above
 
   pub top-below : (m : ℕ) (p : Package) (v : List ℕ) → slice_get s.repository.packages m ≡ Some p → IsAboveCluster s.repository p v → IsBelow (get_or s.clusters.tops (slice_index s.cluster_of m) []) v

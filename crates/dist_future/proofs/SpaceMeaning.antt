@@ -47,10 +47,12 @@ module _ (laws : ClassLaws) (s : SpaceView) (space : IsSpace s) where
   moves-fate future m p is moves =
       let c = slice_index s.cluster_of m in
       let has = has-cluster s space.frame m (slice_get_within s.repository.packages m p is) in
-      let class = class-of laws s space.frame c moves.version has.within (top-below s space.frame m p moves.version is moves.above) in
-      (Some class.class, λ n q x is_q same there name.
-      let h = moves.moved q x (in-cluster m n p q is is_q same) there name in
-      (h.0, class_at-same (cluster_classes s c) class.class moves.version x.version (equal-back x.version moves.version h.1) class.is))
+      let class = class-of laws s space.frame c moves.version has.within (top-below s space.frame m p moves.version is moves.above) in (
+        Some class.class,
+        λ n q x is_q same there name.
+            let h = moves.moved q x (in-cluster m n p q is is_q same) there name in
+            (h.0, class_at-same (cluster_classes s c) class.class moves.version x.version (equal-back x.version moves.version h.1) class.is),
+      )
 
   fate-of : (future : List Package) → IsFuture s.repository future → (c : ℕ) → (o : Option ℕ) × (c < length s.clusters.members → IsFate s future c o)
   fate-of future is_future c = elim (cases_lt c (length s.clusters.members)) [
@@ -60,7 +62,7 @@ module _ (laws : ClassLaws) (s : SpaceView) (space : IsSpace s) where
         let there = contains-at (get_or s.clusters.members c []) 0 first.element first.is in
         let p = in-package s space.frame c first.element short there in
         let is_in : IsIn s.clusters.members c first.element =
-            at-has (λ (cluster : List ℕ). Contains cluster first.element) s.clusters.members c (get_or s.clusters.members c []) (slice_get-get_or s.clusters.members c [] short) there in
+        at-has (λ (cluster : List ℕ). Contains cluster first.element) s.clusters.members c (get_or s.clusters.members c []) (slice_get-get_or s.clusters.members c [] short) there in
         let same : slice_index s.cluster_of first.element ≡ c = placed-in s space.frame c first.element is_in in
         let fate : HasFate future (slice_index s.cluster_of first.element) = elim (is_future.clusters p.package_is (contains-at s.repository.packages first.element p.package_is p.is)) [
           | inl stays ↦ stays-fate future first.element p.package_is p.is stays

@@ -69,16 +69,19 @@ pair p q differ (suc i) j d less short = absurd (omega (arith, less, short))
 -- ---- both members move together
 
 two-is-version : IsVersion (codes "2")
-two-is-version = (record { epoch = 0; upstream = codes "2"; revision = None }, record {
-  front = [];
-  whole = refl;
-  epoch = inr (refl, refl);
-  small = omega arith;
-  upstream = (lit< tt, refl);
-  revision = tt;
-  written = λ h. absurd (let no-colon : false ≡ true = h in cc);
-  revised = λ h. absurd (let no-hyphen : false ≡ true = h in cc);
-})
+two-is-version = (
+  record { epoch = 0; upstream = codes "2"; revision = None },
+  record {
+    front = [];
+    whole = refl;
+    epoch = inr (refl, refl);
+    small = omega arith;
+    upstream = (lit< tt, refl);
+    revision = tt;
+    written = λ h. absurd (let no-colon : false ≡ true = h in cc);
+    revised = λ h. absurd (let no-hyphen : false ≡ true = h in cc);
+  },
+)
 
 one-below-two : IsBelow (codes "1") (codes "2")
 unfolding version_cmp part_cmp weights_of epoch_of epoch_digits after_epoch upstream_of revision_of

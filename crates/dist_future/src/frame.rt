@@ -38,30 +38,34 @@ impl Model for Frame {
     ghost Value = { SpaceView };
 
     ghost view = { λ f. record {
-        repository = f.repo;
-        essential = f.essential;
-        clusters = f.clusters;
-        cluster_of = f.cluster_of.items;
-        classes = f.classes.items;
-        names = f.names;
-        name_classes = f.name_classes.items;
-        meanings = [];
+      repository = f.repo;
+      essential = f.essential;
+      clusters = f.clusters;
+      cluster_of = f.cluster_of.items;
+      classes = f.classes.items;
+      names = f.names;
+      name_classes = f.name_classes.items;
+      meanings = [];
     } };
 
     ghost invariant = { λ f. IsSizedFrame (record {
-        repository = f.repo;
-        essential = f.essential;
-        clusters = f.clusters;
-        cluster_of = f.cluster_of.items;
-        classes = f.classes.items;
-        names = f.names;
-        name_classes = f.name_classes.items;
-        meanings = [];
+      repository = f.repo;
+      essential = f.essential;
+      clusters = f.clusters;
+      cluster_of = f.cluster_of.items;
+      classes = f.classes.items;
+      names = f.names;
+      name_classes = f.name_classes.items;
+      meanings = [];
     }) };
 }
 
 /// The number of the cluster of each package.
-fn cluster_numbers(alloc: Global, clusters: &Clusters, packages: u32) -> Result<Vec<u32>, AllocError>
+fn cluster_numbers(
+    alloc: Global,
+    clusters: &Clusters,
+    packages: u32,
+) -> Result<Vec<u32>, AllocError>
     requires every { (m : ℕ) → m < packages → Any (λ cluster. Contains cluster m) clusters.now.members }
     requires within { (c m : ℕ) → IsIn clusters.now.members c m → m < packages }
     ensures { IfOk result (λ numbers. (c m : ℕ) → IsIn clusters.now.members c m ↔ (slice_get numbers.items m ≡ Some c)) }

@@ -85,11 +85,7 @@ fn push_kept(
 }
 
 /// The clauses of a new version and of its entries.
-pub(crate) fn push_moves(
-    space: &Space,
-    variable: u32,
-    set: &mut ClauseSet,
-) -> Result<(), PushError>
+pub(crate) fn push_moves(space: &Space, variable: u32, set: &mut ClauseSet) -> Result<(), PushError>
     requires from_one { 1 ≤ variable }
     requires in_range { variable ≤ length space.now.meanings }
     requires front { IsFront space.now 2 variable 0 set.old set.old }
@@ -179,11 +175,7 @@ fn push_absent(
 }
 
 /// The clause of a class of a cluster or of a new name in the archive of today.
-pub(crate) fn push_today(
-    space: &Space,
-    variable: u32,
-    set: &mut ClauseSet,
-) -> Result<(), PushError>
+pub(crate) fn push_today(space: &Space, variable: u32, set: &mut ClauseSet) -> Result<(), PushError>
     requires from_one { 1 ≤ variable }
     requires in_range { variable ≤ length space.now.meanings }
     requires front { IsFront space.now 6 variable 0 set.old set.old }

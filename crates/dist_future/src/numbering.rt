@@ -62,7 +62,13 @@ fn add_entries(
 {
     for place in 0..package.provides.len() {
         let kept = Meaning::Kept(member, class, place as u32);
-        add_entry(frame, kept, &package.provides.get(place).qualifier, meanings, limit)?;
+        add_entry(
+            frame,
+            kept,
+            &package.provides.get(place).qualifier,
+            meanings,
+            limit,
+        )?;
     }
     Ok(())
 }

@@ -47,9 +47,18 @@ impl Space {
         ensures { result ≡ key_of self.now meaning.now }
     {
         match *meaning {
-            Meaning::Now => Key { parts: [0, 0, 0, 0, 0], len: 1 },
-            Meaning::Present(number) => Key { parts: [1, number, 0, 0, 0], len: 2 },
-            Meaning::At(cluster, class) => Key { parts: [2, cluster, class, 0, 0], len: 3 },
+            Meaning::Now => Key {
+                parts: [0, 0, 0, 0, 0],
+                len: 1,
+            },
+            Meaning::Present(number) => Key {
+                parts: [1, number, 0, 0, 0],
+                len: 2,
+            },
+            Meaning::At(cluster, class) => Key {
+                parts: [2, cluster, class, 0, 0],
+                len: 3,
+            },
             Meaning::New(member, class) => Key {
                 parts: [2, self.cluster_of(member), class, member, 0],
                 len: 4,
@@ -58,7 +67,10 @@ impl Space {
                 parts: [2, self.cluster_of(member), class, member, entry],
                 len: 5,
             },
-            Meaning::Fresh(name, class) => Key { parts: [3, name, class, 0, 0], len: 3 },
+            Meaning::Fresh(name, class) => Key {
+                parts: [3, name, class, 0, 0],
+                len: 3,
+            },
         }
     }
 

@@ -33,25 +33,25 @@ impl Model for Space {
     ghost Value = { SpaceView };
 
     ghost view = { λ s. record {
-        repository = s.frame.repository;
-        essential = s.frame.essential;
-        clusters = s.frame.clusters;
-        cluster_of = s.frame.cluster_of;
-        classes = s.frame.classes;
-        names = s.frame.names;
-        name_classes = s.frame.name_classes;
-        meanings = s.meanings.items;
+      repository = s.frame.repository;
+      essential = s.frame.essential;
+      clusters = s.frame.clusters;
+      cluster_of = s.frame.cluster_of;
+      classes = s.frame.classes;
+      names = s.frame.names;
+      name_classes = s.frame.name_classes;
+      meanings = s.meanings.items;
     } };
 
     ghost invariant = { λ s. IsWhole (record {
-        repository = s.frame.repository;
-        essential = s.frame.essential;
-        clusters = s.frame.clusters;
-        cluster_of = s.frame.cluster_of;
-        classes = s.frame.classes;
-        names = s.frame.names;
-        name_classes = s.frame.name_classes;
-        meanings = s.meanings.items;
+      repository = s.frame.repository;
+      essential = s.frame.essential;
+      clusters = s.frame.clusters;
+      cluster_of = s.frame.cluster_of;
+      classes = s.frame.classes;
+      names = s.frame.names;
+      name_classes = s.frame.name_classes;
+      meanings = s.meanings.items;
     }) };
 }
 

@@ -46,7 +46,11 @@ fn repository(alloc: Global, rows: &(Row, Row, Row)) -> Result<Repository, Fail>
 }
 
 /// The space of three packages, of a number of variables at most.
-fn made(alloc: Global, rows: &(Row, Row, Row), variables: u32) -> Result<Result<Space, SpaceError>, Fail>
+fn made(
+    alloc: Global,
+    rows: &(Row, Row, Row),
+    variables: u32,
+) -> Result<Result<Space, SpaceError>, Fail>
     requires { variables < 100 }
 {
     let repo = repository(alloc, rows)?;

@@ -19,7 +19,7 @@ found c =
     let there : Contains s.meanings m = (space.meanings.exact m).1 (c.requires, tt) in
     let parted = meanings-parted s m s.meanings space.meanings.rising in
     let point = IsPartitionPoint-from_clause (before_it s m) c.as_slice.result.now c.partition_point-before.result c.partition_point-before.ensures.partitioned
-        (subst (IsPartitionedBy (before_it s m)) same parted) (λ a r q k. search rules) in
+    (subst (IsPartitionedBy (before_it s m)) same parted) (λ a r q k. search rules) in
     subst (λ (xs : List Meaning). slice_get xs c.partition_point-before.result ≡ Some m) (sym same)
     (point-is s m c.as_slice.result.now c.partition_point-before.result (subst (AllPairs (StandsBefore s)) same space.meanings.rising) (subst (λ (xs : List Meaning). Contains xs m) same there) point)
 
