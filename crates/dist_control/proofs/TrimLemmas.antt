@@ -1,7 +1,7 @@
 -- White space at both ends of a text, by the places of the bytes that are not white.
 use Rattle.std.proofs.Common.{◌≡◌, ℕ, zero, suc, ◌+◌, ◌-◌, ◌<◌, ◌≤◌, true, false, not, ◌||◌, cond, eqb, List, [], ◌∷◌, ◌++◌, length, get_or, take, drop, reverse, refl, sym, ap, ◌∙◌, arith}
 use Rattle.std.proofs.lemmas.Bool.{cond-true, cond-false, not-true}
-use Rattle.std.proofs.lemmas.List.{get_or-reverse, get_or-take, reverse-append, reverse-reverse, length-reverse, length-drop, length-take-le, take-append-drop, drop_at}
+use Rattle.std.proofs.lemmas.List.{get_or-reverse, get_or-take, reverse-append, reverse-reverse, length-reverse, length-drop, length-take-le, take-append-drop, take_all, drop_at}
 use Rattle.bstr.specs.Bytes.{is_in, not_in}
 use Rattle.dist_control.specs.Bytes.{is_white}
 use Rattle.dist_control.specs.Fields.{trim_start, trim}
@@ -88,3 +88,10 @@ trim-end (first ∷ text) byte is =
       | true ↦ trim-end text byte is
       | false ↦ ap reverse (ap trim_start (reverse-append (first ∷ text) (byte ∷ [])) ∙ cond-true (is_white byte) (trim_start (reverse (first ∷ text))) (byte ∷ reverse (first ∷ text)) is)
     ]
+
+-- a text that neither begins nor ends with white space stays as it is
+pub trim-stays : (text : List ℕ) → 0 < length text → is_white (get_or text 0 0) ≡ false → is_white (get_or text (length text - 1) 0) ≡ false → trim text ≡ text
+trim-stays text some first last =
+    ap (λ (t : List ℕ). reverse (trim_start (reverse t))) (trim_start-stops text some first)
+    ∙ trim_end-at text (length text - 1) (omega arith) (λ j above within. absurd (omega arith)) last
+    ∙ take_all (length text - 1 + 1) text (omega arith)
