@@ -1,5 +1,5 @@
 //! One field: its field line, its continuation lines, its name and its value.
-ghost use Rattle.std.specs.Prelude.{◌≡◌, ℕ, ◌+◌, ◌<◌, ◌^◌, List, false, length, IsTrue, MatchOption, MatchResult};
+ghost use Rattle.std.specs.Prelude.{◌≡◌, ℕ, ◌+◌, ◌<◌, ◌^◌, List, [], ◌∷◌, ◌++◌, false, length, IsTrue, MatchOption, MatchResult};
 ghost use Rattle.std.specs.List.{list_any, list_all};
 ghost use Rattle.dist_control.specs.Bytes.{is_colon, is_name_byte, is_field_name, is_continuation, is_white};
 ghost use Rattle.dist_control.specs.Fields.{name_of, trim};
@@ -26,7 +26,7 @@ fn is_white(byte: u8) -> bool
 
 /// Whether a text is not empty and has no white space at its ends.
 fn is_trimmed(text: &[u8]) -> bool
-    ensures { IsTrue result → trim text.now ≡ text.now }
+    ensures { IsTrue result → trim (32 ∷ (text.now ++ 10 ∷ [])) ≡ text.now }
 {
     match (text.first(), text.last()) {
         (Some(first), Some(last)) => !is_white(*first) && !is_white(*last),
@@ -34,13 +34,13 @@ fn is_trimmed(text: &[u8]) -> bool
     }
 }
 
-/// A text without white space at both ends. Most values have one space in front: only the others are looked through,
-/// since that makes a table of all bytes first.
+/// A text without white space at both ends. Most fields have one space in front and the end of a line behind: only the
+/// others are looked through, since that makes a table of all bytes first.
 pub fn trimmed(text: &[u8]) -> &[u8]
     ensures { result.now ≡ trim text.now }
 {
     match text {
-        [b' ', value @ ..] if is_trimmed(value) => value,
+        [b' ', value @ .., b'\n'] if is_trimmed(value) => value,
         _ => without_white_ends(text),
     }
 }
