@@ -1,6 +1,8 @@
 -- A worked example of health: package a depends on b, and b conflicts with a.
-use Rattle.std.specs.Prelude.{◌≡◌, ℕ, zero, suc, ◌<◌, true, false, List, [], ◌∷◌, None, Any, codes, length, refl}
-use Rattle.std.proofs.Common.{arith, get_or, inl, inr, lit<, subst, sym}
+use Rattle.std.specs.Prelude.{◌≡◌, ℕ, zero, suc, ◌<◌, true, false, Bool, List, [], ◌∷◌, None, Option, Any, unwrap_or, codes, length, refl}
+use Rattle.std.proofs.Common.{ap, arith, get_or, inl, inr, lit<, subst, sym}
+use Rattle.std.proofs.lemmas.Bool.{false≢true}
+use Rattle.std.proofs.lemmas.Option.{none-some}
 use Rattle.dist_relation.specs.declared.atom.Atom.{Atom}
 use Rattle.dist_repo.specs.Healthy.{IsMet}
 use Rattle.dist_repo.specs.Match.{Matches}
@@ -33,5 +35,5 @@ alone_is_unmet = (one_member, record { holds = record { member = refl; has = not
   where
     one_member : (n k : ℕ) → ¬ AreTwoVersions two (true ∷ false ∷ []) n k
     one_member n zero members = omega (arith, members.in_order)
-    one_member n (suc zero) members = let two_values : false ≡ true = ? in ?
-    one_member n (suc (suc k)) members = ?
+    one_member n (suc zero) members = false≢true (ap (λ (o : Option Bool). unwrap_or o false) members.second_member)
+    one_member n (suc (suc k)) members = none-some true members.second_member
