@@ -42,22 +42,23 @@ WhereTold (Some rest) after R = (more : List ℕ) × (after ≡ Some more) × R 
 
 -- ---- the limits
 
--- The byte that passes the limit of the whole is one of this line, which is not too long before it.
-pub record PassesWhole (r : ReaderView) (rest : List ℕ) : Type 0 where
-  pub passed : r.limits.certificate < r.given + length rest
-  pub in_line : IsOneLine (take (r.limits.certificate - r.given) rest)
-  pub not_before : r.limits.certificate < r.given + r.limits.record_line
+-- The byte that passes the limit of the whole, of which so many bytes were given, is one of this line, which is not too
+-- long before it.
+pub record PassesWhole (limits : Limits) (given : ℕ) (rest : List ℕ) : Type 0 where
+  pub passed : limits.certificate < given + length rest
+  pub in_line : IsOneLine (take (limits.certificate - given) rest)
+  pub not_before : limits.certificate < given + limits.record_line
 
 -- the line passes neither limit
-pub record KeepsLimits (r : ReaderView) (rest : List ℕ) : Type 0 where
-  pub whole : ¬ PassesWhole r rest
-  pub line : ¬ IsTooLong r.limits rest
+pub record KeepsLimits (limits : Limits) (given : ℕ) (rest : List ℕ) : Type 0 where
+  pub whole : ¬ PassesWhole limits given rest
+  pub line : ¬ IsTooLong limits rest
 
 -- ---- the first line
 
 -- The text begins with the line of this header, and `more` is behind it.
 pub record IsHeaderNext (r : ReaderView) (rest more : List ℕ) (h : Header) : Type 0 where
-  pub limits : KeepsLimits r rest
+  pub limits : KeepsLimits r.limits r.given rest
   pub line : List ℕ
   pub begins : BeginsWith rest line more
   pub form : HasHeaderForm line h
@@ -68,9 +69,9 @@ HasNoHeader rest = (line more : List ℕ) × BeginsWith rest line more × ((h : 
 
 -- the first of the faults of form, cut and length that the first line has on its own
 abbrev pub HeaderFault : ReaderView → List ℕ → CertCause → Type 0
-HeaderFault r rest causes.LineTooLong = (¬ PassesWhole r rest) × IsTooLong r.limits rest
-HeaderFault r rest causes.Truncated = KeepsLimits r rest × IsOneLine rest
-HeaderFault r rest causes.BadHeader = KeepsLimits r rest × HasNoHeader rest
+HeaderFault r rest causes.LineTooLong = (¬ PassesWhole r.limits r.given rest) × IsTooLong r.limits rest
+HeaderFault r rest causes.Truncated = KeepsLimits r.limits r.given rest × IsOneLine rest
+HeaderFault r rest causes.BadHeader = KeepsLimits r.limits r.given rest × HasNoHeader rest
 HeaderFault r rest cause = ⊥
 
 -- When each answer is given, and what is left then. Each two of these exclude one another, but for a fault of the desk
@@ -78,14 +79,14 @@ HeaderFault r rest cause = ⊥
 abbrev pub HeaderAnswers : ReaderView → List ℕ → List ℕ → Result Header ReadCertError → Type 0
 HeaderAnswers r rest more (Ok h) = IsHeaderNext r rest more h
 HeaderAnswers r rest more (Err (Bad fault)) = HeaderFault r rest fault.cause × (more ≡ rest)
-HeaderAnswers r rest more (Err (Work (TooLarge Certificate))) = PassesWhole r rest × (more ≡ rest)
+HeaderAnswers r rest more (Err (Work (TooLarge Certificate))) = PassesWhole r.limits r.given rest × (more ≡ rest)
 HeaderAnswers r rest more (Err error) = more ≡ rest
 
 -- ---- a later line
 
 -- The text begins with the line of this record, no end was before it, and `more` is behind it.
 pub record IsRecordNext (r : ReaderView) (rest more : List ℕ) (step : CertRecord) : Type 0 where
-  pub limits : KeepsLimits r rest
+  pub limits : KeepsLimits r.limits r.given rest
   pub not_ended : r.ended ≡ false
   pub line : List ℕ
   pub begins : BeginsWith rest line more
@@ -93,15 +94,15 @@ pub record IsRecordNext (r : ReaderView) (rest more : List ℕ) (step : CertReco
 
 -- the end was given, and nothing is behind it
 pub record IsAtEnd (r : ReaderView) (rest : List ℕ) : Type 0 where
-  pub limits : KeepsLimits r rest
+  pub limits : KeepsLimits r.limits r.given rest
   pub ended : IsTrue r.ended
   pub nothing : rest ≡ []
 
 -- the first of the faults of form, cut and length that a later line has on its own
 abbrev pub RecordFault : ReaderView → List ℕ → CertCause → Type 0
-RecordFault r rest causes.LineTooLong = (¬ PassesWhole r rest) × IsTooLong r.limits rest
-RecordFault r rest causes.Truncated = KeepsLimits r rest × IsCutBehind (IsTrue r.ended) rest
-RecordFault r rest causes.BadRecord = KeepsLimits r rest × IsBadBehind (IsTrue r.ended) rest
+RecordFault r rest causes.LineTooLong = (¬ PassesWhole r.limits r.given rest) × IsTooLong r.limits rest
+RecordFault r rest causes.Truncated = KeepsLimits r.limits r.given rest × IsCutBehind (IsTrue r.ended) rest
+RecordFault r rest causes.BadRecord = KeepsLimits r.limits r.given rest × IsBadBehind (IsTrue r.ended) rest
 RecordFault r rest cause = ⊥
 
 -- The same as `HeaderAnswers` of a later line.
@@ -109,7 +110,7 @@ abbrev pub RecordAnswers : ReaderView → List ℕ → List ℕ → Result (Opti
 RecordAnswers r rest more (Ok (Some step)) = IsRecordNext r rest more step
 RecordAnswers r rest more (Ok None) = IsAtEnd r rest × (more ≡ rest)
 RecordAnswers r rest more (Err (Bad fault)) = RecordFault r rest fault.cause × (more ≡ rest)
-RecordAnswers r rest more (Err (Work (TooLarge Certificate))) = PassesWhole r rest × (more ≡ rest)
+RecordAnswers r rest more (Err (Work (TooLarge Certificate))) = PassesWhole r.limits r.given rest × (more ≡ rest)
 RecordAnswers r rest more (Err error) = more ≡ rest
 
 -- ---- whatever the desk tells
