@@ -3,3 +3,4 @@ pub mod Decoded
 pub mod OneForm
 pub mod WritingLemmas
 pub mod OneLine
+pub mod Filling

@@ -6,6 +6,8 @@ pub mod ClaimRules
 pub mod LineRules
 pub mod Refusal
 pub mod Reading
+pub mod Held
+pub mod LineReading
 pub mod Accepted
 pub mod ClearForms
 pub mod OneVerdict

@@ -5,7 +5,9 @@ mod clear_forms;
 mod faults;
 mod laws;
 mod line_text;
+mod lines;
 mod lists;
+mod pieces;
 mod reading;
 mod records;
 #[cfg(test)]
