@@ -4,3 +4,4 @@ pub mod OneForm
 pub mod WritingLemmas
 pub mod OneLine
 pub mod Filling
+pub mod LineEnds
