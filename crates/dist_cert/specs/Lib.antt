@@ -8,6 +8,7 @@ pub mod Refusal
 pub mod Reading
 pub mod Held
 pub mod LineReading
+pub mod LooseWords
 pub mod Accepted
 pub mod ClearForms
 pub mod OneVerdict

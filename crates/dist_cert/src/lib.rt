@@ -7,6 +7,7 @@ mod laws;
 mod line_text;
 mod lines;
 mod lists;
+mod loose_words;
 mod pieces;
 mod reading;
 mod records;
