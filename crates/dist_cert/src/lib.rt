@@ -2,6 +2,7 @@
 #![tactic(auto)]
 
 mod clear_forms;
+mod decoding;
 mod faults;
 mod laws;
 mod line_text;
@@ -11,6 +12,7 @@ mod loose_words;
 mod pieces;
 mod reading;
 mod records;
+mod rules;
 #[cfg(test)]
 mod tests;
 mod writing;
