@@ -6,3 +6,4 @@ pub mod Filling
 pub mod LineEnds
 pub mod LooseLemmas
 pub mod RuleLemmas
+pub mod RecordForms

@@ -9,6 +9,7 @@ pub mod Reading
 pub mod Held
 pub mod LineReading
 pub mod LooseWords
+pub mod LooseHeader
 pub mod Decoded
 pub mod Accepted
 pub mod ClearForms

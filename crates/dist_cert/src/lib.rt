@@ -4,6 +4,7 @@
 mod clear_forms;
 mod decoding;
 mod faults;
+mod forms;
 mod laws;
 mod line_text;
 mod lines;
