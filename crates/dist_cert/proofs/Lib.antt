@@ -7,3 +7,4 @@ pub mod LineEnds
 pub mod LooseLemmas
 pub mod RuleLemmas
 pub mod RecordForms
+pub mod HeaderForms
