@@ -8,3 +8,4 @@ pub mod LooseLemmas
 pub mod RuleLemmas
 pub mod RecordForms
 pub mod HeaderForms
+pub mod Answering

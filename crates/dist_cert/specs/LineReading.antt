@@ -1,5 +1,5 @@
 -- Serves private contracts: how the bytes of a line come, piece by piece.
-use Rattle.std.specs.Prelude.{◌≡◌, ℕ, ◌+◌, ◌<◌, ◌≤◌, Bool, true, false, List, [], ◌∷◌, ◌++◌, length, Option, Some, None, Result, Ok, Err}
+use Rattle.std.specs.Prelude.{◌≡◌, ℕ, ◌+◌, ◌^◌, ◌<◌, ◌≤◌, Bool, true, false, List, [], ◌∷◌, ◌++◌, length, Option, Some, None, Result, Ok, Err}
 use Rattle.dist_outside.specs.Counts.{Rose}
 use Rattle.dist_outside.specs.DeskView.{DeskView}
 use Rattle.dist_outside.specs.Reading.{bytes_left}
@@ -9,7 +9,7 @@ use Rattle.dist_outside.specs.declared.trouble.WorkError.{WorkError}
 use Rattle.dist_outside.specs.declared.trouble.WorkError.TheVariants.{ReadFault, TooLarge, NoMemory}
 use Rattle.dist_cert.specs.declared.lines.Reached.{Reached}
 use Rattle.dist_cert.specs.declared.lines.Reached.TheVariants.{Feed, File, Within}
-use Rattle.dist_cert.specs.Refusal.{line_feed, IsTooLong}
+use Rattle.dist_cert.specs.Refusal.{line_feed, IsOneLine, IsTooLong}
 use Rattle.dist_cert.specs.Reading.{in_front, PassesWhole, KeepsLimits}
 use Rattle.dist_cert.specs.Held.{Held}
 
@@ -72,15 +72,18 @@ IsJudged limits room length reached (Err error) = ⊥
 abbrev pub Ends : (List ℕ → Type 0) → List ℕ → List ℕ → Type 0
 Ends At rest more = (more ≡ rest) × At rest
 
--- what is known of the line where it ended, whatever the desk tells: its line feed is next, and it keeps both limits
+-- what is known of the line where it ended, whatever the desk tells. Where its line feed is next, it keeps both limits.
 pub record HasFeed (limits : Limits) (given : ℕ) (new : Held) : Type 0 where
   pub more : List ℕ
   pub next : new.behind ≡ line_feed ∷ more
+  pub one_line : IsOneLine new.line
   pub within : given + length new.line < limits.certificate
+  pub fits : limits.certificate < 2 ^ 64
 
 abbrev pub HasEnd : Limits → ℕ → Held → Reached → Type 0
 HasEnd limits given new Feed = HasFeed limits given new
-HasEnd limits given new reached = Unit {0}
+HasEnd limits given new File = IsOneLine new.line
+HasEnd limits given new Within = Unit {0}
 
 -- a piece more, where the line goes on within the limits
 abbrev pub HasEndOr : Limits → ℕ → Held → Held → Option Reached → Type 0
