@@ -14,7 +14,7 @@ use Rattle.dist_cert.specs.declared.records.Header.{Header}
 use Rattle.dist_cert.specs.Refusal.{line_feed, IsOneLine, BeginsWith}
 use Rattle.dist_cert.specs.Reading.{ReaderView, in_front, text_left, WhereTold, KeepsLimits, HeaderAnswers, RecordAnswers}
 use Rattle.dist_cert.specs.Held.{Held}
-use Rattle.dist_cert.specs.LineReading.{unread, held_text, text_held, Ends, EndsAt, HasFeed, HasEnd}
+use Rattle.dist_cert.specs.LineReading.{unread, held_text, text_held, Ends, EndsAt, HasFeed, HasEnd, AtFileEnd}
 use Rattle.dist_cert.specs.LooseHeader.{IsReadAs, IsReadAsHeader}
 use Rattle.dist_cert.proofs.Filling.{told_weaker}
 use Rattle.dist_cert.proofs.LineEnds.{begins}
@@ -106,18 +106,24 @@ module _ (limits : Limits) (given lines : ℕ) (ended : Bool) (old new : Held) (
 
   -- ---- a later line
 
-  pub record_end : reached ≡ File → ended ≡ true → new.line ≡ [] → WhereTold (text_left r left) (text_held new after) (λ rest more. RecordAnswers r rest more (Ok None))
+  record_end : reached ≡ File → ended ≡ true → new.line ≡ [] → WhereTold (text_left r left) (text_held new after) (λ rest more. RecordAnswers r rest more (Ok None))
   record_end at over nothing = opened (λ v rest more. RecordAnswers v rest more (Ok None)) (text_held new after)
       (told_weaker (text_held old left) (text_held new after) _ _
       (λ rest more h. (record { limits = h.1.0; ended = over; nothing = h.1.1 ∙ nothing }, h.0)) (reached_as File at))
 
-  pub record_cut : reached ≡ File → (new.line ≢ []) ⊎ (ended ≡ false) → (line : ℕ) (error : ReadCertError) → error ≡ Bad (record { line = line; cause = causes.Truncated })
+  record_cut : reached ≡ File → (new.line ≢ []) ⊎ (ended ≡ false) → (line : ℕ) (error : ReadCertError) → error ≡ Bad (record { line = line; cause = causes.Truncated })
       → WhereTold (text_left r left) (text_held new after) (λ rest more. RecordAnswers r rest more (Err error))
   record_cut at cut line error e = subst (λ x. WhereTold (text_left r left) (text_held new after) (λ rest more. RecordAnswers r rest more (Err x))) (sym e)
       (opened (λ v rest more. RecordAnswers v rest more (Err (Bad (record { line = line; cause = causes.Truncated })))) (text_held new after)
       (told_weaker (text_held old left) (text_held new after) _ _
       (λ rest more h. ((h.1.0, (subst IsOneLine (sym h.1.1) (subst (HasEnd limits given new) at end),
       ⊎_elim (λ some. inl (λ none. some (sym h.1.1 ∙ none))) (λ not_over. inr (λ over. false≢true (sym not_over ∙ over))) cut)), h.0)) (reached_as File at)))
+
+  pub record_file : reached ≡ File → (line : List ℕ) → line ≡ new.line → (result : Result (Option CertRecord) ReadCertError) → AtFileEnd ended lines line result
+      → WhereTold (text_left r left) (text_held new after) (λ rest more. RecordAnswers r rest more result)
+  record_file at line same (Ok None) h = record_end at h.0 (sym same ∙ h.1)
+  record_file at line same (Ok (Some step)) h = absurd h
+  record_file at line same (Err error) h = record_cut at (⊎_elim (λ some. inl (λ none. some (same ∙ none))) (λ not_over. inr not_over) h.1) (lines + 1) error h.0
 
   pub record_bad : reached ≡ Feed → IsReadAs new.line None → (line : ℕ) (error : ReadCertError) → error ≡ Bad (record { line = line; cause = causes.BadRecord })
       → WhereTold (text_left r left) (text_held new after) (λ rest more. RecordAnswers r rest more (Err error))

@@ -1,5 +1,5 @@
 -- Serves private contracts: how the bytes of a line come, piece by piece.
-use Rattle.std.specs.Prelude.{◌≡◌, ℕ, ◌+◌, ◌^◌, ◌<◌, ◌≤◌, Bool, true, false, List, [], ◌∷◌, ◌++◌, length, Option, Some, None, Result, Ok, Err}
+use Rattle.std.specs.Prelude.{◌≡◌, ◌≢◌, ◌⊎◌, IsTrue, ℕ, ◌+◌, ◌^◌, ◌<◌, ◌≤◌, Bool, true, false, List, [], ◌∷◌, ◌++◌, length, Option, Some, None, Result, Ok, Err}
 use Rattle.dist_outside.specs.Counts.{Rose}
 use Rattle.dist_outside.specs.DeskView.{DeskView}
 use Rattle.dist_outside.specs.Reading.{bytes_left}
@@ -7,8 +7,12 @@ use Rattle.dist_outside.specs.declared.limits.Limits.{Limits}
 use Rattle.dist_outside.specs.declared.trouble.What.TheVariants.{Certificate}
 use Rattle.dist_outside.specs.declared.trouble.WorkError.{WorkError}
 use Rattle.dist_outside.specs.declared.trouble.WorkError.TheVariants.{ReadFault, TooLarge, NoMemory}
+use Rattle.dist_cert.specs.declared.faults.CertCause.TheVariants as causes
+use Rattle.dist_cert.specs.declared.faults.ReadCertError.{ReadCertError}
+use Rattle.dist_cert.specs.declared.faults.ReadCertError.TheVariants.{Bad}
 use Rattle.dist_cert.specs.declared.lines.Reached.{Reached}
 use Rattle.dist_cert.specs.declared.lines.Reached.TheVariants.{Feed, File, Within}
+use Rattle.dist_cert.specs.declared.records.CertRecord.{CertRecord}
 use Rattle.dist_cert.specs.Refusal.{line_feed, IsOneLine, IsTooLong}
 use Rattle.dist_cert.specs.Reading.{in_front, PassesWhole, KeepsLimits}
 use Rattle.dist_cert.specs.Held.{Held}
@@ -96,3 +100,9 @@ LineCause limits given new before after ReadFault = Rose before.read_faults afte
 LineCause limits given new before after (TooLarge Certificate) = limits.certificate < given + length (held_text new)
 LineCause limits given new before after NoMemory = Unit {0}
 LineCause limits given new before after error = ⊥
+
+-- what the end of a file is, behind the end or not, and behind a front of a line: none is missing, or the line is cut
+abbrev pub AtFileEnd : Bool → ℕ → List ℕ → Result (Option CertRecord) ReadCertError → Type 0
+AtFileEnd ended lines line (Ok None) = IsTrue ended × (line ≡ [])
+AtFileEnd ended lines line (Ok (Some step)) = ⊥
+AtFileEnd ended lines line (Err error) = (error ≡ Bad (record { line = lines + 1; cause = causes.Truncated })) × ((line ≢ []) ⊎ (ended ≡ false))

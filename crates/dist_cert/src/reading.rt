@@ -2,6 +2,7 @@
 ghost use Rattle.std.specs.Prelude.{◌≡◌, ◌+◌, ◌-◌, ◌^◌, ◌<◌, [], false, length};
 ghost use Rattle.dist_outside.specs.Files.{IsReading};
 ghost use Rattle.dist_outside.specs.DeskView.{OnlyReads};
+ghost use Rattle.dist_cert.specs.LineReading.{AtFileEnd};
 ghost use Rattle.dist_cert.specs.Reading.{text_left, WhereTold, HeaderAnswers, HeaderCause, GivesHeader, RecordAnswers, RecordCause, GivesRecord};
 
 use crate::faults::{CertCause, CertFault, ReadCertError};
@@ -42,6 +43,18 @@ impl Progress {
             line: self.lines + 1,
             cause,
         })
+    }
+
+    /// What the end of the file is behind this front of a line.
+    fn end(&self, line: &[u8]) -> Result<Option<CertRecord>, ReadCertError>
+        requires { self.now.lines < 2 ^ 64 - 1 }
+        ensures { AtFileEnd self.now.ended self.now.lines line.now result }
+    {
+        if self.ended && line.is_empty() {
+            Ok(None)
+        } else {
+            Err(self.bad(CertCause::Truncated))
+        }
     }
 }
 
@@ -121,13 +134,7 @@ impl Reader {
         let reached = self.text.read_line(desk, &self.limits, self.done.given)?;
         match reached {
             Reached::Within => Err(self.done.bad(CertCause::LineTooLong)),
-            Reached::File => {
-                if self.done.ended && self.text.line().is_empty() {
-                    Ok(None)
-                } else {
-                    Err(self.done.bad(CertCause::Truncated))
-                }
-            }
+            Reached::File => self.done.end(self.text.line()),
             Reached::Feed => {
                 if self.done.ended {
                     return Err(self.done.bad(CertCause::BadRecord));
