@@ -11,6 +11,8 @@ mod lines;
 mod lists;
 mod loose_words;
 mod pieces;
+#[cfg(test)]
+mod reader_tests;
 mod reading;
 mod records;
 mod rules;
