@@ -9,3 +9,4 @@ pub mod RuleLemmas
 pub mod RecordForms
 pub mod HeaderForms
 pub mod Answering
+pub mod ReadBack

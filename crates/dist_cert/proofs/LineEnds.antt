@@ -40,11 +40,11 @@ told_then (Some rest) mid after At (more, e, same) h = subst (λ r. WhereTold (S
 -- ---- lines
 
 -- the first bytes of a line are without a line feed
-front : (n : ℕ) (line more : List ℕ) → n ≤ length line → IsOneLine line → IsOneLine (take n (line ++ more))
+pub front : (n : ℕ) (line more : List ℕ) → n ≤ length line → IsOneLine line → IsOneLine (take n (line ++ more))
 front n line more within one = subst IsOneLine (sym (take-append-le n line more within)) (All-take (λ byte. byte ≢ line_feed) n line one)
 
 -- and more bytes than the line has are not
-past : (n : ℕ) (line more : List ℕ) → length line < n → ¬ IsOneLine (take n (line ++ line_feed ∷ more))
+pub past : (n : ℕ) (line more : List ℕ) → length line < n → ¬ IsOneLine (take n (line ++ line_feed ∷ more))
 past zero line more short h = omega (arith, short)
 past (suc n) [] more short h = h 0 0 (omega arith) refl
 past (suc n) (x ∷ line) more short h = past n line more (omega (arith, short)) (All-tail (λ byte. byte ≢ line_feed) x (take n (line ++ line_feed ∷ more)) h)

@@ -16,6 +16,7 @@ pub mod ClearForms
 pub mod OneVerdict
 pub mod Told
 pub mod SomeVerdict
+pub mod ReadBack
 pub mod ByRecords
 pub mod Examples
 pub mod AcceptedExamples

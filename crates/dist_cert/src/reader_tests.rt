@@ -1,9 +1,12 @@
 //! The reader over a desk in memory: texts that are read back, and each fault of form, cut and length.
-ghost use Rattle.dist_outside.specs.Files.{IsReading};
+ghost use Rattle.dist_outside.specs.Files.{IsReading, IsWriting};
+ghost use Rattle.dist_cert.specs.Form.{KeepsLimit};
 ghost use Rattle.std.specs.Prelude.{◌<◌};
 
 use crate::line_text::{add_header, add_record};
-use crate::{CertCause, CertFault, ReadCertError, Reader};
+use crate::{
+    CertCause, CertFault, CertKind, CertRecord, Header, ReadCertError, Reader, Writer,
+};
 use dist_outside::{Desk, Limits, MemoryDesk, What, WorkError};
 use std::alloc::Global;
 use std::test::Fail;
@@ -194,6 +197,41 @@ fn stops(
     text.extend_from_slice(b"u\ne\n")?;
     let read = reading(alloc, &text, 7, &[], &limits)?;
     Ok(read.is_err_and(|error| error == refusal))
+}
+
+/// Writes a first line, two records and the end.
+fn write_some<D: Desk>(alloc: Global, desk: &mut D, header: &Header) -> Result<(), WorkError>
+    requires writing { IsWriting (D.view desk.old).mode }
+    requires form { KeepsLimit header.now }
+    ensures { IsWriting (D.view desk.new).mode }
+{
+    let mut writer = Writer::new(alloc, &Limits::stated());
+    writer.put_header(desk, header)?;
+    writer.put(desk, &CertRecord::Alive(1, 20))?;
+    writer.put(desk, &CertRecord::NotInstallable(300))?;
+    writer.put(desk, &CertRecord::End)
+}
+
+#[test]
+fn what_is_written_is_read(rt: HostRuntime) -> Result<(), Fail> {
+    let alloc = rt.alloc();
+    let mut desk = MemoryDesk::new(alloc, 7, &[])?;
+    desk.create("a")?;
+    let header = Header {
+        kind: CertKind::Outdated,
+        limit: 5,
+        packages: 300,
+        variables: 1000,
+        clauses: 0,
+        essential: true,
+    };
+    write_some(alloc, &mut desk, &header)?;
+    desk.close()?;
+    desk.start_read("a")?;
+    let read = read_text(alloc, &mut desk, &Limits::stated());
+    let text = b"distfuture-certificate 1 outdated essential 5 300 1000 0\na 1 20\nx 300\ne\n";
+    assert!(rt; read.is_ok_and(|again| again.as_slice() == text.as_slice()));
+    Ok(())
 }
 
 /// The refusal of a first line that is too long.

@@ -2,5 +2,5 @@ use Rattle.dist_outside.specs.Files.{IsReading}
 use Rattle.dist_cert.proofs.reader_tests.read_text.Given as goal
 
 -- the desk is still read
-abbrev pub invariant-loop-text : goal.invariant-loop-text
-invariant-loop-text g l = IsReading (g.D.Desk.view l.desk).mode
+abbrev pub invariant-loop : goal.invariant-loop-text
+invariant-loop g l = IsReading (g.D.Desk.view l.desk).mode
