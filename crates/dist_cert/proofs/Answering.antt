@@ -1,6 +1,6 @@
 -- What a reader answers, from where the reading of a line ended.
-use Rattle.std.proofs.Common.{◌≡◌, ◌≢◌, ℕ, suc, ◌+◌, ◌-◌, ◌^◌, ◌<◌, Bool, true, false, List, [], ◌∷◌, ◌++◌, length, drop, Option, Some, None, Result, Ok, Err, ⊎_elim, inl, inr, refl, ap, sym, subst, ◌∙◌, arith, append_assoc}
-use Rattle.std.specs.Prelude.{IsTrue, ◌⊎◌}
+use Rattle.std.proofs.Common.{◌≡◌, ◌≢◌, ℕ, ◌+◌, ◌-◌, ◌^◌, ◌<◌, Bool, true, false, List, [], ◌++◌, length, drop, Option, Some, None, Result, Ok, Err, ⊎_elim, inl, inr, refl, ap, sym, subst, ◌∙◌, arith, append_assoc}
+use Rattle.std.specs.Prelude.{◌⊎◌}
 use Rattle.std.proofs.lemmas.Bool.{false≢true}
 use Rattle.dist_outside.specs.DeskView.{DeskView}
 use Rattle.dist_outside.specs.declared.limits.Limits.{Limits}
@@ -8,10 +8,10 @@ use Rattle.dist_cert.specs.declared.faults.CertCause.TheVariants as causes
 use Rattle.dist_cert.specs.declared.faults.ReadCertError.{ReadCertError}
 use Rattle.dist_cert.specs.declared.faults.ReadCertError.TheVariants.{Bad}
 use Rattle.dist_cert.specs.declared.lines.Reached.{Reached}
-use Rattle.dist_cert.specs.declared.lines.Reached.TheVariants.{Feed, File, Within}
+use Rattle.dist_cert.specs.declared.lines.Reached.TheVariants.{Feed, File}
 use Rattle.dist_cert.specs.declared.records.CertRecord.{CertRecord}
 use Rattle.dist_cert.specs.declared.records.Header.{Header}
-use Rattle.dist_cert.specs.Refusal.{line_feed, IsOneLine, BeginsWith}
+use Rattle.dist_cert.specs.Refusal.{IsOneLine, BeginsWith}
 use Rattle.dist_cert.specs.Reading.{ReaderView, in_front, text_left, WhereTold, KeepsLimits, HeaderAnswers, RecordAnswers}
 use Rattle.dist_cert.specs.Held.{Held}
 use Rattle.dist_cert.specs.LineReading.{unread, held_text, text_held, Ends, EndsAt, HasFeed, HasEnd, AtFileEnd}
@@ -68,7 +68,7 @@ module _ (limits : Limits) (given : ℕ) (new : Held) (is : HasFeed limits given
         drop 1 new.behind ++ bytes,
         refl,
         f rest (drop 1 new.behind ++ bytes) h.2.1
-        (subst (λ b. BeginsWith rest new.line (b ++ bytes)) (sym behind) (begun rest bytes (sym h.2.0 ∙ sym all))),
+            (subst (λ b. BeginsWith rest new.line (b ++ bytes)) (sym behind) (begun rest bytes (sym h.2.0 ∙ sym all))),
       )
 
 -- ---- the first line
@@ -116,8 +116,16 @@ module _ (limits : Limits) (given lines : ℕ) (ended : Bool) (old new : Held) (
   record_cut at cut line error e = subst (λ x. WhereTold (text_left r left) (text_held new after) (λ rest more. RecordAnswers r rest more (Err x))) (sym e)
       (opened (λ v rest more. RecordAnswers v rest more (Err (Bad (record { line = line; cause = causes.Truncated })))) (text_held new after)
       (told_weaker (text_held old left) (text_held new after) _ _
-      (λ rest more h. ((h.1.0, (subst IsOneLine (sym h.1.1) (subst (HasEnd limits given new) at end),
-      ⊎_elim (λ some. inl (λ none. some (sym h.1.1 ∙ none))) (λ not_over. inr (λ over. false≢true (sym not_over ∙ over))) cut)), h.0)) (reached_as File at)))
+      (λ rest more h. (
+        (
+          h.1.0,
+          (
+            subst IsOneLine (sym h.1.1) (subst (HasEnd limits given new) at end),
+            ⊎_elim (λ some. inl (λ none. some (sym h.1.1 ∙ none))) (λ not_over. inr (λ over. false≢true (sym not_over ∙ over))) cut,
+          ),
+        ),
+        h.0,
+      )) (reached_as File at)))
 
   pub record_file : reached ≡ File → (line : List ℕ) → line ≡ new.line → (result : Result (Option CertRecord) ReadCertError) → AtFileEnd ended lines line result
       → WhereTold (text_left r left) (text_held new after) (λ rest more. RecordAnswers r rest more result)

@@ -1,5 +1,5 @@
 -- A piece of a file, and what is left behind it.
-use Rattle.std.proofs.Common.{◌≡◌, ℕ, zero, ◌+◌, ◌-◌, ◌<◌, ◌≤◌, Bool, true, false, nat_lt, List, [], ◌∷◌, ◌++◌, length, take, drop, Option, Some, None, Result, Ok, Err, refl, ap, sym, subst, ◌∙◌, arith, length-take, length-drop}
+use Rattle.std.proofs.Common.{◌≡◌, ℕ, ◌+◌, ◌-◌, ◌≤◌, false, nat_lt, List, [], ◌++◌, length, take, drop, Option, Some, None, Ok, refl, ap, sym, subst, ◌∙◌, arith, length-take}
 use Rattle.std.specs.Prelude.{slice_range}
 use Rattle.std.proofs.Math.Nat.{sub-zero}
 use Rattle.std.proofs.lemmas.Bool.{ltb-false}
@@ -7,7 +7,6 @@ use Rattle.std.proofs.lemmas.List.{take-append-drop, drop-drop, drop-take}
 use Rattle.dist_outside.specs.Files.{Files, Mode, Idle, Reading, Writing, file_bytes}
 use Rattle.dist_outside.specs.DeskView.{DeskView}
 use Rattle.dist_outside.specs.Reading.{moved, bytes_from, bytes_left, GivesNext, ReadsNext}
-use Rattle.dist_outside.specs.declared.trouble.WorkError.{WorkError}
 use Rattle.dist_cert.specs.Reading.{WhereTold}
 use Rattle.dist_cert.specs.LineReading.{unread, Filled}
 
@@ -27,8 +26,11 @@ read_from place count None buffer next = refl
 read_from place count (Some bytes) buffer next = (
   drop (place + count) bytes,
   refl,
-  (sym (take-append-drop count (drop place bytes)) ∙ ap (λ front. front ++ drop count (drop place bytes)) (sym next.1)
-  ∙ ap (λ more. take count buffer ++ more) (drop-drop count place bytes), next.2),
+  (
+    sym (take-append-drop count (drop place bytes)) ∙ ap (λ front. front ++ drop count (drop place bytes)) (sym next.1)
+        ∙ ap (λ more. take count buffer ++ more) (drop-drop count place bytes),
+    next.2,
+  ),
 )
 
 read_on : (files : Option Files) (mode : Mode) (count : ℕ) (buffer : List ℕ) → GivesNext (bytes_left files mode) count buffer

@@ -1,11 +1,11 @@
 -- What a first line is read as.
-use Rattle.std.proofs.Common.{◌≡◌, ℕ, ◌+◌, Bool, true, false, nat_eq, List, [], ◌∷◌, ◌++◌, length, get_or, drop, codes, refl, ap, sym, subst, ◌∙◌, Option, Some, None}
+use Rattle.std.proofs.Common.{◌≡◌, ℕ, Bool, true, false, List, ◌∷◌, ◌++◌, drop, codes, refl, ap, sym, subst, ◌∙◌, Option, Some, None}
 use Rattle.dist_cert.specs.declared.records.CertKind.{CertKind}
 use Rattle.dist_cert.specs.declared.records.CertKind.TheVariants as kinds
 use Rattle.dist_cert.specs.declared.records.Header.{Header}
-use Rattle.dist_cert.specs.Form.{Word, words_text, kind_text, mode_text, header_text, KeepsLimit, HasHeaderForm}
+use Rattle.dist_cert.specs.Form.{words_text, kind_text, mode_text, header_text, KeepsLimit, HasHeaderForm}
 use Rattle.dist_cert.specs.LooseWords.{loose_words}
-use Rattle.dist_cert.specs.LooseHeader.{kind_from, kind_in, mode_in, before_numbers, header_with, loose_header}
+use Rattle.dist_cert.specs.LooseHeader.{kind_in, mode_in, before_numbers, header_with, loose_header}
 use Rattle.dist_cert.proofs.OneForm.{header_words, header_words_small}
 use Rattle.dist_cert.proofs.LooseLemmas.{words_read}
 

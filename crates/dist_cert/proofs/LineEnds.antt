@@ -1,6 +1,5 @@
 -- A line that was read to its end, or to a limit: what it is of the text that was left.
 use Rattle.std.proofs.Common.{◌≡◌, ◌≢◌, ℕ, zero, suc, ◌+◌, ◌-◌, ◌<◌, ◌≤◌, List, [], ◌∷◌, ◌++◌, length, take, Option, Some, None, Result, Ok, Err, refl, ap, sym, subst, ◌∙◌, arith, length-append, append_assoc}
-use Rattle.std.specs.List.{All}
 use Rattle.std.proofs.lemmas.List.{take-append-le}
 use Rattle.std.proofs.lemmas.List.Elements.{All-tail, All-take}
 use Rattle.dist_outside.specs.declared.limits.Limits.{Limits}
@@ -12,7 +11,7 @@ use Rattle.dist_outside.specs.declared.trouble.WorkError.{WorkError}
 use Rattle.dist_outside.specs.declared.trouble.WorkError.TheVariants.{TooLarge}
 use Rattle.dist_cert.specs.declared.lines.Reached.{Reached}
 use Rattle.dist_cert.specs.declared.lines.Reached.TheVariants.{Feed, File, Within}
-use Rattle.dist_cert.specs.LineReading.{held_text, KeepsText, IsReached, came, IsJudged, Ends, EndsAt, EndsOr}
+use Rattle.dist_cert.specs.LineReading.{held_text, KeepsText, IsReached, came, IsJudged, Ends, EndsOr}
 
 -- ---- what is told
 

@@ -1,10 +1,10 @@
 -- The text of words is read as these words.
-use Rattle.std.proofs.Common.{◌≡◌, ◌≢◌, ℕ, zero, suc, ◌+◌, ◌-◌, ◌*◌, ◌/◌, ◌%◌, ◌^◌, ◌<◌, ◌≤◌, Bool, true, false, List, [], ◌∷◌, ◌++◌, All, nat_eq, decimal, refl, ap, sym, subst, ◌∙◌, arith, append_assoc}
+use Rattle.std.proofs.Common.{◌≡◌, ℕ, ◌+◌, ◌*◌, ◌/◌, ◌%◌, ◌^◌, ◌<◌, ◌≤◌, Bool, true, false, List, [], ◌∷◌, ◌++◌, All, nat_eq, decimal, refl, ap, ◌∙◌, arith, append_assoc}
 use Rattle.std.specs.Prelude.{if◌then◌else◌}
 use Rattle.std.proofs.lemmas.Bool.{ne_eqb}
 use Rattle.std.proofs.lemmas.List.Elements.{All-head, All-tail}
 use Rattle.std.proofs.lemmas.Fmt.{decimal_by_steps}
-use Rattle.dist_cert.specs.Form.{Word, word_text, signed_text, words_text, IsSmall}
+use Rattle.dist_cert.specs.Form.{Word, signed_text, words_text, IsSmall}
 use Rattle.dist_cert.specs.LooseWords.{with_digit, with_byte, words_from, loose_words}
 
 -- ---- one byte more

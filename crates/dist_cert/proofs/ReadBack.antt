@@ -1,11 +1,9 @@
 -- What a writer wrote is read back.
-use Rattle.std.proofs.Common.{◌≡◌, ◌≢◌, ◌⊎◌, ⊎_elim, ℕ, zero, suc, ◌+◌, ◌-◌, ◌<◌, ◌≤◌, Bool, true, false, List, [], ◌∷◌, ◌++◌, All, length, take, Option, Some, None, Result, Ok, Err, refl, ap, sym, subst, ◌∙◌, arith, append_assoc, length-append}
+use Rattle.std.proofs.Common.{◌≡◌, ◌≢◌, ⊎_elim, ℕ, suc, ◌+◌, ◌-◌, ◌<◌, ◌≤◌, true, false, List, [], ◌∷◌, ◌++◌, All, length, Option, Some, None, Result, Ok, Err, refl, ap, sym, subst, ◌∙◌, arith, append_assoc, length-append}
 use Rattle.std.proofs.lemmas.Bool.{false≢true}
 use Rattle.std.proofs.lemmas.List.Elements.{All-head, All-tail, All-nil}
 use Rattle.dist_outside.specs.declared.limits.Limits.{Limits}
-use Rattle.dist_outside.specs.declared.trouble.What.{What}
 use Rattle.dist_outside.specs.declared.trouble.What.TheVariants.{Certificate}
-use Rattle.dist_outside.specs.declared.trouble.WorkError.{WorkError}
 use Rattle.dist_outside.specs.declared.trouble.WorkError.TheVariants.{TooLarge}
 use Rattle.dist_cert.specs.declared.faults.CertCause.{CertCause}
 use Rattle.dist_cert.specs.declared.faults.CertCause.TheVariants as causes
@@ -14,8 +12,8 @@ use Rattle.dist_cert.specs.declared.faults.ReadCertError.TheVariants.{Bad, Work}
 use Rattle.dist_cert.specs.declared.records.CertRecord.{CertRecord}
 use Rattle.dist_cert.specs.declared.records.CertRecord.TheVariants.{End}
 use Rattle.dist_cert.specs.declared.records.Header.{Header}
-use Rattle.dist_cert.specs.Form.{words, record_text, HasForm, IsSmall, is_end, header_text, HasHeaderForm}
-use Rattle.dist_cert.specs.Refusal.{line_feed, IsOneLine, BeginsWith, IsTooLong, lines_text, certificate_text}
+use Rattle.dist_cert.specs.Form.{record_text, HasForm, IsSmall, is_end, header_text, HasHeaderForm}
+use Rattle.dist_cert.specs.Refusal.{line_feed, IsOneLine, IsTooLong, lines_text, certificate_text}
 use Rattle.dist_cert.specs.OneVerdict.{one_line}
 use Rattle.dist_cert.specs.Reading.{ReaderView, PassesWhole, HeaderFault, HeaderAnswers, RecordFault, RecordAnswers, past_line}
 use Rattle.dist_cert.specs.ReadBack.{CanBeWritten, IsGiven, GivesRecords, GivesText}

@@ -1,9 +1,8 @@
 -- What a line is read as: a record of its letter and its loose words, or nothing.
-use Rattle.std.proofs.Common.{◌≡◌, ◌≢◌, ℕ, zero, suc, ◌+◌, ◌-◌, ◌*◌, ◌%◌, ◌^◌, ◌<◌, ◌≤◌, Bool, true, false, nat_eq, List, [], ◌∷◌, ◌++◌, All, length, get_or, take, drop, take_all, map, refl, ap, sym, subst, ◌∙◌, arith}
+use Rattle.std.proofs.Common.{◌≡◌, ℕ, zero, suc, ◌-◌, ◌≤◌, Bool, true, false, nat_eq, List, [], ◌∷◌, ◌++◌, All, length, get_or, take, drop, take_all, ap, sym, subst, ◌∙◌, arith}
 use Rattle.std.specs.Prelude.{if◌then◌else◌}
-use Rattle.std.proofs.lemmas.List.Elements.{All-head, All-tail, All-map, All-cons, All-nil, All-append}
+use Rattle.std.proofs.lemmas.List.Elements.{All-head, All-tail, All-cons, All-nil, All-append}
 use Rattle.dist_cert.specs.declared.records.CertRecord.{CertRecord}
-use Rattle.dist_cert.specs.declared.records.CertRecord.TheVariants.{Question, Derived, Refuted, Installation, Undecided, NotInstallable, Unknown, Strong, Outdated, Alive, Challenged, End}
 use Rattle.dist_cert.specs.Form.{Word, plain, plains, pair_words, separator, letter, words, words_text, record_text, KeepsRules, IsSmall, HasForm}
 use Rattle.dist_cert.specs.Decoded.{before, after, numbers, pairs, first, rest, decoded}
 use Rattle.dist_cert.specs.LooseWords.{with_digit, with_byte, words_from, loose_words}
@@ -34,8 +33,8 @@ small_from : (w : Word) (bytes : List ℕ) → IsSmall w.0 → AreSmall (words_f
 small_from w [] small = small_cons w [] small (All-nil (λ v. IsSmall v.0))
 small_from w (byte ∷ bytes) small =
     elim (nat_eq byte 32) as (λ b. AreSmall (if b then (w ∷ words_from (0, true) bytes) else (words_from (with_byte w byte) bytes))) [
-      true ↦ small_cons w (words_from (0, true) bytes) small (small_from (0, true) bytes (omega arith))
-    | false ↦ small_from (with_byte w byte) bytes (small_byte w byte small)
+      | true ↦ small_cons w (words_from (0, true) bytes) small (small_from (0, true) bytes (omega arith))
+      | false ↦ small_from (with_byte w byte) bytes (small_byte w byte small)
     ]
 
 pub small_words : (bytes : List ℕ) → AreSmall (loose_words bytes)
@@ -103,11 +102,11 @@ small_decoded c ws small =
     either (nat_eq c 120) _ _ alone (
     either (nat_eq c 121) _ _ alone (
     either (nat_eq c 115) _ _ (small_cons (plain (first ws)) _ claimed (separated _ _ named
-        (separated _ _ (small_numbers _ (small_before _ lists)) (small_numbers _ (small_after _ lists))))) (
+    (separated _ _ (small_numbers _ (small_before _ lists)) (small_numbers _ (small_after _ lists))))) (
     either (nat_eq c 111) _ _ alone (
     either (nat_eq c 97) _ _ (small_cons (plain (first ws)) (plain (first (rest ws)) ∷ []) claimed (one_small (first (rest ws)) (small_first (rest ws) behind))) (
     either (nat_eq c 99) _ _ (small_cons (plain (first ws)) _ claimed (separated _ _ named
-        (separated _ _ (small_pairs _ (small_before _ lists)) (small_pairs _ (small_after _ lists))))) none))))))))))
+    (separated _ _ (small_pairs _ (small_before _ lists)) (small_pairs _ (small_after _ lists))))) none))))))))))
 
 -- ---- what a line is read as
 

@@ -1,7 +1,7 @@
 -- Numbers that rise, and variables that stand once.
-use Rattle.std.proofs.Common.{◌≡◌, ◌≢◌, ℕ, zero, suc, ◌+◌, ◌<◌, ◌≤◌, Bool, true, false, nat_eq, ◌==◌, List, All, AllPairs, IsTrue, length, get_or, map, refl, ap, sym, subst, ◌∙◌, arith, add-one, ⊎_elim}
+use Rattle.std.proofs.Common.{◌≡◌, ◌≢◌, ℕ, suc, ◌<◌, ◌≤◌, Bool, true, nat_eq, List, All, AllPairs, IsTrue, length, get_or, map, ap, sym, subst, ◌∙◌, arith, add-one, ⊎_elim}
 use Rattle.std.specs.Prelude.{◌↔◌}
-use Rattle.std.specs.List.Sorted.{IsPermutation, IsSorted, IsStrictlyIncreasing}
+use Rattle.std.specs.List.Sorted.{IsPermutation, IsSorted}
 use Rattle.std.specs.Ordering.{nat_cmp}
 use Rattle.std.proofs.Math.ListN.{get_or-map}
 use Rattle.std.proofs.lemmas.List.{length-map}
@@ -81,5 +81,5 @@ tells literals variables before sorted after low up is same permuted also order 
     let moved : IsPermutation (map variable literals) sorted = subst (λ vs. IsPermutation vs sorted) is permuted in (
       λ both. literals_from literals sorted moved (subst AreFromOne (same ∙ is) (lows.0 both.0)) (subst Rise also (ups.0 both.1)),
       λ are. let parts = literals_to literals sorted moved order are in
-      (lows.1 (subst AreFromOne (sym (same ∙ is)) parts.0), ups.1 (subst Rise (sym also) parts.1)),
+          (lows.1 (subst AreFromOne (sym (same ∙ is)) parts.0), ups.1 (subst Rise (sym also) parts.1)),
     )

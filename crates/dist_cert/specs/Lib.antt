@@ -17,6 +17,7 @@ pub mod OneVerdict
 pub mod Told
 pub mod SomeVerdict
 pub mod ReadBack
+pub mod FaultsRead
 pub mod ByRecords
 pub mod Examples
 pub mod AcceptedExamples

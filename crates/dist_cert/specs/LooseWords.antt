@@ -1,5 +1,5 @@
 -- Serves private contracts: the words of a line as they are read first, whatever its bytes are.
-use Rattle.std.specs.Prelude.{ℕ, ◌+◌, ◌-◌, ◌*◌, ◌%◌, ◌^◌, Bool, true, false, List, [], ◌∷◌, nat_eq, if◌then◌else◌}
+use Rattle.std.specs.Prelude.{ℕ, ◌+◌, ◌-◌, ◌*◌, ◌%◌, ◌^◌, true, false, List, [], ◌∷◌, nat_eq, if◌then◌else◌}
 use Rattle.dist_cert.specs.Form.{Word}
 
 -- a number with one digit more, as it fits into 32 bits

@@ -1,5 +1,5 @@
 -- What a reader of certificates knows, and what it answers.
-use Rattle.std.specs.Prelude.{◌≡◌, ℕ, ◌+◌, ◌-◌, ◌<◌, Bool, true, false, IsTrue, List, [], ◌++◌, All, length, take, Option, Some, None, Result, Ok, Err}
+use Rattle.std.specs.Prelude.{◌≡◌, ℕ, ◌+◌, ◌-◌, ◌<◌, Bool, false, IsTrue, List, [], ◌++◌, length, take, Option, Some, None, Result, Ok, Err}
 use Rattle.dist_outside.specs.Counts.{Rose}
 use Rattle.dist_outside.specs.DeskView.{DeskView}
 use Rattle.dist_outside.specs.Reading.{bytes_left}
@@ -12,7 +12,7 @@ use Rattle.dist_cert.specs.declared.faults.ReadCertError.{ReadCertError}
 use Rattle.dist_cert.specs.declared.faults.ReadCertError.TheVariants.{Bad, Work}
 use Rattle.dist_cert.specs.declared.records.CertRecord.{CertRecord}
 use Rattle.dist_cert.specs.declared.records.Header.{Header}
-use Rattle.dist_cert.specs.Form.{words, record_text, KeepsRules, IsSmall, HasForm, is_end, header_text, KeepsLimit, HasHeaderForm}
+use Rattle.dist_cert.specs.Form.{record_text, HasForm, is_end, header_text, HasHeaderForm}
 use Rattle.dist_cert.specs.Refusal.{IsOneLine, BeginsWith, IsTooLong, IsCutBehind, IsBadBehind}
 
 -- ---- a reader

@@ -89,12 +89,7 @@ fn challenged(alloc: Global, words: &[(u32, bool)]) -> Result<CertRecord, AllocE
     let installations = numbers_of(alloc, installations)?;
     let by = pairs_of(alloc, by)?;
     let undecided = pairs_of(alloc, undecided)?;
-    Ok(CertRecord::Challenged(
-        package,
-        installations,
-        by,
-        undecided,
-    ))
+    Ok(CertRecord::Challenged(package, installations, by, undecided))
 }
 
 /// The record of a letter and words.

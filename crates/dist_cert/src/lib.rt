@@ -1,4 +1,4 @@
-//! Certificates as text: the records of their lines, their writer, and when a text is accepted.
+//! Certificates as text: the records of their lines, their writer and their reader, and when a text is accepted.
 #![tactic(auto)]
 
 mod clear_forms;

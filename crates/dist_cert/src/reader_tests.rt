@@ -4,9 +4,7 @@ ghost use Rattle.dist_cert.specs.Form.{KeepsLimit};
 ghost use Rattle.std.specs.Prelude.{◌<◌};
 
 use crate::line_text::{add_header, add_record};
-use crate::{
-    CertCause, CertFault, CertKind, CertRecord, Header, ReadCertError, Reader, Writer,
-};
+use crate::{CertCause, CertFault, CertKind, CertRecord, Header, ReadCertError, Reader, Writer};
 use dist_outside::{Desk, Limits, MemoryDesk, What, WorkError};
 use std::alloc::Global;
 use std::test::Fail;
@@ -58,7 +56,13 @@ fn is_read(alloc: Global, text: &[u8], step: usize) -> Result<bool, Fail>
 }
 
 /// Whether the text of a first line and these bytes is refused at a line for a cause.
-fn is_refused(alloc: Global, first: &[u8], more: &[u8], line: u64, cause: CertCause) -> Result<bool, Fail> {
+fn is_refused(
+    alloc: Global,
+    first: &[u8],
+    more: &[u8],
+    line: u64,
+    cause: CertCause,
+) -> Result<bool, Fail> {
     let mut text = first.to_vec(alloc)?;
     text.extend_from_slice(more)?;
     let read = reading(alloc, &text, 7, &[], &Limits::stated())?;

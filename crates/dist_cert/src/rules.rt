@@ -54,10 +54,7 @@ fn are_literals(literals: &[(u32, bool)], variables: &mut Vec<u32>) -> Result<bo
 }
 
 /// Whether a record keeps the rules. The numbers are for its variables in order.
-pub(crate) fn keeps_rules(
-    step: &CertRecord,
-    variables: &mut Vec<u32>,
-) -> Result<bool, AllocError>
+pub(crate) fn keeps_rules(step: &CertRecord, variables: &mut Vec<u32>) -> Result<bool, AllocError>
     ensures { IfOk result (λ kept. IsTrue kept ↔ KeepsRules step.now) }
 {
     match step {
@@ -76,17 +73,21 @@ pub(crate) fn keeps_rules(
         CertRecord::NotInstallable(package)
         | CertRecord::Unknown(package)
         | CertRecord::Outdated(package) => Ok(*package >= 1),
-        CertRecord::Strong(package, installations, on, undecided) => Ok(*package >= 1
-            && installations.len() > 0
-            && are_from_one(installations.as_slice())
-            && are_from_one(on.as_slice())
-            && are_from_one(undecided.as_slice())),
+        CertRecord::Strong(package, installations, on, undecided) => Ok(
+            *package >= 1
+                && installations.len() > 0
+                && are_from_one(installations.as_slice())
+                && are_from_one(on.as_slice())
+                && are_from_one(undecided.as_slice()),
+        ),
         CertRecord::Alive(package, installation) => Ok(*package >= 1 && *installation >= 1),
-        CertRecord::Challenged(package, installations, by, undecided) => Ok(*package >= 1
-            && installations.len() > 0
-            && are_from_one(installations.as_slice())
-            && are_pairs(by.as_slice())
-            && are_pairs(undecided.as_slice())),
+        CertRecord::Challenged(package, installations, by, undecided) => Ok(
+            *package >= 1
+                && installations.len() > 0
+                && are_from_one(installations.as_slice())
+                && are_pairs(by.as_slice())
+                && are_pairs(undecided.as_slice()),
+        ),
         CertRecord::Undecided | CertRecord::End => Ok(true),
     }
 }

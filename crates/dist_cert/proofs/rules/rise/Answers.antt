@@ -1,4 +1,4 @@
-use Rattle.std.proofs.Common.{arith, rules, refl}
+use Rattle.std.proofs.Common.{arith, refl}
 use Rattle.dist_cert.proofs.RuleLemmas.{rises}
 use Rattle.dist_cert.proofs.rules.rise.Goals as goal
 

@@ -1,5 +1,5 @@
 use Rattle.std.proofs.Common.{Some, None}
-use Rattle.dist_cert.proofs.Answering.{counted, record_as, record_file, record_bad, record_ok}
+use Rattle.dist_cert.proofs.Answering.{counted, record_as, record_bad, record_ok}
 use Rattle.dist_cert.proofs.reading.Reader.next.Goals as goal
 
 pub pass-requires-clause-bytes : goal.pass-requires-clause-bytes
