@@ -10,3 +10,4 @@ pub mod RecordForms
 pub mod HeaderForms
 pub mod Answering
 pub mod ReadBack
+pub mod ExactReader

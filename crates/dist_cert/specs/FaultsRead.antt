@@ -23,7 +23,7 @@ whole_line (x ∷ line) more h = whole_line line more (All-tail (λ byte. byte �
 pub not_cut : (rest line more : List ℕ) → BeginsWith rest line more → ¬ IsOneLine rest
 not_cut rest line more begins h = whole_line line more (subst IsOneLine begins.ended h)
 
-not_nothing : (rest line more : List ℕ) → BeginsWith rest line more → rest ≢ []
+pub not_nothing : (rest line more : List ℕ) → BeginsWith rest line more → rest ≢ []
 not_nothing rest line more begins e = let n = ap length (sym e ∙ begins.ended) in omega (arith, n, length-append line (line_feed ∷ more))
 
 -- ---- the first line

@@ -18,6 +18,7 @@ pub mod Told
 pub mod SomeVerdict
 pub mod ReadBack
 pub mod FaultsRead
+pub mod ExactReader
 pub mod ByRecords
 pub mod Examples
 pub mod AcceptedExamples

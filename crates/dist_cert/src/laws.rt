@@ -4,6 +4,7 @@ ghost use Rattle.dist_outside.specs.declared.limits.Limits.{Limits};
 ghost use Rattle.dist_cert.specs.Form.{HasForm, HasHeaderForm};
 ghost use Rattle.dist_cert.specs.Refusal.{certificate_text};
 ghost use Rattle.dist_cert.specs.ReadBack.{CanBeWritten, GivesText};
+ghost use Rattle.dist_cert.specs.ExactReader.{ReaderIsExact};
 ghost use Rattle.dist_cert.specs.declared.records.CertRecord.{CertRecord};
 ghost use Rattle.dist_cert.specs.declared.records.CertRecord.TheVariants.{End};
 ghost use Rattle.dist_cert.specs.declared.records.Header.{Header};
@@ -19,4 +20,9 @@ pub fn one_form()
 pub fn written_is_read()
     ensures { (limits : Limits) (header : Header) (steps : List CertRecord) → CanBeWritten limits header steps
         → GivesText limits (certificate_text header (steps ++ End ∷ [])) header (steps ++ End ∷ []) }
+{}
+
+/// A law: what the text is decides the answer of a reader, but for a fault of the desk and want of memory.
+pub fn reader_is_exact()
+    ensures { ReaderIsExact }
 {}

@@ -22,7 +22,7 @@ mod writing;
 
 pub use clear_forms::forms_are_clear;
 pub use faults::{CertCause, CertFault, ReadCertError};
-pub use laws::{one_form, written_is_read};
+pub use laws::{one_form, reader_is_exact, written_is_read};
 pub use lists::{Claims, Items, Literals, Numbers, Pairs};
 pub use reading::Reader;
 pub use records::{CertKind, CertRecord, Claim, Header};

@@ -6,7 +6,7 @@ ghost use Rattle.dist_cert.specs.Form.{KeepsLimit};
 use crate::line_text::{add_header, add_record};
 use crate::{
     CertKind, CertRecord, Claim, Claims, Header, Items, ReadCertError, Writer, forms_are_clear,
-    one_form, written_is_read,
+    one_form, reader_is_exact, written_is_read,
 };
 use dist_outside::{Desk, Limits, MemoryDesk, What, WorkError};
 use std::alloc::{AllocError, Global};
@@ -246,4 +246,5 @@ fn the_laws_hold() {
     one_form();
     forms_are_clear();
     written_is_read();
+    reader_is_exact();
 }
