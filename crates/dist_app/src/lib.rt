@@ -1,6 +1,9 @@
 //! The top call: a command from its words to its status.
 #![tactic(auto)]
 
+mod answer;
+mod classes_command;
+mod command;
 mod fault_text;
 mod files;
 mod health;
