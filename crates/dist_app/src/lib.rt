@@ -21,4 +21,6 @@ pub use status::Status;
 pub use top_call::{run, run_with};
 
 #[cfg(test)]
+mod classes_tests;
+#[cfg(test)]
 mod tests;
