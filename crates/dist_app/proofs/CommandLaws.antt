@@ -1,4 +1,4 @@
--- Where the desk tells its files, a refusal of `health` that its inputs decide is its only end.
+-- Where the desk tells its files, a refusal of a command that its inputs decide is its only end.
 use Rattle.std.proofs.Common.{◌≡◌, ◌≤◌, ◌<◌, ℕ, List, Bool, inl, inr, Option, Some, length, ap, sym, ◌∙◌, subst, arith}
 use Rattle.dist_outside.specs.Files.{Files}
 use Rattle.dist_outside.specs.declared.limits.Limits.{Limits}
@@ -7,6 +7,8 @@ use Rattle.dist_package.specs.declared.error.PackagesError.{PackagesError}
 use Rattle.dist_package.specs.declared.error.PackagesError.TheVariants as packages_error
 use Rattle.dist_repo.specs.PackageList.{PackageList}
 use Rattle.dist_repo.specs.declared.package.Package.{Package}
+use Rattle.dist_app.specs.Classes.{ClassesDecides, TellsClasses}
+use Rattle.dist_app.specs.Command.{CommandLine, Health, Classes, CommandDecides, words_of}
 use Rattle.dist_app.specs.Health.{ListStage, Judges, HealthDecides}
 use Rattle.dist_app.specs.RepositoryStage.{IsEndOf, RepositoryStage}
 use Rattle.dist_app.specs.Run.{Decides}
@@ -64,12 +66,31 @@ health_alone exact files limits packages list =
     then_refuses_alone (Some files) (ListStage (Some files) repository.packages names) _ (list_determined (Some files) repository.packages names) (λ members has.
     judges_alone (Some files) repository members))))
 
+-- nor is the report of the classes
+tells_alone : (files : Option Files) (repository : PackageList) → RefusesAlone files (TellsClasses files repository)
+tells_alone files repository r ending first second = let e = ap (λ (x : Ending). x.err) first.is in cc
+
+classes_alone : AreExact → (files : Files) (limits : Limits) (packages : List ℕ) → RefusesAlone (Some files) (ClassesDecides (Some files) limits packages)
+classes_alone exact files limits packages =
+    then_refuses_alone (Some files) (TextStage (Some files) packages limits.bytes) _ (text_determined files packages limits.bytes) (λ text goes.
+    then_refuses_alone (Some files) (RepositoryStage (Some files) limits.stanzas text) _ (repository_determined exact (Some files) limits.stanzas text) (λ repository reads.
+    tells_alone (Some files) repository))
+
+command_alone : AreExact → (line : CommandLine) (files : Files) (limits : Limits) → RefusesAlone (Some files) (CommandDecides line (Some files) limits)
+command_alone exact (Health packages list) files limits = health_alone exact files limits packages list
+command_alone exact (Classes packages) files limits = classes_alone exact files limits packages
+
+-- words are of one command
+same_line : (line other : CommandLine) → words_of line ≡ words_of other → other ≡ line
+same_line (Health p l) (Health p' l') is = let same_p : p' ≡ p = cc in let same_l : l' ≡ l = cc in ap (λ (x : List ℕ). Health x l') same_p ∙ ap (λ (x : List ℕ). Health p x) same_l
+same_line (Health p l) (Classes p') is = cc
+same_line (Classes p) (Health p' l') is = cc
+same_line (Classes p) (Classes p') is = let same_p : p' ≡ p = cc in ap (λ (x : List ℕ). Classes x) same_p
+
 pub decides_alone : AreExact → (words : List (List ℕ)) (files : Files) (limits : Limits) → RefusesAlone (Some files) (Decides words (Some files) limits)
 decides_alone exact words files limits r ending (inl (bad, is)) (inl (bad', is')) = is' ∙ sym is
-decides_alone exact words files limits r ending (inl (bad, is)) (inr (p, l, is_health, decides)) = absurd (bad p l is_health)
-decides_alone exact words files limits r ending (inr (p, l, is_health, decides)) (inl (bad, is)) = absurd (bad p l is_health)
-decides_alone exact words files limits r ending (inr (p, l, is_health, decides)) (inr (p', l', is_health', decides')) =
-    let same_p : p' ≡ p = let a = is_health in let b = is_health' in cc in
-    let same_l : l' ≡ l = let a = is_health in let b = is_health' in cc in
-    health_alone exact files limits p l r ending decides
-    (subst (λ (x : List ℕ). HealthDecides (Some files) limits p x ending) same_l (subst (λ (x : List ℕ). HealthDecides (Some files) limits x l' ending) same_p decides'))
+decides_alone exact words files limits r ending (inl (bad, is)) (inr (line, is_line, decides)) = absurd (bad line is_line)
+decides_alone exact words files limits r ending (inr (line, is_line, decides)) (inl (bad, is)) = absurd (bad line is_line)
+decides_alone exact words files limits r ending (inr (line, is_line, decides)) (inr (other, is_other, decides')) =
+    let same : other ≡ line = same_line line other (sym is_line ∙ is_other) in
+    command_alone exact line files limits r ending decides (subst (λ (x : CommandLine). CommandDecides x (Some files) limits ending) same decides')
