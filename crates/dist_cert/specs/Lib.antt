@@ -20,5 +20,6 @@ pub mod ReadBack
 pub mod FaultsRead
 pub mod ExactReader
 pub mod ByRecords
+pub mod ReadingExamples
 pub mod Examples
 pub mod AcceptedExamples

@@ -74,8 +74,8 @@ HeaderFault r rest causes.Truncated = KeepsLimits r.limits r.given rest × IsOne
 HeaderFault r rest causes.BadHeader = KeepsLimits r.limits r.given rest × HasNoHeader rest
 HeaderFault r rest cause = ⊥
 
--- When each answer is given, and what is left then. Each two of these exclude one another, but for a fault of the desk
--- and want of memory, which may come in place of any.
+-- When each answer is given, and what is left then. Each two exclude one another (law `reader_is_exact`), but for a fault
+-- of the desk and want of memory, which may come in place of any.
 abbrev pub HeaderAnswers : ReaderView → List ℕ → List ℕ → Result Header ReadCertError → Type 0
 HeaderAnswers r rest more (Ok h) = IsHeaderNext r rest more h
 HeaderAnswers r rest more (Err (Bad fault)) = HeaderFault r rest fault.cause × (more ≡ rest)

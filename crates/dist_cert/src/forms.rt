@@ -18,7 +18,7 @@ const BEFORE_KIND: usize = 25;
 const MAX_LIMIT: u32 = 1_000_000;
 
 /// Reads lines by their form, with room that is used again for each.
-#[derive(Debug, Drop)]
+#[derive(Drop)]
 pub(crate) struct Forms {
     alloc: Global,
     words: Vec<(u32, bool)>,

@@ -15,7 +15,7 @@ use std::alloc::{AllocError, Global};
 use std::marker::Model;
 
 /// Where a line was read to.
-#[derive(Clone, Copy, Debug, PartialEq, Eq)]
+#[derive(Clone, Copy)]
 pub(crate) enum Reached {
     /// Its line feed is next.
     Feed,
@@ -26,7 +26,7 @@ pub(crate) enum Reached {
 }
 
 /// The line that is being read, and the rest of the piece in which it ends.
-#[derive(Debug, Drop)]
+#[derive(Drop)]
 pub(crate) struct Lines {
     line: Vec<u8>,
     piece: Piece,

@@ -14,7 +14,7 @@ use std::marker::Model;
 const PIECE: usize = 65536;
 
 /// What was not taken yet of a piece of a file.
-#[derive(Debug, Drop)]
+#[derive(Drop)]
 pub(crate) struct Piece {
     /// Room for a piece, once one was read.
     bytes: Vec<u8>,

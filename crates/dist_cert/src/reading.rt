@@ -14,7 +14,7 @@ use std::alloc::Global;
 use std::marker::Model;
 
 /// How much of a text was given.
-#[derive(Clone, Copy, Debug)]
+#[derive(Drop)]
 struct Progress {
     /// Bytes, and lines.
     given: u64,
@@ -59,7 +59,7 @@ impl Progress {
 }
 
 /// Reads a certificate within the limits, from the file that a desk is reading.
-#[derive(Debug, Drop)]
+#[derive(Drop)]
 pub struct Reader {
     limits: Limits,
     text: Lines,
