@@ -1,0 +1,9 @@
+mod Told
+mod Places
+mod Records
+mod LineLemmas
+mod GroupLemmas
+mod Installed
+mod Claims
+mod Whole
+mod Hard

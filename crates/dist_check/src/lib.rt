@@ -1,0 +1,6 @@
+//! The checker of certificates: whether a text is one of a repository, and what an accepted one proves.
+#![tactic(auto)]
+
+mod laws;
+
+pub use laws::accepted_claims_hold;
