@@ -11,7 +11,7 @@ use Rattle.dist_cert.specs.declared.faults.CertCause.TheVariants as causes
 use Rattle.dist_cert.specs.declared.records.CertRecord.{CertRecord}
 use Rattle.dist_cert.specs.declared.records.CertRecord.TheVariants.{End}
 use Rattle.dist_cert.specs.declared.records.Header.{Header}
-use Rattle.dist_cert.specs.Form.{record_text, HasForm, header_text, HasHeaderForm}
+use Rattle.dist_cert.specs.Form.{record_text, HasForm, is_end, header_text, HasHeaderForm}
 use Rattle.dist_cert.specs.Subject.{Matter, Subject}
 use Rattle.dist_cert.specs.LineRules.{HasRecordFault}
 use Rattle.dist_cert.specs.Refusal.{line_feed, IsOneLine, lines_text, certificate_text, Fits, IsBadStep, HasFirstFault, HasLineFault, in_order, IsFirstOf, AreFaultless, Refusal}
@@ -58,10 +58,6 @@ record_to_line clear subject limits h before step more form causes.BadRecord f =
 record_to_line clear subject limits h before step more form cause f = (record_text step, more, step, record { ended = refl; one_line = clear.record_line step form }, form, f)
 
 -- ---- lines of known records
-
-abbrev pub is_end : CertRecord → Bool
-is_end End = true
-is_end step = false
 
 or_right : (x y : Bool) → (x || y) ≡ false → y ≡ false
 or_right true y e = absurd (true≢false e)

@@ -5,6 +5,7 @@ pub mod Groups
 pub mod ClaimRules
 pub mod LineRules
 pub mod Refusal
+pub mod Reading
 pub mod Accepted
 pub mod ClearForms
 pub mod OneVerdict

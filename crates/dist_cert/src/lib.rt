@@ -6,6 +6,7 @@ mod faults;
 mod laws;
 mod line_text;
 mod lists;
+mod reading;
 mod records;
 #[cfg(test)]
 mod tests;
@@ -15,5 +16,6 @@ pub use clear_forms::forms_are_clear;
 pub use faults::{CertCause, CertFault, ReadCertError};
 pub use laws::one_form;
 pub use lists::{Claims, Items, Literals, Numbers, Pairs};
+pub use reading::Reader;
 pub use records::{CertKind, CertRecord, Claim, Header};
 pub use writing::Writer;
