@@ -1,5 +1,5 @@
 -- The lines of an accepted text have no fault as records, its header fits, and it has an end.
-use Rattle.std.proofs.Common.{◌≡◌, ◌⊎◌, inl, inr, ℕ, List, [], ◌∷◌, ◌++◌, ◌<◌, refl, sym, subst, ◌∙◌, append_assoc, arith}
+use Rattle.std.proofs.Common.{◌≡◌, inl, inr, ℕ, List, [], ◌∷◌, ◌++◌, ◌<◌, refl, sym, subst, ◌∙◌, append_assoc, arith}
 use Rattle.std.specs.List.{All, Contains}
 use Rattle.dist_outside.specs.declared.limits.Limits.{Limits}
 use Rattle.dist_cert.specs.declared.faults.CertCause.{CertCause}

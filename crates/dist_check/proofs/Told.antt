@@ -1,7 +1,7 @@
 -- What can be told holds where it cannot fail.
-use Rattle.std.proofs.Common.{◌≡◌, ◌⊎◌, ⊎_elim, inl, inr, ℕ, zero, suc, ◌<◌, ◌≤◌, Bool, true, false, List, [], ◌∷◌, length, get_or, refl, subst, sym, arith, nat_eq}
-use Rattle.std.specs.List.{All, Any, Contains, list_any}
-use Rattle.std.proofs.lemmas.Bool.{cases_lt, cases_eq, eqb-true}
+use Rattle.std.proofs.Common.{◌≡◌, ◌⊎◌, ⊎_elim, inl, inr, ℕ, zero, suc, ◌<◌, ◌≤◌, Bool, true, false, List, [], ◌∷◌, length, get_or, refl, subst, sym, arith}
+use Rattle.std.specs.List.{All, Any, Contains}
+use Rattle.std.proofs.lemmas.Bool.{cases_lt, cases_eq}
 use Rattle.std.proofs.lemmas.List.Elements.{All-nil, All-cons, All-head, All-tail}
 use Rattle.dist_clause.specs.Formula.{Literal, IsTrueLiteral, MakesTrue, IsModel}
 
@@ -10,7 +10,7 @@ IsTold P = P ⊎ (¬ P)
 
 pub stable : {P : Type 0} → IsTold P → ¬ (¬ P) → P
 stable (inl p) twice = p
-stable (inr no) twice = absurd (twice no)
+stable (inr never) twice = absurd (twice never)
 
 pub less-told : (a b : ℕ) → IsTold (a < b)
 less-told a b = ⊎_elim (λ less. inl less) (λ past. inr (λ less. omega arith)) (cases_lt a b)

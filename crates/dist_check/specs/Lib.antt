@@ -1,2 +1,3 @@
 pub mod Present
 pub mod Means
+pub mod PresentExamples

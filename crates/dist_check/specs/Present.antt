@@ -1,5 +1,5 @@
 -- What a certificate of kind strong speaks of: a repository at mode plain or essential, by the clauses of the present.
-use Rattle.std.specs.Prelude.{◌≡◌, ◌==◌, ℕ, ◌+◌, Bool, List, [], length, map}
+use Rattle.std.specs.Prelude.{◌≡◌, ◌==◌, ℕ, Bool, List, [], length, map}
 use Rattle.std.specs.List.{list_any, range_with_len}
 use Rattle.dist_outside.specs.declared.limits.Limits.{Limits}
 use Rattle.dist_clause.specs.Formula.{Literal}

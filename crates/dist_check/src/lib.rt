@@ -2,5 +2,7 @@
 #![tactic(auto)]
 
 mod laws;
+#[cfg(test)]
+mod tests;
 
-pub use laws::accepted_claims_hold;
+pub use laws::{accepted_claims_hold, undecided_questions_are_hard};
