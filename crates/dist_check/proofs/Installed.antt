@@ -18,23 +18,10 @@ use Rattle.dist_now.specs.Members.{members_of}
 use Rattle.dist_now.specs.PresentLaws.{AreModelsInstallations, AreSamePackages}
 use Rattle.dist_check.specs.Present.{truth_of, packages_of}
 use Rattle.dist_check.proofs.Told.{model-told, IsTold}
+use Rattle.dist_check.proofs.RisingLemmas.{any-from, from-any}
 use Rattle.dist_check.proofs.Places.{contains-cases, contains-later}
 
 -- ---- truth values
-
-pub any-from : (x : ℕ) (xs : List ℕ) → Contains xs x → list_any (λ v. x == v) xs ≡ true
-any-from x [] there = absurd (omega (arith, there.1))
-any-from x (y ∷ xs) there = elim (contains-cases y xs x there) [
-  | inl same ↦ ap (λ (b : Bool). b || list_any (λ v. x == v) xs) (eq-eqb x y (sym same))
-  | inr later ↦ or_right (x == y) (list_any (λ v. x == v) xs) (any-from x xs later)
-]
-
-pub from-any : (x : ℕ) (xs : List ℕ) → list_any (λ v. x == v) xs ≡ true → Contains xs x
-from-any x [] holds = absurd (false≢true holds)
-from-any x (y ∷ xs) holds = elim (or_cases (x == y) (list_any (λ v. x == v) xs) holds) [
-  | inl here ↦ (0, omega arith, sym (eqb-true x y here))
-  | inr later ↦ contains-later y xs x (from-any x xs later)
-]
 
 pub truth-length : (n : ℕ) (variables : List ℕ) → length (truth_of n variables) ≡ n
 truth-length n variables = length-map (range_with_len 1 n) (λ variable. list_any (λ v. variable == v) variables) ∙ length-range_with_len 1 n

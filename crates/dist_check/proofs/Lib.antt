@@ -7,3 +7,4 @@ mod Installed
 mod Claims
 mod Whole
 mod Hard
+mod RisingLemmas

@@ -1,3 +1,5 @@
+pub mod Rising
+pub mod Window
 pub mod Present
 pub mod Means
 pub mod PresentExamples

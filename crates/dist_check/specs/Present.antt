@@ -1,6 +1,6 @@
 -- What a certificate of kind strong speaks of: a repository at mode plain or essential, by the clauses of the present.
-use Rattle.std.specs.Prelude.{◌≡◌, ◌==◌, ℕ, Bool, List, [], length, map}
-use Rattle.std.specs.List.{list_any, range_with_len}
+use Rattle.std.specs.Prelude.{◌≡◌, ℕ, Bool, List, [], length, map}
+use Rattle.std.specs.List.{range_with_len}
 use Rattle.dist_outside.specs.declared.limits.Limits.{Limits}
 use Rattle.dist_clause.specs.Formula.{Literal}
 use Rattle.dist_repo.specs.PackageList.{PackageList}
@@ -15,10 +15,11 @@ use Rattle.dist_cert.specs.declared.records.Header.{Header}
 use Rattle.dist_cert.specs.Subject.{Matter, Subject}
 use Rattle.dist_cert.specs.Accepted.{Accepted}
 use Rattle.dist_cert.specs.Refusal.{Refusal}
+use Rattle.dist_check.specs.Rising.{is_among}
 
 -- The variables from 1 to n, each with its truth value, where those listed are true.
 abbrev pub truth_of : ℕ → List ℕ → List Bool
-truth_of n variables = map (λ variable. list_any (λ v. variable == v) variables) (range_with_len 1 n)
+truth_of n variables = map (λ variable. is_among variables variable) (range_with_len 1 n)
 
 -- the packages whose variables are listed, where the first package has the variable 1
 abbrev pub packages_of : List Package → List ℕ → List Package

@@ -2,7 +2,10 @@
 #![tactic(auto)]
 
 mod laws;
+mod literals;
+mod numbers;
 #[cfg(test)]
 mod tests;
+mod window;
 
 pub use laws::{accepted_claims_hold, undecided_questions_are_hard};
