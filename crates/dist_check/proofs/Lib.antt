@@ -8,3 +8,4 @@ mod Claims
 mod Whole
 mod Hard
 mod RisingLemmas
+mod SetLemmas

@@ -1,5 +1,6 @@
 pub mod Rising
 pub mod Window
+pub mod Closed
 pub mod Present
 pub mod Means
 pub mod PresentExamples

@@ -1,8 +1,10 @@
 //! The checker of certificates: whether a text is one of a repository, and what an accepted one proves.
 #![tactic(auto)]
 
+mod closed;
 mod laws;
 mod literals;
+mod number_set;
 mod numbers;
 #[cfg(test)]
 mod tests;
