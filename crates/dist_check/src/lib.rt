@@ -2,10 +2,12 @@
 #![tactic(auto)]
 
 mod closed;
+mod group;
 mod laws;
 mod literals;
 mod number_set;
 mod numbers;
+mod strong;
 #[cfg(test)]
 mod tests;
 mod window;
