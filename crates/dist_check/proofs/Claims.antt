@@ -28,7 +28,7 @@ use Rattle.dist_check.proofs.Places.{all-at, all-from, contains-map, image-of}
 use Rattle.dist_check.proofs.Records.{AreRight, HaveForms}
 use Rattle.dist_check.proofs.LineLemmas.{IsSoundRule, refuted-true}
 use Rattle.dist_check.proofs.GroupLemmas.{group-behind, installation-healthy, recent-there}
-use Rattle.dist_check.proofs.Installed.{member-from, member-at, package-there, variable-there, packages-told}
+use Rattle.dist_check.proofs.MemberLemmas.{member-from, member-at, package-there, variable-there, packages-told}
 
 -- Records without faults over a repository, and the laws that tell what they mean.
 pub record AreProven (r : PackageList) (inputs : List (List Literal)) (h : Header) (steps : List CertRecord) : Type 0 where

@@ -3,9 +3,10 @@ mod Places
 mod Records
 mod LineLemmas
 mod GroupLemmas
-mod Installed
+mod MemberLemmas
 mod Claims
 mod Whole
 mod Hard
 mod RisingLemmas
 mod SetLemmas
+mod NewLemmas

@@ -3,8 +3,10 @@
 
 mod closed;
 mod group;
+mod installed;
 mod laws;
 mod literals;
+mod newness;
 mod number_set;
 mod numbers;
 mod strong;

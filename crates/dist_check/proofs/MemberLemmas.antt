@@ -1,10 +1,10 @@
 -- The healthy installations of a repository by the variables of its packages.
-use Rattle.std.proofs.Common.{◌≡◌, inl, inr, ℕ, zero, suc, ◌+◌, ◌<◌, ◌==◌, ◌||◌, Bool, true, false, List, [], ◌∷◌, length, get_or, Some, Less, refl, sym, ap, subst, ◌∙◌, arith, slice_get}
+use Rattle.std.proofs.Common.{◌≡◌, inl, inr, ℕ, zero, suc, ◌+◌, ◌-◌, ◌<◌, ◌≤◌, ◌++◌, replicate, set, ◌==◌, ◌||◌, Bool, true, false, List, [], ◌∷◌, length, get_or, Some, Less, refl, sym, ap, subst, ◌∙◌, arith, slice_get}
 use Rattle.std.specs.List.{Contains, list_any, range_with_len}
 use Rattle.std.specs.Ordering.{ordering_then}
-use Rattle.std.proofs.lemmas.Bool.{cases_order, eqb-true, eq-eqb, false≢true, or_right, or_cases}
+use Rattle.std.proofs.lemmas.Bool.{cases_order, eqb-true, eq-eqb, ne_eqb, false≢true, or_right, or_cases, cases_eq}
 use Rattle.std.proofs.lemmas.Cmp.{tied_itself, nat_cmp_total, lists_total}
-use Rattle.std.proofs.lemmas.List.{length-map, ext_get_or}
+use Rattle.std.proofs.lemmas.List.{length-map, ext_get_or, length-replicate, get_or-replicate, length-set, get_or-set_same, get_or-set_other}
 use Rattle.std.proofs.lemmas.List.FromFn.{get_or-map-range_with_len, length-range_with_len}
 use Rattle.std.proofs.lemmas.Option.{get_or_from_slice_get, slice_get_within}
 use Rattle.dist_version.specs.Order.{version_cmp}
@@ -18,6 +18,7 @@ use Rattle.dist_now.specs.Members.{members_of}
 use Rattle.dist_now.specs.PresentLaws.{AreModelsInstallations, AreSamePackages}
 use Rattle.dist_check.specs.Present.{truth_of, packages_of}
 use Rattle.dist_check.proofs.Told.{model-told, IsTold}
+use Rattle.dist_check.specs.Rising.{is_among}
 use Rattle.dist_check.proofs.RisingLemmas.{any-from, from-any}
 use Rattle.dist_check.proofs.Places.{contains-cases, contains-later}
 
@@ -28,6 +29,49 @@ truth-length n variables = length-map (range_with_len 1 n) (λ variable. list_an
 
 pub truth-at : (n k : ℕ) (variables : List ℕ) → k < n → get_or (truth_of n variables) k false ≡ list_any (λ v. k + 1 == v) variables
 truth-at n k variables within = get_or-map-range_with_len (λ variable. list_any (λ v. variable == v) variables) 1 n k (k + 1) false within (omega arith)
+
+-- no package is there
+pub truth-none : (n : ℕ) → truth_of n [] ≡ replicate n false
+truth-none n =
+    ext_get_or false (truth_of n []) (replicate n false) (truth-length n [] ∙ sym (length-replicate n false)) (λ k within.
+    let less : k < n = omega (arith, within, truth-length n []) in truth-at n k [] less ∙ sym (get_or-replicate n k false false less))
+
+among-push : (variables : List ℕ) (v q : ℕ) → is_among (variables ++ v ∷ []) q ≡ (is_among variables q || (q == v))
+among-push [] v q = or-false (q == v)
+  where
+    or-false : (b : Bool) → (b || false) ≡ (false || b)
+    or-false true = refl
+    or-false false = refl
+among-push (x ∷ variables) v q = ap (λ (b : Bool). (q == x) || b) (among-push variables v q) ∙ sym (or-assoc (q == x) (is_among variables q) (q == v))
+  where
+    or-assoc : (a b c : Bool) → ((a || b) || c) ≡ (a || (b || c))
+    or-assoc true b c = refl
+    or-assoc false b c = refl
+
+or-none : (a b : Bool) → b ≡ false → (a || b) ≡ a
+or-none true b e = refl
+or-none false b e = e
+
+-- one package more
+pub truth-more : (n : ℕ) (variables : List ℕ) (v : ℕ) → 1 ≤ v → v ≤ n → set (truth_of n variables) (v - 1) true ≡ truth_of n (variables ++ v ∷ [])
+truth-more n variables v from upto =
+    ext_get_or false (set (truth_of n variables) (v - 1) true) (truth_of n (variables ++ v ∷ []))
+    (length-set (truth_of n variables) (v - 1) true ∙ truth-length n variables ∙ sym (truth-length n (variables ++ v ∷ [])))
+    (λ k within. at k (omega (arith, within, length-set (truth_of n variables) (v - 1) true, truth-length n variables)))
+  where
+    at : (k : ℕ) → k < n → get_or (set (truth_of n variables) (v - 1) true) k false ≡ get_or (truth_of n (variables ++ v ∷ [])) k false
+    at k less =
+        let here = truth-at n k (variables ++ v ∷ []) less ∙ among-push variables v (k + 1) in
+        elim (cases_eq k (v - 1)) [
+          | inl same ↦
+              let place : v - 1 < length (truth_of n variables) = omega (arith, truth-length n variables) in
+              let number : k + 1 ≡ v = omega arith in
+              ap (λ (i : ℕ). get_or (set (truth_of n variables) (v - 1) true) i false) same ∙ get_or-set_same (truth_of n variables) (v - 1) true false place
+              ∙ sym (here ∙ or_right (is_among variables (k + 1)) (k + 1 == v) (eq-eqb (k + 1) v number))
+          | inr other ↦
+              get_or-set_other (truth_of n variables) (v - 1) k true false other ∙ truth-at n k variables less
+              ∙ sym (here ∙ or-none (is_among variables (k + 1)) (k + 1 == v) (ne_eqb (k + 1) v (λ e. other (omega (arith, e)))))
+        ]
 
 -- ---- members
 
