@@ -10,3 +10,4 @@ mod Hard
 mod RisingLemmas
 mod SetLemmas
 mod NewLemmas
+mod LiteralLemmas

@@ -3,6 +3,7 @@ pub mod Window
 pub mod Closed
 pub mod Group
 pub mod Since
+pub mod State
 pub mod Present
 pub mod Means
 pub mod PresentExamples

@@ -4,14 +4,17 @@
 mod closed;
 mod group;
 mod installed;
+mod judging;
 mod laws;
 mod literals;
 mod newness;
 mod number_set;
 mod numbers;
+mod question;
 mod strong;
 #[cfg(test)]
 mod tests;
+mod tools;
 mod window;
 
 pub use laws::{accepted_claims_hold, undecided_questions_are_hard};
