@@ -1,6 +1,8 @@
 -- What a checker keeps of the lines before a line, and what it tells of the next one.
-use Rattle.std.specs.Prelude.{◌≡◌, ◌==◌, ◌&&◌, ℕ, ◌+◌, ◌-◌, ◌<◌, ◌≤◌, Bool, true, false, List, [], ◌∷◌, ◌++◌, Option, Some, None, length, map, not, nat_le, nat_lt, if◌then◌else◌}
+use Rattle.std.specs.Prelude.{◌≡◌, ◌==◌, ◌&&◌, ℕ, ◌+◌, ◌-◌, ◌<◌, ◌≤◌, Bool, true, false, List, [], ◌∷◌, ◌++◌, Option, Some, None, MatchOption, MatchBool, length, map, not, nat_le, nat_lt, if◌then◌else◌}
 use Rattle.std.specs.List.{list_any}
+use Rattle.dist_outside.specs.declared.trouble.WorkError.{WorkError}
+use Rattle.dist_outside.specs.declared.trouble.WorkError.TheVariants.{NoMemory}
 use Rattle.dist_clause.specs.Formula.{Literal, negation}
 use Rattle.dist_derive.specs.ClauseLog.{ClauseLog}
 use Rattle.dist_derive.specs.Follows.{Follows}
@@ -18,13 +20,15 @@ use Rattle.dist_check.specs.Present.{packages_of}
 use Rattle.dist_check.specs.Window.{WindowView, latest}
 use Rattle.dist_check.specs.Closed.{ClosedView, Closes}
 use Rattle.dist_check.specs.Group.{GroupView, common_with, PassesStrong, omits_package}
-use Rattle.dist_check.specs.Since.{AreNewFrom}
+use Rattle.dist_check.specs.Since.{AreNewFrom, IsAppendCause}
 
--- the assumptions of the open question, and the number of the last clause before its line
+-- The assumptions of the open question, and the number of the last clause before its line
 pub record QuestionView : Type 0 where
   pub assumptions : List Word
   pub last : ℕ
 
+-- The mode and the limit of the first line, the number of packages, the clauses, installations and group, the open
+-- question, the package of the next claim, and the claims.
 pub record StateView : Type 0 where
   pub essential : Bool
   pub limit : ℕ
@@ -32,6 +36,7 @@ pub record StateView : Type 0 where
   pub log : ClauseLog
   pub window : WindowView
   pub question : Option QuestionView
+  pub next : ℕ
   pub group : GroupView
   pub claims : List Claim
 
@@ -78,7 +83,7 @@ TellsUndecided log limit (Some question) (Some cause) = ⊥
 
 -- the package is the next one, and is not above the last
 abbrev pub is_next : ℕ → ℕ → ℕ → Bool
-is_next count packages p = (p == count + 1) && nat_le p packages
+is_next next packages p = (p == next) && nat_le p packages
 
 -- a claim on a package, which holds or does not
 abbrev pub TellsClaim : Bool → Bool → Option CertCause → Type 0
@@ -95,9 +100,9 @@ TellsStrong next w group packages p named on undecided (Some Incomplete) = (next
 TellsStrong next w group packages p named on undecided (Some cause) = ⊥
 
 abbrev pub TellsEnd : ℕ → ℕ → Option CertCause → Type 0
-TellsEnd count packages None = packages ≤ count
-TellsEnd count packages (Some Incomplete) = count < packages
-TellsEnd count packages (Some cause) = ⊥
+TellsEnd next packages None = packages < next
+TellsEnd next packages (Some Incomplete) = next ≤ packages
+TellsEnd next packages (Some cause) = ⊥
 
 -- what is told of a record
 abbrev pub Tells : PackageList → StateView → CertRecord → Option CertCause → Type 0
@@ -106,10 +111,59 @@ Tells r s (lines.Derived literals hints) = TellsDerived s.log literals hints
 Tells r s (lines.Refuted hints) = TellsRefuted s.log s.question hints
 Tells r s (lines.Installation variables) = TellsInstallation r s.essential variables
 Tells r s lines.Undecided = TellsUndecided s.log s.limit s.question
-Tells r s (lines.NotInstallable p) = TellsClaim (is_next (length s.claims) s.packages p) s.group.refuted.alone
-Tells r s (lines.Unknown p) = TellsClaim (is_next (length s.claims) s.packages p) s.group.undecided.alone
-Tells r s (lines.Strong p named on undecided) = TellsStrong (is_next (length s.claims) s.packages p) s.window s.group s.packages p named on undecided
-Tells r s (lines.Outdated p) = TellsClaim (is_next (length s.claims) s.packages p) false
-Tells r s (lines.Alive p installation) = TellsClaim (is_next (length s.claims) s.packages p) false
-Tells r s (lines.Challenged p named by undecided) = TellsClaim (is_next (length s.claims) s.packages p) false
-Tells r s lines.End = TellsEnd (length s.claims) s.packages
+Tells r s (lines.NotInstallable p) = TellsClaim (is_next s.next s.packages p) s.group.refuted.alone
+Tells r s (lines.Unknown p) = TellsClaim (is_next s.next s.packages p) s.group.undecided.alone
+Tells r s (lines.Strong p named on undecided) = TellsStrong (is_next s.next s.packages p) s.window s.group s.packages p named on undecided
+Tells r s (lines.Outdated p) = TellsClaim (is_next s.next s.packages p) false
+Tells r s (lines.Alive p installation) = TellsClaim (is_next s.next s.packages p) false
+Tells r s (lines.Challenged p named by undecided) = TellsClaim (is_next s.next s.packages p) false
+Tells r s lines.End = TellsEnd s.next s.packages
+
+-- ---- what a line without a fault makes of it
+
+-- what is asked of a line that is taken: its literals are over the variables, and a claim is on the next package
+abbrev pub Allows : StateView → CertRecord → Type 0
+Allows s (lines.Question literals) = names_above s.packages literals ≡ false
+Allows s (lines.Derived literals hints) = names_above s.packages literals ≡ false
+Allows s (lines.NotInstallable p) = is_next s.next s.packages p ≡ true
+Allows s (lines.Unknown p) = is_next s.next s.packages p ≡ true
+Allows s (lines.Strong p named on undecided) = is_next s.next s.packages p ≡ true
+Allows s step = Unit {0}
+
+abbrev pub empty_group : GroupView
+empty_group = record { refuted = record { alone = false; without = [] }; undecided = record { alone = false; without = [] }; common = None }
+
+-- the open question is closed, and its answer is noted in the group
+pub record Answers (s t : StateView) (refuted : Bool) : Type 0 where
+  pub rest : t ≡ record s { question = None; group = t.group }
+  pub common : t.group.common ≡ s.group.common
+  pub noted : MatchOption s.question (t.group ≡ s.group) (λ q. MatchBool refuted
+      (Closes s.next q.assumptions s.group.refuted t.group.refuted × (t.group.undecided ≡ s.group.undecided))
+      (Closes s.next q.assumptions s.group.undecided t.group.undecided × (t.group.refuted ≡ s.group.refuted)))
+
+-- a claim ends the group
+abbrev pub after_claim : StateView → CertRecord → StateView
+after_claim s step = record s { question = None; next = s.next + 1; group = empty_group; claims = s.claims ++ claim_in step }
+
+-- what is kept behind the line
+abbrev pub Becomes : StateView → CertRecord → StateView → Type 0
+Becomes s (lines.Question literals) t = t ≡ record s { question = Some (record { assumptions = literals; last = length s.log.clauses }) }
+Becomes s (lines.Derived literals hints) t = t ≡ record s { log = record s.log { clauses = s.log.clauses ++ clause_of literals ∷ [] } }
+Becomes s (lines.Refuted hints) t = Answers s t true
+Becomes s lines.Undecided t = Answers s t false
+Becomes s (lines.Installation variables) t = t ≡ record s {
+  window = record { kept = latest (s.window.kept ++ variables ∷ []); count = s.window.count + 1 };
+  group = record s.group { common = common_with s.next variables s.group.common };
+}
+Becomes s (lines.NotInstallable p) t = t ≡ after_claim s (lines.NotInstallable p)
+Becomes s (lines.Unknown p) t = t ≡ after_claim s (lines.Unknown p)
+Becomes s (lines.Strong p named on undecided) t = t ≡ after_claim s (lines.Strong p named on undecided)
+Becomes s (lines.Outdated p) t = Unit {0}
+Becomes s (lines.Alive p installation) t = Unit {0}
+Becomes s (lines.Challenged p named by undecided) t = Unit {0}
+Becomes s lines.End t = t ≡ record s { question = None }
+
+-- why a line without a fault was not taken
+abbrev pub StopsAt : StateView → CertRecord → WorkError → Type 0
+StopsAt s (lines.Derived literals hints) error = IsAppendCause s.log (clause_of literals) error
+StopsAt s step error = error ≡ NoMemory

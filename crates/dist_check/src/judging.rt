@@ -152,11 +152,11 @@ pub(crate) fn judge_undecided(
     }
 }
 
-/// Whether a claim on a package is the next one.
-pub(crate) fn is_next(count: usize, packages: u32, package: u32) -> bool
-    ensures { result ≡ is_next count packages «package» }
+/// Whether a claim on a package is the next one, and the package is not above the last.
+pub(crate) fn is_next(next: u32, packages: u32, package: u32) -> bool
+    ensures { result ≡ is_next next packages «package» }
 {
-    package > 0 && (package - 1) as usize == count && package <= packages
+    package == next && package <= packages
 }
 
 /// Of a claim that holds, or does not.
@@ -198,10 +198,10 @@ pub(crate) fn judge_strong(
 }
 
 /// Of the line of the end.
-pub(crate) fn judge_end(count: usize, packages: u32) -> Option<CertCause>
-    ensures { TellsEnd count packages result }
+pub(crate) fn judge_end(next: u32, packages: u32) -> Option<CertCause>
+    ensures { TellsEnd next packages result }
 {
-    if count < packages as usize {
+    if next <= packages {
         return Some(CertCause::Incomplete);
     }
     None

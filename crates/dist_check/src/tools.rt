@@ -1,14 +1,15 @@
 //! Room for the tests of a log, taken once.
-ghost use Rattle.std.specs.Prelude.{◌≡◌, ◌↔◌, ◌≤◌, IfOk, IsTrue, length, map};
+ghost use Rattle.std.specs.Prelude.{◌≡◌, ◌↔◌, ◌≤◌, [], ◌∷◌, ◌++◌, IfErr, IfOk, IsTrue, OnErr, OnOk, length, map};
 ghost use Rattle.dist_clause.specs.Formula.{negation};
 ghost use Rattle.dist_derive.specs.Follows.{Follows};
 ghost use Rattle.dist_cert.specs.Groups.{clause_of};
-ghost use Rattle.dist_check.specs.Since.{AreLiteralsOver, AreNewFrom};
+ghost use Rattle.dist_check.specs.Since.{AreLiteralsOver, AreNewFrom, IsAppendCause};
 
 use crate::literals::{write_clause, write_negated};
 use crate::newness::are_new;
 use dist_clause::Lit;
-use dist_derive::{Log, Scratch};
+use dist_derive::{AppendError, Log, Scratch};
+use dist_outside::{What, WorkError};
 use std::alloc::{AllocError, Global};
 use std::marker::Model;
 
@@ -73,5 +74,23 @@ impl Tools {
         let _stated = log.variables();
         write_clause(&mut self.clause, assumptions)?;
         Ok(are_new(log, &mut self.scratch, &self.clause, last))
+    }
+
+    /// Adds the clause of some literals to the log.
+    pub(crate) fn append(&mut self, log: &mut Log, literals: &[(u32, bool)]) -> Result<(), WorkError>
+        requires { AreLiteralsOver log.old.variables literals.now }
+        ensures ok { OnOk result (log.new ≡ record log.old { clauses = log.old.clauses ++ clause_of literals.now ∷ [] }) }
+        ensures err { IfErr result (IsAppendCause log.old (clause_of literals.now)) }
+        ensures stays { OnErr result (log.new ≡ log.old) }
+        ensures ready { self.new ≡ self.old }
+    {
+        let _stated = log.variables();
+        write_clause(&mut self.clause, literals)?;
+        match log.append(&self.clause) {
+            Ok(_) => Ok(()),
+            Err(AppendError::TooManyLines) => Err(WorkError::TooLarge(What::Lines)),
+            Err(AppendError::TooManyLiterals) => Err(WorkError::TooLarge(What::LineLiterals)),
+            Err(AppendError::NoMemory) => Err(WorkError::NoMemory),
+        }
     }
 }
