@@ -142,8 +142,8 @@ pub record Answers (s t : StateView) (refuted : Bool) : Type 0 where
       (Closes s.next q.assumptions s.group.undecided t.group.undecided × (t.group.refuted ≡ s.group.refuted)))
 
 -- a claim ends the group
-abbrev pub after_claim : StateView → CertRecord → StateView
-after_claim s step = record s { question = None; next = s.next + 1; group = empty_group; claims = s.claims ++ claim_in step }
+abbrev pub after_claim : StateView → List Claim → StateView
+after_claim s made = record s { question = None; next = s.next + 1; group = empty_group; claims = s.claims ++ made }
 
 -- what is kept behind the line
 abbrev pub Becomes : StateView → CertRecord → StateView → Type 0
@@ -155,9 +155,9 @@ Becomes s (lines.Installation variables) t = t ≡ record s {
   window = record { kept = latest (s.window.kept ++ variables ∷ []); count = s.window.count + 1 };
   group = record s.group { common = common_with s.next variables s.group.common };
 }
-Becomes s (lines.NotInstallable p) t = t ≡ after_claim s (lines.NotInstallable p)
-Becomes s (lines.Unknown p) t = t ≡ after_claim s (lines.Unknown p)
-Becomes s (lines.Strong p named on undecided) t = t ≡ after_claim s (lines.Strong p named on undecided)
+Becomes s (lines.NotInstallable p) t = t ≡ after_claim s (claim_in (lines.NotInstallable p))
+Becomes s (lines.Unknown p) t = t ≡ after_claim s (claim_in (lines.Unknown p))
+Becomes s (lines.Strong p named on undecided) t = t ≡ after_claim s (claim_in (lines.Strong p named on undecided))
 Becomes s (lines.Outdated p) t = Unit {0}
 Becomes s (lines.Alive p installation) t = Unit {0}
 Becomes s (lines.Challenged p named by undecided) t = Unit {0}

@@ -93,6 +93,20 @@ impl Group {
         }
     }
 
+    /// Whether the question of the package alone was refuted.
+    pub(crate) fn is_refuted(&self) -> bool
+        ensures { result ≡ self.now.refuted.alone }
+    {
+        self.refuted.has_alone()
+    }
+
+    /// Whether the question of the package alone was closed as undecided.
+    pub(crate) fn is_undecided(&self) -> bool
+        ensures { result ≡ self.now.undecided.alone }
+    {
+        self.undecided.has_alone()
+    }
+
     /// Forgets all.
     pub(crate) fn clear(&mut self)
         ensures { self.new ≡ record {

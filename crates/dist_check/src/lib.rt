@@ -2,6 +2,7 @@
 #![tactic(auto)]
 
 mod closed;
+mod from_zero;
 mod group;
 mod installed;
 mod judging;
@@ -11,6 +12,7 @@ mod newness;
 mod number_set;
 mod numbers;
 mod question;
+mod state;
 mod strong;
 #[cfg(test)]
 mod tests;
