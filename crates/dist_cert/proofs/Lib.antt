@@ -1,5 +1,11 @@
 pub mod Parts
-pub mod Decoded
 pub mod OneForm
 pub mod WritingLemmas
 pub mod OneLine
+pub mod Filling
+pub mod LineEnds
+pub mod LooseLemmas
+pub mod RuleLemmas
+pub mod RecordForms
+pub mod HeaderForms
+pub mod Answering

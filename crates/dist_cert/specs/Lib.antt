@@ -6,6 +6,11 @@ pub mod ClaimRules
 pub mod LineRules
 pub mod Refusal
 pub mod Reading
+pub mod Held
+pub mod LineReading
+pub mod LooseWords
+pub mod LooseHeader
+pub mod Decoded
 pub mod Accepted
 pub mod ClearForms
 pub mod OneVerdict

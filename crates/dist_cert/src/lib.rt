@@ -2,12 +2,18 @@
 #![tactic(auto)]
 
 mod clear_forms;
+mod decoding;
 mod faults;
+mod forms;
 mod laws;
 mod line_text;
+mod lines;
 mod lists;
+mod loose_words;
+mod pieces;
 mod reading;
 mod records;
+mod rules;
 #[cfg(test)]
 mod tests;
 mod writing;

@@ -1,31 +1,82 @@
 //! Reads a certificate line by line, each through one buffer.
-ghost use Rattle.std.specs.Prelude.{◌≡◌, [], false};
+ghost use Rattle.std.specs.Prelude.{◌≡◌, ◌+◌, ◌-◌, ◌^◌, ◌<◌, [], false, length};
 ghost use Rattle.dist_outside.specs.Files.{IsReading};
 ghost use Rattle.dist_outside.specs.DeskView.{OnlyReads};
+ghost use Rattle.dist_cert.specs.LineReading.{AtFileEnd};
 ghost use Rattle.dist_cert.specs.Reading.{text_left, WhereTold, HeaderAnswers, HeaderCause, GivesHeader, RecordAnswers, RecordCause, GivesRecord};
 
-use crate::faults::ReadCertError;
+use crate::faults::{CertCause, CertFault, ReadCertError};
+use crate::forms::Forms;
+use crate::lines::{Lines, Reached};
 use crate::records::{CertRecord, Header};
-use dist_outside::{Desk, Limits, WorkError};
+use dist_outside::{Desk, Limits};
 use std::alloc::Global;
 use std::marker::Model;
+
+/// How much of a text was given.
+#[derive(Clone, Copy, Debug)]
+struct Progress {
+    /// Bytes, and lines.
+    given: u64,
+    lines: u64,
+    /// Whether the end was one of the lines.
+    ended: bool,
+}
+
+impl Progress {
+    /// Counts a line, without its line feed, that is given.
+    fn pass(&mut self, line: &[u8])
+        requires bytes { self.old.given + length line.now < 2 ^ 64 - 1 }
+        requires lines { self.old.lines < 2 ^ 64 - 1 }
+        ensures { self.new ≡ record self.old { given = self.old.given + (length line.now + 1); lines = self.old.lines + 1 } }
+    {
+        self.given += line.len() as u64 + 1;
+        self.lines += 1;
+    }
+
+    /// A fault of the next line.
+    fn bad(&self, cause: CertCause) -> ReadCertError
+        requires { self.now.lines < 2 ^ 64 - 1 }
+        ensures { result ≡ ReadCertError.Bad (record { line = self.now.lines + 1; cause = cause }) }
+    {
+        ReadCertError::Bad(CertFault {
+            line: self.lines + 1,
+            cause,
+        })
+    }
+
+    /// What the end of the file is behind this front of a line.
+    fn end(&self, line: &[u8]) -> Result<Option<CertRecord>, ReadCertError>
+        requires { self.now.lines < 2 ^ 64 - 1 }
+        ensures { AtFileEnd self.now.ended self.now.lines line.now result }
+    {
+        if self.ended && line.is_empty() {
+            Ok(None)
+        } else {
+            Err(self.bad(CertCause::Truncated))
+        }
+    }
+}
 
 /// Reads a certificate within the limits, from the file that a desk is reading.
 #[derive(Debug, Drop)]
 pub struct Reader {
     limits: Limits,
-    line: Vec<u8>,
-    given: u64,
-    lines: u64,
-    ended: bool,
+    text: Lines,
+    forms: Forms,
+    done: Progress,
 }
 
 impl Model for Reader {
+    ghost use Rattle.std.specs.Prelude.{◌+◌, ◌*◌, ◌≤◌, ◌++◌};
     ghost use Rattle.dist_cert.specs.Reading.{ReaderView};
 
     ghost Value = { ReaderView };
 
-    ghost view = { λ r. record { limits = r.limits; held = r.line.items; given = r.given; lines = r.lines; ended = r.ended } };
+    ghost view = { λ r. record { limits = r.limits; held = r.text.line ++ r.text.behind; given = r.done.given; lines = r.done.lines; ended = r.done.ended } };
+
+    // A line that is given has a byte and its line feed, so that lines can be counted.
+    ghost invariant = { λ r. (r.done.given ≤ r.limits.certificate) × (2 * r.done.lines ≤ r.done.given) };
 }
 
 impl Reader {
@@ -35,10 +86,13 @@ impl Reader {
     {
         Reader {
             limits: *limits,
-            line: Vec::new(alloc),
-            given: 0,
-            lines: 0,
-            ended: false,
+            text: Lines::new(alloc),
+            forms: Forms::new(alloc),
+            done: Progress {
+                given: 0,
+                lines: 0,
+                ended: false,
+            },
         }
     }
 
@@ -52,8 +106,19 @@ impl Reader {
         ensures reading { IsReading (D.view desk.new).mode }
         ensures only_reads { OnlyReads (D.view desk.old) (D.view desk.new) }
     {
-        let _ = desk;
-        Err(ReadCertError::Work(WorkError::NoMemory))
+        let reached = self.text.read_line(desk, &self.limits, self.done.given)?;
+        match reached {
+            Reached::Within => Err(self.done.bad(CertCause::LineTooLong)),
+            Reached::File => Err(self.done.bad(CertCause::Truncated)),
+            Reached::Feed => match self.forms.header(self.text.line())? {
+                None => Err(self.done.bad(CertCause::BadHeader)),
+                Some(header) => {
+                    self.done.pass(self.text.line());
+                    self.text.pass_line();
+                    Ok(header)
+                }
+            },
+        }
     }
 
     /// The next line, or none where the text ends behind the `e` line.
@@ -66,7 +131,24 @@ impl Reader {
         ensures reading { IsReading (D.view desk.new).mode }
         ensures only_reads { OnlyReads (D.view desk.old) (D.view desk.new) }
     {
-        let _ = desk;
-        Err(ReadCertError::Work(WorkError::NoMemory))
+        let reached = self.text.read_line(desk, &self.limits, self.done.given)?;
+        match reached {
+            Reached::Within => Err(self.done.bad(CertCause::LineTooLong)),
+            Reached::File => self.done.end(self.text.line()),
+            Reached::Feed => {
+                if self.done.ended {
+                    return Err(self.done.bad(CertCause::BadRecord));
+                }
+                match self.forms.record(self.text.line())? {
+                    None => Err(self.done.bad(CertCause::BadRecord)),
+                    Some(step) => {
+                        self.done.pass(self.text.line());
+                        self.done.ended = matches!(step, CertRecord::End);
+                        self.text.pass_line();
+                        Ok(Some(step))
+                    }
+                }
+            }
+        }
     }
 }
