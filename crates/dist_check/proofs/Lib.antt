@@ -11,3 +11,7 @@ mod RisingLemmas
 mod SetLemmas
 mod NewLemmas
 mod LiteralLemmas
+mod Questions
+mod At
+mod Profile
+mod TestLemmas
