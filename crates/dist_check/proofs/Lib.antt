@@ -15,3 +15,4 @@ mod Questions
 mod At
 mod Profile
 mod TestLemmas
+mod Verdicts

@@ -28,7 +28,7 @@ all-tested test P (n ∷ numbers) tests =
     )
 
 pub any-tested : (test : ℕ → Bool) (P : ℕ → Type 0) (numbers : List ℕ) → Tests test P numbers → (list_any test numbers ≡ true) ↔ Any P numbers
-any-tested test P [] tests = ((λ e. absurd (false≢true e)), λ any. omega (arith, any.2))
+any-tested test P [] tests = ((λ e. absurd (false≢true e)), λ any. absurd (omega (arith, any.2)))
 any-tested test P (n ∷ numbers) tests =
     let rest = any-tested test P numbers (tests-tail test P n numbers tests) in
     let here = tests n (first-there n numbers) in (
@@ -51,7 +51,7 @@ none-tested test P (n ∷ numbers) tests =
       let parts = or_parts (test n) (list_any test numbers) e in
       All-cons (λ m. ¬ P m) n numbers (λ holds. false≢true (sym parts.0 ∙ here.1 holds)) (rest.0 parts.1)),
       λ all. elim (cases_Bool (test n)) [
-        | inl yes ↦ absurd (All-head (λ m. ¬ P m) n numbers all (here.0 yes))
+        | inl passed ↦ absurd (All-head (λ m. ¬ P m) n numbers all (here.0 passed))
         | inr no_test ↦ ap (λ (b : Bool). b || list_any test numbers) no_test ∙ rest.1 (All-tail (λ m. ¬ P m) n numbers all)
       ],
     )
