@@ -16,3 +16,4 @@ mod At
 mod Profile
 mod TestLemmas
 mod Verdicts
+mod ClosingVerdicts
