@@ -17,3 +17,4 @@ mod Profile
 mod TestLemmas
 mod Verdicts
 mod ClosingVerdicts
+mod StrongVerdicts
