@@ -18,3 +18,4 @@ mod TestLemmas
 mod Verdicts
 mod ClosingVerdicts
 mod StrongVerdicts
+mod Steps

@@ -56,7 +56,7 @@ record IsLineOfClaim (steps : List CertRecord) (number : ℕ) (claim : Claim) : 
   one : claim_in step ≡ claim ∷ []
   count : claim_count before ≡ number
 
-claim-count-push : (before : List CertRecord) (step : CertRecord) → claim_count (before ++ step ∷ []) ≡ claim_count before + length (claimed step)
+pub claim-count-push : (before : List CertRecord) (step : CertRecord) → claim_count (before ++ step ∷ []) ≡ claim_count before + length (claimed step)
 claim-count-push before step =
     ap (λ (ns : List ℕ). length ns) (flat_map-append claimed before (step ∷ []) ∙ ap (λ (ns : List ℕ). flat_map claimed before ++ ns) (append-nil (claimed step)))
     ∙ length-append (flat_map claimed before) (claimed step)
