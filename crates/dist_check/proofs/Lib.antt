@@ -19,3 +19,4 @@ mod Verdicts
 mod ClosingVerdicts
 mod StrongVerdicts
 mod Steps
+mod Next
