@@ -4,6 +4,9 @@ pub mod Closed
 pub mod Group
 pub mod Since
 pub mod State
+pub mod Limited
+pub mod Start
+pub mod Checking
 pub mod Present
 pub mod Means
 pub mod PresentExamples

@@ -12,6 +12,7 @@ mod newness;
 mod number_set;
 mod numbers;
 mod question;
+mod start;
 mod state;
 mod strong;
 #[cfg(test)]

@@ -1,5 +1,6 @@
 //! What is kept of the lines before a line: what is told of the next one, and what it makes of it.
 ghost use Rattle.std.specs.Prelude.{◌≡◌, ◌+◌, ◌<◌, ◌≤◌, ◌^◌, [], ◌∷◌, None, Some, IfErr, IfOk, OnOk, length};
+ghost use Rattle.dist_derive.specs.ClauseLog.{IsWithinLineLimits};
 ghost use Rattle.dist_repo.specs.Size.{IsWithinSize};
 ghost use Rattle.dist_cert.specs.declared.records.CertRecord.TheVariants.{Installation};
 ghost use Rattle.dist_cert.specs.Form.{KeepsRules};
@@ -65,7 +66,8 @@ impl State {
     /// Before the first line behind the header.
     pub(crate) fn new(alloc: Global, essential: bool, limit: u32, packages: u32, log: Log) -> State
         requires { log.variables ≡ packages }
-        ensures { result ≡ record {
+        ensures within { IsWithinLineLimits result.log }
+        ensures value { result ≡ record {
           essential = essential;
           limit = limit;
           packages = packages;
@@ -77,6 +79,7 @@ impl State {
           claims = [];
         } }
     {
+        let _within = log.len();
         State {
             essential,
             limit,
@@ -88,6 +91,13 @@ impl State {
             group: Group::new(alloc),
             claims: Claims::new(alloc),
         }
+    }
+
+    /// What this call tells is that the derived lines keep their limits.
+    pub(crate) fn keep_limits(&self)
+        ensures { IsWithinLineLimits self.now.log }
+    {
+        let _within = self.log.len();
     }
 
     /// The claims.
