@@ -4,12 +4,14 @@ use Rattle.std.specs.List.{list_any}
 use Rattle.dist_outside.specs.declared.trouble.WorkError.{WorkError}
 use Rattle.dist_outside.specs.declared.trouble.WorkError.TheVariants.{NoMemory}
 use Rattle.dist_clause.specs.Formula.{Literal, negation}
-use Rattle.dist_derive.specs.ClauseLog.{ClauseLog}
+use Rattle.dist_derive.specs.ClauseLog.{ClauseLog, IsWithinLineLimits}
 use Rattle.dist_derive.specs.Follows.{Follows}
 use Rattle.dist_repo.specs.PackageList.{PackageList}
 use Rattle.dist_repo.specs.Strong.{IsInstallation}
 use Rattle.dist_cert.specs.declared.faults.CertCause.{CertCause}
 use Rattle.dist_cert.specs.declared.faults.CertCause.TheVariants.{OutOfRange, OutOfOrder, UnknownLine, BadLine, NotAnInstallation, LimitNotReached, NotNew, WrongClaim, Incomplete}
+use Rattle.dist_cert.specs.declared.faults.ReadCertError.{ReadCertError}
+use Rattle.dist_cert.specs.declared.faults.ReadCertError.TheVariants.{Bad, Work}
 use Rattle.dist_cert.specs.declared.records.CertRecord.{CertRecord}
 use Rattle.dist_cert.specs.declared.records.CertRecord.TheVariants as lines
 use Rattle.dist_cert.specs.declared.records.Claim.{Claim}
@@ -167,3 +169,15 @@ Becomes s lines.End t = t ≡ record s { question = None }
 abbrev pub StopsAt : StateView → CertRecord → WorkError → Type 0
 StopsAt s (lines.Derived literals hints) error = IsAppendCause s.log (clause_of literals) error
 StopsAt s step error = error ≡ NoMemory
+
+-- why a line was not taken: its first fault, or, where it has none, a number or want of memory
+abbrev pub LineStops : PackageList → StateView → CertRecord → ℕ → ReadCertError → Type 0
+LineStops r s step line (Bad fault) = (fault.line ≡ line) × Tells r s step (Some fault.cause)
+LineStops r s step line (Work NoMemory) = Unit {0}
+LineStops r s step line (Work error) = Tells r s step None × StopsAt s step error
+
+-- the line has no fault, and was taken
+pub record TakesLine (r : PackageList) (s : StateView) (step : CertRecord) (t : StateView) : Type 0 where
+  pub none : Tells r s step None
+  pub becomes : Becomes s step t
+  pub within : IsWithinLineLimits t.log

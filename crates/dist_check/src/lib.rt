@@ -7,6 +7,7 @@ mod group;
 mod installed;
 mod judging;
 mod laws;
+mod lines;
 mod literals;
 mod newness;
 mod number_set;
