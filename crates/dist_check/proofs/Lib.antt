@@ -20,3 +20,4 @@ mod ClosingVerdicts
 mod StrongVerdicts
 mod Steps
 mod Next
+mod CheckLemmas

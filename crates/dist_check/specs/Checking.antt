@@ -1,10 +1,12 @@
 -- What a checker answers, of a text that is told.
 use Rattle.std.specs.Prelude.{◌≡◌, ◌≢◌, ◌⊎◌, ℕ, ◌+◌, ◌<◌, ◌≤◌, Bool, List, [], ◌∷◌, ◌++◌, Option, Some, None, Result, Ok, Err, length, take}
+use Rattle.dist_outside.specs.Counts.{Rose}
+use Rattle.dist_outside.specs.DeskView.{DeskView}
 use Rattle.dist_outside.specs.Files.{Files, file_bytes}
 use Rattle.dist_outside.specs.declared.limits.Limits.{Limits}
 use Rattle.dist_outside.specs.declared.trouble.What.TheVariants.{Clauses, Literals, Lines, LineLiterals, Certificate}
 use Rattle.dist_outside.specs.declared.trouble.WorkError.{WorkError}
-use Rattle.dist_outside.specs.declared.trouble.WorkError.TheVariants.{ReadFault, TooLarge, NoMemory}
+use Rattle.dist_outside.specs.declared.trouble.WorkError.TheVariants.{ReadFault, WriteFault, TooLarge, NoMemory}
 use Rattle.dist_clause.specs.ClauseList.{literal_count}
 use Rattle.dist_clause.specs.Formula.{Literal}
 use Rattle.dist_repo.specs.PackageList.{PackageList}
@@ -124,3 +126,9 @@ TextAnswers header claims r limits text (Err (Work error)) = ⊥
 abbrev pub OfText : Option (List ℕ) → (List ℕ → Type 0) → Type 0
 OfText None P = Unit {0}
 OfText (Some text) P = P text
+
+-- Whatever the desk tells, it failed where it is said to have failed, and no other error of work than these comes.
+abbrev pub TextCause : DeskView → DeskView → ReadCertError → Type 0
+TextCause old new (Work ReadFault) = Rose old.read_faults new.read_faults
+TextCause old new (Work WriteFault) = ⊥
+TextCause old new error = Unit {0}

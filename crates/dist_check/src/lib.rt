@@ -1,6 +1,7 @@
 //! The checker of certificates: whether a text is one of a repository, and what an accepted one proves.
 #![tactic(auto)]
 
+mod checking;
 mod closed;
 mod from_zero;
 mod group;

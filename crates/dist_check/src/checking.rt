@@ -1,0 +1,66 @@
+//! The checker: one pass over the lines of a certificate.
+ghost use Rattle.std.specs.Prelude.{◌≡◌, IfErr, IfOk};
+ghost use Rattle.dist_outside.specs.DeskView.{OnlyReads};
+ghost use Rattle.dist_outside.specs.Files.{IsReading};
+ghost use Rattle.dist_outside.specs.Reading.{bytes_left};
+ghost use Rattle.dist_repo.specs.Size.{IsWithinSize};
+ghost use Rattle.dist_check.specs.Checking.{OfText, TextAnswers, TextCause};
+ghost use Rattle.dist_check.specs.Limited.{AreStated};
+ghost use Rattle.dist_check.specs.Means.{Means};
+
+use crate::lines::take_line;
+use crate::start::start;
+use crate::tools::Tools;
+use dist_cert::{Claims, Header, ReadCertError, Reader, forms_are_clear};
+use dist_derive::lines_keep_models;
+use dist_now::{
+    models_are_installations, present_clauses_are_one, present_clauses_are_there,
+};
+use dist_outside::{Desk, Limits};
+use dist_repo::Repository;
+use std::alloc::Global;
+
+/// What was read of an accepted certificate.
+#[derive(Debug, Drop)]
+pub(crate) struct Checked {
+    pub(crate) header: Header,
+    pub(crate) claims: Claims,
+}
+
+/// Checks the text that a desk is reading.
+pub(crate) fn check_text<D: Desk>(
+    alloc: Global,
+    repo: &Repository,
+    desk: &mut D,
+    limits: &Limits,
+) -> Result<Checked, ReadCertError>
+    requires reading { IsReading (D.view desk.old).mode }
+    requires size { IsWithinSize repo.now }
+    requires limits { AreStated limits.now }
+    ensures text { OfText (bytes_left (D.view desk.old).files (D.view desk.old).mode)
+        (λ text. TextAnswers (λ c. c.header) (λ c. c.claims) repo.now limits.now text result) }
+    ensures means { IfOk result (λ c. Means c.header.essential repo.now c.claims) }
+    ensures cause { IfErr result (TextCause (D.view desk.old) (D.view desk.new)) }
+    ensures only_reads { OnlyReads (D.view desk.old) (D.view desk.new) }
+{
+    forms_are_clear();
+    lines_keep_models();
+    models_are_installations();
+    present_clauses_are_there();
+    let _in_order = repo.len();
+    let mut reader = Reader::new(alloc, limits);
+    let header = reader.header(desk)?;
+    let mut state = start(alloc, repo, &header, limits)?;
+    let mut tools = Tools::new(alloc, repo.len())?;
+    'lines: loop {
+        let _within = reader.lines();
+        let Some(step) = reader.next(desk)? else {
+            return Ok(Checked {
+                header,
+                claims: state.into_claims(),
+            });
+        };
+        let line = reader.lines();
+        take_line(alloc, repo, &mut state, &mut tools, line, step)?;
+    }
+}
