@@ -21,3 +21,4 @@ mod StrongVerdicts
 mod Steps
 mod Next
 mod CheckLemmas
+mod CheckState
