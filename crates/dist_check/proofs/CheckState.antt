@@ -68,12 +68,12 @@ pub record IsChecked (r : PackageList) (limits : Limits) (told : Option (List �
 pub variables-same : (r : PackageList) (limits : Limits) (told : Option (List ℕ)) (h : Header) (reader : ReaderView) (left : Option (List ℕ)) (s : StateView) → IsChecked r limits told h reader left s → s.log.variables ≡ s.packages
 variables-same r limits told h reader left s x = x.at.variables ∙ sym x.at.packages
 
-lines-are : (r : PackageList) (limits : Limits) (told : Option (List ℕ)) (h : Header) (reader : ReaderView) (left : Option (List ℕ)) (s : StateView) (x : IsChecked r limits told h reader left s) → lines_of s.log ≡ derived x.before
+pub lines-are : (r : PackageList) (limits : Limits) (told : Option (List ℕ)) (h : Header) (reader : ReaderView) (left : Option (List ℕ)) (s : StateView) (x : IsChecked r limits told h reader left s) → lines_of s.log ≡ derived x.before
 lines-are r limits told h reader left s x =
     ap (λ (n : ℕ). drop n s.log.clauses) x.at.inputs_are ∙ ap (λ (cs : List (List Literal)). drop (length (x.inputs h.essential)) cs) x.at.clauses
     ∙ drop_at (x.inputs h.essential) (derived x.before) (length (x.inputs h.essential)) refl
 
-numbers-of : (r : PackageList) (limits : Limits) (told : Option (List ℕ)) (h : Header) (reader : ReaderView) (left : Option (List ℕ)) (s : StateView) (x : IsChecked r limits told h reader left s) → reader.given ≤ reader.limits.certificate
+pub numbers-of : (r : PackageList) (limits : Limits) (told : Option (List ℕ)) (h : Header) (reader : ReaderView) (left : Option (List ℕ)) (s : StateView) (x : IsChecked r limits told h reader left s) → reader.given ≤ reader.limits.certificate
     → KeepsNumbers limits (x.inputs h.essential) h x.before
 numbers-of r limits told h reader left s x bytes = record {
   clauses = x.clauses;

@@ -22,3 +22,4 @@ mod Steps
 mod Next
 mod CheckLemmas
 mod CheckState
+mod CheckSteps
