@@ -47,6 +47,7 @@ pub(crate) fn check_text<D: Desk>(
     lines_keep_models();
     models_are_installations();
     present_clauses_are_there();
+    present_clauses_are_one();
     let _in_order = repo.len();
     let mut reader = Reader::new(alloc, limits);
     let header = reader.header(desk)?;
