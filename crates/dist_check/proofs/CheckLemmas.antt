@@ -38,10 +38,10 @@ use Rattle.dist_check.specs.Checking.{KeepsNumbers, IsReached, IsCompleted, Stop
 use Rattle.dist_check.specs.Present.{AreInputs, matter_of, subject_of}
 use Rattle.dist_check.specs.Start.{HasNumbers, IsStart, IsUnfit}
 use Rattle.dist_check.specs.State.{StateView}
-use Rattle.dist_check.proofs.At.{IsAt}
+use Rattle.dist_check.specs.At.{IsAt}
 use Rattle.dist_check.proofs.Places.{contains-cases, contains-later}
 use Rattle.dist_check.proofs.Profile.{IsFaultless, HasFirst}
-use Rattle.dist_check.proofs.Records.{AreRight, HaveForms}
+use Rattle.dist_check.specs.Checked.{AreRight, HaveForms}
 
 -- ---- inputs
 

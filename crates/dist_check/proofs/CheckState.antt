@@ -33,37 +33,14 @@ use Rattle.dist_check.specs.Means.{Means}
 use Rattle.dist_check.specs.Present.{AreInputs, matter_of, subject_of}
 use Rattle.dist_check.specs.Start.{IsStart, StartAnswers}
 use Rattle.dist_check.specs.State.{StateView, Tells, Becomes, StopsAt, LineStops, TakesLine}
-use Rattle.dist_check.proofs.At.{IsAt}
+use Rattle.dist_check.specs.At.{IsAt}
 use Rattle.dist_check.proofs.CheckLemmas.{ThereAreClauses, ClausesAreOne, inputs_by, are-inputs, header-refused, header-unfit, large-inputs, starts-faultless, ended-from, from-ended, ended-push, record-refused, IsLineNext, step-refused, step-reached, stops-derived, end-none, right-push, right-none, forms-push, text-push}
+use Rattle.dist_check.specs.Checked.{TextAt, IsChecked}
 use Rattle.dist_check.proofs.Claims.{AreProven}
 use Rattle.dist_check.proofs.LineLemmas.{WhatFollows, sound-rule}
 use Rattle.dist_check.proofs.Next.{told-verdict, becomes-at, starts-at}
-use Rattle.dist_check.proofs.Records.{AreRight, HaveForms}
+use Rattle.dist_check.specs.Checked.{AreRight, HaveForms}
 use Rattle.dist_check.proofs.Whole.{ModelsAreInstallations, records-mean}
-
--- the lines that were read are those of the text, where it is told, and have no fault
-abbrev pub TextAt : PackageList → (Bool → List (List Literal)) → Limits → Header → List CertRecord → Option (List ℕ) → Option (List ℕ) → Type 0
-TextAt r inputs limits h before None left = Unit {0}
-TextAt r inputs limits h before (Some text) left = (rest : List ℕ) × (left ≡ Some rest) × AreFaultless (subject_of r inputs) limits text h before rest
-
-pub record IsChecked (r : PackageList) (limits : Limits) (told : Option (List ℕ)) (h : Header) (reader : ReaderView) (left : Option (List ℕ)) (s : StateView) : Type 0 where
-  pub inputs : Bool → List (List Literal)
-  pub are_inputs : AreInputs r inputs
-  pub before : List CertRecord
-  pub at : IsAt r (inputs h.essential) h before s
-  pub right : AreRight (matter_of r h.essential (inputs h.essential)) h before
-  pub forms : HaveForms before
-  pub strong : h.kind ≡ kinds.Strong
-  pub clauses : length (inputs h.essential) ≤ limits.clauses
-  pub literals : literal_count (inputs h.essential) ≤ limits.literals
-  pub line_limit : s.log.line_limit ≡ limits.lines
-  pub line_literal_limit : s.log.line_literal_limit ≡ limits.line_literals
-  pub within : IsWithinLineLimits s.log
-  pub limits_are : reader.limits ≡ limits
-  pub line_count : reader.lines ≡ length before + 1
-  pub given : reader.given ≡ length (certificate_text h before)
-  pub ended : reader.ended ≡ list_any is_end before
-  pub text : TextAt r inputs limits h before told left
 
 pub variables-same : (r : PackageList) (limits : Limits) (told : Option (List ℕ)) (h : Header) (reader : ReaderView) (left : Option (List ℕ)) (s : StateView) → IsChecked r limits told h reader left s → s.log.variables ≡ s.packages
 variables-same r limits told h reader left s x = x.at.variables ∙ sym x.at.packages

@@ -1,6 +1,7 @@
 -- How a text that is checked goes on, and how it begins.
 use Rattle.std.proofs.Common.{◌≡◌, ◌≢◌, ◌⊎◌, inl, inr, ⊎_elim, ℕ, ◌+◌, ◌-◌, ◌<◌, ◌≤◌, ◌^◌, Bool, true, false, List, [], ◌∷◌, ◌++◌, Option, Some, None, Result, Ok, Err, length, refl, sym, ap, subst, ◌∙◌, arith, length-append}
 use Rattle.std.specs.List.{list_any}
+use Rattle.std.specs.Result.{IsErrAnd}
 use Rattle.std.proofs.lemmas.Bool.{true≢false, false≢true, cases_lt}
 use Rattle.dist_outside.specs.Counts.{Rose}
 use Rattle.dist_outside.specs.DeskView.{DeskView, OnlyReads}
@@ -32,12 +33,13 @@ use Rattle.dist_check.specs.Present.{AreInputs, matter_of, subject_of}
 use Rattle.dist_check.specs.Since.{IsAppendCause}
 use Rattle.dist_check.specs.Start.{IsStart, StartAnswers}
 use Rattle.dist_check.specs.State.{StateView, Tells, Becomes, StopsAt, LineStops, TakesLine}
-use Rattle.dist_check.proofs.At.{IsAt}
+use Rattle.dist_check.specs.At.{IsAt}
 use Rattle.dist_check.proofs.CheckLemmas.{ThereAreClauses, ClausesAreOne, inputs_by, are-inputs, header-refused, header-unfit, large-inputs, starts-faultless, from-ended, ended-push, IsLineNext, step-refused, step-reached, stops-derived, right-push, right-none, forms-push, text-push}
-use Rattle.dist_check.proofs.CheckState.{TextAt, IsChecked, lines-are, numbers-of}
+use Rattle.dist_check.specs.Checked.{TextAt, IsChecked}
+use Rattle.dist_check.proofs.CheckState.{lines-are, numbers-of}
 use Rattle.dist_check.proofs.Next.{told-verdict, becomes-at, starts-at}
 use Rattle.dist_check.proofs.Profile.{IsFaultless}
-use Rattle.dist_check.proofs.Records.{AreRight, HaveForms}
+use Rattle.dist_check.specs.Checked.{AreRight, HaveForms}
 use Rattle.std.proofs.lemmas.List.Elements.{All-nil}
 
 -- ---- a line that is read
@@ -290,3 +292,16 @@ line-cause r s step line old new (Bad fault) stops = tt
 line-cause r s step line old new (Work ReadFault) stops = absurd (no-other s step ReadFault stops.1 (λ e. cc) (λ e. cc) (λ e. cc))
 line-cause r s step line old new (Work WriteFault) stops = no-other s step WriteFault stops.1 (λ e. cc) (λ e. cc) (λ e. cc)
 line-cause r s step line old new (Work error) stops = tt
+
+-- what the exit of a `?` returns
+pub by-exit : {X : Type 0} (P : Result X ReadCertError → Type 0) (r : Result X ReadCertError) (error : ReadCertError) → IsErrAnd r (λ e. e ≡ error) → P (Err error) → P r
+by-exit P (Ok x) error is holds = absurd is
+by-exit P (Err e) error is holds = subst (λ y. P (Err y)) (sym is) holds
+
+pub reads-on : (a b c : DeskView) → OnlyReads a b → OnlyReads b c → OnlyReads a c
+reads-on a b c first second = record {
+  files_stay = second.files_stay ∙ first.files_stay;
+  not_writing = second.not_writing;
+  read_faults_stand = omega (arith, first.read_faults_stand, second.read_faults_stand);
+  write_faults_stay = second.write_faults_stay ∙ first.write_faults_stay;
+}

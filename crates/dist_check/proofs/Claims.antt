@@ -25,7 +25,7 @@ use Rattle.dist_check.specs.Present.{matter_of, packages_of}
 use Rattle.dist_check.specs.Means.{Says, NamesOthers}
 use Rattle.dist_check.proofs.Told.{IsTold, stable, most-told, less-told, bool-told, number-told, any-cases, any-head}
 use Rattle.dist_check.proofs.Places.{all-at, all-from, contains-map, image-of}
-use Rattle.dist_check.proofs.Records.{AreRight, HaveForms}
+use Rattle.dist_check.specs.Checked.{AreRight, HaveForms}
 use Rattle.dist_check.proofs.LineLemmas.{IsSoundRule, refuted-true}
 use Rattle.dist_check.proofs.GroupLemmas.{group-behind, installation-healthy, recent-there}
 use Rattle.dist_check.proofs.MemberLemmas.{member-from, member-at, package-there, variable-there, packages-told}

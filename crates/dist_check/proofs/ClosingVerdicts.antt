@@ -19,7 +19,7 @@ use Rattle.dist_cert.specs.LineRules.{HasRecordFault, IsWrongClaim}
 use Rattle.dist_check.specs.Present.{matter_of}
 use Rattle.dist_check.specs.Since.{AreNewFrom}
 use Rattle.dist_check.specs.State.{QuestionView, StateView, is_next, TellsUndecided, TellsClaim, TellsEnd}
-use Rattle.dist_check.proofs.At.{IsQuestionOf, IsAt}
+use Rattle.dist_check.specs.At.{IsQuestionOf, IsAt}
 use Rattle.dist_check.proofs.Profile.{rank, may_have, HasFirst, IsFaultless, faultless-from, first-from}
 use Rattle.dist_check.proofs.Questions.{one-open}
 use Rattle.dist_check.proofs.Told.{any-head, any-cases}

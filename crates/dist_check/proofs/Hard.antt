@@ -13,7 +13,7 @@ use Rattle.dist_cert.specs.Form.{Word}
 use Rattle.dist_cert.specs.Subject.{Matter}
 use Rattle.dist_cert.specs.Groups.{clause_of, derived, numbered, IsOpen, IsUndecidedIn}
 use Rattle.dist_check.proofs.Told.{stable, most-told, less-told}
-use Rattle.dist_check.proofs.Records.{AreRight}
+use Rattle.dist_check.specs.Checked.{AreRight}
 
 -- the law of dist_derive
 abbrev pub NewLinesAreFew : Type 0

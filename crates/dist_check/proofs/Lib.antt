@@ -12,7 +12,6 @@ mod SetLemmas
 mod NewLemmas
 mod LiteralLemmas
 mod Questions
-mod At
 mod Profile
 mod TestLemmas
 mod Verdicts

@@ -20,10 +20,10 @@ use Rattle.dist_check.specs.Window.{WindowView, latest}
 use Rattle.dist_check.specs.Closed.{Closes}
 use Rattle.dist_check.specs.Group.{GroupView, common_with}
 use Rattle.dist_check.specs.State.{QuestionView, StateView, Tells, Allows, Answers, Becomes, empty_group, after_claim, is_next, names_above, TellsRefuted, TellsUndecided}
-use Rattle.dist_check.proofs.At.{IsQuestionOf, IsGroupOf, IsAt}
+use Rattle.dist_check.specs.At.{IsQuestionOf, IsGroupOf, IsAt}
 use Rattle.dist_check.proofs.ClosingVerdicts.{undecided-verdict, end-verdict, installable-verdict, unknown-verdict, outdated-verdict, alive-verdict, challenged-verdict}
 use Rattle.dist_check.proofs.Questions.{IsOpening, opened, none-open, none-first}
-use Rattle.dist_check.proofs.Records.{AreRight, HaveForms}
+use Rattle.dist_check.specs.Checked.{AreRight, HaveForms}
 use Rattle.dist_check.proofs.Steps.{derived-push, derived-same, installed-push, installed-same, latest-push, question-stays, group-first, group-same, group-installed, group-refuted, group-undecided, group-after_claim}
 use Rattle.dist_check.proofs.StrongVerdicts.{strong-verdict}
 use Rattle.dist_check.proofs.Verdicts.{IsVerdict, question-verdict, derived-verdict, refuted-verdict, installation-verdict}

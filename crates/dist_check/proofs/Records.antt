@@ -16,16 +16,9 @@ use Rattle.dist_cert.specs.Refusal.{line_feed, lines_text, Fits, HasLineFault}
 use Rattle.dist_cert.specs.Accepted.{IsAcceptedAs}
 use Rattle.dist_cert.specs.ClearForms.{FormsAreClear}
 use Rattle.dist_cert.specs.OneVerdict.{first_line_of}
+use Rattle.dist_check.specs.Checked.{AreRight, HaveForms}
 use Rattle.dist_check.proofs.Told.{IsTold, stable, contains-told}
 use Rattle.dist_check.proofs.Places.{all-at}
-
--- no record has a fault behind those before it
-abbrev pub AreRight : Matter → Header → List CertRecord → Type 0
-AreRight matter h steps = (before : List CertRecord) (step : CertRecord) (after : List CertRecord) → steps ≡ before ++ step ∷ after
-    → (cause : CertCause) → ¬ HasRecordFault matter h before step cause
-
-abbrev pub HaveForms : List CertRecord → Type 0
-HaveForms steps = All (λ step. HasForm (record_text step) step) steps
 
 to-line : FormsAreClear → (subject : Subject) (limits : Limits) (h : Header) (before : List CertRecord) (step : CertRecord) (more : List ℕ) → HasForm (record_text step) step
     → (cause : CertCause) → HasRecordFault (subject.matter h.kind h.essential) h before step cause → HasLineFault subject limits h before (record_text step ++ line_feed ∷ more) cause

@@ -20,7 +20,7 @@ use Rattle.dist_check.specs.Window.{latest}
 use Rattle.dist_check.specs.Closed.{ClosedView, asks_alone, asks_without, Closes}
 use Rattle.dist_check.specs.Group.{GroupView, narrowed, common_with}
 use Rattle.dist_check.specs.State.{QuestionView, empty_group}
-use Rattle.dist_check.proofs.At.{IsQuestionOf, AreClosed, IsCommonOf, IsGroupOf}
+use Rattle.dist_check.specs.At.{IsQuestionOf, AreClosed, IsCommonOf, IsGroupOf}
 use Rattle.dist_check.proofs.Places.{contains-cases, contains-later}
 use Rattle.dist_check.proofs.Questions.{IsOpening, IsAsked, one-open, opened, still-open, none-open, none-still, closed-push, closed-before, closed-here, none-closed, group-push, group-claim, asked-in-group}
 use Rattle.dist_check.proofs.RisingLemmas.{any-from, from-any}

@@ -21,11 +21,11 @@ use Rattle.dist_check.specs.Rising.{is_among}
 use Rattle.dist_check.specs.Window.{WindowView, kept_at, has_member}
 use Rattle.dist_check.specs.Group.{GroupView, candidates, in_each, is_always, PassesStrong, omits_package}
 use Rattle.dist_check.specs.State.{StateView, is_next, TellsStrong}
-use Rattle.dist_check.proofs.At.{IsCommonOf, IsAt}
+use Rattle.dist_check.specs.At.{IsCommonOf, IsAt}
 use Rattle.dist_check.proofs.ClosingVerdicts.{on-strong, number-verdict, wrong-verdict, right-verdict, incomplete-verdict}
 use Rattle.dist_check.proofs.GroupLemmas.{line-of, recent-there}
 use Rattle.dist_check.proofs.Places.{all-at, all-from}
-use Rattle.dist_check.proofs.Records.{AreRight, HaveForms}
+use Rattle.dist_check.specs.Checked.{AreRight, HaveForms}
 use Rattle.dist_check.proofs.RisingLemmas.{any-from, from-any}
 use Rattle.dist_check.proofs.TestLemmas.{Tests, all-tested, any-tested, none-tested, among-tests, other-tests}
 use Rattle.dist_check.proofs.Told.{IsTold, stable, most-told, less-told, any-head}

@@ -24,7 +24,7 @@ use Rattle.dist_cert.specs.LineRules.{HasRecordFault}
 use Rattle.dist_check.specs.Present.{matter_of, packages_of}
 use Rattle.dist_check.specs.Since.{AreNewFrom}
 use Rattle.dist_check.specs.State.{QuestionView, StateView, names_above, is_above, is_next, TellsQuestion, TellsDerived, TellsRefuted, TellsInstallation, TellsUndecided, TellsClaim, TellsEnd}
-use Rattle.dist_check.proofs.At.{IsQuestionOf, AreClosed, IsGroupOf, IsAt}
+use Rattle.dist_check.specs.At.{IsQuestionOf, AreClosed, IsGroupOf, IsAt}
 use Rattle.dist_check.proofs.LiteralLemmas.{none-above, some-above, words-above}
 use Rattle.dist_check.proofs.Profile.{rank, may_have, IsFaultless, HasFirst, faultless-from, first-from}
 use Rattle.dist_check.proofs.Questions.{one-open}

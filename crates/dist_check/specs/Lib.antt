@@ -7,6 +7,8 @@ pub mod State
 pub mod Limited
 pub mod Start
 pub mod Checking
+pub mod At
+pub mod Checked
 pub mod Present
 pub mod Means
 pub mod PresentExamples
