@@ -260,7 +260,7 @@ starts-checked clear there one r ordered limits reader next told left after h s 
 
 -- ---- causes, whatever is told
 
-rose-from : (a b c : ℕ) → a ≤ b → b ≤ c → Rose b c → Rose a c
+pub rose-from : (a b c : ℕ) → a ≤ b → b ≤ c → Rose b c → Rose a c
 rose-from a b c first second rose = elim rose [
   | inl less ↦ inl (omega arith)
   | inr full ↦ elim (cases_lt a c) [

@@ -22,3 +22,4 @@ mod Next
 mod CheckLemmas
 mod CheckState
 mod CheckSteps
+mod CheckText
