@@ -9,6 +9,7 @@ pub mod Start
 pub mod Checking
 pub mod At
 pub mod Checked
+pub mod Answers
 pub mod Present
 pub mod Means
 pub mod PresentExamples

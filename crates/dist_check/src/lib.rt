@@ -3,6 +3,7 @@
 
 mod checking;
 mod closed;
+mod file;
 mod from_zero;
 mod group;
 mod installed;
@@ -20,6 +21,9 @@ mod strong;
 #[cfg(test)]
 mod tests;
 mod tools;
+mod verdict;
 mod window;
 
+pub use file::check;
 pub use laws::{accepted_claims_hold, undecided_questions_are_hard};
+pub use verdict::Verdict;
