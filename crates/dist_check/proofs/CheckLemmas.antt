@@ -72,6 +72,7 @@ header-refused there r ordered limits reader same none text cause fault = by cau
   where
     inputs : Bool → List (List Literal)
     inputs = inputs_by there r ordered
+
     by : (c : CertCause) → HeaderFault (record reader { limits = limits; given = 0 }) text c → StopsFirst r limits text c
     by causes.LineTooLong f = record { inputs = inputs; are_inputs = are-inputs there r ordered; bytes = f.0; first = inl (f.1, refl) }
     by causes.Truncated f = record { inputs = inputs; are_inputs = are-inputs there r ordered; bytes = f.0.whole; first = inr (f.0.line, inl (f.1, refl)) }
@@ -125,6 +126,7 @@ starts-faultless clear r inputs limits text line more h keeps begins form fits =
     first causes.Truncated f = begins-whole text line more begins f
     first causes.BadHeader f = f.3 h (subst (λ l. HasHeaderForm l h) (same-begin text line f.0 more f.1 begins f.2).0 form) fits
     first cause f = f
+
     not_among : (earlier : List CertRecord) (step : CertRecord) (others : List CertRecord) → [] ≡ earlier ++ step ∷ others → ⊥
     not_among earlier step others e = let n = ap length e in omega (arith, n, length-append earlier (step ∷ others))
 
@@ -170,18 +172,46 @@ record-refused clear r inputs limits text h before rest reader reached same give
   where
     Has : CertCause → Type 0
     Has = HasLineFault (subject_of r inputs) limits h before rest
+
     stops : (c : CertCause) → fault.cause ≡ c → ¬ PassesWhole limits (length (certificate_text h before)) rest → IsFirstOf in_order Has c → StopsLater r limits text fault
     stops c is bytes first = record { inputs = inputs; h = h; before = before; rest = rest; reached = reached; bytes = bytes; line = line; first = subst (IsFirstOf in_order Has) (sym is) first }
+
     by : (c : CertCause) → fault.cause ≡ c → RecordFault (record reader { limits = limits; given = length (certificate_text h before); ended = list_any is_end before }) rest c → StopsLater r limits text fault
     by causes.LineTooLong is f = stops causes.LineTooLong is f.0 (inl (f.1, refl))
-    by causes.Truncated is f = stops causes.Truncated is f.0.whole (inr (f.0.line, inl ((f.1.0, elim f.1.1 [
-      | inl some ↦ inl some
-      | inr open_still ↦ inr (λ there. open_still (from-ended before there))
-    ]), refl)))
-    by causes.BadRecord is f = stops causes.BadRecord is f.0.whole (inr (f.0.line, inr ((λ cut. begins-whole rest f.1.0 f.1.1 f.1.2 cut.0), inr ((λ bad_step. bad_step.5), inl ((f.1.0, f.1.1, f.1.2, elim f.1.3 [
-      | inl after ↦ inl (ended-from before after)
-      | inr none ↦ inr none
-    ]), refl)))))
+    by causes.Truncated is f = stops causes.Truncated is f.0.whole (inr (
+      f.0.line,
+      inl (
+        (
+          f.1.0,
+          elim f.1.1 [
+            | inl some ↦ inl some
+            | inr open_still ↦ inr (λ there. open_still (from-ended before there))
+          ],
+        ),
+        refl,
+      ),
+    ))
+    by causes.BadRecord is f = stops causes.BadRecord is f.0.whole (inr (
+      f.0.line,
+      inr (
+        (λ cut. begins-whole rest f.1.0 f.1.1 f.1.2 cut.0),
+        inr (
+          (λ bad_step. bad_step.5),
+          inl (
+            (
+              f.1.0,
+              f.1.1,
+              f.1.2,
+              elim f.1.3 [
+                | inl after ↦ inl (ended-from before after)
+                | inr none ↦ inr none
+              ],
+            ),
+            refl,
+          ),
+        ),
+      ),
+    ))
     by c is f = absurd f
 
 -- a line is short where it is not too long
@@ -293,5 +323,11 @@ text-push h before step =
     let one : CertRecord → List ℕ = λ s. record_text s ++ line_feed ∷ [] in
     let more : lines_text (before ++ step ∷ []) ≡ lines_text before ++ (record_text step ++ line_feed ∷ [])
     = flat_map-append one before (step ∷ []) ∙ ap (λ (bytes : List ℕ). lines_text before ++ bytes) (append-nil (record_text step ++ line_feed ∷ [])) in
-    omega (arith, length-append (header_text h) (line_feed ∷ lines_text (before ++ step ∷ [])), length-append (header_text h) (line_feed ∷ lines_text before), ap (λ (bytes : List ℕ). length bytes) more,
-    length-append (lines_text before) (record_text step ++ line_feed ∷ []), length-append (record_text step) (line_feed ∷ []))
+    omega (
+      arith,
+      length-append (header_text h) (line_feed ∷ lines_text (before ++ step ∷ [])),
+      length-append (header_text h) (line_feed ∷ lines_text before),
+      ap (λ (bytes : List ℕ). length bytes) more,
+      length-append (lines_text before) (record_text step ++ line_feed ∷ []),
+      length-append (record_text step) (line_feed ∷ []),
+    )

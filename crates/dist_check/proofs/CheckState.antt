@@ -79,8 +79,10 @@ next-stops clear r limits told h reader next left after s old new x bytes {X} he
   where
     reached : (text rest : List ℕ) → AreFaultless (subject_of r x.inputs) limits text h x.before rest → IsReached r x.inputs limits text h x.before rest
     reached text rest faultless = record { are_inputs = x.are_inputs; faultless = faultless; numbers = numbers-of r limits told h reader left s x bytes }
+
     whole : (rest : List ℕ) → PassesWhole reader.limits reader.given rest → PassesWhole limits (length (certificate_text h x.before)) rest
     whole rest passes = subst (λ n. PassesWhole limits n rest) x.given (subst (λ l. PassesWhole l reader.given rest) x.limits_are passes)
+
     at : (text rest more : List ℕ) → AreFaultless (subject_of r x.inputs) limits text h x.before rest → (e : ReadCertError) → RecordAnswers reader rest more (Err e) → RecordCause reader next old new (Err e)
         → TextAnswers header claims r limits text (Err e)
     at text rest more faultless (Bad fault) answer because =
@@ -91,6 +93,7 @@ next-stops clear r limits told h reader next left after s old new x bytes {X} he
     at text rest more faultless (Work (TooLarge Certificate)) answer because =
         inr (record { inputs = x.inputs; h = h; before = x.before; rest = rest; reached = reached text rest faultless; passes = whole rest answer.0 })
     at text rest more faultless (Work (TooLarge what)) answer because = absurd because
+
     by : (t : Option (List ℕ)) → TextAt r x.inputs limits h x.before t left → OfText t (λ text. TextAnswers header claims r limits text (Err error))
     by None here = tt
     by (Some text) here =

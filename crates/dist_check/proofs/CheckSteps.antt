@@ -78,8 +78,10 @@ line-stops clear r limits told h reader next left after s old new x bytes step a
   where
     faultless-line : Tells r s step None → IsFaultless (matter_of r h.essential (x.inputs h.essential)) h x.before step
     faultless-line none = told-verdict r (x.inputs h.essential) h x.before s x.strong x.at x.right x.forms step because.0.rules None none
+
     clauses-are : lines_of s.log ≡ derived x.before
     clauses-are = lines-are r limits told h reader left s x
+
     at : (text rest more : List ℕ) → AreFaultless (subject_of r x.inputs) limits text h x.before rest → IsRecordNext reader rest more step → (e : ReadCertError) → LineStops r s step line e → TextAnswers header claims r limits text (Err e)
     at text rest more faultless after_it (Bad fault) stop =
         let one = line-next r limits told h reader left s x bytes text rest more faultless step after_it in
@@ -105,6 +107,7 @@ line-stops clear r limits told h reader next left after s old new x bytes step a
     at text rest more faultless after_it (Work (TooLarge Literals)) stop = absurd (no-other s step (TooLarge Literals) stop.1 (λ e. cc) (λ e. cc) (λ e. cc))
     at text rest more faultless after_it (Work (TooLarge Certificate)) stop = absurd (no-other s step (TooLarge Certificate) stop.1 (λ e. cc) (λ e. cc) (λ e. cc))
     at text rest more faultless after_it (Work (TooLarge RecordLine)) stop = no-other s step (TooLarge RecordLine) stop.1 (λ e. cc) (λ e. cc) (λ e. cc)
+
     by : (t : Option (List ℕ)) → TextAt r x.inputs limits h x.before t left → OfText t (λ text. TextAnswers header claims r limits text (Err error))
     by None here = tt
     by (Some text) here =
@@ -137,6 +140,7 @@ next-checked clear r limits told h reader next left after s t old new x bytes st
   where
     faultless : IsFaultless (matter_of r h.essential (x.inputs h.essential)) h x.before step
     faultless = told-verdict r (x.inputs h.essential) h x.before s x.strong x.at x.right x.forms step because.0.rules None takes.none
+
     by : (o : Option (List ℕ)) → TextAt r x.inputs limits h x.before o left → TextAt r x.inputs limits h (x.before ++ step ∷ []) o after
     by None here = tt
     by (Some text) here =
@@ -187,6 +191,7 @@ header-stops there r ordered limits reader next told left after old new is same 
   where
     whole : (text : List ℕ) → PassesWhole reader.limits reader.given text → PassesWhole limits 0 text
     whole text passes = subst (λ v. PassesWhole v.limits v.given text) is passes
+
     at : (text more : List ℕ) (e : ReadCertError) → HeaderAnswers reader text more (Err e) → HeaderCause reader next old new (Err e) → TextAnswers header claims r limits text (Err e)
     at text more (Bad fault) answer because = inl (
       omega (arith, because.0, ap (λ (v : ReaderView). v.lines) is),
@@ -197,6 +202,7 @@ header-stops there r ordered limits reader next told left after old new is same 
     at text more (Work WriteFault) answer because = because
     at text more (Work (TooLarge Certificate)) answer because = inl (whole text answer.0)
     at text more (Work (TooLarge what)) answer because = absurd because
+
     by : (t : Option (List ℕ)) → left ≡ t → OfText t (λ text. TextAnswers header claims r limits text (Err error))
     by None e = tt
     by (Some text) e = let answer = subst (λ l. WhereTold l after (λ rest more. HeaderAnswers reader rest more (Err error))) e answers in at text answer.0 error answer.2 cause
@@ -208,6 +214,7 @@ start-stops clear there one r ordered limits reader told left after h is same {X
   where
     keeps : (text more : List ℕ) → IsHeaderNext reader text more h → KeepsLimits limits 0 text
     keeps text more next = subst (λ v. KeepsLimits v.limits v.given text) is next.limits
+
     at : (text more : List ℕ) → IsHeaderNext reader text more h → (e : ReadCertError) → StartAnswers r limits h (Err e) → TextAnswers header claims r limits text (Err e)
     at text more next (Bad fault) stop = inl (
       stop.0,
@@ -217,6 +224,7 @@ start-stops clear there one r ordered limits reader told left after h is same {X
     at text more next (Work (TooLarge Literals)) stop = large-inputs r limits text next.line more h (keeps text more next) next.begins next.form stop.0 (λ essential. PassesLiterals r essential limits.clauses limits.literals) stop.1
     at text more next (Work NoMemory) stop = tt
     at text more next (Work error) stop = absurd stop
+
     by : (t : Option (List ℕ)) → left ≡ t → OfText t (λ text. TextAnswers header claims r limits text (Err error))
     by None e = tt
     by (Some text) e = let answer = subst (λ l. WhereTold l after (λ rest more. HeaderAnswers reader rest more (Ok h))) e answers in at text answer.0 answer.2 error stops
@@ -245,12 +253,16 @@ starts-checked clear there one r ordered limits reader next told left after h s 
   where
     inputs : Bool → List (List Literal)
     inputs = inputs_by there r ordered
+
     clauses : inputs h.essential ≡ s.log.clauses
     clauses = one r h.essential s.log.clauses (inputs h.essential) start.are_clauses (are-inputs there r ordered h.essential)
+
     size : length (inputs h.essential) ≡ length s.log.clauses
     size = ap (λ (cs : List (List Literal)). length cs) clauses
+
     fits : Fits (subject_of r inputs) h
     fits = record { taken = start.strong; packages = start.numbers.packages; variables = start.numbers.variables; clauses = start.numbers.clause_count ∙ sym size }
+
     by : (t : Option (List ℕ)) → left ≡ t → TextAt r inputs limits h [] t after
     by None e = tt
     by (Some text) e =

@@ -45,34 +45,42 @@ undecided-verdict r inputs h before s strong at (Some question) q found told = b
   where
     split : s.log.clauses ≡ (inputs ++ derived q.0) ++ derived q.1
     split = at.clauses ∙ since-question inputs before q.0 question.assumptions q.1 q.2
+
     size : length s.log.clauses ≡ question.last + length (derived q.1)
     size = ap (λ (cs : List (List Literal)). length cs) split ∙ length-append (inputs ++ derived q.0) (derived q.1) ∙ ap (λ (n : ℕ). n + length (derived q.1)) (sym q.3)
+
     in-order : ¬ HasRecordFault (matter_of r h.essential inputs) h before lines.Undecided causes.OutOfOrder
     in-order fault = fault (q.0, question.assumptions, q.1, q.2)
+
     late : question.last + s.limit ≤ length s.log.clauses → ¬ HasRecordFault (matter_of r h.essential inputs) h before lines.Undecided causes.LimitNotReached
     late enough fault =
         let one = one-open before fault.0 q.0 fault.1 question.assumptions fault.2 q.1 fault.3 q.2 in
         let same : length (derived fault.2) ≡ length (derived q.1) = ap (λ (ls : List CertRecord). length (derived ls)) one.2 in
         omega (arith, enough, fault.4, same, size, at.limit)
+
     early : length s.log.clauses < question.last + s.limit → HasRecordFault (matter_of r h.essential inputs) h before lines.Undecided causes.LimitNotReached
     early few = (q.0, question.assumptions, q.1, q.2, omega (arith, few, size, at.limit))
+
     new : AreNewFrom s.log.clauses s.log.inputs (clause_of question.assumptions) question.last → EachIsNew (inputs ++ derived q.0) (length inputs) (clause_of question.assumptions) (derived q.1)
     new were =
         each-new (length inputs) (clause_of question.assumptions) (inputs ++ derived q.0) (derived q.1)
         (subst (λ n. AreNewFrom ((inputs ++ derived q.0) ++ derived q.1) (length inputs) (clause_of question.assumptions) n) q.3
         (subst (λ n. AreNewFrom ((inputs ++ derived q.0) ++ derived q.1) n (clause_of question.assumptions) question.last) at.inputs_are
         (subst (λ cs. AreNewFrom cs s.log.inputs (clause_of question.assumptions) question.last) split were)))
+
     were-new : EachIsNew (inputs ++ derived q.0) (length inputs) (clause_of question.assumptions) (derived q.1) → AreNewFrom s.log.clauses s.log.inputs (clause_of question.assumptions) question.last
     were-new each =
         subst (λ cs. AreNewFrom cs s.log.inputs (clause_of question.assumptions) question.last) (sym split)
         (subst (λ n. AreNewFrom ((inputs ++ derived q.0) ++ derived q.1) n (clause_of question.assumptions) question.last) (sym at.inputs_are)
         (subst (λ n. AreNewFrom ((inputs ++ derived q.0) ++ derived q.1) (length inputs) (clause_of question.assumptions) n) (sym q.3)
         (new-from-each (length inputs) (clause_of question.assumptions) (inputs ++ derived q.0) (derived q.1) each)))
+
     no-old : AreNewFrom s.log.clauses s.log.inputs (clause_of question.assumptions) question.last → ¬ HasRecordFault (matter_of r h.essential inputs) h before lines.Undecided causes.NotNew
     no-old were fault =
         let one = one-open before fault.0 q.0 fault.1 question.assumptions fault.2 q.1 fault.3 q.2 in
         let New : List CertRecord → List Word → List CertRecord → Type 0 = λ e asked si. EachIsNew (inputs ++ derived e) (length inputs) (clause_of asked) (derived si) in
         fault.4 (subst (λ e. New e fault.1 fault.2) (sym one.0) (subst (λ asked. New q.0 asked fault.2) (sym one.1) (subst (λ si. New q.0 question.assumptions si) (sym one.2) (new were))))
+
     by : (f : Option CertCause) → TellsUndecided s.log s.limit (Some question) f → IsVerdict r inputs h before lines.Undecided f
     by None t = faultless-from (matter_of r h.essential inputs) h before lines.Undecided strong none
       where

@@ -19,6 +19,7 @@ pairs-map {X} {Y} R f xs pairs i j d before within = at xs pairs (shorter xs (om
     shorter : (ys : List X) → j < length ys → (x : X) × (j < length ys)
     shorter [] short = absurd (omega (arith, short))
     shorter (y ∷ ys) short = (y, short)
+
     at : (ys : List X) → AllPairs (λ a b. R (f a) (f b)) ys → (x : X) × (j < length ys) → R (get_or (map f ys) i d) (get_or (map f ys) j d)
     at ys all some =
         let early : i < length ys = omega (arith, before, some.1) in

@@ -148,6 +148,7 @@ group-push (s ∷ lines) step no_claim =
     or-false : (b : Bool) → (b || false) ≡ b
     or-false true = refl
     or-false false = refl
+
     by : (b : Bool) → group (lines ++ step ∷ []) ≡ group lines ++ step ∷ []
         → (if b then group (lines ++ step ∷ []) else s ∷ (lines ++ step ∷ [])) ≡ (if b then group lines else s ∷ lines) ++ step ∷ []
     by true e = e

@@ -144,8 +144,8 @@ without-is p ((v, true) ∷ []) q = ((λ e. absurd (false≢true e)), λ e. absu
 without-is p ((v, false) ∷ []) q = ((λ e. absurd (false≢true e)), λ e. absurd (let n = ap (λ (ws : List Word). length ws) e in omega (arith, n)))
 without-is p ((v, true) ∷ (w, false) ∷ []) q = (
   (λ e.
-  let parts = and_parts (v == p) (q == w) e in
-  ap (λ (n : ℕ). yes n ∷ (w, false) ∷ []) (eqb-true v p parts.0) ∙ ap (λ (n : ℕ). yes p ∷ no n ∷ []) (sym (eqb-true q w parts.1))),
+      let parts = and_parts (v == p) (q == w) e in
+      ap (λ (n : ℕ). yes n ∷ (w, false) ∷ []) (eqb-true v p parts.0) ∙ ap (λ (n : ℕ). yes p ∷ no n ∷ []) (sym (eqb-true q w parts.1))),
   λ e. and_from (v == p) (q == w) (eq-eqb v p (ap (word-number 0) e)) (eq-eqb q w (sym (ap (word-number 1) e))),
 )
 without-is p ((v, false) ∷ (w, false) ∷ []) q = ((λ e. absurd (false≢true e)), λ e. absurd (false≢true (ap (word-sign 0) e)))
@@ -230,6 +230,7 @@ common-push all p members common is = by (is_among members p) refl common is
   where
     Has : List ℕ → Type 0
     Has m = Contains m p
+
     by : (b : Bool) → is_among members p ≡ b → (c : Option (List ℕ)) → IsCommonOf all p c → IsCommonOf (all ++ members ∷ []) p (if b then Some (narrowed c members) else c)
     by false absent None none = All-push (λ m. ¬ Contains m p) all members none (λ there. false≢true (sym absent ∙ any-from p members there))
     by false absent (Some c) h = (
@@ -250,8 +251,8 @@ common-push all p members common is = by (is_among members p) refl common is
       any-append (λ m. Contains m p) all members h.0,
       λ q. (
         (λ here.
-        let both = (filter-has members c q).0 here in
-        All-push (λ m. Contains m p → Contains m q) all members ((h.1 q).0 both.0) (λ holds. both.1)),
+            let both = (filter-has members c q).0 here in
+            All-push (λ m. Contains m p → Contains m q) all members ((h.1 q).0 both.0) (λ holds. both.1)),
         λ each. (filter-has members c q).1 (
           (h.1 q).1 (all-front (λ m. Contains m p → Contains m q) all members each),
           all-last (λ m. Contains m p → Contains m q) all members each (from-any p members there),

@@ -138,12 +138,12 @@ unfolding GroupHas
 always-is r inputs h before s at named from_one p some names common is q =
     let each = in-named r inputs h before s at named from_one p names q in (
       (λ e.
-      let parts = and_parts (is_among (candidates s.window common named) q) (in_each s.window named q) e in
-      let in_all = each.0 parts.1 in
-      (in_all, (candidates-there r inputs h before s at named p some names common is q in_all).0 (from-any q (candidates s.window common named) parts.0))),
+          let parts = and_parts (is_among (candidates s.window common named) q) (in_each s.window named q) e in
+          let in_all = each.0 parts.1 in
+          (in_all, (candidates-there r inputs h before s at named p some names common is q in_all).0 (from-any q (candidates s.window common named) parts.0))),
       λ holds.
-      and_from (is_among (candidates s.window common named) q) (in_each s.window named q)
-      (any-from q (candidates s.window common named) ((candidates-there r inputs h before s at named p some names common is q holds.0).1 holds.1)) (each.1 holds.0),
+          and_from (is_among (candidates s.window common named) q) (in_each s.window named q)
+          (any-from q (candidates s.window common named) ((candidates-there r inputs h before s at named p some names common is q holds.0).1 holds.1)) (each.1 holds.0),
     )
 
 -- ---- the rules
@@ -227,7 +227,7 @@ member-range r inputs h before right forms members there q among =
     let form = all-at (λ s. HasForm (record_text s) s) before line.before (lines.Installation members) line.after line.is forms in (
       All-contains (λ v. 1 ≤ v) members q form.rules.0 among,
       stable (most-told q (length r.packages)) (λ high. right line.before (lines.Installation members) line.after line.is causes.OutOfRange
-      (among.0, q, among.1, among.2, stable (less-told (length r.packages) q) (λ low. high (omega (arith, not-less (length r.packages) q low))))),
+          (among.0, q, among.1, among.2, stable (less-told (length r.packages) q) (λ low. high (omega (arith, not-less (length r.packages) q low))))),
     )
   where
     not-less : (a b : ℕ) → ¬ (a < b) → b ≤ a
@@ -259,15 +259,18 @@ omitted-tests r inputs h before s p named on undecided x names q there =
     let d : Bool = not (is_among undecided q) in
     let e : Bool = in_each s.window named q in (
       (λ passes.
-      let last = and_parts (a && b && d) e passes in
-      let third = and_parts (a && b) d last.0 in
-      let two = and_parts a b third.0 in
-      (eqb-false q p (not-true (q == p) two.0), not-among on q two.1, not-among undecided q third.1,
-      all.0 (and_from (is_among (candidates s.window s.group.common named) q) e (any-from q (candidates s.window s.group.common named) there) last.1))),
+          let last = and_parts (a && b && d) e passes in
+          let third = and_parts (a && b) d last.0 in
+          let two = and_parts a b third.0 in (
+            eqb-false q p (not-true (q == p) two.0),
+            not-among on q two.1,
+            not-among undecided q third.1,
+            all.0 (and_from (is_among (candidates s.window s.group.common named) q) e (any-from q (candidates s.window s.group.common named) there) last.1),
+          )),
       λ omitted.
-      and_from (a && b && d) e
-      (and_from (a && b) d (and_from a b (not_from_false (q == p) (ne_eqb q p omitted.0)) (among-not on q omitted.1)) (among-not undecided q omitted.2))
-      (and_parts (is_among (candidates s.window s.group.common named) q) e (all.1 omitted.3)).1,
+          and_from (a && b && d) e
+          (and_from (a && b) d (and_from a b (not_from_false (q == p) (ne_eqb q p omitted.0)) (among-not on q omitted.1)) (among-not undecided q omitted.2))
+          (and_parts (is_among (candidates s.window s.group.common named) q) e (all.1 omitted.3)).1,
     )
 
 first-named : (named : List ℕ) → 0 < length named → Contains named (get_or named 0 0)
@@ -281,20 +284,25 @@ omits-from r inputs h before s p named on undecided x names =
     let tested = any-tested (λ q. not (q == p) && not (is_among on q) && not (is_among undecided q) && in_each s.window named q) (Omitted before named p on undecided) (candidates s.window s.group.common named)
     (omitted-tests r inputs h before s p named on undecided x names) in (
       (λ omits.
-      let any = tested.0 omits in
-      let q = any.1 in
-      let omitted : Omitted before named p on undecided q = any.4 in
-      let first = get_or named 0 0 in
-      let there = first-named named x.some in
-      let holds : Contains (installation_at before first) q = All-contains (λ n. Contains (installation_at before n) q) named first omitted.3.0 there in
-      let range = member-range r inputs h before x.right x.forms (installation_at before first) (recent-there before first (All-contains (IsNamed before p) named first names there).0) q holds in
-      (q, range.0, range.1, omitted.0, omitted.3, λ among. ⊎_elim omitted.1 omitted.2 (Contains-append_cases on undecided q among))),
+          let any = tested.0 omits in
+          let q = any.1 in
+          let omitted : Omitted before named p on undecided q = any.4 in
+          let first = get_or named 0 0 in
+          let there = first-named named x.some in
+          let holds : Contains (installation_at before first) q = All-contains (λ n. Contains (installation_at before n) q) named first omitted.3.0 there in
+          let range = member-range r inputs h before x.right x.forms (installation_at before first) (recent-there before first (All-contains (IsNamed before p) named first names there).0) q holds in
+          (q, range.0, range.1, omitted.0, omitted.3, λ among. ⊎_elim omitted.1 omitted.2 (Contains-append_cases on undecided q among))),
       λ omits.
-      let q = omits.0 in
-      let all = always-is r inputs h before s x.at named x.from_one p x.some names s.group.common (common-of r inputs h before s p named x) q in
-      let there = from-any q (candidates s.window s.group.common named) (and_parts (is_among (candidates s.window s.group.common named) q) (in_each s.window named q) (all.1 omits.4)).0 in
-      tested.1 (there.0, q, there.1, there.2,
-      (omits.3, (λ among. omits.5 (Contains-append_left on undecided q among)), (λ among. omits.5 (Contains-append_right on undecided q among)), omits.4)),
+          let q = omits.0 in
+          let all = always-is r inputs h before s x.at named x.from_one p x.some names s.group.common (common-of r inputs h before s p named x) q in
+          let there = from-any q (candidates s.window s.group.common named) (and_parts (is_among (candidates s.window s.group.common named) q) (in_each s.window named q) (all.1 omits.4)).0 in
+          tested.1 (
+            there.0,
+            q,
+            there.1,
+            there.2,
+            (omits.3, (λ among. omits.5 (Contains-append_left on undecided q among)), (λ among. omits.5 (Contains-append_right on undecided q among)), omits.4),
+          ),
     )
 
 -- ---- the verdict
@@ -306,6 +314,7 @@ strong-verdict r inputs h before s strong at right forms p named on undecided ru
   where
     claimed : is_next s.next s.packages p ≡ true → IsClaimed r inputs h before s p named
     claimed next = record { at = at; right = right; forms = forms; next = sym (eqb-true p s.next (and_parts (p == s.next) (nat_le p s.packages) next).0); from_one = rules.2; some = rules.1 }
+
     by : (f : Option CertCause) → TellsStrong (is_next s.next s.packages p) s.window s.group s.packages p named on undecided f → IsVerdict r inputs h before (lines.Strong p named on undecided) f
     by None t =
         let x = claimed t.0 in

@@ -48,8 +48,8 @@ none-tested test P (n ∷ numbers) tests =
     let rest = none-tested test P numbers (tests-tail test P n numbers tests) in
     let here = tests n (first-there n numbers) in (
       (λ e.
-      let parts = or_parts (test n) (list_any test numbers) e in
-      All-cons (λ m. ¬ P m) n numbers (λ holds. false≢true (sym parts.0 ∙ here.1 holds)) (rest.0 parts.1)),
+          let parts = or_parts (test n) (list_any test numbers) e in
+          All-cons (λ m. ¬ P m) n numbers (λ holds. false≢true (sym parts.0 ∙ here.1 holds)) (rest.0 parts.1)),
       λ all. elim (cases_Bool (test n)) [
         | inl passed ↦ absurd (All-head (λ m. ¬ P m) n numbers all (here.0 passed))
         | inr no_test ↦ ap (λ (b : Bool). b || list_any test numbers) no_test ∙ rest.1 (All-tail (λ m. ¬ P m) n numbers all)

@@ -196,10 +196,11 @@ each-new inputs assumptions clauses (line ∷ more) new =
     let number : n + 1 - 1 ≡ n = omega arith in
     let first : IsNew (take (n + 1 - 1) (clauses ++ line ∷ more)) inputs assumptions (clause_at (clauses ++ line ∷ more) (n + 1)) = new (n + 1) (omega arith) (omega (arith, length-append clauses (line ∷ more))) in
     let place : clause_at (clauses ++ line ∷ more) (n + 1) ≡ line = ap (λ (k : ℕ). get_or (clauses ++ line ∷ more) k []) number ∙ get_or_at clauses line more [] n refl in
-    let front : take (n + 1 - 1) (clauses ++ line ∷ more) ≡ clauses = ap (λ (k : ℕ). take k (clauses ++ line ∷ more)) number ∙ take_at clauses (line ∷ more) n refl in
-    (subst (λ cs. IsNew cs inputs assumptions line) front (subst (λ c. IsNew (take (n + 1 - 1) (clauses ++ line ∷ more)) inputs assumptions c) place first),
-    each-new inputs assumptions (clauses ++ line ∷ []) more (subst (λ cs. AreNewFrom cs inputs assumptions (length (clauses ++ line ∷ []))) (sym (append_assoc clauses (line ∷ []) more))
-    (λ k past upto. new k (omega (arith, past, length-append clauses (line ∷ []))) upto)))
+    let front : take (n + 1 - 1) (clauses ++ line ∷ more) ≡ clauses = ap (λ (k : ℕ). take k (clauses ++ line ∷ more)) number ∙ take_at clauses (line ∷ more) n refl in (
+      subst (λ cs. IsNew cs inputs assumptions line) front (subst (λ c. IsNew (take (n + 1 - 1) (clauses ++ line ∷ more)) inputs assumptions c) place first),
+      each-new inputs assumptions (clauses ++ line ∷ []) more (subst (λ cs. AreNewFrom cs inputs assumptions (length (clauses ++ line ∷ []))) (sym (append_assoc clauses (line ∷ []) more))
+          (λ k past upto. new k (omega (arith, past, length-append clauses (line ∷ []))) upto)),
+    )
 
 pub new-from-each : (inputs : ℕ) (assumptions : List Literal) (clauses more : List (List Literal)) → EachIsNew clauses inputs assumptions more → AreNewFrom (clauses ++ more) inputs assumptions (length clauses)
 new-from-each inputs assumptions clauses [] each k past upto = absurd (omega (arith, past, upto, length-append clauses []))

@@ -16,9 +16,7 @@ use crate::state::State;
 use crate::tools::Tools;
 use dist_cert::{Claims, Header, ReadCertError, Reader, forms_are_clear};
 use dist_derive::lines_keep_models;
-use dist_now::{
-    models_are_installations, present_clauses_are_one, present_clauses_are_there,
-};
+use dist_now::{models_are_installations, present_clauses_are_one, present_clauses_are_there};
 use dist_outside::{Desk, Limits};
 use dist_repo::Repository;
 use std::alloc::Global;

@@ -65,7 +65,11 @@ impl Group {
     }
 
     /// Adds a question that was refuted.
-    pub(crate) fn add_refuted(&mut self, package: u32, question: &[(u32, bool)]) -> Result<(), AllocError>
+    pub(crate) fn add_refuted(
+        &mut self,
+        package: u32,
+        question: &[(u32, bool)],
+    ) -> Result<(), AllocError>
         ensures closes { OnOk result (Closes «package» question.now self.old.refuted self.new.refuted) }
         ensures undecided { OnOk result (self.new.undecided ≡ self.old.undecided) }
         ensures common { OnOk result (self.new.common ≡ self.old.common) }
@@ -74,7 +78,11 @@ impl Group {
     }
 
     /// Adds a question that was closed as undecided.
-    pub(crate) fn add_undecided(&mut self, package: u32, question: &[(u32, bool)]) -> Result<(), AllocError>
+    pub(crate) fn add_undecided(
+        &mut self,
+        package: u32,
+        question: &[(u32, bool)],
+    ) -> Result<(), AllocError>
         ensures closes { OnOk result (Closes «package» question.now self.old.undecided self.new.undecided) }
         ensures refuted { OnOk result (self.new.refuted ≡ self.old.refuted) }
         ensures common { OnOk result (self.new.common ≡ self.old.common) }

@@ -9,7 +9,10 @@ use dist_clause::Lit;
 use std::alloc::AllocError;
 
 /// Writes the clause of some literals.
-pub(crate) fn write_clause(clause: &mut Vec<Lit>, literals: &[(u32, bool)]) -> Result<(), AllocError>
+pub(crate) fn write_clause(
+    clause: &mut Vec<Lit>,
+    literals: &[(u32, bool)],
+) -> Result<(), AllocError>
     requires { All (λ l. (1 ≤ l.0) × (l.0 ≤ MAX_VARIABLES)) literals.now }
     ensures { OnOk result (clause.new.items ≡ clause_of literals.now) }
 {
@@ -21,7 +24,10 @@ pub(crate) fn write_clause(clause: &mut Vec<Lit>, literals: &[(u32, bool)]) -> R
 }
 
 /// Writes the clause of the negations of some literals.
-pub(crate) fn write_negated(clause: &mut Vec<Lit>, literals: &[(u32, bool)]) -> Result<(), AllocError>
+pub(crate) fn write_negated(
+    clause: &mut Vec<Lit>,
+    literals: &[(u32, bool)],
+) -> Result<(), AllocError>
     requires { All (λ l. (1 ≤ l.0) × (l.0 ≤ MAX_VARIABLES)) literals.now }
     ensures { OnOk result (clause.new.items ≡ map negation (clause_of literals.now)) }
 {

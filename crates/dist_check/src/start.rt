@@ -57,7 +57,13 @@ pub(crate) fn start(
     if header.kind != CertKind::Strong {
         return Err(bad_header());
     }
-    let inputs = match clauses_of(alloc, repo, header.essential, limits.clauses, limits.literals) {
+    let inputs = match clauses_of(
+        alloc,
+        repo,
+        header.essential,
+        limits.clauses,
+        limits.literals,
+    ) {
         Ok(inputs) => inputs,
         Err(error) => return Err(too_large(error)),
     };
@@ -65,11 +71,5 @@ pub(crate) fn start(
         return Err(bad_header());
     }
     let log = Log::new(alloc, inputs, limits.lines, limits.line_literals);
-    Ok(State::new(
-        alloc,
-        header.essential,
-        header.limit,
-        repo.len(),
-        log,
-    ))
+    Ok(State::new(alloc, header.essential, header.limit, repo.len(), log))
 }

@@ -35,9 +35,7 @@ fn are_always(window: &Window, group: &Group, named: &[u32], others: &[u32]) -> 
     ensures { result ≡ list_all (is_always window.now group.now.common named.now) others.now }
 {
     let candidates = candidates(window, group, named);
-    others
-        .iter()
-        .all(|other| has(candidates, *other) && is_in_each(window, named, *other))
+    others.iter().all(|other| has(candidates, *other) && is_in_each(window, named, *other))
 }
 
 /// Whether the rules of a claim hold.

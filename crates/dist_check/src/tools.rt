@@ -40,7 +40,12 @@ impl Tools {
     }
 
     /// Whether the clause of some literals follows by hints.
-    pub(crate) fn follows(&mut self, log: &Log, literals: &[(u32, bool)], hints: &[u32]) -> Result<bool, AllocError>
+    pub(crate) fn follows(
+        &mut self,
+        log: &Log,
+        literals: &[(u32, bool)],
+        hints: &[u32],
+    ) -> Result<bool, AllocError>
         requires literals { AreLiteralsOver log.now.variables literals.now }
         requires ready { self.old ≡ log.now.variables }
         ensures answer { IfOk result (λ yes. IsTrue yes ↔ Follows log.now.clauses (clause_of literals.now) hints.now) }
@@ -52,7 +57,12 @@ impl Tools {
     }
 
     /// Whether the clause of negated assumptions follows by hints.
-    pub(crate) fn refutes(&mut self, log: &Log, assumptions: &[(u32, bool)], hints: &[u32]) -> Result<bool, AllocError>
+    pub(crate) fn refutes(
+        &mut self,
+        log: &Log,
+        assumptions: &[(u32, bool)],
+        hints: &[u32],
+    ) -> Result<bool, AllocError>
         requires assumptions { AreLiteralsOver log.now.variables assumptions.now }
         requires ready { self.old ≡ log.now.variables }
         ensures answer { IfOk result (λ yes. IsTrue yes ↔ Follows log.now.clauses (map negation (clause_of assumptions.now)) hints.now) }
@@ -64,7 +74,12 @@ impl Tools {
     }
 
     /// Whether each clause behind the one of a number was new under the assumptions when it came.
-    pub(crate) fn are_new(&mut self, log: &Log, assumptions: &[(u32, bool)], last: u32) -> Result<bool, AllocError>
+    pub(crate) fn are_new(
+        &mut self,
+        log: &Log,
+        assumptions: &[(u32, bool)],
+        last: u32,
+    ) -> Result<bool, AllocError>
         requires assumptions { AreLiteralsOver log.now.variables assumptions.now }
         requires last { last ≤ length log.now.clauses }
         requires ready { self.old ≡ log.now.variables }
@@ -77,7 +92,11 @@ impl Tools {
     }
 
     /// Adds the clause of some literals to the log.
-    pub(crate) fn append(&mut self, log: &mut Log, literals: &[(u32, bool)]) -> Result<(), WorkError>
+    pub(crate) fn append(
+        &mut self,
+        log: &mut Log,
+        literals: &[(u32, bool)],
+    ) -> Result<(), WorkError>
         requires { AreLiteralsOver log.old.variables literals.now }
         ensures ok { OnOk result (log.new ≡ record log.old { clauses = log.old.clauses ++ clause_of literals.now ∷ [] }) }
         ensures err { IfErr result (IsAppendCause log.old (clause_of literals.now)) }

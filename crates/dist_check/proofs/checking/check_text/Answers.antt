@@ -43,8 +43,8 @@ returns-in_err-take_lines-clause-text g c =
     let new : DeskView = g.D.Desk.view c.header.new.desk in
     let told : Option (List ℕ) = bytes_left old.files old.mode in
     let checked = starts-checked c.forms_are_clear.ensures c.present_clauses_are_there.ensures c.present_clauses_are_one.ensures c.args.repo.now c.len-in_order.ensures.in_order c.args.limits.now c.new-reader.result c.header.new.self told
-        (text_left c.new-reader.result old) (text_left c.header.new.self new) c.in_ok-header.header c.in_ok-state.state c.new-reader.ensures (nothing-read c.args.limits.now c.new-reader.result old c.new-reader.ensures) c.in_ok-header.ensures.text
-        c.in_ok-header.ensures.gives c.in_ok-state.ensures in
+    (text_left c.new-reader.result old) (text_left c.header.new.self new) c.in_ok-header.header c.in_ok-state.state c.new-reader.ensures (nothing-read c.args.limits.now c.new-reader.result old c.new-reader.ensures) c.in_ok-header.ensures.text
+    c.in_ok-header.ensures.gives c.in_ok-state.ensures in
     by-exit (λ (r : Result Checked ReadCertError). OfText told (λ text. TextAnswers (λ (x : Checked). x.header) (λ (x : Checked). x.claims) c.args.repo.now c.args.limits.now text r)) c.from_residual-in_err-take_lines.result
     c.in_err-take_lines.field-0.0 c.from_residual-in_err-take_lines.ensures.1
     (stops-alike (λ (u : Unit {0}). c.in_ok-header.header) (λ (u : Unit {0}). c.take_lines.new.state.claims) (λ (x : Checked). x.header) (λ (x : Checked). x.claims) c.args.repo.now c.args.limits.now told c.in_err-take_lines.field-0.0
@@ -64,7 +64,7 @@ returns-clause-text g c =
     let new : DeskView = g.D.Desk.view c.header.new.desk in
     let told : Option (List ℕ) = bytes_left old.files old.mode in
     let checked = starts-checked c.forms_are_clear.ensures c.present_clauses_are_there.ensures c.present_clauses_are_one.ensures c.args.repo.now c.len-in_order.ensures.in_order c.args.limits.now c.new-reader.result c.header.new.self told
-        (text_left c.new-reader.result old) (text_left c.header.new.self new) c.in_ok-header.header c.in_ok-state.state c.new-reader.ensures (nothing-read c.args.limits.now c.new-reader.result old c.new-reader.ensures) c.in_ok-header.ensures.text
-        c.in_ok-header.ensures.gives c.in_ok-state.ensures in
+    (text_left c.new-reader.result old) (text_left c.header.new.self new) c.in_ok-header.header c.in_ok-state.state c.new-reader.ensures (nothing-read c.args.limits.now c.new-reader.result old c.new-reader.ensures) c.in_ok-header.ensures.text
+    c.in_ok-header.ensures.gives c.in_ok-state.ensures in
     completed-alike (λ (x : Checked). x.header) (λ (x : Checked). x.claims) c.args.repo.now c.args.limits.now told c.in_ok-header.header c.take_lines.new.state.claims
     (record { header = c.in_ok-header.header; claims = c.into_claims.result }) refl c.into_claims.ensures (c.in_ok-take_lines.ensures.text told checked)

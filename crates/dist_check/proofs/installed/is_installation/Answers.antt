@@ -14,5 +14,5 @@ pub returns : goal.returns
 returns c = (
   (λ yes. absurd (false≢true yes)),
   λ healthy. absurd (c.in_default.not-Healthy (c.one_health.ensures c.args.repo.now c.args.essential c.in_ok-members.members Healthy c.health.result
-  (healthy-flags c.args.repo.now c.args.essential c.in_ok-members.members c.len.result c.args.variables.now c.len.ensures.value c.in_ok-members.ensures healthy) c.health.ensures)),
+      (healthy-flags c.args.repo.now c.args.essential c.in_ok-members.members c.len.result c.args.variables.now c.len.ensures.value c.in_ok-members.ensures healthy) c.health.ensures)),
 )
