@@ -1,17 +1,12 @@
 -- From what is told of a line to what is told of the text.
-use Rattle.std.proofs.Common.{◌≡◌, ◌≢◌, ◌⊎◌, inl, inr, ⊎_elim, ℕ, suc, ◌+◌, ◌-◌, ◌<◌, ◌≤◌, ◌||◌, Bool, true, false, List, [], ◌∷◌, ◌++◌, Option, Some, None, Result, Ok, Err, length, drop, take, refl, sym, ap, subst, ◌∙◌, append_assoc, arith, length-append}
-use Rattle.std.specs.Bool.{IsTrue}
-use Rattle.std.specs.List.{All, Contains, list_any, flat_map}
-use Rattle.std.proofs.lemmas.Bool.{true≢false, false≢true, or_cases, or_left, or_right, or_parts, cases_lt}
+use Rattle.std.proofs.Common.{◌≡◌, ◌≢◌, inl, inr, ⊎_elim, ℕ, ◌+◌, ◌<◌, ◌||◌, Bool, true, false, List, [], ◌∷◌, ◌++◌, length, refl, sym, ap, subst, ◌∙◌, append_assoc, arith, length-append}
+use Rattle.std.specs.List.{Contains, list_any}
+use Rattle.std.proofs.lemmas.Bool.{false≢true, or_cases, or_left, or_right, or_parts, cases_lt}
 use Rattle.std.proofs.lemmas.Grind.{flat_map-append}
-use Rattle.std.proofs.lemmas.List.{append-nil, drop_at, take-append-le}
+use Rattle.std.proofs.lemmas.List.{append-nil, take-append-le}
 use Rattle.std.proofs.lemmas.List.Elements.{All-nil, All-push, All-take}
 use Rattle.dist_outside.specs.declared.limits.Limits.{Limits}
-use Rattle.dist_outside.specs.declared.trouble.What.TheVariants.{Clauses, Literals, Lines, LineLiterals, Certificate}
-use Rattle.dist_outside.specs.declared.trouble.WorkError.{WorkError}
-use Rattle.dist_clause.specs.ClauseList.{literal_count}
 use Rattle.dist_clause.specs.Formula.{Literal}
-use Rattle.dist_derive.specs.ClauseLog.{lines_of, IsWithinLineLimits}
 use Rattle.dist_repo.specs.Order.{IsInOrder}
 use Rattle.dist_repo.specs.PackageList.{PackageList}
 use Rattle.dist_now.specs.PresentClauses.{ArePresentClauses}
@@ -21,24 +16,19 @@ use Rattle.dist_cert.specs.declared.faults.CertFault.{CertFault}
 use Rattle.dist_cert.specs.declared.records.CertKind.TheVariants as kinds
 use Rattle.dist_cert.specs.declared.records.CertRecord.{CertRecord}
 use Rattle.dist_cert.specs.declared.records.CertRecord.TheVariants.{Derived, End}
-use Rattle.dist_cert.specs.declared.records.Claim.{Claim}
 use Rattle.dist_cert.specs.declared.records.Header.{Header}
-use Rattle.dist_cert.specs.Accepted.{claims_in, IsAcceptedAs}
-use Rattle.dist_cert.specs.ByRecords.{whole_line, within, line_to_record, record_to_line, map_first}
+use Rattle.dist_cert.specs.ByRecords.{whole_line, line_to_record, record_to_line, map_first}
 use Rattle.dist_cert.specs.ClearForms.{FormsAreClear}
 use Rattle.dist_cert.specs.Form.{Word, record_text, HasForm, is_end, header_text, HasHeaderForm}
 use Rattle.dist_cert.specs.Groups.{clause_of, derived}
 use Rattle.dist_cert.specs.LineRules.{HasRecordFault}
 use Rattle.dist_cert.specs.OneVerdict.{one_line}
-use Rattle.dist_cert.specs.Reading.{ReaderView, PassesWhole, KeepsLimits, IsHeaderNext, HeaderFault, IsRecordNext, IsAtEnd, RecordFault}
-use Rattle.dist_cert.specs.Refusal.{line_feed, IsOneLine, BeginsWith, lines_text, certificate_text, Reads, Fits, IsTooLong, HasFirstFault, HasLineFault, in_order, IsFirstOf, AreFaultless}
+use Rattle.dist_cert.specs.Reading.{ReaderView, PassesWhole, KeepsLimits, HeaderFault, RecordFault}
+use Rattle.dist_cert.specs.Refusal.{line_feed, IsOneLine, BeginsWith, lines_text, certificate_text, Fits, IsTooLong, HasFirstFault, HasLineFault, in_order, IsFirstOf, AreFaultless}
 use Rattle.dist_cert.specs.SomeVerdict.{split_push, grown}
-use Rattle.dist_cert.specs.Subject.{Subject}
-use Rattle.dist_check.specs.Checking.{KeepsNumbers, IsReached, IsCompleted, StopsFirst, StopsLater, StopsAtDerived, StopsAtByte, HasLargeInputs}
+use Rattle.dist_check.specs.Checking.{IsReached, StopsFirst, StopsLater, StopsAtDerived, HasLargeInputs}
 use Rattle.dist_check.specs.Present.{AreInputs, matter_of, subject_of}
-use Rattle.dist_check.specs.Start.{HasNumbers, IsStart, IsUnfit}
-use Rattle.dist_check.specs.State.{StateView}
-use Rattle.dist_check.specs.At.{IsAt}
+use Rattle.dist_check.specs.Start.{IsUnfit}
 use Rattle.dist_check.proofs.Places.{contains-cases, contains-later}
 use Rattle.dist_check.proofs.Profile.{IsFaultless, HasFirst}
 use Rattle.dist_check.specs.Checked.{AreRight, HaveForms}

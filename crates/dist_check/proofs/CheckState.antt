@@ -1,45 +1,33 @@
 -- What holds at each line of a text that is checked.
-use Rattle.std.proofs.Common.{◌≡◌, ◌≢◌, ◌⊎◌, inl, inr, ⊎_elim, ℕ, ◌+◌, ◌-◌, ◌<◌, ◌≤◌, ◌^◌, Bool, true, false, List, [], ◌∷◌, ◌++◌, Option, Some, None, Result, Ok, Err, length, drop, refl, sym, ap, subst, ◌∙◌, arith, length-append}
+use Rattle.std.proofs.Common.{◌≡◌, inr, ℕ, ◌+◌, ◌<◌, ◌≤◌, ◌^◌, List, [], ◌∷◌, Option, Some, None, Ok, Err, length, drop, refl, sym, ap, subst, ◌∙◌, arith}
 use Rattle.std.specs.Bool.{IsTrue}
-use Rattle.std.specs.List.{list_any}
-use Rattle.std.proofs.lemmas.Bool.{true≢false, false≢true}
 use Rattle.std.proofs.lemmas.List.{drop_at}
-use Rattle.dist_outside.specs.Counts.{Rose}
-use Rattle.dist_outside.specs.DeskView.{DeskView, OnlyReads}
+use Rattle.dist_outside.specs.DeskView.{DeskView}
 use Rattle.dist_outside.specs.declared.limits.Limits.{Limits}
-use Rattle.dist_outside.specs.declared.trouble.What.TheVariants.{Bytes, Stanzas, Variables, Clauses, Literals, Lines, LineLiterals, Certificate, RecordLine}
-use Rattle.dist_outside.specs.declared.trouble.WorkError.{WorkError}
+use Rattle.dist_outside.specs.declared.trouble.What.TheVariants.{Certificate}
 use Rattle.dist_outside.specs.declared.trouble.WorkError.TheVariants.{ReadFault, WriteFault, TooLarge, NoMemory}
 use Rattle.dist_clause.specs.ClauseList.{literal_count}
 use Rattle.dist_clause.specs.Formula.{Literal}
-use Rattle.dist_derive.specs.ClauseLog.{lines_of, IsWithinLineLimits}
+use Rattle.dist_derive.specs.ClauseLog.{lines_of}
 use Rattle.dist_repo.specs.Order.{IsInOrder}
 use Rattle.dist_repo.specs.PackageList.{PackageList}
 use Rattle.dist_cert.specs.declared.faults.ReadCertError.{ReadCertError}
 use Rattle.dist_cert.specs.declared.faults.ReadCertError.TheVariants.{Bad, Work}
-use Rattle.dist_cert.specs.declared.records.CertKind.TheVariants as kinds
 use Rattle.dist_cert.specs.declared.records.CertRecord.{CertRecord}
 use Rattle.dist_cert.specs.declared.records.CertRecord.TheVariants as lines
 use Rattle.dist_cert.specs.declared.records.Claim.{Claim}
 use Rattle.dist_cert.specs.declared.records.Header.{Header}
-use Rattle.dist_cert.specs.Accepted.{claims_in}
 use Rattle.dist_cert.specs.ClearForms.{FormsAreClear}
-use Rattle.dist_cert.specs.Form.{record_text, HasForm, is_end, header_text, HasHeaderForm}
 use Rattle.dist_cert.specs.Groups.{derived, installations}
-use Rattle.dist_cert.specs.Reading.{ReaderView, WhereTold, PassesWhole, IsHeaderNext, HeaderAnswers, HeaderCause, GivesHeader, RecordAnswers, RecordCause, GivesRecord, WorkCause}
-use Rattle.dist_cert.specs.Refusal.{IsTooLong, certificate_text, Fits, AreFaultless}
-use Rattle.dist_check.specs.Checking.{KeepsNumbers, IsReached, IsCompleted, TextAnswers, TextCause, OfText}
+use Rattle.dist_cert.specs.Reading.{ReaderView, WhereTold, PassesWhole, RecordAnswers, RecordCause}
+use Rattle.dist_cert.specs.Refusal.{IsTooLong, certificate_text, AreFaultless}
+use Rattle.dist_check.specs.Checking.{KeepsNumbers, IsReached, IsCompleted, TextAnswers, OfText}
 use Rattle.dist_check.specs.Means.{Means}
-use Rattle.dist_check.specs.Present.{AreInputs, matter_of, subject_of}
-use Rattle.dist_check.specs.Start.{IsStart, StartAnswers}
-use Rattle.dist_check.specs.State.{StateView, Tells, Becomes, StopsAt, LineStops, TakesLine}
-use Rattle.dist_check.specs.At.{IsAt}
-use Rattle.dist_check.proofs.CheckLemmas.{ThereAreClauses, ClausesAreOne, inputs_by, are-inputs, header-refused, header-unfit, large-inputs, starts-faultless, ended-from, from-ended, ended-push, record-refused, IsLineNext, step-refused, step-reached, stops-derived, end-none, right-push, right-none, forms-push, text-push}
+use Rattle.dist_check.specs.Present.{subject_of}
+use Rattle.dist_check.specs.State.{StateView}
+use Rattle.dist_check.proofs.CheckLemmas.{ended-from, record-refused, end-none}
 use Rattle.dist_check.specs.Checked.{TextAt, IsChecked}
-use Rattle.dist_check.proofs.Claims.{AreProven}
 use Rattle.dist_check.proofs.LineLemmas.{WhatFollows, sound-rule}
-use Rattle.dist_check.proofs.Next.{told-verdict, becomes-at, starts-at}
-use Rattle.dist_check.specs.Checked.{AreRight, HaveForms}
 use Rattle.dist_check.proofs.Whole.{ModelsAreInstallations, records-mean}
 
 pub variables-same : (r : PackageList) (limits : Limits) (told : Option (List ℕ)) (h : Header) (reader : ReaderView) (left : Option (List ℕ)) (s : StateView) → IsChecked r limits told h reader left s → s.log.variables ≡ s.packages

@@ -1,6 +1,5 @@
 -- How a text that is checked goes on, and how it begins.
-use Rattle.std.proofs.Common.{◌≡◌, ◌≢◌, ◌⊎◌, inl, inr, ⊎_elim, ℕ, ◌+◌, ◌-◌, ◌<◌, ◌≤◌, ◌^◌, Bool, true, false, List, [], ◌∷◌, ◌++◌, Option, Some, None, Result, Ok, Err, length, refl, sym, ap, subst, ◌∙◌, arith, length-append}
-use Rattle.std.specs.List.{list_any}
+use Rattle.std.proofs.Common.{◌≡◌, ◌≢◌, inl, inr, ℕ, ◌+◌, ◌<◌, ◌≤◌, Bool, false, List, [], ◌∷◌, ◌++◌, Option, Some, None, Result, Ok, Err, length, refl, sym, ap, subst, ◌∙◌, arith, length-append}
 use Rattle.std.specs.Result.{IsErrAnd}
 use Rattle.std.proofs.lemmas.Bool.{true≢false, false≢true, cases_lt}
 use Rattle.dist_outside.specs.Counts.{Rose}
@@ -15,31 +14,27 @@ use Rattle.dist_derive.specs.ClauseLog.{lines_of}
 use Rattle.dist_repo.specs.Order.{IsInOrder}
 use Rattle.dist_repo.specs.PackageList.{PackageList}
 use Rattle.dist_now.specs.PresentSet.{PassesClauses, PassesLiterals}
-use Rattle.dist_cert.specs.declared.faults.CertFault.{CertFault}
 use Rattle.dist_cert.specs.declared.faults.ReadCertError.{ReadCertError}
 use Rattle.dist_cert.specs.declared.faults.ReadCertError.TheVariants.{Bad, Work}
-use Rattle.dist_cert.specs.declared.records.CertKind.TheVariants as kinds
 use Rattle.dist_cert.specs.declared.records.CertRecord.{CertRecord}
 use Rattle.dist_cert.specs.declared.records.CertRecord.TheVariants as lines
 use Rattle.dist_cert.specs.declared.records.Claim.{Claim}
 use Rattle.dist_cert.specs.declared.records.Header.{Header}
 use Rattle.dist_cert.specs.ClearForms.{FormsAreClear}
-use Rattle.dist_cert.specs.Form.{Word, record_text, HasForm, is_end, header_text, HasHeaderForm}
+use Rattle.dist_cert.specs.Form.{Word, record_text, HasForm, header_text}
 use Rattle.dist_cert.specs.Groups.{clause_of, derived}
-use Rattle.dist_cert.specs.Reading.{ReaderView, WhereTold, PassesWhole, KeepsLimits, IsHeaderNext, IsRecordNext, HeaderAnswers, HeaderCause, GivesHeader, RecordAnswers, RecordCause, GivesRecord, past_line}
-use Rattle.dist_cert.specs.Refusal.{certificate_text, Fits, AreFaultless}
-use Rattle.dist_check.specs.Checking.{IsReached, StopsAtDerived, StopsFirst, TextAnswers, TextCause, OfText}
-use Rattle.dist_check.specs.Present.{AreInputs, matter_of, subject_of}
+use Rattle.dist_cert.specs.Reading.{ReaderView, WhereTold, PassesWhole, KeepsLimits, IsHeaderNext, IsRecordNext, HeaderAnswers, HeaderCause, GivesHeader, RecordAnswers, RecordCause, GivesRecord}
+use Rattle.dist_cert.specs.Refusal.{Fits, AreFaultless}
+use Rattle.dist_check.specs.Checking.{StopsAtDerived, StopsFirst, TextAnswers, TextCause, OfText}
+use Rattle.dist_check.specs.Present.{matter_of, subject_of}
 use Rattle.dist_check.specs.Since.{IsAppendCause}
 use Rattle.dist_check.specs.Start.{IsStart, StartAnswers}
 use Rattle.dist_check.specs.State.{StateView, Tells, Becomes, StopsAt, LineStops, TakesLine}
-use Rattle.dist_check.specs.At.{IsAt}
 use Rattle.dist_check.proofs.CheckLemmas.{ThereAreClauses, ClausesAreOne, inputs_by, are-inputs, header-refused, header-unfit, large-inputs, starts-faultless, from-ended, ended-push, IsLineNext, step-refused, step-reached, stops-derived, right-push, right-none, forms-push, text-push}
 use Rattle.dist_check.specs.Checked.{TextAt, IsChecked}
 use Rattle.dist_check.proofs.CheckState.{lines-are, numbers-of}
 use Rattle.dist_check.proofs.Next.{told-verdict, becomes-at, starts-at}
 use Rattle.dist_check.proofs.Profile.{IsFaultless}
-use Rattle.dist_check.specs.Checked.{AreRight, HaveForms}
 use Rattle.std.proofs.lemmas.List.Elements.{All-nil}
 
 -- ---- a line that is read

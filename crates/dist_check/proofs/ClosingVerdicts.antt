@@ -1,7 +1,7 @@
 -- The same of lines that close a question as undecided, of claims that are no strong ones, and of the end.
-use Rattle.std.proofs.Common.{◌≡◌, ◌≢◌, ◌⊎◌, inl, inr, ⊎_elim, ℕ, ◌+◌, ◌-◌, ◌<◌, ◌≤◌, Bool, true, false, List, [], ◌∷◌, ◌++◌, Option, Some, None, length, refl, sym, ap, subst, ◌∙◌, append_assoc, arith, length-append}
-use Rattle.std.specs.List.{All, Any, Contains}
-use Rattle.std.proofs.lemmas.Bool.{true≢false, false≢true, and_parts, and_cases, eqb-true, eqb-false, leb-true, leb-false, cases_Bool}
+use Rattle.std.proofs.Common.{◌≡◌, ◌≢◌, ◌⊎◌, inl, inr, ℕ, ◌+◌, ◌<◌, ◌≤◌, Bool, true, false, List, [], ◌∷◌, ◌++◌, Option, Some, None, length, refl, sym, ap, subst, ◌∙◌, append_assoc, arith, length-append}
+use Rattle.std.specs.List.{Any}
+use Rattle.std.proofs.lemmas.Bool.{false≢true, and_parts, and_cases, eqb-true, eqb-false, leb-true, leb-false}
 use Rattle.std.proofs.lemmas.Grind.{flat_map-append}
 use Rattle.dist_clause.specs.Formula.{Literal}
 use Rattle.dist_derive.specs.New.{EachIsNew}
@@ -13,14 +13,14 @@ use Rattle.dist_cert.specs.declared.records.CertRecord.{CertRecord}
 use Rattle.dist_cert.specs.declared.records.CertRecord.TheVariants as lines
 use Rattle.dist_cert.specs.declared.records.Header.{Header}
 use Rattle.dist_cert.specs.Form.{Word}
-use Rattle.dist_cert.specs.Groups.{clause_of, derived, derived_in, numbered, claimed, claim_count, is_claim, group, IsOpen, IsRefutedIn, IsUndecidedIn}
+use Rattle.dist_cert.specs.Groups.{clause_of, derived, derived_in, claim_count, is_claim, group, IsOpen, IsRefutedIn, IsUndecidedIn}
 use Rattle.dist_cert.specs.ClaimRules.{yes, HoldsClaim}
-use Rattle.dist_cert.specs.LineRules.{HasRecordFault, IsWrongClaim}
+use Rattle.dist_cert.specs.LineRules.{HasRecordFault}
 use Rattle.dist_check.specs.Present.{matter_of}
 use Rattle.dist_check.specs.Since.{AreNewFrom}
 use Rattle.dist_check.specs.State.{QuestionView, StateView, is_next, TellsUndecided, TellsClaim, TellsEnd}
 use Rattle.dist_check.specs.At.{IsQuestionOf, IsAt}
-use Rattle.dist_check.proofs.Profile.{rank, may_have, HasFirst, IsFaultless, faultless-from, first-from}
+use Rattle.dist_check.proofs.Profile.{rank, may_have, faultless-from, first-from}
 use Rattle.dist_check.proofs.Questions.{one-open}
 use Rattle.dist_check.proofs.Told.{any-head, any-cases}
 use Rattle.dist_check.proofs.Verdicts.{IsVerdict, each-new, new-from-each}

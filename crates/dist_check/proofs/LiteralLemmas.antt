@@ -1,7 +1,7 @@
 -- The literals of a line as clauses.
-use Rattle.std.proofs.Common.{◌≡◌, ◌≢◌, ◌⊎◌, inl, inr, ℕ, zero, suc, ◌<◌, ◌≤◌, ◌||◌, Bool, true, false, not, List, [], ◌∷◌, length, get_or, map, refl, sym, ap, subst, ◌∙◌, arith, nat_lt}
-use Rattle.std.specs.List.{All, AllPairs, Any, Contains, list_any}
-use Rattle.std.proofs.lemmas.Bool.{ltb-true, ltb-false, lt-ltb, or_cases, or_parts, true≢false, false≢true, or_right}
+use Rattle.std.proofs.Common.{◌≡◌, ◌≢◌, inl, inr, ℕ, ◌<◌, ◌≤◌, ◌||◌, Bool, true, false, List, [], ◌∷◌, length, get_or, map, refl, sym, ap, subst, arith, nat_lt}
+use Rattle.std.specs.List.{All, AllPairs, Any}
+use Rattle.std.proofs.lemmas.Bool.{ltb-true, ltb-false, or_cases, or_parts, false≢true}
 use Rattle.std.proofs.lemmas.List.{get_or-map, length-map}
 use Rattle.std.proofs.lemmas.List.Elements.{All-map, All-nil, All-cons}
 use Rattle.dist_base.specs.declared.TheConstants.{MAX_VARIABLES}
@@ -10,8 +10,7 @@ use Rattle.dist_cert.specs.Form.{Word, AreLiterals}
 use Rattle.dist_cert.specs.Groups.{clause_of}
 use Rattle.dist_check.specs.Since.{AreLiteralsOver}
 use Rattle.dist_check.specs.State.{names_above, is_above}
-use Rattle.dist_check.proofs.Places.{contains-cases}
-use Rattle.dist_check.proofs.Told.{any-head, any-later, any-cases}
+use Rattle.dist_check.proofs.Told.{any-head, any-later}
 
 pairs-map : {X Y : Type 0} (R : Y → Y → Type 0) (f : X → Y) (xs : List X) → AllPairs (λ a b. R (f a) (f b)) xs → AllPairs R (map f xs)
 pairs-map {X} {Y} R f xs pairs i j d before within = at xs pairs (shorter xs (omega (arith, within, length-map xs f)))

@@ -1,7 +1,6 @@
 -- The verdict on the next line, and what is kept behind it.
-use Rattle.std.proofs.Common.{◌≡◌, ◌≢◌, ◌⊎◌, inl, inr, ℕ, ◌+◌, ◌-◌, ◌<◌, ◌≤◌, Bool, true, false, List, [], ◌∷◌, ◌++◌, Option, Some, None, length, refl, sym, ap, subst, ◌∙◌, append_assoc, arith, length-append, MatchOption}
-use Rattle.std.specs.List.{flat_map}
-use Rattle.std.proofs.lemmas.Bool.{true≢false, false≢true, and_parts, eqb-true}
+use Rattle.std.proofs.Common.{◌≡◌, ℕ, ◌+◌, true, false, List, [], ◌∷◌, ◌++◌, Option, Some, None, length, refl, sym, ap, subst, ◌∙◌, append_assoc, arith, length-append, MatchOption}
+use Rattle.std.proofs.lemmas.Bool.{false≢true}
 use Rattle.std.proofs.lemmas.List.{append-nil}
 use Rattle.std.proofs.lemmas.Grind.{flat_map-append}
 use Rattle.dist_clause.specs.Formula.{Literal}
@@ -12,14 +11,14 @@ use Rattle.dist_cert.specs.declared.records.CertRecord.{CertRecord}
 use Rattle.dist_cert.specs.declared.records.CertRecord.TheVariants as lines
 use Rattle.dist_cert.specs.declared.records.Claim.{Claim}
 use Rattle.dist_cert.specs.declared.records.Header.{Header}
-use Rattle.dist_cert.specs.Form.{Word, KeepsRules}
-use Rattle.dist_cert.specs.Groups.{clause_of, derived, derived_in, installed_in, installations, is_claim, claimed, claim_count, group, leaves_open, HasOpenQuestion}
+use Rattle.dist_cert.specs.Form.{KeepsRules}
+use Rattle.dist_cert.specs.Groups.{clause_of, derived, derived_in, installed_in, installations, is_claim, claimed, claim_count, group, leaves_open}
 use Rattle.dist_cert.specs.Accepted.{claim_in, claims_in}
 use Rattle.dist_check.specs.Present.{matter_of}
 use Rattle.dist_check.specs.Window.{WindowView, latest}
 use Rattle.dist_check.specs.Closed.{Closes}
-use Rattle.dist_check.specs.Group.{GroupView, common_with}
-use Rattle.dist_check.specs.State.{QuestionView, StateView, Tells, Allows, Answers, Becomes, empty_group, after_claim, is_next, names_above, TellsRefuted, TellsUndecided}
+use Rattle.dist_check.specs.Group.{GroupView}
+use Rattle.dist_check.specs.State.{QuestionView, StateView, Tells, Allows, Becomes, empty_group, after_claim, names_above, TellsRefuted, TellsUndecided}
 use Rattle.dist_check.specs.At.{IsQuestionOf, IsGroupOf, IsAt}
 use Rattle.dist_check.proofs.ClosingVerdicts.{undecided-verdict, end-verdict, installable-verdict, unknown-verdict, outdated-verdict, alive-verdict, challenged-verdict}
 use Rattle.dist_check.proofs.Questions.{IsOpening, opened, none-open, none-first}

@@ -1,5 +1,5 @@
 -- The open question of some lines, and those that are closed in a group, with one line more.
-use Rattle.std.proofs.Common.{◌≡◌, ◌⊎◌, inl, inr, ⊎_elim, ℕ, ◌+◌, ◌<◌, ◌≤◌, ◌↔◌, ◌||◌, Bool, true, false, List, [], ◌∷◌, ◌++◌, length, get_or, refl, sym, ap, subst, ◌∙◌, append_assoc, arith, length-append, if◌then◌else◌}
+use Rattle.std.proofs.Common.{◌≡◌, ◌⊎◌, inl, inr, ℕ, ◌<◌, ◌||◌, Bool, true, false, List, [], ◌∷◌, ◌++◌, length, get_or, refl, sym, ap, subst, ◌∙◌, append_assoc, arith, length-append, if◌then◌else◌}
 use Rattle.std.specs.List.{list_any, AllPass}
 use Rattle.std.proofs.lemmas.Bool.{true≢false, false≢true, or_right}
 use Rattle.std.proofs.lemmas.List.{get_or_append_left}

@@ -1,6 +1,6 @@
 -- The lines of an accepted text have no fault as records, its header fits, and it has an end.
 use Rattle.std.proofs.Common.{◌≡◌, inl, inr, ℕ, List, [], ◌∷◌, ◌++◌, ◌<◌, refl, sym, subst, ◌∙◌, append_assoc, arith}
-use Rattle.std.specs.List.{All, Contains}
+use Rattle.std.specs.List.{Contains}
 use Rattle.dist_outside.specs.declared.limits.Limits.{Limits}
 use Rattle.dist_cert.specs.declared.faults.CertCause.{CertCause}
 use Rattle.dist_cert.specs.declared.faults.CertCause.TheVariants as causes
@@ -10,13 +10,13 @@ use Rattle.dist_cert.specs.declared.records.CertRecord.{CertRecord}
 use Rattle.dist_cert.specs.declared.records.CertRecord.TheVariants.{End}
 use Rattle.dist_cert.specs.declared.records.Header.{Header}
 use Rattle.dist_cert.specs.Form.{record_text, HasForm, header_text}
-use Rattle.dist_cert.specs.Subject.{Matter, Subject}
+use Rattle.dist_cert.specs.Subject.{Subject}
 use Rattle.dist_cert.specs.LineRules.{HasRecordFault}
 use Rattle.dist_cert.specs.Refusal.{line_feed, lines_text, Fits, HasLineFault}
 use Rattle.dist_cert.specs.Accepted.{IsAcceptedAs}
 use Rattle.dist_cert.specs.ClearForms.{FormsAreClear}
 use Rattle.dist_cert.specs.OneVerdict.{first_line_of}
-use Rattle.dist_check.specs.Checked.{AreRight, HaveForms}
+use Rattle.dist_check.specs.Checked.{AreRight}
 use Rattle.dist_check.proofs.Told.{IsTold, stable, contains-told}
 use Rattle.dist_check.proofs.Places.{all-at}
 

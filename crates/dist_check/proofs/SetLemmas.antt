@@ -3,7 +3,6 @@ use Rattle.std.proofs.Common.{◌≡◌, ℕ, ◌==◌, ◌||◌, Bool, true, fa
 use Rattle.std.proofs.lemmas.Cmp.{ranked}
 use Rattle.std.specs.BTreeSet.{insert_key}
 use Rattle.std.specs.Ordering.{match_ordering}
-use Rattle.std.specs.Prelude.{◌≡◌ as ◌≡'◌}
 use Rattle.dist_check.specs.Rising.{is_among}
 
 swap-or : (a b c : Bool) → (a || (b || c)) ≡ (b || (a || c))

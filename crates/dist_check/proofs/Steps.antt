@@ -1,20 +1,17 @@
 -- What is kept, with one line more.
-use Rattle.std.proofs.Common.{◌≡◌, ◌≢◌, ◌⊎◌, inl, inr, ⊎_elim, ℕ, zero, suc, ◌+◌, ◌-◌, ◌<◌, ◌≤◌, ◌↔◌, ◌==◌, ◌&&◌, ◌||◌, Bool, true, false, List, [], ◌∷◌, ◌++◌, Option, Some, None, length, drop, filter, get_or, refl, sym, ap, subst, ◌∙◌, append_assoc, arith, length-append, if◌then◌else◌}
-use Rattle.std.specs.List.{All, Any, Contains, flat_map}
-use Rattle.std.proofs.lemmas.Bool.{true≢false, false≢true, and_parts, and_from, cases_Bool, or_cases, or_left, or_right, eqb-true, eq-eqb}
+use Rattle.std.proofs.Common.{◌≡◌, ◌≢◌, ◌⊎◌, inl, inr, ℕ, zero, suc, ◌+◌, ◌-◌, ◌<◌, ◌↔◌, ◌==◌, Bool, true, false, List, [], ◌∷◌, ◌++◌, Option, Some, None, length, drop, filter, get_or, refl, sym, ap, subst, ◌∙◌, arith, length-append, if◌then◌else◌}
+use Rattle.std.specs.List.{All, Any, Contains}
+use Rattle.std.proofs.lemmas.Bool.{true≢false, false≢true, and_parts, and_from, or_cases, or_left, or_right, eqb-true, eq-eqb}
 use Rattle.std.proofs.lemmas.List.{append-nil, drop-append-le, drop-drop, length-drop, get_or_append_left, get_or_at}
-use Rattle.std.proofs.lemmas.List.Elements.{All-nil, All-push, All-append, All-head, All-tail, Contains-append_left, Contains-push}
+use Rattle.std.proofs.lemmas.List.Elements.{All-nil, All-push}
 use Rattle.std.proofs.lemmas.List.Quantifiers.{Any-push}
 use Rattle.std.proofs.lemmas.Grind.{flat_map-append}
 use Rattle.dist_clause.specs.Formula.{Literal}
-use Rattle.dist_repo.specs.PackageList.{PackageList}
 use Rattle.dist_cert.specs.declared.records.CertRecord.{CertRecord}
 use Rattle.dist_cert.specs.declared.records.CertRecord.TheVariants as lines
-use Rattle.dist_cert.specs.declared.records.Header.{Header}
 use Rattle.dist_cert.specs.Form.{Word}
-use Rattle.dist_cert.specs.Groups.{derived_in, derived, installed_in, installations, is_claim, claimed, claim_count, group, leaves_open, IsOpen, HasOpenQuestion, IsClosedBy, IsRefutedIn, IsUndecidedIn}
+use Rattle.dist_cert.specs.Groups.{derived_in, derived, installed_in, installations, is_claim, group, leaves_open, IsOpen, IsRefutedIn, IsUndecidedIn}
 use Rattle.dist_cert.specs.ClaimRules.{yes, no}
-use Rattle.dist_cert.specs.Accepted.{claim_in, claims_in}
 use Rattle.dist_check.specs.Rising.{is_among}
 use Rattle.dist_check.specs.Window.{latest}
 use Rattle.dist_check.specs.Closed.{ClosedView, asks_alone, asks_without, Closes}
@@ -22,9 +19,8 @@ use Rattle.dist_check.specs.Group.{GroupView, narrowed, common_with}
 use Rattle.dist_check.specs.State.{QuestionView, empty_group}
 use Rattle.dist_check.specs.At.{IsQuestionOf, AreClosed, IsCommonOf, IsGroupOf}
 use Rattle.dist_check.proofs.Places.{contains-cases, contains-later}
-use Rattle.dist_check.proofs.Questions.{IsOpening, IsAsked, one-open, opened, still-open, none-open, none-still, closed-push, closed-before, closed-here, none-closed, group-push, group-claim, asked-in-group}
+use Rattle.dist_check.proofs.Questions.{IsOpening, IsAsked, one-open, still-open, none-still, closed-push, closed-before, closed-here, none-closed, group-push, group-claim, asked-in-group}
 use Rattle.dist_check.proofs.RisingLemmas.{any-from, from-any}
-use Rattle.dist_check.proofs.Told.{any-head, any-cases}
 
 -- ---- lists that grow with the lines
 

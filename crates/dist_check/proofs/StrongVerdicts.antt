@@ -1,6 +1,6 @@
 -- The same of claims on strong dependencies.
-use Rattle.std.proofs.Common.{◌≡◌, ◌≢◌, ◌⊎◌, inl, inr, ⊎_elim, ℕ, zero, suc, ◌+◌, ◌-◌, ◌<◌, ◌≤◌, ◌↔◌, ◌==◌, ◌&&◌, Bool, true, false, not, List, [], ◌∷◌, ◌++◌, Option, Some, None, length, get_or, drop, refl, sym, ap, subst, ◌∙◌, arith, nat_le, slice_get, unwrap_or, if◌then◌else◌}
-use Rattle.std.specs.List.{All, AllPairs, Any, Contains, list_all, list_any}
+use Rattle.std.proofs.Common.{◌≡◌, ◌≢◌, inl, inr, ⊎_elim, ℕ, ◌+◌, ◌-◌, ◌<◌, ◌≤◌, ◌↔◌, ◌==◌, ◌&&◌, Bool, true, false, not, List, [], ◌∷◌, ◌++◌, Option, Some, None, length, get_or, refl, sym, ap, subst, ◌∙◌, arith, nat_le, slice_get, unwrap_or, if◌then◌else◌}
+use Rattle.std.specs.List.{All, Contains, list_all}
 use Rattle.std.proofs.lemmas.Bool.{true≢false, false≢true, and_parts, and_from, cases_lt, eqb-true, eqb-false, ne_eqb, not-true, not_from_false, le-leb, lt-leb, false_from_ne_true}
 use Rattle.std.proofs.lemmas.List.{get_or-drop, length-drop}
 use Rattle.std.proofs.lemmas.List.Elements.{All-append, All-contains, All-head, Contains-append_left, Contains-append_right, Contains-append_cases}
@@ -18,8 +18,8 @@ use Rattle.dist_cert.specs.Groups.{installations, installation_at, IsRecent, gro
 use Rattle.dist_cert.specs.ClaimRules.{yes, no, IsNamed, IsInEach, HoldsStrong, OmitsPackage}
 use Rattle.dist_check.specs.Present.{matter_of}
 use Rattle.dist_check.specs.Rising.{is_among}
-use Rattle.dist_check.specs.Window.{WindowView, kept_at, has_member}
-use Rattle.dist_check.specs.Group.{GroupView, candidates, in_each, is_always, PassesStrong, omits_package}
+use Rattle.dist_check.specs.Window.{kept_at, has_member}
+use Rattle.dist_check.specs.Group.{candidates, in_each, is_always, PassesStrong, omits_package}
 use Rattle.dist_check.specs.State.{StateView, is_next, TellsStrong}
 use Rattle.dist_check.specs.At.{IsCommonOf, IsAt}
 use Rattle.dist_check.proofs.ClosingVerdicts.{on-strong, number-verdict, wrong-verdict, right-verdict, incomplete-verdict}
@@ -28,7 +28,7 @@ use Rattle.dist_check.proofs.Places.{all-at, all-from}
 use Rattle.dist_check.specs.Checked.{AreRight, HaveForms}
 use Rattle.dist_check.proofs.RisingLemmas.{any-from, from-any}
 use Rattle.dist_check.proofs.TestLemmas.{Tests, all-tested, any-tested, none-tested, among-tests, other-tests}
-use Rattle.dist_check.proofs.Told.{IsTold, stable, most-told, less-told, any-head}
+use Rattle.dist_check.proofs.Told.{IsTold, stable, most-told, less-told}
 use Rattle.dist_check.proofs.Verdicts.{IsVerdict}
 
 -- ---- installations by their numbers

@@ -1,10 +1,8 @@
 -- What is told of a line by what is kept is its first fault, or that it has none.
-use Rattle.std.proofs.Common.{◌≡◌, ◌≢◌, ◌⊎◌, inl, inr, ⊎_elim, ℕ, ◌+◌, ◌-◌, ◌<◌, ◌≤◌, Bool, true, false, List, [], ◌∷◌, ◌++◌, Option, Some, None, length, get_or, map, take, refl, sym, ap, subst, ◌∙◌, append_assoc, arith, lit<, length-append}
-use Rattle.std.specs.List.{All, Any, Contains}
-use Rattle.std.proofs.lemmas.Bool.{true≢false, false≢true, and_parts, and_from, eqb-true, leb-true, eq-eqb, le-leb, cases_lt}
-use Rattle.std.proofs.lemmas.List.{take_at, append-nil, get_or_at}
-use Rattle.std.proofs.lemmas.Grind.{flat_map-append}
-use Rattle.std.proofs.lemmas.List.Elements.{All-contains}
+use Rattle.std.proofs.Common.{◌≡◌, inl, inr, ℕ, ◌+◌, ◌-◌, ◌<◌, ◌≤◌, true, false, List, [], ◌∷◌, ◌++◌, Option, Some, None, length, get_or, map, take, refl, sym, ap, subst, ◌∙◌, append_assoc, arith, length-append}
+use Rattle.std.specs.List.{All, Any}
+use Rattle.std.proofs.lemmas.Bool.{false≢true, cases_lt}
+use Rattle.std.proofs.lemmas.List.{take_at, get_or_at}
 use Rattle.dist_clause.specs.ClauseList.{clause_at}
 use Rattle.dist_clause.specs.Formula.{Literal, negation}
 use Rattle.dist_derive.specs.Follows.{Follows}
@@ -18,17 +16,15 @@ use Rattle.dist_cert.specs.declared.records.CertRecord.{CertRecord}
 use Rattle.dist_cert.specs.declared.records.CertRecord.TheVariants as lines
 use Rattle.dist_cert.specs.declared.records.Header.{Header}
 use Rattle.dist_cert.specs.Form.{Word}
-use Rattle.dist_cert.specs.Groups.{clause_of, derived, numbered, claim_count, is_claim, group, IsOpen, HasOpenQuestion, IsRefutedIn, IsUndecidedIn}
-use Rattle.dist_cert.specs.ClaimRules.{yes, HoldsClaim}
+use Rattle.dist_cert.specs.Groups.{clause_of, numbered}
 use Rattle.dist_cert.specs.LineRules.{HasRecordFault}
 use Rattle.dist_check.specs.Present.{matter_of, packages_of}
 use Rattle.dist_check.specs.Since.{AreNewFrom}
-use Rattle.dist_check.specs.State.{QuestionView, StateView, names_above, is_above, is_next, TellsQuestion, TellsDerived, TellsRefuted, TellsInstallation, TellsUndecided, TellsClaim, TellsEnd}
-use Rattle.dist_check.specs.At.{IsQuestionOf, AreClosed, IsGroupOf, IsAt}
+use Rattle.dist_check.specs.State.{QuestionView, StateView, names_above, is_above, TellsQuestion, TellsDerived, TellsRefuted, TellsInstallation}
+use Rattle.dist_check.specs.At.{IsQuestionOf, IsAt}
 use Rattle.dist_check.proofs.LiteralLemmas.{none-above, some-above, words-above}
 use Rattle.dist_check.proofs.Profile.{rank, may_have, IsFaultless, HasFirst, faultless-from, first-from}
 use Rattle.dist_check.proofs.Questions.{one-open}
-use Rattle.dist_check.proofs.Told.{any-head, any-cases}
 
 -- the first fault of a record, or none
 abbrev pub IsVerdict : PackageList → List (List Literal) → Header → List CertRecord → CertRecord → Option CertCause → Type 0

@@ -1,9 +1,9 @@
 -- What a checker keeps of the lines before a line, and what it tells of the next one.
-use Rattle.std.specs.Prelude.{◌≡◌, ◌==◌, ◌&&◌, ℕ, ◌+◌, ◌-◌, ◌<◌, ◌≤◌, Bool, true, false, List, [], ◌∷◌, ◌++◌, Option, Some, None, MatchOption, MatchBool, length, map, not, nat_le, nat_lt, if◌then◌else◌}
+use Rattle.std.specs.Prelude.{◌≡◌, ◌==◌, ◌&&◌, ℕ, ◌+◌, ◌<◌, ◌≤◌, Bool, true, false, List, [], ◌∷◌, ◌++◌, Option, Some, None, MatchOption, MatchBool, length, map, nat_le, nat_lt}
 use Rattle.std.specs.List.{list_any}
 use Rattle.dist_outside.specs.declared.trouble.WorkError.{WorkError}
 use Rattle.dist_outside.specs.declared.trouble.WorkError.TheVariants.{NoMemory}
-use Rattle.dist_clause.specs.Formula.{Literal, negation}
+use Rattle.dist_clause.specs.Formula.{negation}
 use Rattle.dist_derive.specs.ClauseLog.{ClauseLog, IsWithinLineLimits}
 use Rattle.dist_derive.specs.Follows.{Follows}
 use Rattle.dist_repo.specs.PackageList.{PackageList}
@@ -20,7 +20,7 @@ use Rattle.dist_cert.specs.Groups.{clause_of}
 use Rattle.dist_cert.specs.Accepted.{claim_in}
 use Rattle.dist_check.specs.Present.{packages_of}
 use Rattle.dist_check.specs.Window.{WindowView, latest}
-use Rattle.dist_check.specs.Closed.{ClosedView, Closes}
+use Rattle.dist_check.specs.Closed.{Closes}
 use Rattle.dist_check.specs.Group.{GroupView, common_with, PassesStrong, omits_package}
 use Rattle.dist_check.specs.Since.{AreNewFrom, IsAppendCause}
 

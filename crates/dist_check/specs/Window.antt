@@ -1,5 +1,5 @@
 -- What is kept of the installations before a line.
-use Rattle.std.specs.Prelude.{ℕ, ◌+◌, ◌-◌, Bool, false, List, Option, Some, None, length, drop, nat_le, slice_get, if◌then◌else◌}
+use Rattle.std.specs.Prelude.{ℕ, ◌-◌, Bool, false, List, Option, Some, None, length, drop, nat_le, slice_get, if◌then◌else◌}
 use Rattle.dist_check.specs.Rising.{is_among}
 
 -- the latest installations, and how many there were

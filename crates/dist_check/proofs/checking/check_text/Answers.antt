@@ -1,10 +1,8 @@
-use Rattle.std.proofs.Common.{◌≡◌, ◌∙◌, List, ℕ, Option, None, Some, Result, Ok, Err, IfErr, ap, refl, sym, subst}
+use Rattle.std.proofs.Common.{List, ℕ, Option, None, Result, IfErr, refl}
 use Rattle.dist_outside.specs.DeskView.{DeskView}
 use Rattle.dist_outside.specs.Reading.{bytes_left}
 use Rattle.dist_cert.specs.declared.faults.ReadCertError.{ReadCertError}
-use Rattle.dist_cert.specs.declared.records.Claim.{Claim}
-use Rattle.dist_cert.specs.declared.records.Header.{Header}
-use Rattle.dist_cert.specs.Reading.{ReaderView, text_left}
+use Rattle.dist_cert.specs.Reading.{text_left}
 use Rattle.dist_check.specs.declared.checking.Checked.{Checked}
 use Rattle.dist_check.specs.Checking.{TextAnswers, TextCause, OfText}
 use Rattle.dist_check.proofs.CheckSteps.{by-exit, header-stops, start-stops, starts-checked}

@@ -1,4 +1,4 @@
-use Rattle.std.proofs.Common.{◌≡◌, ◌+◌, ◌∙◌, List, ℕ, Option, None, Some, Result, Ok, Err, arith, ap, refl, sym, subst}
+use Rattle.std.proofs.Common.{◌∙◌, List, ℕ, Option, None, Result, Ok, arith, ap, refl, sym, subst}
 use Rattle.dist_outside.specs.DeskView.{DeskView}
 use Rattle.dist_cert.specs.declared.faults.ReadCertError.{ReadCertError}
 use Rattle.dist_cert.specs.declared.records.CertRecord.{CertRecord}

@@ -1,4 +1,4 @@
-use Rattle.std.proofs.Common.{◌≡◌, ◌-◌, ◌^◌, ◌<◌, List, Option, ℕ, None}
+use Rattle.std.proofs.Common.{◌≡◌, ◌-◌, ◌^◌, List, Option, ℕ, None}
 use Rattle.dist_outside.specs.DeskView.{OnlyReads}
 use Rattle.dist_outside.specs.Files.{IsReading}
 use Rattle.dist_cert.specs.Reading.{text_left}

@@ -1,4 +1,4 @@
-use Rattle.std.proofs.Common.{◌≡◌, ◌<◌, ◌∙◌, List, ℕ, ap, filter, subst, sym}
+use Rattle.std.proofs.Common.{◌<◌, ◌∙◌, List, ℕ, ap, filter, subst, sym}
 use Rattle.std.proofs.lemmas.List.Kept.{AllPairs-filter}
 use Rattle.dist_check.specs.Rising.{AreRising, is_among}
 use Rattle.dist_check.proofs.group.narrow.Goals as goal

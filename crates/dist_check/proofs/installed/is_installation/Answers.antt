@@ -1,4 +1,4 @@
-use Rattle.std.proofs.Common.{◌≡◌, ◌∙◌, Bool, List, ap, length}
+use Rattle.std.proofs.Common.{◌∙◌, Bool, List, ap, length}
 use Rattle.std.proofs.lemmas.Bool.{false≢true}
 use Rattle.dist_now.specs.declared.kinds.Health.TheVariants.{Healthy}
 use Rattle.dist_check.proofs.MemberLemmas.{truth-length}

@@ -1,4 +1,4 @@
-use Rattle.std.proofs.Common.{◌≡◌, ◌∙◌, ◌-◌, ◌≤◌, List, Bool, ℕ, true, ap, arith, get_or, length, set, sym, take}
+use Rattle.std.proofs.Common.{◌≡◌, ◌∙◌, ◌-◌, List, Bool, ℕ, true, ap, arith, get_or, length, set, sym, take}
 use Rattle.std.proofs.lemmas.List.{take_more}
 use Rattle.dist_check.specs.Present.{truth_of}
 use Rattle.dist_check.proofs.MemberLemmas.{truth-length, truth-more, truth-none}

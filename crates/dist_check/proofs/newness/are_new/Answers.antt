@@ -1,7 +1,7 @@
-use Rattle.std.proofs.Common.{◌≡◌, ◌+◌, ◌-◌, ◌∙◌, List, subst, take}
+use Rattle.std.proofs.Common.{◌+◌, ◌-◌, ◌∙◌, List, subst, take}
 use Rattle.dist_clause.specs.Formula.{Literal}
 use Rattle.dist_derive.specs.New.{IsNew}
-use Rattle.dist_check.proofs.NewLemmas.{WasNew, new-step}
+use Rattle.dist_check.proofs.NewLemmas.{new-step}
 use Rattle.dist_check.proofs.newness.are_new.Goals as goal
 
 pub loop-before-preserved : goal.loop-before-preserved

@@ -1,5 +1,5 @@
-use Rattle.std.proofs.Common.{◌≡◌, arith, refl, true}
-use Rattle.dist_check.proofs.RisingLemmas.{rising-from, never-rising}
+use Rattle.std.proofs.Common.{arith, refl}
+use Rattle.dist_check.proofs.RisingLemmas.{rising-from}
 use Rattle.dist_check.proofs.numbers.is_rising.Goals as goal
 
 pub returns : goal.returns

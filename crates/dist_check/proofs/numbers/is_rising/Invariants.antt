@@ -1,4 +1,4 @@
-use Rattle.std.proofs.Common.{◌<◌, ◌≤◌, ◌+◌, ℕ, get_or, length}
+use Rattle.std.proofs.Common.{◌<◌, ◌+◌, ℕ, get_or, length}
 use Rattle.dist_check.proofs.numbers.is_rising.Given as goal
 
 abbrev pub invariant-loop-place : goal.invariant-loop-place

@@ -1,4 +1,4 @@
-use Rattle.std.proofs.Common.{◌≡◌, ◌==◌, ◌||◌, ap, ◌∙◌, List, ℕ}
+use Rattle.std.proofs.Common.{◌==◌, ◌||◌, ap, ◌∙◌, List, ℕ}
 use Rattle.dist_check.specs.Rising.{is_among}
 use Rattle.dist_check.proofs.SetLemmas.{among-insert}
 use Rattle.dist_check.proofs.number_set.NumberSet.add.Goals as goal

@@ -1,4 +1,4 @@
-use Rattle.std.proofs.Common.{◌≡◌, ◌∙◌, Bool, List, ℕ, ap, subst, sym}
+use Rattle.std.proofs.Common.{◌∙◌, Bool, List, ℕ, ap, subst, sym}
 use Rattle.dist_cert.specs.declared.records.CertRecord.{CertRecord}
 use Rattle.dist_cert.specs.Form.{Word}
 use Rattle.dist_check.specs.State.{StateView, Tells, TellsClaim, TellsEnd, TellsQuestion, TellsStrong, is_next}
