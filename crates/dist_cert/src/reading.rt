@@ -1,5 +1,5 @@
 //! Reads a certificate line by line, each through one buffer.
-ghost use Rattle.std.specs.Prelude.{◌≡◌, ◌+◌, ◌-◌, ◌^◌, ◌<◌, [], false, length};
+ghost use Rattle.std.specs.Prelude.{◌≡◌, ◌+◌, ◌-◌, ◌^◌, ◌<◌, ◌≤◌, [], false, length};
 ghost use Rattle.dist_outside.specs.Files.{IsReading};
 ghost use Rattle.dist_outside.specs.DeskView.{OnlyReads};
 ghost use Rattle.dist_cert.specs.LineReading.{AtFileEnd};
@@ -94,6 +94,14 @@ impl Reader {
                 ended: false,
             },
         }
+    }
+
+    /// How many lines were given.
+    pub fn lines(&self) -> u64
+        ensures value { result ≡ self.now.lines }
+        ensures within { self.now.given ≤ self.now.limits.certificate }
+    {
+        self.done.lines
     }
 
     /// The first line. It is asked for before any other.
