@@ -23,3 +23,4 @@ mod CheckLemmas
 mod CheckState
 mod CheckSteps
 mod CheckText
+mod OneVerdict

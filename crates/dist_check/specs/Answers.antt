@@ -9,6 +9,7 @@ use Rattle.dist_cert.specs.declared.records.Claim.{Claim}
 use Rattle.dist_cert.specs.declared.records.Header.{Header}
 use Rattle.dist_check.specs.Checking.{TextAnswers}
 use Rattle.dist_check.specs.Means.{Means}
+use Rattle.dist_check.specs.Present.{IsAccepted, IsRefused}
 use Rattle.dist_check.specs.declared.verdict.Verdict.{Verdict}
 use Rattle.dist_check.specs.declared.verdict.Verdict.TheVariants.{Accepted, Refused}
 
@@ -26,3 +27,8 @@ Answers r limits text result = TextAnswers (λ (x : Header × List Claim). x.0) 
 abbrev pub VerdictMeans : PackageList → Verdict → Type 0
 VerdictMeans r (Accepted h made) = Means h.essential r made
 VerdictMeans r (Refused fault) = Unit {0}
+
+-- the text has this verdict over the repository
+abbrev pub IsVerdict : PackageList → Limits → List ℕ → Verdict → Type 0
+IsVerdict r limits text (Accepted h made) = IsAccepted r limits text h made
+IsVerdict r limits text (Refused fault) = IsRefused r limits text fault

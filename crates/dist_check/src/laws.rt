@@ -1,5 +1,5 @@
 //! What an accepted certificate proves, apart from the work. The functions do nothing.
-ghost use Rattle.std.specs.Prelude.{ℕ, ◌^◌, ◌≤◌, ◌↔◌, Bool, List, Contains, length};
+ghost use Rattle.std.specs.Prelude.{◌≡◌, ℕ, ◌^◌, ◌≤◌, ◌↔◌, Bool, List, Ok, Contains, length};
 ghost use Rattle.dist_outside.specs.declared.limits.Limits.{Limits};
 ghost use Rattle.dist_clause.specs.Formula.{Literal};
 ghost use Rattle.dist_derive.specs.Cone.{InCone};
@@ -11,12 +11,14 @@ ghost use Rattle.dist_cert.specs.declared.records.Header.{Header};
 ghost use Rattle.dist_cert.specs.Accepted.{IsAcceptedAs};
 ghost use Rattle.dist_cert.specs.Form.{Word};
 ghost use Rattle.dist_cert.specs.Groups.{clause_of, IsUndecidedIn};
+ghost use Rattle.dist_check.specs.declared.verdict.Verdict.{Verdict};
+ghost use Rattle.dist_check.specs.Answers.{Answers, IsVerdict};
 ghost use Rattle.dist_check.specs.Present.{IsAccepted, AreInputs, subject_of};
 ghost use Rattle.dist_check.specs.Means.{Means};
 
 use dist_cert::forms_are_clear;
 use dist_derive::{lines_keep_models, new_lines_are_few};
-use dist_now::models_are_installations;
+use dist_now::{models_are_installations, present_clauses_are_one};
 
 /// The claims of an accepted text hold, whoever wrote it.
 pub fn accepted_claims_hold()
@@ -38,4 +40,15 @@ pub fn undecided_questions_are_hard()
 {
     forms_are_clear();
     new_lines_are_few();
+}
+
+/// What the check answers of a text is the text's verdict, and there is no other one.
+pub fn texts_have_one_verdict()
+    ensures right { (r : PackageList) (limits : Limits) (text : List ℕ) (verdict : Verdict) → Answers r limits text (Ok verdict)
+        → IsVerdict r limits text verdict }
+    ensures one { (r : PackageList) (limits : Limits) (text : List ℕ) (verdict other : Verdict) → IsVerdict r limits text verdict
+        → IsVerdict r limits text other → verdict ≡ other }
+{
+    forms_are_clear();
+    present_clauses_are_one();
 }

@@ -25,5 +25,5 @@ mod verdict;
 mod window;
 
 pub use file::check;
-pub use laws::{accepted_claims_hold, undecided_questions_are_hard};
+pub use laws::{accepted_claims_hold, texts_have_one_verdict, undecided_questions_are_hard};
 pub use verdict::Verdict;

@@ -2,7 +2,9 @@
 ghost use Rattle.std.specs.Prelude.{◌+◌, ◌<◌, ◌≤◌, length};
 ghost use Rattle.dist_check.specs.Limited.{AreStated};
 
-use crate::{Verdict, accepted_claims_hold, check, undecided_questions_are_hard};
+use crate::{
+    Verdict, accepted_claims_hold, check, texts_have_one_verdict, undecided_questions_are_hard,
+};
 use dist_cert::CertCause::{
     BadHeader, BadLine, BadRecord, LimitNotReached, LineTooLong, NotAnInstallation, NotNew,
     OutOfOrder, OutOfRange, Truncated, UnknownLine, WrongClaim,
@@ -129,6 +131,7 @@ fn are_refused(alloc: Global, edits: &[(u64, u64, &str, u64, CertCause)]) -> Res
 #[test]
 fn the_laws_hold() {
     accepted_claims_hold();
+    texts_have_one_verdict();
     undecided_questions_are_hard();
 }
 
