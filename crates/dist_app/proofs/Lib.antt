@@ -1,7 +1,8 @@
 pub mod Runs
-pub mod HealthLaws
+pub mod CommandLaws
 pub mod Endings
 pub mod HealthStages
+pub mod ClassesStages
 pub mod Due
 pub mod Lists
 pub mod Three

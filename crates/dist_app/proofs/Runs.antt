@@ -16,17 +16,17 @@ use Rattle.dist_app.specs.declared.refusal.Refusal.{Refusal}
 use Rattle.dist_app.specs.declared.refusal.Refusal.TheVariants as refusal
 use Rattle.dist_app.specs.declared.status.Status.{Status}
 use Rattle.dist_app.specs.declared.status.Status.TheVariants.{BadWords, ReadFault, WriteFault, NoMemory}
-use Rattle.dist_app.proofs.Endings.{IsOfFiles, health_status, not_read_fault, not_write_fault}
-use Rattle.dist_app.proofs.HealthLaws.{AreExact, decides_alone}
+use Rattle.dist_app.proofs.Endings.{IsOfFiles, command_status, not_read_fault, not_write_fault}
+use Rattle.dist_app.proofs.CommandLaws.{AreExact, decides_alone}
 
 -- bad words alone decide their status
 words_of_status : (words : List (List ℕ)) (files : Option Files) (limits : Limits) (ending : Ending) → Decides words files limits ending → ending.status ≡ BadWords → IsBadWords words
 words_of_status words files limits ending (inl (bad, is)) status = bad
-words_of_status words files limits ending (inr (packages, list, is_health, decides)) status = absurd (subst IsOfFiles status (health_status files limits packages list ending decides))
+words_of_status words files limits ending (inr (line, is_line, decides)) status = absurd (subst IsOfFiles status (command_status line files limits ending decides))
 
 status_of_words : (words : List (List ℕ)) (files : Option Files) (limits : Limits) (ending : Ending) → Decides words files limits ending → IsBadWords words → ending.status ≡ BadWords
 status_of_words words files limits ending (inl (bad, is)) _ = ap (λ (e : Ending). e.status) is
-status_of_words words files limits ending (inr (packages, list, is_health, decides)) bad = absurd (bad packages list is_health)
+status_of_words words files limits ending (inr (line, is_line, decides)) bad = absurd (bad line is_line)
 
 alone : AreExact → (words : List (List ℕ)) (desk : DeskView) (limits : Limits) (r : Refusal) (ending : Ending) → TellsFiles desk
     → Decides words desk.files limits (refused desk.files r) → Decides words desk.files limits ending → ending ≡ refused desk.files r

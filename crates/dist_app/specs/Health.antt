@@ -9,7 +9,7 @@ use Rattle.dist_repo.specs.declared.package.Package.{Package}
 use Rattle.dist_now.specs.Health.{IsHealth}
 use Rattle.dist_now.specs.declared.kinds.Health.{Health}
 use Rattle.dist_now.specs.declared.kinds.Health.TheVariants.{Healthy, TwoVersions, Unmet, Conflict, EssentialMissing}
-use Rattle.dist_app.specs.PackageText.{label}
+use Rattle.dist_report.specs.PackageText.{label}
 use Rattle.dist_app.specs.Stages.{Ending, Step, Ends, Goes, Then, answered, refused}
 use Rattle.dist_app.specs.TextStage.{TextStage}
 use Rattle.dist_app.specs.RepositoryStage.{RepositoryStage}

@@ -4,11 +4,12 @@ pub mod Health
 pub mod LineParts
 pub mod Listed
 pub mod PackageSet
-pub mod PackageText
 pub mod Refusal
 pub mod RepositoryStage
 pub mod Run
 pub mod Carried
+pub mod Classes
+pub mod Command
 pub mod Stages
 pub mod Status
 pub mod TextStage

@@ -1,5 +1,5 @@
 -- What a run comes to, from its words, the files that the desk tells, and the limits.
-use Rattle.std.specs.Prelude.{◌≡◌, ◌⊎◌, ◌≤◌, ℕ, List, [], ◌∷◌, Option, Some, codes}
+use Rattle.std.specs.Prelude.{◌≡◌, ◌⊎◌, ◌≤◌, ℕ, List, [], Option, Some}
 use Rattle.dist_base.specs.Front.{IsFrontOf}
 use Rattle.dist_base.specs.declared.TheConstants.{MAX_BYTES, MAX_STANZAS, MAX_VARIABLES, MAX_CLAUSES, MAX_LITERALS, MAX_LINES, MAX_LINE_LITERALS, MAX_CERTIFICATE, MAX_RECORD_LINE}
 use Rattle.dist_outside.specs.Counts.{Rose}
@@ -9,25 +9,21 @@ use Rattle.dist_outside.specs.SinkView.{SinkView, Grew, GrewByFront}
 use Rattle.dist_outside.specs.declared.limits.Limits.{Limits}
 use Rattle.dist_app.specs.Refusal.{status_of, refusal_text}
 use Rattle.dist_app.specs.Stages.{Ending, refused}
-use Rattle.dist_app.specs.Health.{HealthDecides}
+use Rattle.dist_app.specs.Command.{CommandLine, CommandDecides, words_of}
 use Rattle.dist_app.specs.declared.status.Status.{Status}
 use Rattle.dist_app.specs.declared.status.Status.TheVariants as status
 use Rattle.dist_app.specs.declared.refusal.Refusal.{Refusal}
 use Rattle.dist_app.specs.declared.refusal.Refusal.TheVariants.{BadWords, ReadFault, WriteFault, NoMemory}
 
--- the words of the command `health PACKAGES LIST`
-abbrev pub IsHealth : List (List ℕ) → (packages list : List ℕ) → Type 0
-IsHealth words packages list = words ≡ codes "health" ∷ packages ∷ list ∷ []
-
 -- the words are of no command
 abbrev pub IsBadWords : List (List ℕ) → Type 0
-IsBadWords words = (packages list : List ℕ) → ¬ IsHealth words packages list
+IsBadWords words = (line : CommandLine) → ¬ (words ≡ words_of line)
 
 -- An end of the run that the words, the files and the limits decide.
 abbrev pub Decides : List (List ℕ) → Option Files → Limits → Ending → Type 0
 Decides words files limits ending =
     (IsBadWords words × (ending ≡ refused files BadWords))
-    ⊎ ((packages : List ℕ) × (list : List ℕ) × IsHealth words packages list × HealthDecides files limits packages list ending)
+    ⊎ ((line : CommandLine) × (words ≡ words_of line) × CommandDecides line files limits ending)
 
 -- The text of an answer that was decided could not be written whole: a front of it was.
 pub record IsCutShort (words : List (List ℕ)) (files : Option Files) (limits : Limits) (refusal : Refusal) (ending : Ending) : Type 0 where

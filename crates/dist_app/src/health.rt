@@ -2,23 +2,17 @@
 ghost use Rattle.std.specs.Prelude.{◌≡◌, ◌++◌, ◌<◌, ℕ, List, Option, length, codes, IfOk, OnOk};
 ghost use Rattle.dist_outside.specs.Files.{Files};
 ghost use Rattle.dist_repo.specs.Size.{IsWithinSize};
-ghost use Rattle.dist_app.specs.PackageText.{label};
 ghost use Rattle.dist_app.specs.Stages.{answered};
 ghost use Rattle.dist_app.specs.Health.{IsPairLine, HasItem, IsUnmetLine, Judges};
 
+use crate::answer::Answer;
 use crate::status::Status;
 use dist_clause::Assignment;
 use dist_now::{Health, health};
 use dist_relation::print_alternatives;
-use dist_repo::{Package, Repository};
+use dist_repo::Repository;
+use dist_report::print_label;
 use std::alloc::{AllocError, Global};
-
-/// A status, and the text to print with it.
-#[derive(Drop)]
-pub(crate) struct Answer {
-    pub(crate) status: Status,
-    pub(crate) text: Vec<u8>,
-}
 
 /// Whether the members are a healthy installation, and the line that says so or names what is wrong.
 pub(crate) fn judge(
@@ -47,16 +41,6 @@ pub(crate) fn judge(
     Ok(Answer { status, text })
 }
 
-/// Adds `name=version` at the end of a line.
-fn write_label(package: &Package, line: &mut Vec<u8>) -> Result<(), AllocError>
-    ensures { OnOk result (line.new.items ≡ line.old.items ++ label «package».now) }
-{
-    line.extend_from_slice(package.name.bytes())?;
-    line.push(b'=')?;
-    line.extend_from_slice(package.version.text())?;
-    Ok(())
-}
-
 /// Two labels behind some words.
 fn pair_line(
     alloc: Global,
@@ -70,9 +54,9 @@ fn pair_line(
     ensures { IfOk result (λ line. IsPairLine repository.now.packages words.now first second line.items) }
 {
     let mut line = words.to_vec(alloc)?;
-    write_label(repository.package(first), &mut line)?;
+    print_label(repository.package(first), &mut line)?;
     line.push(b' ')?;
-    write_label(repository.package(second), &mut line)?;
+    print_label(repository.package(second), &mut line)?;
     line.push(b'\n')?;
     Ok(line)
 }
@@ -89,7 +73,7 @@ fn unmet_line(
 {
     let package = repository.package(number);
     let mut line = b"unmet ".to_vec(alloc)?;
-    write_label(package, &mut line)?;
+    print_label(package, &mut line)?;
     line.extend_from_slice(b": ")?;
     print_alternatives(package.depends.get(place as usize), &mut line)?;
     line.push(b'\n')?;

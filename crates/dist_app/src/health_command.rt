@@ -9,11 +9,12 @@ ghost use Rattle.dist_app.specs.Health.{ListStage, ListDecides, HealthDecides};
 ghost use Rattle.dist_app.specs.Due.{IsDue, IsGivenUp};
 ghost use Rattle.dist_app.specs.Run.{IsWithinStated};
 
+use crate::answer::Answer;
+use crate::command::HealthFiles;
 use crate::files::{read_repository, text_of};
-use crate::health::{Answer, judge};
+use crate::health::judge;
 use crate::list::{ListError, read_list};
 use crate::refusal::Refusal;
-use crate::words::HealthFiles;
 use dist_clause::Assignment;
 use dist_outside::{Desk, Limits};
 use dist_repo::Repository;

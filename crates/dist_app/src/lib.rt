@@ -1,6 +1,9 @@
 //! The top call: a command from its words to its status.
 #![tactic(auto)]
 
+mod answer;
+mod classes_command;
+mod command;
 mod fault_text;
 mod files;
 mod health;
@@ -17,5 +20,7 @@ mod words;
 pub use status::Status;
 pub use top_call::{run, run_with};
 
+#[cfg(test)]
+mod classes_tests;
 #[cfg(test)]
 mod tests;

@@ -35,7 +35,7 @@ const NOTHING: Failing = Failing {
     err: 0,
 };
 
-fn words_of(alloc: Global, words: &[&str]) -> Result<Vec<String>, AllocError> {
+pub(crate) fn words_of(alloc: Global, words: &[&str]) -> Result<Vec<String>, AllocError> {
     let mut all = Vec::new(alloc);
     for word in words {
         all.push(String::from_str(alloc, word)?)?;
@@ -269,7 +269,13 @@ fn faults_are_told(rt: HostRuntime) -> Result<(), Fail> {
 #[test]
 fn other_words_are_refused(rt: HostRuntime) -> Result<(), Fail> {
     let alloc = rt.alloc();
-    let commands: [&[&str]; 3] = [&[], &["health", "packages"], &["heal", "packages", "list"]];
+    let commands: [&[&str]; 5] = [
+        &[],
+        &["health", "packages"],
+        &["heal", "packages", "list"],
+        &["classes"],
+        &["classes", "packages", "list"],
+    ];
     for command in commands {
         let words = words_of(alloc, command)?;
         let mut desk = MemoryDesk::new(alloc, 7, &[])?;

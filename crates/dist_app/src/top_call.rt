@@ -5,12 +5,12 @@ ghost use Rattle.dist_outside.specs.DeskView.{OnlyReads};
 ghost use Rattle.dist_app.specs.Run.{Runs, IsWithinStated, stated_limits};
 ghost use Rattle.dist_app.specs.Carried.{IsAnswered, IsRefused, Prints};
 
-use crate::health::Answer;
-use crate::health_command::run_health;
+use crate::answer::Answer;
+use crate::command::run_command;
 use crate::refusal::{Refusal, refusal_of};
 use crate::refusal_text::write_refusal;
 use crate::status::Status;
-use crate::words::health_files;
+use crate::words::command_of;
 use dist_outside::{Desk, Limits, Sink, sink_grows, write_whole};
 use dist_package::packages_are_exact;
 use std::alloc::Global;
@@ -77,10 +77,10 @@ fn carry_out<D: Desk, W: Sink>(
     ensures only_reads { OnlyReads (D.view desk.old) (D.view desk.new) }
 {
     sink_grows();
-    let Some(files) = health_files(words) else {
+    let Some(command) = command_of(words) else {
         return Err(Refusal::BadWords);
     };
-    match run_health(alloc, desk, &files, limits) {
+    match run_command(alloc, desk, &command, limits) {
         Ok(answer) => print(out, &answer),
         Err(refusal) => Err(refusal),
     }

@@ -1,5 +1,13 @@
 pub mod Parts
-pub mod Decoded
 pub mod OneForm
 pub mod WritingLemmas
 pub mod OneLine
+pub mod Filling
+pub mod LineEnds
+pub mod LooseLemmas
+pub mod RuleLemmas
+pub mod RecordForms
+pub mod HeaderForms
+pub mod Answering
+pub mod ReadBack
+pub mod ExactReader

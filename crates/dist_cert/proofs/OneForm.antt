@@ -4,7 +4,7 @@ use Rattle.std.proofs.lemmas.List.Elements.{All-head, All-tail, All-map, All-con
 use Rattle.std.proofs.lemmas.Fmt.{decimal_by_steps, decimal_injective}
 use Rattle.dist_cert.specs.Form.{Word, word_text, signed_text, words_text, plain, plains, pair_words, separator, letter, words, AreFromOne, ArePairs, KeepsRules, IsSmall, HasForm, kind_text, mode_text, HasHeaderForm}
 use Rattle.dist_cert.proofs.Parts.{HasNoSpace, IsBehind}
-use Rattle.dist_cert.proofs.Decoded.{before, after, numbers, pairs, decoded}
+use Rattle.dist_cert.specs.Decoded.{before, after, numbers, pairs, decoded}
 use Rattle.dist_cert.specs.declared.records.CertKind.{CertKind}
 use Rattle.dist_cert.specs.declared.records.CertKind.TheVariants as kinds
 use Rattle.dist_cert.specs.declared.records.CertRecord.{CertRecord}

@@ -10,7 +10,7 @@ nothing_is_front bytes old new grew = record {
   grew = grew;
 }
 
--- five pieces that were added one after another, and an end, are one
-pub six_pieces : (t0 a b c d e f : List ℕ) (t1 t2 t3 t4 t5 t6 : List ℕ) → t1 ≡ t0 ++ a → t2 ≡ t1 ++ b → t3 ≡ t2 ++ c → t4 ≡ t3 ++ d → t5 ≡ t4 ++ e → t6 ≡ t5 ++ f
-    → t6 ≡ t0 ++ ((a ++ (b ++ (c ++ (d ++ e)))) ++ f)
-six_pieces t0 a b c d e f t1 t2 t3 t4 t5 t6 e1 e2 e3 e4 e5 e6 = rw e6 (rw e5 (rw e4 (rw e3 (rw e2 (rw e1 (simp append_assoc refl))))))
+-- five pieces that were added one after another are one
+pub five_pieces : (t0 a b c d e : List ℕ) (t1 t2 t3 t4 t5 : List ℕ) → t1 ≡ t0 ++ a → t2 ≡ t1 ++ b → t3 ≡ t2 ++ c → t4 ≡ t3 ++ d → t5 ≡ t4 ++ e
+    → t5 ≡ t0 ++ (a ++ (b ++ (c ++ (d ++ e))))
+five_pieces t0 a b c d e t1 t2 t3 t4 t5 e1 e2 e3 e4 e5 = rw e5 (rw e4 (rw e3 (rw e2 (rw e1 (simp append_assoc refl)))))

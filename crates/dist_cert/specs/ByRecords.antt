@@ -11,7 +11,7 @@ use Rattle.dist_cert.specs.declared.faults.CertCause.TheVariants as causes
 use Rattle.dist_cert.specs.declared.records.CertRecord.{CertRecord}
 use Rattle.dist_cert.specs.declared.records.CertRecord.TheVariants.{End}
 use Rattle.dist_cert.specs.declared.records.Header.{Header}
-use Rattle.dist_cert.specs.Form.{record_text, HasForm, header_text, HasHeaderForm}
+use Rattle.dist_cert.specs.Form.{record_text, HasForm, is_end, header_text, HasHeaderForm}
 use Rattle.dist_cert.specs.Subject.{Matter, Subject}
 use Rattle.dist_cert.specs.LineRules.{HasRecordFault}
 use Rattle.dist_cert.specs.Refusal.{line_feed, IsOneLine, lines_text, certificate_text, Fits, IsBadStep, HasFirstFault, HasLineFault, in_order, IsFirstOf, AreFaultless, Refusal}
@@ -21,11 +21,11 @@ use Rattle.dist_cert.specs.OneVerdict.{one_line, first_line_of}
 
 -- ---- a line that is whole and short
 
-whole_line : (line more : List ℕ) → ¬ IsOneLine (line ++ line_feed ∷ more)
+pub whole_line : (line more : List ℕ) → ¬ IsOneLine (line ++ line_feed ∷ more)
 whole_line [] more h = h 0 0 (omega arith) refl
 whole_line (x ∷ line) more h = whole_line line more (All-tail (λ byte. byte ≢ line_feed) x (line ++ line_feed ∷ more) h)
 
-within : (limit : ℕ) (line more : List ℕ) → length line < limit → ¬ IsOneLine (take limit (line ++ line_feed ∷ more))
+pub within : (limit : ℕ) (line more : List ℕ) → length line < limit → ¬ IsOneLine (take limit (line ++ line_feed ∷ more))
 within zero line more short h = omega (arith, short)
 within (suc limit) [] more short h = h 0 0 (omega arith) refl
 within (suc limit) (x ∷ line) more short h = within limit line more (omega (arith, short)) (All-tail (λ byte. byte ≢ line_feed) x (take limit (line ++ line_feed ∷ more)) h)
@@ -41,7 +41,7 @@ same_step clear matter h before step more cause form bad =
     let one : step ≡ other = clear.one_record line step other (subst (λ l. HasForm l step) same.0 form) bad.4 in
     subst (λ s. HasRecordFault matter h before s cause) (sym one) bad.5
 
-line_to_record : FormsAreClear → (subject : Subject) (limits : Limits) (h : Header) (before : List CertRecord) (step : CertRecord) (more : List ℕ) → HasForm (record_text step) step
+pub line_to_record : FormsAreClear → (subject : Subject) (limits : Limits) (h : Header) (before : List CertRecord) (step : CertRecord) (more : List ℕ) → HasForm (record_text step) step
     → (¬ Contains before End) → length (record_text step) < limits.record_line → (cause : CertCause)
     → HasLineFault subject limits h before (record_text step ++ line_feed ∷ more) cause → HasRecordFault (subject.matter h.kind h.essential) h before step cause
 line_to_record clear subject limits h before step more form no_end short causes.LineTooLong f = within limits.record_line (record_text step) more short f.1
@@ -50,7 +50,7 @@ line_to_record clear subject limits h before step more form no_end short causes.
     none step (subst (λ l. HasForm l step) (one_line (record_text step) f.0 more f.1 (clear.record_line step form) f.2.one_line f.2.ended).0 form)) f.3
 line_to_record clear subject limits h before step more form no_end short cause f = same_step clear (subject.matter h.kind h.essential) h before step more cause form f
 
-record_to_line : FormsAreClear → (subject : Subject) (limits : Limits) (h : Header) (before : List CertRecord) (step : CertRecord) (more : List ℕ) → HasForm (record_text step) step
+pub record_to_line : FormsAreClear → (subject : Subject) (limits : Limits) (h : Header) (before : List CertRecord) (step : CertRecord) (more : List ℕ) → HasForm (record_text step) step
     → (cause : CertCause) → HasRecordFault (subject.matter h.kind h.essential) h before step cause → HasLineFault subject limits h before (record_text step ++ line_feed ∷ more) cause
 record_to_line clear subject limits h before step more form causes.LineTooLong f = absurd f
 record_to_line clear subject limits h before step more form causes.Truncated f = absurd f
@@ -58,10 +58,6 @@ record_to_line clear subject limits h before step more form causes.BadRecord f =
 record_to_line clear subject limits h before step more form cause f = (record_text step, more, step, record { ended = refl; one_line = clear.record_line step form }, form, f)
 
 -- ---- lines of known records
-
-abbrev pub is_end : CertRecord → Bool
-is_end End = true
-is_end step = false
 
 or_right : (x y : Bool) → (x || y) ≡ false → y ≡ false
 or_right true y e = absurd (true≢false e)
@@ -138,7 +134,7 @@ sound_lines clear subject limits h before rest sound all = record {
       (subst (λ bytes. HasLineFault subject limits h earlier bytes cause) (first_line_of step others rest) f));
 }
 
-map_first : (Has Have : CertCause → Type 0) → ((cause : CertCause) → Has cause → Have cause) → ((cause : CertCause) → Have cause → Has cause) → (list : List CertCause) (cause : CertCause)
+pub map_first : (Has Have : CertCause → Type 0) → ((cause : CertCause) → Has cause → Have cause) → ((cause : CertCause) → Have cause → Has cause) → (list : List CertCause) (cause : CertCause)
     → IsFirstOf list Has cause → IsFirstOf list Have cause
 map_first Has Have to back [] cause h = h
 map_first Has Have to back (next ∷ later) cause h = ⊎_elim (λ x. inl (to next x.0, x.1)) (λ x. inr (λ have. x.0 (back next have), map_first Has Have to back later cause x.1)) h

@@ -113,6 +113,11 @@ pub record HasForm (line : List ℕ) (step : CertRecord) : Type 0 where
   pub rules : KeepsRules step
   pub numbers : All (λ word. IsSmall word.0) (words step)
 
+-- the record is that of the end
+abbrev pub is_end : CertRecord → Bool
+is_end End = true
+is_end step = false
+
 -- ---- the first line
 
 abbrev pub kind_text : CertKind → List ℕ

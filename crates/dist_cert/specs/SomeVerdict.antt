@@ -50,7 +50,7 @@ not_any Has n causes.Incomplete = n.1.1.1.1.1.1.1.1.1.1.1.1.1.0
 
 -- ---- lines
 
-split_line : (text : List ℕ) → ((line : List ℕ) × (more : List ℕ) × BeginsWith text line more) ⊎ IsOneLine text
+pub split_line : (text : List ℕ) → ((line : List ℕ) × (more : List ℕ) × BeginsWith text line more) ⊎ IsOneLine text
 split_line [] = inr (All-nil (λ byte. byte ≢ line_feed))
 split_line (x ∷ text) = ⊎_elim
     (λ feed. inl ([], text, record { ended = ap (λ y. y ∷ text) feed; one_line = All-nil (λ byte. byte ≢ line_feed) }))
@@ -69,7 +69,7 @@ head_or d [] = d
 head_or d (x ∷ xs) = x
 
 -- an element of a list with one more behind: the last one, or one of those before
-split_push : (before earlier others : List CertRecord) (step last : CertRecord) → before ++ last ∷ [] ≡ earlier ++ step ∷ others
+pub split_push : (before earlier others : List CertRecord) (step last : CertRecord) → before ++ last ∷ [] ≡ earlier ++ step ∷ others
     → ((earlier ≡ before) × (step ≡ last) × (others ≡ [])) ⊎ ((more : List CertRecord) × (before ≡ earlier ++ step ∷ more) × (others ≡ more ++ last ∷ []))
 unfolding tail_of head_or
 split_push [] [] others step last e = inl (refl, sym (ap (head_or last) e), sym (ap tail_of e))
@@ -95,7 +95,7 @@ push_text steps step rest line more begins form =
     ∙ ap (λ l. l ++ line_feed ∷ more) (sym form.text) ∙ sym begins.ended in
     ap (λ bytes. bytes ++ more) (flat_map-append one steps (step ∷ [])) ∙ append_assoc (lines_text steps) (lines_text (step ∷ [])) more ∙ ap (λ bytes. lines_text steps ++ bytes) last
 
-grown : (subject : Subject) (limits : Limits) (text : List ℕ) (h : Header) (before : List CertRecord) (rest line more : List ℕ) (step : CertRecord)
+pub grown : (subject : Subject) (limits : Limits) (text : List ℕ) (h : Header) (before : List CertRecord) (rest line more : List ℕ) (step : CertRecord)
     → AreFaultless subject limits text h before rest → ((cause : CertCause) → ¬ HasLineFault subject limits h before rest cause)
     → BeginsWith rest line more → HasForm line step → AreFaultless subject limits text h (before ++ step ∷ []) more
 grown subject limits text h before rest line more step faultless none begins form = record {

@@ -50,3 +50,14 @@ impl From<AllocError> for ReadCertError {
         ReadCertError::Work(WorkError::NoMemory)
     }
 }
+
+impl From<WorkError> for ReadCertError {
+    ghost use Rattle.dist_cert.specs.declared.faults.ReadCertError.TheVariants.{Work};
+    ghost use Rattle.std.specs.Prelude.{◌≡◌};
+
+    ghost from_gives = { λ work error. error ≡ Work work };
+
+    fn from(work: WorkError) -> ReadCertError {
+        ReadCertError::Work(work)
+    }
+}

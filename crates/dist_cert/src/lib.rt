@@ -1,19 +1,29 @@
-//! Certificates as text: the records of their lines, their writer, and when a text is accepted.
+//! Certificates as text: the records of their lines, their writer and their reader, and when a text is accepted.
 #![tactic(auto)]
 
 mod clear_forms;
+mod decoding;
 mod faults;
+mod forms;
 mod laws;
 mod line_text;
+mod lines;
 mod lists;
+mod loose_words;
+mod pieces;
+#[cfg(test)]
+mod reader_tests;
+mod reading;
 mod records;
+mod rules;
 #[cfg(test)]
 mod tests;
 mod writing;
 
 pub use clear_forms::forms_are_clear;
 pub use faults::{CertCause, CertFault, ReadCertError};
-pub use laws::one_form;
+pub use laws::{one_form, reader_is_exact, written_is_read};
 pub use lists::{Claims, Items, Literals, Numbers, Pairs};
+pub use reading::Reader;
 pub use records::{CertKind, CertRecord, Claim, Header};
 pub use writing::Writer;

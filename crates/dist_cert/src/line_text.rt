@@ -114,17 +114,24 @@ fn add_words(text: &mut Vec<u8>, step: &CertRecord) -> Result<(), AllocError>
     }
 }
 
+/// Adds the text of a record, without a line feed.
+pub(crate) fn add_record_text(text: &mut Vec<u8>, step: &CertRecord) -> Result<(), AllocError>
+    ensures { OnOk result (text.new.items ≡ text.old.items ++ record_text step.now) }
+{
+    text.push(letter_of(step))?;
+    add_words(text, step)
+}
+
 /// Adds the line of a record, with its line feed.
 pub(crate) fn add_record(text: &mut Vec<u8>, step: &CertRecord) -> Result<(), AllocError>
     ensures { OnOk result (text.new.items ≡ text.old.items ++ ended (record_text step.now)) }
 {
-    text.push(letter_of(step))?;
-    add_words(text, step)?;
+    add_record_text(text, step)?;
     end_line(text)
 }
 
 /// The word of a kind.
-fn kind_word(kind: CertKind) -> &'static [u8]
+pub(crate) fn kind_word(kind: CertKind) -> &'static [u8]
     ensures { result.now ≡ kind_text kind }
 {
     match kind {
@@ -135,15 +142,15 @@ fn kind_word(kind: CertKind) -> &'static [u8]
 }
 
 /// The word of a mode.
-fn mode_word(essential: bool) -> &'static [u8]
+pub(crate) fn mode_word(essential: bool) -> &'static [u8]
     ensures { result.now ≡ mode_text essential }
 {
     if essential { b"essential" } else { b"plain" }
 }
 
-/// Adds the first line, with its line feed.
-pub(crate) fn add_header(text: &mut Vec<u8>, header: &Header) -> Result<(), AllocError>
-    ensures { OnOk result (text.new.items ≡ text.old.items ++ ended (header_text header.now)) }
+/// Adds the text of the first line, without a line feed.
+pub(crate) fn add_header_text(text: &mut Vec<u8>, header: &Header) -> Result<(), AllocError>
+    ensures { OnOk result (text.new.items ≡ text.old.items ++ header_text header.now) }
 {
     text.extend_from_slice(b"distfuture-certificate 1 ")?;
     text.extend_from_slice(kind_word(header.kind))?;
@@ -157,7 +164,14 @@ pub(crate) fn add_header(text: &mut Vec<u8>, header: &Header) -> Result<(), Allo
             header.variables,
             header.clauses,
         ],
-    )?;
+    )
+}
+
+/// Adds the first line, with its line feed.
+pub(crate) fn add_header(text: &mut Vec<u8>, header: &Header) -> Result<(), AllocError>
+    ensures { OnOk result (text.new.items ≡ text.old.items ++ ended (header_text header.now)) }
+{
+    add_header_text(text, header)?;
     end_line(text)
 }
 

@@ -6,7 +6,7 @@ ghost use Rattle.dist_cert.specs.Form.{KeepsLimit};
 use crate::line_text::{add_header, add_record};
 use crate::{
     CertKind, CertRecord, Claim, Claims, Header, Items, ReadCertError, Writer, forms_are_clear,
-    one_form,
+    one_form, reader_is_exact, written_is_read,
 };
 use dist_outside::{Desk, Limits, MemoryDesk, What, WorkError};
 use std::alloc::{AllocError, Global};
@@ -245,4 +245,6 @@ fn want_of_memory_is_no_fault(rt: HostRuntime) {
 fn the_laws_hold() {
     one_form();
     forms_are_clear();
+    written_is_read();
+    reader_is_exact();
 }

@@ -7,3 +7,5 @@ pub mod TableLemmas
 pub mod FoundCuts
 pub mod FreshLemmas
 pub mod ClusterLemmas
+pub mod ExampleLemmas
+pub mod NameLemmas

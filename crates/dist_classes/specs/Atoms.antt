@@ -1,5 +1,6 @@
 -- The atoms of a repository, and the versions that they name in their bounds (Debian Policy 7.1).
 use Rattle.std.specs.Prelude.{◌≡◌, ◌⊎◌, ℕ, List, Any, Contains, IsSomeAnd}
+use Rattle.dist_version.specs.Spelling.{IsVersion}
 use Rattle.dist_relation.specs.declared.atom.Atom.{Atom}
 use Rattle.dist_repo.specs.Match.{IsUsable}
 use Rattle.dist_repo.specs.PackageList.{PackageList}
@@ -24,3 +25,7 @@ pub record IsBoundOn (r : PackageList) (Allows : List ℕ → Type 0) (version :
   pub is_atom : IsAtomOf r atom
   pub allowed : Allows atom.name
   pub bound : IsSomeAnd atom.bound (λ bound. bound.version ≡ version)
+
+-- the bounds of the repository's atoms have versions, as those of a repository that was read do
+abbrev pub AreBoundsVersions : PackageList → Type 0
+AreBoundsVersions r = (version : List ℕ) → IsBoundOn r (λ name. Unit {0}) version → IsVersion version

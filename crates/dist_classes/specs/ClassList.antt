@@ -3,6 +3,7 @@ use Rattle.std.specs.Prelude.{◌≡◌, ℕ, List, [], ◌∷◌, ◌++◌, IsS
 use Rattle.std.specs.declared.cmp.Ordering.TheVariants.{Equal}
 use Rattle.dist_version.specs.Between.{above_text, below_text}
 use Rattle.dist_version.specs.Order.{version_cmp, IsBelow}
+use Rattle.dist_version.specs.Spelling.{IsVersion}
 use Rattle.dist_classes.specs.Cuts.{Rises, RisesFrom}
 use Rattle.dist_classes.specs.declared.class_value.Class.{Class}
 use Rattle.dist_classes.specs.declared.class_value.Class.TheVariants.{Point, Between, Above, Below, Any}
@@ -65,6 +66,10 @@ example_text (Between a b) = above_text a (length b)
 example_text (Above a) = above_text a 0
 example_text (Below b) = below_text b
 example_text Any = codes "0"
+
+-- the example is a version, and of the class
+abbrev pub HasExample : Class → Type 0
+HasExample class = IsVersion (example_text class) × IsOfClass class (example_text class)
 
 -- the text of a class, by the operators of Debian Policy 7.1
 abbrev pub class_text : Class → List ℕ

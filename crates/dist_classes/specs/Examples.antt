@@ -1,9 +1,13 @@
 -- Worked examples: a library with two bounds on it, a provided interface that moves with its package, and a name that nobody has.
 use Rattle.std.proofs.Common.{◌≡◌, ℕ, zero, suc, ap, sym, subst, ◌∙◌, true, false, List, [], ◌∷◌, None, Some, lit<, inl, inr, refl, arith}
-use Rattle.std.specs.Prelude.{Any, codes, slice_index}
+use Rattle.std.specs.Prelude.{Any, Contains, ◌⊎◌, codes, slice_index}
+use Rattle.std.proofs.lemmas.Cmp.{nat_list_cmp_total}
+use Rattle.std.proofs.lemmas.Map.Keys.{sorted_from_all_adjacent}
 use Rattle.dist_version.specs.Between.{above_text}
 use Rattle.dist_version.specs.Order.{version_cmp, part_cmp, weights_of}
-use Rattle.dist_version.specs.Spelling.{epoch_of, epoch_digits, after_epoch, upstream_of, revision_of}
+use Rattle.dist_version.specs.Faults.{fault_of}
+use Rattle.dist_version.specs.Spelling.{epoch_of, epoch_digits, after_epoch, upstream_of, revision_of, IsVersion}
+use Rattle.dist_version.specs.TextLaws.{version_from_no_fault}
 use Rattle.dist_relation.specs.declared.atom.Atom.{Atom}
 use Rattle.dist_relation.specs.declared.atom.Op.TheVariants.{Lt}
 use Rattle.dist_relation.specs.declared.atom.Provide.{Provide}
@@ -13,8 +17,9 @@ use Rattle.dist_repo.specs.declared.package.Package.{Package}
 use Rattle.dist_classes.specs.Atoms.{IsBoundOn}
 use Rattle.dist_classes.specs.ClassList.{IsOfClass, class_text, classes_above, classes_of_all, example_text}
 use Rattle.dist_classes.specs.Cuts.{IsClusterCut, IsNameOfCluster, RisesFrom}
-use Rattle.dist_classes.specs.NewNames.{IsNewName}
-use Rattle.dist_classes.specs.NewVersion.{AreCarried, IsAt, IsMoving}
+use Rattle.dist_classes.specs.Atoms.{IsDependencyAtom}
+use Rattle.dist_classes.specs.NewNames.{AreNewNames, IsNewName}
+use Rattle.dist_classes.specs.NewVersion.{AreCarried, IsAt, IsMoving, IsOfNewName}
 use Rattle.dist_classes.specs.declared.class_value.Class.TheVariants.{Point, Between, Above, Below}
 use Rattle.dist_repo.specs.Providers.{IsEntryOf, IsProvider}
 
@@ -118,12 +123,16 @@ at_two : IsAt (record { name = codes "abi"; qualifier = Plain; version = Some (c
 unfolding version_cmp part_cmp weights_of epoch_of epoch_digits after_epoch upstream_of revision_of
 at_two = refl
 
+two_is_version : IsVersion (codes "2")
+unfolding fault_of epoch_digits after_epoch upstream_of revision_of
+two_is_version = version_from_no_fault (codes "2") refl
+
 carried_example : AreCarried (codes "1.0") (codes "2") (true ∷ []) (interface ∷ []) (record { name = codes "abi"; qualifier = Plain; version = Some (codes "2") } ∷ [])
 carried_example = (
   record { name = codes "abi"; qualifier = Plain; version = Some (codes "2") },
   [],
   refl,
-  record { name = refl; qualifier = refl; moved = λ _. at_two; stays = λ other. absurd (other moving_example.1) },
+  record { name = refl; qualifier = refl; moved = λ _. at_two; spelled = λ _. two_is_version; stays = λ other. absurd (other moving_example.1) },
   refl,
 )
 
@@ -160,3 +169,65 @@ new_name_example = record {
   named = refl;
   unprovided = no_foo;
 }
+
+only_one : (a atom : Atom) → Contains (a ∷ []) atom → a ≡ atom
+only_one a atom (zero, short, is) = is
+only_one a atom (suc k, short, is) = absurd (omega arith)
+
+item_cases : (atom : Atom) → Any (λ item. Contains item atom) program.depends → (below_two ≡ atom) ⊎ (on_foo ≡ atom)
+item_cases atom (zero, item, short, is, there) = let In : List Atom → Type 0 = λ list. Contains list atom in inl (only_one below_two atom (subst In (sym is) there))
+item_cases atom (suc zero, item, short, is, there) = let In : List Atom → Type 0 = λ list. Contains list atom in inr (only_one on_foo atom (subst In (sym is) there))
+item_cases atom (suc (suc k), item, short, is, there) = absurd (omega arith)
+
+-- an atom of an item is one of the two
+dependency_cases : (atom : Atom) → IsDependencyAtom repository.packages atom → (below_two ≡ atom) ⊎ (on_foo ≡ atom)
+dependency_cases atom (zero, p, short, is, any) =
+    let Has : Package → Type 0 = λ q. Any (λ item. Contains item atom) q.depends in let none = subst Has (sym is) any in absurd (omega (arith, none.2))
+dependency_cases atom (suc zero, p, short, is, any) = let Has : Package → Type 0 = λ q. Any (λ item. Contains item atom) q.depends in item_cases atom (subst Has (sym is) any)
+dependency_cases atom (suc (suc k), p, short, is, any) = absurd (omega arith)
+
+-- the library has its own name
+has_libx : Any (λ p. IsProvider None (codes "libx") p) repository.packages
+has_libx = (0, library, lit< tt, refl, inl refl)
+
+foo_alone : (name : List ℕ) → IsNewName repository name → codes "foo" ≡ name
+foo_alone name new = elim (dependency_cases new.atom new.there) [
+  | inl h ↦
+      let named : codes "libx" ≡ name = ap (λ (a : Atom). a.name) h ∙ new.named in
+      let Has : List ℕ → Type 0 = λ n. Any (λ p. IsProvider None n p) repository.packages in absurd (new.unprovided (subst Has named has_libx))
+  | inr h ↦ ap (λ (a : Atom). a.name) h ∙ new.named
+]
+
+-- it is the only new name
+new_names_example : AreNewNames repository (codes "foo" ∷ [])
+new_names_example = record {
+  rising = sorted_from_all_adjacent nat_list_cmp_total (codes "foo" ∷ []) [] (λ k short. absurd (omega arith));
+  exact = λ name. (
+    (λ there. let New : List ℕ → Type 0 = IsNewName repository in subst New (named name there) new_name_example),
+    λ new. (0, lit< tt, foo_alone name new),
+  );
+}
+  where
+    named : (name : List ℕ) → Contains (codes "foo" ∷ []) name → codes "foo" ≡ name
+    named name (zero, short, is) = is
+    named name (suc k, short, is) = absurd (omega arith)
+
+-- a package of the new name, which may depend on anything
+abbrev invented : Package
+invented = record {
+  name = codes "foo";
+  version = codes "1-0A";
+  source = codes "foo";
+  source_version = codes "1-0A";
+  depends = (below_two ∷ []) ∷ [];
+  conflicts = [];
+  provides = [];
+  essential = false;
+}
+
+invented_is_version : IsVersion (codes "1-0A")
+unfolding fault_of epoch_digits after_epoch upstream_of revision_of
+invented_is_version = version_from_no_fault (codes "1-0A") refl
+
+of_new_name_example : IsOfNewName (codes "foo") invented
+of_new_name_example = record { name = refl; version = invented_is_version; provides = refl }

@@ -19,11 +19,12 @@ IsMoving architecture p entry = IsUsable architecture entry.qualifier × IsAt en
 abbrev pub IsMovedName : Option (List ℕ) → Package → List ℕ → Type 0
 IsMovedName architecture p name = (p.name ≡ name) ⊎ Any (λ entry. IsMoving architecture p entry × (entry.name ≡ name)) p.provides
 
--- an entry at the old version is carried to the new one, and any other entry stays as it is
+-- An entry at the old version is carried to the new one, in any text that spells it. Any other entry stays as it is.
 pub record IsCarried (old new : List ℕ) (entry carried : Provide) : Type 0 where
   pub name : carried.name ≡ entry.name
   pub qualifier : carried.qualifier ≡ entry.qualifier
   pub moved : IsAt entry old → IsAt carried new
+  pub spelled : IsAt entry old → IsSomeAnd carried.version IsVersion
   pub stays : ¬ IsAt entry old → carried.version ≡ entry.version
 
 -- of the old entries those that are kept, each carried, in their order

@@ -1,9 +1,10 @@
 //! A class of versions, an example of it, and its text.
 ghost use Rattle.std.specs.Prelude.{◌≡◌, ◌++◌, IfOk, OnOk, OnErr};
+ghost use Rattle.dist_version.specs.Spelling.{IsVersion};
 ghost use Rattle.dist_relation.specs.Written.{Extends};
-ghost use Rattle.dist_classes.specs.ClassList.{IsOfClass, HasVersions, class_text, example_text};
+ghost use Rattle.dist_classes.specs.ClassList.{HasExample, IsOfClass, HasVersions, class_text, example_text};
 
-use dist_version::Version;
+use dist_version::{Version, versions_are_dense};
 use std::alloc::{AllocError, Global};
 
 /// Versions that no atom of a repository tells apart.
@@ -29,6 +30,28 @@ fn zero(alloc: Global) -> Result<Version, AllocError>
         Ok(version) => Ok(version),
         Err(_) => Err(AllocError),
     }
+}
+
+/// That a class has a version, also where no memory is left to make it: the law `no_class_is_empty` for a class at hand.
+pub fn class_has_example(class: &Class)
+    requires { HasVersions class.now }
+    ensures { HasExample class.now }
+{
+    versions_are_dense();
+    match class {
+        Class::Point(version) => is_version(version),
+        Class::Between(low, _) => is_version(low),
+        Class::Above(low) => is_version(low),
+        Class::Below(_) => {}
+        Class::Any => {}
+    }
+}
+
+/// A version's text is one.
+fn is_version(version: &Version)
+    ensures { IsVersion version.now }
+{
+    let _ = version.text();
 }
 
 /// A version of a class. There is none in one between two versions of which the first is not below the second.

@@ -11,12 +11,13 @@ mod keys;
 mod laws;
 
 pub use class_list::{Classes, class_of};
-pub use class_value::{Class, example, print_class};
+pub use class_value::{Class, class_has_example, example, print_class};
 pub use clusters::repository_clusters;
 pub use cut_finding::{CutFinder, classes_of, classes_of_new_name};
 pub use fresh_names::{Names, new_names};
 pub use laws::{
-    cuts_are_one, new_names_match_alike, new_versions_match_alike, versions_are_in_one_class,
+    cuts_are_one, new_names_are_one, new_names_match_alike, new_versions_match_alike,
+    no_class_is_empty, versions_are_in_one_class,
 };
 
 #[cfg(test)]

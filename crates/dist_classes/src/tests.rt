@@ -59,6 +59,7 @@ fn print_classes(alloc: Global, classes: &Classes, out: &mut Vec<u8>) -> Result<
         let class = classes.get(place);
         print_class(class, out)?;
         out.push(b' ')?;
+        class_has_example(class);
         let example = example(alloc, class)?;
         out.extend_from_slice(example.text())?;
         out.push(b';')?;
@@ -183,6 +184,8 @@ fn versions_are_of_one_class(rt: HostRuntime) -> Result<(), Fail> {
 fn laws_hold(_rt: HostRuntime) {
     versions_are_in_one_class();
     cuts_are_one();
+    no_class_is_empty();
+    new_names_are_one();
     new_versions_match_alike();
     new_names_match_alike();
 }

@@ -8,8 +8,8 @@ use Rattle.std.proofs.lemmas.List.{length-set, length_push, get_or-set_same, get
 use Rattle.std.proofs.lemmas.List.Elements.{All-set, All-push, Contains-append_left, Contains-push, Contains-push_cases}
 use Rattle.std.proofs.lemmas.List.Quantifiers.{all_pairs_push}
 use Rattle.std.proofs.lemmas.Option.{slice_get_within, slice_get-get_or, same_Some}
-use Rattle.dist_cluster.specs.Found.{AreFound, IsIn, number_at}
-use Rattle.dist_cluster.specs.Partition.{least}
+use Rattle.dist_cluster.specs.Found.{AreFound, number_at}
+use Rattle.dist_cluster.specs.Partition.{least, IsIn}
 use Rattle.dist_cluster.specs.Relation.{Member, AreClustered}
 use Rattle.dist_cluster.specs.Total.{member_cmp}
 use Rattle.dist_cluster.proofs.Clustered.{clustered-joined, clustered-turned, number-same, clustered-found, found-itself}

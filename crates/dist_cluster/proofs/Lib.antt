@@ -2,4 +2,5 @@ pub mod Places
 pub mod Clustered
 pub mod FoundLemmas
 pub mod PartitionLemmas
+pub mod SomePartition
 pub mod TopLemmas

@@ -1,5 +1,5 @@
 -- What is found of clusters while the members are gone through, one after another. No public clause cites it.
-use Rattle.std.specs.Prelude.{◌≡◌, ◌↔◌, ℕ, ◌<◌, ◌≤◌, ◌^◌, List, Option, All, AllPairs, Contains, Some, IsSomeAnd, length, slice_get}
+use Rattle.std.specs.Prelude.{◌≡◌, ◌↔◌, ℕ, ◌<◌, ◌≤◌, ◌^◌, List, Option, All, AllPairs, Some, length, slice_get}
 use Rattle.std.specs.BTreeMap.{is_at}
 use Rattle.std.specs.List.Sorted.{IsStrictlyIncreasing}
 use Rattle.std.specs.Map.{lookup}
@@ -7,17 +7,13 @@ use Rattle.std.specs.Cmp.Lexicographic.{slice_cmp}
 use Rattle.std.specs.Ordering.{nat_cmp, ordering_then}
 use Rattle.std.specs.declared.cmp.Ordering.{Ordering}
 use Rattle.dist_version.specs.Order.{version_cmp}
-use Rattle.dist_cluster.specs.Partition.{least}
+use Rattle.dist_cluster.specs.Partition.{least, IsIn}
 use Rattle.dist_cluster.specs.Relation.{Member, AreClustered}
 use Rattle.dist_cluster.specs.Total.{member_cmp}
 
 -- the number that a map has for a member
 abbrev pub number_at : List (Member × ℕ) → Member → Option ℕ
 number_at numbers q = lookup (is_at (member_cmp q)) numbers
-
--- the member of this number is in the cluster of that number
-abbrev pub IsIn : List (List ℕ) → ℕ → ℕ → Type 0
-IsIn clusters c m = IsSomeAnd (slice_get clusters c) (λ cluster. Contains cluster m)
 
 -- what a map of numbers of clusters, the clusters, and the number of the cluster of each member are, for so many first members
 pub record AreFound (members : List Member) (count : ℕ) (numbers : List (Member × ℕ)) (clusters : List (List ℕ)) (cluster_of : List ℕ) : Type 0 where

@@ -1,6 +1,6 @@
 //! Clusters as they are found: the members and the top of each, and for each member its cluster.
 ghost use Rattle.std.specs.Prelude.{◌≡◌, ◌↔◌, ◌<◌, ℕ, Any, Contains, Some, length, slice_get};
-ghost use Rattle.dist_cluster.specs.Found.{IsIn};
+ghost use Rattle.dist_cluster.specs.Partition.{IsIn};
 
 use dist_base::Flat;
 use dist_version::Version;

@@ -1,7 +1,6 @@
 //! Laws of clusters, apart from the work: what holds of all packages. The functions do nothing.
 ghost use Rattle.std.specs.Prelude.{◌≡◌, ◌<◌, ℕ, List, length};
-ghost use Rattle.dist_cluster.specs.Found.{IsIn};
-ghost use Rattle.dist_cluster.specs.Partition.{IsPartition};
+ghost use Rattle.dist_cluster.specs.Partition.{IsIn, IsPartition};
 ghost use Rattle.dist_cluster.specs.Relation.{Member, AreClustered};
 ghost use Rattle.dist_cluster.specs.Top.{IsTop};
 
@@ -12,8 +11,9 @@ pub fn clustered_is_an_equivalence()
     ensures joined { (a b c : Member) → AreClustered a b → AreClustered b c → AreClustered a c }
 {}
 
-/// There is one partition, and in it each member is in one cluster.
+/// All packages have a partition, they have no other, and in it each member is in one cluster.
 pub fn partitions_are_one()
+    ensures there { (members : List Member) → (clusters : List (List ℕ)) × IsPartition members clusters }
     ensures one { (members : List Member) (a b : List (List ℕ)) → IsPartition members a → IsPartition members b → a ≡ b }
     ensures one_cluster { (members : List Member) (clusters : List (List ℕ)) → IsPartition members clusters → (c d m : ℕ) → IsIn clusters c m → IsIn clusters d m → c ≡ d }
 {}

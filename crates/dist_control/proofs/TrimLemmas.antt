@@ -1,7 +1,8 @@
 -- White space at both ends of a text, by the places of the bytes that are not white.
-use Rattle.std.proofs.Common.{◌≡◌, ℕ, zero, suc, ◌+◌, ◌-◌, ◌<◌, ◌≤◌, true, false, not, ◌||◌, cond, eqb, List, [], ◌∷◌, ◌++◌, length, get_or, take, drop, reverse, refl, sym, ap, ◌∙◌, arith}
+use Rattle.std.proofs.Common.{◌≡◌, ℕ, zero, suc, ◌+◌, ◌-◌, ◌<◌, ◌≤◌, true, false, not, ◌||◌, cond, eqb, List, [], ◌∷◌, ◌++◌, length, get_or, take, drop, reverse, refl, sym, ap, ◌∙◌, arith, length-append}
 use Rattle.std.proofs.lemmas.Bool.{cond-true, cond-false, not-true}
-use Rattle.std.proofs.lemmas.List.{get_or-reverse, get_or-take, reverse-append, reverse-reverse, length-reverse, length-drop, length-take-le, take-append-drop, drop_at}
+use Rattle.std.proofs.lemmas.List.{get_or-reverse, get_or-take, reverse-append, reverse-reverse, length-reverse, length-drop, length-take-le, take-append-drop, get_or_append_left, get_or_push, drop_at}
+use Rattle.std.proofs.Math.Seq.{take-append_seam}
 use Rattle.bstr.specs.Bytes.{is_in, not_in}
 use Rattle.dist_control.specs.Bytes.{is_white}
 use Rattle.dist_control.specs.Fields.{trim_start, trim}
@@ -88,3 +89,17 @@ trim-end (first ∷ text) byte is =
       | true ↦ trim-end text byte is
       | false ↦ ap reverse (ap trim_start (reverse-append (first ∷ text) (byte ∷ [])) ∙ cond-true (is_white byte) (trim_start (reverse (first ∷ text))) (byte ∷ reverse (first ∷ text)) is)
     ]
+
+-- of a text that neither begins nor ends with white space, a space in front and a line feed behind are what is cut
+pub trim-between : (text : List ℕ) → 0 < length text → is_white (get_or text 0 0) ≡ false → is_white (get_or text (length text - 1) 0) ≡ false →
+    trim (32 ∷ (text ++ 10 ∷ [])) ≡ text
+trim-between text some first last =
+    let whole = text ++ 10 ∷ [] in
+    let long : length whole ≡ length text + 1 = length-append text (10 ∷ []) in
+    let in_front : (k : ℕ) → k < length text → get_or whole k 0 ≡ get_or text k 0 = λ k h. get_or_append_left text (10 ∷ []) 0 k h in
+    let behind : (j : ℕ) → length text - 1 < j → j < length whole → is_white (get_or whole j 0) ≡ true = λ j above within.
+    ap is_white (get_or_push text 10 0 j (omega arith)) in
+    ap (λ (t : List ℕ). reverse (trim_start (reverse t))) (trim_start-stops whole (omega arith) (ap is_white (in_front 0 some) ∙ first))
+    ∙ trim_end-at whole (length text - 1) (omega arith) behind (ap is_white (in_front (length text - 1) (omega arith)) ∙ last)
+    ∙ ap (λ n. take n whole) (let e : length text - 1 + 1 ≡ length text = omega arith in e)
+    ∙ take-append_seam text (10 ∷ [])

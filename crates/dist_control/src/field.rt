@@ -1,7 +1,7 @@
 //! One field: its field line, its continuation lines, its name and its value.
-ghost use Rattle.std.specs.Prelude.{◌≡◌, ℕ, ◌+◌, ◌<◌, ◌^◌, List, false, length, MatchOption, MatchResult};
+ghost use Rattle.std.specs.Prelude.{◌≡◌, ℕ, ◌+◌, ◌<◌, ◌^◌, List, [], ◌∷◌, ◌++◌, false, length, IsTrue, MatchOption, MatchResult};
 ghost use Rattle.std.specs.List.{list_any, list_all};
-ghost use Rattle.dist_control.specs.Bytes.{is_colon, is_name_byte, is_field_name, is_continuation};
+ghost use Rattle.dist_control.specs.Bytes.{is_colon, is_name_byte, is_field_name, is_continuation, is_white};
 ghost use Rattle.dist_control.specs.Fields.{name_of, trim};
 ghost use Rattle.dist_control.specs.FieldText.{field_text};
 ghost use Rattle.dist_control.specs.Lines.{lines};
@@ -17,8 +17,36 @@ use memchr::memchr;
 /// What is cut off at both ends of a value: space, tab and LF.
 const WHITE: &[u8; 3] = b" \t\n";
 
-/// A text without white space at both ends.
+/// Whether a byte is space, tab or LF.
+fn is_white(byte: u8) -> bool
+    ensures { result ≡ is_white byte }
+{
+    byte == b' ' || byte == b'\t' || byte == b'\n'
+}
+
+/// Whether a text is not empty and has no white space at its ends.
+fn is_trimmed(text: &[u8]) -> bool
+    ensures { IsTrue result → trim (32 ∷ (text.now ++ 10 ∷ [])) ≡ text.now }
+{
+    match (text.first(), text.last()) {
+        (Some(first), Some(last)) => !is_white(*first) && !is_white(*last),
+        _ => false,
+    }
+}
+
+/// A text without white space at both ends. Most fields have one space in front and the end of a line behind: only the
+/// others are looked through, since that makes a table of all bytes first.
 pub fn trimmed(text: &[u8]) -> &[u8]
+    ensures { result.now ≡ trim text.now }
+{
+    match text {
+        [b' ', value @ .., b'\n'] if is_trimmed(value) => value,
+        _ => without_white_ends(text),
+    }
+}
+
+/// A text without white space at both ends.
+fn without_white_ends(text: &[u8]) -> &[u8]
     ensures { result.now ≡ trim text.now }
 {
     let Some(first) = text.find_not_byteset(WHITE) else {

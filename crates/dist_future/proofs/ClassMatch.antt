@@ -142,6 +142,7 @@ moved-carried old new entry version = record {
   name = refl;
   qualifier = refl;
   moved = λ at. let P : Option (List ℕ) → Type 0 = λ o. IsSomeAnd o (λ v. version_cmp v new ≡ Equal) in subst P (sym (moved-at old new entry.version at)) (equal-itself new);
+  spelled = λ at. let P : Option (List ℕ) → Type 0 = λ o. IsSomeAnd o IsVersion in subst P (sym (moved-at old new entry.version at)) version;
   stays = moved-stays old new entry.version;
 }
 

@@ -111,7 +111,7 @@ kept-second = (
   abi (codes "2"),
   [],
   refl,
-  record { name = refl; qualifier = refl; moved = λ at. abi-at-two; stays = λ other. absurd (other abi-at-one) },
+  record { name = refl; qualifier = refl; moved = λ at. abi-at-two; spelled = λ at. two-is-version; stays = λ other. absurd (other abi-at-one) },
   refl,
 )
 

@@ -9,3 +9,4 @@ pub mod PresentSet
 pub mod PresentLaws
 pub mod Gathering
 pub mod PresentExamples
+pub mod HealthExamples

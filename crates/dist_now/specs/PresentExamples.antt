@@ -9,10 +9,10 @@ use Rattle.dist_repo.specs.PackageList.{PackageList, IsPackageAnd}
 use Rattle.dist_repo.specs.declared.package.Package.{Package}
 use Rattle.dist_now.specs.PresentClauses.{Item, Apart, Required, IsBefore, IsClauseFor, IsDemand, IsMetBy}
 
-abbrev any_version : List ℕ → Atom
+abbrev pub any_version : List ℕ → Atom
 any_version name = record { name = name; qualifier = Plain; bound = None }
 
-abbrev made : List ℕ → List (List Atom) → List Atom → Package
+abbrev pub made : List ℕ → List (List Atom) → List Atom → Package
 made name depends conflicts = record {
   name = name;
   version = codes "1";
@@ -24,20 +24,20 @@ made name depends conflicts = record {
   essential = false;
 }
 
-abbrev needing : Package
+abbrev pub needing : Package
 needing = made (codes "a") ((any_version (codes "b") ∷ []) ∷ []) []
 
-abbrev rejecting : Package
+abbrev pub rejecting : Package
 rejecting = made (codes "b") [] (any_version (codes "a") ∷ [])
 
-abbrev two : PackageList
+abbrev pub two : PackageList
 two = record { architecture = None; packages = needing ∷ rejecting ∷ [] }
 
-different : ¬ (codes "a" ≡ codes "b")
+pub different : ¬ (codes "a" ≡ codes "b")
 different names = let first : 97 ≡ 98 = ap (λ (s : List ℕ). get_or s 0 0) names in omega (arith, first)
 
 -- the item of a is met by b alone
-never-itself : ¬ IsMetBy None (any_version (codes "b") ∷ []) needing
+pub never-itself : ¬ IsMetBy None (any_version (codes "b") ∷ []) needing
 never-itself met = at met.0 met.1 met.2 met.3 met.4
   where
     never : ¬ Matches None (any_version (codes "b")) needing

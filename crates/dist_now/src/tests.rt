@@ -10,7 +10,7 @@ use std::alloc::Global;
 use std::test::Fail;
 
 /// A package of version 1 with dependencies, that conflicts with nothing.
-fn package(alloc: Global, name: &str, depends: &str) -> Result<Package, Fail> {
+fn package(alloc: Global, name: &str, depends: &str, essential: bool) -> Result<Package, Fail> {
     Ok(Package {
         name: Name::read(alloc, name.as_bytes())?,
         version: Version::read(alloc, b"1")?,
@@ -19,7 +19,7 @@ fn package(alloc: Global, name: &str, depends: &str) -> Result<Package, Fail> {
         depends: read_depends(alloc, depends.as_bytes())?,
         conflicts: read_atoms(alloc, b"")?,
         provides: read_provides(alloc, b"")?,
-        essential: false,
+        essential,
     })
 }
 
@@ -33,32 +33,38 @@ fn add(builder: &mut Builder, package: Package) -> bool
         .is_ok_and(|added| added == Added::New)
 }
 
-/// Package a, with dependencies, and b.
+/// Package a, with dependencies, and b, which is essential.
 fn two(alloc: Global, depends: &str) -> Result<Repository, Fail> {
     let mut builder = Builder::new(alloc);
-    let first = add(&mut builder, package(alloc, "a", depends)?);
-    let second = add(&mut builder, package(alloc, "b", "")?);
+    let first = add(&mut builder, package(alloc, "a", depends, false)?);
+    let second = add(&mut builder, package(alloc, "b", "", true)?);
     if !first || !second {
         Err("not added")?;
     }
     Ok(builder.finish(None)?)
 }
 
-/// The health of a alone.
-fn health_of_first(alloc: Global, depends: &str) -> Result<Health, Fail> {
+/// The health of a alone, at a mode.
+fn health_of_first(alloc: Global, depends: &str, essential: bool) -> Result<Health, Fail> {
     let repository = two(alloc, depends)?;
     let mut members = Assignment::new(alloc, repository.len())?;
     if repository.len() == 0 || !repository.is_within_size() {
         Err("no package, or too many")?;
     }
     members.set(1, true);
-    Ok(health(&repository, true, &members))
+    Ok(health(&repository, essential, &members))
 }
 
 #[test]
 fn one_member(rt: HostRuntime) -> Result<(), Fail> {
     let alloc = rt.alloc();
-    assert!(rt; health_of_first(alloc, "")? == Health::Healthy);
-    assert!(rt; health_of_first(alloc, "a, b")? == Health::Unmet(0, 1));
+    assert!(rt; health_of_first(alloc, "", false)? == Health::Healthy);
+    assert!(rt; health_of_first(alloc, "a, b", true)? == Health::Unmet(0, 1));
+    Ok(())
+}
+
+#[test]
+fn essential_name(rt: HostRuntime) -> Result<(), Fail> {
+    assert!(rt; health_of_first(rt.alloc(), "", true)? == Health::EssentialMissing(1));
     Ok(())
 }

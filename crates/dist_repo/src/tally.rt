@@ -182,14 +182,9 @@ impl<'a> Tally<'a> {
         requires { (k : ℕ) → Contains (numbers_at self.old name.now) k → k ≤ number }
         ensures { OnOk result (Notes self.old self.new name.now number) }
     {
+        let none = Numbers::new(self.alloc);
         let key = NameKey { bytes: name };
-        if let Some(numbers) = self.providers.get_mut(&key) {
-            return numbers.note(number);
-        }
-        let mut numbers = Numbers::new(self.alloc);
-        numbers.note(number)?;
-        self.providers.insert(key, numbers)?;
-        Ok(())
+        self.providers.entry(key)?.or_insert(none).note(number)
     }
 
     /// Notes the names that the package of a number has or provides.

@@ -1,12 +1,12 @@
 //! Laws of versions, apart from the work: what holds of all texts, and of their order. The functions do nothing.
-ghost use Rattle.std.specs.Prelude.{◌≡◌, ◌<◌, ◌↔◌, ◌++◌, ◌∷◌, ◌⊎◌, [], ℕ, List, None, length, map, pos};
+ghost use Rattle.std.specs.Prelude.{◌≡◌, ◌<◌, ◌≤◌, ◌↔◌, ◌++◌, ◌∷◌, ◌⊎◌, [], ℕ, List, None, length, map, pos};
 ghost use Rattle.std.specs.Cmp.{IsTotalOrder};
 ghost use Rattle.std.specs.declared.cmp.Ordering.TheVariants.{Less, Equal};
 ghost use Rattle.dist_base.specs.Answers.{IsExact};
 ghost use Rattle.dist_version.specs.declared.error.VersionError.TheVariants.{NoMemory};
 ghost use Rattle.dist_version.specs.Spelling.{Parts, Spells, IsVersion, ReadsVersion, parts_of};
 ghost use Rattle.dist_version.specs.Faults.{fault_of, HasFault};
-ghost use Rattle.dist_version.specs.Between.{without_rebuild_text, IsRebuildOf};
+ghost use Rattle.dist_version.specs.Between.{above_text, below_text, without_rebuild_text, IsRebuildOf};
 ghost use Rattle.dist_version.specs.Order.{weight_of, text_start, after_turn, number_of, weights_of, IsLighter, part_cmp, version_cmp, IsBelow};
 
 /// Each text spells one version or has one first fault.
@@ -36,6 +36,14 @@ pub fn order_is_total()
 /// Versions are equal exactly where neither is below the other.
 pub fn equal_is_neither_below()
     ensures { (a b : List ℕ) → (version_cmp a b ≡ Equal) ↔ ((¬ IsBelow a b) × (¬ IsBelow b a)) }
+{}
+
+/// Just above each version there is one, below each greater version whose text has at most so many bytes as there are
+/// tildes. And there is one below each version.
+pub fn versions_are_dense()
+    ensures above { (text : List ℕ) (tildes : ℕ) → IsVersion text → IsVersion (above_text text tildes) × IsBelow text (above_text text tildes) }
+    ensures between { (text other : List ℕ) (tildes : ℕ) → IsVersion text → IsBelow text other → length other ≤ tildes → IsBelow (above_text text tildes) other }
+    ensures below { (text : List ℕ) → IsVersion (below_text text) × IsBelow (below_text text) text }
 {}
 
 /// The suffix of a rebuild is taken off, and nothing else is.

@@ -17,7 +17,8 @@ mod reading;
 
 pub use error::VersionError;
 pub use laws::{
-    equal_is_neither_below, order_is_total, rebuilds_are_taken_off, texts_are_exact, weights_decide,
+    equal_is_neither_below, order_is_total, rebuilds_are_taken_off, texts_are_exact,
+    versions_are_dense, weights_decide,
 };
 use order::compare_parts;
 use reading::{Places, places_of};

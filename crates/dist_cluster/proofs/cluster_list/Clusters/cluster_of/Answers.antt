@@ -1,6 +1,6 @@
 use Rattle.std.proofs.Common.{◌≡◌, ℕ, sym, subst, arith}
 use Rattle.std.specs.Prelude.{Any, Contains}
-use Rattle.dist_cluster.specs.Found.{IsIn}
+use Rattle.dist_cluster.specs.Partition.{IsIn}
 use Rattle.dist_cluster.specs.Top.{ClusterList}
 use Rattle.dist_cluster.proofs.PartitionLemmas.{listed-place, listed-exact}
 use Rattle.dist_cluster.proofs.cluster_list.Clusters.cluster_of.Goals as goal

@@ -1,0 +1,26 @@
+-- What `classes PACKAGES` comes to.
+use Rattle.std.specs.Prelude.{◌≡◌, ℕ, List, Option}
+use Rattle.dist_outside.specs.Files.{Files}
+use Rattle.dist_outside.specs.declared.limits.Limits.{Limits}
+use Rattle.dist_repo.specs.Order.{IsLatestOf}
+use Rattle.dist_repo.specs.PackageList.{PackageList}
+use Rattle.dist_report.specs.ClassesReport.{IsClassesText}
+use Rattle.dist_app.specs.RepositoryStage.{RepositoryStage}
+use Rattle.dist_app.specs.Stages.{Ending, Then, answered}
+use Rattle.dist_app.specs.TextStage.{TextStage}
+use Rattle.dist_app.specs.declared.status.Status.TheVariants.{Done}
+
+-- the report of the classes of the newest versions
+pub record TellsClasses (files : Option Files) (repository : PackageList) (ending : Ending) : Type 0 where
+  pub newest : PackageList
+  pub text : List ℕ
+  pub is_newest : IsLatestOf repository newest
+  pub is_text : IsClassesText newest text
+  pub is : ending ≡ answered files Done text
+
+-- PACKAGES is read and taken apart, and its newest versions are told of.
+abbrev pub ClassesDecides : Option Files → Limits → (packages : List ℕ) → Ending → Type 0
+ClassesDecides files limits packages =
+    Then (TextStage files packages limits.bytes) (λ text.
+    Then (RepositoryStage files limits.stanzas text) (λ repository.
+    TellsClasses files repository))

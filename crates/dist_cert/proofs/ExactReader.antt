@@ -1,0 +1,175 @@
+-- What the text is decides what a reader answers.
+use Rattle.std.proofs.Common.{◌≡◌, ⊎_elim, ℕ, List, Option, Some, None, Result, Ok, Err, refl, ap, sym, subst, ◌∙◌}
+use Rattle.std.proofs.lemmas.Bool.{false≢true}
+use Rattle.dist_outside.specs.declared.trouble.What.TheVariants.{Certificate}
+use Rattle.dist_outside.specs.declared.trouble.WorkError.TheVariants.{TooLarge}
+use Rattle.dist_cert.specs.declared.faults.CertCause.{CertCause}
+use Rattle.dist_cert.specs.declared.faults.CertCause.TheVariants as causes
+use Rattle.dist_cert.specs.declared.faults.ReadCertError.{ReadCertError}
+use Rattle.dist_cert.specs.declared.faults.ReadCertError.TheVariants.{Bad, Work}
+use Rattle.dist_cert.specs.declared.records.CertRecord.{CertRecord}
+use Rattle.dist_cert.specs.declared.records.Header.{Header}
+use Rattle.dist_cert.specs.Form.{HasForm, HasHeaderForm}
+use Rattle.dist_cert.specs.OneVerdict.{one_line}
+use Rattle.dist_cert.specs.Refusal.{BeginsWith}
+use Rattle.dist_cert.specs.FaultsRead.{not_cut, not_nothing}
+use Rattle.dist_cert.specs.Reading.{ReaderView, PassesWhole, IsHeaderNext, HeaderFault, HeaderAnswers, IsRecordNext, IsAtEnd, RecordFault, RecordAnswers}
+use Rattle.dist_cert.specs.ReadBack.{IsGiven}
+use Rattle.dist_cert.specs.ExactReader.{IsRefusedFor, IsTooLarge, ReaderIsExact}
+use Rattle.dist_cert.proofs.OneLine.{clear}
+
+-- a text begins with one line
+one_begin : (rest line more other behind : List ℕ) → BeginsWith rest line more → BeginsWith rest other behind → (line ≡ other) × (more ≡ behind)
+one_begin rest line more other behind a b = one_line line other more behind a.one_line b.one_line (sym a.ended ∙ b.ended)
+
+-- ---- the first line
+
+-- a line with a header has no fault
+header_no_fault : (r : ReaderView) (rest behind : List ℕ) (h : Header) (cause : CertCause) → IsHeaderNext r rest behind h → ¬ HeaderFault r rest cause
+header_no_fault r rest behind h causes.LineTooLong next f = next.limits.line f.1
+header_no_fault r rest behind h causes.Truncated next f = not_cut rest next.line behind next.begins f.1
+header_no_fault r rest behind h causes.BadHeader next f = f.1.3 h (subst (λ l. HasHeaderForm l h) (one_begin rest next.line behind f.1.0 f.1.1 next.begins f.1.2).0 next.form)
+header_no_fault r rest behind h cause next f = f
+
+header_long : (r : ReaderView) (rest : List ℕ) → HeaderFault r rest causes.LineTooLong → (other : CertCause) → HeaderFault r rest other → other ≡ causes.LineTooLong
+header_long r rest f causes.LineTooLong g = refl
+header_long r rest f causes.Truncated g = absurd (g.0.line f.1)
+header_long r rest f causes.BadHeader g = absurd (g.0.line f.1)
+header_long r rest f other g = absurd g
+
+header_cut : (r : ReaderView) (rest : List ℕ) → HeaderFault r rest causes.Truncated → (other : CertCause) → HeaderFault r rest other → other ≡ causes.Truncated
+header_cut r rest f causes.LineTooLong g = absurd (f.0.line g.1)
+header_cut r rest f causes.Truncated g = refl
+header_cut r rest f causes.BadHeader g = absurd (not_cut rest g.1.0 g.1.1 g.1.2 f.1)
+header_cut r rest f other g = absurd g
+
+header_bad : (r : ReaderView) (rest : List ℕ) → HeaderFault r rest causes.BadHeader → (other : CertCause) → HeaderFault r rest other → other ≡ causes.BadHeader
+header_bad r rest f causes.LineTooLong g = absurd (f.0.line g.1)
+header_bad r rest f causes.Truncated g = absurd (not_cut rest f.1.0 f.1.1 f.1.2 g.1)
+header_bad r rest f causes.BadHeader g = refl
+header_bad r rest f other g = absurd g
+
+header_one : (r : ReaderView) (rest : List ℕ) (cause other : CertCause) → HeaderFault r rest cause → HeaderFault r rest other → other ≡ cause
+header_one r rest causes.LineTooLong other f g = header_long r rest f other g
+header_one r rest causes.Truncated other f g = header_cut r rest f other g
+header_one r rest causes.BadHeader other f g = header_bad r rest f other g
+header_one r rest cause other f g = absurd f
+
+header_passes : (r : ReaderView) (rest : List ℕ) (cause : CertCause) → PassesWhole r.limits r.given rest → ¬ HeaderFault r rest cause
+header_passes r rest causes.LineTooLong p f = f.0 p
+header_passes r rest causes.Truncated p f = f.0.whole p
+header_passes r rest causes.BadHeader p f = f.0.whole p
+header_passes r rest cause p f = f
+
+pub header_given : (r : ReaderView) (rest behind more : List ℕ) (h : Header) (answer : Result Header ReadCertError)
+    → IsHeaderNext r rest behind h → HeaderAnswers r rest more answer → IsGiven answer h behind more
+header_given r rest behind more h (Ok other) next a =
+    let same = one_begin rest next.line behind a.line more next.begins a.begins in
+    (clear.one_header a.line other h a.form (subst (λ l. HasHeaderForm l h) same.0 next.form), sym same.1)
+header_given r rest behind more h (Err (Bad fault)) next a = header_no_fault r rest behind h fault.cause next a.0
+header_given r rest behind more h (Err (Work (TooLarge Certificate))) next a = next.limits.whole a.0
+header_given r rest behind more h (Err error) next a = tt
+
+header_refused : (r : ReaderView) (rest more : List ℕ) (cause : CertCause) (answer : Result Header ReadCertError)
+    → HeaderFault r rest cause → HeaderAnswers r rest more answer → IsRefusedFor answer cause
+header_refused r rest more cause (Ok h) f a = header_no_fault r rest more h cause a f
+header_refused r rest more cause (Err (Bad fault)) f a = header_one r rest cause fault.cause f a.0
+header_refused r rest more cause (Err (Work (TooLarge Certificate))) f a = header_passes r rest cause a.0 f
+header_refused r rest more cause (Err error) f a = tt
+
+header_too_large : (r : ReaderView) (rest more : List ℕ) (answer : Result Header ReadCertError)
+    → PassesWhole r.limits r.given rest → HeaderAnswers r rest more answer → IsTooLarge answer
+header_too_large r rest more (Ok h) p a = a.limits.whole p
+header_too_large r rest more (Err (Bad fault)) p a = header_passes r rest fault.cause p a.0
+header_too_large r rest more (Err error) p a = tt
+
+-- ---- later lines
+
+record_no_fault : (r : ReaderView) (rest behind : List ℕ) (step : CertRecord) (cause : CertCause) → IsRecordNext r rest behind step → ¬ RecordFault r rest cause
+record_no_fault r rest behind step causes.LineTooLong next f = next.limits.line f.1
+record_no_fault r rest behind step causes.Truncated next f = not_cut rest next.line behind next.begins f.1.0
+record_no_fault r rest behind step causes.BadRecord next f = ⊎_elim
+    (λ over. false≢true (sym next.not_ended ∙ over))
+    (λ none. none step (subst (λ l. HasForm l step) (one_begin rest next.line behind f.1.0 f.1.1 next.begins f.1.2).0 next.form))
+    f.1.3
+record_no_fault r rest behind step cause next f = f
+
+end_no_fault : (r : ReaderView) (rest : List ℕ) (cause : CertCause) → IsAtEnd r rest → ¬ RecordFault r rest cause
+end_no_fault r rest causes.LineTooLong done f = done.limits.line f.1
+end_no_fault r rest causes.Truncated done f = ⊎_elim (λ left. left done.nothing) (λ going. going done.ended) f.1.1
+end_no_fault r rest causes.BadRecord done f = not_nothing rest f.1.0 f.1.1 f.1.2 done.nothing
+end_no_fault r rest cause done f = f
+
+record_long : (r : ReaderView) (rest : List ℕ) → RecordFault r rest causes.LineTooLong → (other : CertCause) → RecordFault r rest other → other ≡ causes.LineTooLong
+record_long r rest f causes.LineTooLong g = refl
+record_long r rest f causes.Truncated g = absurd (g.0.line f.1)
+record_long r rest f causes.BadRecord g = absurd (g.0.line f.1)
+record_long r rest f other g = absurd g
+
+record_cut : (r : ReaderView) (rest : List ℕ) → RecordFault r rest causes.Truncated → (other : CertCause) → RecordFault r rest other → other ≡ causes.Truncated
+record_cut r rest f causes.LineTooLong g = absurd (f.0.line g.1)
+record_cut r rest f causes.Truncated g = refl
+record_cut r rest f causes.BadRecord g = absurd (not_cut rest g.1.0 g.1.1 g.1.2 f.1.0)
+record_cut r rest f other g = absurd g
+
+record_bad : (r : ReaderView) (rest : List ℕ) → RecordFault r rest causes.BadRecord → (other : CertCause) → RecordFault r rest other → other ≡ causes.BadRecord
+record_bad r rest f causes.LineTooLong g = absurd (f.0.line g.1)
+record_bad r rest f causes.Truncated g = absurd (not_cut rest f.1.0 f.1.1 f.1.2 g.1.0)
+record_bad r rest f causes.BadRecord g = refl
+record_bad r rest f other g = absurd g
+
+record_one : (r : ReaderView) (rest : List ℕ) (cause other : CertCause) → RecordFault r rest cause → RecordFault r rest other → other ≡ cause
+record_one r rest causes.LineTooLong other f g = record_long r rest f other g
+record_one r rest causes.Truncated other f g = record_cut r rest f other g
+record_one r rest causes.BadRecord other f g = record_bad r rest f other g
+record_one r rest cause other f g = absurd f
+
+record_passes : (r : ReaderView) (rest : List ℕ) (cause : CertCause) → PassesWhole r.limits r.given rest → ¬ RecordFault r rest cause
+record_passes r rest causes.LineTooLong p f = f.0 p
+record_passes r rest causes.Truncated p f = f.0.whole p
+record_passes r rest causes.BadRecord p f = f.0.whole p
+record_passes r rest cause p f = f
+
+pub record_given : (r : ReaderView) (rest behind more : List ℕ) (step : CertRecord) (answer : Result (Option CertRecord) ReadCertError)
+    → IsRecordNext r rest behind step → RecordAnswers r rest more answer → IsGiven answer (Some step) behind more
+record_given r rest behind more step (Ok (Some other)) next a =
+    let same = one_begin rest next.line behind a.line more next.begins a.begins in
+    (ap Some (clear.one_record a.line other step a.form (subst (λ l. HasForm l step) same.0 next.form)), sym same.1)
+record_given r rest behind more step (Ok None) next a = absurd (not_nothing rest next.line behind next.begins a.0.nothing)
+record_given r rest behind more step (Err (Bad fault)) next a = record_no_fault r rest behind step fault.cause next a.0
+record_given r rest behind more step (Err (Work (TooLarge Certificate))) next a = next.limits.whole a.0
+record_given r rest behind more step (Err error) next a = tt
+
+pub text_ends : (r : ReaderView) (rest more : List ℕ) (answer : Result (Option CertRecord) ReadCertError)
+    → IsAtEnd r rest → RecordAnswers r rest more answer → IsGiven answer None rest more
+text_ends r rest more (Ok (Some step)) done a = absurd (not_nothing rest a.line more a.begins done.nothing)
+text_ends r rest more (Ok None) done a = (refl, a.1)
+text_ends r rest more (Err (Bad fault)) done a = end_no_fault r rest fault.cause done a.0
+text_ends r rest more (Err (Work (TooLarge Certificate))) done a = done.limits.whole a.0
+text_ends r rest more (Err error) done a = tt
+
+record_refused : (r : ReaderView) (rest more : List ℕ) (cause : CertCause) (answer : Result (Option CertRecord) ReadCertError)
+    → RecordFault r rest cause → RecordAnswers r rest more answer → IsRefusedFor answer cause
+record_refused r rest more cause (Ok (Some step)) f a = record_no_fault r rest more step cause a f
+record_refused r rest more cause (Ok None) f a = end_no_fault r rest cause a.0 f
+record_refused r rest more cause (Err (Bad fault)) f a = record_one r rest cause fault.cause f a.0
+record_refused r rest more cause (Err (Work (TooLarge Certificate))) f a = record_passes r rest cause a.0 f
+record_refused r rest more cause (Err error) f a = tt
+
+record_too_large : (r : ReaderView) (rest more : List ℕ) (answer : Result (Option CertRecord) ReadCertError)
+    → PassesWhole r.limits r.given rest → RecordAnswers r rest more answer → IsTooLarge answer
+record_too_large r rest more (Ok (Some step)) p a = a.limits.whole p
+record_too_large r rest more (Ok None) p a = a.0.limits.whole p
+record_too_large r rest more (Err (Bad fault)) p a = record_passes r rest fault.cause p a.0
+record_too_large r rest more (Err error) p a = tt
+
+pub exact : ReaderIsExact
+exact = record {
+  header_given = header_given;
+  header_refused = header_refused;
+  header_too_large = header_too_large;
+  record_given = record_given;
+  text_ends = text_ends;
+  record_refused = record_refused;
+  record_too_large = record_too_large;
+}

@@ -1,0 +1,314 @@
+-- How a text that is checked goes on, and how it begins.
+use Rattle.std.proofs.Common.{◌≡◌, ◌≢◌, inl, inr, ℕ, ◌+◌, ◌<◌, ◌≤◌, Bool, false, List, [], ◌∷◌, ◌++◌, Option, Some, None, Result, Ok, Err, length, refl, sym, ap, subst, ◌∙◌, arith, length-append}
+use Rattle.std.specs.Result.{IsErrAnd}
+use Rattle.std.proofs.lemmas.Bool.{true≢false, false≢true, cases_lt}
+use Rattle.dist_outside.specs.Counts.{Rose}
+use Rattle.dist_outside.specs.DeskView.{DeskView, OnlyReads}
+use Rattle.dist_outside.specs.declared.limits.Limits.{Limits}
+use Rattle.dist_outside.specs.declared.trouble.What.TheVariants.{Bytes, Stanzas, Variables, Clauses, Literals, Lines, LineLiterals, Certificate, RecordLine}
+use Rattle.dist_outside.specs.declared.trouble.WorkError.{WorkError}
+use Rattle.dist_outside.specs.declared.trouble.WorkError.TheVariants.{ReadFault, WriteFault, TooLarge, NoMemory}
+use Rattle.dist_clause.specs.ClauseList.{literal_count}
+use Rattle.dist_clause.specs.Formula.{Literal}
+use Rattle.dist_derive.specs.ClauseLog.{lines_of}
+use Rattle.dist_repo.specs.Order.{IsInOrder}
+use Rattle.dist_repo.specs.PackageList.{PackageList}
+use Rattle.dist_now.specs.PresentSet.{PassesClauses, PassesLiterals}
+use Rattle.dist_cert.specs.declared.faults.ReadCertError.{ReadCertError}
+use Rattle.dist_cert.specs.declared.faults.ReadCertError.TheVariants.{Bad, Work}
+use Rattle.dist_cert.specs.declared.records.CertRecord.{CertRecord}
+use Rattle.dist_cert.specs.declared.records.CertRecord.TheVariants as lines
+use Rattle.dist_cert.specs.declared.records.Claim.{Claim}
+use Rattle.dist_cert.specs.declared.records.Header.{Header}
+use Rattle.dist_cert.specs.ClearForms.{FormsAreClear}
+use Rattle.dist_cert.specs.Form.{Word, record_text, HasForm, header_text}
+use Rattle.dist_cert.specs.Groups.{clause_of, derived}
+use Rattle.dist_cert.specs.Reading.{ReaderView, WhereTold, PassesWhole, KeepsLimits, IsHeaderNext, IsRecordNext, HeaderAnswers, HeaderCause, GivesHeader, RecordAnswers, RecordCause, GivesRecord}
+use Rattle.dist_cert.specs.Refusal.{Fits, AreFaultless}
+use Rattle.dist_check.specs.Checking.{StopsAtDerived, StopsFirst, TextAnswers, TextCause, OfText}
+use Rattle.dist_check.specs.Present.{matter_of, subject_of}
+use Rattle.dist_check.specs.Since.{IsAppendCause}
+use Rattle.dist_check.specs.Start.{IsStart, StartAnswers}
+use Rattle.dist_check.specs.State.{StateView, Tells, Becomes, StopsAt, LineStops, TakesLine}
+use Rattle.dist_check.proofs.CheckLemmas.{ThereAreClauses, ClausesAreOne, inputs_by, are-inputs, header-refused, header-unfit, large-inputs, starts-faultless, from-ended, ended-push, IsLineNext, step-refused, step-reached, stops-derived, right-push, right-none, forms-push, text-push}
+use Rattle.dist_check.specs.Checked.{TextAt, IsChecked}
+use Rattle.dist_check.proofs.CheckState.{lines-are, numbers-of}
+use Rattle.dist_check.proofs.Next.{told-verdict, becomes-at, starts-at}
+use Rattle.dist_check.proofs.Profile.{IsFaultless}
+use Rattle.std.proofs.lemmas.List.Elements.{All-nil}
+
+-- ---- a line that is read
+
+-- the line that is next, where the text is told
+line-next : (r : PackageList) (limits : Limits) (told : Option (List ℕ)) (h : Header) (reader : ReaderView) (left : Option (List ℕ)) (s : StateView) (x : IsChecked r limits told h reader left s) → reader.given ≤ reader.limits.certificate
+    → (text rest more : List ℕ) → AreFaultless (subject_of r x.inputs) limits text h x.before rest → (step : CertRecord) (next : IsRecordNext reader rest more step) → IsLineNext r x.inputs limits text h x.before rest next.line more step
+line-next r limits told h reader left s x bytes text rest more faultless step next = record {
+  reached = record { are_inputs = x.are_inputs; faultless = faultless; numbers = numbers-of r limits told h reader left s x bytes };
+  keeps = subst (λ n. KeepsLimits limits n rest) x.given (subst (λ l. KeepsLimits l reader.given rest) x.limits_are next.limits);
+  begins = next.begins;
+  form = next.form;
+  open_still = λ there. true≢false (sym (from-ended x.before there) ∙ sym x.ended ∙ next.not_ended);
+}
+
+-- the line of a derived clause that passes a number
+derived-stops : FormsAreClear → (r : PackageList) (limits : Limits) (told : Option (List ℕ)) (h : Header) (reader : ReaderView) (left : Option (List ℕ)) (s : StateView) (x : IsChecked r limits told h reader left s) → (text rest more line : List ℕ)
+    (step : CertRecord) → IsLineNext r x.inputs limits text h x.before rest line more step → IsFaultless (matter_of r h.essential (x.inputs h.essential)) h x.before step → (error : WorkError) → error ≢ NoMemory → StopsAt s step error
+    → (Passes : List (List Literal) → List Literal → Type 0) → ((literals : List Word) → IsAppendCause s.log (clause_of literals) error → Passes (derived x.before) (clause_of literals)) → StopsAtDerived r limits text Passes
+derived-stops clear r limits told h reader left s x text rest more line (lines.Derived literals hints) next faultless error not_memory stops Passes passes =
+    stops-derived clear r x.inputs limits text h x.before rest line more literals hints next faultless Passes (passes literals stops)
+derived-stops clear r limits told h reader left s x text rest more line step next faultless error not_memory stops Passes passes = absurd (not_memory stops)
+
+-- no other number is passed
+no-other : (s : StateView) (step : CertRecord) (error : WorkError) → StopsAt s step error → error ≢ NoMemory → error ≢ TooLarge Lines → error ≢ TooLarge LineLiterals → ⊥
+no-other s (lines.Derived literals hints) (TooLarge Lines) stops memory_not lines_not literals_not = lines_not refl
+no-other s (lines.Derived literals hints) (TooLarge LineLiterals) stops memory_not lines_not literals_not = literals_not refl
+no-other s (lines.Derived literals hints) NoMemory stops memory_not lines_not literals_not = memory_not refl
+no-other s (lines.Derived literals hints) error stops memory_not lines_not literals_not = stops
+no-other s step error stops memory_not lines_not literals_not = memory_not stops
+
+pub line-stops : FormsAreClear → (r : PackageList) (limits : Limits) (told : Option (List ℕ)) (h : Header) (reader next : ReaderView) (left after : Option (List ℕ)) (s : StateView) (old new : DeskView) → IsChecked r limits told h reader left s
+    → reader.given ≤ reader.limits.certificate → (step : CertRecord) → WhereTold left after (λ rest more. RecordAnswers reader rest more (Ok (Some step))) → RecordCause reader next old new (Ok (Some step)) → (line : ℕ) → line ≡ reader.lines + 1
+    → {X : Type 0} (header : X → Header) (claims : X → List Claim) (error : ReadCertError) → LineStops r s step line error → OfText told (λ text. TextAnswers header claims r limits text (Err error))
+line-stops clear r limits told h reader next left after s old new x bytes step answers because line number {X} header claims error stops = by told x.text
+  where
+    faultless-line : Tells r s step None → IsFaultless (matter_of r h.essential (x.inputs h.essential)) h x.before step
+    faultless-line none = told-verdict r (x.inputs h.essential) h x.before s x.strong x.at x.right x.forms step because.0.rules None none
+
+    clauses-are : lines_of s.log ≡ derived x.before
+    clauses-are = lines-are r limits told h reader left s x
+
+    at : (text rest more : List ℕ) → AreFaultless (subject_of r x.inputs) limits text h x.before rest → IsRecordNext reader rest more step → (e : ReadCertError) → LineStops r s step line e → TextAnswers header claims r limits text (Err e)
+    at text rest more faultless after_it (Bad fault) stop =
+        let one = line-next r limits told h reader left s x bytes text rest more faultless step after_it in
+        let first = told-verdict r (x.inputs h.essential) h x.before s x.strong x.at x.right x.forms step because.0.rules (Some fault.cause) stop.1 in
+        inr (step-refused clear r x.inputs limits text h x.before rest after_it.line more step one fault (omega (arith, stop.0, number, x.line_count)) first)
+    at text rest more faultless after_it (Work NoMemory) stop = tt
+    at text rest more faultless after_it (Work (TooLarge Lines)) stop =
+        derived-stops clear r limits told h reader left s x text rest more after_it.line step (line-next r limits told h reader left s x bytes text rest more faultless step after_it) (faultless-line stop.0) (TooLarge Lines) (λ e. cc) stop.1
+        (λ ls clause. length ls ≡ limits.lines) (λ literals passes. omega (arith, passes, x.line_limit, ap (λ (cs : List (List Literal)). length cs) clauses-are))
+    at text rest more faultless after_it (Work (TooLarge LineLiterals)) stop =
+        derived-stops clear r limits told h reader left s x text rest more after_it.line step (line-next r limits told h reader left s x bytes text rest more faultless step after_it) (faultless-line stop.0) (TooLarge LineLiterals) (λ e. cc) stop.1
+        (λ ls clause. (length ls < limits.lines) × (limits.line_literals < literal_count ls + length clause))
+        (λ literals passes. (
+          omega (arith, passes.0, x.line_limit, ap (λ (cs : List (List Literal)). length cs) clauses-are),
+          omega (arith, passes.1, x.line_literal_limit, ap literal_count clauses-are),
+        ))
+    at text rest more faultless after_it (Work ReadFault) stop = absurd (no-other s step ReadFault stop.1 (λ e. cc) (λ e. cc) (λ e. cc))
+    at text rest more faultless after_it (Work WriteFault) stop = no-other s step WriteFault stop.1 (λ e. cc) (λ e. cc) (λ e. cc)
+    at text rest more faultless after_it (Work (TooLarge Bytes)) stop = no-other s step (TooLarge Bytes) stop.1 (λ e. cc) (λ e. cc) (λ e. cc)
+    at text rest more faultless after_it (Work (TooLarge Stanzas)) stop = no-other s step (TooLarge Stanzas) stop.1 (λ e. cc) (λ e. cc) (λ e. cc)
+    at text rest more faultless after_it (Work (TooLarge Variables)) stop = no-other s step (TooLarge Variables) stop.1 (λ e. cc) (λ e. cc) (λ e. cc)
+    at text rest more faultless after_it (Work (TooLarge Clauses)) stop = absurd (no-other s step (TooLarge Clauses) stop.1 (λ e. cc) (λ e. cc) (λ e. cc))
+    at text rest more faultless after_it (Work (TooLarge Literals)) stop = absurd (no-other s step (TooLarge Literals) stop.1 (λ e. cc) (λ e. cc) (λ e. cc))
+    at text rest more faultless after_it (Work (TooLarge Certificate)) stop = absurd (no-other s step (TooLarge Certificate) stop.1 (λ e. cc) (λ e. cc) (λ e. cc))
+    at text rest more faultless after_it (Work (TooLarge RecordLine)) stop = no-other s step (TooLarge RecordLine) stop.1 (λ e. cc) (λ e. cc) (λ e. cc)
+
+    by : (t : Option (List ℕ)) → TextAt r x.inputs limits h x.before t left → OfText t (λ text. TextAnswers header claims r limits text (Err error))
+    by None here = tt
+    by (Some text) here =
+        let answer = subst (λ l. WhereTold l after (λ rest more. RecordAnswers reader rest more (Ok (Some step)))) here.1 answers in at text here.0 answer.0 here.2 answer.2 error stops
+
+-- ---- a line that is taken
+
+pub next-checked : FormsAreClear → (r : PackageList) (limits : Limits) (told : Option (List ℕ)) (h : Header) (reader next : ReaderView) (left after : Option (List ℕ)) (s t : StateView) (old new : DeskView) → IsChecked r limits told h reader left s
+    → reader.given ≤ reader.limits.certificate → (step : CertRecord) → WhereTold left after (λ rest more. RecordAnswers reader rest more (Ok (Some step))) → RecordCause reader next old new (Ok (Some step))
+    → GivesRecord reader next (Ok (Some step)) → TakesLine r s step t → t.log.line_limit ≡ s.log.line_limit → t.log.line_literal_limit ≡ s.log.line_literal_limit → IsChecked r limits told h next after t
+next-checked clear r limits told h reader next left after s t old new x bytes step answers because gives takes line_limit line_literal_limit = record {
+  inputs = x.inputs;
+  are_inputs = x.are_inputs;
+  before = x.before ++ step ∷ [];
+  at = becomes-at r (x.inputs h.essential) h x.before s t x.at step takes.none takes.becomes;
+  right = right-push r (x.inputs h.essential) h x.before step x.right faultless;
+  forms = forms-push x.before step x.forms because.0;
+  strong = x.strong;
+  clauses = x.clauses;
+  literals = x.literals;
+  line_limit = line_limit ∙ x.line_limit;
+  line_literal_limit = line_literal_limit ∙ x.line_literal_limit;
+  within = takes.within;
+  limits_are = ap (λ (v : ReaderView). v.limits) gives ∙ x.limits_are;
+  line_count = omega (arith, ap (λ (v : ReaderView). v.lines) gives, x.line_count, length-append x.before (step ∷ []));
+  given = ap (λ (v : ReaderView). v.given) gives ∙ ap (λ (n : ℕ). n + (length (record_text step) + 1)) x.given ∙ sym (text-push h x.before step);
+  ended = ap (λ (v : ReaderView). v.ended) gives ∙ sym (ended-push x.before step (sym x.ended ∙ because.1));
+  text = by told x.text;
+}
+  where
+    faultless : IsFaultless (matter_of r h.essential (x.inputs h.essential)) h x.before step
+    faultless = told-verdict r (x.inputs h.essential) h x.before s x.strong x.at x.right x.forms step because.0.rules None takes.none
+
+    by : (o : Option (List ℕ)) → TextAt r x.inputs limits h x.before o left → TextAt r x.inputs limits h (x.before ++ step ∷ []) o after
+    by None here = tt
+    by (Some text) here =
+        let answer = subst (λ l. WhereTold l after (λ rest more. RecordAnswers reader rest more (Ok (Some step)))) here.1 answers in
+        let one = line-next r limits told h reader left s x bytes text here.0 answer.0 here.2 step answer.2 in
+        (answer.0, answer.1, step-reached clear r x.inputs limits text h x.before here.0 answer.2.line answer.0 step one faultless)
+
+-- a line that is taken leaves the limits of derived lines
+pub limits-stay : (r : PackageList) (s t : StateView) (step : CertRecord) → Tells r s step None → Becomes s step t → (t.log.line_limit ≡ s.log.line_limit) × (t.log.line_literal_limit ≡ s.log.line_literal_limit)
+limits-stay r s t (lines.Question literals) told is = (ap (λ (v : StateView). v.log.line_limit) is, ap (λ (v : StateView). v.log.line_literal_limit) is)
+limits-stay r s t (lines.Derived literals hints) told is = (ap (λ (v : StateView). v.log.line_limit) is, ap (λ (v : StateView). v.log.line_literal_limit) is)
+limits-stay r s t (lines.Refuted hints) told is = (ap (λ (v : StateView). v.log.line_limit) is.rest, ap (λ (v : StateView). v.log.line_literal_limit) is.rest)
+limits-stay r s t lines.Undecided told is = (ap (λ (v : StateView). v.log.line_limit) is.rest, ap (λ (v : StateView). v.log.line_literal_limit) is.rest)
+limits-stay r s t (lines.Installation variables) told is = (ap (λ (v : StateView). v.log.line_limit) is, ap (λ (v : StateView). v.log.line_literal_limit) is)
+limits-stay r s t (lines.NotInstallable p) told is = (ap (λ (v : StateView). v.log.line_limit) is, ap (λ (v : StateView). v.log.line_literal_limit) is)
+limits-stay r s t (lines.Unknown p) told is = (ap (λ (v : StateView). v.log.line_limit) is, ap (λ (v : StateView). v.log.line_literal_limit) is)
+limits-stay r s t (lines.Strong p named on undecided) told is = (ap (λ (v : StateView). v.log.line_limit) is, ap (λ (v : StateView). v.log.line_literal_limit) is)
+limits-stay r s t (lines.Outdated p) told is = absurd (false≢true told.1)
+limits-stay r s t (lines.Alive p i) told is = absurd (false≢true told.1)
+limits-stay r s t (lines.Challenged p named by undecided) told is = absurd (false≢true told.1)
+limits-stay r s t lines.End told is = (ap (λ (v : StateView). v.log.line_limit) is, ap (λ (v : StateView). v.log.line_literal_limit) is)
+
+-- the packages stay
+pub packages-stay : (r : PackageList) (s t : StateView) (step : CertRecord) → Tells r s step None → Becomes s step t → t.packages ≡ s.packages
+packages-stay r s t (lines.Question literals) told is = ap (λ (v : StateView). v.packages) is
+packages-stay r s t (lines.Derived literals hints) told is = ap (λ (v : StateView). v.packages) is
+packages-stay r s t (lines.Refuted hints) told is = ap (λ (v : StateView). v.packages) is.rest
+packages-stay r s t lines.Undecided told is = ap (λ (v : StateView). v.packages) is.rest
+packages-stay r s t (lines.Installation variables) told is = ap (λ (v : StateView). v.packages) is
+packages-stay r s t (lines.NotInstallable p) told is = ap (λ (v : StateView). v.packages) is
+packages-stay r s t (lines.Unknown p) told is = ap (λ (v : StateView). v.packages) is
+packages-stay r s t (lines.Strong p named on undecided) told is = ap (λ (v : StateView). v.packages) is
+packages-stay r s t (lines.Outdated p) told is = absurd (false≢true told.1)
+packages-stay r s t (lines.Alive p i) told is = absurd (false≢true told.1)
+packages-stay r s t (lines.Challenged p named by undecided) told is = absurd (false≢true told.1)
+packages-stay r s t lines.End told is = ap (λ (v : StateView). v.packages) is
+
+-- ---- the first line
+
+-- the reader before it
+abbrev pub new_reader : Limits → ReaderView
+new_reader limits = record { limits = limits; held = []; given = 0; lines = 0; ended = false }
+
+pub header-stops : ThereAreClauses → (r : PackageList) → IsInOrder r.packages → (limits : Limits) (reader next : ReaderView) (told left after : Option (List ℕ)) (old new : DeskView) → reader ≡ new_reader limits → left ≡ told
+    → {X : Type 0} (header : X → Header) (claims : X → List Claim) (error : ReadCertError) → WhereTold left after (λ rest more. HeaderAnswers reader rest more (Err error)) → HeaderCause reader next old new (Err error)
+    → OfText told (λ text. TextAnswers header claims r limits text (Err error))
+header-stops there r ordered limits reader next told left after old new is same {X} header claims error answers cause = by told same
+  where
+    whole : (text : List ℕ) → PassesWhole reader.limits reader.given text → PassesWhole limits 0 text
+    whole text passes = subst (λ v. PassesWhole v.limits v.given text) is passes
+
+    at : (text more : List ℕ) (e : ReadCertError) → HeaderAnswers reader text more (Err e) → HeaderCause reader next old new (Err e) → TextAnswers header claims r limits text (Err e)
+    at text more (Bad fault) answer because = inl (
+      omega (arith, because.0, ap (λ (v : ReaderView). v.lines) is),
+      header-refused there r ordered limits reader (ap (λ (v : ReaderView). v.limits) is) (ap (λ (v : ReaderView). v.given) is) text fault.cause answer.0,
+    )
+    at text more (Work ReadFault) answer because = tt
+    at text more (Work NoMemory) answer because = tt
+    at text more (Work WriteFault) answer because = because
+    at text more (Work (TooLarge Certificate)) answer because = inl (whole text answer.0)
+    at text more (Work (TooLarge what)) answer because = absurd because
+
+    by : (t : Option (List ℕ)) → left ≡ t → OfText t (λ text. TextAnswers header claims r limits text (Err error))
+    by None e = tt
+    by (Some text) e = let answer = subst (λ l. WhereTold l after (λ rest more. HeaderAnswers reader rest more (Err error))) e answers in at text answer.0 error answer.2 cause
+
+pub start-stops : FormsAreClear → ThereAreClauses → ClausesAreOne → (r : PackageList) → IsInOrder r.packages → (limits : Limits) (reader : ReaderView) (told left after : Option (List ℕ)) (h : Header) → reader ≡ new_reader limits → left ≡ told
+    → {X : Type 0} (header : X → Header) (claims : X → List Claim) (error : ReadCertError) → WhereTold left after (λ rest more. HeaderAnswers reader rest more (Ok h)) → StartAnswers r limits h (Err error)
+    → OfText told (λ text. TextAnswers header claims r limits text (Err error))
+start-stops clear there one r ordered limits reader told left after h is same {X} header claims error answers stops = by told same
+  where
+    keeps : (text more : List ℕ) → IsHeaderNext reader text more h → KeepsLimits limits 0 text
+    keeps text more next = subst (λ v. KeepsLimits v.limits v.given text) is next.limits
+
+    at : (text more : List ℕ) → IsHeaderNext reader text more h → (e : ReadCertError) → StartAnswers r limits h (Err e) → TextAnswers header claims r limits text (Err e)
+    at text more next (Bad fault) stop = inl (
+      stop.0,
+      subst (StopsFirst r limits text) (sym stop.1) (header-unfit clear there one r ordered limits text next.line more h (keeps text more next) next.begins next.form stop.2),
+    )
+    at text more next (Work (TooLarge Clauses)) stop = large-inputs r limits text next.line more h (keeps text more next) next.begins next.form stop.0 (λ essential. PassesClauses r essential limits.clauses limits.literals) stop.1
+    at text more next (Work (TooLarge Literals)) stop = large-inputs r limits text next.line more h (keeps text more next) next.begins next.form stop.0 (λ essential. PassesLiterals r essential limits.clauses limits.literals) stop.1
+    at text more next (Work NoMemory) stop = tt
+    at text more next (Work error) stop = absurd stop
+
+    by : (t : Option (List ℕ)) → left ≡ t → OfText t (λ text. TextAnswers header claims r limits text (Err error))
+    by None e = tt
+    by (Some text) e = let answer = subst (λ l. WhereTold l after (λ rest more. HeaderAnswers reader rest more (Ok h))) e answers in at text answer.0 answer.2 error stops
+
+pub starts-checked : FormsAreClear → (there : ThereAreClauses) → ClausesAreOne → (r : PackageList) → IsInOrder r.packages → (limits : Limits) (reader next : ReaderView) (told left after : Option (List ℕ)) (h : Header) (s : StateView)
+    → reader ≡ new_reader limits → left ≡ told → WhereTold left after (λ rest more. HeaderAnswers reader rest more (Ok h)) → GivesHeader reader next (Ok h) → IsStart r limits h s → IsChecked r limits told h next after s
+starts-checked clear there one r ordered limits reader next told left after h s is same answers gives start = record {
+  inputs = inputs;
+  are_inputs = are-inputs there r ordered;
+  before = [];
+  at = starts-at r (inputs h.essential) h s start.essential start.limit start.packages (sym clauses) (start.inputs ∙ sym size) start.variables start.window start.question start.next start.group_is start.claims;
+  right = right-none r (inputs h.essential) h;
+  forms = All-nil (λ step. HasForm (record_text step) step);
+  strong = start.strong;
+  clauses = omega (arith, start.clauses_kept, size);
+  literals = omega (arith, start.literals_kept, ap literal_count clauses);
+  line_limit = start.line_limit;
+  line_literal_limit = start.line_literal_limit;
+  within = start.within;
+  limits_are = ap (λ (v : ReaderView). v.limits) gives ∙ ap (λ (v : ReaderView). v.limits) is;
+  line_count = omega (arith, ap (λ (v : ReaderView). v.lines) gives, ap (λ (v : ReaderView). v.lines) is);
+  given = omega (arith, ap (λ (v : ReaderView). v.given) gives, ap (λ (v : ReaderView). v.given) is, length-append (header_text h) (10 ∷ []));
+  ended = ap (λ (v : ReaderView). v.ended) gives ∙ ap (λ (v : ReaderView). v.ended) is;
+  text = by told same;
+}
+  where
+    inputs : Bool → List (List Literal)
+    inputs = inputs_by there r ordered
+
+    clauses : inputs h.essential ≡ s.log.clauses
+    clauses = one r h.essential s.log.clauses (inputs h.essential) start.are_clauses (are-inputs there r ordered h.essential)
+
+    size : length (inputs h.essential) ≡ length s.log.clauses
+    size = ap (λ (cs : List (List Literal)). length cs) clauses
+
+    fits : Fits (subject_of r inputs) h
+    fits = record { taken = start.strong; packages = start.numbers.packages; variables = start.numbers.variables; clauses = start.numbers.clause_count ∙ sym size }
+
+    by : (t : Option (List ℕ)) → left ≡ t → TextAt r inputs limits h [] t after
+    by None e = tt
+    by (Some text) e =
+        let answer = subst (λ l. WhereTold l after (λ rest more. HeaderAnswers reader rest more (Ok h))) e answers in
+        let next_is = answer.2 in
+        (answer.0, answer.1, starts-faultless clear r inputs limits text next_is.line answer.0 h (subst (λ v. KeepsLimits v.limits v.given text) is next_is.limits) next_is.begins next_is.form fits)
+
+-- ---- causes, whatever is told
+
+pub rose-from : (a b c : ℕ) → a ≤ b → b ≤ c → Rose b c → Rose a c
+rose-from a b c first second rose = elim rose [
+  | inl less ↦ inl (omega arith)
+  | inr full ↦ elim (cases_lt a c) [
+    | inl less ↦ inl less
+    | inr most ↦ inr (omega arith)
+  ]
+]
+
+pub next-cause : (reader next : ReaderView) (entry old new : DeskView) (error : ReadCertError) → OnlyReads entry old → OnlyReads old new → RecordCause reader next old new (Err error) → TextCause entry new error
+next-cause reader next entry old new (Bad fault) first second cause = tt
+next-cause reader next entry old new (Work ReadFault) first second cause = rose-from entry.read_faults old.read_faults new.read_faults first.read_faults_stand second.read_faults_stand cause
+next-cause reader next entry old new (Work WriteFault) first second cause = cause
+next-cause reader next entry old new (Work error) first second cause = tt
+
+pub header-cause : (reader next : ReaderView) (old new : DeskView) (error : ReadCertError) → HeaderCause reader next old new (Err error) → TextCause old new error
+header-cause reader next old new (Bad fault) cause = tt
+header-cause reader next old new (Work ReadFault) cause = cause
+header-cause reader next old new (Work WriteFault) cause = cause
+header-cause reader next old new (Work error) cause = tt
+
+pub start-cause : (r : PackageList) (limits : Limits) (h : Header) (old new : DeskView) (error : ReadCertError) → StartAnswers r limits h (Err error) → TextCause old new error
+start-cause r limits h old new (Bad fault) stops = tt
+start-cause r limits h old new (Work ReadFault) stops = absurd stops
+start-cause r limits h old new (Work WriteFault) stops = stops
+start-cause r limits h old new (Work error) stops = tt
+
+pub line-cause : (r : PackageList) (s : StateView) (step : CertRecord) (line : ℕ) (old new : DeskView) (error : ReadCertError) → LineStops r s step line error → TextCause old new error
+line-cause r s step line old new (Bad fault) stops = tt
+line-cause r s step line old new (Work ReadFault) stops = absurd (no-other s step ReadFault stops.1 (λ e. cc) (λ e. cc) (λ e. cc))
+line-cause r s step line old new (Work WriteFault) stops = no-other s step WriteFault stops.1 (λ e. cc) (λ e. cc) (λ e. cc)
+line-cause r s step line old new (Work error) stops = tt
+
+-- what the exit of a `?` returns
+pub by-exit : {X : Type 0} (P : Result X ReadCertError → Type 0) (r : Result X ReadCertError) (error : ReadCertError) → IsErrAnd r (λ e. e ≡ error) → P (Err error) → P r
+by-exit P (Ok x) error is holds = absurd is
+by-exit P (Err e) error is holds = subst (λ y. P (Err y)) (sym is) holds
+
+pub reads-on : (a b c : DeskView) → OnlyReads a b → OnlyReads b c → OnlyReads a c
+reads-on a b c first second = record {
+  files_stay = second.files_stay ∙ first.files_stay;
+  not_writing = second.not_writing;
+  read_faults_stand = omega (arith, first.read_faults_stand, second.read_faults_stand);
+  write_faults_stay = second.write_faults_stay ∙ first.write_faults_stay;
+}

@@ -1,0 +1,176 @@
+-- The healthy installations of a repository by the variables of its packages.
+use Rattle.std.proofs.Common.{◌≡◌, inl, inr, ℕ, zero, suc, ◌+◌, ◌-◌, ◌<◌, ◌≤◌, ◌++◌, replicate, set, ◌==◌, ◌||◌, Bool, true, false, List, [], ◌∷◌, length, get_or, Some, Less, refl, sym, ap, subst, ◌∙◌, arith, slice_get}
+use Rattle.std.specs.List.{Contains, list_any, range_with_len}
+use Rattle.std.specs.Ordering.{ordering_then}
+use Rattle.std.proofs.lemmas.Bool.{cases_order, eq-eqb, ne_eqb, or_right, cases_eq}
+use Rattle.std.proofs.lemmas.Cmp.{tied_itself, nat_cmp_total, lists_total}
+use Rattle.std.proofs.lemmas.List.{length-map, ext_get_or, length-replicate, get_or-replicate, length-set, get_or-set_same, get_or-set_other}
+use Rattle.std.proofs.lemmas.List.FromFn.{get_or-map-range_with_len, length-range_with_len}
+use Rattle.std.proofs.lemmas.Option.{get_or_from_slice_get, slice_get_within}
+use Rattle.dist_version.specs.Order.{version_cmp}
+use Rattle.dist_version.specs.OrderLaws.{version_total}
+use Rattle.dist_clause.specs.Formula.{Literal, value_of, IsModel}
+use Rattle.dist_repo.specs.Order.{IsInOrder, package_cmp}
+use Rattle.dist_repo.specs.PackageList.{PackageList}
+use Rattle.dist_repo.specs.Strong.{IsInstallation}
+use Rattle.dist_repo.specs.declared.package.Package.{Package}
+use Rattle.dist_now.specs.Members.{members_of}
+use Rattle.dist_now.specs.PresentLaws.{AreModelsInstallations, AreSamePackages}
+use Rattle.dist_check.specs.Present.{truth_of, packages_of}
+use Rattle.dist_check.proofs.Told.{model-told, IsTold}
+use Rattle.dist_check.specs.Rising.{is_among}
+use Rattle.dist_check.proofs.RisingLemmas.{any-from, from-any}
+use Rattle.dist_check.proofs.Places.{contains-cases, contains-later}
+
+-- ---- truth values
+
+pub truth-length : (n : ℕ) (variables : List ℕ) → length (truth_of n variables) ≡ n
+truth-length n variables = length-map (range_with_len 1 n) (λ variable. list_any (λ v. variable == v) variables) ∙ length-range_with_len 1 n
+
+pub truth-at : (n k : ℕ) (variables : List ℕ) → k < n → get_or (truth_of n variables) k false ≡ list_any (λ v. k + 1 == v) variables
+truth-at n k variables within = get_or-map-range_with_len (λ variable. list_any (λ v. variable == v) variables) 1 n k (k + 1) false within (omega arith)
+
+-- no package is there
+pub truth-none : (n : ℕ) → truth_of n [] ≡ replicate n false
+truth-none n =
+    ext_get_or false (truth_of n []) (replicate n false) (truth-length n [] ∙ sym (length-replicate n false)) (λ k within.
+    let less : k < n = omega (arith, within, truth-length n []) in truth-at n k [] less ∙ sym (get_or-replicate n k false false less))
+
+among-push : (variables : List ℕ) (v q : ℕ) → is_among (variables ++ v ∷ []) q ≡ (is_among variables q || (q == v))
+among-push [] v q = or-false (q == v)
+  where
+    or-false : (b : Bool) → (b || false) ≡ (false || b)
+    or-false true = refl
+    or-false false = refl
+among-push (x ∷ variables) v q = ap (λ (b : Bool). (q == x) || b) (among-push variables v q) ∙ sym (or-assoc (q == x) (is_among variables q) (q == v))
+  where
+    or-assoc : (a b c : Bool) → ((a || b) || c) ≡ (a || (b || c))
+    or-assoc true b c = refl
+    or-assoc false b c = refl
+
+or-none : (a b : Bool) → b ≡ false → (a || b) ≡ a
+or-none true b e = refl
+or-none false b e = e
+
+-- one package more
+pub truth-more : (n : ℕ) (variables : List ℕ) (v : ℕ) → 1 ≤ v → v ≤ n → set (truth_of n variables) (v - 1) true ≡ truth_of n (variables ++ v ∷ [])
+truth-more n variables v from upto =
+    ext_get_or false (set (truth_of n variables) (v - 1) true) (truth_of n (variables ++ v ∷ []))
+    (length-set (truth_of n variables) (v - 1) true ∙ truth-length n variables ∙ sym (truth-length n (variables ++ v ∷ [])))
+    (λ k within. at k (omega (arith, within, length-set (truth_of n variables) (v - 1) true, truth-length n variables)))
+  where
+    at : (k : ℕ) → k < n → get_or (set (truth_of n variables) (v - 1) true) k false ≡ get_or (truth_of n (variables ++ v ∷ [])) k false
+    at k less =
+        let here = truth-at n k (variables ++ v ∷ []) less ∙ among-push variables v (k + 1) in
+        elim (cases_eq k (v - 1)) [
+          | inl same ↦
+              let place : v - 1 < length (truth_of n variables) = omega (arith, truth-length n variables) in
+              let number : k + 1 ≡ v = omega arith in
+              ap (λ (i : ℕ). get_or (set (truth_of n variables) (v - 1) true) i false) same ∙ get_or-set_same (truth_of n variables) (v - 1) true false place
+              ∙ sym (here ∙ or_right (is_among variables (k + 1)) (k + 1 == v) (eq-eqb (k + 1) v number))
+          | inr other ↦
+              get_or-set_other (truth_of n variables) (v - 1) k true false other ∙ truth-at n k variables less
+              ∙ sym (here ∙ or-none (is_among variables (k + 1)) (k + 1 == v) (ne_eqb (k + 1) v (λ e. other (omega (arith, e)))))
+        ]
+
+-- ---- members
+
+pub member-from : (packages : List Package) (flags : List Bool) (k : ℕ) (p : Package) → slice_get packages k ≡ Some p → get_or flags k false ≡ true → Contains (members_of packages flags) p
+member-from [] flags k p is holds = cc
+member-from (q ∷ packages) [] k p is holds = cc
+member-from (q ∷ packages) (true ∷ flags) zero p is holds = (0, omega arith, cc)
+member-from (q ∷ packages) (false ∷ flags) zero p is holds = cc
+member-from (q ∷ packages) (true ∷ flags) (suc k) p is holds = contains-later q (members_of packages flags) p (member-from packages flags k p is holds)
+member-from (q ∷ packages) (false ∷ flags) (suc k) p is holds = member-from packages flags k p is holds
+
+pub record IsMemberAt (packages : List Package) (flags : List Bool) (p : Package) : Type 0 where
+  pub place : ℕ
+  pub is : slice_get packages place ≡ Some p
+  pub holds : get_or flags place false ≡ true
+
+next-member : (q : Package) (packages : List Package) (b : Bool) (flags : List Bool) (p : Package) → IsMemberAt packages flags p → IsMemberAt (q ∷ packages) (b ∷ flags) p
+next-member q packages b flags p m = record { place = suc m.place; is = m.is; holds = m.holds }
+
+pub member-place : (packages : List Package) (flags : List Bool) (p : Package) → Contains (members_of packages flags) p → IsMemberAt packages flags p
+member-place [] flags p there = absurd (omega (arith, there.1))
+member-place (q ∷ packages) [] p there = absurd (omega (arith, there.1))
+member-place (q ∷ packages) (true ∷ flags) p there = elim (contains-cases q (members_of packages flags) p there) [
+  | inl here ↦ record { place = 0; is = ap (λ (x : Package). Some x) here; holds = refl }
+  | inr later ↦ next-member q packages true flags p (member-place packages flags p later)
+]
+member-place (q ∷ packages) (false ∷ flags) p there = next-member q packages false flags p (member-place packages flags p there)
+
+never-less : (p : Package) → ¬ (package_cmp p p ≡ Less)
+never-less p less =
+    let name = tied_itself (lists_total nat_cmp_total) p.name in
+    let version = tied_itself version_total p.version in
+    let both = ap (λ o. ordering_then o (version_cmp p.version p.version)) name ∙ version in
+    cc
+
+-- no package stands twice
+pub one-place : (packages : List Package) (i j : ℕ) (p : Package) → IsInOrder packages → slice_get packages i ≡ Some p → slice_get packages j ≡ Some p → i ≡ j
+one-place packages i j p ordered at_i at_j = elim (cases_order i j) [
+  | inl same ↦ same
+  | inr (inl less) ↦ absurd (apart i j less at_i at_j)
+  | inr (inr more) ↦ absurd (apart j i more at_j at_i)
+]
+  where
+    apart : (a b : ℕ) → a < b → slice_get packages a ≡ Some p → slice_get packages b ≡ Some p → ⊥
+    apart a b less at_a at_b =
+        let below : package_cmp (get_or packages a p) (get_or packages b p) ≡ Less = ordered a b p less (slice_get_within packages b p at_b) in
+        never-less p (subst (λ x. package_cmp p x ≡ Less) (get_or_from_slice_get packages b p p at_b) (subst (λ x. package_cmp x (get_or packages b p) ≡ Less) (get_or_from_slice_get packages a p p at_a) below))
+
+pub member-at : (packages : List Package) (flags : List Bool) (k : ℕ) (p : Package) → IsInOrder packages → slice_get packages k ≡ Some p → Contains (members_of packages flags) p → get_or flags k false ≡ true
+member-at packages flags k p ordered is there =
+    let m = member-place packages flags p there in
+    subst (λ n. get_or flags n false ≡ true) (one-place packages m.place k p ordered m.is is) m.holds
+
+-- ---- the packages of variables
+
+pub package-there : (packages : List Package) (variables : List ℕ) (k : ℕ) (p : Package) → slice_get packages k ≡ Some p → Contains variables (k + 1) → Contains (packages_of packages variables) p
+package-there packages variables k p is there =
+    member-from packages (truth_of (length packages) variables) k p is
+    (truth-at (length packages) k variables (slice_get_within packages k p is) ∙ any-from (k + 1) variables there)
+
+pub variable-there : (packages : List Package) (variables : List ℕ) (k : ℕ) (p : Package) → IsInOrder packages → slice_get packages k ≡ Some p → Contains (packages_of packages variables) p → Contains variables (k + 1)
+variable-there packages variables k p ordered is there =
+    from-any (k + 1) variables (sym (truth-at (length packages) k variables (slice_get_within packages k p is))
+    ∙ member-at packages (truth_of (length packages) variables) k p ordered is there)
+
+-- ---- healthy installations
+
+both-flags : (a b : Bool) → (a ≡ true → b ≡ true) → (b ≡ true → a ≡ true) → a ≡ b
+both-flags true b to back = sym (to refl)
+both-flags false true to back = back refl
+both-flags false false to back = refl
+
+-- one truth value each, with the same members
+same-flags : (packages : List Package) (a b : List Bool) → IsInOrder packages → length a ≡ length packages → length b ≡ length packages
+    → AreSamePackages (members_of packages a) (members_of packages b) → a ≡ b
+same-flags packages a b ordered size_a size_b same = ext_get_or false a b (size_a ∙ sym size_b) (λ k within. at k (slice_get-some k (omega (arith, within, size_a))))
+  where
+    slice_get-some : (k : ℕ) → k < length packages → (p : Package) × (slice_get packages k ≡ Some p)
+    slice_get-some k within = some packages k within
+      where
+        some : (xs : List Package) (n : ℕ) → n < length xs → (p : Package) × (slice_get xs n ≡ Some p)
+        some [] n short = absurd (omega (arith, short))
+        some (x ∷ xs) zero short = (x, refl)
+        some (x ∷ xs) (suc n) short = some xs n (omega (arith, short))
+
+    at : (k : ℕ) → (p : Package) × (slice_get packages k ≡ Some p) → get_or a k false ≡ get_or b k false
+    at k here = both-flags (get_or a k false) (get_or b k false)
+        (λ holds. member-at packages b k here.0 ordered here.1 ((same here.0).0 (member-from packages a k here.0 here.1 holds)))
+        (λ holds. member-at packages a k here.0 ordered here.1 ((same here.0).1 (member-from packages b k here.0 here.1 holds)))
+
+pub healthy-told : (r : PackageList) (essential : Bool) (clauses : List (List Literal)) (flags : List Bool) → IsInOrder r.packages → length flags ≡ length r.packages → AreModelsInstallations r essential clauses
+    → IsTold (IsInstallation essential r (members_of r.packages flags))
+healthy-told r essential clauses flags ordered size models = elim (model-told (value_of flags) clauses) [
+  | inl model ↦ inl (models.healthy flags (record { one_each = size; model = model }))
+  | inr none ↦ inr (λ healthy.
+      let w = models.all (members_of r.packages flags) healthy in
+      none (subst (λ f. IsModel (value_of f) clauses) (sym (same-flags r.packages flags w.0 ordered size w.1.one_each w.2)) w.1.model))
+]
+
+pub packages-told : (r : PackageList) (essential : Bool) (clauses : List (List Literal)) (variables : List ℕ) → IsInOrder r.packages → AreModelsInstallations r essential clauses
+    → IsTold (IsInstallation essential r (packages_of r.packages variables))
+packages-told r essential clauses variables ordered models = healthy-told r essential clauses (truth_of (length r.packages) variables) ordered (truth-length (length r.packages) variables) models

@@ -1,0 +1,323 @@
+-- What is kept, with one line more.
+use Rattle.std.proofs.Common.{◌≡◌, ◌≢◌, ◌⊎◌, inl, inr, ℕ, zero, suc, ◌+◌, ◌-◌, ◌<◌, ◌↔◌, ◌==◌, Bool, true, false, List, [], ◌∷◌, ◌++◌, Option, Some, None, length, drop, filter, get_or, refl, sym, ap, subst, ◌∙◌, arith, length-append, if◌then◌else◌}
+use Rattle.std.specs.List.{All, Any, Contains}
+use Rattle.std.proofs.lemmas.Bool.{true≢false, false≢true, and_parts, and_from, or_cases, or_left, or_right, eqb-true, eq-eqb}
+use Rattle.std.proofs.lemmas.List.{append-nil, drop-append-le, drop-drop, length-drop, get_or_append_left, get_or_at}
+use Rattle.std.proofs.lemmas.List.Elements.{All-nil, All-push}
+use Rattle.std.proofs.lemmas.List.Quantifiers.{Any-push}
+use Rattle.std.proofs.lemmas.Grind.{flat_map-append}
+use Rattle.dist_clause.specs.Formula.{Literal}
+use Rattle.dist_cert.specs.declared.records.CertRecord.{CertRecord}
+use Rattle.dist_cert.specs.declared.records.CertRecord.TheVariants as lines
+use Rattle.dist_cert.specs.Form.{Word}
+use Rattle.dist_cert.specs.Groups.{derived_in, derived, installed_in, installations, is_claim, group, leaves_open, IsOpen, IsRefutedIn, IsUndecidedIn}
+use Rattle.dist_cert.specs.ClaimRules.{yes, no}
+use Rattle.dist_check.specs.Rising.{is_among}
+use Rattle.dist_check.specs.Window.{latest}
+use Rattle.dist_check.specs.Closed.{ClosedView, asks_alone, asks_without, Closes}
+use Rattle.dist_check.specs.Group.{GroupView, narrowed, common_with}
+use Rattle.dist_check.specs.State.{QuestionView, empty_group}
+use Rattle.dist_check.specs.At.{IsQuestionOf, AreClosed, IsCommonOf, IsGroupOf}
+use Rattle.dist_check.proofs.Places.{contains-cases, contains-later}
+use Rattle.dist_check.proofs.Questions.{IsOpening, IsAsked, one-open, still-open, none-still, closed-push, closed-before, closed-here, none-closed, group-push, group-claim, asked-in-group}
+use Rattle.dist_check.proofs.RisingLemmas.{any-from, from-any}
+
+-- ---- lists that grow with the lines
+
+pub derived-push : (before : List CertRecord) (step : CertRecord) → derived (before ++ step ∷ []) ≡ derived before ++ derived_in step
+derived-push before step = flat_map-append derived_in before (step ∷ []) ∙ ap (λ (cs : List (List Literal)). derived before ++ cs) (append-nil (derived_in step))
+
+pub installed-push : (before : List CertRecord) (step : CertRecord) → installations (before ++ step ∷ []) ≡ installations before ++ installed_in step
+installed-push before step = flat_map-append installed_in before (step ∷ []) ∙ ap (λ (ms : List (List ℕ)). installations before ++ ms) (append-nil (installed_in step))
+
+-- nothing derived, and nothing installed
+pub derived-same : (inputs : List (List Literal)) (before : List CertRecord) (step : CertRecord) → derived_in step ≡ [] → inputs ++ derived before ≡ inputs ++ derived (before ++ step ∷ [])
+derived-same inputs before step none = ap (λ (cs : List (List Literal)). inputs ++ cs) (sym (derived-push before step ∙ ap (λ (cs : List (List Literal)). derived before ++ cs) none ∙ append-nil (derived before)))
+
+pub installed-same : (before : List CertRecord) (step : CertRecord) → installed_in step ≡ [] → installations before ≡ installations (before ++ step ∷ [])
+installed-same before step none = sym (installed-push before step ∙ ap (λ (ms : List (List ℕ)). installations before ++ ms) none ∙ append-nil (installations before))
+
+-- the latest installations, with one more
+pub latest-push : (all : List (List ℕ)) (members : List ℕ) → latest (latest all ++ members ∷ []) ≡ latest (all ++ members ∷ [])
+latest-push all members =
+    let size : length (latest all) ≡ length all - (length all - 1024) = length-drop (length all - 1024) all in
+    let front : drop (length all - 1024) (all ++ members ∷ []) ≡ latest all ++ members ∷ [] = drop-append-le (length all - 1024) all (members ∷ []) (omega arith) in
+    let few : length (latest all ++ members ∷ []) - 1024 + (length all - 1024) ≡ length (all ++ members ∷ []) - 1024
+    = omega (arith, size, length-append (latest all) (members ∷ []), length-append all (members ∷ [])) in
+    ap (λ (xs : List (List ℕ)). drop (length (latest all ++ members ∷ []) - 1024) xs) (sym front)
+    ∙ drop-drop (length (latest all ++ members ∷ []) - 1024) (length all - 1024) (all ++ members ∷ [])
+    ∙ ap (λ (n : ℕ). drop n (all ++ members ∷ [])) (omega (arith, few))
+
+-- ---- the open question
+
+pub question-stays : (inputs : List (List Literal)) (before : List CertRecord) (step : CertRecord) → leaves_open step ≡ true → ¬ IsOpening step → (question : Option QuestionView) → IsQuestionOf inputs before question
+    → IsQuestionOf inputs (before ++ step ∷ []) question
+question-stays inputs before step leaves never None none = none-still before step never none
+question-stays inputs before step leaves never (Some q) here = (here.0, here.1 ++ step ∷ [], still-open before step here.0 q.assumptions here.1 leaves here.2, here.3)
+
+-- ---- closed questions
+
+-- a line that closes nothing in that way
+pub refuted-same : (before : List CertRecord) (step : CertRecord) (question : List Word) → ((hints : List ℕ) → step ≢ lines.Refuted hints) → IsRefutedIn before question ↔ IsRefutedIn (before ++ step ∷ []) question
+refuted-same before step question never = (
+  (λ closed. (closed.0, closed-before before step question (lines.Refuted closed.0) closed.1)),
+  λ closed. elim (closed-push before step question (lines.Refuted closed.0) closed.1) [
+    | inl earlier ↦ (closed.0, earlier)
+    | inr here ↦ absurd (never closed.0 here.0)
+  ],
+)
+
+pub undecided-same : (before : List CertRecord) (step : CertRecord) (question : List Word) → step ≢ lines.Undecided → IsUndecidedIn before question ↔ IsUndecidedIn (before ++ step ∷ []) question
+undecided-same before step question never = (
+  (λ closed. closed-before before step question lines.Undecided closed),
+  λ closed. elim (closed-push before step question lines.Undecided closed) [
+    | inl earlier ↦ earlier
+    | inr here ↦ absurd (never here.0)
+  ],
+)
+
+-- a line that closes the open question
+refuted-more : (before : List CertRecord) (hints : List ℕ) (asked : List Word) → IsAsked before asked → (question : List Word) → IsRefutedIn (before ++ lines.Refuted hints ∷ []) question ↔ ((asked ≡ question) ⊎ IsRefutedIn before question)
+refuted-more before hints asked is question = (
+  (λ closed. elim (closed-push before (lines.Refuted hints) question (lines.Refuted closed.0) closed.1) [
+    | inl earlier ↦ inr (closed.0, earlier)
+    | inr here ↦ inl (one-open before is.0 here.1.0 asked question is.1 here.1.1 is.2 here.1.2).1
+  ]),
+  λ either. elim either [
+    | inl same ↦ (hints, closed-here before question (lines.Refuted hints) (subst (IsAsked before) same is))
+    | inr earlier ↦ (earlier.0, closed-before before (lines.Refuted hints) question (lines.Refuted earlier.0) earlier.1)
+  ],
+)
+
+undecided-more : (before : List CertRecord) (asked : List Word) → IsAsked before asked → (question : List Word) → IsUndecidedIn (before ++ lines.Undecided ∷ []) question ↔ ((asked ≡ question) ⊎ IsUndecidedIn before question)
+undecided-more before asked is question = (
+  (λ closed. elim (closed-push before lines.Undecided question lines.Undecided closed) [
+    | inl earlier ↦ inr earlier
+    | inr here ↦ inl (one-open before is.0 here.1.0 asked question is.1 here.1.1 is.2 here.1.2).1
+  ]),
+  λ either. elim either [
+    | inl same ↦ closed-here before question lines.Undecided (subst (IsAsked before) same is)
+    | inr earlier ↦ closed-before before lines.Undecided question lines.Undecided earlier
+  ],
+)
+
+-- ---- which question was asked
+
+alone-is : (p : ℕ) (question : List Word) → (asks_alone p question ≡ true) ↔ (question ≡ yes p ∷ [])
+alone-is p [] = ((λ e. absurd (false≢true e)), λ e. absurd (let n = ap (λ (ws : List Word). length ws) e in omega (arith, n)))
+alone-is p ((v, true) ∷ []) = ((λ e. ap (λ (n : ℕ). yes n ∷ []) (eqb-true v p e)), λ e. eq-eqb v p (ap first-number e))
+  where
+    first-number : List Word → ℕ
+    first-number [] = 0
+    first-number (w ∷ ws) = w.0
+alone-is p ((v, false) ∷ []) = ((λ e. absurd (false≢true e)), λ e. absurd (false≢true (ap first-sign e)))
+  where
+    first-sign : List Word → Bool
+    first-sign [] = false
+    first-sign (w ∷ ws) = w.1
+alone-is p ((v, true) ∷ w ∷ ws) = ((λ e. absurd (false≢true e)), λ e. absurd (let n = ap (λ (xs : List Word). length xs) e in omega (arith, n)))
+alone-is p ((v, false) ∷ w ∷ ws) = ((λ e. absurd (false≢true e)), λ e. absurd (let n = ap (λ (xs : List Word). length xs) e in omega (arith, n)))
+
+word-number : ℕ → List Word → ℕ
+word-number zero [] = 0
+word-number zero (w ∷ ws) = w.0
+word-number (suc k) [] = 0
+word-number (suc k) (w ∷ ws) = word-number k ws
+
+word-sign : ℕ → List Word → Bool
+word-sign zero [] = false
+word-sign zero (w ∷ ws) = w.1
+word-sign (suc k) [] = false
+word-sign (suc k) (w ∷ ws) = word-sign k ws
+
+size-apart : (a b : List Word) → length a ≢ length b → a ≢ b
+size-apart a b apart e = apart (ap (λ (ws : List Word). length ws) e)
+
+without-is : (p : ℕ) (question : List Word) (q : ℕ) → (asks_without p question q ≡ true) ↔ (question ≡ yes p ∷ no q ∷ [])
+unfolding word-number word-sign
+without-is p [] q = ((λ e. absurd (false≢true e)), λ e. absurd (let n = ap (λ (ws : List Word). length ws) e in omega (arith, n)))
+without-is p ((v, true) ∷ []) q = ((λ e. absurd (false≢true e)), λ e. absurd (let n = ap (λ (ws : List Word). length ws) e in omega (arith, n)))
+without-is p ((v, false) ∷ []) q = ((λ e. absurd (false≢true e)), λ e. absurd (let n = ap (λ (ws : List Word). length ws) e in omega (arith, n)))
+without-is p ((v, true) ∷ (w, false) ∷ []) q = (
+  (λ e.
+      let parts = and_parts (v == p) (q == w) e in
+      ap (λ (n : ℕ). yes n ∷ (w, false) ∷ []) (eqb-true v p parts.0) ∙ ap (λ (n : ℕ). yes p ∷ no n ∷ []) (sym (eqb-true q w parts.1))),
+  λ e. and_from (v == p) (q == w) (eq-eqb v p (ap (word-number 0) e)) (eq-eqb q w (sym (ap (word-number 1) e))),
+)
+without-is p ((v, false) ∷ (w, false) ∷ []) q = ((λ e. absurd (false≢true e)), λ e. absurd (false≢true (ap (word-sign 0) e)))
+without-is p ((v, true) ∷ (w, true) ∷ []) q = ((λ e. absurd (false≢true e)), λ e. absurd (true≢false (ap (word-sign 1) e)))
+without-is p ((v, false) ∷ (w, true) ∷ []) q = ((λ e. absurd (false≢true e)), λ e. absurd (false≢true (ap (word-sign 0) e)))
+without-is p ((v, true) ∷ (w, false) ∷ x ∷ ws) q = ((λ e. absurd (false≢true e)), λ e. absurd (let n = ap (λ (xs : List Word). length xs) e in omega (arith, n)))
+without-is p ((v, true) ∷ (w, true) ∷ x ∷ ws) q = ((λ e. absurd (false≢true e)), λ e. absurd (let n = ap (λ (xs : List Word). length xs) e in omega (arith, n)))
+without-is p ((v, false) ∷ (w, false) ∷ x ∷ ws) q = ((λ e. absurd (false≢true e)), λ e. absurd (let n = ap (λ (xs : List Word). length xs) e in omega (arith, n)))
+without-is p ((v, false) ∷ (w, true) ∷ x ∷ ws) q = ((λ e. absurd (false≢true e)), λ e. absurd (let n = ap (λ (xs : List Word). length xs) e in omega (arith, n)))
+
+-- one question more
+more-closed : (Old New : List Word → Type 0) (p : ℕ) (asked : List Word) (old new : ClosedView) → ((question : List Word) → New question ↔ ((asked ≡ question) ⊎ Old question)) → Closes p asked old new → AreClosed Old p old → AreClosed New p new
+more-closed Old New p asked old new more closes are = record {
+  alone = (
+    (λ e. (more (yes p ∷ [])).1 (elim (or_cases (asks_alone p asked) old.alone (sym closes.alone ∙ e)) [
+      | inl here ↦ inl ((alone-is p asked).0 here)
+      | inr earlier ↦ inr (are.alone.0 earlier)
+    ])),
+    λ closed. closes.alone ∙ elim ((more (yes p ∷ [])).0 closed) [
+      | inl here ↦ or_left (asks_alone p asked) old.alone ((alone-is p asked).1 here)
+      | inr earlier ↦ or_right (asks_alone p asked) old.alone (are.alone.1 earlier)
+    ],
+  );
+  without = λ q. (
+    (λ e. (more (yes p ∷ no q ∷ [])).1 (elim (or_cases (asks_without p asked q) (is_among old.without q) (sym (closes.without q) ∙ e)) [
+      | inl here ↦ inl ((without-is p asked q).0 here)
+      | inr earlier ↦ inr ((are.without q).0 earlier)
+    ])),
+    λ closed. closes.without q ∙ elim ((more (yes p ∷ no q ∷ [])).0 closed) [
+      | inl here ↦ or_left (asks_without p asked q) (is_among old.without q) ((without-is p asked q).1 here)
+      | inr earlier ↦ or_right (asks_without p asked q) (is_among old.without q) ((are.without q).1 earlier)
+    ],
+  );
+}
+
+same-closed : (Old New : List Word → Type 0) (p : ℕ) (closed : ClosedView) → ((question : List Word) → Old question ↔ New question) → AreClosed Old p closed → AreClosed New p closed
+same-closed Old New p closed same are = record {
+  alone = ((λ e. (same (yes p ∷ [])).0 (are.alone.0 e)), λ h. are.alone.1 ((same (yes p ∷ [])).1 h));
+  without = λ q. ((λ e. (same (yes p ∷ no q ∷ [])).0 ((are.without q).0 e)), λ h. (are.without q).1 ((same (yes p ∷ no q ∷ [])).1 h));
+}
+
+-- ---- what installations have in common
+
+filter-has : (members xs : List ℕ) (q : ℕ) → Contains (filter (is_among members) xs) q ↔ (Contains xs q × Contains members q)
+filter-has members [] q = ((λ h. absurd (omega (arith, h.1))), λ h. absurd (omega (arith, h.0.1)))
+filter-has members (x ∷ xs) q = by (is_among members x) refl (filter-has members xs q)
+  where
+    by : (b : Bool) → is_among members x ≡ b → Contains (filter (is_among members) xs) q ↔ (Contains xs q × Contains members q)
+        → Contains (if b then x ∷ filter (is_among members) xs else filter (is_among members) xs) q ↔ (Contains (x ∷ xs) q × Contains members q)
+    by true is rest = (
+      (λ h. elim (contains-cases x (filter (is_among members) xs) q h) [
+        | inl here ↦ ((0, omega arith, here), subst (Contains members) here (from-any x members is))
+        | inr later ↦ (contains-later x xs q (rest.0 later).0, (rest.0 later).1)
+      ]),
+      λ h. elim (contains-cases x xs q h.0) [
+        | inl here ↦ (0, omega arith, here)
+        | inr later ↦ contains-later x (filter (is_among members) xs) q (rest.1 (later, h.1))
+      ],
+    )
+    by false is rest = (
+      (λ h. (contains-later x xs q (rest.0 h).0, (rest.0 h).1)),
+      λ h. elim (contains-cases x xs q h.0) [
+        | inl here ↦ absurd (false≢true (sym is ∙ any-from x members (subst (Contains members) (sym here) h.1)))
+        | inr later ↦ rest.1 (later, h.1)
+      ],
+    )
+
+any-append : {X : Type 0} (P : X → Type 0) (xs : List X) (x : X) → Any P xs → Any P (xs ++ x ∷ [])
+any-append P xs x any = (any.0, any.1, omega (arith, any.2, length-append xs (x ∷ [])), place (xs) any.0 any.1 any.2 ∙ any.3, any.4)
+  where
+    place : (ys : List _) (k : ℕ) (d : _) → k < length ys → get_or (ys ++ x ∷ []) k d ≡ get_or ys k d
+    place ys k d within = get_or_append_left ys (x ∷ []) d k within
+
+all-front : {X : Type 0} (P : X → Type 0) (xs : List X) (x : X) → All P (xs ++ x ∷ []) → All P xs
+all-front P xs x all k d within = subst P (get_or_append_left xs (x ∷ []) d k within) (all k d (omega (arith, within, length-append xs (x ∷ []))))
+
+all-last : {X : Type 0} (P : X → Type 0) (xs : List X) (x : X) → All P (xs ++ x ∷ []) → P x
+all-last P xs x all = subst P (get_or_at xs x [] x (length xs) refl) (all (length xs) x (omega (arith, length-append xs (x ∷ []))))
+
+pub common-push : (all : List (List ℕ)) (p : ℕ) (members : List ℕ) (common : Option (List ℕ)) → IsCommonOf all p common → IsCommonOf (all ++ members ∷ []) p (common_with p members common)
+common-push all p members common is = by (is_among members p) refl common is
+  where
+    Has : List ℕ → Type 0
+    Has m = Contains m p
+
+    by : (b : Bool) → is_among members p ≡ b → (c : Option (List ℕ)) → IsCommonOf all p c → IsCommonOf (all ++ members ∷ []) p (if b then Some (narrowed c members) else c)
+    by false absent None none = All-push (λ m. ¬ Contains m p) all members none (λ there. false≢true (sym absent ∙ any-from p members there))
+    by false absent (Some c) h = (
+      any-append (λ m. Contains m p) all members h.0,
+      λ q. (
+        (λ there. All-push (λ m. Contains m p → Contains m q) all members ((h.1 q).0 there) (λ holds. absurd (false≢true (sym absent ∙ any-from p members holds)))),
+        λ each. (h.1 q).1 (all-front (λ m. Contains m p → Contains m q) all members each),
+      ),
+    )
+    by true there None none = (
+      Any-push (λ m. Contains m p) all members (from-any p members there),
+      λ q. (
+        (λ here. All-push (λ m. Contains m p → Contains m q) all members (λ k d within holds. absurd (none k d within holds)) (λ holds. here)),
+        λ each. all-last (λ m. Contains m p → Contains m q) all members each (from-any p members there),
+      ),
+    )
+    by true there (Some c) h = (
+      any-append (λ m. Contains m p) all members h.0,
+      λ q. (
+        (λ here.
+            let both = (filter-has members c q).0 here in
+            All-push (λ m. Contains m p → Contains m q) all members ((h.1 q).0 both.0) (λ holds. both.1)),
+        λ each. (filter-has members c q).1 (
+          (h.1 q).1 (all-front (λ m. Contains m p → Contains m q) all members each),
+          all-last (λ m. Contains m p → Contains m q) all members each (from-any p members there),
+        ),
+      ),
+    )
+
+-- ---- groups
+
+pub group-first : (p : ℕ) → IsGroupOf [] p empty_group
+group-first p = record {
+  refuted = record {
+    alone = ((λ e. absurd (false≢true e)), λ h. absurd (none-closed (yes p ∷ []) (lines.Refuted h.0) h.1));
+    without = λ q. ((λ e. absurd (false≢true e)), λ h. absurd (none-closed (yes p ∷ no q ∷ []) (lines.Refuted h.0) h.1));
+  };
+  undecided = record {
+    alone = ((λ e. absurd (false≢true e)), λ h. absurd (none-closed (yes p ∷ []) lines.Undecided h));
+    without = λ q. ((λ e. absurd (false≢true e)), λ h. absurd (none-closed (yes p ∷ no q ∷ []) lines.Undecided h));
+  };
+  common = All-nil (λ m. ¬ Contains m p);
+}
+
+-- a line that closes nothing and installs nothing
+pub group-same : (before : List CertRecord) (step : CertRecord) (p : ℕ) (kept : GroupView) → is_claim step ≡ false → installed_in step ≡ [] → ((hints : List ℕ) → step ≢ lines.Refuted hints) → step ≢ lines.Undecided
+    → IsGroupOf (group before) p kept → IsGroupOf (group (before ++ step ∷ [])) p kept
+group-same before step p kept no_claim none never_refuted never_undecided is =
+    subst (λ ls. IsGroupOf ls p kept) (sym (group-push before step no_claim)) (record {
+      refuted = same-closed (IsRefutedIn (group before)) (IsRefutedIn (group before ++ step ∷ [])) p kept.refuted (λ question. refuted-same (group before) step question never_refuted) is.refuted;
+      undecided = same-closed (IsUndecidedIn (group before)) (IsUndecidedIn (group before ++ step ∷ [])) p kept.undecided (λ question. undecided-same (group before) step question never_undecided) is.undecided;
+      common = subst (λ ms. IsCommonOf ms p kept.common) (installed-same (group before) step none) is.common;
+    })
+
+pub group-installed : (before : List CertRecord) (variables : List ℕ) (p : ℕ) (kept : GroupView) → IsGroupOf (group before) p kept
+    → IsGroupOf (group (before ++ lines.Installation variables ∷ [])) p (record kept { common = common_with p variables kept.common })
+group-installed before variables p kept is =
+    let step = lines.Installation variables in
+    subst (λ ls. IsGroupOf ls p (record kept { common = common_with p variables kept.common })) (sym (group-push before step refl)) (record {
+      refuted = same-closed (IsRefutedIn (group before)) (IsRefutedIn (group before ++ step ∷ [])) p kept.refuted (λ question. refuted-same (group before) step question (λ hints e. cc)) is.refuted;
+      undecided = same-closed (IsUndecidedIn (group before)) (IsUndecidedIn (group before ++ step ∷ [])) p kept.undecided (λ question. undecided-same (group before) step question (λ e. cc)) is.undecided;
+      common = subst (λ ms. IsCommonOf ms p (common_with p variables kept.common)) (sym (installed-push (group before) step)) (common-push (installations (group before)) p variables kept.common is.common);
+    })
+
+-- the question that is open is asked in the group
+asked-there : (before earlier : List CertRecord) (question : List Word) (since : List CertRecord) → IsOpen before earlier question since → IsAsked (group before) question
+asked-there before earlier question since x =
+    let in_group = asked-in-group earlier question since x.left_open in
+    (in_group.0, since, record { ends = ap group x.ends ∙ in_group.1; left_open = x.left_open })
+
+pub group-refuted : (before earlier : List CertRecord) (asked : List Word) (since : List CertRecord) (hints : List ℕ) (p : ℕ) (old new : GroupView) → IsOpen before earlier asked since → Closes p asked old.refuted new.refuted
+    → new.undecided ≡ old.undecided → new.common ≡ old.common → IsGroupOf (group before) p old → IsGroupOf (group (before ++ lines.Refuted hints ∷ [])) p new
+group-refuted before earlier asked since hints p old new x closes undecided common is =
+    let step = lines.Refuted hints in
+    subst (λ ls. IsGroupOf ls p new) (sym (group-push before step refl)) (record {
+      refuted = more-closed (IsRefutedIn (group before)) (IsRefutedIn (group before ++ step ∷ [])) p asked old.refuted new.refuted (refuted-more (group before) hints asked (asked-there before earlier asked since x)) closes is.refuted;
+      undecided = subst (AreClosed (IsUndecidedIn (group before ++ step ∷ [])) p) (sym undecided)
+          (same-closed (IsUndecidedIn (group before)) (IsUndecidedIn (group before ++ step ∷ [])) p old.undecided (λ question. undecided-same (group before) step question (λ e. cc)) is.undecided);
+      common = subst (IsCommonOf (installations (group before ++ step ∷ [])) p) (sym common) (subst (λ ms. IsCommonOf ms p old.common) (installed-same (group before) step refl) is.common);
+    })
+
+pub group-undecided : (before earlier : List CertRecord) (asked : List Word) (since : List CertRecord) (p : ℕ) (old new : GroupView) → IsOpen before earlier asked since → Closes p asked old.undecided new.undecided
+    → new.refuted ≡ old.refuted → new.common ≡ old.common → IsGroupOf (group before) p old → IsGroupOf (group (before ++ lines.Undecided ∷ [])) p new
+group-undecided before earlier asked since p old new x closes refuted common is =
+    let step = lines.Undecided in
+    subst (λ ls. IsGroupOf ls p new) (sym (group-push before step refl)) (record {
+      undecided = more-closed (IsUndecidedIn (group before)) (IsUndecidedIn (group before ++ step ∷ [])) p asked old.undecided new.undecided (undecided-more (group before) asked (asked-there before earlier asked since x)) closes is.undecided;
+      refuted = subst (AreClosed (IsRefutedIn (group before ++ step ∷ [])) p) (sym refuted)
+          (same-closed (IsRefutedIn (group before)) (IsRefutedIn (group before ++ step ∷ [])) p old.refuted (λ question. refuted-same (group before) step question (λ hints e. cc)) is.refuted);
+      common = subst (IsCommonOf (installations (group before ++ step ∷ [])) p) (sym common) (subst (λ ms. IsCommonOf ms p old.common) (installed-same (group before) step refl) is.common);
+    })
+
+pub group-after_claim : (before : List CertRecord) (step : CertRecord) (p : ℕ) → is_claim step ≡ true → IsGroupOf (group (before ++ step ∷ [])) p empty_group
+group-after_claim before step p claim = subst (λ ls. IsGroupOf ls p empty_group) (sym (group-claim before step claim)) (group-first p)

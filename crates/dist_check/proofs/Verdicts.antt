@@ -1,0 +1,216 @@
+-- What is told of a line by what is kept is its first fault, or that it has none.
+use Rattle.std.proofs.Common.{◌≡◌, inl, inr, ℕ, ◌+◌, ◌-◌, ◌<◌, ◌≤◌, true, false, List, [], ◌∷◌, ◌++◌, Option, Some, None, length, get_or, map, take, refl, sym, ap, subst, ◌∙◌, append_assoc, arith, length-append}
+use Rattle.std.specs.List.{All, Any}
+use Rattle.std.proofs.lemmas.Bool.{false≢true, cases_lt}
+use Rattle.std.proofs.lemmas.List.{take_at, get_or_at}
+use Rattle.dist_clause.specs.ClauseList.{clause_at}
+use Rattle.dist_clause.specs.Formula.{Literal, negation}
+use Rattle.dist_derive.specs.Follows.{Follows}
+use Rattle.dist_derive.specs.New.{IsNew, EachIsNew}
+use Rattle.dist_repo.specs.PackageList.{PackageList}
+use Rattle.dist_repo.specs.Strong.{IsInstallation}
+use Rattle.dist_cert.specs.declared.faults.CertCause.{CertCause}
+use Rattle.dist_cert.specs.declared.faults.CertCause.TheVariants as causes
+use Rattle.dist_cert.specs.declared.records.CertKind.TheVariants as kinds
+use Rattle.dist_cert.specs.declared.records.CertRecord.{CertRecord}
+use Rattle.dist_cert.specs.declared.records.CertRecord.TheVariants as lines
+use Rattle.dist_cert.specs.declared.records.Header.{Header}
+use Rattle.dist_cert.specs.Form.{Word}
+use Rattle.dist_cert.specs.Groups.{clause_of, numbered}
+use Rattle.dist_cert.specs.LineRules.{HasRecordFault}
+use Rattle.dist_check.specs.Present.{matter_of, packages_of}
+use Rattle.dist_check.specs.Since.{AreNewFrom}
+use Rattle.dist_check.specs.State.{QuestionView, StateView, names_above, is_above, TellsQuestion, TellsDerived, TellsRefuted, TellsInstallation}
+use Rattle.dist_check.specs.At.{IsQuestionOf, IsAt}
+use Rattle.dist_check.proofs.LiteralLemmas.{none-above, some-above, words-above}
+use Rattle.dist_check.proofs.Profile.{rank, may_have, IsFaultless, HasFirst, faultless-from, first-from}
+use Rattle.dist_check.proofs.Questions.{one-open}
+
+-- the first fault of a record, or none
+abbrev pub IsVerdict : PackageList → List (List Literal) → Header → List CertRecord → CertRecord → Option CertCause → Type 0
+IsVerdict r inputs h before step None = IsFaultless (matter_of r h.essential inputs) h before step
+IsVerdict r inputs h before step (Some cause) = HasFirst (matter_of r h.essential inputs) h before step cause
+
+-- ---- what is above the last
+
+any-above : (last : ℕ) (numbers : List ℕ) → All (λ n. n ≤ last) numbers → ¬ Any (λ n. last < n) numbers
+any-above last numbers all any = let low = all any.0 any.1 any.2 in let e = any.3 in omega (arith, low, e, any.4)
+
+none-out : (last : ℕ) (numbers : List ℕ) → is_above last numbers ≡ false → ¬ Any (λ n. last < n) numbers
+none-out last numbers none = any-above last numbers (none-above last numbers none)
+
+-- at the number of packages and of clauses that is kept
+pub range-none : (last packages : ℕ) (words : List Word) → last ≡ packages → names_above last words ≡ false → ¬ Any (λ n. packages < n) (map (λ word. word.0) words)
+range-none last packages words same none = subst (λ n. ¬ Any (λ m. n < m) (map (λ word. word.0) words)) same (none-out last (map (λ word. word.0) words) (sym (words-above last words) ∙ none))
+
+range-some : (last packages : ℕ) (words : List Word) → last ≡ packages → names_above last words ≡ true → Any (λ n. packages < n) (map (λ word. word.0) words)
+range-some last packages words same some = subst (λ n. Any (λ m. n < m) (map (λ word. word.0) words)) same (some-above last (map (λ word. word.0) words) (sym (words-above last words) ∙ some))
+
+hints-none : (last clauses : ℕ) (hints : List ℕ) → last ≡ clauses → is_above last hints ≡ false → ¬ Any (λ n. clauses < n) hints
+hints-none last clauses hints same none = subst (λ n. ¬ Any (λ m. n < m) hints) same (none-out last hints none)
+
+hints-some : (last clauses : ℕ) (hints : List ℕ) → last ≡ clauses → is_above last hints ≡ true → Any (λ n. clauses < n) hints
+hints-some last clauses hints same some = subst (λ n. Any (λ m. n < m) hints) same (some-above last hints some)
+
+-- ---- questions
+
+pub question-verdict : (r : PackageList) (inputs : List (List Literal)) (h : Header) (before : List CertRecord) (s : StateView) → h.kind ≡ kinds.Strong → IsAt r inputs h before s → (literals : List Word) (found : Option CertCause)
+    → TellsQuestion s.packages literals found → IsVerdict r inputs h before (lines.Question literals) found
+question-verdict r inputs h before s strong at literals None told = faultless-from (matter_of r h.essential inputs) h before (lines.Question literals) strong none
+  where
+    none : (cause : CertCause) → may_have (lines.Question literals) cause ≡ true → ¬ HasRecordFault (matter_of r h.essential inputs) h before (lines.Question literals) cause
+    none causes.OutOfRange may fault = range-none s.packages (length r.packages) literals at.packages told fault
+    none cause may fault = false≢true may
+question-verdict r inputs h before s strong at literals (Some causes.OutOfRange) told =
+    first-from (matter_of r h.essential inputs) h before (lines.Question literals) causes.OutOfRange strong (range-some s.packages (length r.packages) literals at.packages told) none
+  where
+    none : (cause : CertCause) → may_have (lines.Question literals) cause ≡ true → rank cause < 4 → ¬ HasRecordFault (matter_of r h.essential inputs) h before (lines.Question literals) cause
+    none causes.OutOfRange may below fault = omega (arith, below)
+    none cause may below fault = false≢true may
+question-verdict r inputs h before s strong at literals (Some cause) told = absurd told
+
+-- ---- derived lines
+
+same-variables : (r : PackageList) (inputs : List (List Literal)) (h : Header) (before : List CertRecord) (s : StateView) → IsAt r inputs h before s → s.log.variables ≡ length r.packages
+same-variables r inputs h before s at = at.variables
+
+same-length : (r : PackageList) (inputs : List (List Literal)) (h : Header) (before : List CertRecord) (s : StateView) → IsAt r inputs h before s → length s.log.clauses ≡ length (numbered (matter_of r h.essential inputs) before)
+same-length r inputs h before s at = ap (λ (cs : List (List Literal)). length cs) at.clauses
+
+pub derived-verdict : (r : PackageList) (inputs : List (List Literal)) (h : Header) (before : List CertRecord) (s : StateView) → h.kind ≡ kinds.Strong → IsAt r inputs h before s → (literals : List Word) (hints : List ℕ)
+    (found : Option CertCause) → TellsDerived s.log literals hints found → IsVerdict r inputs h before (lines.Derived literals hints) found
+derived-verdict r inputs h before s strong at literals hints None told = faultless-from (matter_of r h.essential inputs) h before (lines.Derived literals hints) strong none
+  where
+    none : (cause : CertCause) → may_have (lines.Derived literals hints) cause ≡ true → ¬ HasRecordFault (matter_of r h.essential inputs) h before (lines.Derived literals hints) cause
+    none causes.OutOfRange may fault = range-none s.log.variables (length r.packages) literals at.variables told.0 fault
+    none causes.UnknownLine may fault = hints-none (length s.log.clauses) (length (numbered (matter_of r h.essential inputs) before)) hints (same-length r inputs h before s at) told.1 fault
+    none causes.BadLine may fault = fault (subst (λ cs. Follows cs (clause_of literals) hints) at.clauses told.2)
+    none cause may fault = false≢true may
+derived-verdict r inputs h before s strong at literals hints (Some causes.OutOfRange) told =
+    first-from (matter_of r h.essential inputs) h before (lines.Derived literals hints) causes.OutOfRange strong (range-some s.log.variables (length r.packages) literals at.variables told) none
+  where
+    none : (cause : CertCause) → may_have (lines.Derived literals hints) cause ≡ true → rank cause < 4 → ¬ HasRecordFault (matter_of r h.essential inputs) h before (lines.Derived literals hints) cause
+    none causes.OutOfRange may below fault = omega (arith, below)
+    none causes.UnknownLine may below fault = omega (arith, below)
+    none causes.BadLine may below fault = omega (arith, below)
+    none cause may below fault = false≢true may
+derived-verdict r inputs h before s strong at literals hints (Some causes.UnknownLine) told =
+    first-from (matter_of r h.essential inputs) h before (lines.Derived literals hints) causes.UnknownLine strong
+    (hints-some (length s.log.clauses) (length (numbered (matter_of r h.essential inputs) before)) hints (same-length r inputs h before s at) told.1) none
+  where
+    none : (cause : CertCause) → may_have (lines.Derived literals hints) cause ≡ true → rank cause < 6 → ¬ HasRecordFault (matter_of r h.essential inputs) h before (lines.Derived literals hints) cause
+    none causes.OutOfRange may below fault = range-none s.log.variables (length r.packages) literals at.variables told.0 fault
+    none causes.UnknownLine may below fault = omega (arith, below)
+    none causes.BadLine may below fault = omega (arith, below)
+    none cause may below fault = false≢true may
+derived-verdict r inputs h before s strong at literals hints (Some causes.BadLine) told =
+    first-from (matter_of r h.essential inputs) h before (lines.Derived literals hints) causes.BadLine strong (λ follows. told.2 (subst (λ cs. Follows cs (clause_of literals) hints) (sym at.clauses) follows)) none
+  where
+    none : (cause : CertCause) → may_have (lines.Derived literals hints) cause ≡ true → rank cause < 7 → ¬ HasRecordFault (matter_of r h.essential inputs) h before (lines.Derived literals hints) cause
+    none causes.OutOfRange may below fault = range-none s.log.variables (length r.packages) literals at.variables told.0 fault
+    none causes.UnknownLine may below fault = hints-none (length s.log.clauses) (length (numbered (matter_of r h.essential inputs) before)) hints (same-length r inputs h before s at) told.1 fault
+    none causes.BadLine may below fault = omega (arith, below)
+    none cause may below fault = false≢true may
+derived-verdict r inputs h before s strong at literals hints (Some cause) told = absurd told
+
+-- ---- refuted questions
+
+-- what is told of the question that is open
+pub refuted-verdict : (r : PackageList) (inputs : List (List Literal)) (h : Header) (before : List CertRecord) (s : StateView) → h.kind ≡ kinds.Strong → IsAt r inputs h before s → (question : Option QuestionView)
+    → IsQuestionOf inputs before question → (hints : List ℕ) (found : Option CertCause) → TellsRefuted s.log question hints found → IsVerdict r inputs h before (lines.Refuted hints) found
+refuted-verdict r inputs h before s strong at None q hints found told = subst (IsVerdict r inputs h before (lines.Refuted hints)) (sym told) (first-from (matter_of r h.essential inputs) h before (lines.Refuted hints) causes.OutOfOrder strong q none)
+  where
+    none : (cause : CertCause) → may_have (lines.Refuted hints) cause ≡ true → rank cause < 5 → ¬ HasRecordFault (matter_of r h.essential inputs) h before (lines.Refuted hints) cause
+    none causes.OutOfOrder may below fault = omega (arith, below)
+    none causes.UnknownLine may below fault = omega (arith, below)
+    none causes.BadLine may below fault = omega (arith, below)
+    none cause may below fault = false≢true may
+refuted-verdict r inputs h before s strong at (Some question) q hints None told = faultless-from (matter_of r h.essential inputs) h before (lines.Refuted hints) strong none
+  where
+    none : (cause : CertCause) → may_have (lines.Refuted hints) cause ≡ true → ¬ HasRecordFault (matter_of r h.essential inputs) h before (lines.Refuted hints) cause
+    none causes.OutOfOrder may fault = fault (q.0, question.assumptions, q.1, q.2)
+    none causes.UnknownLine may fault = hints-none (length s.log.clauses) (length (numbered (matter_of r h.essential inputs) before)) hints (same-length r inputs h before s at) told.0 fault
+    none causes.BadLine may fault =
+        let one = one-open before fault.0 q.0 fault.1 question.assumptions fault.2 q.1 fault.3 q.2 in
+        fault.4 (subst (λ asked. Follows (numbered (matter_of r h.essential inputs) before) (map negation (clause_of asked)) hints) (sym one.1)
+        (subst (λ cs. Follows cs (map negation (clause_of question.assumptions)) hints) at.clauses told.1))
+    none cause may fault = false≢true may
+refuted-verdict r inputs h before s strong at (Some question) q hints (Some causes.UnknownLine) told =
+    first-from (matter_of r h.essential inputs) h before (lines.Refuted hints) causes.UnknownLine strong
+    (hints-some (length s.log.clauses) (length (numbered (matter_of r h.essential inputs) before)) hints (same-length r inputs h before s at) told) none
+  where
+    none : (cause : CertCause) → may_have (lines.Refuted hints) cause ≡ true → rank cause < 6 → ¬ HasRecordFault (matter_of r h.essential inputs) h before (lines.Refuted hints) cause
+    none causes.OutOfOrder may below fault = fault (q.0, question.assumptions, q.1, q.2)
+    none causes.UnknownLine may below fault = omega (arith, below)
+    none causes.BadLine may below fault = omega (arith, below)
+    none cause may below fault = false≢true may
+refuted-verdict r inputs h before s strong at (Some question) q hints (Some causes.BadLine) told =
+    first-from (matter_of r h.essential inputs) h before (lines.Refuted hints) causes.BadLine strong
+    (q.0, question.assumptions, q.1, q.2, λ follows. told.1 (subst (λ cs. Follows cs (map negation (clause_of question.assumptions)) hints) (sym at.clauses) follows)) none
+  where
+    none : (cause : CertCause) → may_have (lines.Refuted hints) cause ≡ true → rank cause < 7 → ¬ HasRecordFault (matter_of r h.essential inputs) h before (lines.Refuted hints) cause
+    none causes.OutOfOrder may below fault = fault (q.0, question.assumptions, q.1, q.2)
+    none causes.UnknownLine may below fault = hints-none (length s.log.clauses) (length (numbered (matter_of r h.essential inputs) before)) hints (same-length r inputs h before s at) told.0 fault
+    none causes.BadLine may below fault = omega (arith, below)
+    none cause may below fault = false≢true may
+refuted-verdict r inputs h before s strong at (Some question) q hints (Some cause) told = absurd told
+
+-- ---- installations
+
+pub installation-verdict : (r : PackageList) (inputs : List (List Literal)) (h : Header) (before : List CertRecord) (s : StateView) → h.kind ≡ kinds.Strong → IsAt r inputs h before s → (variables : List ℕ) (found : Option CertCause)
+    → TellsInstallation r s.essential variables found → IsVerdict r inputs h before (lines.Installation variables) found
+installation-verdict r inputs h before s strong at variables None told = faultless-from (matter_of r h.essential inputs) h before (lines.Installation variables) strong none
+  where
+    none : (cause : CertCause) → may_have (lines.Installation variables) cause ≡ true → ¬ HasRecordFault (matter_of r h.essential inputs) h before (lines.Installation variables) cause
+    none causes.OutOfRange may fault = none-out (length r.packages) variables told.0 fault
+    none causes.NotAnInstallation may fault = fault (subst (λ essential. IsInstallation essential r (packages_of r.packages variables)) at.essential told.1)
+    none cause may fault = false≢true may
+installation-verdict r inputs h before s strong at variables (Some causes.OutOfRange) told =
+    first-from (matter_of r h.essential inputs) h before (lines.Installation variables) causes.OutOfRange strong (some-above (length r.packages) variables told) none
+  where
+    none : (cause : CertCause) → may_have (lines.Installation variables) cause ≡ true → rank cause < 4 → ¬ HasRecordFault (matter_of r h.essential inputs) h before (lines.Installation variables) cause
+    none causes.OutOfRange may below fault = omega (arith, below)
+    none causes.NotAnInstallation may below fault = omega (arith, below)
+    none cause may below fault = false≢true may
+installation-verdict r inputs h before s strong at variables (Some causes.NotAnInstallation) told =
+    first-from (matter_of r h.essential inputs) h before (lines.Installation variables) causes.NotAnInstallation strong
+    (λ healthy. told.1 (subst (λ essential. IsInstallation essential r (packages_of r.packages variables)) (sym at.essential) healthy)) none
+  where
+    none : (cause : CertCause) → may_have (lines.Installation variables) cause ≡ true → rank cause < 9 → ¬ HasRecordFault (matter_of r h.essential inputs) h before (lines.Installation variables) cause
+    none causes.OutOfRange may below fault = none-out (length r.packages) variables told.0 fault
+    none causes.NotAnInstallation may below fault = omega (arith, below)
+    none cause may below fault = false≢true may
+installation-verdict r inputs h before s strong at variables (Some cause) told = absurd told
+
+-- ---- lines that were new
+
+-- the clauses of some lines were new one after another
+pub each-new : (inputs : ℕ) (assumptions : List Literal) (clauses more : List (List Literal)) → AreNewFrom (clauses ++ more) inputs assumptions (length clauses) → EachIsNew clauses inputs assumptions more
+each-new inputs assumptions clauses [] new = tt
+each-new inputs assumptions clauses (line ∷ more) new =
+    let n = length clauses in
+    let number : n + 1 - 1 ≡ n = omega arith in
+    let first : IsNew (take (n + 1 - 1) (clauses ++ line ∷ more)) inputs assumptions (clause_at (clauses ++ line ∷ more) (n + 1)) = new (n + 1) (omega arith) (omega (arith, length-append clauses (line ∷ more))) in
+    let place : clause_at (clauses ++ line ∷ more) (n + 1) ≡ line = ap (λ (k : ℕ). get_or (clauses ++ line ∷ more) k []) number ∙ get_or_at clauses line more [] n refl in
+    let front : take (n + 1 - 1) (clauses ++ line ∷ more) ≡ clauses = ap (λ (k : ℕ). take k (clauses ++ line ∷ more)) number ∙ take_at clauses (line ∷ more) n refl in (
+      subst (λ cs. IsNew cs inputs assumptions line) front (subst (λ c. IsNew (take (n + 1 - 1) (clauses ++ line ∷ more)) inputs assumptions c) place first),
+      each-new inputs assumptions (clauses ++ line ∷ []) more (subst (λ cs. AreNewFrom cs inputs assumptions (length (clauses ++ line ∷ []))) (sym (append_assoc clauses (line ∷ []) more))
+          (λ k past upto. new k (omega (arith, past, length-append clauses (line ∷ []))) upto)),
+    )
+
+pub new-from-each : (inputs : ℕ) (assumptions : List Literal) (clauses more : List (List Literal)) → EachIsNew clauses inputs assumptions more → AreNewFrom (clauses ++ more) inputs assumptions (length clauses)
+new-from-each inputs assumptions clauses [] each k past upto = absurd (omega (arith, past, upto, length-append clauses []))
+new-from-each inputs assumptions clauses (line ∷ more) each k past upto = elim (cases_lt k (length clauses + 2)) [
+  | inl less ↦
+      let n = length clauses in
+      let is : n + 1 ≡ k = omega (arith, less, past) in
+      let number : n + 1 - 1 ≡ n = omega arith in
+      let place : line ≡ clause_at (clauses ++ line ∷ more) (n + 1) = sym (ap (λ (i : ℕ). get_or (clauses ++ line ∷ more) i []) number ∙ get_or_at clauses line more [] n refl) in
+      let front : clauses ≡ take (n + 1 - 1) (clauses ++ line ∷ more) = sym (ap (λ (i : ℕ). take i (clauses ++ line ∷ more)) number ∙ take_at clauses (line ∷ more) n refl) in
+      subst (λ i. IsNew (take (i - 1) (clauses ++ line ∷ more)) inputs assumptions (clause_at (clauses ++ line ∷ more) i)) is
+      (subst (λ c. IsNew (take (n + 1 - 1) (clauses ++ line ∷ more)) inputs assumptions c) place (subst (λ cs. IsNew cs inputs assumptions line) front each.0))
+  | inr later ↦
+      let rest = new-from-each inputs assumptions (clauses ++ line ∷ []) more each.1 in
+      let whole = subst (λ cs. AreNewFrom cs inputs assumptions (length (clauses ++ line ∷ []))) (append_assoc clauses (line ∷ []) more) rest in
+      whole k (omega (arith, later, length-append clauses (line ∷ []))) upto
+]

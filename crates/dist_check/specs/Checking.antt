@@ -1,0 +1,132 @@
+-- What a checker answers, of a text that is told.
+use Rattle.std.specs.Prelude.{◌≡◌, ◌⊎◌, ℕ, ◌+◌, ◌<◌, ◌≤◌, Bool, List, Option, Some, None, Result, Ok, Err, length}
+use Rattle.dist_outside.specs.Counts.{Rose}
+use Rattle.dist_outside.specs.DeskView.{DeskView}
+use Rattle.dist_outside.specs.declared.limits.Limits.{Limits}
+use Rattle.dist_outside.specs.declared.trouble.What.TheVariants.{Clauses, Literals, Lines, LineLiterals, Certificate}
+use Rattle.dist_outside.specs.declared.trouble.WorkError.TheVariants.{ReadFault, WriteFault, TooLarge, NoMemory}
+use Rattle.dist_clause.specs.ClauseList.{literal_count}
+use Rattle.dist_clause.specs.Formula.{Literal}
+use Rattle.dist_repo.specs.PackageList.{PackageList}
+use Rattle.dist_now.specs.PresentSet.{PassesClauses, PassesLiterals}
+use Rattle.dist_cert.specs.declared.faults.CertCause.{CertCause}
+use Rattle.dist_cert.specs.declared.faults.CertFault.{CertFault}
+use Rattle.dist_cert.specs.declared.faults.ReadCertError.{ReadCertError}
+use Rattle.dist_cert.specs.declared.faults.ReadCertError.TheVariants.{Bad, Work}
+use Rattle.dist_cert.specs.declared.records.CertKind.TheVariants as kinds
+use Rattle.dist_cert.specs.declared.records.CertRecord.{CertRecord}
+use Rattle.dist_cert.specs.declared.records.CertRecord.TheVariants.{Derived}
+use Rattle.dist_cert.specs.declared.records.Claim.{Claim}
+use Rattle.dist_cert.specs.declared.records.Header.{Header}
+use Rattle.dist_cert.specs.Accepted.{claims_in, IsAcceptedAs}
+use Rattle.dist_cert.specs.Form.{Word, HasForm, HasHeaderForm}
+use Rattle.dist_cert.specs.Groups.{clause_of, derived}
+use Rattle.dist_cert.specs.Reading.{PassesWhole, KeepsLimits}
+use Rattle.dist_cert.specs.Refusal.{BeginsWith, HasFirstFault, HasLineFault, in_order, IsFirstOf, certificate_text, AreFaultless}
+use Rattle.dist_check.specs.Present.{AreInputs, subject_of}
+
+-- ---- the numbers
+
+-- The input clauses and the lines keep the numbers: clauses and their literals, derived lines and theirs, and bytes.
+pub record KeepsNumbers (limits : Limits) (inputs : List (List Literal)) (h : Header) (lines : List CertRecord) : Type 0 where
+  pub clauses : length inputs ≤ limits.clauses
+  pub literals : literal_count inputs ≤ limits.literals
+  pub derived_lines : length (derived lines) ≤ limits.lines
+  pub line_literals : literal_count (derived lines) ≤ limits.line_literals
+  pub bytes : length (certificate_text h lines) ≤ limits.certificate
+
+-- The text begins with the lines of this header and these records, which have no fault and keep the numbers.
+pub record IsReached (r : PackageList) (inputs : Bool → List (List Literal)) (limits : Limits) (text : List ℕ) (h : Header) (before : List CertRecord) (rest : List ℕ) : Type 0 where
+  pub are_inputs : AreInputs r inputs
+  pub faultless : AreFaultless (subject_of r inputs) limits text h before rest
+  pub numbers : KeepsNumbers limits (inputs h.essential) h before
+
+-- ---- the answers
+
+-- The text is accepted, and keeps the numbers.
+pub record IsCompleted (r : PackageList) (limits : Limits) (text : List ℕ) (h : Header) (made : List Claim) : Type 0 where
+  pub inputs : Bool → List (List Literal)
+  pub are_inputs : AreInputs r inputs
+  pub steps : List CertRecord
+  pub accepted : IsAcceptedAs (subject_of r inputs) limits text h steps
+  pub claims : made ≡ claims_in steps
+  pub numbers : KeepsNumbers limits (inputs h.essential) h steps
+
+-- The first line has this first fault, and does not pass the number of bytes before.
+pub record StopsFirst (r : PackageList) (limits : Limits) (text : List ℕ) (cause : CertCause) : Type 0 where
+  pub inputs : Bool → List (List Literal)
+  pub are_inputs : AreInputs r inputs
+  pub bytes : ¬ PassesWhole limits 0 text
+  pub first : IsFirstOf in_order (HasFirstFault (subject_of r inputs) limits text) cause
+
+-- The line behind some lines that are reached has this first fault, and does not pass the number of bytes before.
+pub record StopsLater (r : PackageList) (limits : Limits) (text : List ℕ) (fault : CertFault) : Type 0 where
+  pub inputs : Bool → List (List Literal)
+  pub h : Header
+  pub before : List CertRecord
+  pub rest : List ℕ
+  pub reached : IsReached r inputs limits text h before rest
+  pub bytes : ¬ PassesWhole limits (length (certificate_text h before)) rest
+  pub line : fault.line ≡ length before + 2
+  pub first : IsFirstOf in_order (HasLineFault (subject_of r inputs) limits h before rest) fault.cause
+
+-- The text has a first line of kind strong, of which the clauses pass a number.
+pub record HasLargeInputs (limits : Limits) (text : List ℕ) (Passes : Bool → Type 0) : Type 0 where
+  pub keeps : KeepsLimits limits 0 text
+  pub h : Header
+  pub line : List ℕ
+  pub more : List ℕ
+  pub begins : BeginsWith text line more
+  pub form : HasHeaderForm line h
+  pub strong : h.kind ≡ kinds.Strong
+  pub passes : Passes h.essential
+
+-- A derived line without a fault stands behind some lines that are reached, and with it they pass a number.
+pub record StopsAtDerived (r : PackageList) (limits : Limits) (text : List ℕ) (Passes : List (List Literal) → List Literal → Type 0) : Type 0 where
+  pub inputs : Bool → List (List Literal)
+  pub h : Header
+  pub before : List CertRecord
+  pub rest : List ℕ
+  pub reached : IsReached r inputs limits text h before rest
+  pub keeps : KeepsLimits limits (length (certificate_text h before)) rest
+  pub literals : List Word
+  pub hints : List ℕ
+  pub line : List ℕ
+  pub more : List ℕ
+  pub begins : BeginsWith rest line more
+  pub form : HasForm line (Derived literals hints)
+  pub none : (cause : CertCause) → ¬ HasLineFault (subject_of r inputs) limits h before rest cause
+  pub passes : Passes (derived before) (clause_of literals)
+
+-- The byte that passes the number of bytes is one of the line behind some lines that are reached, or of the first line.
+pub record StopsAtByte (r : PackageList) (limits : Limits) (text : List ℕ) : Type 0 where
+  pub inputs : Bool → List (List Literal)
+  pub h : Header
+  pub before : List CertRecord
+  pub rest : List ℕ
+  pub reached : IsReached r inputs limits text h before rest
+  pub passes : PassesWhole limits (length (certificate_text h before)) rest
+
+-- When each answer is given. A fault of the desk and want of memory may come in place of any.
+abbrev pub TextAnswers : {X : Type 0} → (X → Header) → (X → List Claim) → PackageList → Limits → List ℕ → Result X ReadCertError → Type 0
+TextAnswers header claims r limits text (Ok done) = IsCompleted r limits text (header done) (claims done)
+TextAnswers header claims r limits text (Err (Bad fault)) = ((fault.line ≡ 1) × StopsFirst r limits text fault.cause) ⊎ StopsLater r limits text fault
+TextAnswers header claims r limits text (Err (Work (TooLarge Clauses))) = HasLargeInputs limits text (λ essential. PassesClauses r essential limits.clauses limits.literals)
+TextAnswers header claims r limits text (Err (Work (TooLarge Literals))) = HasLargeInputs limits text (λ essential. PassesLiterals r essential limits.clauses limits.literals)
+TextAnswers header claims r limits text (Err (Work (TooLarge Lines))) = StopsAtDerived r limits text (λ lines clause. length lines ≡ limits.lines)
+TextAnswers header claims r limits text (Err (Work (TooLarge LineLiterals))) = StopsAtDerived r limits text (λ lines clause. (length lines < limits.lines) × (limits.line_literals < literal_count lines + length clause))
+TextAnswers header claims r limits text (Err (Work (TooLarge Certificate))) = PassesWhole limits 0 text ⊎ StopsAtByte r limits text
+TextAnswers header claims r limits text (Err (Work ReadFault)) = Unit {0}
+TextAnswers header claims r limits text (Err (Work NoMemory)) = Unit {0}
+TextAnswers header claims r limits text (Err (Work error)) = ⊥
+
+-- what holds of a text, where it is told
+abbrev pub OfText : Option (List ℕ) → (List ℕ → Type 0) → Type 0
+OfText None P = Unit {0}
+OfText (Some text) P = P text
+
+-- Whatever the desk tells, it failed where it is said to have failed, and no other error of work than these comes.
+abbrev pub TextCause : DeskView → DeskView → ReadCertError → Type 0
+TextCause old new (Work ReadFault) = Rose old.read_faults new.read_faults
+TextCause old new (Work WriteFault) = ⊥
+TextCause old new error = Unit {0}

@@ -1,0 +1,15 @@
+pub mod Rising
+pub mod Window
+pub mod Closed
+pub mod Group
+pub mod Since
+pub mod State
+pub mod Limited
+pub mod Start
+pub mod Checking
+pub mod At
+pub mod Checked
+pub mod Answers
+pub mod Present
+pub mod Means
+pub mod PresentExamples

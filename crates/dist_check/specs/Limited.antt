@@ -1,0 +1,23 @@
+-- The limits within which a certificate is checked.
+use Rattle.std.specs.Prelude.{◌≤◌}
+use Rattle.dist_base.specs.declared.TheConstants.{MAX_CLAUSES, MAX_LITERALS, MAX_LINES, MAX_LINE_LITERALS}
+use Rattle.dist_outside.specs.declared.limits.Limits.{Limits}
+use Rattle.dist_outside.specs.declared.trouble.What.TheVariants.{Clauses, Literals}
+use Rattle.dist_outside.specs.declared.trouble.WorkError.TheVariants.{TooLarge, NoMemory}
+use Rattle.dist_clause.specs.declared.clause_set.PushError.{PushError}
+use Rattle.dist_clause.specs.declared.clause_set.PushError.TheVariants as pushes
+use Rattle.dist_cert.specs.declared.faults.ReadCertError.{ReadCertError}
+use Rattle.dist_cert.specs.declared.faults.ReadCertError.TheVariants.{Work}
+
+-- the limits of clauses and of derived lines are at most the stated ones
+pub record AreStated (limits : Limits) : Type 0 where
+  pub clauses : limits.clauses ≤ MAX_CLAUSES
+  pub literals : limits.literals ≤ MAX_LITERALS
+  pub lines : limits.lines ≤ MAX_LINES
+  pub line_literals : limits.line_literals ≤ MAX_LINE_LITERALS
+
+-- which number too many clauses or literals pass
+abbrev pub large_by : PushError → ReadCertError
+large_by pushes.TooManyClauses = Work (TooLarge Clauses)
+large_by pushes.TooManyLiterals = Work (TooLarge Literals)
+large_by pushes.NoMemory = Work NoMemory

@@ -1,0 +1,104 @@
+//! One pass over the lines of a certificate.
+ghost use Rattle.std.specs.Prelude.{◌≡◌, List, None, Option, ℕ, IfErr, IfOk, OnOk};
+ghost use Rattle.dist_outside.specs.DeskView.{OnlyReads};
+ghost use Rattle.dist_outside.specs.Files.{IsReading};
+ghost use Rattle.dist_outside.specs.Reading.{bytes_left};
+ghost use Rattle.dist_repo.specs.Size.{IsWithinSize};
+ghost use Rattle.dist_cert.specs.Reading.{text_left};
+ghost use Rattle.dist_check.specs.Checked.{IsChecked};
+ghost use Rattle.dist_check.specs.Checking.{OfText, TextAnswers, TextCause};
+ghost use Rattle.dist_check.specs.Limited.{AreStated};
+ghost use Rattle.dist_check.specs.Means.{Means};
+
+use crate::lines::take_line;
+use crate::start::start;
+use crate::state::State;
+use crate::tools::Tools;
+use dist_cert::{Claims, Header, ReadCertError, Reader, forms_are_clear};
+use dist_derive::lines_keep_models;
+use dist_now::{models_are_installations, present_clauses_are_one, present_clauses_are_there};
+use dist_outside::{Desk, Limits};
+use dist_repo::Repository;
+use std::alloc::Global;
+
+/// What was read of an accepted certificate.
+#[derive(Debug, Drop)]
+pub(crate) struct Checked {
+    pub(crate) header: Header,
+    pub(crate) claims: Claims,
+}
+
+/// Takes all lines behind the first one. What is told of a text is told of each that these lines may be of.
+fn take_lines<D: Desk>(
+    alloc: Global,
+    repo: &Repository,
+    desk: &mut D,
+    limits: &Limits,
+    header: &Header,
+    reader: &mut Reader,
+    state: &mut State,
+    tools: &mut Tools,
+) -> Result<(), ReadCertError>
+    requires reading { IsReading (D.view desk.old).mode }
+    requires size { IsWithinSize repo.now }
+    requires tools { tools.old ≡ state.old.packages }
+    requires start { IsChecked repo.now limits.now None header.now reader.old None state.old }
+    ensures text { (told : Option (List ℕ)) → IsChecked repo.now limits.now told header.now reader.old (text_left reader.old (D.view desk.old)) state.old
+        → OfText told (λ text. TextAnswers (λ _. header.now) (λ _. state.new.claims) repo.now limits.now text result) }
+    ensures means { OnOk result (Means header.now.essential repo.now state.new.claims) }
+    ensures cause { IfErr result (TextCause (D.view desk.old) (D.view desk.new)) }
+    ensures only_reads { OnlyReads (D.view desk.old) (D.view desk.new) }
+{
+    forms_are_clear();
+    lines_keep_models();
+    models_are_installations();
+    let _in_order = repo.len();
+    'lines: loop {
+        let _within = reader.lines();
+        let Some(step) = reader.next(desk)? else {
+            return Ok(());
+        };
+        let line = reader.lines();
+        take_line(alloc, repo, state, tools, line, step)?;
+    }
+}
+
+/// Checks the text that a desk is reading.
+pub(crate) fn check_text<D: Desk>(
+    alloc: Global,
+    repo: &Repository,
+    desk: &mut D,
+    limits: &Limits,
+) -> Result<Checked, ReadCertError>
+    requires reading { IsReading (D.view desk.old).mode }
+    requires size { IsWithinSize repo.now }
+    requires limits { AreStated limits.now }
+    ensures text { OfText (bytes_left (D.view desk.old).files (D.view desk.old).mode)
+        (λ text. TextAnswers (λ c. c.header) (λ c. c.claims) repo.now limits.now text result) }
+    ensures means { IfOk result (λ c. Means c.header.essential repo.now c.claims) }
+    ensures cause { IfErr result (TextCause (D.view desk.old) (D.view desk.new)) }
+    ensures only_reads { OnlyReads (D.view desk.old) (D.view desk.new) }
+{
+    forms_are_clear();
+    present_clauses_are_there();
+    present_clauses_are_one();
+    let _in_order = repo.len();
+    let mut reader = Reader::new(alloc, limits);
+    let header = reader.header(desk)?;
+    let mut state = start(alloc, repo, &header, limits)?;
+    let mut tools = Tools::new(alloc, repo.len())?;
+    take_lines(
+        alloc,
+        repo,
+        desk,
+        limits,
+        &header,
+        &mut reader,
+        &mut state,
+        &mut tools,
+    )?;
+    Ok(Checked {
+        header,
+        claims: state.into_claims(),
+    })
+}

@@ -1,0 +1,44 @@
+//! The check of a certificate's file.
+ghost use Rattle.std.specs.Prelude.{IfErr, IfOk};
+ghost use Rattle.dist_outside.specs.DeskView.{OnlyReads};
+ghost use Rattle.dist_outside.specs.Files.{IsNotWriting, file_bytes};
+ghost use Rattle.dist_repo.specs.Size.{IsWithinSize};
+ghost use Rattle.dist_check.specs.Answers.{Answers, VerdictMeans};
+ghost use Rattle.dist_check.specs.Checking.{OfText, TextCause};
+ghost use Rattle.dist_check.specs.Limited.{AreStated};
+
+use crate::checking::check_text;
+use crate::verdict::Verdict;
+use dist_cert::ReadCertError;
+use dist_outside::{Desk, Limits, Trouble, WorkError};
+use dist_repo::Repository;
+use std::alloc::Global;
+
+/// Whether the file of that name is a certificate of the repository, read once. Whatever the desk tells of its files,
+/// what an accepted certificate claims is true.
+pub fn check<D: Desk>(
+    alloc: Global,
+    repo: &Repository,
+    desk: &mut D,
+    name: &str,
+    limits: &Limits,
+) -> Result<Verdict, WorkError>
+    requires idle { IsNotWriting (D.view desk.old).mode }
+    requires size { IsWithinSize repo.now }
+    requires limits { AreStated limits.now }
+    ensures text { OfText (file_bytes (D.view desk.old).files name.now) (λ text. Answers repo.now limits.now text result) }
+    ensures means { IfOk result (VerdictMeans repo.now) }
+    ensures cause { IfErr result (λ error. TextCause (D.view desk.old) (D.view desk.new) (ReadCertError.Work error)) }
+    ensures only_reads { OnlyReads (D.view desk.old) (D.view desk.new) }
+{
+    match desk.start_read(name) {
+        Ok(()) => {}
+        Err(Trouble::Failed) => return Err(WorkError::ReadFault),
+        Err(Trouble::NoMemory) => return Err(WorkError::NoMemory),
+    }
+    match check_text(alloc, repo, desk, limits) {
+        Ok(checked) => Ok(Verdict::Accepted(checked.header, checked.claims)),
+        Err(ReadCertError::Bad(fault)) => Ok(Verdict::Refused(fault)),
+        Err(ReadCertError::Work(error)) => Err(error),
+    }
+}

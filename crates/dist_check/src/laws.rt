@@ -1,0 +1,54 @@
+//! What an accepted certificate proves, apart from the work. The functions do nothing.
+ghost use Rattle.std.specs.Prelude.{◌≡◌, ℕ, ◌^◌, ◌≤◌, ◌↔◌, Bool, List, Ok, Contains, length};
+ghost use Rattle.dist_outside.specs.declared.limits.Limits.{Limits};
+ghost use Rattle.dist_clause.specs.Formula.{Literal};
+ghost use Rattle.dist_derive.specs.Cone.{InCone};
+ghost use Rattle.dist_repo.specs.Order.{IsInOrder};
+ghost use Rattle.dist_repo.specs.PackageList.{PackageList};
+ghost use Rattle.dist_cert.specs.declared.records.CertRecord.{CertRecord};
+ghost use Rattle.dist_cert.specs.declared.records.Claim.{Claim};
+ghost use Rattle.dist_cert.specs.declared.records.Header.{Header};
+ghost use Rattle.dist_cert.specs.Accepted.{IsAcceptedAs};
+ghost use Rattle.dist_cert.specs.Form.{Word};
+ghost use Rattle.dist_cert.specs.Groups.{clause_of, IsUndecidedIn};
+ghost use Rattle.dist_check.specs.declared.verdict.Verdict.{Verdict};
+ghost use Rattle.dist_check.specs.Answers.{Answers, IsVerdict};
+ghost use Rattle.dist_check.specs.Present.{IsAccepted, AreInputs, subject_of};
+ghost use Rattle.dist_check.specs.Means.{Means};
+
+use dist_cert::forms_are_clear;
+use dist_derive::{lines_keep_models, new_lines_are_few};
+use dist_now::{models_are_installations, present_clauses_are_one};
+
+/// The claims of an accepted text hold, whoever wrote it.
+pub fn accepted_claims_hold()
+    ensures { (r : PackageList) (limits : Limits) (text : List ℕ) (h : Header) (made : List Claim) → IsInOrder r.packages
+        → IsAccepted r limits text h made → Means h.essential r made }
+{
+    forms_are_clear();
+    lines_keep_models();
+    models_are_installations();
+}
+
+/// A question that an accepted text closes as undecided is hard: the limit is at most 3 to the power of the number of
+/// variables in its cone, which is given by its list.
+pub fn undecided_questions_are_hard()
+    ensures { (r : PackageList) (inputs : Bool → List (List Literal)) (limits : Limits) (text : List ℕ) (h : Header) (steps : List CertRecord)
+        (question : List Word) (cone : List ℕ) → AreInputs r inputs → IsAcceptedAs (subject_of r inputs) limits text h steps
+        → IsUndecidedIn steps question → ((v : ℕ) → Contains cone v ↔ InCone (inputs h.essential) (clause_of question) v)
+        → h.limit ≤ 3 ^ length cone }
+{
+    forms_are_clear();
+    new_lines_are_few();
+}
+
+/// What the check answers of a text is the text's verdict, and there is no other one.
+pub fn texts_have_one_verdict()
+    ensures right { (r : PackageList) (limits : Limits) (text : List ℕ) (verdict : Verdict) → Answers r limits text (Ok verdict)
+        → IsVerdict r limits text verdict }
+    ensures one { (r : PackageList) (limits : Limits) (text : List ℕ) (verdict other : Verdict) → IsVerdict r limits text verdict
+        → IsVerdict r limits text other → verdict ≡ other }
+{
+    forms_are_clear();
+    present_clauses_are_one();
+}

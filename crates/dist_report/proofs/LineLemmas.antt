@@ -1,0 +1,30 @@
+-- Lines that are written one after another.
+use Rattle.std.proofs.Common.{◌≡◌, ℕ, ◌+◌, ◌≤◌, List, [], ◌∷◌, ◌++◌, append_assoc, length, get_or, take, Some, sym, ap, ◌∙◌, slice_get}
+use Rattle.std.specs.List.{flat_map}
+use Rattle.std.proofs.lemmas.List.{flat_map_more, take_more}
+use Rattle.std.proofs.lemmas.Option.{slice_get_within, get_or_from_slice_get}
+use Rattle.dist_report.proofs.ToldLemmas.{take-past}
+
+-- the lines of one more item
+pub lines-more : {X : Type 0} (f : X → List ℕ) (xs : List X) (k : ℕ) (x : X) (bs old new : List ℕ) → slice_get xs k ≡ Some x →
+    old ≡ bs ++ flat_map f (take k xs) → new ≡ old ++ f x → new ≡ bs ++ flat_map f (take (k + 1) xs)
+lines-more f xs k x bs old new is so_far more =
+    let short = slice_get_within xs k x is in
+    let here : get_or xs k x ≡ x = get_or_from_slice_get xs k x x is in
+    let pushed : take (k + 1) xs ≡ take k xs ++ x ∷ [] = take_more xs k x short ∙ ap (λ y. take k xs ++ y ∷ []) here in
+    more ∙ ap (λ (t : List ℕ). t ++ f x) so_far ∙ flat_map_more f bs (take k xs) x ∙ ap (λ list. bs ++ flat_map f list) (sym pushed)
+
+-- the lines of all items
+pub lines-all : {X : Type 0} (f : X → List ℕ) (xs : List X) (k : ℕ) (bs new : List ℕ) → length xs ≤ k → new ≡ bs ++ flat_map f (take k xs) → new ≡ bs ++ flat_map f xs
+lines-all f xs k bs new past so_far = so_far ∙ ap (λ list. bs ++ flat_map f list) (take-past xs k past)
+
+-- ---- texts that are added one after another
+
+pub joined-two : (old p s a b : List ℕ) → a ≡ old ++ p → b ≡ a ++ s → b ≡ old ++ (p ++ s)
+joined-two old p s a b first second = second ∙ ap (λ (t : List ℕ). t ++ s) first ∙ append_assoc old p s
+
+pub joined-three : (old p s t a b c : List ℕ) → a ≡ old ++ p → b ≡ a ++ s → c ≡ b ++ t → c ≡ old ++ (p ++ (s ++ t))
+joined-three old p s t a b c first second third = joined-two old p (s ++ t) a c first (joined-two a s t b c second third)
+
+pub joined-class : (old p s t e a b c d : List ℕ) → a ≡ old ++ p → b ≡ a ++ s → c ≡ b ++ t → d ≡ c ++ e → d ≡ old ++ ((p ++ (s ++ t)) ++ e)
+joined-class old p s t e a b c d first second third fourth = joined-two old (p ++ (s ++ t)) e c d (joined-three old p s t a b c first second third) fourth

@@ -1,0 +1,5 @@
+pub mod PackageText
+pub mod Lines
+pub mod ClassesReport
+pub mod Written
+pub mod Examples

@@ -1,0 +1,171 @@
+//! The report of `classes`: clusters with their members and classes, and new names with theirs.
+ghost use Rattle.std.specs.Prelude.{◌≡◌, ◌++◌, ◌<◌, [], ℕ, List, All, IfOk, OnOk, length, slice_index_or, codes};
+ghost use Rattle.dist_classes.specs.Answers.{AreClustersOf};
+ghost use Rattle.dist_classes.specs.ClassList.{HasVersions};
+ghost use Rattle.dist_classes.specs.NewNames.{AreNewNames};
+ghost use Rattle.dist_report.specs.ClassesReport.{IsClassesText, class_lines, head_lines, opening, member_line};
+ghost use Rattle.dist_report.specs.Lines.{listed};
+ghost use Rattle.dist_report.specs.Written.{TellsCluster, TellsClusters, TellsName, TellsNames};
+
+use crate::lines::{write_key, write_package, write_string};
+use dist_classes::{
+    Class, Classes, CutFinder, Names, example, new_names, print_class, repository_clusters,
+};
+use dist_cluster::Clusters;
+use dist_relation::Name;
+use dist_repo::Repository;
+use dist_version::Version;
+use itoa::Buffer;
+use std::alloc::{AllocError, Global};
+
+/// Adds a class and its example.
+fn write_class(alloc: Global, out: &mut Vec<u8>, class: &Class) -> Result<(), AllocError>
+    requires { HasVersions class.now }
+    ensures { OnOk result (out.new.items ≡ out.old.items ++ class_lines class.now) }
+{
+    out.extend_from_slice(b"      - class: \"")?;
+    print_class(class, out)?;
+    out.extend_from_slice(b"\"\n")?;
+    write_string(out, b"        example: ", example(alloc, class)?.text())?;
+    Ok(())
+}
+
+/// Adds a list of classes.
+fn write_classes(alloc: Global, out: &mut Vec<u8>, classes: &Classes) -> Result<(), AllocError>
+    ensures { OnOk result (out.new.items ≡ out.old.items ++ listed (codes "    classes:") class_lines classes.now) }
+{
+    write_key(out, b"    classes:", classes.len() == 0)?;
+    for place in 0..classes.len() {
+        write_class(alloc, out, classes.get(place))?;
+    }
+    Ok(())
+}
+
+/// Adds the members of a cluster.
+fn write_members(out: &mut Vec<u8>, repo: &Repository, members: &[u32]) -> Result<(), AllocError>
+    requires { All (λ number. number < length repo.now.packages) members.now }
+    ensures { OnOk result (out.new.items ≡ out.old.items ++ listed (codes "    members:") (member_line repo.now.packages) members.now) }
+{
+    write_key(out, b"    members:", members.is_empty())?;
+    for number in members {
+        write_package(out, b"      - ", repo.package(*number))?;
+    }
+    Ok(())
+}
+
+/// Adds what stands before the members of a cluster: its name in the report, its source and its top.
+fn write_head(
+    out: &mut Vec<u8>,
+    repo: &Repository,
+    least: u32,
+    top: &Version,
+) -> Result<(), AllocError>
+    requires { least < length repo.now.packages }
+    ensures { OnOk result (out.new.items ≡ out.old.items ++ head_lines repo.now.packages least top.now) }
+{
+    let package = repo.package(least);
+    write_package(out, b"  - cluster: ", package)?;
+    write_string(out, b"    source: ", package.source.bytes())?;
+    write_string(out, b"    top: ", top.text())?;
+    Ok(())
+}
+
+/// Adds a cluster, by its number.
+fn write_cluster(
+    alloc: Global,
+    out: &mut Vec<u8>,
+    repo: &Repository,
+    finder: &CutFinder<'_>,
+    clusters: &Clusters,
+    cluster: u32,
+) -> Result<(), AllocError>
+    requires of { finder.now ≡ repo.now }
+    requires clusters { AreClustersOf repo.now clusters.now }
+    requires cluster { cluster < length clusters.now.members }
+    ensures { OnOk result (TellsCluster repo.now (slice_index_or clusters.now.members cluster []) (slice_index_or clusters.now.tops cluster []) out.old.items out.new.items) }
+{
+    let members = clusters.members(cluster);
+    let classes = finder.classes_of_cluster(clusters, cluster)?;
+    write_head(out, repo, members[0], clusters.top(cluster))?;
+    write_members(out, repo, members)?;
+    write_classes(alloc, out, &classes)?;
+    Ok(())
+}
+
+/// Adds all clusters.
+fn write_clusters(
+    alloc: Global,
+    out: &mut Vec<u8>,
+    repo: &Repository,
+    finder: &CutFinder<'_>,
+    clusters: &Clusters,
+) -> Result<(), AllocError>
+    requires of { finder.now ≡ repo.now }
+    requires clusters { AreClustersOf repo.now clusters.now }
+    ensures { OnOk result (TellsClusters repo.now out.old.items out.new.items) }
+{
+    write_key(out, b"clusters:", clusters.len() == 0)?;
+    for cluster in 0..clusters.len() {
+        write_cluster(alloc, out, repo, finder, clusters, cluster)?;
+    }
+    Ok(())
+}
+
+/// Adds a new name.
+fn write_name<'a>(
+    alloc: Global,
+    out: &mut Vec<u8>,
+    finder: &CutFinder<'a>,
+    name: &'a Name,
+) -> Result<(), AllocError>
+    ensures { OnOk result (TellsName finder.now name.now out.old.items out.new.items) }
+{
+    let classes = finder.classes_of_new_name(name)?;
+    write_string(out, b"  - name: ", name.bytes())?;
+    write_classes(alloc, out, &classes)?;
+    Ok(())
+}
+
+/// Adds all new names.
+fn write_names<'a>(
+    alloc: Global,
+    out: &mut Vec<u8>,
+    finder: &CutFinder<'a>,
+    names: &'a Names,
+) -> Result<(), AllocError>
+    requires { AreNewNames finder.now names.now }
+    ensures { OnOk result (TellsNames finder.now out.old.items out.new.items) }
+{
+    write_key(out, b"names:", names.len() == 0)?;
+    for place in 0..names.len() {
+        write_name(alloc, out, finder, names.get(place))?;
+    }
+    Ok(())
+}
+
+/// The lines before the clusters.
+fn opened(alloc: Global, repo: &Repository) -> Result<Vec<u8>, AllocError>
+    ensures { IfOk result (λ out. out.items ≡ opening repo.now.packages) }
+{
+    let mut out = Vec::from_slice(alloc, b"report: \"classes\"\npackages: ")?;
+    let mut buffer = Buffer::new();
+    out.extend_from_slice(buffer.format(repo.len()).as_bytes())?;
+    out.push(b'\n')?;
+    Ok(out)
+}
+
+/// The report of the classes of a repository: of each cluster, and of each name that is new to it.
+///
+/// The atoms of the repository are gone through once, and the text is one vector.
+pub fn classes_text(alloc: Global, repo: &Repository) -> Result<Vec<u8>, AllocError>
+    requires { length repo.now.packages < 4294967295 }
+    ensures { IfOk result (λ text. IsClassesText repo.now text.items) }
+{
+    let clusters = repository_clusters(alloc, repo)?;
+    let names = new_names(alloc, repo)?;
+    let finder = CutFinder::new(alloc, repo)?;
+    let mut out = opened(alloc, repo)?;
+    write_clusters(alloc, &mut out, repo, &finder, &clusters)?;
+    write_names(alloc, &mut out, &finder, &names)?;
+    Ok(out)
+}

@@ -1,0 +1,53 @@
+//! The lines that reports are made of: a key with a string, a key with a list, a package of a list.
+ghost use Rattle.std.specs.Prelude.{◌≡◌, ◌++◌, OnOk};
+ghost use Rattle.dist_report.specs.Lines.{key_line, string_line};
+ghost use Rattle.dist_report.specs.PackageText.{label};
+
+use dist_repo::Package;
+use std::alloc::AllocError;
+
+/// Adds a string in double quotes, behind what stands before it, and the line's end.
+pub(crate) fn write_string(out: &mut Vec<u8>, before: &[u8], text: &[u8]) -> Result<(), AllocError>
+    ensures { OnOk result (out.new.items ≡ out.old.items ++ string_line before.now text.now) }
+{
+    out.extend_from_slice(before)?;
+    out.push(b'"')?;
+    out.extend_from_slice(text)?;
+    out.extend_from_slice(b"\"\n")?;
+    Ok(())
+}
+
+/// Adds the line of a key that has a list.
+pub(crate) fn write_key(out: &mut Vec<u8>, key: &[u8], is_empty: bool) -> Result<(), AllocError>
+    ensures { OnOk result (out.new.items ≡ out.old.items ++ key_line key.now is_empty) }
+{
+    out.extend_from_slice(key)?;
+    let end: &[u8] = if is_empty { b" []\n" } else { b"\n" };
+    out.extend_from_slice(end)?;
+    Ok(())
+}
+
+/// Adds a package as `name=version`, perhaps a front of it alone after an `Err`.
+pub fn print_label(package: &Package, out: &mut Vec<u8>) -> Result<(), AllocError>
+    ensures { OnOk result (out.new.items ≡ out.old.items ++ label «package».now) }
+{
+    out.extend_from_slice(package.name.bytes())?;
+    out.push(b'=')?;
+    out.extend_from_slice(package.version.text())?;
+    Ok(())
+}
+
+/// Adds a package as a string, behind what stands before it, and the line's end.
+pub(crate) fn write_package(
+    out: &mut Vec<u8>,
+    before: &[u8],
+    package: &Package,
+) -> Result<(), AllocError>
+    ensures { OnOk result (out.new.items ≡ out.old.items ++ string_line before.now (label «package».now)) }
+{
+    out.extend_from_slice(before)?;
+    out.push(b'"')?;
+    print_label(package, out)?;
+    out.extend_from_slice(b"\"\n")?;
+    Ok(())
+}
