@@ -8,7 +8,7 @@ use Rattle.dist_version.specs.Spelling.{IsVersion}
 use Rattle.dist_relation.specs.declared.atom.Atom.{Atom}
 use Rattle.dist_relation.specs.declared.atom.Provide.{Provide}
 use Rattle.dist_relation.specs.declared.atom.Qualifier.{Qualifier}
-use Rattle.dist_cluster.specs.Found.{IsIn}
+use Rattle.dist_cluster.specs.Partition.{IsIn}
 use Rattle.dist_repo.specs.Match.{IsUsable, Matches, MatchesByEntry, MatchesByName}
 use Rattle.dist_repo.specs.PackageList.{PackageList}
 use Rattle.dist_repo.specs.declared.package.Package.{Package}

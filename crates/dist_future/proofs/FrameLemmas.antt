@@ -5,8 +5,7 @@ use Rattle.std.proofs.lemmas.Bool.{cases_lt}
 use Rattle.std.proofs.lemmas.List.{get_or_past, length-map, length_push}
 use Rattle.std.proofs.lemmas.List.Elements.{All-contains}
 use Rattle.std.proofs.lemmas.Option.{get_or_from_slice_get, same_Some, slice_get-get_or, slice_get_past, slice_get_within}
-use Rattle.dist_cluster.specs.Found.{IsIn}
-use Rattle.dist_cluster.specs.Partition.{IsClusterOf}
+use Rattle.dist_cluster.specs.Partition.{IsClusterOf, IsIn}
 use Rattle.dist_cluster.specs.Relation.{Member, AreClustered}
 use Rattle.dist_cluster.specs.Top.{ClusterList}
 use Rattle.dist_repo.specs.Order.{IsFlat}

@@ -7,8 +7,7 @@ use Rattle.std.proofs.lemmas.List.{length-map}
 use Rattle.std.proofs.lemmas.List.Elements.{All-contains, Contains-get_or}
 use Rattle.std.proofs.lemmas.Option.{get_or_from_slice_get, slice_get-get_or, slice_get-map, slice_get_within}
 use Rattle.dist_version.specs.Order.{version_cmp, IsBelow}
-use Rattle.dist_cluster.specs.Found.{IsIn}
-use Rattle.dist_cluster.specs.Partition.{IsClusterOf}
+use Rattle.dist_cluster.specs.Partition.{IsClusterOf, IsIn}
 use Rattle.dist_cluster.specs.Relation.{Member, AreClustered, AreTogether}
 use Rattle.dist_cluster.specs.Top.{IsTop, IsVersionIn}
 use Rattle.dist_repo.specs.PackageList.{PackageList}

@@ -7,7 +7,7 @@ use Rattle.std.proofs.lemmas.Option.{slice_get-get_or, slice_get_within}
 use Rattle.dist_version.specs.Order.{version_cmp, IsBelow}
 use Rattle.dist_version.specs.Spelling.{IsVersion}
 use Rattle.dist_clause.specs.Formula.{Literal, IsModel, value_of}
-use Rattle.dist_cluster.specs.Found.{IsIn}
+use Rattle.dist_cluster.specs.Partition.{IsIn}
 use Rattle.dist_repo.specs.PackageList.{IsPackageAnd}
 use Rattle.dist_repo.specs.Strong.{IsInstallable, IsInstallation}
 use Rattle.dist_repo.specs.declared.package.Package.{Package}

@@ -10,7 +10,7 @@ use Rattle.dist_version.specs.Spelling.{IsVersion}
 use Rattle.dist_relation.specs.Satisfies.{Satisfies}
 use Rattle.dist_relation.specs.declared.atom.Atom.{Atom}
 use Rattle.dist_relation.specs.declared.atom.Provide.{Provide}
-use Rattle.dist_cluster.specs.Found.{IsIn}
+use Rattle.dist_cluster.specs.Partition.{IsIn}
 use Rattle.dist_cluster.specs.Top.{ClusterList}
 use Rattle.dist_repo.specs.Match.{IsUsable, Matches, MatchesByEntry}
 use Rattle.dist_repo.specs.Order.{IsFlat}

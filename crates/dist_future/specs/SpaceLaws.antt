@@ -1,7 +1,7 @@
 -- What the clauses of a space mean.
 use Rattle.std.specs.Prelude.{◌≡◌, ◌↔◌, ℕ, true, Bool, List, [], ◌∷◌, All, length, slice_get, Some}
 use Rattle.dist_clause.specs.Formula.{Literal, IsModel, value_of}
-use Rattle.dist_cluster.specs.Found.{IsIn}
+use Rattle.dist_cluster.specs.Partition.{IsIn}
 use Rattle.dist_repo.specs.declared.package.Package.{Package}
 use Rattle.dist_version.specs.Spelling.{IsVersion}
 use Rattle.dist_classes.specs.ClassList.{IsOfClassAt}

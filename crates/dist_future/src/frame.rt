@@ -1,6 +1,6 @@
 //! The clusters, classes and new names of a repository.
 ghost use Rattle.std.specs.Prelude.{◌≡◌, ◌≤◌, ◌<◌, ◌↔◌, ◌^◌, ℕ, [], All, Any, Contains, IfOk, IsTrue, Some, length, slice_get, slice_index, slice_index_or};
-ghost use Rattle.dist_cluster.specs.Found.{IsIn};
+ghost use Rattle.dist_cluster.specs.Partition.{IsIn};
 ghost use Rattle.dist_repo.specs.Match.{IsUsable};
 ghost use Rattle.dist_repo.specs.Order.{IsFlat};
 ghost use Rattle.dist_repo.specs.Size.{IsWithinSize};
