@@ -1,27 +1,24 @@
 -- What a new version of a member matches, and what a package of a new name does: what the variables of its class match.
 use Rattle.std.proofs.Common.{◌≡◌, ◌⊎◌, ◌↔◌, ℕ, zero, suc, ◌<◌, Bool, true, false, List, [], ◌∷◌, Option, Some, None, Ordering, Less, Equal, Greater, length, get_or, refl, sym, ap, subst, ◌∙◌, inl, inr, arith, slice_get}
-use Rattle.std.specs.Prelude.{Any, Contains, IfSome, IsSomeAnd, slice_index, if◌then◌else◌}
+use Rattle.std.specs.Prelude.{Any, Contains, IsSomeAnd, slice_index, if◌then◌else◌}
 use Rattle.std.specs.Ordering.{is_eq}
 use Rattle.std.proofs.lemmas.Option.{get_or_from_slice_get, slice_get_within}
 use Rattle.dist_version.specs.Order.{version_cmp, IsBelow}
 use Rattle.dist_version.specs.Spelling.{IsVersion}
 use Rattle.dist_relation.specs.declared.atom.Atom.{Atom}
 use Rattle.dist_relation.specs.declared.atom.Provide.{Provide}
-use Rattle.dist_relation.specs.declared.atom.Qualifier.{Qualifier}
-use Rattle.dist_cluster.specs.Partition.{IsIn}
-use Rattle.dist_repo.specs.Match.{IsUsable, Matches, MatchesByEntry, MatchesByName}
+use Rattle.dist_repo.specs.Match.{IsUsable, Matches, MatchesByEntry}
 use Rattle.dist_repo.specs.PackageList.{PackageList}
 use Rattle.dist_repo.specs.declared.package.Package.{Package}
-use Rattle.dist_classes.specs.Answers.{AreClassesOf, AreClassesOfName}
 use Rattle.dist_classes.specs.Atoms.{IsAtomOf}
 use Rattle.dist_classes.specs.ClassList.{AreInOneClass, IsInOneClass, IsOfClassAt, classes_above, classes_of_all}
 use Rattle.dist_classes.specs.Cuts.{AreCuts, IsClusterCut, IsNameCut, Rises, RisesFrom}
-use Rattle.dist_classes.specs.NewVersion.{AreCarried, IsAt, IsCarried, IsNewVersionOf, IsOfNewName}
+use Rattle.dist_classes.specs.NewVersion.{AreCarried, IsCarried, IsNewVersionOf, IsOfNewName}
 use Rattle.dist_classes.specs.declared.class_value.Class.{Class}
-use Rattle.dist_future.specs.Space.{IsExample, IsMatched, IsMatchedBy, IsMeaning, IsFrame, MeetsBound, SpaceView, cluster_classes, example_at, fresh_classes, member_classes, moved_entry, moved_version}
+use Rattle.dist_future.specs.Space.{IsExample, IsMatched, IsMeaning, IsFrame, MeetsBound, SpaceView, example_at, fresh_classes, member_classes, moved_entry, moved_version}
 use Rattle.dist_future.specs.Stands.{fresh_package}
 use Rattle.dist_future.specs.declared.meaning.Meaning.TheVariants.{New, Kept, Fresh}
-use Rattle.dist_future.proofs.Lists.{ElementAt, FoundAt, any-at, any-cases, any-head, any-later, at-has, contains-at, element-at, found-at, here-at, has-at}
+use Rattle.dist_future.proofs.Lists.{any-at, any-cases, any-head, at-has, contains-at, found-at, here-at, has-at}
 use Rattle.dist_future.proofs.VersionOrder.{equal-itself}
 
 -- ---- the laws of classes

@@ -1,9 +1,8 @@
 -- What the demands of a space ask of the meanings that hold, and that the models of its clauses are what meets them.
-use Rattle.std.proofs.Common.{◌≡◌, ◌⊎◌, ℕ, suc, ◌+◌, ◌<◌, Bool, true, false, List, [], ◌∷◌, Option, Some, length, get_or, map, refl, sym, ap, subst, ◌∙◌, inl, inr, arith, slice_get}
+use Rattle.std.proofs.Common.{◌≡◌, ◌⊎◌, ℕ, suc, ◌<◌, Bool, true, false, List, [], ◌∷◌, Some, length, map, refl, sym, ap, subst, ◌∙◌, inl, inr, arith, slice_get}
 use Rattle.std.specs.Prelude.{All, Any, Contains, IsSomeAnd, slice_index}
 use Rattle.std.specs.Option.{option_map}
 use Rattle.std.proofs.lemmas.Bool.{false≢true}
-use Rattle.std.proofs.lemmas.List.{length-map}
 use Rattle.std.proofs.lemmas.List.Elements.{All-contains, All-map}
 use Rattle.std.proofs.lemmas.Option.{slice_get-map, slice_get_within}
 use Rattle.dist_clause.specs.Formula.{Literal, IsTrueLiteral, MakesTrue, IsModel, value_of}
@@ -12,11 +11,11 @@ use Rattle.dist_repo.specs.Healthy.{required_names}
 use Rattle.dist_repo.specs.Match.{IsUsable, Matches}
 use Rattle.dist_repo.specs.declared.package.Package.{Package}
 use Rattle.dist_future.specs.Space.{SpaceView, AreMeaningsOf, IsMatched, IsMeaning, IsMetBy, cluster_classes, fresh_classes, variable_of}
-use Rattle.dist_future.specs.SpaceClauses.{Demand, OneClass, Gone, Moved, Carried, OneFresh, Item, Apart, StaysNow, AbsentNow, Required, AreClausesOf, AreSpaceClauses, Excludes, IsBearer, IsClauseFor, IsDemand, IsItemAnd, no, yes}
+use Rattle.dist_future.specs.SpaceClauses.{Demand, OneClass, Gone, Moved, Carried, OneFresh, Item, Apart, StaysNow, AbsentNow, Required, AreSpaceClauses, Excludes, IsBearer, IsClauseFor, IsDemand, IsItemAnd, no, yes}
 use Rattle.dist_future.specs.declared.meaning.Meaning.{Meaning}
 use Rattle.dist_future.specs.declared.meaning.Meaning.TheVariants.{Now, Present, At, New, Kept, Fresh}
 use Rattle.dist_future.proofs.Decided.{any-decided, matches-decided}
-use Rattle.dist_future.proofs.Lists.{all-contained, any-at, any-cases, any-head, any-later, any-more, at-has, contains-at, element-at, found-at, has-at, here-at, place-of, within-from}
+use Rattle.dist_future.proofs.Lists.{all-contained, any-at, any-cases, any-head, any-later, any-more, at-has, contains-at, has-at, here-at, place-of, within-from}
 
 -- some meaning that holds meets the item, or has the name
 pub record IsMetIn (s : SpaceView) (T : Meaning → Type 0) (P : Meaning → Type 0) : Type 0 where

@@ -23,7 +23,7 @@ use Rattle.dist_future.specs.declared.meaning.Meaning.{Meaning}
 use Rattle.dist_future.specs.declared.meaning.Meaning.TheVariants.{Present}
 use Rattle.dist_future.proofs.DemandLists.{clauses-shift}
 use Rattle.dist_future.proofs.Fronts.{leading-is, one-meaning, rank-one}
-use Rattle.dist_future.proofs.Lists.{any-head, element-is, has-at, some-element}
+use Rattle.dist_future.proofs.Lists.{element-is, has-at, some-element}
 use Rattle.dist_future.proofs.RisingRows.{Has, HasOneImage, IsAsymmetric, rows-front, rows-same}
 
 -- ---- the order of demands

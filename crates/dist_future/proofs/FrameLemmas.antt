@@ -1,10 +1,10 @@
 -- Lists that are gathered beside other ones, and members of clusters.
-use Rattle.std.proofs.Common.{◌≡◌, ◌⊎◌, ◌↔◌, ℕ, zero, suc, ◌+◌, ◌<◌, ◌≤◌, Bool, List, [], ◌∷◌, ◌++◌, Option, Some, None, length, get_or, map, refl, sym, ap, subst, ◌∙◌, inl, inr, arith, slice_get}
+use Rattle.std.proofs.Common.{◌≡◌, ◌↔◌, ℕ, zero, suc, ◌+◌, ◌<◌, Bool, List, [], ◌∷◌, ◌++◌, Some, length, get_or, map, refl, sym, ap, subst, ◌∙◌, inl, inr, arith, slice_get}
 use Rattle.std.specs.Prelude.{All, Any, Contains, IsSomeAnd}
 use Rattle.std.proofs.lemmas.Bool.{cases_lt}
 use Rattle.std.proofs.lemmas.List.{get_or_past, length-map, length_push}
 use Rattle.std.proofs.lemmas.List.Elements.{All-contains}
-use Rattle.std.proofs.lemmas.Option.{get_or_from_slice_get, same_Some, slice_get-get_or, slice_get_past, slice_get_within}
+use Rattle.std.proofs.lemmas.Option.{get_or_from_slice_get, same_Some, slice_get-get_or, slice_get_within}
 use Rattle.dist_cluster.specs.Partition.{IsClusterOf, IsIn}
 use Rattle.dist_cluster.specs.Relation.{Member, AreClustered}
 use Rattle.dist_cluster.specs.Top.{ClusterList}
@@ -15,7 +15,7 @@ use Rattle.dist_classes.specs.NewNames.{AreNewNames}
 use Rattle.dist_classes.specs.declared.class_value.Class.{Class}
 use Rattle.dist_future.specs.Kept.{AreClassesBeside, AreExampled, AreNameClassesBeside}
 use Rattle.dist_future.specs.Space.{IsFrame, SpaceView}
-use Rattle.dist_future.proofs.Lists.{all-contained, at-has, contains-at, here-at, within-from}
+use Rattle.dist_future.proofs.Lists.{all-contained, at-has, here-at, within-from}
 
 -- one more element, and those before it
 pub push-old : {X : Type 0} (xs : List X) (x d : X) (k : ℕ) → k < length xs → get_or (xs ++ x ∷ []) k d ≡ get_or xs k d

@@ -1,9 +1,8 @@
 -- The clauses of the demands below a group, a variable and a number: how they grow, and why a set stops.
-use Rattle.std.proofs.Common.{◌≡◌, ◌≢◌, ◌⊎◌, ℕ, zero, suc, ◌+◌, ◌-◌, ◌<◌, ◌≤◌, List, [], ◌∷◌, ◌++◌, Some, Less, nat_cmp, length, get_or, refl, sym, ap, subst, ◌∙◌, arith, inl, inr, slice_get}
-use Rattle.std.specs.Prelude.{Contains, IsSomeAnd}
+use Rattle.std.proofs.Common.{◌≡◌, ◌⊎◌, ℕ, ◌+◌, ◌-◌, ◌<◌, ◌≤◌, List, [], ◌∷◌, ◌++◌, Some, Less, nat_cmp, length, get_or, refl, sym, ap, subst, ◌∙◌, arith, inl, inr, slice_get}
+use Rattle.std.specs.Prelude.{IsSomeAnd}
 use Rattle.std.specs.Cmp.Lexicographic.{slice_cmp}
 use Rattle.std.proofs.lemmas.Bool.{cases_lt}
-use Rattle.std.proofs.lemmas.Cmp.{nat_list_cmp_total, tied_itself}
 use Rattle.std.proofs.lemmas.Option.{same_Some, slice_get_within}
 use Rattle.dist_clause.specs.ClauseList.{ClauseList}
 use Rattle.dist_clause.specs.Formula.{Literal}
@@ -11,12 +10,11 @@ use Rattle.dist_clause.specs.declared.clause_set.PushError.{PushError}
 use Rattle.dist_clause.specs.declared.clause_set.PushError.TheVariants.{TooManyClauses, TooManyLiterals, NoMemory}
 use Rattle.dist_repo.specs.declared.package.Package.{Package}
 use Rattle.dist_future.specs.Gathering.{IsBelow, IsCauseAt, IsFront, IsRefused}
-use Rattle.dist_future.specs.Space.{IsMeaning, IsSpace, SpaceView, cluster_classes, fresh_classes, variable_of}
+use Rattle.dist_future.specs.Space.{IsMeaning, IsSpace, SpaceView, variable_of}
 use Rattle.dist_future.specs.SpaceClauses.{Demand, OneClass, Gone, Moved, Carried, OneFresh, Item, Apart, StaysNow, AbsentNow, Required, AreClausesOf, Excludes, IsBefore, IsClauseFor, IsDemand, group_of, leading, rank_of, second_of}
 use Rattle.dist_future.specs.SpaceSet.{IsCause, IsSetOf}
 use Rattle.dist_future.specs.declared.meaning.Meaning.{Meaning}
-use Rattle.dist_future.specs.declared.meaning.Meaning.TheVariants.{Now, Present, At, New, Kept, Fresh}
-use Rattle.dist_future.proofs.DemandLists.{clauses-more, clauses-none, clauses-shift}
+use Rattle.dist_future.proofs.DemandLists.{clauses-more, clauses-shift}
 use Rattle.dist_future.proofs.Lex.{IsLess, cmp-less, less-cmp}
 use Rattle.dist_future.proofs.Lists.{place-of, within-from}
 use Rattle.dist_future.proofs.Variables.{variable-at}

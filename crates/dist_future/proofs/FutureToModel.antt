@@ -1,5 +1,5 @@
 -- A healthy installation of a future meets the demands of the space: which meanings hold in it.
-use Rattle.std.proofs.Common.{◌≡◌, ◌≢◌, ◌⊎◌, ℕ, zero, suc, ◌<◌, Bool, true, false, List, [], ◌∷◌, Option, Some, None, length, get_or, map, refl, sym, ap, subst, ◌∙◌, inl, inr, arith, slice_get}
+use Rattle.std.proofs.Common.{◌≡◌, ◌≢◌, ◌⊎◌, ℕ, ◌<◌, Bool, true, false, List, [], Option, Some, None, length, refl, sym, ap, subst, ◌∙◌, inl, inr, arith, slice_get}
 use Rattle.std.specs.Prelude.{All, AllPairs, Any, Contains, IsSomeAnd, filter, slice_index}
 use Rattle.std.specs.Option.{option_map}
 use Rattle.std.proofs.lemmas.List.Elements.{All-contains, All-filter, All-map}
@@ -8,25 +8,25 @@ use Rattle.dist_relation.specs.declared.atom.Atom.{Atom}
 use Rattle.dist_repo.specs.Conflict.{AreInConflict}
 use Rattle.dist_repo.specs.Healthy.{IsMet, required_names}
 use Rattle.dist_repo.specs.Match.{IsUsable, Matches, MatchesByEntry}
-use Rattle.dist_repo.specs.Order.{IsFlat, IsSamePackage}
-use Rattle.dist_repo.specs.PackageList.{PackageList, IsPackageAnd}
+use Rattle.dist_repo.specs.Order.{IsFlat}
+use Rattle.dist_repo.specs.PackageList.{IsPackageAnd}
 use Rattle.dist_repo.specs.Providers.{IsProvider}
 use Rattle.dist_repo.specs.declared.package.Package.{Package}
-use Rattle.dist_classes.specs.Atoms.{IsAtomOf, IsConflictAtom, IsDependencyAtom}
+use Rattle.dist_classes.specs.Atoms.{IsAtomOf, IsDependencyAtom}
 use Rattle.dist_classes.specs.ClassList.{IsOfClass, IsOfClassAt}
 use Rattle.dist_classes.specs.NewNames.{IsNewName}
 use Rattle.dist_classes.specs.NewVersion.{IsNewOf, IsNewVersionOf, IsOfNewName}
 use Rattle.dist_future.specs.Future.{IsProvided, IsTaken}
 use Rattle.dist_future.specs.Outdated.{IsInstallationOf}
-use Rattle.dist_future.specs.Space.{IsMatched, IsMeaning, IsMetBy, IsSpace, SpaceView, cluster_classes, fresh_classes, member_classes, name_of}
+use Rattle.dist_future.specs.Space.{IsMatched, IsMeaning, IsMetBy, IsSpace, SpaceView, cluster_classes, fresh_classes, member_classes}
 use Rattle.dist_future.specs.SpaceClauses.{Excludes, IsBearer}
 use Rattle.dist_future.specs.declared.meaning.Meaning.{Meaning}
 use Rattle.dist_future.specs.declared.meaning.Meaning.TheVariants.{Now, Present, At, New, Kept, Fresh}
-use Rattle.dist_future.proofs.ClassMatch.{ClassLaws, IsFreshAt, IsKeptMatch, IsMemberAt, fresh-at, from-fresh, from-kept, from-new, member-at, to-fresh, to-new}
+use Rattle.dist_future.proofs.ClassMatch.{ClassLaws, IsMemberAt, fresh-at, from-fresh, from-kept, from-new, member-at, to-fresh, to-new}
 use Rattle.dist_future.proofs.Decided.{IsDecided, any-decided, text-decided}
 use Rattle.dist_future.proofs.DemandLemmas.{AreMet, IsMetIn}
 use Rattle.dist_future.proofs.Lists.{FoundAt, all-contained, any-at, element-at, any-contained, at-has, contains-at, found-at, has-at, here-at, pair-from, place-of, within-from}
-use Rattle.dist_future.proofs.SpaceLemmas.{has-cluster, names-apart, never-at, one-class, one-of-name, fresh-class}
+use Rattle.dist_future.proofs.SpaceLemmas.{has-cluster, names-apart, never-at, one-of-name, fresh-class}
 use Rattle.dist_future.proofs.VersionOrder.{equal-back}
 
 -- ---- conflicts

@@ -1,5 +1,5 @@
 -- The model that a healthy installation of a future gives.
-use Rattle.std.proofs.Common.{◌≡◌, ◌⊎◌, ℕ, zero, suc, ◌<◌, Bool, true, false, List, [], ◌∷◌, Option, Some, None, Ordering, Less, Equal, Greater, length, get_or, map, refl, sym, ap, subst, ◌∙◌, inl, inr, arith, slice_get}
+use Rattle.std.proofs.Common.{◌≡◌, ℕ, Bool, true, false, List, Option, Some, None, Ordering, Less, Equal, Greater, length, map, refl, sym, ap, subst, ◌∙◌, inl, inr, arith, slice_get}
 use Rattle.std.specs.Prelude.{Any, Contains, IsSomeAnd, slice_index}
 use Rattle.std.proofs.lemmas.Bool.{cases_lt}
 use Rattle.std.proofs.lemmas.List.{length-map}
@@ -13,14 +13,14 @@ use Rattle.dist_classes.specs.ClassList.{IsOfClass, IsOfClassAt}
 use Rattle.dist_classes.specs.declared.class_value.Class.{Class}
 use Rattle.dist_classes.specs.declared.class_value.Class.TheVariants.{Point, Between, Above, Below}
 use Rattle.dist_classes.specs.declared.class_value.Class.TheVariants as class
-use Rattle.dist_future.specs.Space.{IsMeaning, IsSpace, SpaceView, fresh_classes, variable_of}
+use Rattle.dist_future.specs.Space.{IsMeaning, IsSpace, SpaceView, fresh_classes}
 use Rattle.dist_future.specs.SpaceClauses.{AreSpaceClauses}
 use Rattle.dist_future.specs.declared.meaning.Meaning.{Meaning}
 use Rattle.dist_future.specs.declared.meaning.Meaning.TheVariants.{Now, Present, At, New, Kept, Fresh}
 use Rattle.dist_future.proofs.ClassMatch.{ClassLaws}
 use Rattle.dist_future.proofs.Decided.{IsDecided, any-decided, text-decided}
 use Rattle.dist_future.proofs.DemandLemmas.{IsTrueMeaning, met-alike, model-from-met}
-use Rattle.dist_future.proofs.FutureToModel.{Holds, IsFreshMember, IsNamedIn, IsNamedMember, IsSeen, kept_of, met-by-future}
+use Rattle.dist_future.proofs.FutureToModel.{Holds, IsNamedIn, IsSeen, kept_of, met-by-future}
 use Rattle.dist_future.proofs.Lists.{any-contained}
 use Rattle.dist_future.proofs.Variables.{value-at}
 

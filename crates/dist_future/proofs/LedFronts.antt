@@ -1,7 +1,6 @@
 -- What the clauses that one variable leads do to a front.
-use Rattle.std.proofs.Common.{◌≡◌, ◌≢◌, ◌⊎◌, ℕ, ◌+◌, ◌-◌, ◌<◌, ◌≤◌, Bool, true, false, List, [], ◌∷◌, ◌++◌, Some, length, get_or, slice_get, refl, sym, ap, subst, ◌∙◌, arith, inl, inr}
-use Rattle.std.specs.Prelude.{IfErr, OnOk, Result, IsSomeAnd, slice_index}
-use Rattle.std.proofs.lemmas.Result.{IfErr-weaker, on_ok_weaker}
+use Rattle.std.proofs.Common.{◌≡◌, ◌≢◌, ℕ, ◌+◌, ◌<◌, ◌≤◌, Bool, true, false, List, [], ◌∷◌, ◌++◌, length, get_or, slice_get, refl, sym, ap, subst, ◌∙◌, arith}
+use Rattle.std.specs.Prelude.{IsSomeAnd, slice_index}
 use Rattle.dist_clause.specs.ClauseList.{ClauseList}
 use Rattle.dist_clause.specs.Formula.{IsClauseOver, Literal, literal}
 use Rattle.dist_clause.specs.declared.clause_set.PushError.{PushError}
@@ -9,7 +8,7 @@ use Rattle.dist_repo.specs.Match.{IsUsable}
 use Rattle.dist_repo.specs.declared.package.Package.{Package}
 use Rattle.dist_future.specs.Gathering.{IsCauseAt, IsFront, IsMeaningOf, IsRefused}
 use Rattle.dist_future.specs.Space.{IsMeaning, IsSpace, SpaceView, cluster_classes, fresh_classes, variable_of}
-use Rattle.dist_future.specs.SpaceClauses.{Demand, OneClass, Gone, Moved, Carried, OneFresh, Item, Apart, StaysNow, AbsentNow, Required, IsClauseFor, IsDemand, group_of, leading, second_of}
+use Rattle.dist_future.specs.SpaceClauses.{Demand, OneClass, Gone, Moved, Carried, OneFresh, StaysNow, AbsentNow, IsClauseFor, IsDemand, group_of, leading, second_of}
 use Rattle.dist_future.specs.declared.meaning.Meaning.{Meaning}
 use Rattle.dist_future.specs.declared.meaning.Meaning.TheVariants.{Now, Present, At, New, Kept, Fresh}
 use Rattle.dist_future.proofs.Fronts.{front-more, front-skip, front-variable, leads, stops}

@@ -1,13 +1,13 @@
 -- What meets the demands of a space stands for a future and a healthy installation in it.
-use Rattle.std.proofs.Common.{◌≡◌, ◌≢◌, ◌⊎◌, ℕ, zero, suc, ◌<◌, Bool, true, false, List, [], ◌∷◌, Option, Some, None, Equal, Less, nat_cmp, length, get_or, refl, sym, ap, subst, ◌∙◌, inl, inr, arith, slice_get}
-use Rattle.std.specs.Prelude.{All, AllPairs, Any, Contains, IsSomeAnd, slice_index, if◌then◌else◌}
+use Rattle.std.proofs.Common.{◌≡◌, ◌≢◌, ℕ, ◌<◌, Bool, true, List, [], Option, Some, None, Equal, Less, nat_cmp, length, get_or, refl, sym, ap, subst, ◌∙◌, inl, inr, arith, slice_get}
+use Rattle.std.specs.Prelude.{All, Any, Contains, IsSomeAnd, slice_index, if◌then◌else◌}
 use Rattle.std.specs.Cmp.Lexicographic.{slice_cmp}
 use Rattle.std.specs.List.Sorted.{IsStrictlySortedBy}
 use Rattle.std.specs.Option.{option_map}
 use Rattle.std.proofs.lemmas.Map.Keys.{Less-from_sorted}
 use Rattle.std.proofs.lemmas.Bool.{cases_lt, false≢true}
 use Rattle.std.proofs.lemmas.Cmp.{nat_list_cmp_total, tied_itself}
-use Rattle.std.proofs.lemmas.List.Elements.{All-contains, All-nil}
+use Rattle.std.proofs.lemmas.List.Elements.{All-nil}
 use Rattle.std.proofs.lemmas.Option.{get_or_from_slice_get, same_Some, slice_get_within}
 use Rattle.dist_version.specs.Order.{version_cmp, IsBelow}
 use Rattle.dist_version.specs.Spelling.{IsVersion}
@@ -17,7 +17,6 @@ use Rattle.dist_repo.specs.Conflict.{AreInConflict}
 use Rattle.dist_repo.specs.Healthy.{IsMet, required_names}
 use Rattle.dist_repo.specs.Match.{IsUsable, Matches}
 use Rattle.dist_repo.specs.Order.{IsFlat}
-use Rattle.dist_repo.specs.PackageList.{IsPackageAnd}
 use Rattle.dist_repo.specs.Strong.{IsInstallation}
 use Rattle.dist_repo.specs.declared.package.Package.{Package}
 use Rattle.dist_classes.specs.Atoms.{IsAtomOf, IsDependencyAtom}
@@ -25,13 +24,13 @@ use Rattle.dist_classes.specs.ClassList.{IsOfClassAt}
 use Rattle.dist_classes.specs.NewVersion.{IsNewOf, IsNewVersionOf, IsOfNewName}
 use Rattle.dist_future.specs.Future.{IsFuture, IsInClusterOf, IsProvided, IsTaken, Moves, Stays}
 use Rattle.dist_future.specs.Outdated.{HoldsCluster, IsInstallationOf}
-use Rattle.dist_future.specs.Space.{IsMatched, IsMeaning, IsMetBy, IsSpace, MeetsBound, SpaceView, StandsBefore, cluster_classes, example_at, fresh_classes, key_of, member_classes}
-use Rattle.dist_future.specs.SpaceClauses.{Excludes, IsBearer}
+use Rattle.dist_future.specs.Space.{IsMatched, IsMeaning, IsSpace, MeetsBound, SpaceView, StandsBefore, cluster_classes, example_at, fresh_classes, key_of, member_classes}
+use Rattle.dist_future.specs.SpaceClauses.{IsBearer}
 use Rattle.dist_future.specs.Stands.{class_chosen, flags_from, fresh_package, future_of, installation_of, installed_package, later_package, moved_package, new_version}
 use Rattle.dist_future.specs.declared.meaning.Meaning.{Meaning}
 use Rattle.dist_future.specs.declared.meaning.Meaning.TheVariants.{Now, Present, At, New, Kept, Fresh}
 use Rattle.dist_future.proofs.ClassMatch.{ClassLaws, IsMemberAt, fresh-at, fresh-new, from-fresh, from-kept, from-new, member-at, to-fresh, to-new}
-use Rattle.dist_future.proofs.DemandLemmas.{AreMet, IsMetIn}
+use Rattle.dist_future.proofs.DemandLemmas.{AreMet}
 use Rattle.dist_future.proofs.FutureToModel.{conflict-back, option-cases}
 use Rattle.dist_future.proofs.Lists.{all-contained, any-at, any-contained, at-has, contains-at, element-at, found-at, has-at, here-at, PlaceOf, place-of, within-from}
 use Rattle.dist_future.proofs.Parts.{first-none, first-some, flag-at, flag-is, if-some, if-true, kept-carried, length-flags, made, made-of, made-pairs, map-some, pairs-more}

@@ -1,29 +1,27 @@
 -- The meanings of a space, as they are made, are all of them in order.
-use Rattle.std.proofs.Common.{◌≡◌, ◌⊎◌, ◌↔◌, ℕ, zero, suc, ◌+◌, ◌-◌, ◌<◌, ◌≤◌, Bool, true, false, List, [], ◌∷◌, ◌++◌, Option, Some, None, Ordering, Less, Equal, Greater, nat_cmp, length, get_or, map, refl, sym, ap, subst, zero-add, ◌∙◌, inl, inr, arith, slice_get}
+use Rattle.std.proofs.Common.{◌≡◌, ◌⊎◌, ℕ, zero, suc, ◌+◌, ◌<◌, Bool, true, false, List, [], ◌∷◌, ◌++◌, Option, Some, None, Ordering, Less, nat_cmp, length, get_or, map, refl, sym, ap, subst, zero-add, ◌∙◌, inl, inr, arith, slice_get}
 use Rattle.std.specs.Prelude.{AllPairs, Contains, IsSomeAnd, bytes_eq, codes, slice_index, if◌then◌else◌, ◌||◌}
 use Rattle.std.specs.List.{flat_map}
 use Rattle.std.specs.List.Sorted.{IsStrictlyIncreasing}
-use Rattle.std.proofs.lemmas.Bool.{cases_lt, false≢true}
-use Rattle.std.proofs.lemmas.List.Elements.{All-contains, Contains-append_cases, Contains-append_left, Contains-append_right, Contains-get_or}
+use Rattle.std.proofs.lemmas.Bool.{false≢true}
+use Rattle.std.proofs.lemmas.List.Elements.{Contains-append_cases, Contains-append_left, Contains-append_right, Contains-get_or}
 use Rattle.std.specs.Ordering.{MatchOrdering}
 use Rattle.std.proofs.lemmas.Cmp.{ranked}
 use Rattle.std.proofs.lemmas.List.FromFn.{get_or-range_with_len, length-range_with_len}
 use Rattle.std.proofs.lemmas.Map.Keys.{Less-from_sorted, sorted_from_strictly_increasing}
-use Rattle.std.proofs.lemmas.Option.{get_or_from_slice_get, slice_get-get_or, slice_get_within}
+use Rattle.std.proofs.lemmas.Option.{slice_get-get_or, slice_get_within}
 use Rattle.std.proofs.lemmas.Slice.Eq.{bytes_eq-Decides}
 use Rattle.dist_relation.specs.declared.atom.Provide.{Provide}
 use Rattle.dist_relation.specs.declared.atom.Qualifier.{Qualifier}
 use Rattle.dist_relation.specs.declared.atom.Qualifier.TheVariants.{Plain, Named}
-use Rattle.dist_cluster.specs.Partition.{IsIn}
 use Rattle.dist_repo.specs.Match.{IsUsable}
-use Rattle.dist_repo.specs.PackageList.{IsPackageAnd}
 use Rattle.dist_repo.specs.declared.package.Package.{Package}
 use Rattle.dist_future.specs.Numbering.{below, class_part, cluster_part, fresh_part, is_architecture, is_usable, meanings_of, member_part, provided_by, usable_from}
 use Rattle.dist_future.specs.Space.{AreMeaningsOf, IsFrame, IsMeaning, SpaceView, StandsBefore, cluster_classes, fresh_classes, key_of, member_classes}
 use Rattle.dist_future.specs.declared.meaning.Meaning.{Meaning}
 use Rattle.dist_future.specs.declared.meaning.Meaning.TheVariants.{Now, Present, At, New, Kept, Fresh}
 use Rattle.dist_future.proofs.Lex.{IsLess, less-cmp}
-use Rattle.dist_future.proofs.Lists.{at-has, contains-at, element-at, has-at, here-at, place-of, within-from}
+use Rattle.dist_future.proofs.Lists.{at-has, here-at}
 use Rattle.dist_future.proofs.RisingParts.{StandApart, below-in, contains-cons, contains-first, contains-later, flat-in, in-below, in-flat, in-map, map-in, pairs-append, pairs-below, pairs-cons, pairs-flat, pairs-map, pairs-none}
 use Rattle.dist_future.proofs.SpaceLemmas.{has-cluster, in-package, placed-in}
 

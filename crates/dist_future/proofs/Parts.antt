@@ -1,8 +1,7 @@
 -- Lists of the packages that meanings give.
-use Rattle.std.proofs.Common.{◌≡◌, ◌≢◌, ◌⊎◌, ℕ, zero, suc, ◌+◌, ◌<◌, Bool, true, false, List, [], ◌∷◌, Option, Some, None, length, get_or, refl, sym, ap, subst, ◌∙◌, inl, inr, arith, slice_get}
+use Rattle.std.proofs.Common.{◌≡◌, ℕ, zero, suc, ◌<◌, Bool, true, false, List, [], ◌∷◌, Option, Some, None, length, get_or, refl, ap, subst, ◌∙◌, inl, inr, arith, slice_get}
 use Rattle.std.specs.Prelude.{All, AllPairs, Contains, filter_map, if◌then◌else◌}
-use Rattle.std.proofs.lemmas.Bool.{cases_lt, false≢true}
-use Rattle.std.proofs.lemmas.List.{get_or_default}
+use Rattle.std.proofs.lemmas.Bool.{cases_lt}
 use Rattle.std.proofs.lemmas.List.Elements.{Contains-get_or}
 use Rattle.std.proofs.lemmas.Option.{same_Some}
 use Rattle.std.specs.List.{cons_option}
@@ -13,7 +12,7 @@ use Rattle.dist_classes.specs.NewVersion.{AreCarried}
 use Rattle.dist_future.specs.Space.{moved_entry}
 use Rattle.dist_future.specs.Stands.{first_true, flags_from, kept_entries, or_else}
 use Rattle.dist_future.proofs.ClassMatch.{moved-carried}
-use Rattle.dist_future.proofs.Lists.{all-contained, place-of}
+use Rattle.dist_future.proofs.Lists.{all-contained}
 
 -- ---- elements that are made of elements
 

@@ -1,35 +1,33 @@
 -- The models of a space's clauses stand for futures.
-use Rattle.std.proofs.Common.{◌≡◌, ◌≢◌, ◌⊎◌, ◌↔◌, ℕ, zero, suc, ◌<◌, Bool, true, false, List, [], ◌∷◌, Option, Some, None, Equal, length, get_or, refl, sym, ap, subst, ◌∙◌, inl, inr, arith, slice_get}
-use Rattle.std.specs.Prelude.{All, Any, Contains, slice_index}
+use Rattle.std.proofs.Common.{◌≡◌, ℕ, ◌<◌, Bool, true, List, [], ◌∷◌, Option, Some, None, Equal, length, get_or, refl, sym, ap, subst, ◌∙◌, inl, inr, arith, slice_get}
+use Rattle.std.specs.Prelude.{All, Contains, slice_index}
 use Rattle.std.proofs.lemmas.Bool.{cases_lt}
-use Rattle.std.proofs.lemmas.List.Elements.{All-contains, All-cons, All-head, All-nil, All-tail}
+use Rattle.std.proofs.lemmas.List.Elements.{All-cons, All-head, All-nil, All-tail}
 use Rattle.std.proofs.lemmas.Option.{slice_get-get_or, slice_get_within}
-use Rattle.dist_version.specs.Order.{version_cmp, IsBelow}
+use Rattle.dist_version.specs.Order.{version_cmp}
 use Rattle.dist_version.specs.Spelling.{IsVersion}
 use Rattle.dist_clause.specs.Formula.{Literal, IsModel, value_of}
 use Rattle.dist_cluster.specs.Partition.{IsIn}
-use Rattle.dist_repo.specs.PackageList.{IsPackageAnd}
 use Rattle.dist_repo.specs.Strong.{IsInstallable, IsInstallation}
 use Rattle.dist_repo.specs.declared.package.Package.{Package}
 use Rattle.dist_classes.specs.ClassList.{IsOfClass, IsOfClassAt}
-use Rattle.dist_classes.specs.NewVersion.{IsNewOf}
-use Rattle.dist_future.specs.Future.{IsFuture, IsInClusterOf, IsTaken, Moves, Stays}
+use Rattle.dist_future.specs.Future.{IsFuture, IsInClusterOf, Moves, Stays}
 use Rattle.dist_future.specs.Outdated.{HoldsCluster, IsInstallableAt, IsInstallableLater, IsInstallationOf}
-use Rattle.dist_future.specs.Space.{IsMeaning, IsSpace, SpaceView, cluster_classes, example_at, member_classes, variable_of}
+use Rattle.dist_future.specs.Space.{IsSpace, SpaceView, cluster_classes, example_at, variable_of}
 use Rattle.dist_future.specs.SpaceClauses.{AreSpaceClauses}
 use Rattle.dist_future.specs.SpaceLaws.{HasModelWith, StandForFutures, StandsForFuture, examples_of, holds_under}
 use Rattle.dist_future.specs.Stands.{future_of, installation_of}
 use Rattle.dist_future.specs.declared.meaning.Meaning.{Meaning}
 use Rattle.dist_future.specs.declared.meaning.Meaning.TheVariants.{Now, Present, At}
-use Rattle.dist_future.proofs.ClassMatch.{ClassLaws, HasCluster}
+use Rattle.dist_future.proofs.ClassMatch.{ClassLaws}
 use Rattle.dist_future.proofs.Decided.{IsDecided}
-use Rattle.dist_future.proofs.DemandLemmas.{AreMet, IsTrueMeaning, met-from-model}
-use Rattle.dist_future.proofs.FutureToModel.{Holds, IsFate, IsSeen, option-cases}
+use Rattle.dist_future.proofs.DemandLemmas.{IsTrueMeaning, met-from-model}
+use Rattle.dist_future.proofs.FutureToModel.{IsFate, IsSeen, option-cases}
 use Rattle.dist_future.proofs.FutureValues.{both-decided, future-model, number-decided}
-use Rattle.dist_future.proofs.Lists.{any-contained, at-has, contains-at, element-at, place-of, within-from}
+use Rattle.dist_future.proofs.Lists.{any-contained, at-has, contains-at, element-at, within-from}
 use Rattle.dist_future.proofs.ModelToFuture.{AreVersions, future-is, healthy-is, holds-cluster, old-member, today-is}
-use Rattle.dist_future.proofs.SpaceLemmas.{class-of, class_at-same, clustered-same, has-cluster, has-is_in, in-package, never-at, one-class, one-of-name, placed-in, same-clustered, top-below}
-use Rattle.dist_future.proofs.VersionOrder.{equal-back, equal-itself}
+use Rattle.dist_future.proofs.SpaceLemmas.{class-of, class_at-same, has-cluster, in-package, never-at, one-class, one-of-name, placed-in, same-clustered, top-below}
+use Rattle.dist_future.proofs.VersionOrder.{equal-back}
 
 module _ (laws : ClassLaws) (s : SpaceView) (space : IsSpace s) where
   -- ---- the fates of clusters in a future

@@ -1,10 +1,10 @@
 -- A frame with its meanings is a space.
-use Rattle.std.proofs.Common.{◌≡◌, ℕ, ◌+◌, ◌-◌, ◌<◌, ◌≤◌, Bool, List, [], length, Some, refl, sym, ap, subst, ◌∙◌, arith, slice_get}
+use Rattle.std.proofs.Common.{◌≡◌, ℕ, ◌-◌, ◌≤◌, Bool, List, length, Some, refl, sym, subst, arith, slice_get}
 use Rattle.dist_repo.specs.PackageList.{PackageList}
 use Rattle.dist_future.specs.Kept.{IsFrameOf, IsFull}
 use Rattle.dist_future.specs.Numbering.{meanings_of}
 use Rattle.dist_future.specs.Space.{AreMeaningsOf, IsFrame, IsSpace, SpaceView, variable_of}
-use Rattle.dist_future.specs.SpaceOf.{HasMoreVariables, IsSpaceOf, IsTooLarge}
+use Rattle.dist_future.specs.SpaceOf.{IsSpaceOf, IsTooLarge}
 use Rattle.dist_future.specs.declared.errors.SpaceError.{SpaceError}
 use Rattle.dist_future.specs.declared.errors.SpaceError.TheVariants.{TooManyVariables, NoMemory}
 use Rattle.dist_future.specs.declared.meaning.Meaning.{Meaning}

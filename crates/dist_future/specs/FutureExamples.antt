@@ -1,6 +1,6 @@
 -- Worked examples of futures: a and b come from one source, b provides a menu and the interface abi at its own version.
-use Rattle.std.specs.Prelude.{◌≡◌, ◌≢◌, ◌⊎◌, ℕ, zero, suc, ◌<◌, true, false, List, [], ◌∷◌, None, Some, AllPairs, Any, Contains, codes, length, slice_index_or, refl}
-use Rattle.std.specs.declared.cmp.Ordering.TheVariants.{Less, Equal}
+use Rattle.std.specs.Prelude.{◌≡◌, ◌≢◌, ◌⊎◌, ℕ, zero, suc, true, false, List, [], ◌∷◌, None, Some, AllPairs, Contains, codes, slice_index_or, refl}
+use Rattle.std.specs.declared.cmp.Ordering.TheVariants.{Equal}
 use Rattle.std.proofs.Common.{ap, arith, inl, inr, lit<, subst, sym, ◌∙◌}
 use Rattle.std.proofs.lemmas.Cmp.{tied_back, tied_itself}
 use Rattle.dist_version.specs.OrderLaws.{version_total}
@@ -9,12 +9,10 @@ use Rattle.dist_version.specs.Spelling.{IsVersion, epoch_of, epoch_digits, after
 use Rattle.dist_version.specs.Between.{without_rebuild_text}
 use Rattle.dist_relation.specs.declared.atom.Provide.{Provide}
 use Rattle.dist_relation.specs.declared.atom.Qualifier.TheVariants.{Plain}
-use Rattle.dist_cluster.specs.Relation.{AreClustered}
 use Rattle.dist_repo.specs.PackageList.{PackageList}
 use Rattle.dist_repo.specs.declared.package.Package.{Package}
-use Rattle.dist_classes.specs.Answers.{member_of}
 use Rattle.dist_classes.specs.NewVersion.{AreCarried, IsAt, IsNewOf}
-use Rattle.dist_future.specs.Future.{IsAboveCluster, IsFuture, IsInClusterOf, IsProvided, IsTaken, Moves, Stays}
+use Rattle.dist_future.specs.Future.{IsFuture, IsInClusterOf, IsTaken}
 
 abbrev menu : Provide
 menu = record { name = codes "menu"; qualifier = Plain; version = None }

@@ -15,7 +15,6 @@ use Rattle.dist_cluster.specs.Top.{ClusterList}
 use Rattle.dist_repo.specs.Match.{IsUsable, Matches, MatchesByEntry}
 use Rattle.dist_repo.specs.Order.{IsFlat}
 use Rattle.dist_repo.specs.PackageList.{PackageList, IsPackageAnd}
-use Rattle.dist_repo.specs.declared.package.Package.{Package}
 use Rattle.dist_classes.specs.Answers.{AreClassesOf, AreClassesOfName, AreClustersOf}
 use Rattle.dist_classes.specs.ClassList.{IsOfClassAt, example_text}
 use Rattle.dist_classes.specs.NewNames.{AreNewNames}

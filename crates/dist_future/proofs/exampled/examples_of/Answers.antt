@@ -1,4 +1,4 @@
-use Rattle.std.proofs.Common.{ℕ, ◌<◌, arith, below_more, length, map, take, ap, sym, ◌∙◌}
+use Rattle.std.proofs.Common.{arith, below_more, map, ap, ◌∙◌}
 use Rattle.std.proofs.lemmas.List.{take_all}
 use Rattle.dist_version.specs.Spelling.{parts_of}
 use Rattle.dist_classes.specs.ClassList.{example_text}

@@ -1,4 +1,4 @@
-use Rattle.std.proofs.Common.{◌≡◌, ℕ, ◌+◌, [], ◌∷◌, ◌++◌, length, get_or, arith, subst, sym, ap, ◌∙◌, List}
+use Rattle.std.proofs.Common.{◌≡◌, ℕ, [], ◌∷◌, ◌++◌, get_or, arith, subst, sym, List}
 use Rattle.dist_classes.specs.Answers.{AreClassesOf}
 use Rattle.dist_classes.specs.declared.class_value.Class.{Class}
 use Rattle.dist_future.specs.Kept.{AreExampled}

@@ -1,4 +1,4 @@
-use Rattle.std.proofs.Common.{◌≡◌, ℕ, ◌+◌, [], ◌∷◌, ◌++◌, length, get_or, arith, subst, sym, ap, ◌∙◌, List}
+use Rattle.std.proofs.Common.{◌≡◌, ℕ, [], ◌∷◌, ◌++◌, get_or, arith, subst, sym, List}
 use Rattle.std.proofs.lemmas.Option.{get_or_from_slice_get}
 use Rattle.dist_classes.specs.Answers.{AreClassesOfName}
 use Rattle.dist_classes.specs.declared.class_value.Class.{Class}

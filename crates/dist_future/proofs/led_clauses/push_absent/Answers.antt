@@ -1,4 +1,4 @@
-use Rattle.std.proofs.Common.{ap, sym, ◌∙◌, false, true}
+use Rattle.std.proofs.Common.{ap, sym, ◌∙◌, false}
 use Rattle.std.proofs.lemmas.Result.{IfErr-weaker, on_ok_weaker}
 use Rattle.dist_clause.specs.Formula.{literal}
 use Rattle.dist_future.specs.SpaceClauses.{AbsentNow}

@@ -1,4 +1,4 @@
-use Rattle.std.proofs.Common.{◌+◌, false, arith, ap, sym, ◌∙◌, length}
+use Rattle.std.proofs.Common.{false, arith, ap, sym, ◌∙◌}
 use Rattle.std.proofs.lemmas.Result.{err_from_is_err_and}
 use Rattle.dist_clause.specs.Formula.{literal}
 use Rattle.dist_future.specs.SpaceClauses.{OneFresh}

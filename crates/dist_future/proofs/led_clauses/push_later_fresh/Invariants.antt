@@ -1,4 +1,3 @@
-use Rattle.std.proofs.Common.{◌+◌, ◌≤◌}
 use Rattle.dist_future.specs.Gathering.{IsFront}
 use Rattle.dist_future.proofs.led_clauses.push_later_fresh.Given as goal
 

@@ -1,12 +1,11 @@
-use Rattle.std.proofs.Common.{◌≡◌, ℕ, ◌+◌, ◌<◌, ◌≤◌, ◌++◌, [], ◌∷◌, List, length, map, take, arith, subst, sym, ap, refl, ◌∙◌}
+use Rattle.std.proofs.Common.{ℕ, ◌+◌, [], ◌∷◌, List, length, subst, sym, ap}
 use Rattle.std.specs.List.{flat_map}
-use Rattle.std.proofs.lemmas.Result.{IfErr-weaker, IfOk-weaker, err_from_is_err_and}
-use Rattle.dist_future.specs.Kept.{IsExtended, IsFull}
-use Rattle.dist_future.specs.Numbering.{below, class_part, cluster_part, entries_part, fresh_part, member_part, provided_by, usable_from}
+use Rattle.std.proofs.lemmas.Result.{IfErr-weaker, IfOk-weaker}
+use Rattle.dist_future.specs.Kept.{IsFull}
+use Rattle.dist_future.specs.Numbering.{member_part}
 use Rattle.dist_future.specs.declared.meaning.Meaning.{Meaning}
-use Rattle.dist_future.specs.declared.meaning.Meaning.TheVariants.{Now, Present, At, New, Kept, Fresh}
-use Rattle.dist_relation.specs.declared.atom.Provide.{Provide}
-use Rattle.dist_future.proofs.ExtendLemmas.{below-at, entries-all, extend-all, extend-entry, extend-more, extend-none, extend-on, extend-same, full-at, full-entry, full-first, full-second, length-below}
+use Rattle.dist_future.specs.declared.meaning.Meaning.TheVariants.{At}
+use Rattle.dist_future.proofs.ExtendLemmas.{extend-on, extend-same, full-second}
 use Rattle.dist_future.proofs.numbering.add_class.Goals as goal
 use Rattle.std.proofs.lemmas.Option.{get_or_from_slice_get}
 

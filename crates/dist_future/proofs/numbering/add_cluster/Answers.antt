@@ -1,12 +1,8 @@
-use Rattle.std.proofs.Common.{◌≡◌, ℕ, ◌+◌, ◌<◌, ◌≤◌, ◌++◌, [], ◌∷◌, List, length, map, take, arith, subst, sym, ap, refl, ◌∙◌}
-use Rattle.std.specs.List.{flat_map}
+use Rattle.std.proofs.Common.{length, arith}
 use Rattle.std.proofs.lemmas.Result.{err_from_is_err_and}
-use Rattle.dist_future.specs.Kept.{IsExtended, IsFull}
-use Rattle.dist_future.specs.Numbering.{below, class_part, cluster_part, entries_part, fresh_part, member_part, provided_by}
-use Rattle.dist_future.specs.Space.{cluster_classes, fresh_classes}
-use Rattle.dist_future.specs.declared.meaning.Meaning.{Meaning}
-use Rattle.dist_future.specs.declared.meaning.Meaning.TheVariants.{Now, Present, At, New, Kept, Fresh}
-use Rattle.dist_future.proofs.ExtendLemmas.{below-at, entries-all, extend-all, extend-entry, extend-more, extend-none, extend-on, extend-same, full-at, full-entry, full-first, full-second, length-below}
+use Rattle.dist_future.specs.Numbering.{below, class_part}
+use Rattle.dist_future.specs.Space.{cluster_classes}
+use Rattle.dist_future.proofs.ExtendLemmas.{below-at, extend-all, extend-more, full-at, length-below}
 use Rattle.dist_future.proofs.numbering.add_cluster.Goals as goal
 
 pub returns-in_err-add_class-clause-err : goal.returns-in_err-add_class-clause-err

@@ -1,12 +1,10 @@
-use Rattle.std.proofs.Common.{◌≡◌, ℕ, ◌+◌, ◌<◌, ◌≤◌, ◌++◌, [], ◌∷◌, List, length, map, take, arith, slice_get, subst, sym, ap, refl, ◌∙◌}
-use Rattle.std.specs.List.{flat_map}
-use Rattle.std.proofs.lemmas.Result.{IfErr-weaker, IfOk-weaker, err_from_is_err_and}
+use Rattle.std.proofs.Common.{◌≡◌, ℕ, ◌+◌, List, length, map, arith, slice_get, subst, sym, ap}
+use Rattle.std.proofs.lemmas.Result.{err_from_is_err_and}
 use Rattle.dist_future.specs.Kept.{IsExtended, IsFull}
-use Rattle.dist_future.specs.Numbering.{below, class_part, cluster_part, entries_part, fresh_part, member_part, provided_by, usable_from}
-use Rattle.dist_future.specs.declared.meaning.Meaning.{Meaning}
-use Rattle.dist_future.specs.declared.meaning.Meaning.TheVariants.{Now, Present, At, New, Kept, Fresh}
+use Rattle.dist_future.specs.Numbering.{provided_by, usable_from}
+use Rattle.dist_future.specs.declared.meaning.Meaning.TheVariants.{Kept}
 use Rattle.dist_relation.specs.declared.atom.Provide.{Provide}
-use Rattle.dist_future.proofs.ExtendLemmas.{below-at, entries-all, extend-all, extend-entry, extend-more, extend-none, extend-on, extend-same, full-at, full-entry, full-first, full-second, length-below}
+use Rattle.dist_future.proofs.ExtendLemmas.{entries-all, extend-entry, full-entry}
 use Rattle.dist_future.proofs.numbering.add_entries.Goals as goal
 
 pub returns-in_err-add_entry-clause-err : goal.returns-in_err-add_entry-clause-err

@@ -1,7 +1,5 @@
-use Rattle.std.proofs.Common.{ℕ, ◌≤◌, arith}
+use Rattle.std.proofs.Common.{arith}
 use Rattle.std.proofs.lemmas.Result.{err_from_is_err_and}
-use Rattle.dist_future.specs.Kept.{IsWhole}
-use Rattle.dist_future.specs.SpaceOf.{IsTooLarge}
 use Rattle.dist_future.proofs.WholeSpace.{too-large, whole, whole-of}
 use Rattle.dist_future.proofs.space.space_of.Goals as goal
 

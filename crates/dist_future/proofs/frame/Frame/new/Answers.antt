@@ -1,6 +1,4 @@
-use Rattle.std.proofs.Common.{ℕ, arith, subst, sym, refl}
-use Rattle.dist_cluster.specs.Partition.{IsIn}
-use Rattle.dist_future.specs.Kept.{IsFrameOf, IsSizedFrame}
+use Rattle.std.proofs.Common.{arith, refl}
 use Rattle.dist_future.proofs.FrameLemmas.{every-member, framed, member-within}
 use Rattle.dist_future.proofs.frame.Frame.new.Goals as goal
 

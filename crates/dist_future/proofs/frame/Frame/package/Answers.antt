@@ -1,5 +1,3 @@
-use Rattle.std.proofs.Common.{subst}
-use Rattle.dist_future.specs.Kept.{IsSizedFrame}
 use Rattle.dist_future.proofs.SizeLemmas.{entries-few}
 use Rattle.dist_future.proofs.frame.Frame.package.Goals as goal
 

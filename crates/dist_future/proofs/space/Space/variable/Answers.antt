@@ -1,10 +1,10 @@
-use Rattle.std.proofs.Common.{◌≡◌, ℕ, ◌+◌, ◌-◌, ◌<◌, ◌≤◌, Bool, true, false, List, Some, length, slice_get, ap, sym, subst, refl, rules, ◌∙◌, arith}
+use Rattle.std.proofs.Common.{◌≡◌, ℕ, ◌+◌, ◌-◌, List, Some, slice_get, ap, sym, subst, rules, ◌∙◌, arith}
 use Rattle.std.specs.Prelude.{AllPairs, Contains}
 use Rattle.std.specs.List.Sorted.{IsPartitionedBy}
 use Rattle.std.proofs.lemmas.List.Sorted.{IsPartitionPoint-from_clause}
 use Rattle.std.proofs.lemmas.Option.{slice_get_within}
 use Rattle.dist_future.specs.Kept.{IsWhole}
-use Rattle.dist_future.specs.Space.{SpaceView, StandsBefore, variable_of}
+use Rattle.dist_future.specs.Space.{SpaceView, StandsBefore}
 use Rattle.dist_future.specs.declared.meaning.Meaning.{Meaning}
 use Rattle.dist_future.proofs.Variables.{before_it, meanings-parted, point-is, variable-at}
 use Rattle.dist_future.proofs.space.Space.variable.Goals as goal
