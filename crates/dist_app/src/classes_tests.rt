@@ -159,6 +159,56 @@ fn new_names_are_told(rt: HostRuntime) -> Result<(), Fail> {
     Ok(())
 }
 
+const ALONE_REPORT: &str = "report: \"classes\"
+packages: 1
+clusters:
+  - cluster: \"p=1\"
+    source: \"p\"
+    top: \"1\"
+    members:
+      - \"p=1\"
+    classes:
+      - class: \">> 1\"
+        example: \"1-0A\"
+names:
+  - name: \"foo\"
+    classes:
+      - class: \"any\"
+        example: \"0\"
+";
+
+const TOGETHER: &str = "Package: a\nVersion: 1\nArchitecture: all\nConflicts: b (>> 2)\n
+Package: b\nSource: a (1)\nVersion: 1+b1\nArchitecture: all\n";
+
+const TOGETHER_REPORT: &str = "report: \"classes\"
+packages: 2
+clusters:
+  - cluster: \"a=1\"
+    source: \"a\"
+    top: \"1+b1\"
+    members:
+      - \"a=1\"
+      - \"b=1+b1\"
+    classes:
+      - class: \">> 1+b1, << 2\"
+        example: \"1+b1-0A~\"
+      - class: \"= 2\"
+        example: \"2\"
+      - class: \">> 2\"
+        example: \"2-0A\"
+names: []
+";
+
+#[test]
+fn small_archives_are_told(rt: HostRuntime) -> Result<(), Fail> {
+    let none = "report: \"classes\"\npackages: 0\nclusters: []\nnames: []\n";
+    tells(&rt, "", none)?;
+    let alone = "Package: p\nVersion: 1\nDepends: foo\n";
+    tells(&rt, alone, ALONE_REPORT)?;
+    tells(&rt, TOGETHER, TOGETHER_REPORT)?;
+    Ok(())
+}
+
 const PYTHON: &str = "Package: python3
 Source: python3-defaults (3.11.2-1)
 Version: 3.11.2-1+b1
