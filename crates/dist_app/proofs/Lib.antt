@@ -10,3 +10,4 @@ pub mod KindText
 pub mod Writing
 pub mod PartLemmas
 pub mod StageLaws
+pub mod NewestLemmas

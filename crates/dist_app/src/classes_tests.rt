@@ -1,7 +1,9 @@
 //! Worked rows of `classes`: whole reports.
+ghost use Rattle.dist_app.specs.Run.{IsWithinStated};
+
 use crate::tests::words_of;
-use crate::{Status, run};
-use dist_outside::{MemoryDesk, MemorySink};
+use crate::{Status, run, run_with};
+use dist_outside::{Limits, MemoryDesk, MemorySink};
 use std::alloc::AllocError;
 use std::process::Abort;
 use std::test::Fail;
@@ -262,6 +264,110 @@ names:
 #[test]
 fn an_archive_stanza_is_told(rt: HostRuntime) -> Result<(), Fail> {
     Ok(tells(&rt, PYTHON, PYTHON_REPORT)?)
+}
+
+const FOO_NAMES: &str = "names:
+  - name: \"foo\"
+    classes:
+      - class: \"<< 2\"
+        example: \"~~\"
+      - class: \"= 2\"
+        example: \"2\"
+      - class: \">> 2\"
+        example: \"2-0A\"
+";
+
+/// Runs `classes` on a file, whose report must end with this text.
+fn names_are(
+    rt: &(impl Abort + AllocGlobal),
+    packages: &'static str,
+    names: &'static str,
+) -> Result<(), AllocError> {
+    let alloc = rt.alloc();
+    let mut told = MemorySink::new(alloc, 1024, &[])?;
+    let mut line = MemorySink::new(alloc, 10, &[])?;
+    let mut desk = MemoryDesk::new(alloc, 64, &[])?;
+    desk.put("packages", packages.as_bytes())?;
+    let words = words_of(alloc, &["classes", "packages"])?;
+    let ended = run(alloc, &words, &mut desk, &mut told, &mut line);
+    assert_eq!(rt; ended, Status::Done);
+    assert!(rt; told.bytes().ends_with(names.as_bytes()));
+    Ok(())
+}
+
+#[test]
+fn names_come_from_dependencies(rt: HostRuntime) -> Result<(), Fail> {
+    let conflict = "Package: p\nVersion: 1\nConflicts: foo\n";
+    names_are(&rt, conflict, "names: []\n")?;
+    let both = "Package: p\nVersion: 1\nDepends: foo\nConflicts: foo (<< 2)\n";
+    names_are(&rt, both, FOO_NAMES)?;
+    Ok(())
+}
+
+#[test]
+fn qualifiers_are_those_of_the_file(rt: HostRuntime) -> Result<(), Fail> {
+    let own = "Package: p\nVersion: 1\nArchitecture: amd64\nDepends: foo:amd64 (<< 2)\n";
+    names_are(&rt, own, FOO_NAMES)?;
+    let other = "Package: p\nVersion: 1\nArchitecture: amd64\nDepends: foo:i386 (<< 2)\n";
+    names_are(&rt, other, "names: []\n")?;
+    Ok(())
+}
+
+/// Runs `classes` on a desk without the file, or with limits that it passes.
+fn stops(
+    rt: &(impl Abort + AllocGlobal),
+    name: &'static str,
+    limits: &Limits,
+    status: Status,
+    err: &'static str,
+) -> Result<(), AllocError>
+    requires { IsWithinStated limits.now }
+{
+    let alloc = rt.alloc();
+    let words = words_of(alloc, &["classes", name])?;
+    let mut desk = MemoryDesk::new(alloc, 7, &[])?;
+    desk.put("packages", BOUNDS.as_bytes())?;
+    let mut told = MemorySink::new(alloc, 10, &[])?;
+    let mut line = MemorySink::new(alloc, 10, &[])?;
+    let ended = run_with(alloc, &words, &mut desk, &mut told, &mut line, limits);
+    assert_eq!(rt; ended, status);
+    assert_eq!(rt; line.bytes(), err.as_bytes());
+    Ok(())
+}
+
+#[test]
+fn a_missing_file_is_a_read_fault(rt: HostRuntime) -> Result<(), Fail> {
+    let fault = Status::ReadFault;
+    let line = "distfuture: read fault\n";
+    Ok(stops(&rt, "other", &Limits::stated(), fault, line)?)
+}
+
+#[test]
+fn limits_are_kept(rt: HostRuntime) -> Result<(), Fail> {
+    let large = Status::TooLarge;
+    let bytes = Limits {
+        bytes: 10,
+        ..Limits::stated()
+    };
+    stops(
+        &rt,
+        "packages",
+        &bytes,
+        large,
+        "distfuture: too large: Bytes\n",
+    )?;
+    let stanzas = Limits {
+        stanzas: 1,
+        ..Limits::stated()
+    };
+    stops(
+        &rt,
+        "packages",
+        &stanzas,
+        large,
+        "distfuture: too large: Stanzas\n",
+    )?;
+    Ok(())
 }
 
 #[test]

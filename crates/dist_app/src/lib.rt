@@ -8,6 +8,7 @@ mod fault_text;
 mod files;
 mod health;
 mod health_command;
+mod laws;
 mod line_parts;
 mod list;
 mod pieces;
@@ -17,6 +18,7 @@ mod status;
 mod top_call;
 mod words;
 
+pub use laws::archives_have_reports;
 pub use status::Status;
 pub use top_call::{run, run_with};
 

@@ -19,17 +19,17 @@ use Rattle.dist_classes.proofs.TableLemmas.{any-none, any-take, any-whole}
 
 -- ---- one name more in a set
 
-same_names : (a b : List ℕ) → slice_cmp nat_cmp a b ≡ Equal → a ≡ b
+pub same_names : (a b : List ℕ) → slice_cmp nat_cmp a b ≡ Equal → a ≡ b
 same_names a b is = (bytes_eq-Decides a b).0 (sym (is_eq-slice_cmp a b) ∙ ap is_eq is)
 
-contains-cases : (x v : List ℕ) (xs : List (List ℕ)) → Contains (x ∷ xs) v → (x ≡ v) ⊎ Contains xs v
+pub contains-cases : (x v : List ℕ) (xs : List (List ℕ)) → Contains (x ∷ xs) v → (x ≡ v) ⊎ Contains xs v
 contains-cases x v xs (zero, short, is) = inl is
 contains-cases x v xs (suc k, short, is) = inr (k, omega arith, is)
 
-contains-later : (x v : List ℕ) (xs : List (List ℕ)) → Contains xs v → Contains (x ∷ xs) v
+pub contains-later : (x v : List ℕ) (xs : List (List ℕ)) → Contains xs v → Contains (x ∷ xs) v
 contains-later x v xs there = (suc there.0, omega (arith, there.1), there.2)
 
-contains-here : (x v : List ℕ) (xs : List (List ℕ)) → x ≡ v → Contains (x ∷ xs) v
+pub contains-here : (x v : List ℕ) (xs : List (List ℕ)) → x ≡ v → Contains (x ∷ xs) v
 contains-here x v xs is = (0, omega arith, is)
 
 inserted : (o : Ordering) (k x v : List ℕ) (xs rest : List (List ℕ)) → slice_cmp nat_cmp k x ≡ o → (Contains rest v ↔ (Contains xs v ⊎ (k ≡ v))) →

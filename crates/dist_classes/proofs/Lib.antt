@@ -2,6 +2,7 @@ pub mod VersionOrder
 pub mod ClassLemmas
 pub mod ClassOfLemmas
 pub mod MatchLemmas
+pub mod SomeSets
 pub mod SortedLemmas
 pub mod TableLemmas
 pub mod FoundCuts
@@ -9,3 +10,4 @@ pub mod FreshLemmas
 pub mod ClusterLemmas
 pub mod ExampleLemmas
 pub mod NameLemmas
+pub mod SomeCuts

@@ -29,6 +29,12 @@ pub fn cuts_are_one()
     ensures name { (r : PackageList) (name : List ℕ) (a b : List (List ℕ)) → AreCuts (IsNameCut r name) a → AreCuts (IsNameCut r name) b → a ≡ b }
 {}
 
+/// A cluster has its classes, and so has a new name.
+pub fn classes_are_there()
+    ensures cluster { (r : PackageList) (members top : List ℕ) → (classes : List Class) × AreClassesOf r members top classes }
+    ensures name { (r : PackageList) (name : List ℕ) → (classes : List Class) × AreClassesOfName r name classes }
+{}
+
 /// No class of a cluster or of a new name is empty: its example is a version of it, whatever memory there is.
 pub fn no_class_is_empty()
     ensures cluster { (r : PackageList) (members top : List ℕ) (classes : List Class) → AreBoundsVersions r → IsVersion top → AreClassesOf r members top classes → All HasExample classes }
@@ -39,7 +45,8 @@ pub fn no_class_is_empty()
 
 /// A repository has one list of new names.
 pub fn new_names_are_one()
-    ensures { (r : PackageList) (names others : List (List ℕ)) → AreNewNames r names → AreNewNames r others → names ≡ others }
+    ensures there { (r : PackageList) → (names : List (List ℕ)) × AreNewNames r names }
+    ensures one { (r : PackageList) (names others : List (List ℕ)) → AreNewNames r names → AreNewNames r others → names ≡ others }
 {}
 
 /// New versions of one member at versions of one class, with the same entries of Provides left out, match the same atoms.

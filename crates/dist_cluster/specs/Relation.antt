@@ -1,5 +1,6 @@
 -- Which packages are in one source cluster, this project's own rule: those that are built from one source package at one
--- version. A rebuild of one of them alone, a version with `+b1` at its end, leaves it in its cluster.
+-- version, and have equal versions of their own. A rebuild of one of them alone, a version with `+b1` at its end, leaves it in
+-- its cluster.
 use Rattle.std.specs.Prelude.{◌≡◌, ℕ, List, IsSomeAnd, slice_get}
 use Rattle.std.specs.declared.cmp.Ordering.TheVariants.{Equal}
 use Rattle.dist_version.specs.Order.{version_cmp}

@@ -2,7 +2,7 @@
 ghost use Rattle.std.specs.Prelude.{◌≡◌, ◌<◌, ℕ, List, length};
 ghost use Rattle.dist_cluster.specs.Partition.{IsIn, IsPartition};
 ghost use Rattle.dist_cluster.specs.Relation.{Member, AreClustered};
-ghost use Rattle.dist_cluster.specs.Top.{IsTop};
+ghost use Rattle.dist_cluster.specs.Top.{AreTops, IsTop};
 
 /// To be clustered is an equivalence.
 pub fn clustered_is_an_equivalence()
@@ -18,7 +18,8 @@ pub fn partitions_are_one()
     ensures one_cluster { (members : List Member) (clusters : List (List ℕ)) → IsPartition members clusters → (c d m : ℕ) → IsIn clusters c m → IsIn clusters d m → c ≡ d }
 {}
 
-/// A cluster has one top.
+/// A cluster has one top, and the clusters of a partition have theirs.
 pub fn tops_are_one()
-    ensures { (members : List Member) (cluster a b : List ℕ) → IsTop members cluster a → IsTop members cluster b → a ≡ b }
+    ensures there { (members : List Member) (clusters : List (List ℕ)) → IsPartition members clusters → (tops : List (List ℕ)) × AreTops members (record { members = clusters; tops = tops }) }
+    ensures one { (members : List Member) (cluster a b : List ℕ) → IsTop members cluster a → IsTop members cluster b → a ≡ b }
 {}

@@ -4,3 +4,4 @@ pub mod FieldLemmas
 pub mod SoFar
 pub mod Memory
 pub mod Bytes
+pub mod SpelledLemmas

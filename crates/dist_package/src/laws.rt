@@ -1,5 +1,5 @@
 //! What holds of files, their repositories and their faults, apart from any call.
-ghost use Rattle.std.specs.Prelude.{ℕ, ◌≤◌, List, length};
+ghost use Rattle.std.specs.Prelude.{ℕ, ◌≤◌, List, All, length};
 ghost use Rattle.dist_control.specs.RawStanza.{RawStanza};
 ghost use Rattle.dist_repo.specs.PackageList.{PackageList};
 ghost use Rattle.dist_repo.specs.Size.{relation_count};
@@ -7,6 +7,7 @@ ghost use Rattle.dist_package.specs.FirstFault.{HasFirstFault, CarriesNoMemory};
 ghost use Rattle.dist_package.specs.declared.error.Fault.{Fault};
 ghost use Rattle.dist_package.specs.OneAnswer.{HasOneAnswer};
 ghost use Rattle.dist_package.specs.RepositoryOf.{IsRepositoryOf};
+ghost use Rattle.dist_package.specs.Spelled.{IsSpelled};
 
 use dist_control::{one_reading_or_fault, values_take_bytes};
 use dist_relation::{faults_come, items_take_bytes, values_are_exact};
@@ -40,3 +41,9 @@ pub fn relations_take_bytes()
     each_stands_once();
     values_take_bytes();
 }
+
+/// The packages of a file's repository have names and versions wherever one is meant.
+pub fn packages_are_spelled()
+    ensures { (text : List ℕ) (limit : ℕ) (repository : PackageList) → IsRepositoryOf text limit repository
+        → All IsSpelled repository.packages }
+{}

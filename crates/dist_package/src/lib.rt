@@ -10,7 +10,9 @@ mod relations;
 mod source;
 
 pub use error::{Fault, Kind, PackagesError, RelationField};
-pub use laws::{kinds_carry_no_memory, packages_are_exact, relations_take_bytes};
+pub use laws::{
+    kinds_carry_no_memory, packages_are_exact, packages_are_spelled, relations_take_bytes,
+};
 pub use reader::read_packages;
 
 #[cfg(test)]

@@ -1,3 +1,5 @@
 pub mod LineLemmas
+pub mod PlainLemmas
 pub mod ToldLemmas
 pub mod OneText
+pub mod SomeText

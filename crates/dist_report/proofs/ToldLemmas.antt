@@ -10,6 +10,7 @@ use Rattle.dist_cluster.specs.Relation.{Member, AreClustered, AreTogether}
 use Rattle.dist_cluster.specs.Top.{ClusterList}
 use Rattle.dist_repo.specs.PackageList.{PackageList}
 use Rattle.dist_classes.specs.Answers.{AreClassesOf, AreClassesOfName, AreClustersOf, member_of}
+use Rattle.dist_classes.specs.ClassList.{HasExample}
 use Rattle.dist_classes.specs.NewNames.{AreNewNames}
 use Rattle.dist_classes.specs.declared.class_value.Class.{Class}
 use Rattle.dist_report.specs.ClassesReport.{ToldCluster, ToldName, cluster_lines, name_lines}
@@ -21,6 +22,13 @@ take-past [] zero past = refl
 take-past [] (suc k) past = refl
 take-past (x ∷ xs) zero past = absurd (omega arith)
 take-past (x ∷ xs) (suc k) past = ap (λ list. x ∷ list) (take-past xs k (omega arith))
+
+pub all-more : {X : Type 0} (P : X → Type 0) (xs : List X) (k : ℕ) (x : X) → slice_get xs k ≡ Some x → All P (take k xs) → P x → All P (take (k + 1) xs)
+all-more {X} P xs k x is all here =
+    let Every : List X → Type 0 = All P in
+    let one : get_or xs k x ≡ x = get_or_from_slice_get xs k x x is in
+    let more : take (k + 1) xs ≡ take k xs ++ x ∷ [] = take_more xs k x (slice_get_within xs k x is) ∙ ap (λ y. take k xs ++ y ∷ []) one in
+    subst Every (sym more) (All-push P (take k xs) x all here)
 
 -- ---- the members of a cluster are packages
 
@@ -59,6 +67,7 @@ pub record AreToldSoFar (r : PackageList) (clusters : ClusterList) (k : ℕ) (be
   pub members : map (λ t. t.members) told ≡ take k clusters.members
   pub tops : map (λ t. t.top) told ≡ take k clusters.tops
   pub classes : All (λ t. AreClassesOf r t.members t.top t.classes) told
+  pub examples : All (λ t. All HasExample t.classes) told
   pub text : now ≡ before ++ flat_map (cluster_lines r.packages) told
 
 pub told-none : (r : PackageList) (clusters : ClusterList) (before : List ℕ) → AreToldSoFar r clusters 0 before before
@@ -67,6 +76,7 @@ told-none r clusters before = record {
   members = refl;
   tops = refl;
   classes = All-nil (λ (t : ToldCluster). AreClassesOf r t.members t.top t.classes);
+  examples = All-nil (λ (t : ToldCluster). All HasExample t.classes);
   text = sym (append-nil before);
 }
 
@@ -76,16 +86,17 @@ map-push f told t whole k short so_far here =
     map-append f told (t ∷ []) ∙ ap (λ list. list ++ f t ∷ []) so_far ∙ ap (λ (x : List ℕ). take k whole ++ x ∷ []) here ∙ sym (take_more whole k [] short)
 
 pub told-more : (r : PackageList) (clusters : ClusterList) (k : ℕ) (before now after : List ℕ) (classes : List Class) → k < length clusters.members → length clusters.tops ≡ length clusters.members →
-    AreToldSoFar r clusters k before now → AreClassesOf r (get_or clusters.members k []) (get_or clusters.tops k []) classes →
+    AreToldSoFar r clusters k before now → AreClassesOf r (get_or clusters.members k []) (get_or clusters.tops k []) classes → All HasExample classes →
     after ≡ now ++ cluster_lines r.packages (record { members = get_or clusters.members k []; top = get_or clusters.tops k []; classes = classes }) →
     AreToldSoFar r clusters (k + 1) before after
-told-more r clusters k before now after classes short aligned so_far are text =
+told-more r clusters k before now after classes short aligned so_far are examples text =
     let t : ToldCluster = record { members = get_or clusters.members k []; top = get_or clusters.tops k []; classes = classes } in
     record {
       told = so_far.told ++ t ∷ [];
       members = map-push (λ (c : ToldCluster). c.members) so_far.told t clusters.members k short so_far.members refl;
       tops = map-push (λ (c : ToldCluster). c.top) so_far.told t clusters.tops k (omega arith) so_far.tops refl;
       classes = All-push (λ (c : ToldCluster). AreClassesOf r c.members c.top c.classes) so_far.told t so_far.classes are;
+      examples = All-push (λ (c : ToldCluster). All HasExample c.classes) so_far.told t so_far.examples examples;
       text = text ∙ ap (λ (w : List ℕ). w ++ cluster_lines r.packages t) so_far.text ∙ flat_map_more (cluster_lines r.packages) before so_far.told t;
     }
 
@@ -101,7 +112,7 @@ told-all r clusters k old now past are so_far =
     let lines = flat_map (cluster_lines r.packages) so_far.told in
     record {
       clusters = so_far.told;
-      are = record { are = subst Tops tops (subst Members members are); classes = so_far.classes };
+      are = record { are = subst Tops tops (subst Members members are); classes = so_far.classes; examples = so_far.examples };
       text = so_far.text ∙ append_assoc old (key_line (codes "clusters:") (length clusters.members == 0)) lines
           ∙ ap (λ n. old ++ (key_line (codes "clusters:") (n == 0) ++ lines)) count;
     }
@@ -112,6 +123,7 @@ pub record AreNamesSoFar (r : PackageList) (names : List (List ℕ)) (k : ℕ) (
   pub told : List ToldName
   pub first : map (λ t. t.name) told ≡ take k names
   pub classes : All (λ t. AreClassesOfName r t.name t.classes) told
+  pub examples : All (λ t. All HasExample t.classes) told
   pub text : now ≡ before ++ flat_map name_lines told
 
 pub names-none : (r : PackageList) (names : List (List ℕ)) (before : List ℕ) → AreNamesSoFar r names 0 before before
@@ -119,12 +131,13 @@ names-none r names before = record {
   told = [];
   first = refl;
   classes = All-nil (λ (t : ToldName). AreClassesOfName r t.name t.classes);
+  examples = All-nil (λ (t : ToldName). All HasExample t.classes);
   text = sym (append-nil before);
 }
 
 pub names-more : (r : PackageList) (names : List (List ℕ)) (k : ℕ) (before now after name : List ℕ) (classes : List Class) → slice_get names k ≡ Some name →
-    AreNamesSoFar r names k before now → AreClassesOfName r name classes → after ≡ now ++ name_lines (record { name = name; classes = classes }) → AreNamesSoFar r names (k + 1) before after
-names-more r names k before now after name classes is so_far are text =
+    AreNamesSoFar r names k before now → AreClassesOfName r name classes → All HasExample classes → after ≡ now ++ name_lines (record { name = name; classes = classes }) → AreNamesSoFar r names (k + 1) before after
+names-more r names k before now after name classes is so_far are examples text =
     let t : ToldName = record { name = name; classes = classes } in
     let short = slice_get_within names k name is in
     let here : get_or names k [] ≡ name = get_or_from_slice_get names k name [] is in
@@ -133,6 +146,7 @@ names-more r names k before now after name classes is so_far are text =
       first = map-append (λ (n : ToldName). n.name) so_far.told (t ∷ []) ∙ ap (λ list. list ++ name ∷ []) so_far.first ∙ ap (λ (x : List ℕ). take k names ++ x ∷ []) (sym here)
           ∙ sym (take_more names k [] short);
       classes = All-push (λ (n : ToldName). AreClassesOfName r n.name n.classes) so_far.told t so_far.classes are;
+      examples = All-push (λ (n : ToldName). All HasExample n.classes) so_far.told t so_far.examples examples;
       text = text ∙ ap (λ (w : List ℕ). w ++ name_lines t) so_far.text ∙ flat_map_more name_lines before so_far.told t;
     }
 
@@ -144,7 +158,7 @@ names-all r names k old now past are so_far =
     let lines = flat_map name_lines so_far.told in
     record {
       names = so_far.told;
-      are = record { are = subst (AreNewNames r) all are; classes = so_far.classes };
+      are = record { are = subst (AreNewNames r) all are; classes = so_far.classes; examples = so_far.examples };
       text = so_far.text ∙ append_assoc old (key_line (codes "names:") (length names == 0)) lines
           ∙ ap (λ n. old ++ (key_line (codes "names:") (n == 0) ++ lines)) count;
     }

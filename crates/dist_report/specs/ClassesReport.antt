@@ -5,7 +5,7 @@ use Rattle.dist_repo.specs.PackageList.{PackageList}
 use Rattle.dist_repo.specs.declared.package.Package.{Package}
 use Rattle.dist_cluster.specs.Partition.{least}
 use Rattle.dist_classes.specs.Answers.{AreClassesOf, AreClassesOfName, AreClustersOf}
-use Rattle.dist_classes.specs.ClassList.{class_text, example_text}
+use Rattle.dist_classes.specs.ClassList.{HasExample, class_text, example_text}
 use Rattle.dist_classes.specs.NewNames.{AreNewNames}
 use Rattle.dist_classes.specs.declared.class_value.Class.{Class}
 use Rattle.dist_report.specs.Lines.{listed, string_line}
@@ -21,15 +21,17 @@ pub record ToldName : Type 0 where
   pub name : List ℕ
   pub classes : List Class
 
--- these are the clusters of the repository, in their order, each with its classes
+-- these are the clusters of the repository, in their order, each with its classes, none of which is empty
 pub record AreToldClusters (r : PackageList) (clusters : List ToldCluster) : Type 0 where
   pub are : AreClustersOf r (record { members = map (λ c. c.members) clusters; tops = map (λ c. c.top) clusters })
   pub classes : All (λ c. AreClassesOf r c.members c.top c.classes) clusters
+  pub examples : All (λ c. All HasExample c.classes) clusters
 
--- these are its new names, in their order, each with its classes
+-- these are its new names, in their order, each with its classes, none of which is empty
 pub record AreToldNames (r : PackageList) (names : List ToldName) : Type 0 where
   pub are : AreNewNames r (map (λ n. n.name) names)
   pub classes : All (λ n. AreClassesOfName r n.name n.classes) names
+  pub examples : All (λ n. All HasExample n.classes) names
 
 -- ---- the text
 

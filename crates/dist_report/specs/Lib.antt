@@ -1,5 +1,6 @@
 pub mod PackageText
 pub mod Lines
 pub mod ClassesReport
+pub mod Plain
 pub mod Written
 pub mod Examples

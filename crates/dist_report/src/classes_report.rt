@@ -1,7 +1,7 @@
 //! The report of `classes`: clusters with their members and classes, and new names with theirs.
 ghost use Rattle.std.specs.Prelude.{◌≡◌, ◌++◌, ◌<◌, [], ℕ, List, All, IfOk, OnOk, length, slice_index_or, codes};
 ghost use Rattle.dist_classes.specs.Answers.{AreClustersOf};
-ghost use Rattle.dist_classes.specs.ClassList.{HasVersions};
+ghost use Rattle.dist_classes.specs.ClassList.{HasExample, HasVersions};
 ghost use Rattle.dist_classes.specs.NewNames.{AreNewNames};
 ghost use Rattle.dist_report.specs.ClassesReport.{IsClassesText, class_lines, head_lines, opening, member_line};
 ghost use Rattle.dist_report.specs.Lines.{listed};
@@ -9,7 +9,8 @@ ghost use Rattle.dist_report.specs.Written.{TellsCluster, TellsClusters, TellsNa
 
 use crate::lines::{write_key, write_package, write_string};
 use dist_classes::{
-    Class, Classes, CutFinder, Names, example, new_names, print_class, repository_clusters,
+    Class, Classes, CutFinder, Names, class_has_example, example, new_names, print_class,
+    repository_clusters,
 };
 use dist_cluster::Clusters;
 use dist_relation::Name;
@@ -21,8 +22,10 @@ use std::alloc::{AllocError, Global};
 /// Adds a class and its example.
 fn write_class(alloc: Global, out: &mut Vec<u8>, class: &Class) -> Result<(), AllocError>
     requires { HasVersions class.now }
-    ensures { OnOk result (out.new.items ≡ out.old.items ++ class_lines class.now) }
+    ensures text { OnOk result (out.new.items ≡ out.old.items ++ class_lines class.now) }
+    ensures there { HasExample class.now }
 {
+    class_has_example(class);
     out.extend_from_slice(b"      - class: \"")?;
     print_class(class, out)?;
     out.extend_from_slice(b"\"\n")?;
@@ -32,7 +35,8 @@ fn write_class(alloc: Global, out: &mut Vec<u8>, class: &Class) -> Result<(), Al
 
 /// Adds a list of classes.
 fn write_classes(alloc: Global, out: &mut Vec<u8>, classes: &Classes) -> Result<(), AllocError>
-    ensures { OnOk result (out.new.items ≡ out.old.items ++ listed (codes "    classes:") class_lines classes.now) }
+    ensures text { OnOk result (out.new.items ≡ out.old.items ++ listed (codes "    classes:") class_lines classes.now) }
+    ensures there { OnOk result (All HasExample classes.now) }
 {
     write_key(out, b"    classes:", classes.len() == 0)?;
     for place in 0..classes.len() {

@@ -1,17 +1,37 @@
 //! Laws of reports, apart from the work. The functions do nothing.
-ghost use Rattle.std.specs.Prelude.{◌≡◌, ℕ, List};
+ghost use Rattle.std.specs.Prelude.{◌≡◌, ℕ, List, All};
+ghost use Rattle.dist_version.specs.Spelling.{IsVersion};
+ghost use Rattle.dist_relation.specs.Bytes.{IsName};
 ghost use Rattle.dist_repo.specs.PackageList.{PackageList};
+ghost use Rattle.dist_repo.specs.declared.package.Package.{Package};
+ghost use Rattle.dist_classes.specs.Atoms.{AreBoundsVersions};
+ghost use Rattle.dist_classes.specs.ClassList.{class_text};
+ghost use Rattle.dist_classes.specs.declared.class_value.Class.{Class};
 ghost use Rattle.dist_report.specs.ClassesReport.{IsClassesText};
+ghost use Rattle.dist_report.specs.PackageText.{label};
+ghost use Rattle.dist_report.specs.Plain.{HasVersionTexts, IsPlain};
 
-use dist_classes::{cuts_are_one, new_names_are_one};
+use dist_classes::{classes_are_there, cuts_are_one, new_names_are_one, no_class_is_empty};
 use dist_cluster::{partitions_are_one, tops_are_one};
 
-/// A repository has one report of classes.
+/// A repository has one report of classes, at least where its versions and those of its bounds are versions, as they are in
+/// a repository that was read.
 pub fn classes_texts_are_one()
-    ensures { (r : PackageList) (text other : List ℕ) → IsClassesText r text → IsClassesText r other → text ≡ other }
+    ensures there { (r : PackageList) → AreBoundsVersions r → All (λ p. IsVersion p.version) r.packages → (text : List ℕ) × IsClassesText r text }
+    ensures one { (r : PackageList) (text other : List ℕ) → IsClassesText r text → IsClassesText r other → text ≡ other }
 {
     partitions_are_one();
     tops_are_one();
     cuts_are_one();
     new_names_are_one();
+    classes_are_there();
+    no_class_is_empty();
 }
+
+/// No string of a report needs an escape: names, versions, packages and classes are plain.
+pub fn strings_are_plain()
+    ensures names { (name : List ℕ) → IsName name → IsPlain name }
+    ensures versions { (version : List ℕ) → IsVersion version → IsPlain version }
+    ensures labels { (p : Package) → IsName p.name → IsVersion p.version → IsPlain (label p) }
+    ensures classes { (class : Class) → HasVersionTexts class → IsPlain (class_text class) }
+{}

@@ -6,7 +6,7 @@ mod laws;
 mod lines;
 
 pub use classes_report::classes_text;
-pub use laws::classes_texts_are_one;
+pub use laws::{classes_texts_are_one, strings_are_plain};
 pub use lines::print_label;
 
 #[cfg(test)]

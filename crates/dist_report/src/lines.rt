@@ -1,5 +1,6 @@
 //! The lines that reports are made of: a key with a string, a key with a list, a package of a list.
-ghost use Rattle.std.specs.Prelude.{◌≡◌, ◌++◌, OnOk};
+ghost use Rattle.std.specs.Prelude.{◌≡◌, ◌++◌, OnErr, OnOk};
+ghost use Rattle.dist_base.specs.Front.{IsFrontOf};
 ghost use Rattle.dist_report.specs.Lines.{key_line, string_line};
 ghost use Rattle.dist_report.specs.PackageText.{label};
 
@@ -28,13 +29,27 @@ pub(crate) fn write_key(out: &mut Vec<u8>, key: &[u8], is_empty: bool) -> Result
 }
 
 /// Adds a package as `name=version`, perhaps a front of it alone after an `Err`.
-pub fn print_label(package: &Package, out: &mut Vec<u8>) -> Result<(), AllocError>
-    ensures { OnOk result (out.new.items ≡ out.old.items ++ label «package».now) }
+fn write_label(package: &Package, out: &mut Vec<u8>) -> Result<(), AllocError>
+    ensures text { OnOk result (out.new.items ≡ out.old.items ++ label «package».now) }
+    ensures front { OnErr result (IsFrontOf out.new.items out.old.items) }
 {
     out.extend_from_slice(package.name.bytes())?;
     out.push(b'=')?;
     out.extend_from_slice(package.version.text())?;
     Ok(())
+}
+
+/// Adds a package as `name=version`. After an `Err` `out` is as before.
+pub fn print_label(package: &Package, out: &mut Vec<u8>) -> Result<(), AllocError>
+    ensures text { OnOk result (out.new.items ≡ out.old.items ++ label «package».now) }
+    ensures err { OnErr result (out.new.items ≡ out.old.items) }
+{
+    let length = out.len();
+    let printed = write_label(package, out);
+    if printed.is_err() {
+        out.truncate(length);
+    }
+    printed
 }
 
 /// Adds a package as a string, behind what stands before it, and the line's end.

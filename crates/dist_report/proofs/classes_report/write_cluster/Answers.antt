@@ -27,10 +27,11 @@ returns c =
     let Of : PackageList → Type 0 = λ s. AreClassesOf s (get_or members n []) (get_or tops n []) classes in
     let own_members : get_or members n [] ≡ c.members-members.result.now = get_or_from_slice_get members n c.members-members.result.now [] c.members-members.ensures in
     let own_top : get_or tops n [] ≡ c.top.result.now = get_or_from_slice_get tops n c.top.result.now [] c.top.ensures in
-    let written = joined-three old _ _ _ _ _ _ c.in_ok-write_head.ensures c.in_ok-write_members.ensures c.in_ok-write_classes.ensures in
+    let written = joined-three old _ _ _ _ _ _ c.in_ok-write_head.ensures c.in_ok-write_members.ensures c.in_ok-write_classes.ensures.text in
     record {
       classes = classes;
       are = subst Of c.requires.of c.in_ok-classes.ensures;
+      examples = c.in_ok-write_classes.ensures.there;
       text = written
           ∙ ap (λ (list : List ℕ). old ++ cluster_lines r.packages (record { members = list; top = c.top.result.now; classes = classes })) (sym own_members)
           ∙ ap (λ (top : List ℕ). old ++ cluster_lines r.packages (record { members = get_or members n []; top = top; classes = classes })) (sym own_top);
