@@ -280,25 +280,33 @@ pub next-cause : (reader next : ReaderView) (entry old new : DeskView) (error : 
 next-cause reader next entry old new (Bad fault) first second cause = tt
 next-cause reader next entry old new (Work ReadFault) first second cause = rose-from entry.read_faults old.read_faults new.read_faults first.read_faults_stand second.read_faults_stand cause
 next-cause reader next entry old new (Work WriteFault) first second cause = cause
-next-cause reader next entry old new (Work error) first second cause = tt
+next-cause reader next entry old new (Work NoMemory) first second cause = tt
+next-cause reader next entry old new (Work (TooLarge Certificate)) first second cause = tt
+next-cause reader next entry old new (Work (TooLarge what)) first second cause = absurd cause
 
 pub header-cause : (reader next : ReaderView) (old new : DeskView) (error : ReadCertError) → HeaderCause reader next old new (Err error) → TextCause old new error
 header-cause reader next old new (Bad fault) cause = tt
 header-cause reader next old new (Work ReadFault) cause = cause
 header-cause reader next old new (Work WriteFault) cause = cause
-header-cause reader next old new (Work error) cause = tt
+header-cause reader next old new (Work NoMemory) cause = tt
+header-cause reader next old new (Work (TooLarge Certificate)) cause = tt
+header-cause reader next old new (Work (TooLarge what)) cause = absurd cause
 
 pub start-cause : (r : PackageList) (limits : Limits) (h : Header) (old new : DeskView) (error : ReadCertError) → StartAnswers r limits h (Err error) → TextCause old new error
 start-cause r limits h old new (Bad fault) stops = tt
-start-cause r limits h old new (Work ReadFault) stops = absurd stops
-start-cause r limits h old new (Work WriteFault) stops = stops
-start-cause r limits h old new (Work error) stops = tt
+start-cause r limits h old new (Work NoMemory) stops = tt
+start-cause r limits h old new (Work (TooLarge Clauses)) stops = tt
+start-cause r limits h old new (Work (TooLarge Literals)) stops = tt
+start-cause r limits h old new (Work error) stops = absurd stops
 
 pub line-cause : (r : PackageList) (s : StateView) (step : CertRecord) (line : ℕ) (old new : DeskView) (error : ReadCertError) → LineStops r s step line error → TextCause old new error
 line-cause r s step line old new (Bad fault) stops = tt
+line-cause r s step line old new (Work NoMemory) stops = tt
+line-cause r s step line old new (Work (TooLarge Lines)) stops = tt
+line-cause r s step line old new (Work (TooLarge LineLiterals)) stops = tt
 line-cause r s step line old new (Work ReadFault) stops = absurd (no-other s step ReadFault stops.1 (λ e. cc) (λ e. cc) (λ e. cc))
 line-cause r s step line old new (Work WriteFault) stops = no-other s step WriteFault stops.1 (λ e. cc) (λ e. cc) (λ e. cc)
-line-cause r s step line old new (Work error) stops = tt
+line-cause r s step line old new (Work (TooLarge what)) stops = absurd (no-other s step (TooLarge what) stops.1 (λ e. cc) (λ e. cc) (λ e. cc))
 
 -- what the exit of a `?` returns
 pub by-exit : {X : Type 0} (P : Result X ReadCertError → Type 0) (r : Result X ReadCertError) (error : ReadCertError) → IsErrAnd r (λ e. e ≡ error) → P (Err error) → P r

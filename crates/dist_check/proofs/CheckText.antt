@@ -49,4 +49,5 @@ pub later-cause : (entry old new : DeskView) (error : ReadCertError) → OnlyRea
 later-cause entry old new (Bad fault) first second cause = tt
 later-cause entry old new (Work ReadFault) first second cause = rose-from entry.read_faults old.read_faults new.read_faults first.read_faults_stand second.read_faults_stand cause
 later-cause entry old new (Work WriteFault) first second cause = cause
-later-cause entry old new (Work error) first second cause = tt
+later-cause entry old new (Work NoMemory) first second cause = tt
+later-cause entry old new (Work (TooLarge what)) first second cause = cause

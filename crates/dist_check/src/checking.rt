@@ -5,6 +5,7 @@ ghost use Rattle.dist_outside.specs.Files.{IsReading};
 ghost use Rattle.dist_outside.specs.Reading.{bytes_left};
 ghost use Rattle.dist_repo.specs.Size.{IsWithinSize};
 ghost use Rattle.dist_cert.specs.Reading.{text_left};
+ghost use Rattle.dist_check.specs.Answers.{AcceptedMeans};
 ghost use Rattle.dist_check.specs.Checked.{IsChecked};
 ghost use Rattle.dist_check.specs.Checking.{OfText, TextAnswers, TextCause};
 ghost use Rattle.dist_check.specs.Limited.{AreStated};
@@ -75,7 +76,7 @@ pub(crate) fn check_text<D: Desk>(
     requires limits { AreStated limits.now }
     ensures text { OfText (bytes_left (D.view desk.old).files (D.view desk.old).mode)
         (λ text. TextAnswers (λ c. c.header) (λ c. c.claims) repo.now limits.now text result) }
-    ensures means { IfOk result (λ c. Means c.header.essential repo.now c.claims) }
+    ensures means { IfOk result (λ c. AcceptedMeans repo.now c.header c.claims) }
     ensures cause { IfErr result (TextCause (D.view desk.old) (D.view desk.new)) }
     ensures only_reads { OnlyReads (D.view desk.old) (D.view desk.new) }
 {
