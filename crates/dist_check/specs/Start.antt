@@ -15,7 +15,7 @@ use Rattle.dist_cert.specs.declared.faults.ReadCertError.TheVariants.{Bad, Work}
 use Rattle.dist_cert.specs.declared.records.CertKind.TheVariants as kinds
 use Rattle.dist_cert.specs.declared.records.Header.{Header}
 use Rattle.dist_check.specs.Limited.{AreInputsWithin}
-use Rattle.dist_check.specs.State.{StateView, empty_group}
+use Rattle.dist_state.specs.State.{StateView, empty_group}
 
 -- the numbers of a first line are those of the packages and of the clauses
 pub record HasNumbers (r : PackageList) (clauses : List (List Literal)) (h : Header) : Type 0 where
@@ -30,7 +30,6 @@ pub record IsStart (r : PackageList) (limits : Limits) (h : Header) (s : StateVi
   pub numbers : HasNumbers r s.log.clauses h
   pub clauses_kept : length s.log.clauses ≤ limits.clauses
   pub literals_kept : literal_count s.log.clauses ≤ limits.literals
-  pub essential : s.essential ≡ h.essential
   pub limit : s.limit ≡ h.limit
   pub packages : s.packages ≡ length r.packages
   pub inputs : s.log.inputs ≡ length s.log.clauses

@@ -11,15 +11,13 @@ ghost use Rattle.dist_check.specs.Checking.{OfText, TextAnswers, TextCause};
 ghost use Rattle.dist_check.specs.Limited.{AreStated};
 ghost use Rattle.dist_check.specs.Means.{Means};
 
-use crate::lines::take_line;
 use crate::start::start;
-use crate::state::State;
-use crate::tools::Tools;
 use dist_cert::{Claims, Header, ReadCertError, Reader, forms_are_clear};
 use dist_derive::lines_keep_models;
 use dist_now::{models_are_installations, present_clauses_are_one, present_clauses_are_there};
 use dist_outside::{Desk, Limits};
 use dist_repo::Repository;
+use dist_state::{State, Tools, take_line};
 use std::alloc::Global;
 
 /// What was read of an accepted certificate.
@@ -41,7 +39,6 @@ fn take_lines<D: Desk>(
     tools: &mut Tools,
 ) -> Result<(), ReadCertError>
     requires reading { IsReading (D.view desk.old).mode }
-    requires size { IsWithinSize repo.now }
     requires tools { tools.old ≡ state.old.packages }
     requires start { IsChecked repo.now limits.now None header.now reader.old None state.old }
     ensures text { (told : Option (List ℕ)) → IsChecked repo.now limits.now told header.now reader.old (text_left reader.old (D.view desk.old)) state.old
@@ -60,7 +57,7 @@ fn take_lines<D: Desk>(
             return Ok(());
         };
         let line = reader.lines();
-        take_line(alloc, repo, state, tools, line, step)?;
+        take_line(alloc, state, tools, line, step)?;
     }
 }
 
@@ -81,6 +78,7 @@ pub(crate) fn check_text<D: Desk>(
     ensures only_reads { OnlyReads (D.view desk.old) (D.view desk.new) }
 {
     forms_are_clear();
+    models_are_installations();
     present_clauses_are_there();
     present_clauses_are_one();
     let _in_order = repo.len();
