@@ -108,7 +108,7 @@ kept-more w named xs kept i within is =
     ap (λ (ys : List ℕ). filter (has_member (kept_at w (get_or named i 0))) ys) is
     ∙ filter-twice (in_each w (take i named)) (has_member (kept_at w (get_or named i 0))) xs
     ∙ filter-ext (λ q. in_each w (take i named) q && has_member (kept_at w (get_or named i 0)) q) (in_each w (take (i + 1) named)) xs
-        (λ q. sym (ap (λ (ns : List ℕ). in_each w ns q) (take_more named i 0 within) ∙ all-push (λ number. has_member (kept_at w number) q) (take i named) (get_or named i 0)))
+    (λ q. sym (ap (λ (ns : List ℕ). in_each w ns q) (take_more named i 0 within) ∙ all-push (λ number. has_member (kept_at w number) q) (take i named) (get_or named i 0)))
 
 pub named-once : (w : WindowView) (named sorted xs : List ℕ) → ((q : ℕ) → Contains sorted q ↔ Contains named q) → filter (in_each w sorted) xs ≡ filter (in_each w named) xs
 named-once w named sorted xs same = filter-ext (in_each w sorted) (in_each w named) xs (λ q. same-all (λ number. has_member (kept_at w number) q) named sorted same)

@@ -65,11 +65,7 @@ impl Group {
     }
 
     /// Adds a question that was refuted.
-    pub fn add_refuted(
-        &mut self,
-        package: u32,
-        question: &[(u32, bool)],
-    ) -> Result<(), AllocError>
+    pub fn add_refuted(&mut self, package: u32, question: &[(u32, bool)]) -> Result<(), AllocError>
         ensures closes { OnOk result (Closes «package» question.now self.old.refuted self.new.refuted) }
         ensures undecided { OnOk result (self.new.undecided ≡ self.old.undecided) }
         ensures common { OnOk result (self.new.common ≡ self.old.common) }

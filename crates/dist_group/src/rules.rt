@@ -108,9 +108,7 @@ fn omits(always: &[u32], package: u32, on: &[u32], undecided: &[u32]) -> bool
     requires undecided { AreRising undecided.now }
     ensures { result ≡ list_any (λ q. not (q == «package») && not (is_among on.now q) && not (is_among undecided.now q)) always.now }
 {
-    always
-        .iter()
-        .any(|other| *other != package && !has(on, *other) && !has(undecided, *other))
+    always.iter().any(|other| *other != package && !has(on, *other) && !has(undecided, *other))
 }
 
 /// Of a claim on the next package the first fault by the rules of strong dependencies, if there is one.

@@ -42,7 +42,8 @@ pub(crate) fn judge_derived(
     if is_any_variable_above(literals, log.variables()) {
         return Ok(Some(CertCause::OutOfRange));
     }
-    if is_any_above(hints, log.len()) {
+    let last = log.len();
+    if is_any_above(hints, last) {
         return Ok(Some(CertCause::UnknownLine));
     }
     if !tools.follows(log, literals, hints)? {

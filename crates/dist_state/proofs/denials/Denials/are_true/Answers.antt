@@ -19,8 +19,8 @@ loop-place-init c =
     let value : ℕ → Bool = is_among c.args.variables.now in
     let rising = subst (IsNonDecreasingBy (λ (x : ℕ × ℕ). x.0)) (sym c.deref.ensures.value) c.self.invariant in
     let part = subst (λ (xs : List (ℕ × ℕ)). IsPartitionPoint (λ y. nat_lt y.0 c.args.variable ≡ true) (λ y. nat_lt y.0 c.args.variable ≡ false) xs c.partition_point-start.result) c.deref.ensures.value
-        (IsPartitionPoint-from_clause (λ (x : ℕ × ℕ). nat_lt x.0 c.args.variable) c.deref.result.now c.partition_point-start.result c.partition_point-start.ensures.partitioned
-        (IsPartitionedBy-ltb (λ (x : ℕ × ℕ). x.0) c.deref.result.now c.args.variable rising) (λ a r f' k. search rules)) in
+    (IsPartitionPoint-from_clause (λ (x : ℕ × ℕ). nat_lt x.0 c.args.variable) c.deref.result.now c.partition_point-start.result c.partition_point-start.ensures.partitioned
+    (IsPartitionedBy-ltb (λ (x : ℕ × ℕ). x.0) c.deref.result.now c.args.variable rising) (λ a r f' k. search rules)) in
     none-before value clauses pairs c.args.variable c.partition_point-start.result (λ k d before. ltb-true (get_or pairs k d).0 c.args.variable (part.0 k d (omega arith) before))
 
 pub returns-then-denied-variable : goal.returns-then-denied-variable
@@ -30,8 +30,8 @@ returns-then-denied-variable c =
     let value : ℕ → Bool = is_among c.args.variables.now in
     let rising = subst (IsNonDecreasingBy (λ (x : ℕ × ℕ). x.0)) (sym c.deref.ensures.value) c.self.invariant in
     let part = subst (λ (xs : List (ℕ × ℕ)). IsPartitionPoint (λ y. nat_lt y.0 c.args.variable ≡ true) (λ y. nat_lt y.0 c.args.variable ≡ false) xs c.partition_point-start.result) c.deref.ensures.value
-        (IsPartitionPoint-from_clause (λ (x : ℕ × ℕ). nat_lt x.0 c.args.variable) c.deref.result.now c.partition_point-start.result c.partition_point-start.ensures.partitioned
-        (IsPartitionedBy-ltb (λ (x : ℕ × ℕ). x.0) c.deref.result.now c.args.variable rising) (λ a r f' k. search rules)) in
+    (IsPartitionPoint-from_clause (λ (x : ℕ × ℕ). nat_lt x.0 c.args.variable) c.deref.result.now c.partition_point-start.result c.partition_point-start.ensures.partitioned
+    (IsPartitionedBy-ltb (λ (x : ℕ × ℕ). x.0) c.deref.result.now c.args.variable rising) (λ a r f' k. search rules)) in
     let place = c.loop-place.place in
     let x : ℕ × ℕ = c.index.result.now in
     let here : get_or pairs place x ≡ x = sym c.index.ensures in
@@ -83,8 +83,8 @@ returns-then-not-makes_true c =
     let denials = subst (AreDenialsOf clauses) (sym c.self.view_is) c.requires.denials in
     let is = (denials x.0 x.1).0 (place, within, here) in
     let front : clause_at clauses x.1 ≡ c.clause.result.now = front-clause c.args.log.now.clauses c.args.log.now.inputs x.1 is.0.0
-        (let size = length-take-le c.args.log.now.inputs c.args.log.now.clauses (omega (arith, c.inputs-within.ensures.value, c.inputs-within.ensures.within)) in let high = is.0.1 in omega (arith, high, size))
-        ∙ sym c.clause.ensures.value in
+    (let size = length-take-le c.args.log.now.inputs c.args.log.now.clauses (omega (arith, c.inputs-within.ensures.value, c.inputs-within.ensures.within)) in let high = is.0.1 in omega (arith, high, size))
+    ∙ sym c.clause.ensures.value in
     let there = subst (λ (ps : List (ℕ × ℕ)). Contains ps (c.args.variable, x.1)) c.self.view_is (subst (λ (v : ℕ). Contains pairs (v, x.1)) c.if-denied-variable.false (place, within, here)) in (
       (λ no. absurd (false≢true no)),
       λ all. absurd (false≢true (sym c.if-not-makes_true.true ∙ c.makes_true.ensures.1 (subst (MakesTrue value) front (all x.1 there)))),
@@ -102,6 +102,6 @@ loop-place-preserved c =
     let denials = subst (AreDenialsOf clauses) (sym c.self.view_is) c.requires.denials in
     let is = (denials x.0 x.1).0 (place, within, here) in
     let front : clause_at clauses x.1 ≡ c.clause.result.now = front-clause c.args.log.now.clauses c.args.log.now.inputs x.1 is.0.0
-        (let size = length-take-le c.args.log.now.inputs c.args.log.now.clauses (omega (arith, c.inputs-within.ensures.value, c.inputs-within.ensures.within)) in let high = is.0.1 in omega (arith, high, size))
-        ∙ sym c.clause.ensures.value in
+    (let size = length-take-le c.args.log.now.inputs c.args.log.now.clauses (omega (arith, c.inputs-within.ensures.value, c.inputs-within.ensures.within)) in let high = is.0.1 in omega (arith, high, size))
+    ∙ sym c.clause.ensures.value in
     true-more value clauses pairs c.args.variable place x within here (subst (MakesTrue value) (sym front) (c.makes_true.ensures.0 c.if-not-makes_true.false)) c.loop-place.invariant
