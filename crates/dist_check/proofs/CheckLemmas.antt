@@ -26,8 +26,9 @@ use Rattle.dist_cert.specs.OneVerdict.{one_line}
 use Rattle.dist_cert.specs.Reading.{ReaderView, PassesWhole, KeepsLimits, HeaderFault, RecordFault}
 use Rattle.dist_cert.specs.Refusal.{line_feed, IsOneLine, BeginsWith, lines_text, certificate_text, Fits, IsTooLong, HasFirstFault, HasLineFault, in_order, IsFirstOf, AreFaultless}
 use Rattle.dist_cert.specs.SomeVerdict.{split_push, grown}
-use Rattle.dist_check.specs.Checking.{IsReached, StopsFirst, StopsLater, StopsAtDerived, HasLargeInputs}
+use Rattle.dist_check.specs.Checking.{IsReached, HasInputsWithin, StopsFirst, StopsLater, StopsAtDerived, HasLargeInputs}
 use Rattle.dist_check.specs.Present.{AreInputs, matter_of, subject_of}
+use Rattle.dist_check.specs.Limited.{AreInputsWithin}
 use Rattle.dist_check.specs.Start.{IsUnfit}
 use Rattle.dist_check.proofs.Places.{contains-cases, contains-later}
 use Rattle.dist_check.proofs.Profile.{IsFaultless, HasFirst}
@@ -63,27 +64,52 @@ header-refused there r ordered limits reader same none text cause fault = by cau
     inputs : Bool → List (List Literal)
     inputs = inputs_by there r ordered
 
+    other : (c : CertCause) → (c ≡ causes.BadHeader → ⊥) → c ≡ causes.BadHeader → HasInputsWithin inputs limits text
+    other c never is = absurd (never is)
+
     by : (c : CertCause) → HeaderFault (record reader { limits = limits; given = 0 }) text c → StopsFirst r limits text c
-    by causes.LineTooLong f = record { inputs = inputs; are_inputs = are-inputs there r ordered; bytes = f.0; first = inl (f.1, refl) }
-    by causes.Truncated f = record { inputs = inputs; are_inputs = are-inputs there r ordered; bytes = f.0.whole; first = inr (f.0.line, inl (f.1, refl)) }
+    by causes.LineTooLong f = record {
+      inputs = inputs;
+      are_inputs = are-inputs there r ordered;
+      bytes = f.0;
+      first = inl (f.1, refl);
+      within = other causes.LineTooLong (λ e. cc);
+    }
+    by causes.Truncated f = record {
+      inputs = inputs;
+      are_inputs = are-inputs there r ordered;
+      bytes = f.0.whole;
+      first = inr (f.0.line, inl (f.1, refl));
+      within = other causes.Truncated (λ e. cc);
+    }
     by causes.BadHeader f = record {
       inputs = inputs;
       are_inputs = are-inputs there r ordered;
       bytes = f.0.whole;
       first = inr (f.0.line, inr (begins-whole text f.1.0 f.1.1 f.1.2, inl ((f.1.0, f.1.1, f.1.2, λ h form. absurd (f.1.3 h form)), refl)));
+      within = λ is h line more begins form strong.
+          absurd (f.1.3 h (subst (λ l. HasHeaderForm l h) (same-begin text line f.1.0 more f.1.1 begins f.1.2).0 form));
     }
     by c f = absurd f
 
 -- a first line of another kind, or with wrong numbers
 pub header-unfit : FormsAreClear → (there : ThereAreClauses) → ClausesAreOne → (r : PackageList) (ordered : IsInOrder r.packages) (limits : Limits) (text line more : List ℕ) (h : Header) → KeepsLimits limits 0 text → BeginsWith text line more
-    → HasHeaderForm line h → IsUnfit r h → StopsFirst r limits text causes.BadHeader
+    → HasHeaderForm line h → IsUnfit r limits h → StopsFirst r limits text causes.BadHeader
 header-unfit clear there one r ordered limits text line more h keeps begins form unfit = record {
   inputs = inputs_by there r ordered;
   are_inputs = are-inputs there r ordered;
   bytes = keeps.whole;
   first = inr (keeps.line, inr (begins-whole text line more begins, inl ((line, more, begins, never), refl)));
+  within = λ is k other rest other_begins kform strong.
+      let same : k ≡ h = clear.one_header line k h (subst (λ l. HasHeaderForm l k) (same-begin text other line rest more other_begins begins).0 kform) form in
+      subst (λ g. AreInputsWithin limits (inputs_by there r ordered g.essential)) (sym same) (kept (ap (λ (g : Header). g.kind) (sym same) ∙ strong));
 }
   where
+    kept : h.kind ≡ kinds.Strong → AreInputsWithin limits (inputs_by there r ordered h.essential)
+    kept strong = ⊎_elim (λ other. absurd (other strong))
+        (λ wrong. subst (AreInputsWithin limits) (sym (one r h.essential wrong.0 (inputs_by there r ordered h.essential) wrong.1 (are-inputs there r ordered h.essential))) wrong.2)
+        unfit
+
     never : (k : Header) → HasHeaderForm line k → ¬ Fits (subject_of r (inputs_by there r ordered)) k
     never k kform fits =
         let same : k ≡ h = clear.one_header line k h kform form in
@@ -91,7 +117,7 @@ header-unfit clear there one r ordered limits text line more h keeps begins form
         ⊎_elim (λ other. other fits_h.taken)
         (λ wrong.
         let clauses : inputs_by there r ordered h.essential ≡ wrong.0 = one r h.essential wrong.0 (inputs_by there r ordered h.essential) wrong.1 (are-inputs there r ordered h.essential) in
-        wrong.2 (record { packages = fits_h.packages; variables = fits_h.variables; clause_count = fits_h.clauses ∙ ap (λ (cs : List (List Literal)). length cs) clauses }))
+        wrong.3 (record { packages = fits_h.packages; variables = fits_h.variables; clause_count = fits_h.clauses ∙ ap (λ (cs : List (List Literal)). length cs) clauses }))
         unfit
 
 pub large-inputs : (r : PackageList) (limits : Limits) (text line more : List ℕ) (h : Header) → KeepsLimits limits 0 text → BeginsWith text line more → HasHeaderForm line h → h.kind ≡ kinds.Strong → (Passes : Bool → Type 0) → Passes h.essential

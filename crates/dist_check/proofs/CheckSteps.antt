@@ -1,5 +1,6 @@
 -- How a text that is checked goes on, and how it begins.
 use Rattle.std.proofs.Common.{◌≡◌, ◌≢◌, inl, inr, ℕ, ◌+◌, ◌<◌, ◌≤◌, Bool, false, List, [], ◌∷◌, ◌++◌, Option, Some, None, Result, Ok, Err, length, refl, sym, ap, subst, ◌∙◌, arith, length-append}
+use Rattle.std.specs.List.{All}
 use Rattle.std.specs.Result.{IsErrAnd}
 use Rattle.std.proofs.lemmas.Bool.{true≢false, false≢true, cases_lt}
 use Rattle.dist_outside.specs.Counts.{Rose}
@@ -9,7 +10,7 @@ use Rattle.dist_outside.specs.declared.trouble.What.TheVariants.{Bytes, Stanzas,
 use Rattle.dist_outside.specs.declared.trouble.WorkError.{WorkError}
 use Rattle.dist_outside.specs.declared.trouble.WorkError.TheVariants.{ReadFault, WriteFault, TooLarge, NoMemory}
 use Rattle.dist_clause.specs.ClauseList.{literal_count}
-use Rattle.dist_clause.specs.Formula.{Literal}
+use Rattle.dist_clause.specs.Formula.{Literal, IsClauseOver}
 use Rattle.dist_derive.specs.ClauseLog.{lines_of}
 use Rattle.dist_repo.specs.Order.{IsInOrder}
 use Rattle.dist_repo.specs.PackageList.{PackageList}
@@ -27,14 +28,15 @@ use Rattle.dist_cert.specs.Reading.{ReaderView, WhereTold, PassesWhole, KeepsLim
 use Rattle.dist_cert.specs.Refusal.{Fits, AreFaultless}
 use Rattle.dist_check.specs.Checking.{StopsAtDerived, StopsFirst, TextAnswers, TextCause, OfText}
 use Rattle.dist_check.specs.Present.{matter_of, subject_of}
-use Rattle.dist_check.specs.Since.{IsAppendCause}
+use Rattle.dist_state.specs.Since.{IsAppendCause}
 use Rattle.dist_check.specs.Start.{IsStart, StartAnswers}
-use Rattle.dist_check.specs.State.{StateView, Tells, Becomes, StopsAt, LineStops, TakesLine}
+use Rattle.dist_state.specs.State.{StateView, Tells, Becomes, StopsAt, LineStops, TakesLine}
 use Rattle.dist_check.proofs.CheckLemmas.{ThereAreClauses, ClausesAreOne, inputs_by, are-inputs, header-refused, header-unfit, large-inputs, starts-faultless, from-ended, ended-push, IsLineNext, step-refused, step-reached, stops-derived, right-push, right-none, forms-push, text-push}
 use Rattle.dist_check.specs.Checked.{TextAt, IsChecked}
 use Rattle.dist_check.proofs.CheckState.{lines-are, numbers-of}
 use Rattle.dist_check.proofs.Next.{told-verdict, becomes-at, starts-at}
 use Rattle.dist_check.proofs.Profile.{IsFaultless}
+use Rattle.dist_check.proofs.Whole.{ModelsAreInstallations}
 use Rattle.std.proofs.lemmas.List.Elements.{All-nil}
 
 -- ---- a line that is read
@@ -68,19 +70,19 @@ no-other s step error stops memory_not lines_not literals_not = memory_not stops
 
 pub line-stops : FormsAreClear → (r : PackageList) (limits : Limits) (told : Option (List ℕ)) (h : Header) (reader next : ReaderView) (left after : Option (List ℕ)) (s : StateView) (old new : DeskView) → IsChecked r limits told h reader left s
     → reader.given ≤ reader.limits.certificate → (step : CertRecord) → WhereTold left after (λ rest more. RecordAnswers reader rest more (Ok (Some step))) → RecordCause reader next old new (Ok (Some step)) → (line : ℕ) → line ≡ reader.lines + 1
-    → {X : Type 0} (header : X → Header) (claims : X → List Claim) (error : ReadCertError) → LineStops r s step line error → OfText told (λ text. TextAnswers header claims r limits text (Err error))
+    → {X : Type 0} (header : X → Header) (claims : X → List Claim) (error : ReadCertError) → LineStops s step line error → OfText told (λ text. TextAnswers header claims r limits text (Err error))
 line-stops clear r limits told h reader next left after s old new x bytes step answers because line number {X} header claims error stops = by told x.text
   where
-    faultless-line : Tells r s step None → IsFaultless (matter_of r h.essential (x.inputs h.essential)) h x.before step
-    faultless-line none = told-verdict r (x.inputs h.essential) h x.before s x.strong x.at x.right x.forms step because.0.rules None none
+    faultless-line : Tells s step None → IsFaultless (matter_of r h.essential (x.inputs h.essential)) h x.before step
+    faultless-line none = told-verdict r (x.inputs h.essential) h x.before s x.strong x.at x.right x.forms x.inputs_mean step because.0.rules None none
 
     clauses-are : lines_of s.log ≡ derived x.before
     clauses-are = lines-are r limits told h reader left s x
 
-    at : (text rest more : List ℕ) → AreFaultless (subject_of r x.inputs) limits text h x.before rest → IsRecordNext reader rest more step → (e : ReadCertError) → LineStops r s step line e → TextAnswers header claims r limits text (Err e)
+    at : (text rest more : List ℕ) → AreFaultless (subject_of r x.inputs) limits text h x.before rest → IsRecordNext reader rest more step → (e : ReadCertError) → LineStops s step line e → TextAnswers header claims r limits text (Err e)
     at text rest more faultless after_it (Bad fault) stop =
         let one = line-next r limits told h reader left s x bytes text rest more faultless step after_it in
-        let first = told-verdict r (x.inputs h.essential) h x.before s x.strong x.at x.right x.forms step because.0.rules (Some fault.cause) stop.1 in
+        let first = told-verdict r (x.inputs h.essential) h x.before s x.strong x.at x.right x.forms x.inputs_mean step because.0.rules (Some fault.cause) stop.1 in
         inr (step-refused clear r x.inputs limits text h x.before rest after_it.line more step one fault (omega (arith, stop.0, number, x.line_count)) first)
     at text rest more faultless after_it (Work NoMemory) stop = tt
     at text rest more faultless after_it (Work (TooLarge Lines)) stop =
@@ -112,10 +114,11 @@ line-stops clear r limits told h reader next left after s old new x bytes step a
 
 pub next-checked : FormsAreClear → (r : PackageList) (limits : Limits) (told : Option (List ℕ)) (h : Header) (reader next : ReaderView) (left after : Option (List ℕ)) (s t : StateView) (old new : DeskView) → IsChecked r limits told h reader left s
     → reader.given ≤ reader.limits.certificate → (step : CertRecord) → WhereTold left after (λ rest more. RecordAnswers reader rest more (Ok (Some step))) → RecordCause reader next old new (Ok (Some step))
-    → GivesRecord reader next (Ok (Some step)) → TakesLine r s step t → t.log.line_limit ≡ s.log.line_limit → t.log.line_literal_limit ≡ s.log.line_literal_limit → IsChecked r limits told h next after t
+    → GivesRecord reader next (Ok (Some step)) → TakesLine s step t → t.log.line_limit ≡ s.log.line_limit → t.log.line_literal_limit ≡ s.log.line_literal_limit → IsChecked r limits told h next after t
 next-checked clear r limits told h reader next left after s t old new x bytes step answers because gives takes line_limit line_literal_limit = record {
   inputs = x.inputs;
   are_inputs = x.are_inputs;
+  inputs_mean = x.inputs_mean;
   before = x.before ++ step ∷ [];
   at = becomes-at r (x.inputs h.essential) h x.before s t x.at step takes.none takes.becomes;
   right = right-push r (x.inputs h.essential) h x.before step x.right faultless;
@@ -134,7 +137,7 @@ next-checked clear r limits told h reader next left after s t old new x bytes st
 }
   where
     faultless : IsFaultless (matter_of r h.essential (x.inputs h.essential)) h x.before step
-    faultless = told-verdict r (x.inputs h.essential) h x.before s x.strong x.at x.right x.forms step because.0.rules None takes.none
+    faultless = told-verdict r (x.inputs h.essential) h x.before s x.strong x.at x.right x.forms x.inputs_mean step because.0.rules None takes.none
 
     by : (o : Option (List ℕ)) → TextAt r x.inputs limits h x.before o left → TextAt r x.inputs limits h (x.before ++ step ∷ []) o after
     by None here = tt
@@ -144,34 +147,34 @@ next-checked clear r limits told h reader next left after s t old new x bytes st
         (answer.0, answer.1, step-reached clear r x.inputs limits text h x.before here.0 answer.2.line answer.0 step one faultless)
 
 -- a line that is taken leaves the limits of derived lines
-pub limits-stay : (r : PackageList) (s t : StateView) (step : CertRecord) → Tells r s step None → Becomes s step t → (t.log.line_limit ≡ s.log.line_limit) × (t.log.line_literal_limit ≡ s.log.line_literal_limit)
-limits-stay r s t (lines.Question literals) told is = (ap (λ (v : StateView). v.log.line_limit) is, ap (λ (v : StateView). v.log.line_literal_limit) is)
-limits-stay r s t (lines.Derived literals hints) told is = (ap (λ (v : StateView). v.log.line_limit) is, ap (λ (v : StateView). v.log.line_literal_limit) is)
-limits-stay r s t (lines.Refuted hints) told is = (ap (λ (v : StateView). v.log.line_limit) is.rest, ap (λ (v : StateView). v.log.line_literal_limit) is.rest)
-limits-stay r s t lines.Undecided told is = (ap (λ (v : StateView). v.log.line_limit) is.rest, ap (λ (v : StateView). v.log.line_literal_limit) is.rest)
-limits-stay r s t (lines.Installation variables) told is = (ap (λ (v : StateView). v.log.line_limit) is, ap (λ (v : StateView). v.log.line_literal_limit) is)
-limits-stay r s t (lines.NotInstallable p) told is = (ap (λ (v : StateView). v.log.line_limit) is, ap (λ (v : StateView). v.log.line_literal_limit) is)
-limits-stay r s t (lines.Unknown p) told is = (ap (λ (v : StateView). v.log.line_limit) is, ap (λ (v : StateView). v.log.line_literal_limit) is)
-limits-stay r s t (lines.Strong p named on undecided) told is = (ap (λ (v : StateView). v.log.line_limit) is, ap (λ (v : StateView). v.log.line_literal_limit) is)
-limits-stay r s t (lines.Outdated p) told is = absurd (false≢true told.1)
-limits-stay r s t (lines.Alive p i) told is = absurd (false≢true told.1)
-limits-stay r s t (lines.Challenged p named by undecided) told is = absurd (false≢true told.1)
-limits-stay r s t lines.End told is = (ap (λ (v : StateView). v.log.line_limit) is, ap (λ (v : StateView). v.log.line_literal_limit) is)
+pub limits-stay : (s t : StateView) (step : CertRecord) → Tells s step None → Becomes s step t → (t.log.line_limit ≡ s.log.line_limit) × (t.log.line_literal_limit ≡ s.log.line_literal_limit)
+limits-stay s t (lines.Question literals) told is = (ap (λ (v : StateView). v.log.line_limit) is, ap (λ (v : StateView). v.log.line_literal_limit) is)
+limits-stay s t (lines.Derived literals hints) told is = (ap (λ (v : StateView). v.log.line_limit) is, ap (λ (v : StateView). v.log.line_literal_limit) is)
+limits-stay s t (lines.Refuted hints) told is = (ap (λ (v : StateView). v.log.line_limit) is.rest, ap (λ (v : StateView). v.log.line_literal_limit) is.rest)
+limits-stay s t lines.Undecided told is = (ap (λ (v : StateView). v.log.line_limit) is.rest, ap (λ (v : StateView). v.log.line_literal_limit) is.rest)
+limits-stay s t (lines.Installation variables) told is = (ap (λ (v : StateView). v.log.line_limit) is, ap (λ (v : StateView). v.log.line_literal_limit) is)
+limits-stay s t (lines.NotInstallable p) told is = (ap (λ (v : StateView). v.log.line_limit) is, ap (λ (v : StateView). v.log.line_literal_limit) is)
+limits-stay s t (lines.Unknown p) told is = (ap (λ (v : StateView). v.log.line_limit) is, ap (λ (v : StateView). v.log.line_literal_limit) is)
+limits-stay s t (lines.Strong p named on undecided) told is = (ap (λ (v : StateView). v.log.line_limit) is, ap (λ (v : StateView). v.log.line_literal_limit) is)
+limits-stay s t (lines.Outdated p) told is = absurd (false≢true told.1)
+limits-stay s t (lines.Alive p i) told is = absurd (false≢true told.1)
+limits-stay s t (lines.Challenged p named by undecided) told is = absurd (false≢true told.1)
+limits-stay s t lines.End told is = (ap (λ (v : StateView). v.log.line_limit) is, ap (λ (v : StateView). v.log.line_literal_limit) is)
 
 -- the packages stay
-pub packages-stay : (r : PackageList) (s t : StateView) (step : CertRecord) → Tells r s step None → Becomes s step t → t.packages ≡ s.packages
-packages-stay r s t (lines.Question literals) told is = ap (λ (v : StateView). v.packages) is
-packages-stay r s t (lines.Derived literals hints) told is = ap (λ (v : StateView). v.packages) is
-packages-stay r s t (lines.Refuted hints) told is = ap (λ (v : StateView). v.packages) is.rest
-packages-stay r s t lines.Undecided told is = ap (λ (v : StateView). v.packages) is.rest
-packages-stay r s t (lines.Installation variables) told is = ap (λ (v : StateView). v.packages) is
-packages-stay r s t (lines.NotInstallable p) told is = ap (λ (v : StateView). v.packages) is
-packages-stay r s t (lines.Unknown p) told is = ap (λ (v : StateView). v.packages) is
-packages-stay r s t (lines.Strong p named on undecided) told is = ap (λ (v : StateView). v.packages) is
-packages-stay r s t (lines.Outdated p) told is = absurd (false≢true told.1)
-packages-stay r s t (lines.Alive p i) told is = absurd (false≢true told.1)
-packages-stay r s t (lines.Challenged p named by undecided) told is = absurd (false≢true told.1)
-packages-stay r s t lines.End told is = ap (λ (v : StateView). v.packages) is
+pub packages-stay : (s t : StateView) (step : CertRecord) → Tells s step None → Becomes s step t → t.packages ≡ s.packages
+packages-stay s t (lines.Question literals) told is = ap (λ (v : StateView). v.packages) is
+packages-stay s t (lines.Derived literals hints) told is = ap (λ (v : StateView). v.packages) is
+packages-stay s t (lines.Refuted hints) told is = ap (λ (v : StateView). v.packages) is.rest
+packages-stay s t lines.Undecided told is = ap (λ (v : StateView). v.packages) is.rest
+packages-stay s t (lines.Installation variables) told is = ap (λ (v : StateView). v.packages) is
+packages-stay s t (lines.NotInstallable p) told is = ap (λ (v : StateView). v.packages) is
+packages-stay s t (lines.Unknown p) told is = ap (λ (v : StateView). v.packages) is
+packages-stay s t (lines.Strong p named on undecided) told is = ap (λ (v : StateView). v.packages) is
+packages-stay s t (lines.Outdated p) told is = absurd (false≢true told.1)
+packages-stay s t (lines.Alive p i) told is = absurd (false≢true told.1)
+packages-stay s t (lines.Challenged p named by undecided) told is = absurd (false≢true told.1)
+packages-stay s t lines.End told is = ap (λ (v : StateView). v.packages) is
 
 -- ---- the first line
 
@@ -224,13 +227,18 @@ start-stops clear there one r ordered limits reader told left after h is same {X
     by None e = tt
     by (Some text) e = let answer = subst (λ l. WhereTold l after (λ rest more. HeaderAnswers reader rest more (Ok h))) e answers in at text answer.0 answer.2 error stops
 
-pub starts-checked : FormsAreClear → (there : ThereAreClauses) → ClausesAreOne → (r : PackageList) → IsInOrder r.packages → (limits : Limits) (reader next : ReaderView) (told left after : Option (List ℕ)) (h : Header) (s : StateView)
+pub starts-checked : FormsAreClear → (there : ThereAreClauses) → ClausesAreOne → ModelsAreInstallations → (r : PackageList) → IsInOrder r.packages → (limits : Limits) (reader next : ReaderView) (told left after : Option (List ℕ)) (h : Header) (s : StateView)
     → reader ≡ new_reader limits → left ≡ told → WhereTold left after (λ rest more. HeaderAnswers reader rest more (Ok h)) → GivesHeader reader next (Ok h) → IsStart r limits h s → IsChecked r limits told h next after s
-starts-checked clear there one r ordered limits reader next told left after h s is same answers gives start = record {
+starts-checked clear there one models r ordered limits reader next told left after h s is same answers gives start = record {
   inputs = inputs;
   are_inputs = are-inputs there r ordered;
+  inputs_mean = record {
+    ordered = ordered;
+    over = subst (λ cs. All (IsClauseOver (length r.packages)) cs) (sym clauses) (subst (λ n. All (IsClauseOver n) s.log.clauses) start.variables start.within.over_variables);
+    models = models r h.essential (inputs h.essential) ordered (are-inputs there r ordered h.essential);
+  };
   before = [];
-  at = starts-at r (inputs h.essential) h s start.essential start.limit start.packages (sym clauses) (start.inputs ∙ sym size) start.variables start.window start.question start.next start.group_is start.claims;
+  at = starts-at r (inputs h.essential) h s start.limit start.packages (sym clauses) (start.inputs ∙ sym size) start.variables start.window start.question start.next start.group_is start.claims;
   right = right-none r (inputs h.essential) h;
   forms = All-nil (λ step. HasForm (record_text step) step);
   strong = start.strong;
@@ -280,25 +288,33 @@ pub next-cause : (reader next : ReaderView) (entry old new : DeskView) (error : 
 next-cause reader next entry old new (Bad fault) first second cause = tt
 next-cause reader next entry old new (Work ReadFault) first second cause = rose-from entry.read_faults old.read_faults new.read_faults first.read_faults_stand second.read_faults_stand cause
 next-cause reader next entry old new (Work WriteFault) first second cause = cause
-next-cause reader next entry old new (Work error) first second cause = tt
+next-cause reader next entry old new (Work NoMemory) first second cause = tt
+next-cause reader next entry old new (Work (TooLarge Certificate)) first second cause = tt
+next-cause reader next entry old new (Work (TooLarge what)) first second cause = absurd cause
 
 pub header-cause : (reader next : ReaderView) (old new : DeskView) (error : ReadCertError) → HeaderCause reader next old new (Err error) → TextCause old new error
 header-cause reader next old new (Bad fault) cause = tt
 header-cause reader next old new (Work ReadFault) cause = cause
 header-cause reader next old new (Work WriteFault) cause = cause
-header-cause reader next old new (Work error) cause = tt
+header-cause reader next old new (Work NoMemory) cause = tt
+header-cause reader next old new (Work (TooLarge Certificate)) cause = tt
+header-cause reader next old new (Work (TooLarge what)) cause = absurd cause
 
 pub start-cause : (r : PackageList) (limits : Limits) (h : Header) (old new : DeskView) (error : ReadCertError) → StartAnswers r limits h (Err error) → TextCause old new error
 start-cause r limits h old new (Bad fault) stops = tt
-start-cause r limits h old new (Work ReadFault) stops = absurd stops
-start-cause r limits h old new (Work WriteFault) stops = stops
-start-cause r limits h old new (Work error) stops = tt
+start-cause r limits h old new (Work NoMemory) stops = tt
+start-cause r limits h old new (Work (TooLarge Clauses)) stops = tt
+start-cause r limits h old new (Work (TooLarge Literals)) stops = tt
+start-cause r limits h old new (Work error) stops = absurd stops
 
-pub line-cause : (r : PackageList) (s : StateView) (step : CertRecord) (line : ℕ) (old new : DeskView) (error : ReadCertError) → LineStops r s step line error → TextCause old new error
-line-cause r s step line old new (Bad fault) stops = tt
-line-cause r s step line old new (Work ReadFault) stops = absurd (no-other s step ReadFault stops.1 (λ e. cc) (λ e. cc) (λ e. cc))
-line-cause r s step line old new (Work WriteFault) stops = no-other s step WriteFault stops.1 (λ e. cc) (λ e. cc) (λ e. cc)
-line-cause r s step line old new (Work error) stops = tt
+pub line-cause : (s : StateView) (step : CertRecord) (line : ℕ) (old new : DeskView) (error : ReadCertError) → LineStops s step line error → TextCause old new error
+line-cause s step line old new (Bad fault) stops = tt
+line-cause s step line old new (Work NoMemory) stops = tt
+line-cause s step line old new (Work (TooLarge Lines)) stops = tt
+line-cause s step line old new (Work (TooLarge LineLiterals)) stops = tt
+line-cause s step line old new (Work ReadFault) stops = absurd (no-other s step ReadFault stops.1 (λ e. cc) (λ e. cc) (λ e. cc))
+line-cause s step line old new (Work WriteFault) stops = no-other s step WriteFault stops.1 (λ e. cc) (λ e. cc) (λ e. cc)
+line-cause s step line old new (Work (TooLarge what)) stops = absurd (no-other s step (TooLarge what) stops.1 (λ e. cc) (λ e. cc) (λ e. cc))
 
 -- what the exit of a `?` returns
 pub by-exit : {X : Type 0} (P : Result X ReadCertError → Type 0) (r : Result X ReadCertError) (error : ReadCertError) → IsErrAnd r (λ e. e ≡ error) → P (Err error) → P r

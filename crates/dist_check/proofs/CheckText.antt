@@ -37,6 +37,11 @@ stops-alike header claims to_header to_claims r limits (Some text) (Work (TooLar
 stops-alike header claims to_header to_claims r limits (Some text) (Work (TooLarge Certificate)) stops = stops
 stops-alike header claims to_header to_claims r limits (Some text) (Work (TooLarge what)) stops = absurd stops
 
+-- want of memory may come at any text
+pub no-memory : {X : Type 0} (header : X → Header) (claims : X → List Claim) (r : PackageList) (limits : Limits) (told : Option (List ℕ)) → OfText told (λ text. TextAnswers header claims r limits text (Err (Work NoMemory)))
+no-memory header claims r limits None = tt
+no-memory header claims r limits (Some text) = tt
+
 -- a completed text, of which the claims are these
 pub completed-alike : {X : Type 0} (header : X → Header) (claims : X → List Claim) (r : PackageList) (limits : Limits) (told : Option (List ℕ)) (h : Header) (made : List Claim) (of : X) → header of ≡ h → claims of ≡ made
     → OfText told (λ text. IsCompleted r limits text h made) → OfText told (λ text. TextAnswers header claims r limits text (Ok of))
@@ -49,4 +54,5 @@ pub later-cause : (entry old new : DeskView) (error : ReadCertError) → OnlyRea
 later-cause entry old new (Bad fault) first second cause = tt
 later-cause entry old new (Work ReadFault) first second cause = rose-from entry.read_faults old.read_faults new.read_faults first.read_faults_stand second.read_faults_stand cause
 later-cause entry old new (Work WriteFault) first second cause = cause
-later-cause entry old new (Work error) first second cause = tt
+later-cause entry old new (Work NoMemory) first second cause = tt
+later-cause entry old new (Work (TooLarge what)) first second cause = cause

@@ -7,10 +7,8 @@ mod MemberLemmas
 mod Claims
 mod Whole
 mod Hard
-mod RisingLemmas
-mod SetLemmas
-mod NewLemmas
-mod LiteralLemmas
+mod Among
+mod Above
 mod Questions
 mod Profile
 mod TestLemmas

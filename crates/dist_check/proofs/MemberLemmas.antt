@@ -1,6 +1,7 @@
 -- The healthy installations of a repository by the variables of its packages.
 use Rattle.std.proofs.Common.{◌≡◌, inl, inr, ℕ, zero, suc, ◌+◌, ◌-◌, ◌<◌, ◌≤◌, ◌++◌, replicate, set, ◌==◌, ◌||◌, Bool, true, false, List, [], ◌∷◌, length, get_or, Some, Less, refl, sym, ap, subst, ◌∙◌, arith, slice_get}
-use Rattle.std.specs.List.{Contains, list_any, range_with_len}
+use Rattle.std.specs.List.{All, Contains, list_any, range_with_len}
+use Rattle.std.proofs.lemmas.List.Elements.{All-contains}
 use Rattle.std.specs.Ordering.{ordering_then}
 use Rattle.std.proofs.lemmas.Bool.{cases_order, eq-eqb, ne_eqb, or_right, cases_eq}
 use Rattle.std.proofs.lemmas.Cmp.{tied_itself, nat_cmp_total, lists_total}
@@ -9,7 +10,7 @@ use Rattle.std.proofs.lemmas.List.FromFn.{get_or-map-range_with_len, length-rang
 use Rattle.std.proofs.lemmas.Option.{get_or_from_slice_get, slice_get_within}
 use Rattle.dist_version.specs.Order.{version_cmp}
 use Rattle.dist_version.specs.OrderLaws.{version_total}
-use Rattle.dist_clause.specs.Formula.{Literal, value_of, IsModel}
+use Rattle.dist_clause.specs.Formula.{Literal, value_of, IsClauseOver, MakesTrue, IsModel}
 use Rattle.dist_repo.specs.Order.{IsInOrder, package_cmp}
 use Rattle.dist_repo.specs.PackageList.{PackageList}
 use Rattle.dist_repo.specs.Strong.{IsInstallation}
@@ -18,8 +19,8 @@ use Rattle.dist_now.specs.Members.{members_of}
 use Rattle.dist_now.specs.PresentLaws.{AreModelsInstallations, AreSamePackages}
 use Rattle.dist_check.specs.Present.{truth_of, packages_of}
 use Rattle.dist_check.proofs.Told.{model-told, IsTold}
-use Rattle.dist_check.specs.Rising.{is_among}
-use Rattle.dist_check.proofs.RisingLemmas.{any-from, from-any}
+use Rattle.dist_group.specs.Rising.{is_among}
+use Rattle.dist_check.proofs.Among.{any-from, from-any}
 use Rattle.dist_check.proofs.Places.{contains-cases, contains-later}
 
 -- ---- truth values
@@ -30,48 +31,19 @@ truth-length n variables = length-map (range_with_len 1 n) (λ variable. list_an
 pub truth-at : (n k : ℕ) (variables : List ℕ) → k < n → get_or (truth_of n variables) k false ≡ list_any (λ v. k + 1 == v) variables
 truth-at n k variables within = get_or-map-range_with_len (λ variable. list_any (λ v. variable == v) variables) 1 n k (k + 1) false within (omega arith)
 
--- no package is there
-pub truth-none : (n : ℕ) → truth_of n [] ≡ replicate n false
-truth-none n =
-    ext_get_or false (truth_of n []) (replicate n false) (truth-length n [] ∙ sym (length-replicate n false)) (λ k within.
-    let less : k < n = omega (arith, within, truth-length n []) in truth-at n k [] less ∙ sym (get_or-replicate n k false false less))
+-- the value of a variable
+value-among : (n : ℕ) (variables : List ℕ) (v : ℕ) → 1 ≤ v → v ≤ n → value_of (truth_of n variables) v ≡ is_among variables v
+value-among n variables v from upto =
+    truth-at n (v - 1) variables (omega (arith, from, upto)) ∙ ap (λ (k : ℕ). is_among variables k) (let e : v - 1 + 1 ≡ v = omega (arith, from) in e)
 
-among-push : (variables : List ℕ) (v q : ℕ) → is_among (variables ++ v ∷ []) q ≡ (is_among variables q || (q == v))
-among-push [] v q = or-false (q == v)
-  where
-    or-false : (b : Bool) → (b || false) ≡ (false || b)
-    or-false true = refl
-    or-false false = refl
-among-push (x ∷ variables) v q = ap (λ (b : Bool). (q == x) || b) (among-push variables v q) ∙ sym (or-assoc (q == x) (is_among variables q) (q == v))
-  where
-    or-assoc : (a b c : Bool) → ((a || b) || c) ≡ (a || (b || c))
-    or-assoc true b c = refl
-    or-assoc false b c = refl
+true-alike : (value other : ℕ → Bool) (n : ℕ) → ((v : ℕ) → 1 ≤ v → v ≤ n → value v ≡ other v) → (clause : List Literal) → IsClauseOver n clause → MakesTrue value clause → MakesTrue other clause
+true-alike value other n same clause over made =
+    let l = made.1 in
+    let range = All-contains (λ (m : Literal). (1 ≤ m.variable) × (m.variable ≤ n)) clause l over.in_range (made.0, made.2, made.3) in
+    (made.0, l, made.2, made.3, sym (same l.variable range.0 range.1) ∙ made.4)
 
-or-none : (a b : Bool) → b ≡ false → (a || b) ≡ a
-or-none true b e = refl
-or-none false b e = e
-
--- one package more
-pub truth-more : (n : ℕ) (variables : List ℕ) (v : ℕ) → 1 ≤ v → v ≤ n → set (truth_of n variables) (v - 1) true ≡ truth_of n (variables ++ v ∷ [])
-truth-more n variables v from upto =
-    ext_get_or false (set (truth_of n variables) (v - 1) true) (truth_of n (variables ++ v ∷ []))
-    (length-set (truth_of n variables) (v - 1) true ∙ truth-length n variables ∙ sym (truth-length n (variables ++ v ∷ [])))
-    (λ k within. at k (omega (arith, within, length-set (truth_of n variables) (v - 1) true, truth-length n variables)))
-  where
-    at : (k : ℕ) → k < n → get_or (set (truth_of n variables) (v - 1) true) k false ≡ get_or (truth_of n (variables ++ v ∷ [])) k false
-    at k less =
-        let here = truth-at n k (variables ++ v ∷ []) less ∙ among-push variables v (k + 1) in
-        elim (cases_eq k (v - 1)) [
-          | inl same ↦
-              let place : v - 1 < length (truth_of n variables) = omega (arith, truth-length n variables) in
-              let number : k + 1 ≡ v = omega arith in
-              ap (λ (i : ℕ). get_or (set (truth_of n variables) (v - 1) true) i false) same ∙ get_or-set_same (truth_of n variables) (v - 1) true false place
-              ∙ sym (here ∙ or_right (is_among variables (k + 1)) (k + 1 == v) (eq-eqb (k + 1) v number))
-          | inr other ↦
-              get_or-set_other (truth_of n variables) (v - 1) k true false other ∙ truth-at n k variables less
-              ∙ sym (here ∙ or-none (is_among variables (k + 1)) (k + 1 == v) (ne_eqb (k + 1) v (λ e. other (omega (arith, e)))))
-        ]
+model-alike : (value other : ℕ → Bool) (n : ℕ) → ((v : ℕ) → 1 ≤ v → v ≤ n → value v ≡ other v) → (clauses : List (List Literal)) → All (IsClauseOver n) clauses → IsModel value clauses → IsModel other clauses
+model-alike value other n same clauses over model k d within = true-alike value other n same (get_or clauses k d) (over k d within) (model k d within)
 
 -- ---- members
 
@@ -170,6 +142,23 @@ healthy-told r essential clauses flags ordered size models = elim (model-told (v
       let w = models.all (members_of r.packages flags) healthy in
       none (subst (λ f. IsModel (value_of f) clauses) (sym (same-flags r.packages flags w.0 ordered size w.1.one_each w.2)) w.1.model))
 ]
+
+-- a model of the clauses is a healthy installation, and the other way round
+pub model-installed : (r : PackageList) (essential : Bool) (clauses : List (List Literal)) (variables : List ℕ) → All (IsClauseOver (length r.packages)) clauses → AreModelsInstallations r essential clauses
+    → IsModel (is_among variables) clauses → IsInstallation essential r (packages_of r.packages variables)
+model-installed r essential clauses variables over models model =
+    models.healthy (truth_of (length r.packages) variables) (record {
+      one_each = truth-length (length r.packages) variables;
+      model = model-alike (is_among variables) (value_of (truth_of (length r.packages) variables)) (length r.packages) (λ v from upto. sym (value-among (length r.packages) variables v from upto)) clauses over model;
+    })
+
+pub installed-model : (r : PackageList) (essential : Bool) (clauses : List (List Literal)) (variables : List ℕ) → IsInOrder r.packages → All (IsClauseOver (length r.packages)) clauses → AreModelsInstallations r essential clauses
+    → IsInstallation essential r (packages_of r.packages variables) → IsModel (is_among variables) clauses
+installed-model r essential clauses variables ordered over models healthy =
+    let n = length r.packages in
+    let w = models.all (packages_of r.packages variables) healthy in
+    let same = same-flags r.packages (truth_of n variables) w.0 ordered (truth-length n variables) w.1.one_each w.2 in
+    model-alike (value_of (truth_of n variables)) (is_among variables) n (value-among n variables) clauses over (subst (λ f. IsModel (value_of f) clauses) (sym same) w.1.model)
 
 pub packages-told : (r : PackageList) (essential : Bool) (clauses : List (List Literal)) (variables : List ℕ) → IsInOrder r.packages → AreModelsInstallations r essential clauses
     → IsTold (IsInstallation essential r (packages_of r.packages variables))

@@ -15,14 +15,14 @@ use Rattle.dist_cert.specs.Form.{KeepsRules}
 use Rattle.dist_cert.specs.Groups.{clause_of, derived, derived_in, installed_in, installations, is_claim, claimed, claim_count, group, leaves_open}
 use Rattle.dist_cert.specs.Accepted.{claim_in, claims_in}
 use Rattle.dist_check.specs.Present.{matter_of}
-use Rattle.dist_check.specs.Window.{WindowView, latest}
-use Rattle.dist_check.specs.Closed.{Closes}
-use Rattle.dist_check.specs.Group.{GroupView}
-use Rattle.dist_check.specs.State.{QuestionView, StateView, Tells, Allows, Becomes, empty_group, after_claim, names_above, TellsRefuted, TellsUndecided}
+use Rattle.dist_group.specs.Window.{WindowView, latest}
+use Rattle.dist_group.specs.Closed.{Closes}
+use Rattle.dist_group.specs.Group.{GroupView}
+use Rattle.dist_state.specs.State.{QuestionView, StateView, Tells, Becomes, empty_group, after_claim, TellsRefuted, TellsUndecided}
 use Rattle.dist_check.specs.At.{IsQuestionOf, IsGroupOf, IsAt}
 use Rattle.dist_check.proofs.ClosingVerdicts.{undecided-verdict, end-verdict, installable-verdict, unknown-verdict, outdated-verdict, alive-verdict, challenged-verdict}
 use Rattle.dist_check.proofs.Questions.{IsOpening, opened, none-open, none-first}
-use Rattle.dist_check.specs.Checked.{AreRight, HaveForms}
+use Rattle.dist_check.specs.Checked.{AreInputsOf, AreRight, HaveForms}
 use Rattle.dist_check.proofs.Steps.{derived-push, derived-same, installed-push, installed-same, latest-push, question-stays, group-first, group-same, group-installed, group-refuted, group-undecided, group-after_claim}
 use Rattle.dist_check.proofs.StrongVerdicts.{strong-verdict}
 use Rattle.dist_check.proofs.Verdicts.{IsVerdict, question-verdict, derived-verdict, refuted-verdict, installation-verdict}
@@ -31,29 +31,19 @@ use Rattle.dist_check.proofs.Whole.{claim-count-push}
 -- ---- the verdict
 
 pub told-verdict : (r : PackageList) (inputs : List (List Literal)) (h : Header) (before : List CertRecord) (s : StateView) → h.kind ≡ kinds.Strong → IsAt r inputs h before s → AreRight (matter_of r h.essential inputs) h before → HaveForms before
-    → (step : CertRecord) → KeepsRules step → (found : Option CertCause) → Tells r s step found → IsVerdict r inputs h before step found
-told-verdict r inputs h before s strong at right forms (lines.Question literals) rules found told = question-verdict r inputs h before s strong at literals found told
-told-verdict r inputs h before s strong at right forms (lines.Derived literals hints) rules found told = derived-verdict r inputs h before s strong at literals hints found told
-told-verdict r inputs h before s strong at right forms (lines.Refuted hints) rules found told = refuted-verdict r inputs h before s strong at s.question at.question hints found told
-told-verdict r inputs h before s strong at right forms (lines.Installation variables) rules found told = installation-verdict r inputs h before s strong at variables found told
-told-verdict r inputs h before s strong at right forms lines.Undecided rules found told = undecided-verdict r inputs h before s strong at s.question at.question found told
-told-verdict r inputs h before s strong at right forms (lines.NotInstallable p) rules found told = installable-verdict r inputs h before s strong at p found told
-told-verdict r inputs h before s strong at right forms (lines.Unknown p) rules found told = unknown-verdict r inputs h before s strong at p found told
-told-verdict r inputs h before s strong at right forms (lines.Strong p named on undecided) rules found told = strong-verdict r inputs h before s strong at right forms p named on undecided rules found told
-told-verdict r inputs h before s strong at right forms (lines.Outdated p) rules found told = outdated-verdict r inputs h before s strong at p found told
-told-verdict r inputs h before s strong at right forms (lines.Alive p i) rules found told = alive-verdict r inputs h before s strong at p i found told
-told-verdict r inputs h before s strong at right forms (lines.Challenged p named by undecided) rules found told = challenged-verdict r inputs h before s strong at p named by undecided found told
-told-verdict r inputs h before s strong at right forms lines.End rules found told = end-verdict r inputs h before s strong at found told
-
--- ---- what a line may be taken with
-
-pub allowed : (r : PackageList) (inputs : List (List Literal)) (h : Header) (before : List CertRecord) (s : StateView) → IsAt r inputs h before s → (step : CertRecord) → Tells r s step None → Allows s step
-allowed r inputs h before s at (lines.Question literals) told = told
-allowed r inputs h before s at (lines.Derived literals hints) told = subst (λ n. names_above n literals ≡ false) (at.variables ∙ sym at.packages) told.0
-allowed r inputs h before s at (lines.NotInstallable p) told = told.0
-allowed r inputs h before s at (lines.Unknown p) told = told.0
-allowed r inputs h before s at (lines.Strong p named on undecided) told = told.0
-allowed r inputs h before s at step told = tt
+    → AreInputsOf r h.essential inputs → (step : CertRecord) → KeepsRules step → (found : Option CertCause) → Tells s step found → IsVerdict r inputs h before step found
+told-verdict r inputs h before s strong at right forms mean (lines.Question literals) rules found told = question-verdict r inputs h before s strong at literals found told
+told-verdict r inputs h before s strong at right forms mean (lines.Derived literals hints) rules found told = derived-verdict r inputs h before s strong at literals hints found told
+told-verdict r inputs h before s strong at right forms mean (lines.Refuted hints) rules found told = refuted-verdict r inputs h before s strong at s.question at.question hints found told
+told-verdict r inputs h before s strong at right forms mean (lines.Installation variables) rules found told = installation-verdict r inputs h before s strong at mean variables found told
+told-verdict r inputs h before s strong at right forms mean lines.Undecided rules found told = undecided-verdict r inputs h before s strong at s.question at.question found told
+told-verdict r inputs h before s strong at right forms mean (lines.NotInstallable p) rules found told = installable-verdict r inputs h before s strong at p found told
+told-verdict r inputs h before s strong at right forms mean (lines.Unknown p) rules found told = unknown-verdict r inputs h before s strong at p found told
+told-verdict r inputs h before s strong at right forms mean (lines.Strong p named on undecided) rules found told = strong-verdict r inputs h before s strong at right forms p named on undecided rules found told
+told-verdict r inputs h before s strong at right forms mean (lines.Outdated p) rules found told = outdated-verdict r inputs h before s strong at p found told
+told-verdict r inputs h before s strong at right forms mean (lines.Alive p i) rules found told = alive-verdict r inputs h before s strong at p i found told
+told-verdict r inputs h before s strong at right forms mean (lines.Challenged p named by undecided) rules found told = challenged-verdict r inputs h before s strong at p named by undecided found told
+told-verdict r inputs h before s strong at right forms mean lines.End rules found told = end-verdict r inputs h before s strong at found told
 
 -- ---- what is kept behind a line
 
@@ -71,7 +61,6 @@ plain-step : (r : PackageList) (inputs : List (List Literal)) (h : Header) (befo
     → derived_in step ≡ [] → (question : Option QuestionView) → IsQuestionOf inputs (before ++ step ∷ []) question → (kept : GroupView) → IsGroupOf (group (before ++ step ∷ [])) s.next kept
     → IsAt r inputs h (before ++ step ∷ []) (record s { question = question; group = kept })
 plain-step r inputs h before s at step no_number no_claim no_members no_clause question q kept g = record {
-  essential = at.essential;
   limit = at.limit;
   packages = at.packages;
   clauses = at.clauses ∙ derived-same inputs before step no_clause;
@@ -89,7 +78,6 @@ plain-step r inputs h before s at step no_number no_claim no_members no_clause q
 claim-step : (r : PackageList) (inputs : List (List Literal)) (h : Header) (before : List CertRecord) (s : StateView) → IsAt r inputs h before s → (step : CertRecord) → is_claim step ≡ true → length (claimed step) ≡ 1 → installed_in step ≡ []
     → derived_in step ≡ [] → leaves_open step ≡ false → ¬ IsOpening step → IsAt r inputs h (before ++ step ∷ []) (after_claim s (claim_in step))
 claim-step r inputs h before s at step claim one no_members no_clause closes never = record {
-  essential = at.essential;
   limit = at.limit;
   packages = at.packages;
   clauses = at.clauses ∙ derived-same inputs before step no_clause;
@@ -120,7 +108,7 @@ undecided-group inputs before s t is None q told common noted = cc
 undecided-group inputs before s t is (Some question) q told common noted =
     group-undecided before q.0 question.assumptions q.1 s.next s.group t.group q.2 noted.0 noted.1 common is
 
-pub becomes-at : (r : PackageList) (inputs : List (List Literal)) (h : Header) (before : List CertRecord) (s t : StateView) → IsAt r inputs h before s → (step : CertRecord) → Tells r s step None → Becomes s step t
+pub becomes-at : (r : PackageList) (inputs : List (List Literal)) (h : Header) (before : List CertRecord) (s t : StateView) → IsAt r inputs h before s → (step : CertRecord) → Tells s step None → Becomes s step t
     → IsAt r inputs h (before ++ step ∷ []) t
 becomes-at r inputs h before s t at (lines.Question literals) told is =
     subst (IsAt r inputs h (before ++ lines.Question literals ∷ [])) (sym is)
@@ -130,7 +118,6 @@ becomes-at r inputs h before s t at (lines.Derived literals hints) told is =
     let step = lines.Derived literals hints in
     let never : ¬ IsOpening step = λ o. let e = o.1 in cc in
     subst (IsAt r inputs h (before ++ step ∷ [])) (sym is) (record {
-      essential = at.essential;
       limit = at.limit;
       packages = at.packages;
       clauses = ap (λ (cs : List (List Literal)). cs ++ clause_of literals ∷ []) at.clauses ∙ append_assoc inputs (derived before) (clause_of literals ∷ [])
@@ -148,7 +135,6 @@ becomes-at r inputs h before s t at (lines.Installation variables) told is =
     let step = lines.Installation variables in
     let never : ¬ IsOpening step = λ o. let e = o.1 in cc in
     subst (IsAt r inputs h (before ++ step ∷ [])) (sym is) (record {
-      essential = at.essential;
       limit = at.limit;
       packages = at.packages;
       clauses = at.clauses ∙ derived-same inputs before step refl;
@@ -187,10 +173,9 @@ becomes-at r inputs h before s t at lines.End told is =
     (plain-step r inputs h before s at step refl refl refl refl None (none-open before step refl never) s.group (group-same before step s.next s.group refl refl (λ hints e. cc) (λ e. cc) at.group_is))
 
 -- before the first line
-pub starts-at : (r : PackageList) (inputs : List (List Literal)) (h : Header) (s : StateView) → s.essential ≡ h.essential → s.limit ≡ h.limit → s.packages ≡ length r.packages → s.log.clauses ≡ inputs → s.log.inputs ≡ length inputs
+pub starts-at : (r : PackageList) (inputs : List (List Literal)) (h : Header) (s : StateView) → s.limit ≡ h.limit → s.packages ≡ length r.packages → s.log.clauses ≡ inputs → s.log.inputs ≡ length inputs
     → s.log.variables ≡ length r.packages → s.window ≡ record { kept = []; count = 0 } → s.question ≡ None → s.next ≡ 1 → s.group ≡ empty_group → s.claims ≡ [] → IsAt r inputs h [] s
-starts-at r inputs h s essential limit packages clauses inputs_are variables window question next kept claims = record {
-  essential = essential;
+starts-at r inputs h s limit packages clauses inputs_are variables window question next kept claims = record {
   limit = limit;
   packages = packages;
   clauses = clauses ∙ sym (append-nil inputs);

@@ -12,15 +12,15 @@ use Rattle.dist_cert.specs.declared.records.CertRecord.TheVariants as lines
 use Rattle.dist_cert.specs.Form.{Word}
 use Rattle.dist_cert.specs.Groups.{derived_in, derived, installed_in, installations, is_claim, group, leaves_open, IsOpen, IsRefutedIn, IsUndecidedIn}
 use Rattle.dist_cert.specs.ClaimRules.{yes, no}
-use Rattle.dist_check.specs.Rising.{is_among}
-use Rattle.dist_check.specs.Window.{latest}
-use Rattle.dist_check.specs.Closed.{ClosedView, asks_alone, asks_without, Closes}
-use Rattle.dist_check.specs.Group.{GroupView, narrowed, common_with}
-use Rattle.dist_check.specs.State.{QuestionView, empty_group}
+use Rattle.dist_group.specs.Rising.{is_among}
+use Rattle.dist_group.specs.Window.{latest}
+use Rattle.dist_group.specs.Closed.{ClosedView, asks_alone, asks_without, Closes}
+use Rattle.dist_group.specs.Group.{GroupView, narrowed, common_with}
+use Rattle.dist_state.specs.State.{QuestionView, empty_group}
 use Rattle.dist_check.specs.At.{IsQuestionOf, AreClosed, IsCommonOf, IsGroupOf}
 use Rattle.dist_check.proofs.Places.{contains-cases, contains-later}
 use Rattle.dist_check.proofs.Questions.{IsOpening, IsAsked, one-open, still-open, none-still, closed-push, closed-before, closed-here, none-closed, group-push, group-claim, asked-in-group}
-use Rattle.dist_check.proofs.RisingLemmas.{any-from, from-any}
+use Rattle.dist_check.proofs.Among.{any-from, from-any}
 
 -- ---- lists that grow with the lines
 

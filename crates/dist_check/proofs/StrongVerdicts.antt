@@ -17,16 +17,16 @@ use Rattle.dist_cert.specs.Form.{AreFromOne, record_text, HasForm, KeepsRules}
 use Rattle.dist_cert.specs.Groups.{installations, installation_at, IsRecent, group, IsRefutedIn, IsUndecidedIn}
 use Rattle.dist_cert.specs.ClaimRules.{yes, no, IsNamed, IsInEach, HoldsStrong, OmitsPackage}
 use Rattle.dist_check.specs.Present.{matter_of}
-use Rattle.dist_check.specs.Rising.{is_among}
-use Rattle.dist_check.specs.Window.{kept_at, has_member}
-use Rattle.dist_check.specs.Group.{candidates, in_each, is_always, PassesStrong, omits_package}
-use Rattle.dist_check.specs.State.{StateView, is_next, TellsStrong}
+use Rattle.dist_group.specs.Rising.{is_among}
+use Rattle.dist_group.specs.Window.{kept_at, has_member}
+use Rattle.dist_group.specs.Group.{candidates, in_each, is_always, PassesStrong, TellsRules, omits_package}
+use Rattle.dist_state.specs.State.{StateView, is_next, TellsStrong}
 use Rattle.dist_check.specs.At.{IsCommonOf, IsAt}
 use Rattle.dist_check.proofs.ClosingVerdicts.{on-strong, number-verdict, wrong-verdict, right-verdict, incomplete-verdict}
 use Rattle.dist_check.proofs.GroupLemmas.{line-of, recent-there}
 use Rattle.dist_check.proofs.Places.{all-at, all-from}
 use Rattle.dist_check.specs.Checked.{AreRight, HaveForms}
-use Rattle.dist_check.proofs.RisingLemmas.{any-from, from-any}
+use Rattle.dist_check.proofs.Among.{any-from, from-any}
 use Rattle.dist_check.proofs.TestLemmas.{Tests, all-tested, any-tested, none-tested, among-tests, other-tests}
 use Rattle.dist_check.proofs.Told.{IsTold, stable, most-told, less-told}
 use Rattle.dist_check.proofs.Verdicts.{IsVerdict}
@@ -188,15 +188,15 @@ always-tests r inputs h before s p named x names numbers q there = always-is r i
 holds-from : (r : PackageList) (inputs : List (List Literal)) (h : Header) (before : List CertRecord) (s : StateView) (p : ℕ) (named on undecided : List ℕ) → IsClaimed r inputs h before s p named
     → PassesStrong s.window s.group s.packages p named on undecided → HoldsStrong (matter_of r h.essential inputs) before p named on undecided
 holds-from r inputs h before s p named on undecided x passes =
-    let names = (names-tested r inputs h before s p named x).0 passes.names in
-    let closed = (all-tested (is_among s.group.undecided.without) (λ q. IsUndecidedIn (group before) (yes p ∷ no q ∷ [])) undecided (undecided-tests r inputs h before s p named x undecided)).0 passes.open_still in
+    let names = (names-tested r inputs h before s p named x).0 passes.lists.names in
+    let closed = (all-tested (is_among s.group.undecided.without) (λ q. IsUndecidedIn (group before) (yes p ∷ no q ∷ [])) undecided (undecided-tests r inputs h before s p named x undecided)).0 passes.lists.open_still in
     let always = (all-tested (is_always s.window s.group.common named) (IsInEach before named p) undecided (always-tests r inputs h before s p named x names undecided)).0 passes.always in
     record {
       names = names;
-      rising = (passes.rising, passes.undecided_rising);
-      apart = (none-tested (is_among undecided) (λ q. Contains undecided q) on (among-tests undecided on)).0 passes.apart;
-      others = All-append (λ q. (q ≢ p) × (q ≤ length r.packages)) on undecided ((others-tested r inputs h before s p named x on).0 passes.others) ((others-tested r inputs h before s p named x undecided).0 passes.undecided_others);
-      refuted = (all-tested (is_among s.group.refuted.without) (λ q. IsRefutedIn (group before) (yes p ∷ no q ∷ [])) on (refuted-tests r inputs h before s p named x on)).0 passes.refuted;
+      rising = (passes.lists.rising, passes.lists.undecided_rising);
+      apart = (none-tested (is_among undecided) (λ q. Contains undecided q) on (among-tests undecided on)).0 passes.lists.apart;
+      others = All-append (λ q. (q ≢ p) × (q ≤ length r.packages)) on undecided ((others-tested r inputs h before s p named x on).0 passes.lists.others) ((others-tested r inputs h before s p named x undecided).0 passes.lists.undecided_others);
+      refuted = (all-tested (is_among s.group.refuted.without) (λ q. IsRefutedIn (group before) (yes p ∷ no q ∷ [])) on (refuted-tests r inputs h before s p named x on)).0 passes.lists.refuted;
       open_still = λ k d within. (closed k d within, always k d within);
     }
 
@@ -204,16 +204,18 @@ passes-from : (r : PackageList) (inputs : List (List Literal)) (h : Header) (bef
     → HoldsStrong (matter_of r h.essential inputs) before p named on undecided → PassesStrong s.window s.group s.packages p named on undecided
 passes-from r inputs h before s p named on undecided x holds =
     let IsOther : ℕ → Type 0 = λ q. (q ≢ p) × (q ≤ length r.packages) in record {
-      names = (names-tested r inputs h before s p named x).1 holds.names;
-      rising = holds.rising.0;
-      undecided_rising = holds.rising.1;
-      apart = (none-tested (is_among undecided) (λ q. Contains undecided q) on (among-tests undecided on)).1 holds.apart;
-      others = (others-tested r inputs h before s p named x on).1 (all-from IsOther on (λ q there. All-contains IsOther (on ++ undecided) q holds.others (Contains-append_left on undecided q there)));
-      undecided_others = (others-tested r inputs h before s p named x undecided).1
-          (all-from IsOther undecided (λ q there. All-contains IsOther (on ++ undecided) q holds.others (Contains-append_right on undecided q there)));
-      refuted = (all-tested (is_among s.group.refuted.without) (λ q. IsRefutedIn (group before) (yes p ∷ no q ∷ [])) on (refuted-tests r inputs h before s p named x on)).1 holds.refuted;
-      open_still = (all-tested (is_among s.group.undecided.without) (λ q. IsUndecidedIn (group before) (yes p ∷ no q ∷ [])) undecided (undecided-tests r inputs h before s p named x undecided)).1
-          (λ k d within. (holds.open_still k d within).0);
+      lists = record {
+        names = (names-tested r inputs h before s p named x).1 holds.names;
+        rising = holds.rising.0;
+        undecided_rising = holds.rising.1;
+        apart = (none-tested (is_among undecided) (λ q. Contains undecided q) on (among-tests undecided on)).1 holds.apart;
+        others = (others-tested r inputs h before s p named x on).1 (all-from IsOther on (λ q there. All-contains IsOther (on ++ undecided) q holds.others (Contains-append_left on undecided q there)));
+        undecided_others = (others-tested r inputs h before s p named x undecided).1
+            (all-from IsOther undecided (λ q there. All-contains IsOther (on ++ undecided) q holds.others (Contains-append_right on undecided q there)));
+        refuted = (all-tested (is_among s.group.refuted.without) (λ q. IsRefutedIn (group before) (yes p ∷ no q ∷ [])) on (refuted-tests r inputs h before s p named x on)).1 holds.refuted;
+        open_still = (all-tested (is_among s.group.undecided.without) (λ q. IsUndecidedIn (group before) (yes p ∷ no q ∷ [])) undecided (undecided-tests r inputs h before s p named x undecided)).1
+            (λ k d within. (holds.open_still k d within).0);
+      };
       always = (all-tested (is_always s.window s.group.common named) (IsInEach before named p) undecided (always-tests r inputs h before s p named x holds.names undecided)).1 (λ k d within. (holds.open_still k d within).1);
     }
 
@@ -310,24 +312,29 @@ omits-from r inputs h before s p named on undecided x names =
 pub strong-verdict : (r : PackageList) (inputs : List (List Literal)) (h : Header) (before : List CertRecord) (s : StateView) → h.kind ≡ kinds.Strong → IsAt r inputs h before s → AreRight (matter_of r h.essential inputs) h before → HaveForms before
     → (p : ℕ) (named on undecided : List ℕ) → KeepsRules (lines.Strong p named on undecided) → (found : Option CertCause)
     → TellsStrong (is_next s.next s.packages p) s.window s.group s.packages p named on undecided found → IsVerdict r inputs h before (lines.Strong p named on undecided) found
-strong-verdict r inputs h before s strong at right forms p named on undecided rules found told = by found told
+strong-verdict r inputs h before s strong at right forms p named on undecided rules found told = by (is_next s.next s.packages p) refl told
   where
     claimed : is_next s.next s.packages p ≡ true → IsClaimed r inputs h before s p named
     claimed next = record { at = at; right = right; forms = forms; next = sym (eqb-true p s.next (and_parts (p == s.next) (nat_le p s.packages) next).0); from_one = rules.2; some = rules.1 }
 
-    by : (f : Option CertCause) → TellsStrong (is_next s.next s.packages p) s.window s.group s.packages p named on undecided f → IsVerdict r inputs h before (lines.Strong p named on undecided) f
-    by None t =
-        let x = claimed t.0 in
-        let holds = holds-from r inputs h before s p named on undecided x t.1 in
-        right-verdict r inputs h before s strong at (lines.Strong p named on undecided) p (on-strong r inputs h before p named on undecided) t.0 holds
-        (λ omits. false≢true (sym t.2 ∙ (omits-from r inputs h before s p named on undecided x holds.names).1 omits))
-    by (Some causes.OutOfOrder) t = number-verdict r inputs h before s strong at (lines.Strong p named on undecided) p (on-strong r inputs h before p named on undecided) t
-    by (Some causes.WrongClaim) t =
-        wrong-verdict r inputs h before s strong at (lines.Strong p named on undecided) p (on-strong r inputs h before p named on undecided) t.0
-        (λ holds. t.1 (passes-from r inputs h before s p named on undecided (claimed t.0) holds))
-    by (Some causes.Incomplete) t =
-        let x = claimed t.0 in
-        let holds = holds-from r inputs h before s p named on undecided x t.1 in
-        incomplete-verdict r inputs h before s strong at (lines.Strong p named on undecided) p (on-strong r inputs h before p named on undecided) t.0 holds
-        ((omits-from r inputs h before s p named on undecided x holds.names).0 t.2)
-    by (Some cause) t = absurd t
+    ruled : is_next s.next s.packages p ≡ true → (f : Option CertCause) → TellsRules s.window s.group s.packages p named on undecided f → IsVerdict r inputs h before (lines.Strong p named on undecided) f
+    ruled next None t =
+        let x = claimed next in
+        let holds = holds-from r inputs h before s p named on undecided x t.0 in
+        right-verdict r inputs h before s strong at (lines.Strong p named on undecided) p (on-strong r inputs h before p named on undecided) next holds
+        (λ omits. false≢true (sym t.1 ∙ (omits-from r inputs h before s p named on undecided x holds.names).1 omits))
+    ruled next (Some causes.WrongClaim) t =
+        wrong-verdict r inputs h before s strong at (lines.Strong p named on undecided) p (on-strong r inputs h before p named on undecided) next
+        (λ holds. t (passes-from r inputs h before s p named on undecided (claimed next) holds))
+    ruled next (Some causes.Incomplete) t =
+        let x = claimed next in
+        let holds = holds-from r inputs h before s p named on undecided x t.0 in
+        incomplete-verdict r inputs h before s strong at (lines.Strong p named on undecided) p (on-strong r inputs h before p named on undecided) next holds
+        ((omits-from r inputs h before s p named on undecided x holds.names).0 t.1)
+    ruled next (Some cause) t = absurd t
+
+    by : (b : Bool) → is_next s.next s.packages p ≡ b → TellsStrong b s.window s.group s.packages p named on undecided found → IsVerdict r inputs h before (lines.Strong p named on undecided) found
+    by true next t = ruled next found t
+    by false other t =
+        subst (IsVerdict r inputs h before (lines.Strong p named on undecided)) (sym t)
+        (number-verdict r inputs h before s strong at (lines.Strong p named on undecided) p (on-strong r inputs h before p named on undecided) other)

@@ -4,7 +4,8 @@ use Rattle.std.specs.List.{All, Any}
 use Rattle.std.proofs.lemmas.Bool.{false≢true, cases_lt}
 use Rattle.std.proofs.lemmas.List.{take_at, get_or_at}
 use Rattle.dist_clause.specs.ClauseList.{clause_at}
-use Rattle.dist_clause.specs.Formula.{Literal, negation}
+use Rattle.dist_clause.specs.Formula.{Literal, negation, IsModel}
+use Rattle.dist_derive.specs.ClauseLog.{inputs_of}
 use Rattle.dist_derive.specs.Follows.{Follows}
 use Rattle.dist_derive.specs.New.{IsNew, EachIsNew}
 use Rattle.dist_repo.specs.PackageList.{PackageList}
@@ -16,13 +17,16 @@ use Rattle.dist_cert.specs.declared.records.CertRecord.{CertRecord}
 use Rattle.dist_cert.specs.declared.records.CertRecord.TheVariants as lines
 use Rattle.dist_cert.specs.declared.records.Header.{Header}
 use Rattle.dist_cert.specs.Form.{Word}
-use Rattle.dist_cert.specs.Groups.{clause_of, numbered}
+use Rattle.dist_cert.specs.Groups.{clause_of, derived, numbered}
 use Rattle.dist_cert.specs.LineRules.{HasRecordFault}
+use Rattle.dist_check.specs.Checked.{AreInputsOf}
 use Rattle.dist_check.specs.Present.{matter_of, packages_of}
-use Rattle.dist_check.specs.Since.{AreNewFrom}
-use Rattle.dist_check.specs.State.{QuestionView, StateView, names_above, is_above, TellsQuestion, TellsDerived, TellsRefuted, TellsInstallation}
+use Rattle.dist_group.specs.Rising.{is_among}
+use Rattle.dist_state.specs.Since.{AreNewFrom}
+use Rattle.dist_state.specs.State.{QuestionView, StateView, names_above, is_above, TellsQuestion, TellsDerived, TellsRefuted, TellsInstallation}
 use Rattle.dist_check.specs.At.{IsQuestionOf, IsAt}
-use Rattle.dist_check.proofs.LiteralLemmas.{none-above, some-above, words-above}
+use Rattle.dist_check.proofs.Above.{none-above, some-above, words-above}
+use Rattle.dist_check.proofs.MemberLemmas.{model-installed, installed-model}
 use Rattle.dist_check.proofs.Profile.{rank, may_have, IsFaultless, HasFirst, faultless-from, first-from}
 use Rattle.dist_check.proofs.Questions.{one-open}
 
@@ -157,30 +161,44 @@ refuted-verdict r inputs h before s strong at (Some question) q hints (Some caus
 
 -- ---- installations
 
-pub installation-verdict : (r : PackageList) (inputs : List (List Literal)) (h : Header) (before : List CertRecord) (s : StateView) → h.kind ≡ kinds.Strong → IsAt r inputs h before s → (variables : List ℕ) (found : Option CertCause)
-    → TellsInstallation r s.essential variables found → IsVerdict r inputs h before (lines.Installation variables) found
-installation-verdict r inputs h before s strong at variables None told = faultless-from (matter_of r h.essential inputs) h before (lines.Installation variables) strong none
+inputs-are : (r : PackageList) (inputs : List (List Literal)) (h : Header) (before : List CertRecord) (s : StateView) → IsAt r inputs h before s → inputs_of s.log ≡ inputs
+inputs-are r inputs h before s at =
+    ap (λ (n : ℕ). take n s.log.clauses) at.inputs_are ∙ ap (λ (cs : List (List Literal)). take (length inputs) cs) at.clauses ∙ take_at inputs (derived before) (length inputs) refl
+
+-- a model is a healthy installation
+healthy-from : (r : PackageList) (inputs : List (List Literal)) (h : Header) (before : List CertRecord) (s : StateView) → IsAt r inputs h before s → AreInputsOf r h.essential inputs → (variables : List ℕ)
+    → IsModel (is_among variables) (inputs_of s.log) → IsInstallation h.essential r (packages_of r.packages variables)
+healthy-from r inputs h before s at mean variables model =
+    model-installed r h.essential inputs variables mean.over mean.models (subst (IsModel (is_among variables)) (inputs-are r inputs h before s at) model)
+
+model-from : (r : PackageList) (inputs : List (List Literal)) (h : Header) (before : List CertRecord) (s : StateView) → IsAt r inputs h before s → AreInputsOf r h.essential inputs → (variables : List ℕ)
+    → IsInstallation h.essential r (packages_of r.packages variables) → IsModel (is_among variables) (inputs_of s.log)
+model-from r inputs h before s at mean variables healthy =
+    subst (IsModel (is_among variables)) (sym (inputs-are r inputs h before s at)) (installed-model r h.essential inputs variables mean.ordered mean.over mean.models healthy)
+
+pub installation-verdict : (r : PackageList) (inputs : List (List Literal)) (h : Header) (before : List CertRecord) (s : StateView) → h.kind ≡ kinds.Strong → IsAt r inputs h before s → AreInputsOf r h.essential inputs
+    → (variables : List ℕ) (found : Option CertCause) → TellsInstallation s.log variables found → IsVerdict r inputs h before (lines.Installation variables) found
+installation-verdict r inputs h before s strong at mean variables None told = faultless-from (matter_of r h.essential inputs) h before (lines.Installation variables) strong none
   where
     none : (cause : CertCause) → may_have (lines.Installation variables) cause ≡ true → ¬ HasRecordFault (matter_of r h.essential inputs) h before (lines.Installation variables) cause
-    none causes.OutOfRange may fault = none-out (length r.packages) variables told.0 fault
-    none causes.NotAnInstallation may fault = fault (subst (λ essential. IsInstallation essential r (packages_of r.packages variables)) at.essential told.1)
+    none causes.OutOfRange may fault = hints-none s.log.variables (length r.packages) variables at.variables told.0 fault
+    none causes.NotAnInstallation may fault = fault (healthy-from r inputs h before s at mean variables told.1)
     none cause may fault = false≢true may
-installation-verdict r inputs h before s strong at variables (Some causes.OutOfRange) told =
-    first-from (matter_of r h.essential inputs) h before (lines.Installation variables) causes.OutOfRange strong (some-above (length r.packages) variables told) none
+installation-verdict r inputs h before s strong at mean variables (Some causes.OutOfRange) told =
+    first-from (matter_of r h.essential inputs) h before (lines.Installation variables) causes.OutOfRange strong (hints-some s.log.variables (length r.packages) variables at.variables told) none
   where
     none : (cause : CertCause) → may_have (lines.Installation variables) cause ≡ true → rank cause < 4 → ¬ HasRecordFault (matter_of r h.essential inputs) h before (lines.Installation variables) cause
     none causes.OutOfRange may below fault = omega (arith, below)
     none causes.NotAnInstallation may below fault = omega (arith, below)
     none cause may below fault = false≢true may
-installation-verdict r inputs h before s strong at variables (Some causes.NotAnInstallation) told =
-    first-from (matter_of r h.essential inputs) h before (lines.Installation variables) causes.NotAnInstallation strong
-    (λ healthy. told.1 (subst (λ essential. IsInstallation essential r (packages_of r.packages variables)) (sym at.essential) healthy)) none
+installation-verdict r inputs h before s strong at mean variables (Some causes.NotAnInstallation) told =
+    first-from (matter_of r h.essential inputs) h before (lines.Installation variables) causes.NotAnInstallation strong (λ healthy. told.1 (model-from r inputs h before s at mean variables healthy)) none
   where
     none : (cause : CertCause) → may_have (lines.Installation variables) cause ≡ true → rank cause < 9 → ¬ HasRecordFault (matter_of r h.essential inputs) h before (lines.Installation variables) cause
-    none causes.OutOfRange may below fault = none-out (length r.packages) variables told.0 fault
+    none causes.OutOfRange may below fault = hints-none s.log.variables (length r.packages) variables at.variables told.0 fault
     none causes.NotAnInstallation may below fault = omega (arith, below)
     none cause may below fault = false≢true may
-installation-verdict r inputs h before s strong at variables (Some cause) told = absurd told
+installation-verdict r inputs h before s strong at mean variables (Some cause) told = absurd told
 
 -- ---- lines that were new
 

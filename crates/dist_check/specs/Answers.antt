@@ -1,15 +1,21 @@
 -- What a verdict on a text is right about.
-use Rattle.std.specs.Prelude.{ℕ, List, Result, Ok, Err}
+use Rattle.std.specs.Prelude.{◌≡◌, ℕ, List, Result, Ok, Err}
 use Rattle.dist_outside.specs.declared.limits.Limits.{Limits}
 use Rattle.dist_outside.specs.declared.trouble.WorkError.{WorkError}
+use Rattle.dist_outside.specs.declared.trouble.WorkError.TheVariants.{ReadFault, NoMemory}
+use Rattle.dist_clause.specs.Formula.{Literal}
 use Rattle.dist_repo.specs.PackageList.{PackageList}
+use Rattle.dist_now.specs.PresentClauses.{ArePresentClauses}
 use Rattle.dist_cert.specs.declared.faults.ReadCertError.{ReadCertError}
 use Rattle.dist_cert.specs.declared.faults.ReadCertError.TheVariants.{Bad, Work}
+use Rattle.dist_cert.specs.declared.records.CertKind.TheVariants as kinds
 use Rattle.dist_cert.specs.declared.records.Claim.{Claim}
 use Rattle.dist_cert.specs.declared.records.Header.{Header}
+use Rattle.dist_cert.specs.Form.{header_text, HasHeaderForm}
 use Rattle.dist_check.specs.Checking.{TextAnswers}
 use Rattle.dist_check.specs.Means.{Means}
 use Rattle.dist_check.specs.Present.{IsAccepted, IsRefused}
+use Rattle.dist_check.specs.Start.{HasNumbers}
 use Rattle.dist_check.specs.declared.verdict.Verdict.{Verdict}
 use Rattle.dist_check.specs.declared.verdict.Verdict.TheVariants.{Accepted, Refused}
 
@@ -23,10 +29,25 @@ as_read (Err error) = Err (Work error)
 abbrev pub Answers : PackageList → Limits → List ℕ → Result Verdict WorkError → Type 0
 Answers r limits text result = TextAnswers (λ (x : Header × List Claim). x.0) (λ (x : Header × List Claim). x.1) r limits text (as_read result)
 
--- what is accepted is true
+-- What is accepted has a first line of kind strong, of its form and with the numbers of the repository, and is true.
+pub record AcceptedMeans (r : PackageList) (h : Header) (made : List Claim) : Type 0 where
+  pub strong : h.kind ≡ kinds.Strong
+  pub form : HasHeaderForm (header_text h) h
+  pub clauses : List (List Literal)
+  pub are_clauses : ArePresentClauses r h.essential clauses
+  pub numbers : HasNumbers r clauses h
+  pub means : Means h.essential r made
+
 abbrev pub VerdictMeans : PackageList → Verdict → Type 0
-VerdictMeans r (Accepted h made) = Means h.essential r made
+VerdictMeans r (Accepted h made) = AcceptedMeans r h made
 VerdictMeans r (Refused fault) = Unit {0}
+
+-- what holds of each answer but a fault of reading and want of memory
+abbrev pub OnceRead : Result Verdict WorkError → Type 0 → Type 0
+OnceRead (Ok verdict) Holds = Holds
+OnceRead (Err ReadFault) Holds = Unit {0}
+OnceRead (Err NoMemory) Holds = Unit {0}
+OnceRead (Err error) Holds = Holds
 
 -- the text has this verdict over the repository
 abbrev pub IsVerdict : PackageList → Limits → List ℕ → Verdict → Type 0

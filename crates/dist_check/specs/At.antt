@@ -9,11 +9,11 @@ use Rattle.dist_cert.specs.Form.{Word}
 use Rattle.dist_cert.specs.Groups.{derived, installations, claim_count, group, IsOpen, HasOpenQuestion, IsRefutedIn, IsUndecidedIn}
 use Rattle.dist_cert.specs.ClaimRules.{yes, no}
 use Rattle.dist_cert.specs.Accepted.{claims_in}
-use Rattle.dist_check.specs.Rising.{is_among}
-use Rattle.dist_check.specs.Window.{latest}
-use Rattle.dist_check.specs.Closed.{ClosedView}
-use Rattle.dist_check.specs.Group.{GroupView}
-use Rattle.dist_check.specs.State.{QuestionView, StateView}
+use Rattle.dist_group.specs.Rising.{is_among}
+use Rattle.dist_group.specs.Window.{latest}
+use Rattle.dist_group.specs.Closed.{ClosedView}
+use Rattle.dist_group.specs.Group.{GroupView}
+use Rattle.dist_state.specs.State.{QuestionView, StateView}
 
 -- the open question, with the clauses before its line
 abbrev pub IsQuestionOf : List (List Literal) → List CertRecord → Option QuestionView → Type 0
@@ -37,7 +37,6 @@ pub record IsGroupOf (lines : List CertRecord) (p : ℕ) (kept : GroupView) : Ty
 
 -- What is kept is what these lines hold.
 pub record IsAt (r : PackageList) (inputs : List (List Literal)) (h : Header) (before : List CertRecord) (s : StateView) : Type 0 where
-  pub essential : s.essential ≡ h.essential
   pub limit : s.limit ≡ h.limit
   pub packages : s.packages ≡ length r.packages
   pub clauses : s.log.clauses ≡ inputs ++ derived before

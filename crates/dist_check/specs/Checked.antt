@@ -3,8 +3,10 @@ use Rattle.std.specs.Prelude.{◌≡◌, ℕ, ◌+◌, ◌≤◌, Bool, List, �
 use Rattle.std.specs.List.{list_any}
 use Rattle.dist_outside.specs.declared.limits.Limits.{Limits}
 use Rattle.dist_clause.specs.ClauseList.{literal_count}
-use Rattle.dist_clause.specs.Formula.{Literal}
+use Rattle.dist_clause.specs.Formula.{Literal, IsClauseOver}
 use Rattle.dist_derive.specs.ClauseLog.{IsWithinLineLimits}
+use Rattle.dist_now.specs.PresentLaws.{AreModelsInstallations}
+use Rattle.dist_repo.specs.Order.{IsInOrder}
 use Rattle.dist_repo.specs.PackageList.{PackageList}
 use Rattle.dist_cert.specs.declared.faults.CertCause.{CertCause}
 use Rattle.dist_cert.specs.declared.records.CertKind.TheVariants as kinds
@@ -17,7 +19,7 @@ use Rattle.dist_cert.specs.Refusal.{certificate_text, AreFaultless}
 use Rattle.dist_cert.specs.Subject.{Matter}
 use Rattle.dist_check.specs.At.{IsAt}
 use Rattle.dist_check.specs.Present.{AreInputs, matter_of, subject_of}
-use Rattle.dist_check.specs.State.{StateView}
+use Rattle.dist_state.specs.State.{StateView}
 
 -- no record has a fault behind those before it
 abbrev pub AreRight : Matter → Header → List CertRecord → Type 0
@@ -32,10 +34,17 @@ abbrev pub TextAt : PackageList → (Bool → List (List Literal)) → Limits �
 TextAt r inputs limits h before None left = Unit {0}
 TextAt r inputs limits h before (Some text) left = (rest : List ℕ) × (left ≡ Some rest) × AreFaultless (subject_of r inputs) limits text h before rest
 
+-- The input clauses are over the packages, which are in order, and their models are the healthy installations.
+pub record AreInputsOf (r : PackageList) (essential : Bool) (inputs : List (List Literal)) : Type 0 where
+  pub ordered : IsInOrder r.packages
+  pub over : All (IsClauseOver (length r.packages)) inputs
+  pub models : AreModelsInstallations r essential inputs
+
 -- What is kept is what the lines that were read hold, the reader stands behind them, and they are those of the text.
 pub record IsChecked (r : PackageList) (limits : Limits) (told : Option (List ℕ)) (h : Header) (reader : ReaderView) (left : Option (List ℕ)) (s : StateView) : Type 0 where
   pub inputs : Bool → List (List Literal)
   pub are_inputs : AreInputs r inputs
+  pub inputs_mean : AreInputsOf r h.essential (inputs h.essential)
   pub before : List CertRecord
   pub at : IsAt r (inputs h.essential) h before s
   pub right : AreRight (matter_of r h.essential (inputs h.essential)) h before

@@ -10,6 +10,7 @@ use Rattle.dist_clause.specs.Formula.{Literal}
 use Rattle.dist_repo.specs.PackageList.{PackageList}
 use Rattle.dist_now.specs.PresentSet.{PassesClauses, PassesLiterals}
 use Rattle.dist_cert.specs.declared.faults.CertCause.{CertCause}
+use Rattle.dist_cert.specs.declared.faults.CertCause.TheVariants.{BadHeader}
 use Rattle.dist_cert.specs.declared.faults.CertFault.{CertFault}
 use Rattle.dist_cert.specs.declared.faults.ReadCertError.{ReadCertError}
 use Rattle.dist_cert.specs.declared.faults.ReadCertError.TheVariants.{Bad, Work}
@@ -23,6 +24,7 @@ use Rattle.dist_cert.specs.Form.{Word, HasForm, HasHeaderForm}
 use Rattle.dist_cert.specs.Groups.{clause_of, derived}
 use Rattle.dist_cert.specs.Reading.{PassesWhole, KeepsLimits}
 use Rattle.dist_cert.specs.Refusal.{BeginsWith, HasFirstFault, HasLineFault, in_order, IsFirstOf, certificate_text, AreFaultless}
+use Rattle.dist_check.specs.Limited.{AreInputsWithin}
 use Rattle.dist_check.specs.Present.{AreInputs, subject_of}
 
 -- ---- the numbers
@@ -52,12 +54,18 @@ pub record IsCompleted (r : PackageList) (limits : Limits) (text : List ℕ) (h 
   pub claims : made ≡ claims_in steps
   pub numbers : KeepsNumbers limits (inputs h.essential) h steps
 
--- The first line has this first fault, and does not pass the number of bytes before.
+-- where the text begins with a first line of kind strong, its clauses keep both numbers
+abbrev pub HasInputsWithin : (Bool → List (List Literal)) → Limits → List ℕ → Type 0
+HasInputsWithin inputs limits text = (h : Header) (line more : List ℕ) → BeginsWith text line more → HasHeaderForm line h → h.kind ≡ kinds.Strong → AreInputsWithin limits (inputs h.essential)
+
+-- The first line has this first fault, and does not pass the number of bytes before. Where it is bad, the clauses do not
+-- pass a number before.
 pub record StopsFirst (r : PackageList) (limits : Limits) (text : List ℕ) (cause : CertCause) : Type 0 where
   pub inputs : Bool → List (List Literal)
   pub are_inputs : AreInputs r inputs
   pub bytes : ¬ PassesWhole limits 0 text
   pub first : IsFirstOf in_order (HasFirstFault (subject_of r inputs) limits text) cause
+  pub within : cause ≡ BadHeader → HasInputsWithin inputs limits text
 
 -- The line behind some lines that are reached has this first fault, and does not pass the number of bytes before.
 pub record StopsLater (r : PackageList) (limits : Limits) (text : List ℕ) (fault : CertFault) : Type 0 where
@@ -127,6 +135,12 @@ OfText (Some text) P = P text
 
 -- Whatever the desk tells, it failed where it is said to have failed, and no other error of work than these comes.
 abbrev pub TextCause : DeskView → DeskView → ReadCertError → Type 0
+TextCause old new (Bad fault) = Unit {0}
 TextCause old new (Work ReadFault) = Rose old.read_faults new.read_faults
-TextCause old new (Work WriteFault) = ⊥
-TextCause old new error = Unit {0}
+TextCause old new (Work NoMemory) = Unit {0}
+TextCause old new (Work (TooLarge Clauses)) = Unit {0}
+TextCause old new (Work (TooLarge Literals)) = Unit {0}
+TextCause old new (Work (TooLarge Lines)) = Unit {0}
+TextCause old new (Work (TooLarge LineLiterals)) = Unit {0}
+TextCause old new (Work (TooLarge Certificate)) = Unit {0}
+TextCause old new (Work error) = ⊥

@@ -1,9 +1,3 @@
-pub mod Rising
-pub mod Window
-pub mod Closed
-pub mod Group
-pub mod Since
-pub mod State
 pub mod Limited
 pub mod Start
 pub mod Checking

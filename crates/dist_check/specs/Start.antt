@@ -14,7 +14,8 @@ use Rattle.dist_cert.specs.declared.faults.ReadCertError.{ReadCertError}
 use Rattle.dist_cert.specs.declared.faults.ReadCertError.TheVariants.{Bad, Work}
 use Rattle.dist_cert.specs.declared.records.CertKind.TheVariants as kinds
 use Rattle.dist_cert.specs.declared.records.Header.{Header}
-use Rattle.dist_check.specs.State.{StateView, empty_group}
+use Rattle.dist_check.specs.Limited.{AreInputsWithin}
+use Rattle.dist_state.specs.State.{StateView, empty_group}
 
 -- the numbers of a first line are those of the packages and of the clauses
 pub record HasNumbers (r : PackageList) (clauses : List (List Literal)) (h : Header) : Type 0 where
@@ -29,7 +30,6 @@ pub record IsStart (r : PackageList) (limits : Limits) (h : Header) (s : StateVi
   pub numbers : HasNumbers r s.log.clauses h
   pub clauses_kept : length s.log.clauses ≤ limits.clauses
   pub literals_kept : literal_count s.log.clauses ≤ limits.literals
-  pub essential : s.essential ≡ h.essential
   pub limit : s.limit ≡ h.limit
   pub packages : s.packages ≡ length r.packages
   pub inputs : s.log.inputs ≡ length s.log.clauses
@@ -43,14 +43,15 @@ pub record IsStart (r : PackageList) (limits : Limits) (h : Header) (s : StateVi
   pub group_is : s.group ≡ empty_group
   pub claims : s.claims ≡ []
 
--- the kind is not taken, or a number is wrong
-abbrev pub IsUnfit : PackageList → Header → Type 0
-IsUnfit r h = (h.kind ≢ kinds.Strong) ⊎ ((clauses : List (List Literal)) × ArePresentClauses r h.essential clauses × (¬ HasNumbers r clauses h))
+-- the kind is not taken, or the clauses keep both numbers and a number of the line is wrong
+abbrev pub IsUnfit : PackageList → Limits → Header → Type 0
+IsUnfit r limits h =
+    (h.kind ≢ kinds.Strong) ⊎ ((clauses : List (List Literal)) × ArePresentClauses r h.essential clauses × AreInputsWithin limits clauses × (¬ HasNumbers r clauses h))
 
 -- When each answer comes.
 abbrev pub StartAnswers : PackageList → Limits → Header → Result StateView ReadCertError → Type 0
 StartAnswers r limits h (Ok s) = IsStart r limits h s
-StartAnswers r limits h (Err (Bad fault)) = (fault.line ≡ 1) × (fault.cause ≡ BadHeader) × IsUnfit r h
+StartAnswers r limits h (Err (Bad fault)) = (fault.line ≡ 1) × (fault.cause ≡ BadHeader) × IsUnfit r limits h
 StartAnswers r limits h (Err (Work (TooLarge Clauses))) = (h.kind ≡ kinds.Strong) × PassesClauses r h.essential limits.clauses limits.literals
 StartAnswers r limits h (Err (Work (TooLarge Literals))) = (h.kind ≡ kinds.Strong) × PassesLiterals r h.essential limits.clauses limits.literals
 StartAnswers r limits h (Err (Work NoMemory)) = Unit {0}

@@ -5,20 +5,19 @@ ghost use Rattle.dist_outside.specs.Files.{IsReading};
 ghost use Rattle.dist_outside.specs.Reading.{bytes_left};
 ghost use Rattle.dist_repo.specs.Size.{IsWithinSize};
 ghost use Rattle.dist_cert.specs.Reading.{text_left};
+ghost use Rattle.dist_check.specs.Answers.{AcceptedMeans};
 ghost use Rattle.dist_check.specs.Checked.{IsChecked};
 ghost use Rattle.dist_check.specs.Checking.{OfText, TextAnswers, TextCause};
 ghost use Rattle.dist_check.specs.Limited.{AreStated};
 ghost use Rattle.dist_check.specs.Means.{Means};
 
-use crate::lines::take_line;
 use crate::start::start;
-use crate::state::State;
-use crate::tools::Tools;
 use dist_cert::{Claims, Header, ReadCertError, Reader, forms_are_clear};
 use dist_derive::lines_keep_models;
 use dist_now::{models_are_installations, present_clauses_are_one, present_clauses_are_there};
 use dist_outside::{Desk, Limits};
 use dist_repo::Repository;
+use dist_state::{State, Tools, take_line};
 use std::alloc::Global;
 
 /// What was read of an accepted certificate.
@@ -40,7 +39,6 @@ fn take_lines<D: Desk>(
     tools: &mut Tools,
 ) -> Result<(), ReadCertError>
     requires reading { IsReading (D.view desk.old).mode }
-    requires size { IsWithinSize repo.now }
     requires tools { tools.old ≡ state.old.packages }
     requires start { IsChecked repo.now limits.now None header.now reader.old None state.old }
     ensures text { (told : Option (List ℕ)) → IsChecked repo.now limits.now told header.now reader.old (text_left reader.old (D.view desk.old)) state.old
@@ -59,7 +57,7 @@ fn take_lines<D: Desk>(
             return Ok(());
         };
         let line = reader.lines();
-        take_line(alloc, repo, state, tools, line, step)?;
+        take_line(alloc, state, tools, line, step)?;
     }
 }
 
@@ -75,11 +73,12 @@ pub(crate) fn check_text<D: Desk>(
     requires limits { AreStated limits.now }
     ensures text { OfText (bytes_left (D.view desk.old).files (D.view desk.old).mode)
         (λ text. TextAnswers (λ c. c.header) (λ c. c.claims) repo.now limits.now text result) }
-    ensures means { IfOk result (λ c. Means c.header.essential repo.now c.claims) }
+    ensures means { IfOk result (λ c. AcceptedMeans repo.now c.header c.claims) }
     ensures cause { IfErr result (TextCause (D.view desk.old) (D.view desk.new)) }
     ensures only_reads { OnlyReads (D.view desk.old) (D.view desk.new) }
 {
     forms_are_clear();
+    models_are_installations();
     present_clauses_are_there();
     present_clauses_are_one();
     let _in_order = repo.len();

@@ -1,9 +1,9 @@
 //! The check of a certificate's file.
 ghost use Rattle.std.specs.Prelude.{IfErr, IfOk};
 ghost use Rattle.dist_outside.specs.DeskView.{OnlyReads};
-ghost use Rattle.dist_outside.specs.Files.{IsNotWriting, file_bytes};
+ghost use Rattle.dist_outside.specs.Files.{IsNotWriting, IsPresent, file_bytes};
 ghost use Rattle.dist_repo.specs.Size.{IsWithinSize};
-ghost use Rattle.dist_check.specs.Answers.{Answers, VerdictMeans};
+ghost use Rattle.dist_check.specs.Answers.{Answers, OnceRead, VerdictMeans};
 ghost use Rattle.dist_check.specs.Checking.{OfText, TextCause};
 ghost use Rattle.dist_check.specs.Limited.{AreStated};
 
@@ -15,7 +15,8 @@ use dist_repo::Repository;
 use std::alloc::Global;
 
 /// Whether the file of that name is a certificate of the repository, read once. Whatever the desk tells of its files,
-/// what an accepted certificate claims is true.
+/// what an accepted certificate claims is true, and its first line is one of the repository. A file that isn't there is
+/// a fault of reading.
 pub fn check<D: Desk>(
     alloc: Global,
     repo: &Repository,
@@ -28,6 +29,7 @@ pub fn check<D: Desk>(
     requires limits { AreStated limits.now }
     ensures text { OfText (file_bytes (D.view desk.old).files name.now) (λ text. Answers repo.now limits.now text result) }
     ensures means { IfOk result (VerdictMeans repo.now) }
+    ensures present { OnceRead result (IsPresent (D.view desk.old).files name.now) }
     ensures cause { IfErr result (λ error. TextCause (D.view desk.old) (D.view desk.new) (ReadCertError.Work error)) }
     ensures only_reads { OnlyReads (D.view desk.old) (D.view desk.new) }
 {

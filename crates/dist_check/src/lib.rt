@@ -2,27 +2,20 @@
 #![tactic(auto)]
 
 mod checking;
-mod closed;
+#[cfg(test)]
+mod fault_tests;
 mod file;
-mod from_zero;
-mod group;
-mod installed;
-mod judging;
 mod laws;
-mod lines;
-mod literals;
-mod newness;
-mod number_set;
-mod numbers;
-mod question;
+#[cfg(test)]
+mod limit_tests;
+#[cfg(test)]
+mod mode_tests;
 mod start;
-mod state;
-mod strong;
 #[cfg(test)]
 mod tests;
-mod tools;
+#[cfg(test)]
+mod texts;
 mod verdict;
-mod window;
 
 pub use file::check;
 pub use laws::{accepted_claims_hold, texts_have_one_verdict, undecided_questions_are_hard};

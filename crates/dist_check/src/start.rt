@@ -4,13 +4,13 @@ ghost use Rattle.dist_repo.specs.Size.{IsWithinSize};
 ghost use Rattle.dist_check.specs.Start.{HasNumbers, StartAnswers};
 ghost use Rattle.dist_check.specs.Limited.{AreStated, large_by};
 
-use crate::state::State;
 use dist_cert::{CertCause, CertFault, CertKind, Header, ReadCertError};
 use dist_clause::{ClauseSet, PushError};
 use dist_derive::Log;
 use dist_now::clauses_of;
 use dist_outside::{Limits, What, WorkError};
 use dist_repo::Repository;
+use dist_state::State;
 use std::alloc::Global;
 
 /// The fault of a first line that does not fit.
@@ -71,5 +71,5 @@ pub(crate) fn start(
         return Err(bad_header());
     }
     let log = Log::new(alloc, inputs, limits.lines, limits.line_literals);
-    Ok(State::new(alloc, header.essential, header.limit, repo.len(), log))
+    Ok(State::new(alloc, header.limit, log)?)
 }

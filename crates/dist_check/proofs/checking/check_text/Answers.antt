@@ -1,12 +1,14 @@
 use Rattle.std.proofs.Common.{List, ℕ, Option, None, Result, IfErr, refl}
 use Rattle.dist_outside.specs.DeskView.{DeskView}
 use Rattle.dist_outside.specs.Reading.{bytes_left}
+use Rattle.dist_outside.specs.declared.trouble.WorkError.TheVariants.{NoMemory}
 use Rattle.dist_cert.specs.declared.faults.ReadCertError.{ReadCertError}
+use Rattle.dist_cert.specs.declared.faults.ReadCertError.TheVariants.{Work}
 use Rattle.dist_cert.specs.Reading.{text_left}
 use Rattle.dist_check.specs.declared.checking.Checked.{Checked}
 use Rattle.dist_check.specs.Checking.{TextAnswers, TextCause, OfText}
 use Rattle.dist_check.proofs.CheckSteps.{by-exit, header-stops, start-stops, starts-checked}
-use Rattle.dist_check.proofs.CheckText.{nothing-read, stops-alike, completed-alike, later-cause}
+use Rattle.dist_check.proofs.CheckText.{nothing-read, stops-alike, completed-alike, later-cause, no-memory}
 use Rattle.dist_check.proofs.checking.check_text.Goals as goal
 
 pub returns-in_err-header-clause-text : goal.returns-in_err-header-clause-text
@@ -30,9 +32,16 @@ returns-in_err-state-clause-text g c =
     (text_left c.header.new.self new) c.in_ok-header.header c.new-reader.ensures (nothing-read c.args.limits.now c.new-reader.result old c.new-reader.ensures) (λ (x : Checked). x.header) (λ (x : Checked). x.claims) c.in_err-state.field-0.0
     c.in_ok-header.ensures.text c.in_err-state.ensures)
 
+pub returns-in_err-tools-clause-text : goal.returns-in_err-tools-clause-text
+returns-in_err-tools-clause-text g c =
+    let old : DeskView = g.D.Desk.view c.args.desk.now in
+    let told : Option (List ℕ) = bytes_left old.files old.mode in
+    by-exit (λ (r : Result Checked ReadCertError). OfText told (λ text. TextAnswers (λ (x : Checked). x.header) (λ (x : Checked). x.claims) c.args.repo.now c.args.limits.now text r)) c.from_residual-in_err-tools.result (Work NoMemory)
+    c.from_residual-in_err-tools.ensures.1 (no-memory (λ (x : Checked). x.header) (λ (x : Checked). x.claims) c.args.repo.now c.args.limits.now told)
+
 pub take_lines-requires-clause-start : goal.take_lines-requires-clause-start
 take_lines-requires-clause-start g c =
-    starts-checked c.forms_are_clear.ensures c.present_clauses_are_there.ensures c.present_clauses_are_one.ensures c.args.repo.now c.len-in_order.ensures.in_order c.args.limits.now c.new-reader.result c.header.new.self None None None
+    starts-checked c.forms_are_clear.ensures c.present_clauses_are_there.ensures c.present_clauses_are_one.ensures c.models_are_installations.ensures c.args.repo.now c.len-in_order.ensures.in_order c.args.limits.now c.new-reader.result c.header.new.self None None None
     c.in_ok-header.header c.in_ok-state.state c.new-reader.ensures refl refl c.in_ok-header.ensures.gives c.in_ok-state.ensures
 
 pub returns-in_err-take_lines-clause-text : goal.returns-in_err-take_lines-clause-text
@@ -40,7 +49,7 @@ returns-in_err-take_lines-clause-text g c =
     let old : DeskView = g.D.Desk.view c.args.desk.now in
     let new : DeskView = g.D.Desk.view c.header.new.desk in
     let told : Option (List ℕ) = bytes_left old.files old.mode in
-    let checked = starts-checked c.forms_are_clear.ensures c.present_clauses_are_there.ensures c.present_clauses_are_one.ensures c.args.repo.now c.len-in_order.ensures.in_order c.args.limits.now c.new-reader.result c.header.new.self told
+    let checked = starts-checked c.forms_are_clear.ensures c.present_clauses_are_there.ensures c.present_clauses_are_one.ensures c.models_are_installations.ensures c.args.repo.now c.len-in_order.ensures.in_order c.args.limits.now c.new-reader.result c.header.new.self told
     (text_left c.new-reader.result old) (text_left c.header.new.self new) c.in_ok-header.header c.in_ok-state.state c.new-reader.ensures (nothing-read c.args.limits.now c.new-reader.result old c.new-reader.ensures) c.in_ok-header.ensures.text
     c.in_ok-header.ensures.gives c.in_ok-state.ensures in
     by-exit (λ (r : Result Checked ReadCertError). OfText told (λ text. TextAnswers (λ (x : Checked). x.header) (λ (x : Checked). x.claims) c.args.repo.now c.args.limits.now text r)) c.from_residual-in_err-take_lines.result
@@ -61,7 +70,7 @@ returns-clause-text g c =
     let old : DeskView = g.D.Desk.view c.args.desk.now in
     let new : DeskView = g.D.Desk.view c.header.new.desk in
     let told : Option (List ℕ) = bytes_left old.files old.mode in
-    let checked = starts-checked c.forms_are_clear.ensures c.present_clauses_are_there.ensures c.present_clauses_are_one.ensures c.args.repo.now c.len-in_order.ensures.in_order c.args.limits.now c.new-reader.result c.header.new.self told
+    let checked = starts-checked c.forms_are_clear.ensures c.present_clauses_are_there.ensures c.present_clauses_are_one.ensures c.models_are_installations.ensures c.args.repo.now c.len-in_order.ensures.in_order c.args.limits.now c.new-reader.result c.header.new.self told
     (text_left c.new-reader.result old) (text_left c.header.new.self new) c.in_ok-header.header c.in_ok-state.state c.new-reader.ensures (nothing-read c.args.limits.now c.new-reader.result old c.new-reader.ensures) c.in_ok-header.ensures.text
     c.in_ok-header.ensures.gives c.in_ok-state.ensures in
     completed-alike (λ (x : Checked). x.header) (λ (x : Checked). x.claims) c.args.repo.now c.args.limits.now told c.in_ok-header.header c.take_lines.new.state.claims

@@ -46,13 +46,13 @@ lines-preserved g c =
     let cause = subst (λ (o : Option CertRecord). RecordCause c.lines.reader c.next.new.self old new (Ok o)) c.in-Some.is c.in_ok-step.ensures.cause in
     let gives = subst (λ (o : Option CertRecord). GivesRecord c.lines.reader c.next.new.self (Ok o)) c.in-Some.is c.in_ok-step.ensures.gives in
     let takes = c.in_ok-take_line.ensures.ok in
-    let limits = limits-stay c.args.repo.now c.lines.state c.take_line.new.state step takes.none takes.becomes in
+    let limits = limits-stay c.lines.state c.take_line.new.state step takes.none takes.becomes in
     record {
       checked = next-checked c.forms_are_clear.ensures c.args.repo.now c.args.limits.now None c.args.header.now c.lines.reader c.next.new.self None None c.lines.state c.take_line.new.state old new c.lines.invariant.checked
           c.lines-within.ensures.within step refl cause gives takes limits.0 limits.1;
       told = λ told x. next-checked c.forms_are_clear.ensures c.args.repo.now c.args.limits.now told c.args.header.now c.lines.reader c.next.new.self left after c.lines.state c.take_line.new.state old new (c.lines.invariant.told told x)
           c.lines-within.ensures.within step answers cause gives takes limits.0 limits.1;
-      tools = c.in_ok-take_line.ensures.ready ∙ c.lines.invariant.tools ∙ sym (packages-stay c.args.repo.now c.lines.state c.take_line.new.state step takes.none takes.becomes);
+      tools = c.in_ok-take_line.ensures.ready ∙ c.lines.invariant.tools ∙ sym (packages-stay c.lines.state c.take_line.new.state step takes.none takes.becomes);
       reading = c.next.ensures.reading;
       only_reads = reads-on (g.D.Desk.view c.args.desk.now) old new c.lines.invariant.only_reads c.next.ensures.only_reads;
     }

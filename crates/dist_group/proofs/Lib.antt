@@ -1,0 +1,4 @@
+mod Places
+mod RisingLemmas
+mod SetLemmas
+mod RuleLemmas

@@ -1,0 +1,4 @@
+pub mod Rising
+pub mod Window
+pub mod Closed
+pub mod Group

@@ -1,0 +1,21 @@
+-- What is kept of the installations before a line.
+use Rattle.std.specs.Prelude.{ℕ, ◌-◌, Bool, false, List, Option, Some, None, length, drop, nat_le, slice_get, if◌then◌else◌}
+use Rattle.dist_group.specs.Rising.{is_among}
+
+-- the latest installations, and how many there were
+pub record WindowView : Type 0 where
+  pub kept : List (List ℕ)
+  pub count : ℕ
+
+-- the last 1,024 of a list
+abbrev pub latest : List (List ℕ) → List (List ℕ)
+latest installations = drop (length installations - 1024) installations
+
+-- the members of the installation of a number, where it is kept
+abbrev pub kept_at : WindowView → ℕ → Option (List ℕ)
+kept_at w number = if nat_le number (w.count - length w.kept) then None else slice_get w.kept (number - (w.count - length w.kept) - 1)
+
+-- the package is a member of an installation that is kept
+abbrev pub has_member : Option (List ℕ) → ℕ → Bool
+has_member None q = false
+has_member (Some members) q = is_among members q

@@ -1,0 +1,17 @@
+//! What a checker keeps of the latest installations and of a claim's group, and the rules of a claim on strong
+//! dependencies.
+#![tactic(auto)]
+
+mod closed;
+mod group;
+mod number_set;
+mod numbers;
+mod rules;
+#[cfg(test)]
+mod tests;
+mod window;
+
+pub use group::Group;
+pub use numbers::has;
+pub use rules::judge_rules;
+pub use window::Window;

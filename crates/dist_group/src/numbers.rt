@@ -1,0 +1,57 @@
+//! Rising lists of numbers, as lines name them.
+ghost use Rattle.std.specs.Prelude.{◌≡◌, ◌==◌, ◌↔◌, ◌&&◌, IsTrue, filter, nat_le, not};
+ghost use Rattle.std.specs.List.{list_all, list_any};
+ghost use Rattle.dist_group.specs.Rising.{AreRising, is_among};
+
+/// Whether each number is below the next one.
+pub(crate) fn is_rising(numbers: &[u32]) -> bool
+    ensures { IsTrue result ↔ AreRising numbers.now }
+{
+    for place in 1..numbers.len() {
+        if numbers[place - 1] >= numbers[place] {
+            return false;
+        }
+    }
+    true
+}
+
+/// Whether rising numbers have this one.
+pub fn has(numbers: &[u32], number: u32) -> bool
+    requires { AreRising numbers.now }
+    ensures { result ≡ is_among numbers.now number }
+{
+    numbers.binary_search(&number).is_ok()
+}
+
+/// Whether rising numbers have all of some others.
+pub(crate) fn has_all(numbers: &[u32], others: &[u32]) -> bool
+    requires { AreRising numbers.now }
+    ensures { result ≡ list_all (is_among numbers.now) others.now }
+{
+    others.iter().all(|other| has(numbers, *other))
+}
+
+/// Whether rising numbers have one of some others.
+pub(crate) fn has_any(numbers: &[u32], others: &[u32]) -> bool
+    requires { AreRising numbers.now }
+    ensures { result ≡ list_any (is_among numbers.now) others.now }
+{
+    others.iter().any(|other| has(numbers, *other))
+}
+
+/// Keeps those of rising numbers that other rising numbers have.
+pub(crate) fn keep_common(kept: &mut Vec<u32>, others: &[u32])
+    requires { AreRising others.now }
+    ensures { kept.new.items ≡ filter (is_among others.now) kept.old.items }
+{
+    kept.retain(|number| has(others, *number));
+}
+
+/// Whether all numbers are other ones than this, and none is above the last one.
+pub(crate) fn are_others(numbers: &[u32], number: u32, last: u32) -> bool
+    ensures { result ≡ list_all (λ other. not (other == number) && nat_le other last) numbers.now }
+{
+    numbers
+        .iter()
+        .all(|other| *other != number && *other <= last)
+}

@@ -1,0 +1,5 @@
+mod Elements
+mod LiteralLemmas
+mod NewLemmas
+mod DenialLemmas
+mod Growth

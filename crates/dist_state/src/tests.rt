@@ -1,0 +1,1 @@
+//! Lines, one after another.
