@@ -1,5 +1,5 @@
 -- A text has one verdict, which is the answer of the check.
-use Rattle.std.proofs.Common.{◌≡◌, ℕ, Bool, List, Ok, inl, inr, ⊎_elim, length, refl, sym, ap, subst, ◌∙◌}
+use Rattle.std.proofs.Common.{◌≡◌, ℕ, Bool, List, Ok, inl, inr, ⊎_elim, ap, subst, ◌∙◌}
 use Rattle.std.proofs.Math.Path.{fun_ext}
 use Rattle.dist_outside.specs.declared.limits.Limits.{Limits}
 use Rattle.dist_clause.specs.Formula.{Literal}
@@ -14,7 +14,6 @@ use Rattle.dist_cert.specs.Refusal.{Refusal}
 use Rattle.dist_check.specs.declared.verdict.Verdict.{Verdict}
 use Rattle.dist_check.specs.declared.verdict.Verdict.TheVariants as verdicts
 use Rattle.dist_check.specs.Answers.{Answers, IsVerdict}
-use Rattle.dist_check.specs.Checking.{StopsFirst, StopsLater}
 use Rattle.dist_check.specs.Present.{AreInputs, subject_of, IsAccepted, IsRefused}
 use Rattle.dist_check.proofs.CheckLemmas.{ClausesAreOne}
 

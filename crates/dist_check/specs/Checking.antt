@@ -4,7 +4,7 @@ use Rattle.dist_outside.specs.Counts.{Rose}
 use Rattle.dist_outside.specs.DeskView.{DeskView}
 use Rattle.dist_outside.specs.declared.limits.Limits.{Limits}
 use Rattle.dist_outside.specs.declared.trouble.What.TheVariants.{Clauses, Literals, Lines, LineLiterals, Certificate}
-use Rattle.dist_outside.specs.declared.trouble.WorkError.TheVariants.{ReadFault, WriteFault, TooLarge, NoMemory}
+use Rattle.dist_outside.specs.declared.trouble.WorkError.TheVariants.{ReadFault, TooLarge, NoMemory}
 use Rattle.dist_clause.specs.ClauseList.{literal_count}
 use Rattle.dist_clause.specs.Formula.{Literal}
 use Rattle.dist_repo.specs.PackageList.{PackageList}

@@ -1,8 +1,8 @@
 -- Lists that are narrowed by tests, and the rules of a claim.
-use Rattle.std.proofs.Common.{◌≡◌, ℕ, ◌+◌, ◌<◌, ◌↔◌, ◌==◌, ◌&&◌, ◌||◌, Bool, true, false, not, List, [], ◌∷◌, ◌++◌, inl, inr, Option, None, filter, length, get_or, refl, sym, ap, subst, ◌∙◌, arith, take, if◌then◌else◌}
+use Rattle.std.proofs.Common.{◌≡◌, ℕ, ◌+◌, ◌<◌, ◌↔◌, ◌==◌, ◌&&◌, ◌||◌, Bool, true, false, not, List, [], ◌∷◌, ◌++◌, inl, inr, Option, None, filter, length, get_or, refl, sym, ap, ◌∙◌, arith, take, if◌then◌else◌}
 use Rattle.std.proofs.Math.Path.{fun_ext}
 use Rattle.std.specs.List.{Contains, list_all, list_any}
-use Rattle.std.proofs.lemmas.Bool.{false≢true, eqb-true, and_parts, and_from}
+use Rattle.std.proofs.lemmas.Bool.{eqb-true, and_parts, and_from}
 use Rattle.std.proofs.lemmas.List.{take_more}
 use Rattle.dist_group.specs.Group.{GroupView, always, candidates, in_each, is_always, omits_package}
 use Rattle.dist_group.specs.Rising.{is_among}
