@@ -1,0 +1,5 @@
+pub mod Rising
+pub mod Present
+pub mod PresentExamples
+pub mod Claims
+pub mod Installed
