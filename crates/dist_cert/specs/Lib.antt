@@ -20,6 +20,9 @@ pub mod ReadBack
 pub mod FaultsRead
 pub mod ExactReader
 pub mod ByRecords
+pub mod Part
+pub mod PartByRecords
+pub mod PartExamples
 pub mod ReadingExamples
 pub mod Examples
 pub mod AcceptedExamples
