@@ -1,0 +1,5 @@
+mod Lists
+mod Opened
+mod Lines
+mod OneLine
+mod DerivedLines

@@ -1,0 +1,74 @@
+-- What is kept while questions are asked, and what a question writes.
+use Rattle.std.specs.Prelude.{◌≡◌, ℕ, ◌<◌, ◌≤◌, Bool, false, true, List, [], ◌∷◌, ◌++◌, All, length}
+use Rattle.std.specs.List.{list_any, AllPass}
+use Rattle.dist_derive.specs.ClauseLog.{ClauseLog}
+use Rattle.dist_now.specs.PresentClauses.{ArePresentClauses}
+use Rattle.dist_outside.specs.DeskView.{DeskView, FileGrew}
+use Rattle.dist_repo.specs.Order.{IsInOrder}
+use Rattle.dist_cert.specs.declared.records.CertKind.TheVariants as kinds
+use Rattle.dist_cert.specs.declared.records.CertRecord.{CertRecord}
+use Rattle.dist_cert.specs.declared.records.CertRecord.TheVariants as lines
+use Rattle.dist_cert.specs.Form.{Word, AreLiterals, is_end}
+use Rattle.dist_cert.specs.Groups.{derived}
+use Rattle.dist_cert.specs.Part.{IsNextQuestion}
+use Rattle.dist_cert.specs.Refusal.{lines_text}
+use Rattle.dist_cert.specs.Writing.{WriterView}
+use Rattle.dist_strong.specs.Script.{Setting, matter_in, IsWriter}
+use Rattle.dist_strong.specs.Words.{true_variables}
+use Rattle.dist_strong.specs.declared.asker.Reply.{Reply}
+use Rattle.dist_strong.specs.declared.asker.Reply.TheVariants.{Found, Refuted, Undecided}
+
+-- the log of clauses, the writer, and the number of derived lines that leave a question undecided
+pub record AskerView : Type 0 where
+  pub log : ClauseLog
+  pub writer : WriterView
+  pub limit : ℕ
+
+-- What is kept is what these lines hold.
+pub record IsAt (g : Setting) (before : List CertRecord) (s : AskerView) : Type 0 where
+  pub strong : g.header.kind ≡ kinds.Strong
+  pub limit : s.limit ≡ g.header.limit
+  pub ordered : IsInOrder g.repo.packages
+  pub present : ArePresentClauses g.repo g.header.essential g.inputs
+  pub clauses : s.log.clauses ≡ g.inputs ++ derived before
+  pub inputs : s.log.inputs ≡ length g.inputs
+  pub variables : s.log.variables ≡ length g.repo.packages
+  pub line_limit : s.log.line_limit ≡ g.limits.lines
+  pub line_literal_limit : s.log.line_literal_limit ≡ g.limits.line_literals
+  pub writer : IsWriter g before s.writer
+  pub not_ended : list_any is_end before ≡ false
+
+-- The literals are those of a question over the variables from 1 to n.
+pub record IsOver (n : ℕ) (question : List Word) : Type 0 where
+  pub some : 0 < length question
+  pub form : AreLiterals question
+  pub upto : All (λ word. word.0 ≤ n) question
+
+-- the line that closes a question, or the installation that was found for it
+abbrev pub IsReplyLine : Reply → CertRecord → Type 0
+IsReplyLine (Found values) step = step ≡ lines.Installation (true_variables values)
+IsReplyLine Refuted step = (hints : List ℕ) × (step ≡ lines.Refuted hints)
+IsReplyLine Undecided step = step ≡ lines.Undecided
+
+-- a derived line
+abbrev pub is_derived : CertRecord → Bool
+is_derived (lines.Derived literals hints) = true
+is_derived step = false
+
+-- the lines of a question: its own, derived ones, and the one of its reply
+abbrev pub question_lines : List Word → List CertRecord → CertRecord → List CertRecord
+question_lines question between answer = lines.Question question ∷ (between ++ answer ∷ [])
+
+-- The question was asked: its lines were written behind those before, and what is kept is what they all hold.
+pub record IsAsked (g : Setting) (before : List CertRecord) (question : List Word) (old new : DeskView) (t : AskerView) (reply : Reply) : Type 0 where
+  pub between : List CertRecord
+  pub only_derived : AllPass is_derived between
+  pub answer : CertRecord
+  pub is_answer : IsReplyLine reply answer
+  pub grew : FileGrew (lines_text (question_lines question between answer)) old new
+  pub at : IsAt g (before ++ question_lines question between answer) t
+
+-- The question may be asked behind these lines.
+pub record MayAsk (g : Setting) (before : List CertRecord) (question : List Word) (s : AskerView) : Type 0 where
+  pub at : IsAt g before s
+  pub next : IsNextQuestion (matter_in g) g.header before question

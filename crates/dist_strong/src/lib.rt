@@ -1,0 +1,6 @@
+//! The strong sweep: for each package a certificate of which other packages every healthy installation with it has.
+#![tactic(auto)]
+
+mod asker;
+mod putting;
+mod words;
