@@ -53,13 +53,13 @@ derived-next g question strong fits before since clauses [] ds going asking are 
 derived-next g question strong fits before since clauses (line ∷ lines) [] going asking are evidence new short over left fits_clauses = tt
 derived-next g question strong fits before since clauses (line ∷ lines) (d ∷ ds) going asking are evidence new short over left fits_clauses = (
   derived-line g before line d.hints question since strong going fits (omega (arith, ap length are, fits_clauses)) (All-head (IsClauseOver (length g.repo.packages)) line lines over)
-  (subst (λ cs. Follows cs line d.hints) (sym are) evidence.1) (All-head (λ e. IsShort (length g.repo.packages) e.hints) d ds short) asking (omega (arith, left))
-  (subst (λ cs. IsNew cs (length g.inputs) (clause_of question) line) (sym are) new.0),
+      (subst (λ cs. Follows cs line d.hints) (sym are) evidence.1) (All-head (λ e. IsShort (length g.repo.packages) e.hints) d ds short) asking (omega (arith, left))
+      (subst (λ cs. IsNew cs (length g.inputs) (clause_of question) line) (sym are) new.0),
   derived-next g question strong fits (before ++ Derived (words_of line) d.hints ∷ []) (since ++ Derived (words_of line) d.hints ∷ []) (clauses ++ line ∷ []) lines ds
-  (none-ended before (words_of line) d.hints going) (asking-more before question since (words_of line) d.hints asking)
-  (numbered-push g before line d.hints ∙ ap (λ (cs : List (List Literal)). cs ++ line ∷ []) are) evidence.2 new.1
-  (All-tail (λ e. IsShort (length g.repo.packages) e.hints) d ds short) (All-tail (IsClauseOver (length g.repo.packages)) line lines over)
-  (omega (arith, left, ap length (derived-push since line d.hints), length-append (derived since) (line ∷ []))) (omega (arith, fits_clauses, length-append clauses (line ∷ []))),
+      (none-ended before (words_of line) d.hints going) (asking-more before question since (words_of line) d.hints asking)
+      (numbered-push g before line d.hints ∙ ap (λ (cs : List (List Literal)). cs ++ line ∷ []) are) evidence.2 new.1
+      (All-tail (λ e. IsShort (length g.repo.packages) e.hints) d ds short) (All-tail (IsClauseOver (length g.repo.packages)) line lines over)
+      (omega (arith, left, ap length (derived-push since line d.hints), length-append (derived since) (line ∷ []))) (omega (arith, fits_clauses, length-append clauses (line ∷ []))),
 )
 
 -- the clauses of the numbers are the derived ones

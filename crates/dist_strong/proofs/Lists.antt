@@ -1,5 +1,5 @@
 -- Lists: what is mapped, and what stands at a place.
-use Rattle.std.proofs.Common.{◌≡◌, ℕ, zero, suc, ◌+◌, ◌<◌, ◌≤◌, Bool, filter, if◌then◌else◌, List, [], ◌∷◌, ◌++◌, length, get_or, map, refl, ap, sym, subst, ◌∙◌, arith, length-append}
+use Rattle.std.proofs.Common.{◌≡◌, ℕ, zero, suc, ◌+◌, ◌<◌, ◌≤◌, Bool, filter, if◌then◌else◌, List, [], ◌∷◌, ◌++◌, length, get_or, map, take, drop, refl, ap, sym, subst, ◌∙◌, arith, length-append}
 use Rattle.std.specs.List.{All, AllPairs, Any, range_with_len}
 use Rattle.std.proofs.lemmas.List.{get_or_at, get_or-map, length-map}
 use Rattle.std.proofs.lemmas.List.Elements.{filter-append}
@@ -44,3 +44,18 @@ filter-next p n b is =
     let last : 1 + n ≡ n + 1 = omega arith in
     ap (λ (k : ℕ). filter p (range_with_len 1 k)) next ∙ ap (filter p) (range-more 1 n) ∙ filter-append p (range_with_len 1 n) ((1 + n) ∷ [])
     ∙ ap (λ (k : ℕ). filter p (range_with_len 1 n) ++ filter p (k ∷ [])) last ∙ ap (λ (ks : List ℕ). filter p (range_with_len 1 n) ++ ks) (filter-one p (n + 1) b is)
+
+-- ---- what is mapped, by its places
+
+pub map-split : {X Y : Type 0} (f : X → Y) (xs : List X) (k : ℕ) (d : X) → k < length xs → map f xs ≡ map f (take k xs) ++ f (get_or xs k d) ∷ map f (drop (suc k) xs)
+map-split f [] k d within = absurd (omega (arith, within))
+map-split f (x ∷ xs) zero d within = refl
+map-split {X} {Y} f (x ∷ xs) (suc k) d within = ap (λ (ys : List Y). f x ∷ ys) (map-split f xs k d (omega (arith, within)))
+
+map-taken : {X Y : Type 0} (f : X → Y) (xs : List X) (k : ℕ) (d : X) → k < length xs → map f (take (suc k) xs) ≡ map f (take k xs) ++ f (get_or xs k d) ∷ []
+map-taken f [] k d within = absurd (omega (arith, within))
+map-taken f (x ∷ xs) zero d within = refl
+map-taken {X} {Y} f (x ∷ xs) (suc k) d within = ap (λ (ys : List Y). f x ∷ ys) (map-taken f xs k d (omega (arith, within)))
+
+pub map-more : {X Y : Type 0} (f : X → Y) (xs : List X) (k : ℕ) (d : X) → k < length xs → map f (take (k + 1) xs) ≡ map f (take k xs) ++ f (get_or xs k d) ∷ []
+map-more f xs k d within = let next : k + 1 ≡ suc k = omega arith in ap (λ (n : ℕ). map f (take n xs)) next ∙ map-taken f xs k d within

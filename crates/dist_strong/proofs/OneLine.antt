@@ -5,6 +5,7 @@ use Rattle.std.proofs.lemmas.Bool.{cases_lt}
 use Rattle.std.proofs.lemmas.Grind.{flat_map-append}
 use Rattle.std.proofs.lemmas.List.{get_or_at}
 use Rattle.std.proofs.lemmas.List.Elements.{All-push}
+use Rattle.std.specs.Result.{IsErrAnd}
 use Rattle.dist_outside.specs.Counts.{Rose}
 use Rattle.dist_outside.specs.DeskView.{DeskView, FileGrew, FileGrewByFront, WriteCounts}
 use Rattle.dist_outside.specs.declared.trouble.What.TheVariants.{RecordLine, Certificate}
@@ -16,7 +17,7 @@ use Rattle.dist_cert.specs.Form.{record_text, header_text}
 use Rattle.dist_cert.specs.PartByRecords.{IsLine, IsShortLine}
 use Rattle.dist_cert.specs.Refusal.{line_feed, lines_text, certificate_text}
 use Rattle.dist_cert.specs.Writing.{WriterView, HasRoom, PutAnswers, WritesNothing, ended, after_line}
-use Rattle.dist_strong.specs.Script.{Setting, matter_in, AllNext, AreWritten, IsWriter, IsCutOff, StopsBy, Stops}
+use Rattle.dist_strong.specs.Script.{Setting, matter_in, AllNext, AreWritten, IsWriter, IsCutOff, StopsBy, Stops, PutMore, PutStops}
 
 -- ---- one line more
 
@@ -53,9 +54,6 @@ writer-more g before step w after writer line room counted = record {
       ∙ ap (λ (n : ℕ). record { line_limit = g.limits.record_line; whole_limit = g.limits.certificate; written = n }) (sym (certificate-more g.header before step));
 }
 
-abbrev pub PutMore : WriterView → WriterView → CertRecord → Type 0
-PutMore w after step = (g : Setting) (before : List CertRecord) → IsWriter g before w → IsLine (matter_in g) g.header before step → IsWriter g (before ++ step ∷ []) after
-
 pub put-more : (w after : WriterView) (step : CertRecord) (old new : DeskView) (result : Result (Unit {0}) WorkError) → PutAnswers w (ended (record_text step)) old new result
     → OnOk result (after ≡ after_line w (ended (record_text step))) → OnOk result (PutMore w after step)
 put-more w after step old new (Ok u) answers counted = λ g before writer line. writer-more g before step w after writer line answers counted
@@ -84,9 +82,6 @@ stopped-here g before w old new error cut writer grew cut_off by = record {
 
 pub stops-for-memory : (g : Setting) (before : List CertRecord) (w : WriterView) (old new : DeskView) → IsWriter g before w → FileGrew [] old new → Stops g before old new NoMemory
 stops-for-memory g before w old new writer grew = stopped-here g before w old new NoMemory [] writer grew (inl refl) tt
-
-abbrev pub PutStops : WriterView → CertRecord → DeskView → DeskView → WorkError → Type 0
-PutStops w step old new error = (g : Setting) (before : List CertRecord) → IsWriter g before w → IsLine (matter_in g) g.header before step → Stops g before old new error
 
 last-any : {X : Type 0} (P : X → Type 0) (xs : List X) (x : X) → P x → Any P (xs ++ x ∷ [])
 last-any P xs x holds = (length xs, x, omega (arith, length-append xs (x ∷ [])), get_or_at xs x [] x (length xs) refl, holds)
@@ -137,3 +132,13 @@ stops-after twice g before more old mid new error grew stops =
       cut_off = subst (λ ls. (stops.cut ≡ []) ⊎ IsCutOff g ls stops.cut) place stops.cut_off;
       by = subst (λ ls. StopsBy g ls stops.cut old new error) place (by-later g ((before ++ more) ++ stops.added) stops.cut old mid new error grew.counts stops.grew.counts stops.by);
     }
+
+-- ---- exits by `?`
+
+-- a clause at the error that a `?` hands on
+pub by-exit : {X : Type 0} (P : Result X WorkError → Type 0) (result : Result X WorkError) (error : WorkError) → IsErrAnd result (λ e. e ≡ error) → P (Err error) → P result
+by-exit P (Ok x) error is holds = absurd is
+by-exit P (Err e) error is holds = subst (λ y. P (Err y)) (sym is) holds
+
+pub two-grow : TwiceLaw → (first second : List ℕ) (old mid new : DeskView) → FileGrew first old mid → FileGrew second mid new → (bytes : List ℕ) × FileGrew bytes old new
+two-grow twice first second old mid new a b = (first ++ second, twice first second old mid new a b)

@@ -1,7 +1,8 @@
 -- What is kept while questions are asked, and what a question writes.
-use Rattle.std.specs.Prelude.{◌≡◌, ℕ, ◌<◌, ◌≤◌, Bool, false, true, List, [], ◌∷◌, ◌++◌, All, length}
+use Rattle.std.specs.Prelude.{◌≡◌, ℕ, ◌<◌, ◌≤◌, Bool, false, true, List, [], ◌∷◌, ◌++◌, All, length, Ok}
 use Rattle.std.specs.List.{list_any, AllPass}
 use Rattle.dist_derive.specs.ClauseLog.{ClauseLog}
+use Rattle.dist_derive.specs.New.{EachIsNew}
 use Rattle.dist_now.specs.PresentClauses.{ArePresentClauses}
 use Rattle.dist_outside.specs.DeskView.{DeskView, FileGrew}
 use Rattle.dist_repo.specs.Order.{IsInOrder}
@@ -9,11 +10,12 @@ use Rattle.dist_cert.specs.declared.records.CertKind.TheVariants as kinds
 use Rattle.dist_cert.specs.declared.records.CertRecord.{CertRecord}
 use Rattle.dist_cert.specs.declared.records.CertRecord.TheVariants as lines
 use Rattle.dist_cert.specs.Form.{Word, AreLiterals, is_end}
-use Rattle.dist_cert.specs.Groups.{derived}
-use Rattle.dist_cert.specs.Part.{IsNextQuestion}
+use Rattle.dist_cert.specs.Groups.{clause_of, derived}
 use Rattle.dist_cert.specs.Refusal.{lines_text}
 use Rattle.dist_cert.specs.Writing.{WriterView}
-use Rattle.dist_strong.specs.Script.{Setting, matter_in, IsWriter}
+use Rattle.dist_strong.specs.Script.{Setting, IsWriter}
+use Rattle.dist_solver.specs.Ask.{IsAnswer}
+use Rattle.dist_solver.specs.declared.answers.Answer.{Answer}
 use Rattle.dist_strong.specs.Words.{true_variables}
 use Rattle.dist_strong.specs.declared.asker.Reply.{Reply}
 use Rattle.dist_strong.specs.declared.asker.Reply.TheVariants.{Found, Refuted, Undecided}
@@ -24,19 +26,23 @@ pub record AskerView : Type 0 where
   pub writer : WriterView
   pub limit : ℕ
 
--- What is kept is what these lines hold.
-pub record IsAt (g : Setting) (before : List CertRecord) (s : AskerView) : Type 0 where
+-- The log is the input clauses and the derived lines among these lines.
+pub record IsLogAt (g : Setting) (before : List CertRecord) (log : ClauseLog) (limit : ℕ) : Type 0 where
   pub strong : g.header.kind ≡ kinds.Strong
-  pub limit : s.limit ≡ g.header.limit
+  pub limit_is : limit ≡ g.header.limit
   pub ordered : IsInOrder g.repo.packages
   pub present : ArePresentClauses g.repo g.header.essential g.inputs
-  pub clauses : s.log.clauses ≡ g.inputs ++ derived before
-  pub inputs : s.log.inputs ≡ length g.inputs
-  pub variables : s.log.variables ≡ length g.repo.packages
-  pub line_limit : s.log.line_limit ≡ g.limits.lines
-  pub line_literal_limit : s.log.line_literal_limit ≡ g.limits.line_literals
-  pub writer : IsWriter g before s.writer
+  pub clauses : log.clauses ≡ g.inputs ++ derived before
+  pub inputs : log.inputs ≡ length g.inputs
+  pub variables : log.variables ≡ length g.repo.packages
+  pub line_limit : log.line_limit ≡ g.limits.lines
+  pub line_literal_limit : log.line_literal_limit ≡ g.limits.line_literals
   pub not_ended : list_any is_end before ≡ false
+
+-- What is kept is what these lines hold.
+pub record IsAt (g : Setting) (before : List CertRecord) (s : AskerView) : Type 0 where
+  pub log : IsLogAt g before s.log s.limit
+  pub writer : IsWriter g before s.writer
 
 -- The literals are those of a question over the variables from 1 to n.
 pub record IsOver (n : ℕ) (question : List Word) : Type 0 where
@@ -68,7 +74,12 @@ pub record IsAsked (g : Setting) (before : List CertRecord) (question : List Wor
   pub grew : FileGrew (lines_text (question_lines question between answer)) old new
   pub at : IsAt g (before ++ question_lines question between answer) t
 
--- The question may be asked behind these lines.
-pub record MayAsk (g : Setting) (before : List CertRecord) (question : List Word) (s : AskerView) : Type 0 where
-  pub at : IsAt g before s
-  pub next : IsNextQuestion (matter_in g) g.header before question
+-- The derived lines of a question were written behind its own line, which stands behind those before; then this is answered.
+pub record IsDerived (g : Setting) (before : List CertRecord) (question : List Word) (old new : DeskView) (log after : ClauseLog) (limit : ℕ) (w : WriterView) (answer : Answer) : Type 0 where
+  pub between : List CertRecord
+  pub only_derived : AllPass is_derived between
+  pub log_is : after ≡ record log { clauses = log.clauses ++ derived between }
+  pub are_new : EachIsNew log.clauses log.inputs (clause_of question) (derived between)
+  pub answered : IsAnswer log after (clause_of question) limit (Ok answer)
+  pub grew : FileGrew (lines_text between) old new
+  pub writer : IsWriter g (before ++ lines.Question question ∷ between) w

@@ -76,3 +76,25 @@ pub record Stops (g : Setting) (before : List CertRecord) (old new : DeskView) (
 -- the file that is being written grew by something
 abbrev pub Grows : DeskView → DeskView → Type 0
 Grows old new = (bytes : List ℕ) × FileGrew bytes old new
+
+-- ---- putting one line
+
+-- Where the writer stood behind some lines, and the line may come next, it stands behind the line.
+abbrev pub PutMore : WriterView → WriterView → CertRecord → Type 0
+PutMore w after step = (g : Setting) (before : List CertRecord) → IsWriter g before w → IsLine (matter_in g) g.header before step → IsWriter g (before ++ step ∷ []) after
+
+-- or the writing stops there
+abbrev pub PutStops : WriterView → CertRecord → DeskView → DeskView → WorkError → Type 0
+PutStops w step old new error = (g : Setting) (before : List CertRecord) → IsWriter g before w → IsLine (matter_in g) g.header before step → Stops g before old new error
+
+-- ---- putting lines one after another
+
+abbrev pub PutAll : WriterView → WriterView → List CertRecord → Type 0
+PutAll w after steps = (g : Setting) (before : List CertRecord) → IsWriter g before w → AllNext g before steps → IsWriter g (before ++ steps) after
+
+abbrev pub PutAllStops : WriterView → List CertRecord → DeskView → DeskView → WorkError → Type 0
+PutAllStops w steps old new error = (g : Setting) (before : List CertRecord) → IsWriter g before w → AllNext g before steps → Stops g before old new error
+
+-- the writer stands behind a front of them
+abbrev pub PutFront : WriterView → WriterView → (steps front : List CertRecord) → Type 0
+PutFront w after steps front = (g : Setting) (before : List CertRecord) → IsWriter g before w → AllNext g before steps → IsWriter g (before ++ front) after
