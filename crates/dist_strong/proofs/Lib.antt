@@ -3,3 +3,7 @@ mod Opened
 mod Lines
 mod OneLine
 mod DerivedLines
+mod TrueOnes
+mod Answered
+mod Closing
+mod Asked

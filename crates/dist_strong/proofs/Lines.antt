@@ -39,7 +39,7 @@ all-numbered clauses trues (hint ∷ hints) ends = All-cons (λ h. IsNumberOf cl
     (⊎_elim (λ fails. ⊎_elim (λ last. subst (λ (hs : List ℕ). All (λ h. IsNumberOf clauses h) hs) (sym last) (All-nil (λ h. IsNumberOf clauses h))) (λ more. all-numbered clauses trues hints more) fails.1)
     (λ unit. all-numbered clauses (trues ++ unit.0 ∷ []) hints unit.2) ends.1)
 
-from-one : (clauses : List (List Literal)) (hints : List ℕ) → All (λ hint. IsNumberOf clauses hint) hints → All (λ h. 1 ≤ h) hints
+pub from-one : (clauses : List (List Literal)) (hints : List ℕ) → All (λ hint. IsNumberOf clauses hint) hints → All (λ h. 1 ≤ h) hints
 from-one clauses hints all k d within = (all k d within).0
 
 upto-last : (clauses : List (List Literal)) (hints : List ℕ) → All (λ hint. IsNumberOf clauses hint) hints → All (λ h. h ≤ length clauses) hints

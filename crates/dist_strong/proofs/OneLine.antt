@@ -69,7 +69,7 @@ abbrev pub TwiceLaw : Type 0
 TwiceLaw = (first second : List ℕ) (old mid new : DeskView) → FileGrew first old mid → FileGrew second mid new → FileGrew (first ++ second) old new
 
 -- nothing more was written than some bytes behind the lines
-stopped-here : (g : Setting) (before : List CertRecord) (w : WriterView) (old new : DeskView) (error : WorkError) (cut : List ℕ) → IsWriter g before w → FileGrew cut old new
+pub stopped-here : (g : Setting) (before : List CertRecord) (w : WriterView) (old new : DeskView) (error : WorkError) (cut : List ℕ) → IsWriter g before w → FileGrew cut old new
     → (cut ≡ []) ⊎ IsCutOff g before cut → StopsBy g before cut old new error → Stops g before old new error
 stopped-here g before w old new error cut writer grew cut_off by = record {
   added = [];
@@ -142,3 +142,8 @@ by-exit P (Err e) error is holds = subst (λ y. P (Err y)) (sym is) holds
 
 pub two-grow : TwiceLaw → (first second : List ℕ) (old mid new : DeskView) → FileGrew first old mid → FileGrew second mid new → (bytes : List ℕ) × FileGrew bytes old new
 two-grow twice first second old mid new a b = (first ++ second, twice first second old mid new a b)
+
+-- want of memory before a line was put
+pub no-memory : {X : Type 0} → BeginsLaw → (w : WriterView) (step : CertRecord) (old : DeskView) (result : Result X WorkError) → IsErrAnd result (λ e. e ≡ NoMemory) → IfErr result (PutStops w step old old)
+no-memory {X} begins w step old result is =
+    by-exit (λ (r : Result X WorkError). IfErr r (PutStops w step old old)) result NoMemory is (λ g before writer line. stops-for-memory g before w old old writer (begins old))
