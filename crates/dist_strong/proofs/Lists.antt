@@ -38,12 +38,14 @@ range-more a (suc n) = ap (λ (ks : List ℕ). a ∷ ks) (range-more (a + 1) n �
 filter-one : (p : ℕ → Bool) (k : ℕ) (b : Bool) → p k ≡ b → filter p (k ∷ []) ≡ (if b then k ∷ [] else [])
 filter-one p k b is = ap (λ (x : Bool). if x then k ∷ [] else []) is
 
-pub filter-next : (p : ℕ → Bool) (n : ℕ) (b : Bool) → p (n + 1) ≡ b → filter p (range_with_len 1 (n + 1)) ≡ filter p (range_with_len 1 n) ++ (if b then (n + 1) ∷ [] else [])
-filter-next p n b is =
+pub filter-from : (p : ℕ → Bool) (a n k : ℕ) (b : Bool) → a + n ≡ k → p k ≡ b → filter p (range_with_len a (n + 1)) ≡ filter p (range_with_len a n) ++ (if b then k ∷ [] else [])
+filter-from p a n k b last is =
     let next : n + 1 ≡ suc n = omega arith in
-    let last : 1 + n ≡ n + 1 = omega arith in
-    ap (λ (k : ℕ). filter p (range_with_len 1 k)) next ∙ ap (filter p) (range-more 1 n) ∙ filter-append p (range_with_len 1 n) ((1 + n) ∷ [])
-    ∙ ap (λ (k : ℕ). filter p (range_with_len 1 n) ++ filter p (k ∷ [])) last ∙ ap (λ (ks : List ℕ). filter p (range_with_len 1 n) ++ ks) (filter-one p (n + 1) b is)
+    ap (λ (m : ℕ). filter p (range_with_len a m)) next ∙ ap (filter p) (range-more a n) ∙ filter-append p (range_with_len a n) ((a + n) ∷ [])
+    ∙ ap (λ (m : ℕ). filter p (range_with_len a n) ++ filter p (m ∷ [])) last ∙ ap (λ (ks : List ℕ). filter p (range_with_len a n) ++ ks) (filter-one p k b is)
+
+pub filter-next : (p : ℕ → Bool) (n : ℕ) (b : Bool) → p (n + 1) ≡ b → filter p (range_with_len 1 (n + 1)) ≡ filter p (range_with_len 1 n) ++ (if b then (n + 1) ∷ [] else [])
+filter-next p n b is = filter-from p 1 n (n + 1) b (omega arith) is
 
 -- ---- what is mapped, by its places
 

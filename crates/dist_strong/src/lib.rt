@@ -3,4 +3,5 @@
 
 mod asker;
 mod putting;
+mod window;
 mod words;
