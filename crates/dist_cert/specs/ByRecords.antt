@@ -32,7 +32,7 @@ within (suc limit) (x ∷ line) more short h = within limit line more (omega (ar
 
 -- ---- the faults of such a line
 
-same_step : FormsAreClear → (matter : Matter) (h : Header) (before : List CertRecord) (step : CertRecord) (more : List ℕ) (cause : CertCause) → HasForm (record_text step) step
+pub same_step : FormsAreClear → (matter : Matter) (h : Header) (before : List CertRecord) (step : CertRecord) (more : List ℕ) (cause : CertCause) → HasForm (record_text step) step
     → IsBadStep matter h before (record_text step ++ line_feed ∷ more) cause → HasRecordFault matter h before step cause
 same_step clear matter h before step more cause form bad =
     let line = bad.0 in
@@ -68,7 +68,7 @@ no_end_at : (step : CertRecord) (before : List CertRecord) → (list_any is_end 
 no_end_at step before later none zero within e = true≢false (ap (λ r. is_end r || list_any is_end before) (sym e) ∙ none)
 no_end_at step before later none (suc k) within e = later (or_right (is_end step) (list_any is_end before) none) (k, omega (arith, within), e)
 
-no_end_in : (before : List CertRecord) → list_any is_end before ≡ false → ¬ Contains before End
+pub no_end_in : (before : List CertRecord) → list_any is_end before ≡ false → ¬ Contains before End
 no_end_in [] none h = omega (arith, h.1)
 no_end_in (step ∷ before) none h = no_end_at step before (no_end_in before) none h.0 h.1 h.2
 

@@ -1,4 +1,5 @@
 pub mod Form
+pub mod Rising
 pub mod Writing
 pub mod Subject
 pub mod Groups
@@ -20,6 +21,9 @@ pub mod ReadBack
 pub mod FaultsRead
 pub mod ExactReader
 pub mod ByRecords
+pub mod Part
+pub mod PartByRecords
+pub mod PartExamples
 pub mod ReadingExamples
 pub mod Examples
 pub mod AcceptedExamples

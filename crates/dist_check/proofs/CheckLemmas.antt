@@ -27,7 +27,7 @@ use Rattle.dist_cert.specs.Reading.{ReaderView, PassesWhole, KeepsLimits, Header
 use Rattle.dist_cert.specs.Refusal.{line_feed, IsOneLine, BeginsWith, lines_text, certificate_text, Fits, IsTooLong, HasFirstFault, HasLineFault, in_order, IsFirstOf, AreFaultless}
 use Rattle.dist_cert.specs.SomeVerdict.{split_push, grown}
 use Rattle.dist_check.specs.Checking.{IsReached, HasInputsWithin, StopsFirst, StopsLater, StopsAtDerived, HasLargeInputs}
-use Rattle.dist_check.specs.Present.{AreInputs, matter_of, subject_of}
+use Rattle.dist_subject.specs.Present.{AreInputs, matter_of, subject_of}
 use Rattle.dist_check.specs.Limited.{AreInputsWithin}
 use Rattle.dist_check.specs.Start.{IsUnfit}
 use Rattle.dist_check.proofs.Places.{contains-cases, contains-later}

@@ -23,7 +23,7 @@ use Rattle.dist_cert.specs.Reading.{ReaderView, WhereTold, PassesWhole, RecordAn
 use Rattle.dist_cert.specs.Refusal.{IsTooLong, certificate_text, AreFaultless}
 use Rattle.dist_check.specs.Checking.{KeepsNumbers, IsReached, IsCompleted, TextAnswers, OfText}
 use Rattle.dist_check.specs.Means.{Means}
-use Rattle.dist_check.specs.Present.{subject_of}
+use Rattle.dist_subject.specs.Present.{subject_of}
 use Rattle.dist_state.specs.State.{StateView}
 use Rattle.dist_check.proofs.CheckLemmas.{ended-from, record-refused, end-none}
 use Rattle.dist_check.specs.Checked.{TextAt, IsChecked}

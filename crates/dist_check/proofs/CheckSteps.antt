@@ -27,7 +27,7 @@ use Rattle.dist_cert.specs.Groups.{clause_of, derived}
 use Rattle.dist_cert.specs.Reading.{ReaderView, WhereTold, PassesWhole, KeepsLimits, IsHeaderNext, IsRecordNext, HeaderAnswers, HeaderCause, GivesHeader, RecordAnswers, RecordCause, GivesRecord}
 use Rattle.dist_cert.specs.Refusal.{Fits, AreFaultless}
 use Rattle.dist_check.specs.Checking.{StopsAtDerived, StopsFirst, TextAnswers, TextCause, OfText}
-use Rattle.dist_check.specs.Present.{matter_of, subject_of}
+use Rattle.dist_subject.specs.Present.{matter_of, subject_of}
 use Rattle.dist_state.specs.Since.{IsAppendCause}
 use Rattle.dist_check.specs.Start.{IsStart, StartAnswers}
 use Rattle.dist_state.specs.State.{StateView, Tells, Becomes, StopsAt, LineStops, TakesLine}

@@ -16,7 +16,7 @@ use Rattle.dist_cert.specs.Form.{Word}
 use Rattle.dist_cert.specs.Groups.{clause_of, derived, derived_in, claim_count, is_claim, group, IsOpen, IsRefutedIn, IsUndecidedIn}
 use Rattle.dist_cert.specs.ClaimRules.{yes, HoldsClaim}
 use Rattle.dist_cert.specs.LineRules.{HasRecordFault}
-use Rattle.dist_check.specs.Present.{matter_of}
+use Rattle.dist_subject.specs.Present.{matter_of}
 use Rattle.dist_state.specs.Since.{AreNewFrom}
 use Rattle.dist_state.specs.State.{QuestionView, StateView, is_next, TellsUndecided, TellsClaim, TellsEnd}
 use Rattle.dist_check.specs.At.{IsQuestionOf, IsAt}

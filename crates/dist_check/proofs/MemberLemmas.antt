@@ -17,9 +17,9 @@ use Rattle.dist_repo.specs.Strong.{IsInstallation}
 use Rattle.dist_repo.specs.declared.package.Package.{Package}
 use Rattle.dist_now.specs.Members.{members_of}
 use Rattle.dist_now.specs.PresentLaws.{AreModelsInstallations, AreSamePackages}
-use Rattle.dist_check.specs.Present.{truth_of, packages_of}
+use Rattle.dist_subject.specs.Present.{truth_of, packages_of}
 use Rattle.dist_check.proofs.Told.{model-told, IsTold}
-use Rattle.dist_group.specs.Rising.{is_among}
+use Rattle.dist_cert.specs.Rising.{is_among}
 use Rattle.dist_check.proofs.Among.{any-from, from-any}
 use Rattle.dist_check.proofs.Places.{contains-cases, contains-later}
 

@@ -14,7 +14,7 @@ use Rattle.dist_cert.specs.declared.records.Header.{Header}
 use Rattle.dist_cert.specs.Form.{KeepsRules}
 use Rattle.dist_cert.specs.Groups.{clause_of, derived, derived_in, installed_in, installations, is_claim, claimed, claim_count, group, leaves_open}
 use Rattle.dist_cert.specs.Accepted.{claim_in, claims_in}
-use Rattle.dist_check.specs.Present.{matter_of}
+use Rattle.dist_subject.specs.Present.{matter_of}
 use Rattle.dist_group.specs.Window.{WindowView, latest}
 use Rattle.dist_group.specs.Closed.{Closes}
 use Rattle.dist_group.specs.Group.{GroupView}

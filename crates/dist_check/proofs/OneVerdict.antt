@@ -14,7 +14,7 @@ use Rattle.dist_cert.specs.Refusal.{Refusal}
 use Rattle.dist_check.specs.declared.verdict.Verdict.{Verdict}
 use Rattle.dist_check.specs.declared.verdict.Verdict.TheVariants as verdicts
 use Rattle.dist_check.specs.Answers.{Answers, IsVerdict}
-use Rattle.dist_check.specs.Present.{AreInputs, subject_of, IsAccepted, IsRefused}
+use Rattle.dist_subject.specs.Present.{AreInputs, subject_of, IsAccepted, IsRefused}
 use Rattle.dist_check.proofs.CheckLemmas.{ClausesAreOne}
 
 -- an answer is the verdict

@@ -12,7 +12,7 @@ use Rattle.dist_cert.specs.declared.records.CertRecord.TheVariants as lines
 use Rattle.dist_cert.specs.Form.{Word}
 use Rattle.dist_cert.specs.Groups.{derived_in, derived, installed_in, installations, is_claim, group, leaves_open, IsOpen, IsRefutedIn, IsUndecidedIn}
 use Rattle.dist_cert.specs.ClaimRules.{yes, no}
-use Rattle.dist_group.specs.Rising.{is_among}
+use Rattle.dist_cert.specs.Rising.{is_among}
 use Rattle.dist_group.specs.Window.{latest}
 use Rattle.dist_group.specs.Closed.{ClosedView, asks_alone, asks_without, Closes}
 use Rattle.dist_group.specs.Group.{GroupView, narrowed, common_with}

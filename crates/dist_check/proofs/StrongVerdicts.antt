@@ -16,8 +16,8 @@ use Rattle.dist_cert.specs.declared.records.Header.{Header}
 use Rattle.dist_cert.specs.Form.{AreFromOne, record_text, HasForm, KeepsRules}
 use Rattle.dist_cert.specs.Groups.{installations, installation_at, IsRecent, group, IsRefutedIn, IsUndecidedIn}
 use Rattle.dist_cert.specs.ClaimRules.{yes, no, IsNamed, IsInEach, HoldsStrong, OmitsPackage}
-use Rattle.dist_check.specs.Present.{matter_of}
-use Rattle.dist_group.specs.Rising.{is_among}
+use Rattle.dist_subject.specs.Present.{matter_of}
+use Rattle.dist_cert.specs.Rising.{is_among}
 use Rattle.dist_group.specs.Window.{kept_at, has_member}
 use Rattle.dist_group.specs.Group.{candidates, in_each, is_always, PassesStrong, TellsRules, omits_package}
 use Rattle.dist_state.specs.State.{StateView, is_next, TellsStrong}

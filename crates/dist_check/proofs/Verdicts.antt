@@ -20,8 +20,8 @@ use Rattle.dist_cert.specs.Form.{Word}
 use Rattle.dist_cert.specs.Groups.{clause_of, derived, numbered}
 use Rattle.dist_cert.specs.LineRules.{HasRecordFault}
 use Rattle.dist_check.specs.Checked.{AreInputsOf}
-use Rattle.dist_check.specs.Present.{matter_of, packages_of}
-use Rattle.dist_group.specs.Rising.{is_among}
+use Rattle.dist_subject.specs.Present.{matter_of, packages_of}
+use Rattle.dist_cert.specs.Rising.{is_among}
 use Rattle.dist_state.specs.Since.{AreNewFrom}
 use Rattle.dist_state.specs.State.{QuestionView, StateView, names_above, is_above, TellsQuestion, TellsDerived, TellsRefuted, TellsInstallation}
 use Rattle.dist_check.specs.At.{IsQuestionOf, IsAt}

@@ -9,7 +9,7 @@ use Rattle.dist_cert.specs.Form.{Word}
 use Rattle.dist_cert.specs.Groups.{derived, installations, claim_count, group, IsOpen, HasOpenQuestion, IsRefutedIn, IsUndecidedIn}
 use Rattle.dist_cert.specs.ClaimRules.{yes, no}
 use Rattle.dist_cert.specs.Accepted.{claims_in}
-use Rattle.dist_group.specs.Rising.{is_among}
+use Rattle.dist_cert.specs.Rising.{is_among}
 use Rattle.dist_group.specs.Window.{latest}
 use Rattle.dist_group.specs.Closed.{ClosedView}
 use Rattle.dist_group.specs.Group.{GroupView}

@@ -18,7 +18,7 @@ use Rattle.dist_cert.specs.Reading.{ReaderView}
 use Rattle.dist_cert.specs.Refusal.{certificate_text, AreFaultless}
 use Rattle.dist_cert.specs.Subject.{Matter}
 use Rattle.dist_check.specs.At.{IsAt}
-use Rattle.dist_check.specs.Present.{AreInputs, matter_of, subject_of}
+use Rattle.dist_subject.specs.Present.{AreInputs, matter_of, subject_of}
 use Rattle.dist_state.specs.State.{StateView}
 
 -- no record has a fault behind those before it

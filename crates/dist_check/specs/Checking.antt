@@ -25,7 +25,7 @@ use Rattle.dist_cert.specs.Groups.{clause_of, derived}
 use Rattle.dist_cert.specs.Reading.{PassesWhole, KeepsLimits}
 use Rattle.dist_cert.specs.Refusal.{BeginsWith, HasFirstFault, HasLineFault, in_order, IsFirstOf, certificate_text, AreFaultless}
 use Rattle.dist_check.specs.Limited.{AreInputsWithin}
-use Rattle.dist_check.specs.Present.{AreInputs, subject_of}
+use Rattle.dist_subject.specs.Present.{AreInputs, subject_of}
 
 -- ---- the numbers
 

@@ -4,6 +4,4 @@ pub mod Checking
 pub mod At
 pub mod Checked
 pub mod Answers
-pub mod Present
 pub mod Means
-pub mod PresentExamples

@@ -13,7 +13,7 @@ ghost use Rattle.dist_cert.specs.Form.{Word};
 ghost use Rattle.dist_cert.specs.Groups.{clause_of, IsUndecidedIn};
 ghost use Rattle.dist_check.specs.declared.verdict.Verdict.{Verdict};
 ghost use Rattle.dist_check.specs.Answers.{Answers, IsVerdict};
-ghost use Rattle.dist_check.specs.Present.{IsAccepted, AreInputs, subject_of};
+ghost use Rattle.dist_subject.specs.Present.{IsAccepted, AreInputs, subject_of};
 ghost use Rattle.dist_check.specs.Means.{Means};
 
 use dist_cert::forms_are_clear;

@@ -8,7 +8,7 @@ use Rattle.std.proofs.lemmas.Bool.{cases_lt, cases_order, true≢false, false≢
 use Rattle.std.proofs.lemmas.List.{get_or_default}
 use Rattle.std.proofs.lemmas.List.Kept.{AllPairs-from_increasing}
 use Rattle.std.proofs.lemmas.List.Sorted.{searched}
-use Rattle.dist_group.specs.Rising.{AreRising, is_among}
+use Rattle.dist_cert.specs.Rising.{AreRising, is_among}
 use Rattle.dist_group.proofs.Places.{contains-cases, contains-later}
 
 -- rising numbers do not fall

@@ -5,7 +5,7 @@ use Rattle.std.specs.List.{Contains, list_all, list_any}
 use Rattle.std.proofs.lemmas.Bool.{eqb-true, and_parts, and_from}
 use Rattle.std.proofs.lemmas.List.{take_more}
 use Rattle.dist_group.specs.Group.{GroupView, always, candidates, in_each, is_always, omits_package}
-use Rattle.dist_group.specs.Rising.{is_among}
+use Rattle.dist_cert.specs.Rising.{is_among}
 use Rattle.dist_group.specs.Window.{WindowView, has_member, kept_at}
 use Rattle.dist_group.proofs.Places.{contains-cases, contains-later}
 

@@ -1,7 +1,7 @@
 -- Which questions of a group were closed in one way, of those that a claim on one package may name.
 use Rattle.std.specs.Prelude.{◌≡◌, ◌==◌, ◌&&◌, ◌||◌, ℕ, Bool, true, false, List, [], ◌∷◌}
 use Rattle.dist_cert.specs.Form.{Word}
-use Rattle.dist_group.specs.Rising.{is_among}
+use Rattle.dist_cert.specs.Rising.{is_among}
 
 -- whether the question of the package alone was closed, and the packages without which it was asked for
 pub record ClosedView : Type 0 where

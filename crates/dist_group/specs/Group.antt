@@ -3,7 +3,7 @@ use Rattle.std.specs.Prelude.{◌≡◌, ◌==◌, ◌&&◌, ℕ, Bool, true, fa
 use Rattle.std.specs.List.{list_all, list_any}
 use Rattle.dist_cert.specs.declared.faults.CertCause.{CertCause}
 use Rattle.dist_cert.specs.declared.faults.CertCause.TheVariants.{WrongClaim, Incomplete}
-use Rattle.dist_group.specs.Rising.{AreRising, is_among}
+use Rattle.dist_cert.specs.Rising.{AreRising, is_among}
 use Rattle.dist_group.specs.Window.{WindowView, kept_at, has_member}
 use Rattle.dist_group.specs.Closed.{ClosedView}
 

@@ -1,4 +1,3 @@
-pub mod Rising
 pub mod Window
 pub mod Closed
 pub mod Group

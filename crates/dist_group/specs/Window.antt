@@ -1,6 +1,6 @@
 -- What is kept of the installations before a line.
 use Rattle.std.specs.Prelude.{ℕ, ◌-◌, Bool, false, List, Option, Some, None, length, drop, nat_le, slice_get, if◌then◌else◌}
-use Rattle.dist_group.specs.Rising.{is_among}
+use Rattle.dist_cert.specs.Rising.{is_among}
 
 -- the latest installations, and how many there were
 pub record WindowView : Type 0 where

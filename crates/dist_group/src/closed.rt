@@ -1,6 +1,6 @@
 //! Questions of a group that were closed in one way.
 ghost use Rattle.std.specs.Prelude.{◌≡◌, ◌||◌, [], ℕ, false, OnOk};
-ghost use Rattle.dist_group.specs.Rising.{is_among};
+ghost use Rattle.dist_cert.specs.Rising.{is_among};
 ghost use Rattle.dist_group.specs.Closed.{ClosedView, Closes};
 
 use crate::number_set::NumberSet;

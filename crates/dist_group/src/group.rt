@@ -3,7 +3,7 @@ ghost use Rattle.std.specs.Prelude.{◌≡◌, [], false, None, IfOk, IfSome, On
 ghost use Rattle.std.specs.Option.{ForSome, option_copied};
 ghost use Rattle.dist_group.specs.Closed.{ClosedView, Closes};
 ghost use Rattle.dist_group.specs.Group.{GroupView, common_with, narrowed};
-ghost use Rattle.dist_group.specs.Rising.{AreRising};
+ghost use Rattle.dist_cert.specs.Rising.{AreRising};
 
 use crate::closed::Closed;
 use crate::numbers::{has, keep_common};
@@ -22,7 +22,7 @@ pub struct Group {
 impl Model for Group {
     ghost use Rattle.dist_group.specs.Group.{GroupView};
     ghost use Rattle.std.specs.Option.{ForSome};
-    ghost use Rattle.dist_group.specs.Rising.{AreRising};
+    ghost use Rattle.dist_cert.specs.Rising.{AreRising};
 
     ghost Value = { GroupView };
 

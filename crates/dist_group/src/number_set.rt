@@ -1,7 +1,7 @@
 //! Sets of numbers that are filled and emptied again.
 ghost use Rattle.std.specs.Prelude.{◌≡◌, ◌==◌, ◌||◌, [], ℕ, OnOk};
 ghost use Rattle.std.specs.List.{list_all};
-ghost use Rattle.dist_group.specs.Rising.{is_among};
+ghost use Rattle.dist_cert.specs.Rising.{is_among};
 
 use std::alloc::{AllocError, Global};
 use std::collections::BTreeSet;

@@ -1,7 +1,7 @@
 //! Rising lists of numbers, as lines name them.
 ghost use Rattle.std.specs.Prelude.{◌≡◌, ◌==◌, ◌↔◌, ◌&&◌, IsTrue, filter, nat_le, not};
 ghost use Rattle.std.specs.List.{list_all, list_any};
-ghost use Rattle.dist_group.specs.Rising.{AreRising, is_among};
+ghost use Rattle.dist_cert.specs.Rising.{AreRising, is_among};
 
 /// Whether each number is below the next one.
 pub(crate) fn is_rising(numbers: &[u32]) -> bool

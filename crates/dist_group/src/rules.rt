@@ -2,7 +2,7 @@
 ghost use Rattle.std.specs.Prelude.{◌≡◌, ◌==◌, ◌&&◌, ◌↔◌, ℕ, Contains, IsTrue, IfOk, filter, not};
 ghost use Rattle.std.specs.List.{list_any};
 ghost use Rattle.dist_group.specs.Group.{AreListsRight, TellsRules, always, candidates, in_each, omits_package};
-ghost use Rattle.dist_group.specs.Rising.{AreRising, is_among};
+ghost use Rattle.dist_cert.specs.Rising.{AreRising, is_among};
 ghost use Rattle.dist_group.specs.Window.{has_member, kept_at};
 
 use crate::group::Group;

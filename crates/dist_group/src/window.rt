@@ -1,7 +1,7 @@
 //! The latest installations, by their numbers.
 ghost use Rattle.std.specs.Prelude.{◌≡◌, ◌+◌, ◌<◌, ◌≤◌, ◌^◌, [], ◌∷◌, ◌++◌, IfSome, OnOk, length};
 ghost use Rattle.std.specs.Option.{option_copied};
-ghost use Rattle.dist_group.specs.Rising.{AreRising};
+ghost use Rattle.dist_cert.specs.Rising.{AreRising};
 ghost use Rattle.dist_group.specs.Window.{WindowView, has_member, kept_at, latest};
 
 use crate::numbers::has;
@@ -23,7 +23,7 @@ pub struct Window {
 
 impl Model for Window {
     ghost use Rattle.std.specs.Prelude.{◌≤◌, All, length};
-    ghost use Rattle.dist_group.specs.Rising.{AreRising};
+    ghost use Rattle.dist_cert.specs.Rising.{AreRising};
     ghost use Rattle.dist_group.specs.Window.{WindowView};
 
     ghost Value = { WindowView };

@@ -16,7 +16,7 @@ use Rattle.dist_cert.specs.declared.records.Claim.{Claim}
 use Rattle.dist_cert.specs.Form.{Word}
 use Rattle.dist_cert.specs.Groups.{clause_of}
 use Rattle.dist_cert.specs.Accepted.{claim_in}
-use Rattle.dist_group.specs.Rising.{is_among}
+use Rattle.dist_cert.specs.Rising.{is_among}
 use Rattle.dist_group.specs.Window.{WindowView, latest}
 use Rattle.dist_group.specs.Closed.{Closes}
 use Rattle.dist_group.specs.Group.{GroupView, common_with, TellsRules}

@@ -5,7 +5,7 @@ ghost use Rattle.std.specs.List.Sorted.{IsNonDecreasingBy};
 ghost use Rattle.dist_clause.specs.ClauseList.{clause_at};
 ghost use Rattle.dist_clause.specs.Formula.{IsModel, MakesTrue};
 ghost use Rattle.dist_derive.specs.ClauseLog.{inputs_of};
-ghost use Rattle.dist_group.specs.Rising.{AreRising, is_among};
+ghost use Rattle.dist_cert.specs.Rising.{AreRising, is_among};
 ghost use Rattle.dist_state.specs.Denials.{AreDenialsOf, first_denied};
 
 use dist_clause::Lit;

@@ -3,7 +3,7 @@ ghost use Rattle.std.specs.Prelude.{◌≡◌, ◌+◌, ◌≤◌, IfOk, Some, l
 ghost use Rattle.std.specs.Option.{ForSome};
 ghost use Rattle.dist_derive.specs.ClauseLog.{inputs_of};
 ghost use Rattle.dist_cert.specs.Form.{AreLiterals};
-ghost use Rattle.dist_group.specs.Rising.{AreRising};
+ghost use Rattle.dist_cert.specs.Rising.{AreRising};
 ghost use Rattle.dist_state.specs.Denials.{AreDenialsOf};
 ghost use Rattle.dist_state.specs.Since.{AreLiteralsOver};
 ghost use Rattle.dist_state.specs.State.{TellsClaim, TellsDerived, TellsEnd, TellsInstallation, TellsQuestion, TellsRefuted, TellsStrong, TellsUndecided, is_next};

@@ -4,7 +4,7 @@ ghost use Rattle.dist_derive.specs.ClauseLog.{IsWithinLineLimits};
 ghost use Rattle.dist_cert.specs.Groups.{clause_of};
 ghost use Rattle.dist_cert.specs.declared.records.CertRecord.TheVariants.{Installation};
 ghost use Rattle.dist_cert.specs.Form.{KeepsRules};
-ghost use Rattle.dist_group.specs.Rising.{AreRising};
+ghost use Rattle.dist_cert.specs.Rising.{AreRising};
 ghost use Rattle.dist_state.specs.Since.{AreLiteralsOver, IsAppendCause};
 ghost use Rattle.dist_state.specs.State.{Allows, Answers, Becomes, StopsAt, Tells, TellsClaim, after_claim, empty_group, is_next};
 

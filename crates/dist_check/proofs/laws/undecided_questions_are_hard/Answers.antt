@@ -1,4 +1,4 @@
-use Rattle.dist_check.specs.Present.{subject_of, matter_of}
+use Rattle.dist_subject.specs.Present.{subject_of, matter_of}
 use Rattle.dist_check.proofs.Records.{right-records}
 use Rattle.dist_check.proofs.Hard.{within-bound}
 use Rattle.dist_check.proofs.laws.undecided_questions_are_hard.Goals as goal

@@ -1,6 +1,6 @@
 use Rattle.std.proofs.Common.{◌<◌, ◌∙◌, List, ℕ, ap, filter, subst, sym}
 use Rattle.std.proofs.lemmas.List.Kept.{AllPairs-filter}
-use Rattle.dist_group.specs.Rising.{AreRising, is_among}
+use Rattle.dist_cert.specs.Rising.{AreRising, is_among}
 use Rattle.dist_group.proofs.group.narrow.Goals as goal
 
 pub returns-in-Some-clause-rising : goal.returns-in-Some-clause-rising

@@ -1,7 +1,7 @@
 use Rattle.std.proofs.Common.{◌≡◌, ◌<◌, ◌∙◌, List, ℕ, ap, filter, subst, sym}
 use Rattle.std.proofs.lemmas.List.Kept.{AllPairs-filter}
 use Rattle.dist_group.specs.Group.{in_each}
-use Rattle.dist_group.specs.Rising.{AreRising}
+use Rattle.dist_cert.specs.Rising.{AreRising}
 use Rattle.dist_group.proofs.RuleLemmas.{named-once}
 use Rattle.dist_group.proofs.rules.always.Goals as goal
 

@@ -1,7 +1,7 @@
 use Rattle.std.proofs.Common.{◌∙◌, List, ℕ, ap, sym}
 use Rattle.std.specs.List.{list_all}
 use Rattle.std.proofs.lemmas.Bool.{false≢true}
-use Rattle.dist_group.specs.Rising.{is_among}
+use Rattle.dist_cert.specs.Rising.{is_among}
 use Rattle.dist_group.proofs.RuleLemmas.{always-all, omitted-any}
 use Rattle.dist_group.proofs.rules.judge_rules.Goals as goal
 

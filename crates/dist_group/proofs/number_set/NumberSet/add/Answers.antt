@@ -1,5 +1,5 @@
 use Rattle.std.proofs.Common.{◌==◌, ◌||◌, ap, ◌∙◌, List, ℕ}
-use Rattle.dist_group.specs.Rising.{is_among}
+use Rattle.dist_cert.specs.Rising.{is_among}
 use Rattle.dist_group.proofs.SetLemmas.{among-insert}
 use Rattle.dist_group.proofs.number_set.NumberSet.add.Goals as goal
 

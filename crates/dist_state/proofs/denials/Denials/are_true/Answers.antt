@@ -7,7 +7,7 @@ use Rattle.std.proofs.lemmas.List.Sorted.{IsPartitionPoint-from_clause, IsPartit
 use Rattle.dist_clause.specs.ClauseList.{clause_at}
 use Rattle.dist_clause.specs.Formula.{Literal, MakesTrue}
 use Rattle.dist_derive.specs.ClauseLog.{inputs_of}
-use Rattle.dist_group.specs.Rising.{is_among}
+use Rattle.dist_cert.specs.Rising.{is_among}
 use Rattle.dist_state.specs.Denials.{AreDenialsOf}
 use Rattle.dist_state.proofs.DenialLemmas.{AreTrue, front-clause, none-before, true-at-end, true-more}
 use Rattle.dist_state.proofs.denials.Denials.are_true.Goals as goal

@@ -1,5 +1,5 @@
 use Rattle.dist_derive.specs.ClauseLog.{inputs_of}
-use Rattle.dist_group.specs.Rising.{is_among}
+use Rattle.dist_cert.specs.Rising.{is_among}
 use Rattle.dist_state.proofs.DenialLemmas.{AreTrueUpTo}
 use Rattle.dist_state.proofs.denials.Denials.are_true.Given as goal
 

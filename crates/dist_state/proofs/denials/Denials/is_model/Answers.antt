@@ -4,7 +4,7 @@ use Rattle.std.proofs.lemmas.List.{get_or_default}
 use borrow.Author.Count.{below_more}
 use Rattle.dist_clause.specs.Formula.{Literal}
 use Rattle.dist_derive.specs.ClauseLog.{inputs_of}
-use Rattle.dist_group.specs.Rising.{is_among}
+use Rattle.dist_cert.specs.Rising.{is_among}
 use Rattle.dist_state.proofs.DenialLemmas.{AreTrue, from-model, model-from}
 use Rattle.dist_state.proofs.denials.Denials.is_model.Goals as goal
 

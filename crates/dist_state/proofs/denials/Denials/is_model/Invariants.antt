@@ -1,6 +1,6 @@
 use Rattle.std.proofs.Common.{ℕ, ◌<◌, get_or}
 use Rattle.dist_derive.specs.ClauseLog.{inputs_of}
-use Rattle.dist_group.specs.Rising.{is_among}
+use Rattle.dist_cert.specs.Rising.{is_among}
 use Rattle.dist_state.proofs.DenialLemmas.{AreTrue}
 use Rattle.dist_state.proofs.denials.Denials.is_model.Given as goal
 

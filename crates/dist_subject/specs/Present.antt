@@ -15,7 +15,7 @@ use Rattle.dist_cert.specs.declared.records.Header.{Header}
 use Rattle.dist_cert.specs.Subject.{Matter, Subject}
 use Rattle.dist_cert.specs.Accepted.{Accepted}
 use Rattle.dist_cert.specs.Refusal.{Refusal}
-use Rattle.dist_group.specs.Rising.{is_among}
+use Rattle.dist_cert.specs.Rising.{is_among}
 
 -- The variables from 1 to n, each with its truth value, where those listed are true.
 abbrev pub truth_of : ℕ → List ℕ → List Bool

@@ -1,7 +1,7 @@
 -- Worked examples of the definitions of `Present`.
 use Rattle.std.specs.Prelude.{◌≡◌, true, false, [], ◌∷◌, refl}
 use Rattle.dist_repo.specs.declared.package.Package.{Package}
-use Rattle.dist_check.specs.Present.{truth_of, packages_of}
+use Rattle.dist_subject.specs.Present.{truth_of, packages_of}
 
 first_and_third : truth_of 3 (1 ∷ 3 ∷ []) ≡ true ∷ false ∷ true ∷ []
 first_and_third = refl

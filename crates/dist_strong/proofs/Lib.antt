@@ -1,0 +1,9 @@
+mod Lists
+mod Opened
+mod Lines
+mod OneLine
+mod DerivedLines
+mod TrueOnes
+mod Answered
+mod Closing
+mod Asked

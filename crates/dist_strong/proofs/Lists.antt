@@ -1,0 +1,63 @@
+-- Lists: what is mapped, and what stands at a place.
+use Rattle.std.proofs.Common.{◌≡◌, ℕ, zero, suc, ◌+◌, ◌<◌, ◌≤◌, Bool, filter, if◌then◌else◌, List, [], ◌∷◌, ◌++◌, length, get_or, map, take, drop, refl, ap, sym, subst, ◌∙◌, arith, length-append}
+use Rattle.std.specs.List.{All, AllPairs, Any, range_with_len}
+use Rattle.std.proofs.lemmas.List.{get_or_at, get_or-map, length-map}
+use Rattle.std.proofs.lemmas.List.Elements.{filter-append}
+
+pub all-at : {X : Type 0} (P : X → Type 0) (xs front : List X) (b : X) (cs : List X) → xs ≡ front ++ b ∷ cs → All P xs → P b
+all-at P xs front b cs e all =
+    subst P (ap (λ ys. get_or ys (length front) b) e ∙ get_or_at front b cs b (length front) refl)
+    (all (length front) b (omega (arith, ap length e, length-append front (b ∷ cs))))
+
+pub pairs-map : {X Y : Type 0} (R : Y → Y → Type 0) (f : X → Y) (xs : List X) → AllPairs (λ a b. R (f a) (f b)) xs → AllPairs R (map f xs)
+pairs-map {X} {Y} R f xs pairs i j d before within = at xs pairs (shorter xs (omega (arith, within, length-map xs f)))
+  where
+    shorter : (ys : List X) → j < length ys → (x : X) × (j < length ys)
+    shorter [] short = absurd (omega (arith, short))
+    shorter (y ∷ ys) short = (y, short)
+
+    at : (ys : List X) → AllPairs (λ a b. R (f a) (f b)) ys → (x : X) × (j < length ys) → R (get_or (map f ys) i d) (get_or (map f ys) j d)
+    at ys all some =
+        let early : i < length ys = omega (arith, before, some.1) in
+        subst (λ y. R y (get_or (map f ys) j d)) (sym (get_or-map f ys i some.0 d early))
+        (subst (λ y. R (f (get_or ys i some.0)) y) (sym (get_or-map f ys j some.0 d some.1)) (all i j some.0 before some.1))
+
+-- no number is above the last
+pub none-past : (n : ℕ) (xs : List ℕ) → All (λ v. v ≤ n) xs → ¬ Any (λ v. n < v) xs
+none-past n xs all any = let least = all any.0 any.1 any.2 in omega (arith, least, any.3, any.4)
+
+pub none-in : {X : Type 0} (P : X → Type 0) → ¬ Any P []
+none-in P any = omega (arith, any.2)
+
+-- ---- the numbers from 1 on that pass a test
+
+range-more : (a n : ℕ) → range_with_len a (suc n) ≡ range_with_len a n ++ (a + n) ∷ []
+range-more a zero = ap (λ (k : ℕ). k ∷ []) (omega arith)
+range-more a (suc n) = ap (λ (ks : List ℕ). a ∷ ks) (range-more (a + 1) n ∙ ap (λ (k : ℕ). range_with_len (a + 1) n ++ k ∷ []) (omega arith))
+
+filter-one : (p : ℕ → Bool) (k : ℕ) (b : Bool) → p k ≡ b → filter p (k ∷ []) ≡ (if b then k ∷ [] else [])
+filter-one p k b is = ap (λ (x : Bool). if x then k ∷ [] else []) is
+
+pub filter-from : (p : ℕ → Bool) (a n k : ℕ) (b : Bool) → a + n ≡ k → p k ≡ b → filter p (range_with_len a (n + 1)) ≡ filter p (range_with_len a n) ++ (if b then k ∷ [] else [])
+filter-from p a n k b last is =
+    let next : n + 1 ≡ suc n = omega arith in
+    ap (λ (m : ℕ). filter p (range_with_len a m)) next ∙ ap (filter p) (range-more a n) ∙ filter-append p (range_with_len a n) ((a + n) ∷ [])
+    ∙ ap (λ (m : ℕ). filter p (range_with_len a n) ++ filter p (m ∷ [])) last ∙ ap (λ (ks : List ℕ). filter p (range_with_len a n) ++ ks) (filter-one p k b is)
+
+pub filter-next : (p : ℕ → Bool) (n : ℕ) (b : Bool) → p (n + 1) ≡ b → filter p (range_with_len 1 (n + 1)) ≡ filter p (range_with_len 1 n) ++ (if b then (n + 1) ∷ [] else [])
+filter-next p n b is = filter-from p 1 n (n + 1) b (omega arith) is
+
+-- ---- what is mapped, by its places
+
+pub map-split : {X Y : Type 0} (f : X → Y) (xs : List X) (k : ℕ) (d : X) → k < length xs → map f xs ≡ map f (take k xs) ++ f (get_or xs k d) ∷ map f (drop (suc k) xs)
+map-split f [] k d within = absurd (omega (arith, within))
+map-split f (x ∷ xs) zero d within = refl
+map-split {X} {Y} f (x ∷ xs) (suc k) d within = ap (λ (ys : List Y). f x ∷ ys) (map-split f xs k d (omega (arith, within)))
+
+map-taken : {X Y : Type 0} (f : X → Y) (xs : List X) (k : ℕ) (d : X) → k < length xs → map f (take (suc k) xs) ≡ map f (take k xs) ++ f (get_or xs k d) ∷ []
+map-taken f [] k d within = absurd (omega (arith, within))
+map-taken f (x ∷ xs) zero d within = refl
+map-taken {X} {Y} f (x ∷ xs) (suc k) d within = ap (λ (ys : List Y). f x ∷ ys) (map-taken f xs k d (omega (arith, within)))
+
+pub map-more : {X Y : Type 0} (f : X → Y) (xs : List X) (k : ℕ) (d : X) → k < length xs → map f (take (k + 1) xs) ≡ map f (take k xs) ++ f (get_or xs k d) ∷ []
+map-more f xs k d within = let next : k + 1 ≡ suc k = omega arith in ap (λ (n : ℕ). map f (take n xs)) next ∙ map-taken f xs k d within

@@ -1,0 +1,7 @@
+//! The strong sweep: for each package a certificate of which other packages every healthy installation with it has.
+#![tactic(auto)]
+
+mod asker;
+mod putting;
+mod window;
+mod words;

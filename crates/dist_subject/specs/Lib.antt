@@ -1,0 +1,4 @@
+pub mod Present
+pub mod PresentExamples
+pub mod Claims
+pub mod Installed
