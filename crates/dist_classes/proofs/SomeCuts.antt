@@ -206,8 +206,10 @@ fresh-atom r atom = elim (usable-decided r.architecture atom.qualifier) [
 pub some-new_names : (r : PackageList) → (names : List (List ℕ)) × AreNewNames r names
 some-new_names r =
     let found = found-any (HasFresh r) (λ p. found-any (λ q item. Any (IsFreshAtom r q) item) (λ item. found-any (IsFreshAtom r) (fresh-atom r) item) p.depends) r.packages in
-    let list = in-order (slice_cmp nat_cmp) nat_list_cmp_total same_names (λ q. Any (HasFresh r q) r.packages) found.found found.adds in
-    (list.sorted, names-from r list.sorted (strictly-sorted (slice_cmp nat_cmp) list.sorted list.strict) (λ q. (
-      (λ inside. inr ((list.same q).1 inside)),
-      λ either. (list.same q).0 (elim either [ inl h ↦ absurd (omega (arith, h.1)) | inr h ↦ h ]),
-    )))
+    let list = in-order (slice_cmp nat_cmp) nat_list_cmp_total same_names (λ q. Any (HasFresh r q) r.packages) found.found found.adds in (
+      list.sorted,
+      names-from r list.sorted (strictly-sorted (slice_cmp nat_cmp) list.sorted list.strict) (λ q. (
+        (λ inside. inr ((list.same q).1 inside)),
+        λ either. (list.same q).0 (elim either [ inl h ↦ absurd (omega (arith, h.1)) | inr h ↦ h ]),
+      )),
+    )

@@ -1,13 +1,13 @@
 -- Names, versions and the texts of classes are plain.
-use Rattle.std.proofs.Common.{◌≡◌, ◌≢◌, ℕ, zero, suc, ◌<◌, ◌≤◌, Bool, true, false, ◌&&◌, ◌||◌, ◌==◌, eqb-true, List, [], ◌∷◌, ◌++◌, length, get_or, Option, None, Some, codes, arith, refl, subst, sym, inl, inr}
-use Rattle.std.specs.Prelude.{All, IfSome, IsTrue}
+use Rattle.std.proofs.Common.{◌≡◌, ℕ, suc, ◌<◌, ◌≤◌, Bool, true, false, ◌&&◌, ◌||◌, ◌==◌, eqb-true, List, [], ◌∷◌, ◌++◌, length, get_or, Option, None, Some, codes, arith, refl, subst, sym, inl, inr}
+use Rattle.std.specs.Prelude.{IfSome, IsTrue}
 use Rattle.std.specs.Char.{is_ascii_alphanumeric, is_ascii_digit}
 use Rattle.std.specs.Int.{is_in_range}
 use Rattle.std.specs.List.{list_all}
 use Rattle.std.proofs.lemmas.Bool.{leb-true, or_cases}
 use Rattle.std.proofs.lemmas.List.Elements.{All-append, All-cons, All-nil}
 use Rattle.std.proofs.lemmas.List.Sums.{AllPass-from_list_all}
-use Rattle.dist_version.specs.Spelling.{IsVersion, Spells, SpellsEpoch, colon, has, hyphen, is_revision_byte, is_upstream_byte, revision_text}
+use Rattle.dist_version.specs.Spelling.{IsVersion, SpellsEpoch, colon, has, hyphen, is_revision_byte, is_upstream_byte, revision_text}
 use Rattle.dist_relation.specs.Bytes.{IsName, is_name_byte}
 use Rattle.dist_repo.specs.declared.package.Package.{Package}
 use Rattle.dist_classes.specs.ClassList.{class_text}

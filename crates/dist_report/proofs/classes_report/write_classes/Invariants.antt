@@ -9,5 +9,5 @@ use Rattle.dist_report.proofs.classes_report.write_classes.Given as goal
 abbrev pub invariant-loop-place : goal.invariant-loop-place
 invariant-loop-place l = record {
   text : l.out.items ≡ (l.fn.out.items ++ key_line (codes "    classes:") (length l.classes == 0)) ++ flat_map class_lines (take l.place l.classes);
-  there : All HasExample (take l.place l.classes)
+  there : All HasExample (take l.place l.classes);
 }
