@@ -24,3 +24,12 @@ pub mod PairClauses
 pub mod LedFronts
 pub mod RisingRows
 pub mod ExactLemmas
+pub mod Leasts
+pub mod VariableOrder
+pub mod FoundLemmas
+pub mod NewNames
+pub mod NoFutureLemmas
+pub mod UnmetLemmas
+pub mod RejectedLemmas
+pub mod ConflictLemmas
+pub mod MissingLemmas

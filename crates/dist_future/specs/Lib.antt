@@ -11,3 +11,6 @@ pub mod Numbering
 pub mod Kept
 pub mod Gathering
 pub mod FutureExamples
+pub mod Least
+pub mod FutureHealth
+pub mod Matching
