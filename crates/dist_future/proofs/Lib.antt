@@ -31,5 +31,8 @@ pub mod NewNames
 pub mod NoFutureLemmas
 pub mod UnmetLemmas
 pub mod RejectedLemmas
-pub mod ConflictLemmas
+pub mod ConflictPairs
 pub mod MissingLemmas
+pub mod MatchDecided
+pub mod HealthLemmas
+pub mod HealthMeaning

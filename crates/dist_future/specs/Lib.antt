@@ -14,3 +14,4 @@ pub mod FutureExamples
 pub mod Least
 pub mod FutureHealth
 pub mod Matching
+pub mod HealthLaws

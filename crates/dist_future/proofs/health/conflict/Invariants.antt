@@ -1,4 +1,4 @@
-use Rattle.dist_future.proofs.ConflictLemmas.{IsLeastSeenIfAny}
+use Rattle.dist_future.proofs.ConflictPairs.{IsLeastSeenIfAny}
 use Rattle.dist_future.proofs.health.conflict.Given as goal
 
 -- the least pair of the variables so far
