@@ -110,7 +110,7 @@ module _ (s : SpaceView) (values : List Bool) where
   needs-broken : (m n : Meaning) → Holds s values m → IsMeaning s n → holds_under s values n ≡ false → Needs s m n → AreNoFuture s values (variable_of s m) (variable_of s n)
   needs-broken m n first is fails needs = record { one = m; other = n; first_is = refl; second_is = refl; holds = first; is_other = is; broken = inr (needs, fails) }
 
-  with-it : (m n : Meaning) → IsNoPair (AreNoFuture s values) → Holds s values m → IsMeaning s n → Needs s m n → holds_under s values n ≡ true
+  pub with-it : (m n : Meaning) → IsNoPair (AreNoFuture s values) → Holds s values m → IsMeaning s n → Needs s m n → holds_under s values n ≡ true
   with-it m n none first is needs = by (holds_under s values n) refl
     where
       by : (b : Bool) → holds_under s values n ≡ b → holds_under s values n ≡ true
@@ -119,9 +119,12 @@ module _ (s : SpaceView) (values : List Bool) where
 
   -- ---- from health to the demands
 
-  pub met-from-health : IsSpace s → IsFutureHealth s values Healthy → AreMet s (IsTrueMeaning s values)
-  met-from-health space healthy =
-      let never = healthy.0 in
+  -- the demands of a future are met where no pair of variables is none
+  pub met-with : IsNoPair (AreNoFuture s values)
+      → ((r place : ℕ) (p : Package) (item : List Atom) → slice_get s.repository.packages r ≡ Some p → slice_get p.depends place ≡ Some item → IsTrueMeaning s values (Present r) → IsMetIn s (IsTrueMeaning s values) (IsMetBy s item))
+      → ((r : ℕ) (p : Package) (m : Meaning) → slice_get s.repository.packages r ≡ Some p → IsMeaning s m → Excludes s r p m → IsTrueMeaning s values (Present r) → IsTrueMeaning s values m → ⊥)
+      → ((name : List ℕ) → Contains (required_names s.essential s.repository.packages) name → IsMetIn s (IsTrueMeaning s values) (IsBearer s name)) → AreMet s (IsTrueMeaning s values)
+  met-with never items conflicts required =
       let apart : (m n : Meaning) → IsMeaning s m → IsMeaning s n → AreApart s m n → IsTrueMeaning s values m → IsTrueMeaning s values n → ⊥ =
       λ m n is_m is_n are first second. never (variable_of s m) (variable_of s n) (apart-broken m n (held m is_m first) (held n is_n second) are) in
       record {
@@ -130,37 +133,44 @@ module _ (s : SpaceView) (values : List Bool) where
         moved = λ r k is holds. with-it (New r k) (At (slice_index s.cluster_of r) k) never (held (New r k) is holds) is.1 (refl, refl);
         carried = λ r k j is holds. with-it (Kept r k j) (New r k) never (held (Kept r k j) is holds) (new-of s r k j is) (refl, refl);
         one_fresh = λ x k l less short. apart (Fresh x k) (Fresh x l) (omega (arith, less, short)) short (refl, less);
-        met = λ r place p item is is_item holds. elim (some-decided space (IsMetBy s item) (met_by-decided s item)) [
-          | inl some ↦ met-of (IsMetBy s item) some
-          | inr none ↦ absurd (healthy.1 (variable_of s (Present r)) place (record {
-            number = r;
-            variable_is = refl;
-            installed = held (Present r) (slice_get_within s.repository.packages r p is) holds;
-            unmet = item-at s r place (λ q i. ¬ SomeHolds s values (IsMetBy s i)) p item is is_item none;
-          }))
-        ];
-        apart = λ r p m is is_meaning excludes first second. healthy.2 (variable_of s (Present r)) (variable_of s m) (record {
-          number = r;
-          other = m;
-          first_is = refl;
-          second_is = refl;
-          installed = held (Present r) (slice_get_within s.repository.packages r p is) first;
-          holds = held m is_meaning second;
-          excluded = at-has (λ q. Excludes s r q m) s.repository.packages r p is excludes;
-        });
+        met = items;
+        apart = conflicts;
         stays = λ c k is. apart Now (At c k) tt is tt;
         absent = λ x k is. apart Now (Fresh x k) tt is tt;
-        required = λ name there.
-            let of = required-essential s.essential s.repository.packages name there in
-            elim (some-decided space (IsBearer s name) (bearer-decided s name)) [
-              | inl some ↦ met-of (IsBearer s name) some
-              | inr none ↦ absurd (healthy.3 of.number (
-                of.is_mode,
-                at-has (λ (q : Package). (q.essential ≡ true) × (¬ SomeHolds s values (IsBearer s q.name))) s.repository.packages of.number of.p of.is
-                    (of.essential, subst (λ (x : List ℕ). ¬ SomeHolds s values (IsBearer s x)) (sym of.named) none),
-              ))
-            ];
+        required = required;
       }
+
+  pub met-from-health : IsSpace s → IsFutureHealth s values Healthy → AreMet s (IsTrueMeaning s values)
+  met-from-health space healthy =
+      met-with healthy.0
+      (λ r place p item is is_item holds. elim (some-decided space (IsMetBy s item) (met_by-decided s item)) [
+        | inl some ↦ met-of (IsMetBy s item) some
+        | inr none ↦ absurd (healthy.1 (variable_of s (Present r)) place (record {
+          number = r;
+          variable_is = refl;
+          installed = held (Present r) (slice_get_within s.repository.packages r p is) holds;
+          unmet = item-at s r place (λ q i. ¬ SomeHolds s values (IsMetBy s i)) p item is is_item none;
+        }))
+      ])
+      (λ r p m is is_meaning excludes first second. healthy.2 (variable_of s (Present r)) (variable_of s m) (record {
+        number = r;
+        other = m;
+        first_is = refl;
+        second_is = refl;
+        installed = held (Present r) (slice_get_within s.repository.packages r p is) first;
+        holds = held m is_meaning second;
+        excluded = at-has (λ q. Excludes s r q m) s.repository.packages r p is excludes;
+      }))
+      (λ name there.
+      let of = required-essential s.essential s.repository.packages name there in
+      elim (some-decided space (IsBearer s name) (bearer-decided s name)) [
+        | inl some ↦ met-of (IsBearer s name) some
+        | inr none ↦ absurd (healthy.3 of.number (
+          of.is_mode,
+          at-has (λ (q : Package). (q.essential ≡ true) × (¬ SomeHolds s values (IsBearer s q.name))) s.repository.packages of.number of.p of.is
+              (of.essential, subst (λ (x : List ℕ). ¬ SomeHolds s values (IsBearer s x)) (sym of.named) none),
+        ))
+      ])
 
   -- ---- and back
 

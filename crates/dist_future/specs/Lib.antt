@@ -1,6 +1,7 @@
 pub mod Future
 pub mod Outdated
 pub mod Space
+pub mod Usable
 pub mod SpaceClauses
 pub mod SpaceSet
 pub mod Stands

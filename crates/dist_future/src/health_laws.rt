@@ -2,7 +2,7 @@
 ghost use Rattle.std.specs.Prelude.{◌≡◌, ◌↔◌, Bool, List};
 ghost use Rattle.dist_clause.specs.Formula.{IsModel, Literal, value_of};
 ghost use Rattle.dist_future.specs.FutureHealth.{IsFutureHealth};
-ghost use Rattle.dist_future.specs.HealthLaws.{IsHealthyIn};
+ghost use Rattle.dist_future.specs.HealthLaws.{IsHealthyIn, StandsForHealthy};
 ghost use Rattle.dist_future.specs.Space.{IsSpace, SpaceView};
 ghost use Rattle.dist_future.specs.SpaceClauses.{AreSpaceClauses};
 ghost use Rattle.dist_future.specs.SpaceLaws.{StandsForFuture};
@@ -22,10 +22,11 @@ pub fn healthy_are_models()
         → IsHealthyIn s values ↔ IsModel (value_of values) clauses }
 {}
 
-/// A healthy assignment stands for a future and a healthy installation in it: what its true meanings say, with examples of the
-/// classes.
-pub fn healthy_stands_for_future()
-    ensures { (s : SpaceView) (values : List Bool) → IsSpace s → IsHealthyIn s values → StandsForFuture s values }
+/// An assignment is healthy exactly where it stands for a future and the installation that it stands for is a healthy one of
+/// that: what its true meanings say, with examples of the classes.
+pub fn healthy_stand_for_futures()
+    ensures future { (s : SpaceView) (values : List Bool) → IsSpace s → IsHealthyIn s values → StandsForFuture s values }
+    ensures exactly { (s : SpaceView) (values : List Bool) → IsSpace s → IsHealthyIn s values ↔ StandsForHealthy s values }
 {
     versions_are_in_one_class();
     new_versions_match_alike();

@@ -24,7 +24,7 @@ pub use clause_laws::{one_limit_is_passed, space_clauses_are_one, space_clauses_
 pub use errors::SpaceError;
 pub use health::health_in;
 pub use health_kind::FutureHealth;
-pub use health_laws::{healthy_are_models, healthy_stands_for_future, one_future_health};
+pub use health_laws::{healthy_are_models, healthy_stand_for_futures, one_future_health};
 pub use laws::{each_model_is_a_future, models_stand_for_futures};
 pub use meaning::Meaning;
 pub use space::{Space, space_of};
