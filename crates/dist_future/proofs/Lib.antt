@@ -36,3 +36,4 @@ pub mod MissingLemmas
 pub mod MatchDecided
 pub mod HealthLemmas
 pub mod HealthMeaning
+pub mod OneSpace

@@ -19,6 +19,7 @@ mod no_future;
 mod numbering;
 mod place;
 mod space;
+mod space_laws;
 
 pub use clause_laws::{one_limit_is_passed, space_clauses_are_one, space_clauses_go_on};
 pub use errors::SpaceError;
@@ -28,6 +29,7 @@ pub use health_laws::{healthy_are_models, healthy_stand_for_futures, one_future_
 pub use laws::{each_model_is_a_future, models_stand_for_futures};
 pub use meaning::Meaning;
 pub use space::{Space, space_of};
+pub use space_laws::spaces_are_one;
 
 #[cfg(test)]
 mod tests;

@@ -1,16 +1,17 @@
 //! The space of the futures of a repository.
-ghost use Rattle.std.specs.Prelude.{◌≡◌, ◌≤◌, ◌<◌, ◌-◌, ◌^◌, IfErr, IfOk, Some, length, slice_get};
+ghost use Rattle.std.specs.Prelude.{◌≡◌, ◌≤◌, ◌<◌, ◌-◌, ◌^◌, IfOk, Some, length, slice_get};
 ghost use Rattle.dist_base.specs.declared.TheConstants.{MAX_VARIABLES};
 ghost use Rattle.dist_repo.specs.Order.{IsFlat};
 ghost use Rattle.dist_repo.specs.Size.{IsWithinSize};
 ghost use Rattle.dist_future.specs.Gathering.{IsMeaningOf};
 ghost use Rattle.dist_future.specs.Space.{IsMeaning, IsSpace, cluster_classes, example_at, fresh_classes, variable_of};
-ghost use Rattle.dist_future.specs.SpaceOf.{IsSpaceOf, IsTooLarge};
+ghost use Rattle.dist_future.specs.SpaceOf.{HasMoreVariables, IsExactly, IsSpaceOf};
 
 use crate::errors::SpaceError;
 use crate::frame::Frame;
 use crate::meaning::Meaning;
 use crate::numbering::number_meanings;
+use crate::space_laws::spaces_are_one;
 use dist_classes::{Classes, Names};
 use dist_cluster::Clusters;
 use dist_repo::{Package, Repository};
@@ -68,8 +69,10 @@ pub fn space_of(
     requires variables { variables ≤ MAX_VARIABLES }
     ensures ok { IfOk result (λ space. IsSpaceOf repo essential space) }
     ensures within { IfOk result (λ space. length space.meanings ≤ variables) }
-    ensures err { IfErr result (IsTooLarge repo essential variables) }
+    ensures too_many { IsExactly result SpaceError.TooManyVariables (HasMoreVariables repo essential variables) }
 {
+    // What this call tells is that no other space has another number of variables.
+    spaces_are_one();
     let frame = Frame::new(alloc, repo, essential)?;
     let meanings = number_meanings(alloc, &frame, variables)?;
     Ok(Space { frame, meanings })
