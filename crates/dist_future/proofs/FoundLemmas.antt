@@ -319,9 +319,9 @@ module _ (s : SpaceView) (values : List Bool) (atom : Atom) where
   present-before but (New q k) n space is_m is_n of later = absurd of
   present-before but (Kept q k j) n space is_m is_n of later = absurd of
   present-before but (Fresh x k) n space is_m is_n of later = absurd of
-  present-before but (Present q) Now space is_m is_n of later = elim later [ | inl h ↦ absurd h | inr h ↦ absurd h ]
-  present-before but (Present q) (Present r) space is_m is_n of later = elim later [ | inl h ↦ absurd h | inr h ↦ absurd h ]
-  present-before but (Present q) (At c l) space is_m is_n of later = elim later [ | inl h ↦ absurd h | inr h ↦ absurd h ]
+  present-before but (Present q) Now space is_m is_n of later = elim later [ inl h ↦ absurd h | inr h ↦ absurd h ]
+  present-before but (Present q) (Present r) space is_m is_n of later = elim later [ inl h ↦ absurd h | inr h ↦ absurd h ]
+  present-before but (Present q) (At c l) space is_m is_n of later = elim later [ inl h ↦ absurd h | inr h ↦ absurd h ]
   present-before but (Present q) (New r l) space is_m is_n of later = key-less s (Present q) (New r l) space is_m is_n (inl (omega arith))
   present-before but (Present q) (Kept r l j) space is_m is_n of later = key-less s (Present q) (Kept r l j) space is_m is_n (inl (omega arith))
   present-before but (Present q) (Fresh x l) space is_m is_n of later = key-less s (Present q) (Fresh x l) space is_m is_n (inl (omega arith))

@@ -86,9 +86,15 @@ fn version_found(
 {
     let mut least = None;
     for place in 0..space.package(member).provides.len() {
-        least = lesser(least, entry_found(space, members, atom, member, class, place as u32));
+        least = lesser(
+            least,
+            entry_found(space, members, atom, member, class, place as u32),
+        );
     }
-    lesser(candidate(space, members, atom, Meaning::New(member, class)), least)
+    lesser(
+        candidate(space, members, atom, Meaning::New(member, class)),
+        least,
+    )
 }
 
 /// The least variable of the new versions of a member.
@@ -119,7 +125,10 @@ fn present_found(
     let mut least = None;
     for number in providers {
         if !is_left_out(but, *number) {
-            least = lesser(least, candidate(space, members, atom, Meaning::Present(*number)));
+            least = lesser(
+                least,
+                candidate(space, members, atom, Meaning::Present(*number)),
+            );
         }
     }
     least
@@ -154,7 +163,10 @@ fn fresh_found(space: &Space, members: &Assignment, atom: &Atom) -> Option<u32>
     let name = space.find_name(&atom.name)?;
     let mut least = None;
     for class in 0..space.name_class_count(name) {
-        least = lesser(least, candidate(space, members, atom, Meaning::Fresh(name, class)));
+        least = lesser(
+            least,
+            candidate(space, members, atom, Meaning::Fresh(name, class)),
+        );
     }
     least
 }

@@ -50,12 +50,7 @@ fn is_met(
 }
 
 /// The least place of an item of a package that nothing meets.
-fn unmet_item(
-    space: &Space,
-    members: &Assignment,
-    number: u32,
-    package: &Package,
-) -> Option<u32>
+fn unmet_item(space: &Space, members: &Assignment, number: u32, package: &Package) -> Option<u32>
     requires one_each { IsOneEach space.now members.now }
     requires within_size { IsWithinSize space.now.repository }
     requires number { slice_get space.now.repository.packages number ≡ Some «package».now }

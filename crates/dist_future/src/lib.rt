@@ -32,4 +32,6 @@ pub use space::{Space, space_of};
 pub use space_laws::spaces_are_one;
 
 #[cfg(test)]
+mod health_tests;
+#[cfg(test)]
 mod tests;

@@ -54,13 +54,7 @@ fn class_held(
 }
 
 /// The least class of a new name, from a number on, that holds. `end` is how many classes there are.
-fn fresh_held(
-    space: &Space,
-    members: &Assignment,
-    name: u32,
-    start: u32,
-    end: u32,
-) -> Option<u32>
+fn fresh_held(space: &Space, members: &Assignment, name: u32, start: u32, end: u32) -> Option<u32>
     requires one_each { IsOneEach space.now members.now }
     requires end { end ≡ length (fresh_classes space.now name) }
     ensures { IsLeastIfAny (IsHeldFrom space.now members.now (meaning.Fresh name) start) result }

@@ -114,11 +114,7 @@ fn name_stands_before(names: &Names, place: u32, name: &Name) -> bool
     requires { place < length names.now }
     ensures { IsTrue result ↔ (slice_cmp nat_cmp (slice_index_or names.now place []) name.now ≡ Less) }
 {
-    names
-        .get(place as usize)
-        .bytes()
-        .cmp(name.bytes())
-        .is_lt()
+    names.get(place as usize).bytes().cmp(name.bytes()).is_lt()
 }
 
 /// The place of a name among names in order, found by halving.

@@ -9,7 +9,7 @@ loop-class-preserved c =
     least-more (VersionFound c.args.space.now c.args.members.now c.args.atom.now c.args.member) c.loop-class.class c.loop-class.least c.version_found.result c.lesser-least.result c.lesser-least.ensures c.loop-class.invariant c.version_found.ensures
 
 pub returns : goal.returns
-returns c = member-all c.args.space.now c.args.members.now c.args.atom.now c.args.member c.loop-class.class c.loop-class.least 
+returns c = member-all c.args.space.now c.args.members.now c.args.atom.now c.args.member c.loop-class.class c.loop-class.least
     (let count : c.class_count-class-end.result ≡ length (member_classes c.args.space.now c.args.member) = c.class_count-class-end.ensures ∙ ap (λ (k : ℕ). length (cluster_classes c.args.space.now k)) c.cluster_of.ensures in
     omega (arith, count, c.loop-class-test.false))
     c.loop-class.invariant
