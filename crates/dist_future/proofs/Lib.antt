@@ -22,5 +22,16 @@ pub mod DemandLists
 pub mod Fronts
 pub mod PairClauses
 pub mod LedFronts
+pub mod Gathered
+pub mod MatchLemmas
+pub mod RejectingLemmas
+pub mod NewNames
+pub mod GroupFronts
+pub mod ConflictLemmas
+pub mod VariableLists
+pub mod NameFronts
+pub mod FoundIn
+pub mod Bearers
+pub mod SomeSpaceClauses
 pub mod RisingRows
 pub mod ExactLemmas

@@ -10,4 +10,6 @@ pub mod SpaceOf
 pub mod Numbering
 pub mod Kept
 pub mod Gathering
+pub mod Groups
+pub mod Rejecting
 pub mod FutureExamples
