@@ -1,5 +1,5 @@
 -- The least two variables in conflict, by what each package rejects.
-use Rattle.std.proofs.Common.{◌≡◌, ◌≢◌, ◌⊎◌, ℕ, ◌+◌, ◌<◌, ◌≤◌, Bool, true, List, Option, None, Some, length, refl, sym, ap, subst, ◌∙◌, inl, inr, arith, slice_get}
+use Rattle.std.proofs.Common.{◌≡◌, ◌≢◌, ◌⊎◌, ℕ, ◌+◌, ◌<◌, ◌≤◌, Bool, List, Option, None, Some, length, refl, sym, ap, subst, ◌∙◌, inl, inr, arith, slice_get}
 use Rattle.std.specs.Prelude.{Any, IsSomeAnd, MatchOption}
 use Rattle.std.specs.Option.{option_map}
 use Rattle.std.proofs.lemmas.Bool.{cases_lt}
@@ -11,7 +11,7 @@ use Rattle.dist_repo.specs.PackageList.{IsPackageAnd}
 use Rattle.dist_repo.specs.declared.package.Package.{Package}
 use Rattle.dist_future.specs.FutureHealth.{AreConflicting, Holds}
 use Rattle.dist_future.specs.Least.{IsAtMost, IsLeast, IsLeastPairIfAny}
-use Rattle.dist_future.specs.Matching.{IsLesserPair, IsOther, IsRejectedBy, IsRejectedFrom}
+use Rattle.dist_future.specs.Matching.{IsLesserPair, IsOther, IsRejectedFrom}
 use Rattle.dist_future.specs.Space.{IsMatched, IsMeaning, IsMetBy, IsSpace, SpaceView, variable_of}
 use Rattle.dist_future.specs.SpaceClauses.{Excludes}
 use Rattle.dist_future.specs.declared.meaning.Meaning.{Meaning}

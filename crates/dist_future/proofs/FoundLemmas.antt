@@ -1,9 +1,8 @@
 -- The variables that hold and that an atom matches: by meanings, by members and their classes, and by the providers of a name.
-use Rattle.std.proofs.Common.{◌≡◌, ◌≢◌, ◌⊎◌, ℕ, ◌+◌, ◌<◌, ◌≤◌, Bool, true, false, List, [], ◌∷◌, Option, None, Some, length, get_or, refl, sym, ap, subst, ◌∙◌, inl, inr, arith, slice_get}
-use Rattle.std.specs.Prelude.{Any, Contains, IsSomeAnd, slice_index}
+use Rattle.std.proofs.Common.{◌≡◌, ◌≢◌, ◌⊎◌, ℕ, ◌<◌, ◌≤◌, Bool, true, false, List, Option, Some, length, get_or, refl, sym, ap, subst, ◌∙◌, inl, inr, arith, slice_get}
+use Rattle.std.specs.Prelude.{Contains, IsSomeAnd}
 use Rattle.std.proofs.lemmas.Bool.{false≢true}
 use Rattle.std.proofs.lemmas.List.{get_or_default}
-use Rattle.std.proofs.lemmas.Option.{slice_get_within}
 use Rattle.dist_clause.specs.Formula.{value_of}
 use Rattle.dist_relation.specs.declared.atom.Atom.{Atom}
 use Rattle.dist_relation.specs.declared.atom.Provide.{Provide}
@@ -12,8 +11,9 @@ use Rattle.dist_repo.specs.PackageList.{IsPackageAnd}
 use Rattle.dist_repo.specs.Providers.{AreProviders, IsProvider}
 use Rattle.dist_repo.specs.declared.package.Package.{Package}
 use Rattle.dist_future.specs.FutureHealth.{Holds}
+use Rattle.dist_future.specs.Gathering.{IsFresh, IsLaterOf, IsOfVersion}
 use Rattle.dist_future.specs.Least.{IsLeast, IsLeastIfAny}
-use Rattle.dist_future.specs.Matching.{IsFound, IsFreshOne, IsLesserOf, IsMovedBut, IsOfMember, IsOfVersion, IsOther, IsPresentBut}
+use Rattle.dist_future.specs.Matching.{IsFound, IsLesserOf, IsMovedBut, IsOther, IsPresentBut}
 use Rattle.dist_future.specs.Space.{IsMatchedBy, IsMeaning, IsSpace, MeetsBound, SpaceView, example_at, fresh_classes, member_classes, moved_entry, variable_of}
 use Rattle.dist_future.specs.SpaceLaws.{holds_under}
 use Rattle.dist_future.specs.declared.meaning.Meaning.{Meaning}
@@ -110,7 +110,7 @@ module _ (s : SpaceView) (values : List Bool) (atom : Atom) where
   abbrev pub VersionFound : (r k v : ℕ) → Type 0
   VersionFound r k v = Found (IsOfVersion r k) v
 
-  member-split : (r count v : ℕ) → length (member_classes s r) ≤ count → (m : Meaning) → variable_of s m ≡ v → Holds s values m → IsMatchedBy s atom m → IsOfMember r m → Before (VersionFound r) count v
+  member-split : (r count v : ℕ) → length (member_classes s r) ≤ count → (m : Meaning) → variable_of s m ≡ v → Holds s values m → IsMatchedBy s atom m → IsLaterOf r m → Before (VersionFound r) count v
   member-split r count v past Now var holds matched of = absurd of
   member-split r count v past (Present q) var holds matched of = absurd of
   member-split r count v past (At c l) var holds matched of = absurd of
@@ -122,7 +122,7 @@ module _ (s : SpaceView) (values : List Bool) (atom : Atom) where
       let short : l < length (member_classes s r) = subst (λ (x : ℕ). l < length (member_classes s x)) of holds.is_meaning.1 in
       (l, omega (arith, past, short), record { meaning = Kept q l j; variable_is = var; holds = holds; matched = matched; kind = (of, refl) })
 
-  version-of : (r k : ℕ) (m : Meaning) → IsOfVersion r k m → IsOfMember r m
+  version-of : (r k : ℕ) (m : Meaning) → IsOfVersion r k m → IsLaterOf r m
   version-of r k Now of = of
   version-of r k (Present q) of = of
   version-of r k (At c l) of = of
@@ -130,9 +130,9 @@ module _ (s : SpaceView) (values : List Bool) (atom : Atom) where
   version-of r k (New q l) of = of.0
   version-of r k (Kept q l j) of = of.0
 
-  pub member-all : (r count : ℕ) (o : Option ℕ) → length (member_classes s r) ≤ count → IsLeastIfAny (Before (VersionFound r) count) o → IsLeastIfAny (Found (IsOfMember r)) o
+  pub member-all : (r count : ℕ) (o : Option ℕ) → length (member_classes s r) ≤ count → IsLeastIfAny (Before (VersionFound r) count) o → IsLeastIfAny (Found (IsLaterOf r)) o
   member-all r count o past least =
-      least-shift (Before (VersionFound r) count) (Found (IsOfMember r)) o (λ v f. found-more (IsOfVersion r f.0) (IsOfMember r) v (λ m holds matched of. version-of r f.0 m of) f.2)
+      least-shift (Before (VersionFound r) count) (Found (IsLaterOf r)) o (λ v f. found-more (IsOfVersion r f.0) (IsLaterOf r) v (λ m holds matched of. version-of r f.0 m of) f.2)
       (λ v f. member-split r count v past f.meaning f.variable_is f.holds f.matched f.kind) least
 
   -- ---- packages of a new name
@@ -141,7 +141,7 @@ module _ (s : SpaceView) (values : List Bool) (atom : Atom) where
   FreshFound x k v = Found (λ m. m ≡ Fresh x k) v
 
   fresh-split : (x count v : ℕ) → slice_get s.names x ≡ Some atom.name → ((y : ℕ) → slice_get s.names y ≡ Some atom.name → y ≡ x) → length (fresh_classes s x) ≤ count → (m : Meaning) → variable_of s m ≡ v → Holds s values m
-      → IsMatchedBy s atom m → IsFreshOne m → Before (FreshFound x) count v
+      → IsMatchedBy s atom m → IsFresh m → Before (FreshFound x) count v
   fresh-split x count v is one past Now var holds matched of = absurd of
   fresh-split x count v is one past (Present q) var holds matched of = absurd of
   fresh-split x count v is one past (At c l) var holds matched of = absurd of
@@ -154,15 +154,15 @@ module _ (s : SpaceView) (values : List Bool) (atom : Atom) where
       (l, omega (arith, past, short), record { meaning = Fresh y l; variable_is = var; holds = holds; matched = matched; kind = ap (λ (z : ℕ). Fresh z l) same })
 
   pub fresh-all : (x count : ℕ) (o : Option ℕ) → slice_get s.names x ≡ Some atom.name → ((y : ℕ) → slice_get s.names y ≡ Some atom.name → y ≡ x) → length (fresh_classes s x) ≤ count → IsLeastIfAny (Before (FreshFound x) count) o
-      → IsLeastIfAny (Found IsFreshOne) o
+      → IsLeastIfAny (Found IsFresh) o
   fresh-all x count o is one past least =
-      least-shift (Before (FreshFound x) count) (Found IsFreshOne) o (λ v f. found-more (λ m. m ≡ Fresh x f.0) IsFreshOne v (λ m holds matched same. subst IsFreshOne (sym same) tt) f.2)
+      least-shift (Before (FreshFound x) count) (Found IsFresh) o (λ v f. found-more (λ m. m ≡ Fresh x f.0) IsFresh v (λ m holds matched same. subst IsFresh (sym same) tt) f.2)
       (λ v f. fresh-split x count v is one past f.meaning f.variable_is f.holds f.matched f.kind) least
 
-  pub fresh-none : ¬ Contains s.names atom.name → (v : ℕ) → ¬ Found IsFreshOne v
+  pub fresh-none : ¬ Contains s.names atom.name → (v : ℕ) → ¬ Found IsFresh v
   fresh-none none v f = by f.meaning f.matched f.kind
     where
-      by : (m : Meaning) → IsMatchedBy s atom m → IsFreshOne m → ⊥
+      by : (m : Meaning) → IsMatchedBy s atom m → IsFresh m → ⊥
       by Now matched of = of
       by (Present q) matched of = of
       by (At c l) matched of = of
@@ -229,7 +229,7 @@ module _ (s : SpaceView) (values : List Bool) (atom : Atom) where
   present-provided but (Kept q l j) matched of = absurd of
   present-provided but (Fresh x l) matched of = absurd of
 
-  pub moved-provided : (but : Option ℕ) (m : Meaning) → IsMatchedBy s atom m → IsMovedBut but m → (n : ℕ) × IsPackageAnd s.repository.packages n (IsProvider s.repository.architecture atom.name) × IsOfMember n m
+  pub moved-provided : (but : Option ℕ) (m : Meaning) → IsMatchedBy s atom m → IsMovedBut but m → (n : ℕ) × IsPackageAnd s.repository.packages n (IsProvider s.repository.architecture atom.name) × IsLaterOf n m
   moved-provided but Now matched of = absurd of
   moved-provided but (Present q) matched of = absurd of
   moved-provided but (At c l) matched of = absurd of
@@ -252,7 +252,7 @@ module _ (s : SpaceView) (values : List Bool) (atom : Atom) where
       (λ v f. found-more (λ m. m ≡ Present n) (λ m. IsPresentOf n m × IsPresentBut but m) v (λ m holds matched is. (is, subst (IsPresentBut but) (sym is) other)) f)
       (λ v f. found-more (λ m. IsPresentOf n m × IsPresentBut but m) (λ m. m ≡ Present n) v (λ m holds matched both. both.0) f) least
 
-  moved-other : (but : Option ℕ) (n : ℕ) (m : Meaning) → IsOfMember n m → IsMovedBut but m → but ≢ Some n
+  moved-other : (but : Option ℕ) (n : ℕ) (m : Meaning) → IsLaterOf n m → IsMovedBut but m → but ≢ Some n
   moved-other but n Now of kind is = of
   moved-other but n (Present q) of kind is = of
   moved-other but n (At c l) of kind is = of
@@ -260,7 +260,7 @@ module _ (s : SpaceView) (values : List Bool) (atom : Atom) where
   moved-other but n (New q l) of kind is = kind (is ∙ ap (λ (k : ℕ). Some k) (sym of))
   moved-other but n (Kept q l j) of kind is = kind (is ∙ ap (λ (k : ℕ). Some k) (sym of))
 
-  moved-but : (but : Option ℕ) (n : ℕ) (m : Meaning) → but ≢ Some n → IsOfMember n m → IsMovedBut but m
+  moved-but : (but : Option ℕ) (n : ℕ) (m : Meaning) → but ≢ Some n → IsLaterOf n m → IsMovedBut but m
   moved-but but n Now other of = of
   moved-but but n (Present q) other of = of
   moved-but but n (At c l) other of = of
@@ -268,20 +268,20 @@ module _ (s : SpaceView) (values : List Bool) (atom : Atom) where
   moved-but but n (New q l) other of = λ is. other (is ∙ ap (λ (k : ℕ). Some k) of)
   moved-but but n (Kept q l j) other of = λ is. other (is ∙ ap (λ (k : ℕ). Some k) of)
 
-  pub none-moved : (but : Option ℕ) (providers : List ℕ) (i v : ℕ) → but ≡ Some (get_or providers i 0) → ¬ OneOf IsOfMember (IsMovedBut but) providers i v
+  pub none-moved : (but : Option ℕ) (providers : List ℕ) (i v : ℕ) → but ≡ Some (get_or providers i 0) → ¬ OneOf IsLaterOf (IsMovedBut but) providers i v
   none-moved but providers i v is f = moved-other but (get_or providers i 0) f.meaning f.kind.0 f.kind.1 is
 
-  pub moved-one : (but : Option ℕ) (providers : List ℕ) (i : ℕ) (o : Option ℕ) → but ≢ Some (get_or providers i 0) → IsLeastIfAny (Found (IsOfMember (get_or providers i 0))) o
-      → IsLeastIfAny (OneOf IsOfMember (IsMovedBut but) providers i) o
+  pub moved-one : (but : Option ℕ) (providers : List ℕ) (i : ℕ) (o : Option ℕ) → but ≢ Some (get_or providers i 0) → IsLeastIfAny (Found (IsLaterOf (get_or providers i 0))) o
+      → IsLeastIfAny (OneOf IsLaterOf (IsMovedBut but) providers i) o
   moved-one but providers i o other least =
       let n = get_or providers i 0 in
-      least-shift (Found (IsOfMember n)) (OneOf IsOfMember (IsMovedBut but) providers i) o
-      (λ v f. found-more (IsOfMember n) (λ m. IsOfMember n m × IsMovedBut but m) v (λ m holds matched of. (of, moved-but but n m other of)) f)
-      (λ v f. found-more (λ m. IsOfMember n m × IsMovedBut but m) (IsOfMember n) v (λ m holds matched both. both.0) f) least
+      least-shift (Found (IsLaterOf n)) (OneOf IsLaterOf (IsMovedBut but) providers i) o
+      (λ v f. found-more (IsLaterOf n) (λ m. IsLaterOf n m × IsMovedBut but m) v (λ m holds matched of. (of, moved-but but n m other of)) f)
+      (λ v f. found-more (λ m. IsLaterOf n m × IsMovedBut but m) (IsLaterOf n) v (λ m holds matched both. both.0) f) least
 
   -- ---- all together
 
-  other-split : (but : Option ℕ) (m : Meaning) → IsMatchedBy s atom m → IsOther but m → IsPresentBut but m ⊎ (IsMovedBut but m ⊎ IsFreshOne m)
+  other-split : (but : Option ℕ) (m : Meaning) → IsMatchedBy s atom m → IsOther but m → IsPresentBut but m ⊎ (IsMovedBut but m ⊎ IsFresh m)
   other-split but Now matched other = absurd matched
   other-split but (Present q) matched other = inl other
   other-split but (At c l) matched other = absurd matched
@@ -305,7 +305,7 @@ module _ (s : SpaceView) (values : List Bool) (atom : Atom) where
   moved-is-other but (Kept q l j) of = of
   moved-is-other but (Fresh x l) of = tt
 
-  fresh-other : (but : Option ℕ) (m : Meaning) → IsFreshOne m → IsOther but m
+  fresh-other : (but : Option ℕ) (m : Meaning) → IsFresh m → IsOther but m
   fresh-other but Now of = tt
   fresh-other but (Present q) of = absurd of
   fresh-other but (At c l) of = tt
@@ -313,7 +313,7 @@ module _ (s : SpaceView) (values : List Bool) (atom : Atom) where
   fresh-other but (Kept q l j) of = absurd of
   fresh-other but (Fresh x l) of = tt
 
-  present-before : (but : Option ℕ) (m n : Meaning) → IsSpace s → IsMeaning s m → IsMeaning s n → IsPresentBut but m → IsMovedBut but n ⊎ IsFreshOne n → variable_of s m < variable_of s n
+  present-before : (but : Option ℕ) (m n : Meaning) → IsSpace s → IsMeaning s m → IsMeaning s n → IsPresentBut but m → IsMovedBut but n ⊎ IsFresh n → variable_of s m < variable_of s n
   present-before but Now n space is_m is_n of later = absurd of
   present-before but (At c k) n space is_m is_n of later = absurd of
   present-before but (New q k) n space is_m is_n of later = absurd of
@@ -344,12 +344,12 @@ module _ (s : SpaceView) (values : List Bool) (atom : Atom) where
   }
 
   pub any-later : (but : Option ℕ) (a b o : Option ℕ) → IsUsable s.repository.architecture atom.qualifier → ((v : ℕ) → ¬ Found (IsPresentBut but) v) → IsLesserOf a b o → IsLeastIfAny (Found (IsMovedBut but)) a
-      → IsLeastIfAny (Found IsFreshOne) b → IsLeastIfAny (IsAny but) o
+      → IsLeastIfAny (Found IsFresh) b → IsLeastIfAny (IsAny but) o
   any-later but a b o usable none lesser moved fresh =
-      least-shift (λ v. Found (IsMovedBut but) v ⊎ Found IsFreshOne v) (IsAny but) o
+      least-shift (λ v. Found (IsMovedBut but) v ⊎ Found IsFresh v) (IsAny but) o
       (λ v h. elim h [
         | inl f ↦ (usable, found-more (IsMovedBut but) (IsOther but) v (λ m holds matched of. moved-is-other but m of) f)
-        | inr f ↦ (usable, found-more IsFreshOne (IsOther but) v (λ m holds matched of. fresh-other but m of) f)
+        | inr f ↦ (usable, found-more IsFresh (IsOther but) v (λ m holds matched of. fresh-other but m of) f)
       ])
       (λ v any.
       let f = any.1 in
@@ -360,4 +360,4 @@ module _ (s : SpaceView) (values : List Bool) (atom : Atom) where
           | inr of ↦ inr (record { meaning = f.meaning; variable_is = f.variable_is; holds = f.holds; matched = f.matched; kind = of })
         ]
       ])
-      (least-two (Found (IsMovedBut but)) (Found IsFreshOne) a b o lesser moved fresh)
+      (least-two (Found (IsMovedBut but)) (Found IsFresh) a b o lesser moved fresh)

@@ -1,28 +1,26 @@
 -- The healthy assignments are those that meet the demands of the space, and an assignment has one health.
-use Rattle.std.proofs.Common.{◌≡◌, ◌⊎◌, ℕ, suc, ◌<◌, Bool, true, false, cond, List, [], ◌∷◌, Some, length, refl, sym, ap, subst, ◌∙◌, inl, inr, arith, slice_get}
-use Rattle.std.specs.Prelude.{Any, Contains, IsSomeAnd, filter, map, slice_index}
+use Rattle.std.proofs.Common.{◌≡◌, ℕ, ◌<◌, Bool, true, false, cond, List, [], ◌∷◌, Some, length, refl, sym, ap, subst, ◌∙◌, inl, inr, arith, slice_get}
+use Rattle.std.specs.Prelude.{Contains, IsSomeAnd, filter, slice_index}
 use Rattle.std.proofs.lemmas.Bool.{false≢true}
 use Rattle.std.proofs.lemmas.Option.{slice_get_within}
-use Rattle.dist_clause.specs.Formula.{value_of}
 use Rattle.dist_relation.specs.declared.atom.Atom.{Atom}
 use Rattle.dist_repo.specs.Healthy.{required_names}
 use Rattle.dist_repo.specs.declared.package.Package.{Package}
 use Rattle.dist_future.specs.FutureHealth.{AreApart, AreConflicting, AreNoFuture, Holds, IsFutureHealth, IsMissing, IsUnmetAt, Needs, SomeHolds}
-use Rattle.dist_future.specs.HealthLaws.{IsHealthyIn}
 use Rattle.dist_future.specs.Least.{IsAtMost, IsLeast, IsLeastPair, IsNoPair}
 use Rattle.dist_future.specs.Space.{IsMeaning, IsMetBy, IsSpace, SpaceView, cluster_classes, fresh_classes, variable_of}
-use Rattle.dist_future.specs.SpaceClauses.{Excludes, IsBearer, IsItemAnd}
+use Rattle.dist_future.specs.SpaceClauses.{Excludes, IsBearer}
 use Rattle.dist_future.specs.SpaceLaws.{holds_under}
 use Rattle.dist_future.specs.declared.health_kind.FutureHealth.{FutureHealth}
 use Rattle.dist_future.specs.declared.health_kind.FutureHealth.TheVariants.{Healthy, NotAFuture, Unmet, Conflict, EssentialMissing}
 use Rattle.dist_future.specs.declared.meaning.Meaning.{Meaning}
 use Rattle.dist_future.specs.declared.meaning.Meaning.TheVariants.{Now, Present, At, New, Kept, Fresh}
-use Rattle.dist_future.proofs.Decided.{IsDecided, any-decided, both}
+use Rattle.dist_future.proofs.Decided.{IsDecided, any-decided, both-decided}
 use Rattle.dist_future.proofs.DemandLemmas.{AreMet, IsMetIn, IsTrueMeaning, item-at}
-use Rattle.dist_future.proofs.Lists.{any-contained, at-has, contains-at, has-at, here-at, place-of, within-from}
-use Rattle.dist_future.proofs.MatchDecided.{bearer-decided, met_by-decided}
+use Rattle.dist_future.proofs.Lists.{any-contained, at-has, contains-at, here-at, place-of}
 use Rattle.dist_future.proofs.NoFutureLemmas.{new-of}
 use Rattle.dist_future.proofs.RisingParts.{contains-cons, contains-first, contains-later, in-map, map-in}
+use Rattle.dist_future.proofs.SomeSpaceClauses.{bearer-decided, met-decided}
 
 -- ---- essential packages
 
@@ -91,7 +89,7 @@ module _ (s : SpaceView) (values : List Bool) where
 
   -- some meaning with a property holds, or none does
   some-decided : IsSpace s → (P : Meaning → Type 0) → ((m : Meaning) → IsDecided (P m)) → IsDecided (SomeHolds s values P)
-  some-decided space P each = elim (any-decided (λ m. (holds_under s values m ≡ true) × P m) (λ m. both (bool-decided (holds_under s values m)) (each m)) s.meanings) [
+  some-decided space P each = elim (any-decided (λ m. (holds_under s values m ≡ true) × P m) (λ m. both-decided (bool-decided (holds_under s values m)) (each m)) s.meanings) [
     | inl any ↦ inl (record { meaning = any.1; holds = record { is_meaning = ((space.meanings.exact any.1).0 (any.0, any.2, any.3)).0; is_true = any.4.0 }; has = any.4.1 })
     | inr none ↦ inr (λ some. none (any-contained (λ m. (holds_under s values m ≡ true) × P m) s.meanings some.meaning ((space.meanings.exact some.meaning).1 (some.holds.is_meaning, tt)) (some.holds.is_true, some.has)))
   ]
@@ -143,7 +141,7 @@ module _ (s : SpaceView) (values : List Bool) where
   pub met-from-health : IsSpace s → IsFutureHealth s values Healthy → AreMet s (IsTrueMeaning s values)
   met-from-health space healthy =
       met-with healthy.0
-      (λ r place p item is is_item holds. elim (some-decided space (IsMetBy s item) (met_by-decided s item)) [
+      (λ r place p item is is_item holds. elim (some-decided space (IsMetBy s item) (met-decided s item)) [
         | inl some ↦ met-of (IsMetBy s item) some
         | inr none ↦ absurd (healthy.1 (variable_of s (Present r)) place (record {
           number = r;

@@ -1,8 +1,7 @@
 -- The healthy assignments are those that stand for a future and a healthy installation in it.
-use Rattle.std.proofs.Common.{◌≡◌, ◌≢◌, ◌⊎◌, ℕ, ◌<◌, Bool, true, false, List, [], Option, Some, None, length, refl, sym, ap, subst, ◌∙◌, inl, inr, arith, slice_get}
-use Rattle.std.specs.Prelude.{All, Any, Contains, IsSomeAnd, slice_index, if◌then◌else◌}
+use Rattle.std.proofs.Common.{◌≡◌, ◌≢◌, ℕ, ◌<◌, Bool, List, Option, Some, None, length, refl, sym, ap, subst, ◌∙◌, inl, inr, arith, slice_get}
+use Rattle.std.specs.Prelude.{All, Any, Contains, IsSomeAnd, slice_index}
 use Rattle.std.specs.Option.{option_map}
-use Rattle.std.proofs.lemmas.Bool.{false≢true}
 use Rattle.std.proofs.lemmas.List.Elements.{All-contains}
 use Rattle.std.proofs.lemmas.Option.{slice_get_within}
 use Rattle.dist_relation.specs.declared.atom.Atom.{Atom}
@@ -15,22 +14,21 @@ use Rattle.dist_repo.specs.declared.package.Package.{Package}
 use Rattle.dist_classes.specs.Atoms.{IsAtomOf, IsDependencyAtom}
 use Rattle.dist_classes.specs.ClassList.{IsOfClassAt}
 use Rattle.dist_classes.specs.NewVersion.{IsNewVersionOf}
-use Rattle.dist_future.specs.FutureHealth.{AreNoFuture, Holds, IsFutureHealth}
+use Rattle.dist_future.specs.FutureHealth.{AreNoFuture}
 use Rattle.dist_future.specs.HealthLaws.{IsHealthyIn, StandsForHealthy}
 use Rattle.dist_future.specs.Least.{IsNoPair}
 use Rattle.dist_future.specs.Outdated.{IsInstallationOf}
-use Rattle.dist_future.specs.Space.{IsMatched, IsMeaning, IsMetBy, IsSpace, MeetsBound, SpaceView, cluster_classes, example_at, fresh_classes, member_classes}
+use Rattle.dist_future.specs.Space.{IsMatched, IsMeaning, IsMetBy, IsSpace, MeetsBound, SpaceView, example_at, fresh_classes, member_classes}
 use Rattle.dist_future.specs.SpaceClauses.{Excludes, IsBearer}
 use Rattle.dist_future.specs.SpaceLaws.{StandsForFuture, examples_of, holds_under}
 use Rattle.dist_future.specs.Stands.{flags_from, fresh_package, future_of, installation_of, installed_package, new_version}
-use Rattle.dist_future.specs.declared.health_kind.FutureHealth.TheVariants.{Healthy}
 use Rattle.dist_future.specs.declared.meaning.Meaning.{Meaning}
 use Rattle.dist_future.specs.declared.meaning.Meaning.TheVariants.{Now, Present, At, New, Kept, Fresh}
 use Rattle.dist_future.proofs.ClassMatch.{ClassLaws, IsMemberAt, fresh-at, fresh-new, from-fresh, from-kept, from-new, member-at, to-fresh, to-new}
-use Rattle.dist_future.proofs.DemandLemmas.{AreMet, IsMetIn, IsTrueMeaning}
+use Rattle.dist_future.proofs.DemandLemmas.{IsMetIn, IsTrueMeaning}
 use Rattle.dist_future.proofs.FutureToModel.{never-conflict, required-package}
 use Rattle.dist_future.proofs.HealthLemmas.{health-from-met, met-from-health, met-with, with-it}
-use Rattle.dist_future.proofs.Lists.{any-at, any-contained, at-has, contains-at, element-at, found-at, has-at, here-at, place-of, within-from}
+use Rattle.dist_future.proofs.Lists.{any-at, at-has, contains-at, element-at, found-at, has-at, here-at, place-of}
 use Rattle.dist_future.proofs.ModelToFuture.{future-is, healthy-is}
 use Rattle.dist_future.proofs.NoFutureLemmas.{new-of as kept-new}
 use Rattle.dist_future.proofs.NumberingLemmas.{usable-is}

@@ -7,8 +7,8 @@ use Rattle.dist_repo.specs.PackageList.{IsPackageAnd}
 use Rattle.dist_repo.specs.declared.package.Package.{Package}
 use Rattle.dist_future.specs.FutureHealth.{Holds, IsMissing, SomeHolds}
 use Rattle.dist_future.specs.Least.{IsLeast}
-use Rattle.dist_future.specs.Matching.{IsOf}
-use Rattle.dist_future.specs.Space.{IsMeaning, IsSpace, SpaceView, member_classes}
+use Rattle.dist_future.specs.Matching.{IsInstalled}
+use Rattle.dist_future.specs.Space.{SpaceView, member_classes}
 use Rattle.dist_future.specs.SpaceClauses.{IsBearer}
 use Rattle.dist_future.specs.SpaceLaws.{holds_under}
 use Rattle.dist_future.specs.declared.meaning.Meaning.{Meaning}
@@ -33,7 +33,7 @@ module _ (s : SpaceView) (values : List Bool) where
     ];
   }
 
-  none-of : (number class : ℕ) → length (member_classes s number) ≤ class → IsNoneOf number class → (m : Meaning) → Holds s values m → IsOf number m → ⊥
+  none-of : (number class : ℕ) → length (member_classes s number) ≤ class → IsNoneOf number class → (m : Meaning) → Holds s values m → IsInstalled number m → ⊥
   none-of number class past none Now holds of = of
   none-of number class past none (At c k) holds of = of
   none-of number class past none (Kept q k j) holds of = of
@@ -43,16 +43,16 @@ module _ (s : SpaceView) (values : List Bool) where
       let own : Holds s values (New number k) = let Here : ℕ → Type 0 = λ i. Holds s values (New i k) in subst Here of holds in
       none.new k (let short = own.is_meaning.1 in omega (arith, past, short)) own
 
-  pub none-borne : (number class : ℕ) → length (member_classes s number) ≤ class → IsNoneOf number class → ¬ SomeHolds s values (IsOf number)
+  pub none-borne : (number class : ℕ) → length (member_classes s number) ≤ class → IsNoneOf number class → ¬ SomeHolds s values (IsInstalled number)
   none-borne number class past none some = none-of number class past none some.meaning some.holds some.has
 
   pub not-held : (m : Meaning) → holds_under s values m ≡ false → ¬ Holds s values m
   not-held m fails holds = false≢true (sym fails ∙ holds.is_true)
 
-  pub present-borne : (number : ℕ) → Holds s values (Present number) → SomeHolds s values (IsOf number)
+  pub present-borne : (number : ℕ) → Holds s values (Present number) → SomeHolds s values (IsInstalled number)
   present-borne number holds = record { meaning = Present number; holds = holds; has = refl }
 
-  pub new-borne : (number class : ℕ) → Holds s values (New number class) → SomeHolds s values (IsOf number)
+  pub new-borne : (number class : ℕ) → Holds s values (New number class) → SomeHolds s values (IsInstalled number)
   new-borne number class holds = record { meaning = New number class; holds = holds; has = refl }
 
   -- ---- its name
@@ -63,7 +63,7 @@ module _ (s : SpaceView) (values : List Bool) where
         let o = here-at (λ (x : Package). x.name ≡ p.name) s.repository.packages q here in
         names-apart s.repository.packages q number o.element p flat o.is is o.holds
 
-    bearer-of : (m : Meaning) → IsBearer s p.name m → IsOf number m
+    bearer-of : (m : Meaning) → IsBearer s p.name m → IsInstalled number m
     bearer-of Now bears = bears
     bearer-of (Present q) bears = named-number q bears
     bearer-of (At c k) bears = bears
@@ -74,7 +74,7 @@ module _ (s : SpaceView) (values : List Bool) where
     own-name : (q : ℕ) → q ≡ number → IsPackageAnd s.repository.packages q (λ (x : Package). x.name ≡ p.name)
     own-name q same = at-has (λ (x : Package). x.name ≡ p.name) s.repository.packages q p (ap (slice_get s.repository.packages) same ∙ is) refl
 
-    of-bearer : (m : Meaning) → IsOf number m → IsBearer s p.name m
+    of-bearer : (m : Meaning) → IsInstalled number m → IsBearer s p.name m
     of-bearer Now of = of
     of-bearer (Present q) of = own-name q of
     of-bearer (At c k) of = of
@@ -82,7 +82,7 @@ module _ (s : SpaceView) (values : List Bool) where
     of-bearer (Kept q k j) of = of
     of-bearer (Fresh x k) of = of
 
-    pub missing-from : s.essential ≡ true → p.essential ≡ true → ¬ SomeHolds s values (IsOf number) → IsMissing s values number
+    pub missing-from : s.essential ≡ true → p.essential ≡ true → ¬ SomeHolds s values (IsInstalled number) → IsMissing s values number
     missing-from essential own none = (
       essential,
       at-has (λ (x : Package). (x.essential ≡ true) × (¬ SomeHolds s values (IsBearer s x.name))) s.repository.packages number p is
@@ -93,7 +93,7 @@ module _ (s : SpaceView) (values : List Bool) where
     not-essential not missing =
         false≢true (sym not ∙ (has-at (λ (x : Package). (x.essential ≡ true) × (¬ SomeHolds s values (IsBearer s x.name))) s.repository.packages number p is missing.1).0)
 
-    pub not-missing : SomeHolds s values (IsOf number) → ¬ IsMissing s values number
+    pub not-missing : SomeHolds s values (IsInstalled number) → ¬ IsMissing s values number
     not-missing some missing =
         (has-at (λ (x : Package). (x.essential ≡ true) × (¬ SomeHolds s values (IsBearer s x.name))) s.repository.packages number p is missing.1).1
         (record { meaning = some.meaning; holds = some.holds; has = of-bearer some.meaning some.has })

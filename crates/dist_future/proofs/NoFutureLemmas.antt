@@ -1,5 +1,5 @@
 -- Which variables a meaning that holds excludes, and which it lacks.
-use Rattle.std.proofs.Common.{◌≡◌, ◌⊎◌, ℕ, ◌+◌, ◌<◌, ◌≤◌, Bool, true, false, List, Option, length, refl, sym, ap, subst, ◌∙◌, inl, inr, arith}
+use Rattle.std.proofs.Common.{◌≡◌, ◌⊎◌, ℕ, ◌+◌, ◌<◌, ◌≤◌, Bool, true, false, List, Option, length, sym, ap, subst, ◌∙◌, inl, inr, arith}
 use borrow.Author.Count.{below_more}
 use Rattle.std.specs.Prelude.{IsSomeAnd, slice_get, slice_index}
 use Rattle.std.proofs.lemmas.Bool.{cases_lt, false≢true}
@@ -10,7 +10,7 @@ use Rattle.dist_future.specs.FutureHealth.{AreApart, AreNoFuture, Holds, Needs}
 use Rattle.dist_future.specs.Gathering.{IsMeaningOf}
 use Rattle.dist_future.specs.Least.{IsLeast, IsLeastIfAny}
 use Rattle.dist_future.specs.Matching.{IsChange, IsChangeAt, IsHeldFrom, IsLacking}
-use Rattle.dist_future.specs.Space.{IsMeaning, IsSpace, SpaceView, cluster_classes, fresh_classes, member_classes, variable_of}
+use Rattle.dist_future.specs.Space.{IsMeaning, IsSpace, SpaceView, variable_of}
 use Rattle.dist_future.specs.SpaceLaws.{holds_under}
 use Rattle.dist_future.specs.declared.meaning.Meaning.{Meaning}
 use Rattle.dist_future.specs.declared.meaning.Meaning.TheVariants.{Now, Present, At, New, Kept, Fresh}

@@ -1,8 +1,7 @@
 -- A repository has one space at a mode: one partition into clusters with one top of each, one list of cuts of each, one list of
 -- new names with theirs, and one numbering of the variables.
-use Rattle.std.proofs.Common.{◌≡◌, ◌⊎◌, ℕ, suc, zero, ◌<◌, ◌≤◌, Bool, List, [], ◌∷◌, Option, Some, None, Less, nat_cmp, length, map, map-id, get_or, refl, sym, ap, subst, ◌∙◌, inl, inr, arith, slice_get}
-use Rattle.std.specs.Prelude.{All, AllPairs, Any, Contains}
-use Rattle.std.specs.Cmp.Lexicographic.{slice_cmp}
+use Rattle.std.proofs.Common.{◌≡◌, ℕ, suc, ◌<◌, Bool, List, [], ◌∷◌, Option, Some, None, length, map, map-id, get_or, refl, sym, ap, subst, ◌∙◌, arith, slice_get}
+use Rattle.std.specs.Prelude.{All, Any, Contains}
 use Rattle.std.proofs.lemmas.Cmp.{nat_list_cmp_total, tied_itself}
 use Rattle.std.proofs.lemmas.List.{get_or_default, same_lists}
 use Rattle.dist_cluster.specs.Partition.{IsIn, IsPartition}
@@ -14,8 +13,8 @@ use Rattle.dist_classes.specs.ClassList.{classes_above, classes_of_all}
 use Rattle.dist_classes.specs.Cuts.{AreCuts, IsClusterCut, IsNameCut}
 use Rattle.dist_classes.specs.NewNames.{AreNewNames}
 use Rattle.dist_classes.specs.declared.class_value.Class.{Class}
-use Rattle.dist_future.specs.Space.{AreMeaningsOf, IsFrame, IsSpace, SpaceView, StandsBefore, cluster_classes, fresh_classes, key_of}
-use Rattle.dist_future.specs.SpaceOf.{HasMoreVariables, IsSpaceOf}
+use Rattle.dist_future.specs.Space.{AreMeaningsOf, SpaceView, StandsBefore, cluster_classes, fresh_classes, key_of}
+use Rattle.dist_future.specs.SpaceOf.{IsSpaceOf}
 use Rattle.dist_future.specs.declared.meaning.Meaning.{Meaning}
 use Rattle.dist_future.proofs.RisingRows.{IsAsymmetric, rows-same}
 

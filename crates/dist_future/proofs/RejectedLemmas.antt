@@ -1,28 +1,20 @@
 -- What the conflict atoms of a package match among what holds.
-use Rattle.std.proofs.Common.{◌≡◌, ◌≢◌, ◌⊎◌, ℕ, ◌+◌, ◌<◌, ◌≤◌, Bool, true, false, List, Option, None, Some, length, refl, sym, ap, subst, ◌∙◌, inl, inr, arith, slice_get}
-use Rattle.std.specs.Prelude.{AllPairs, Any, IsSomeAnd}
-use Rattle.std.specs.Option.{option_map}
-use Rattle.std.proofs.lemmas.Bool.{cases_lt}
+use Rattle.std.proofs.Common.{◌≡◌, ℕ, ◌≤◌, Bool, false, List, Option, Some, length, sym, ap, subst, ◌∙◌, arith, slice_get}
 use Rattle.std.proofs.lemmas.Option.{same_Some, slice_get_within}
 use Rattle.dist_clause.specs.Formula.{value_of}
 use Rattle.dist_relation.specs.declared.atom.Atom.{Atom}
-use Rattle.dist_repo.specs.Conflict.{AreInConflict}
-use Rattle.dist_repo.specs.Match.{IsUsable, Matches}
 use Rattle.dist_repo.specs.declared.package.Package.{Package}
-use Rattle.dist_future.specs.FutureHealth.{AreConflicting, Holds}
+use Rattle.dist_future.specs.FutureHealth.{Holds}
 use Rattle.dist_future.specs.Gathering.{IsMeaningOf}
 use Rattle.dist_future.specs.Least.{IsLeastIfAny}
-use Rattle.dist_future.specs.Matching.{IsFound, IsOther, IsRejectedBy, IsRejectedFrom}
-use Rattle.dist_future.specs.Space.{IsMatched, IsMeaning, IsMetBy, IsSpace, SpaceView, variable_of}
-use Rattle.dist_future.specs.SpaceClauses.{Excludes}
+use Rattle.dist_future.specs.Matching.{IsRejectedBy, IsRejectedFrom}
+use Rattle.dist_future.specs.Space.{IsMatched, SpaceView}
 use Rattle.dist_future.specs.declared.meaning.Meaning.{Meaning}
-use Rattle.dist_future.specs.declared.meaning.Meaning.TheVariants.{Now, Present, At, New, Kept, Fresh}
+use Rattle.dist_future.specs.declared.meaning.Meaning.TheVariants.{Present}
 use Rattle.dist_future.proofs.FoundLemmas.{IsAny}
 use Rattle.dist_future.proofs.Leasts.{Before, least-shift}
-use Rattle.dist_future.proofs.Lists.{any-at, any-more, at-has, contains-at, element-at, found-at, has-at, here-at, within-from}
+use Rattle.dist_future.proofs.Lists.{any-at, found-at}
 use Rattle.dist_future.proofs.NoFutureLemmas.{meaning-holds, never-holds}
-use Rattle.dist_future.proofs.SpaceLemmas.{names-apart}
-use Rattle.dist_future.proofs.VariableOrder.{key-less}
 
 number-of : (a b : ℕ) → Present a ≡ Present b → a ≡ b
 number-of a b same = cc

@@ -1,28 +1,26 @@
 -- Which items of packages nothing meets.
-use Rattle.std.proofs.Common.{◌≡◌, ◌≢◌, ◌⊎◌, ℕ, ◌+◌, ◌<◌, ◌≤◌, ◌^◌, Bool, true, false, List, Option, None, Some, length, sum_by, take, refl, sym, ap, subst, ◌∙◌, inl, inr, arith, slice_get}
-use Rattle.std.specs.Prelude.{Any, IsSomeAnd}
+use Rattle.std.proofs.Common.{◌≡◌, ℕ, ◌+◌, ◌<◌, ◌≤◌, ◌^◌, Bool, false, List, Option, None, Some, length, sum_by, take, refl, sym, ap, subst, ◌∙◌, inl, inr, arith, slice_get}
+use Rattle.std.specs.Prelude.{IsSomeAnd}
 use Rattle.std.proofs.lemmas.Bool.{cases_lt}
 use Rattle.std.proofs.lemmas.List.Sums.{sum_by_more, sum_by-take-le, get_or-le-sum_by}
 use Rattle.std.proofs.lemmas.Option.{get_or_from_slice_get, same_Some, slice_get_within}
 use Rattle.dist_clause.specs.Formula.{value_of}
 use Rattle.dist_relation.specs.declared.atom.Atom.{Atom}
-use Rattle.dist_repo.specs.Match.{IsUsable}
 use Rattle.dist_repo.specs.PackageList.{PackageList}
 use Rattle.dist_repo.specs.Size.{IsWithinSize, relations_of}
 use Rattle.dist_repo.specs.declared.package.Package.{Package}
 use Rattle.dist_future.specs.FutureHealth.{Holds, IsUnmetAt, SomeHolds}
 use Rattle.dist_future.specs.Gathering.{IsMeaningOf}
 use Rattle.dist_future.specs.Least.{IsLeastIfAny}
-use Rattle.dist_future.specs.Matching.{IsFound, IsItemAt, IsOther, IsUnmetItem}
-use Rattle.dist_future.specs.Space.{IsMatched, IsMeaning, IsMetBy, IsSpace, SpaceView, variable_of}
+use Rattle.dist_future.specs.Matching.{IsOther, IsUnmetItem}
+use Rattle.dist_future.specs.Space.{IsMatched, IsMetBy, IsSpace, SpaceView, variable_of}
 use Rattle.dist_future.specs.SpaceClauses.{IsItemAnd}
 use Rattle.dist_future.specs.declared.meaning.Meaning.{Meaning}
 use Rattle.dist_future.specs.declared.meaning.Meaning.TheVariants.{Now, Present, At, New, Kept, Fresh}
-use Rattle.dist_future.proofs.DemandLemmas.{item-at, item-has}
-use Rattle.dist_future.proofs.Fronts.{one-meaning, variable-range}
+use Rattle.dist_future.proofs.Fronts.{variable-range}
 use Rattle.dist_future.proofs.FoundLemmas.{IsAny}
 use Rattle.dist_future.proofs.Leasts.{IsNoneBelow, least-shift}
-use Rattle.dist_future.proofs.Lists.{any-at, at-has, element-at, found-at, has-at, here-at}
+use Rattle.dist_future.proofs.Lists.{any-at, at-has, found-at, has-at, here-at}
 use Rattle.dist_future.proofs.NoFutureLemmas.{meaning-holds, never-holds}
 
 number-of : (a b : ℕ) → Present a ≡ Present b → a ≡ b

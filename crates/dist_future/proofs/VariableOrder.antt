@@ -1,12 +1,11 @@
 -- The order of the variables of meanings, by their keys.
-use Rattle.std.proofs.Common.{◌≡◌, ◌⊎◌, ℕ, ◌+◌, ◌-◌, ◌<◌, ◌≤◌, List, [], ◌∷◌, Some, Less, Equal, nat_cmp, length, get_or, slice_get, refl, sym, ap, subst, ◌∙◌, arith, inl, inr}
-use Rattle.std.specs.Cmp.Lexicographic.{slice_cmp}
+use Rattle.std.proofs.Common.{◌≡◌, ℕ, ◌-◌, ◌<◌, Less, Equal, get_or, refl, sym, subst, ◌∙◌, arith, inl, inr}
 use Rattle.std.proofs.lemmas.Bool.{cases_lt}
 use Rattle.std.proofs.lemmas.Cmp.{nat_list_cmp_total, tied_itself}
 use Rattle.std.proofs.lemmas.Option.{get_or_from_slice_get, slice_get_within}
 use Rattle.dist_future.specs.Space.{IsMeaning, IsSpace, SpaceView, StandsBefore, key_of, variable_of}
 use Rattle.dist_future.specs.declared.meaning.Meaning.{Meaning}
-use Rattle.dist_future.specs.declared.meaning.Meaning.TheVariants.{Now, Present, At, New, Kept, Fresh}
+use Rattle.dist_future.specs.declared.meaning.Meaning.TheVariants.{At, Fresh}
 use Rattle.dist_future.proofs.Fronts.{one-meaning, place-at, variable-range}
 use Rattle.dist_future.proofs.Lex.{IsLess, less-cmp}
 

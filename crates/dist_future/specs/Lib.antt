@@ -11,6 +11,8 @@ pub mod SpaceOf
 pub mod Numbering
 pub mod Kept
 pub mod Gathering
+pub mod Groups
+pub mod Rejecting
 pub mod FutureExamples
 pub mod Least
 pub mod FutureHealth

@@ -7,7 +7,7 @@ use Rattle.dist_future.specs.Least.{IsAtMost}
 use Rattle.dist_future.specs.Space.{SpaceView, IsMatchedBy, IsMetBy, variable_of}
 use Rattle.dist_future.specs.SpaceLaws.{holds_under}
 use Rattle.dist_future.specs.declared.meaning.Meaning.{Meaning}
-use Rattle.dist_future.specs.declared.meaning.Meaning.TheVariants.{Now, Present, At, New, Kept, Fresh}
+use Rattle.dist_future.specs.declared.meaning.Meaning.TheVariants.{Present, At, New, Kept, Fresh}
 
 -- the lesser of two numbers, each of which may be missing
 abbrev pub IsLesserOf : (first second least : Option ℕ) → Type 0
@@ -29,37 +29,22 @@ pub record IsFound (s : SpaceView) (values : List Bool) (atom : Atom) (P : Meani
   pub matched : IsMatchedBy s atom meaning
   pub kind : P meaning
 
--- the new version of a member at a class, and its kept entries; those of all its classes; those of all members but one
-abbrev pub IsOfVersion : (member class : ℕ) → Meaning → Type 0
-IsOfVersion r k (New q l) = (q ≡ r) × (l ≡ k)
-IsOfVersion r k (Kept q l j) = (q ≡ r) × (l ≡ k)
-IsOfVersion r k m = ⊥
-
-abbrev pub IsOfMember : ℕ → Meaning → Type 0
-IsOfMember r (New q l) = q ≡ r
-IsOfMember r (Kept q l j) = q ≡ r
-IsOfMember r m = ⊥
-
+-- the new versions of members, and their kept entries, but for those of one
 abbrev pub IsMovedBut : Option ℕ → Meaning → Type 0
 IsMovedBut but (New q l) = but ≢ Some q
 IsMovedBut but (Kept q l j) = but ≢ Some q
 IsMovedBut but m = ⊥
 
--- a package as it is today, or a new version of it
-abbrev pub IsOf : ℕ → Meaning → Type 0
-IsOf r (Present q) = q ≡ r
-IsOf r (New q l) = q ≡ r
-IsOf r m = ⊥
+-- a package is installed as it is today, or a new version of it
+abbrev pub IsInstalled : ℕ → Meaning → Type 0
+IsInstalled r (Present q) = q ≡ r
+IsInstalled r (New q l) = q ≡ r
+IsInstalled r m = ⊥
 
 -- a package as it is today, but for one
 abbrev pub IsPresentBut : Option ℕ → Meaning → Type 0
 IsPresentBut but (Present q) = but ≢ Some q
 IsPresentBut but m = ⊥
-
--- of a new name
-abbrev pub IsFreshOne : Meaning → Type 0
-IsFreshOne (Fresh x k) = Unit {0}
-IsFreshOne m = ⊥
 
 -- all that packages other than one bring about
 abbrev pub IsOther : Option ℕ → Meaning → Type 0

@@ -3,8 +3,9 @@ ghost use Rattle.std.specs.Prelude.{◌≡◌, ◌<◌, ◌↔◌, IsTrue, Some,
 ghost use Rattle.dist_repo.specs.Match.{IsUsable};
 ghost use Rattle.dist_repo.specs.Providers.{AreProviders};
 ghost use Rattle.dist_future.specs.FutureHealth.{IsOneEach};
+ghost use Rattle.dist_future.specs.Gathering.{IsFresh, IsLaterOf, IsOfVersion};
 ghost use Rattle.dist_future.specs.Least.{IsLeastIfAny};
-ghost use Rattle.dist_future.specs.Matching.{IsFound, IsFreshOne, IsLesserOf, IsMovedBut, IsOfMember, IsOfVersion, IsOther, IsPresentBut};
+ghost use Rattle.dist_future.specs.Matching.{IsFound, IsLesserOf, IsMovedBut, IsOther, IsPresentBut};
 ghost use Rattle.dist_future.specs.Space.{IsMeaning, member_classes};
 ghost use Rattle.dist_future.specs.declared.meaning.Meaning.TheVariants as meaning;
 
@@ -101,7 +102,7 @@ fn version_found(
 fn member_found(space: &Space, members: &Assignment, atom: &Atom, member: u32) -> Option<u32>
     requires one_each { IsOneEach space.now members.now }
     requires member { member < length space.now.repository.packages }
-    ensures { IsLeastIfAny (IsFound space.now members.now atom.now (IsOfMember member)) result }
+    ensures { IsLeastIfAny (IsFound space.now members.now atom.now (IsLaterOf member)) result }
 {
     let mut least = None;
     for class in 0..space.class_count(space.cluster_of(member)) {
@@ -158,7 +159,7 @@ fn moved_found(
 /// The least variable of packages of new names.
 fn fresh_found(space: &Space, members: &Assignment, atom: &Atom) -> Option<u32>
     requires one_each { IsOneEach space.now members.now }
-    ensures { IsLeastIfAny (IsFound space.now members.now atom.now IsFreshOne) result }
+    ensures { IsLeastIfAny (IsFound space.now members.now atom.now IsFresh) result }
 {
     let name = space.find_name(&atom.name)?;
     let mut least = None;

@@ -4,7 +4,7 @@ ghost use Rattle.dist_repo.specs.Order.{IsFlat};
 ghost use Rattle.dist_repo.specs.Size.{IsWithinSize};
 ghost use Rattle.dist_future.specs.FutureHealth.{AreConflicting, IsFutureHealth, IsMissing, IsOneEach, IsUnmetAt, SomeHolds};
 ghost use Rattle.dist_future.specs.Least.{IsLeastIfAny, IsLeastPairIfAny};
-ghost use Rattle.dist_future.specs.Matching.{IsItemAt, IsLesserPair, IsOf, IsRejectedBy, IsRejectedFrom, IsUnmetItem};
+ghost use Rattle.dist_future.specs.Matching.{IsItemAt, IsLesserPair, IsInstalled, IsRejectedBy, IsRejectedFrom, IsUnmetItem};
 ghost use Rattle.dist_future.specs.Space.{IsMeaning, IsMetBy};
 ghost use Rattle.dist_future.specs.SpaceLaws.{holds_under};
 
@@ -175,7 +175,7 @@ fn holds(space: &Space, members: &Assignment, meaning: Meaning) -> bool
 fn is_borne(space: &Space, members: &Assignment, number: u32) -> bool
     requires one_each { IsOneEach space.now members.now }
     requires number { number < length space.now.repository.packages }
-    ensures { IsTrue result ↔ SomeHolds space.now members.now (IsOf number) }
+    ensures { IsTrue result ↔ SomeHolds space.now members.now (IsInstalled number) }
 {
     if holds(space, members, Meaning::Present(number)) {
         return true;

@@ -1,88 +1,25 @@
 //! Worked rows: the faults of assignments, and all assignments of small archives tried.
-ghost use Rattle.std.specs.Prelude.{◌≡◌, ◌+◌, ◌<◌, ◌≤◌, IfOk, length};
+ghost use Rattle.std.specs.Prelude.{◌≡◌, ◌<◌, IfOk, length};
 ghost use Rattle.dist_future.specs.FutureHealth.{IsOneEach};
 
 use super::*;
+use crate::test_spaces::{Stanza, space_within};
 use dist_clause::Assignment;
-use dist_relation::{Name, read_atoms, read_depends, read_provides};
-use dist_repo::{Added, Builder, Package, Repository};
-use dist_version::Version;
 use std::alloc::Global;
 use std::test::Fail;
 
-/// A package: its name and version, its source, what it depends on, conflicts with and provides, and whether it is essential.
-#[derive(Clone, Copy)]
-struct Row {
-    name: &'static str,
-    version: &'static str,
-    source: &'static str,
-    depends: &'static str,
-    conflicts: &'static str,
-    provides: &'static str,
-    essential: bool,
-}
-
 /// A package of version 1 that is its own source and has only dependencies.
-fn plain(name: &'static str, depends: &'static str) -> Row {
-    Row {
-        name,
-        version: "1",
-        source: name,
-        depends,
-        conflicts: "",
-        provides: "",
-        essential: false,
-    }
-}
-
-/// The package of a row. Its source has its version.
-fn package(alloc: Global, row: &Row) -> Result<Package, Fail> {
-    Ok(Package {
-        name: Name::read(alloc, row.name.as_bytes())?,
-        version: Version::read(alloc, row.version.as_bytes())?,
-        source: Name::read(alloc, row.source.as_bytes())?,
-        source_version: Version::read(alloc, row.version.as_bytes())?,
-        depends: read_depends(alloc, row.depends.as_bytes())?,
-        conflicts: read_atoms(alloc, row.conflicts.as_bytes())?,
-        provides: read_provides(alloc, row.provides.as_bytes())?,
-        essential: row.essential,
-    })
-}
-
-/// Adds the package of a row.
-fn add(alloc: Global, builder: &mut Builder, row: &Row) -> Result<(), Fail>
-    requires { length builder.old < 100 }
-    ensures { length builder.new ≤ length builder.old + 1 }
-{
-    match builder.add(package(alloc, row)?, 1) {
-        Ok(Added::New) => Ok(()),
-        _ => Err(Fail::from("not added")),
-    }
-}
-
-/// The repository of some packages.
-fn repository(alloc: Global, rows: &[Row]) -> Result<Repository, Fail>
-    requires { length rows.now < 10 }
-{
-    let mut builder = Builder::new(alloc);
-    for row in rows {
-        add(alloc, &mut builder, row)?;
-    }
-    Ok(builder.finish(None)?)
+fn plain(name: &'static str, depends: &'static str) -> Stanza {
+    (name, name, depends, "", "", false)
 }
 
 /// The space of some packages.
-fn space(alloc: Global, rows: &[Row], essential: bool) -> Result<Space, Fail>
-    requires { length rows.now < 10 }
-    ensures { IfOk result (λ s. length s.meanings < 20) }
+fn space(alloc: Global, stanzas: &[Stanza], essential: bool) -> Result<Space, Fail>
+    requires { length stanzas.now < 100 }
 {
-    let repo = repository(alloc, rows)?;
-    if !repo.is_flat() || !repo.is_within_size() {
-        Err("not flat, or too large")?
-    }
-    match space_of(alloc, repo, essential, 19) {
+    match space_within(alloc, stanzas, essential, 15)? {
         Ok(space) => Ok(space),
-        Err(_) => Err(Fail::from("no space")),
+        Err(_) => Err("no space")?,
     }
 }
 
@@ -153,9 +90,7 @@ fn is_there(space: &Space, meaning: &Meaning) -> bool {
 }
 
 /// Whether some healthy assignment makes these meanings true: all are tried.
-fn has_model(alloc: Global, space: &Space, wanted: &[Meaning]) -> Result<bool, Fail>
-    requires { length space.now.meanings < 20 }
-{
+fn has_model(alloc: Global, space: &Space, wanted: &[Meaning]) -> Result<bool, Fail> {
     let mut members = Assignment::new(alloc, space.variables())?;
     for _round in 0..1_000_000u32 {
         if hold(space, &members, wanted) && health_in(space, &members) == FutureHealth::Healthy {
@@ -169,9 +104,7 @@ fn has_model(alloc: Global, space: &Space, wanted: &[Meaning]) -> Result<bool, F
 }
 
 /// Whether there are models with these meanings, as told.
-fn check_models(alloc: Global, space: &Space, models: &[(&[Meaning], bool)]) -> Result<(), Fail>
-    requires { length space.now.meanings < 20 }
-{
+fn check_models(alloc: Global, space: &Space, models: &[(&[Meaning], bool)]) -> Result<(), Fail> {
     for model in models {
         for meaning in model.0 {
             if !is_there(space, meaning) {
@@ -209,14 +142,8 @@ fn classes_of_a_cluster_and_an_item(rt: HostRuntime) -> Result<(), Fail> {
 #[test]
 fn kept_entries_and_conflicts(rt: HostRuntime) -> Result<(), Fail> {
     let rows = [
-        Row {
-            conflicts: "m",
-            ..plain("p", "q")
-        },
-        Row {
-            provides: "m",
-            ..plain("q", "")
-        },
+        ("p", "p", "q", "m", "", false),
+        ("q", "q", "", "", "m", false),
     ];
     let space = space(rt.alloc(), &rows, false)?;
     check_faults(
@@ -250,25 +177,9 @@ fn new_names(rt: HostRuntime) -> Result<(), Fail> {
 }
 
 /// An essential package, and one that is in conflict with its later versions.
-const ESSENTIAL: [Row; 2] = [
-    Row {
-        name: "base",
-        version: "1",
-        source: "base",
-        depends: "",
-        conflicts: "",
-        provides: "",
-        essential: true,
-    },
-    Row {
-        name: "p",
-        version: "1",
-        source: "p",
-        depends: "",
-        conflicts: "base (>= 2)",
-        provides: "",
-        essential: false,
-    },
+const ESSENTIAL: [Stanza; 2] = [
+    ("base", "base", "", "", "", true),
+    ("p", "p", "", "base (>= 2)", "", false),
 ];
 
 #[test]
@@ -333,14 +244,8 @@ fn a_cluster_breaks_what_depends_on_it(rt: HostRuntime) -> Result<(), Fail> {
 #[test]
 fn members_of_a_cluster_move_together(rt: HostRuntime) -> Result<(), Fail> {
     let rows = [
-        Row {
-            source: "s",
-            ..plain("a", "")
-        },
-        Row {
-            source: "s",
-            ..plain("b", "")
-        },
+        ("a", "s", "", "", "", false),
+        ("b", "s", "", "", "", false),
         plain("p", "a (= 1), b (>= 2)"),
     ];
     let space = space(rt.alloc(), &rows, false)?;
@@ -360,13 +265,7 @@ fn clusters_move_singly(rt: HostRuntime) -> Result<(), Fail> {
 
 #[test]
 fn no_version_goes_down(rt: HostRuntime) -> Result<(), Fail> {
-    let rows = [
-        Row {
-            version: "2",
-            ..plain("foo", "")
-        },
-        plain("p", "foo (<< 1)"),
-    ];
+    let rows = [plain("foo", ""), plain("p", "foo (<< 0.5)")];
     let space = space(rt.alloc(), &rows, false)?;
     check_models(rt.alloc(), &space, &[(&[Meaning::Present(1)], false)])
 }
@@ -388,12 +287,8 @@ fn a_new_name_comes_at_any_version(rt: HostRuntime) -> Result<(), Fail> {
 #[test]
 fn a_moving_entry_leaves_its_version(rt: HostRuntime) -> Result<(), Fail> {
     let rows = [
-        Row {
-            version: "1.0",
-            provides: "abi (= 1.0)",
-            ..plain("libx", "")
-        },
-        plain("p", "abi (= 1.0)"),
+        ("libx", "libx", "", "", "abi (= 1)", false),
+        plain("p", "abi (= 1)"),
     ];
     let space = space(rt.alloc(), &rows, false)?;
     check_models(
@@ -409,14 +304,8 @@ fn a_moving_entry_leaves_its_version(rt: HostRuntime) -> Result<(), Fail> {
 #[test]
 fn a_new_version_drops_an_entry(rt: HostRuntime) -> Result<(), Fail> {
     let rows = [
-        Row {
-            conflicts: "m",
-            ..plain("p", "q")
-        },
-        Row {
-            provides: "m",
-            ..plain("q", "")
-        },
+        ("p", "p", "q", "m", "", false),
+        ("q", "q", "", "", "m", false),
     ];
     let space = space(rt.alloc(), &rows, false)?;
     check_models(
@@ -432,14 +321,8 @@ fn a_new_version_drops_an_entry(rt: HostRuntime) -> Result<(), Fail> {
 #[test]
 fn a_new_version_drops_a_moving_entry(rt: HostRuntime) -> Result<(), Fail> {
     let rows = [
-        Row {
-            provides: "abi (= 1)",
-            ..plain("libx", "")
-        },
-        Row {
-            conflicts: "abi (>= 2)",
-            ..plain("p", "libx")
-        },
+        ("libx", "libx", "", "", "abi (= 1)", false),
+        ("p", "p", "libx", "abi (>= 2)", "", false),
     ];
     let space = space(rt.alloc(), &rows, false)?;
     check_models(
@@ -454,15 +337,8 @@ fn a_new_version_drops_a_moving_entry(rt: HostRuntime) -> Result<(), Fail> {
 
 #[test]
 fn qualifiers_and_many_new_names(rt: HostRuntime) -> Result<(), Fail> {
-    let rows = [Row {
-        name: "python3",
-        version: "3.11.2-1+b1",
-        source: "python3-defaults",
-        depends: "python3-minimal (= 3.11.2-1+b1), python3.11:any (>= 3.11.2-1~), libpython3-stdlib (= 3.11.2-1+b1)",
-        conflicts: "",
-        provides: "python3-profiler",
-        essential: false,
-    }];
+    let depends = "minimal (= 1), python:any (>= 1~), library (= 1)";
+    let rows = [("python3", "s", depends, "", "profiler", false)];
     let space = space(rt.alloc(), &rows, false)?;
     check_models(
         rt.alloc(),

@@ -1,6 +1,6 @@
-use Rattle.std.proofs.Common.{◌≡◌, ℕ, Some, None, slice_get, refl, sym, ap, arith}
+use Rattle.std.proofs.Common.{refl, sym, arith}
 use Rattle.std.proofs.lemmas.Option.{same_Some}
-use Rattle.dist_future.proofs.FoundLemmas.{FreshFound, fresh-all, fresh-none}
+use Rattle.dist_future.proofs.FoundLemmas.{FreshFound, fresh-all}
 use Rattle.dist_future.proofs.Leasts.{least-more}
 use Rattle.dist_future.proofs.found.fresh_found.Goals as goal
 

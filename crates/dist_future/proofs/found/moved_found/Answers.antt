@@ -1,11 +1,12 @@
-use Rattle.std.proofs.Common.{◌≡◌, ℕ, ◌+◌, ◌<◌, length, get_or, true, false, Option, subst, sym, refl, ◌∙◌, arith}
+use Rattle.std.proofs.Common.{ℕ, ◌+◌, ◌<◌, length, get_or, Option, subst, sym, refl}
 use Rattle.std.specs.Prelude.{Contains}
 use Rattle.std.proofs.lemmas.Bool.{false≢true}
 use Rattle.std.proofs.lemmas.List.{get_or_default}
 use Rattle.dist_repo.specs.Providers.{IsProvider}
 use Rattle.dist_future.proofs.Lists.{within-from}
 use Rattle.dist_future.specs.Least.{IsLeastIfAny}
-use Rattle.dist_future.specs.Matching.{IsMovedBut, IsOfMember}
+use Rattle.dist_future.specs.Gathering.{IsLaterOf}
+use Rattle.dist_future.specs.Matching.{IsMovedBut}
 use Rattle.dist_future.proofs.FoundLemmas.{OneOf, moved-one, moved-provided, none-moved, providers-all}
 use Rattle.dist_future.proofs.Leasts.{Before, least-more, least-skip}
 use Rattle.dist_future.proofs.found.moved_found.Goals.{then-not-is_left_out, else-not-is_left_out}
@@ -17,7 +18,7 @@ loop-number-preserved c =
     let values = c.args.members.now in
     let atom = c.args.atom.now in
     let i = c.loop-number.number-index in
-    let One : ℕ → ℕ → Type 0 = OneOf s values atom IsOfMember (IsMovedBut c.args.but) c.args.providers.now in
+    let One : ℕ → ℕ → Type 0 = OneOf s values atom IsLaterOf (IsMovedBut c.args.but) c.args.providers.now in
     let Of : Option ℕ → Type 0 = IsLeastIfAny (Before One (i + 1)) in
     elim c.if-not-is_left_out.branch [
       | then-not-is_left_out w ↦ subst Of (sym w.least-is)
@@ -28,7 +29,7 @@ loop-number-preserved c =
 
 pub returns : goal.returns
 returns c =
-    providers-all c.args.space.now c.args.members.now c.args.atom.now IsOfMember (IsMovedBut c.args.but) c.args.providers.now c.loop-number.number-index c.loop-number.least c.requires.providers c.loop-number-test.false
+    providers-all c.args.space.now c.args.members.now c.args.atom.now IsLaterOf (IsMovedBut c.args.but) c.args.providers.now c.loop-number.number-index c.loop-number.least c.requires.providers c.loop-number-test.false
     (moved-provided c.args.space.now c.args.members.now c.args.atom.now c.args.but) c.loop-number.invariant
 
 provider-within : (c : goal.Then-not-is_left_out) → get_or c.args.providers.now c.loop-number.number-index 0 < length c.args.space.now.repository.packages

@@ -1,7 +1,6 @@
-use Rattle.std.proofs.Common.{◌≡◌, ℕ, ap, arith, false, refl, subst, sym, ◌∙◌, slice_get}
+use Rattle.std.proofs.Common.{ap, arith, refl, subst, sym, ◌∙◌, slice_get}
 use Rattle.dist_repo.specs.PackageList.{PackageList}
 use Rattle.dist_repo.specs.Providers.{AreProviders}
-use Rattle.std.proofs.lemmas.Bool.{false≢true}
 use Rattle.dist_future.proofs.FoundLemmas.{IsAny}
 use Rattle.dist_future.proofs.Leasts.{none-found, some-found}
 use Rattle.dist_future.proofs.UnmetLemmas.{any-met, none-met, none-more}

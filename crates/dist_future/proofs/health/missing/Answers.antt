@@ -1,4 +1,4 @@
-use Rattle.std.proofs.Common.{◌≡◌, Some, length, ap, arith, refl, slice_get, sym, ◌∙◌}
+use Rattle.std.proofs.Common.{◌≡◌, Some, length, ap, arith, slice_get, sym, ◌∙◌}
 use borrow.Author.Count.{below_more}
 use Rattle.std.proofs.lemmas.Bool.{false≢true}
 use Rattle.dist_repo.specs.PackageList.{PackageList}

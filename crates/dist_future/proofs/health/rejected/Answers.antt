@@ -1,4 +1,4 @@
-use Rattle.std.proofs.Common.{◌≡◌, ◌+◌, ap, arith, slice_get, subst, ◌∙◌}
+use Rattle.std.proofs.Common.{ap, arith, slice_get, subst, ◌∙◌}
 use Rattle.dist_repo.specs.PackageList.{PackageList}
 use Rattle.dist_repo.specs.Providers.{AreProviders}
 use Rattle.dist_future.proofs.Leasts.{least-more}
