@@ -46,3 +46,4 @@ pub mod MissingLemmas
 pub mod HealthLemmas
 pub mod HealthMeaning
 pub mod OneSpace
+pub mod PresentPlaces

@@ -51,7 +51,7 @@ never-back s a b first second =
     let loop = nat_list_cmp_total.trans (key_of s a) (key_of s b) (key_of s a) first second in
     let tied = tied_itself nat_list_cmp_total (key_of s a) in cc
 
-one-meanings : (s : SpaceView) (first second : List Meaning) → AreMeaningsOf s (λ m. Unit {0}) first → AreMeaningsOf s (λ m. Unit {0}) second → second ≡ first
+pub one-meanings : (s : SpaceView) (first second : List Meaning) → AreMeaningsOf s (λ m. Unit {0}) first → AreMeaningsOf s (λ m. Unit {0}) second → second ≡ first
 one-meanings s first second a b =
     let same = rows-same (λ (m : Meaning). m) (StandsBefore s) (λ m. Unit {0}) (λ (m : Meaning). m) (never-back s) (λ x y is p q. is) first second a.rising b.rising (each-one first) (each-one second)
     (λ m has. has-from second m ((b.exact m).1 ((a.exact m).0 (from-has first m has))))

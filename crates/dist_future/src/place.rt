@@ -85,7 +85,7 @@ impl Space {
         self.key(first).as_slice() < self.key(second).as_slice()
     }
 
-    /// The variable of a meaning, found by halving.
+    /// The variable of a meaning, found by halving where it isn't known at once.
     pub fn variable(&self, meaning: &Meaning) -> u32
         requires { IsMeaning self.now meaning.now }
         ensures value { result ≡ variable_of self.now meaning.now }
@@ -94,10 +94,12 @@ impl Space {
         ensures stated { result ≤ MAX_VARIABLES }
         ensures back { slice_get self.now.meanings (result - 1) ≡ Some meaning.now }
     {
-        let before = self
-            .meanings
-            .as_slice()
-            .partition_point(|other| self.stands_before(other, meaning));
+        let meanings = self.meanings.as_slice();
+        if let Meaning::Present(number) = *meaning {
+            // Packages as they are today follow Now, in their order.
+            return number + 2;
+        }
+        let before = meanings.partition_point(|other| self.stands_before(other, meaning));
         before as u32 + 1
     }
 
