@@ -32,6 +32,7 @@ pub mod VariableLists
 pub mod NameFronts
 pub mod FoundIn
 pub mod Bearers
+pub mod SortedNames
 pub mod SomeSpaceClauses
 pub mod RisingRows
 pub mod ExactLemmas

@@ -87,7 +87,7 @@ required-at packages name there =
 
 -- ---- the order of names
 
-same_names : (a b : List ℕ) → slice_cmp nat_cmp a b ≡ Equal → a ≡ b
+pub same_names : (a b : List ℕ) → slice_cmp nat_cmp a b ≡ Equal → a ≡ b
 same_names a b is = (bytes_eq-Decides a b).0 (sym (is_eq-slice_cmp a b) ∙ ap is_eq is)
 
 never-less : (a : List ℕ) → ¬ (slice_cmp nat_cmp a a ≡ Less)
@@ -115,7 +115,7 @@ names-rise packages i j p q ordered flat before is_p is_q =
 
 -- ---- fronts
 
-group-cases : (d : Demand) → (group_of d < 7) ⊎ ((name : List ℕ) × (d ≡ Required name))
+pub group-cases : (d : Demand) → (group_of d < 7) ⊎ ((name : List ℕ) × (d ≡ Required name))
 group-cases (Required name) = inr (name, refl)
 group-cases (OneClass c k l) = inl (omega arith)
 group-cases (Gone r k) = inl (omega arith)

@@ -1,5 +1,5 @@
 -- The packages of the repository as they are today follow Now, in their order.
-use Rattle.std.proofs.Common.{◌≡◌, ℕ, ◌+◌, ◌<◌, List, [], ◌∷◌, ◌++◌, Some, zero, zero-add, suc, length, map, get_or, refl, sym, ap, subst, ◌∙◌, arith, slice_get}
+use Rattle.std.proofs.Common.{◌≡◌, ℕ, ◌+◌, ◌<◌, List, [], ◌∷◌, ◌++◌, Some, zero, zero-add, suc, length, map, sym, ap, ◌∙◌, arith, slice_get}
 use Rattle.std.specs.List.{flat_map}
 use Rattle.std.specs.Option.{option_map}
 use Rattle.std.proofs.lemmas.List.FromFn.{get_or-range_with_len, length-range_with_len}
@@ -7,7 +7,7 @@ use Rattle.std.proofs.lemmas.Option.{slice_get-get_or, slice_get-map}
 use Rattle.dist_future.specs.Numbering.{below, cluster_part, fresh_part, meanings_of}
 use Rattle.dist_future.specs.Space.{IsSpace, SpaceView, variable_of}
 use Rattle.dist_future.specs.declared.meaning.Meaning.{Meaning}
-use Rattle.dist_future.specs.declared.meaning.Meaning.TheVariants.{Now, Present}
+use Rattle.dist_future.specs.declared.meaning.Meaning.TheVariants.{Present}
 use Rattle.dist_future.proofs.NumberingLemmas.{numbered}
 use Rattle.dist_future.proofs.OneSpace.{one-meanings}
 use Rattle.dist_future.proofs.Variables.{variable-at}

@@ -1,5 +1,5 @@
 -- There is a list of the clauses of a space: what a demand asks is decided, and each demand has a clause.
-use Rattle.std.proofs.Common.{◌≡◌, ◌≢◌, ℕ, zero, suc, ◌+◌, ◌-◌, ◌<◌, ◌≤◌, Bool, true, false, List, [], ◌∷◌, ◌++◌, Option, Some, None, length, map, Ordering, Less, Equal, Greater, refl, sym, ap, subst, ◌∙◌, arith, inl, inr, slice_get}
+use Rattle.std.proofs.Common.{◌≡◌, ◌≢◌, ◌⊎◌, ℕ, zero, suc, ◌+◌, ◌-◌, ◌<◌, ◌≤◌, List, [], ◌∷◌, ◌++◌, Option, Some, None, length, map, take, Ordering, Less, Equal, Greater, refl, sym, ap, subst, ◌∙◌, arith, inl, inr, slice_get}
 use Rattle.std.specs.Prelude.{◌↔◌, AllPairs, Any, Contains, IsSomeAnd, slice_index}
 use Rattle.std.proofs.lemmas.Bool.{cases_lt}
 use Rattle.dist_clause.specs.ClauseList.{ClauseList}
@@ -9,21 +9,27 @@ use Rattle.dist_relation.specs.declared.atom.Atom.{Atom}
 use Rattle.dist_relation.specs.declared.atom.Provide.{Provide}
 use Rattle.dist_repo.specs.Conflict.{AreInConflict}
 use Rattle.dist_repo.specs.Match.{Matches, MatchesByEntry}
-use Rattle.dist_repo.specs.Order.{IsInOrder, IsSamePackage}
+use Rattle.dist_repo.specs.Healthy.{required_names}
+use Rattle.dist_repo.specs.Order.{IsSamePackage}
 use Rattle.dist_repo.specs.PackageList.{IsPackageAnd}
 use Rattle.dist_repo.specs.declared.package.Package.{Package}
-use Rattle.dist_future.specs.Gathering.{IsFront, IsGroupsFront, IsNamedFront}
+use Rattle.dist_future.specs.Gathering.{IsFront, IsGroupsFront}
 use Rattle.dist_future.specs.Space.{AreMeaningsOf, IsMatched, IsMatchedBy, IsMeaning, IsMetBy, IsSpace, MeetsBound, SpaceView, StandsBefore, cluster_classes, example_at, fresh_classes, member_classes, moved_entry, name_of, variable_of}
-use Rattle.dist_future.specs.SpaceClauses.{Demand, OneClass, Gone, Moved, Carried, OneFresh, Item, Apart, StaysNow, AbsentNow, Required, AreSpaceClauses, Excludes, IsBearer, IsClauseFor, IsDemand, group_of, leading, no, second_of, yes}
+use Rattle.dist_future.specs.SpaceClauses.{Demand, OneClass, Gone, Moved, Carried, OneFresh, Item, Apart, StaysNow, AbsentNow, Required, AreSpaceClauses, Excludes, IsBearer, IsBefore, IsClauseFor, IsDemand, group_of, leading, rank_of, no, second_of, yes}
+use Rattle.dist_future.specs.SpaceSet.{IsSetOf}
 use Rattle.dist_future.specs.declared.meaning.Meaning.{Meaning}
 use Rattle.dist_future.specs.declared.meaning.Meaning.TheVariants.{Now, Present, At, New, Kept, Fresh}
 use Rattle.dist_future.proofs.Decided.{IsDecided, any-decided, both-decided, bound-decided, either-decided, entry-decided, matches-decided, text-decided, usable-decided}
 use Rattle.dist_future.proofs.DemandLemmas.{item-at}
-use Rattle.dist_future.proofs.Fronts.{front-more, front-skip, front-variable, leads, one-meaning, variable-range}
+use Rattle.dist_future.proofs.DemandLists.{clauses-more, clauses-shift}
+use Rattle.dist_future.proofs.Fronts.{set-shift, front-more, front-skip, front-variable, leads, one-meaning, variable-range}
+use Rattle.dist_future.proofs.Gathered.{any-none, any-take, any-take-back, any-whole}
 use Rattle.dist_future.proofs.GroupFronts.{apart-of, groups-close, groups-none, groups-open, item-from, no-conflicts, no-items}
 use Rattle.dist_future.proofs.LedFronts.{carried-of, classes-of, fresh-of, moves-of, no-classes, no-fresh, no-moves, no-today, today-of}
-use Rattle.dist_future.proofs.Lists.{ElementAt, contains-at, element-at, has-at, here-at, within-from}
-use Rattle.dist_future.proofs.NameFronts.{named-end, named-pushed, named-skipped, named-start, plain-end}
+use Rattle.dist_future.proofs.Lex.{cmp-less, less-cmp}
+use Rattle.dist_future.proofs.Lists.{any-contained, ElementAt, contains-at, element-at, has-at, here-at, within-from}
+use Rattle.dist_future.proofs.NameFronts.{group-cases}
+use Rattle.dist_future.proofs.SortedNames.{InOrder, IsLess, first-less, in-order}
 use Rattle.dist_future.proofs.WholeSpace.{variable-back}
 use Rattle.dist_future.proofs.RisingParts.{contains-cons, contains-first, contains-later, pairs-cons, pairs-head, pairs-none, pairs-tail}
 
@@ -413,32 +419,97 @@ module _ (s : SpaceView) where
 
     -- ---- names
 
-    module _ (ordered : IsInOrder s.repository.packages) (essential : s.essential ≡ true) where
-      abbrev Names : ℕ → Type 0
-      Names n = SomeSet (IsNamedFront s n empty)
+    -- the required names, in order
+    names : InOrder (required_names s.essential s.repository.packages)
+    names = in-order (required_names s.essential s.repository.packages)
 
-      name-step : (n : ℕ) → n < length s.repository.packages → Names n → Names (n + 1)
-      name-step n short before = by p.element.essential refl
-        where
-          p : ElementAt s.repository.packages n
-          p = element-at s.repository.packages n short
+    -- a demand of another group, or one of the first names
+    SoFar : ℕ → Demand → Type 0
+    SoFar count d = IsDemand s d × ((group_of d < 7) ⊎ Any (λ name. d ≡ Required name) (take count names.names))
 
-          by : (b : Bool) → p.element.essential ≡ b → Names (n + 1)
-          by false is = record { set = before.set; has = named-skipped s space empty n p.element p.is before.set is before.has }
-          by true is =
-              let some = some-meanings (IsBearer s p.element.name) (bearer-decided p.element.name) in
-              let clause : List Literal = map (yes s) some.meanings in
-              record { set = record before.set { clauses = before.set.clauses ++ clause ∷ [] }; has = named-pushed s space empty n p.element p.is ordered essential is before.set clause (some.meanings, some.are, refl) before.has }
+    Names : ℕ → Type 0
+    Names count = SomeSet (IsSetOf s (SoFar count) 0 0)
 
-      names-to : (n : ℕ) → n ≤ length s.repository.packages → Names n
-      names-to zero within = record { set = plain.set; has = named-start s space empty plain.set plain.has }
-      names-to (suc n) within = let next : n + 1 ≡ suc n = omega arith in subst Names next (name-step n (omega (arith, within)) (names-to n (omega (arith, within))))
+    names-start : Names 0
+    unfolding Names SoFar
+    names-start = record {
+      set = plain.set;
+      has = set-shift s space empty (λ d. IsDemand s d × (group_of d < 7)) (SoFar 0) 0 0 plain.set (λ d h. (h.0, inl h.1)) (λ d h. (
+        h.0,
+        elim h.1 [
+          | inl less ↦ less
+          | inr any ↦ absurd (any-none (λ name. d ≡ Required name) names.names any)
+        ],
+      )) plain.has;
+    }
 
-pub some-clauses : (s : SpaceView) → IsSpace s → IsInOrder s.repository.packages → (clauses : List (List Literal)) × AreSpaceClauses s clauses
-some-clauses s space ordered = by s.essential refl
-  where
-    by : (b : Bool) → s.essential ≡ b → (clauses : List (List Literal)) × AreSpaceClauses s clauses
-    by false is = let all = plain s space in (all.set.clauses, (plain-end s space (empty s space) all.set is all.has).clauses)
-    by true is =
-        let all = names-to s space ordered is (length s.repository.packages) (omega arith) in
-        (all.set.clauses, (named-end s space (empty s space) (length s.repository.packages) all.set is (omega arith) all.has).clauses)
+    name-step : (count : ℕ) → count < length names.names → Names count → Names (count + 1)
+    unfolding Names SoFar
+    name-step count short before = record {
+      set = record before.set { clauses = before.set.clauses ++ some.clause ∷ [] };
+      has = record {
+        clauses = clauses-more s (SoFar count) (SoFar (count + 1)) before.set.clauses (Required name) some.clause before.has.clauses some.is_clause below cases
+            (λ d h. (
+              h.0,
+              elim h.1 [
+                | inl less ↦ inl less
+                | inr any ↦ inr (any-take-back (λ n. d ≡ Required n) names.names count name at.is (inl any))
+              ],
+            ))
+            (demand, inr (any-take-back (λ n. Required name ≡ Required n) names.names count name at.is (inr refl)));
+        variables = before.has.variables;
+        clause_limit_is = before.has.clause_limit_is;
+        literal_limit_is = before.has.literal_limit_is;
+      };
+    }
+      where
+        at : ElementAt names.names count
+        at = element-at names.names count short
+
+        name : List ℕ
+        name = at.element
+
+        demand : IsDemand s (Required name)
+        demand = (names.exact name).0 (contains-at names.names count name at.is)
+
+        some : SomeClause (Required name)
+        some = has-clause (Required name) demand
+
+        below : (d : Demand) → SoFar count d → IsBefore s d (Required name)
+        below d h = elim h.1 [
+          | inl less ↦ less-cmp (rank_of s d) (rank_of s (Required name)) (inl less)
+          | inr any ↦
+              let earlier : IsLess any.1 name = first-less names.names names.rising count name at.is any.1 (any.0, any.2, any.3) in
+              subst (λ e. IsBefore s e (Required name)) (sym any.4) (less-cmp (rank_of s (Required any.1)) (rank_of s (Required name)) (inr (refl, inr (refl, cmp-less any.1 name earlier))))
+        ]
+
+        cases : (d : Demand) → SoFar (count + 1) d → SoFar count d ⊎ (Required name ≡ d)
+        cases d h = elim h.1 [
+          | inl less ↦ inl (h.0, inl less)
+          | inr any ↦ elim (any-take (λ n. d ≡ Required n) names.names count name at.is any) [
+            | inl earlier ↦ inl (h.0, inr earlier)
+            | inr here ↦ inr (sym here)
+          ]
+        ]
+
+    names-to : (count : ℕ) → count ≤ length names.names → Names count
+    names-to zero within = names-start
+    names-to (suc count) within = let next : count + 1 ≡ suc count = omega arith in subst Names next (name-step count (omega (arith, within)) (names-to count (omega (arith, within))))
+
+    pub some-clauses : (clauses : List (List Literal)) × AreSpaceClauses s clauses
+    unfolding Names SoFar
+    some-clauses =
+        let all = names-to (length names.names) (omega arith) in (
+          all.set.clauses,
+          clauses-shift s (SoFar (length names.names)) (IsDemand s) all.set.clauses (λ d h. h.0)
+              (λ d demand. (
+                demand,
+                elim (group-cases d) [
+                  | inl less ↦ inl less
+                  | inr named ↦
+                      let there = (names.exact named.0).1 (subst (IsDemand s) named.1 demand) in
+                      inr (any-whole (λ n. d ≡ Required n) names.names (length names.names) (omega arith) (any-contained (λ n. d ≡ Required n) names.names named.0 there named.1))
+                ],
+              ))
+              all.has.clauses,
+        )

@@ -1,15 +1,14 @@
 //! How the clauses of a space stand behind each other, apart from the work. These functions do nothing.
 ghost use Rattle.std.specs.Prelude.{◌≡◌, ℕ, List};
 ghost use Rattle.dist_clause.specs.Formula.{Literal};
-ghost use Rattle.dist_repo.specs.Order.{IsInOrder};
 ghost use Rattle.dist_future.specs.ClauseLaws.{GoesOn};
 ghost use Rattle.dist_future.specs.Space.{IsSpace, SpaceView};
 ghost use Rattle.dist_future.specs.SpaceClauses.{AreClausesBefore, AreSpaceClauses, Demand, IsClauseFor, IsDemand};
 ghost use Rattle.dist_future.specs.SpaceSet.{PassesClauses, PassesLiterals};
 
-/// A space of a repository in order has a list of clauses.
+/// Each space has a list of clauses.
 pub fn space_clauses_are_there()
-    ensures { (s : SpaceView) → IsSpace s → IsInOrder s.repository.packages → (clauses : List (List Literal)) × AreSpaceClauses s clauses }
+    ensures { (s : SpaceView) → IsSpace s → (clauses : List (List Literal)) × AreSpaceClauses s clauses }
 {}
 
 /// A space has one list of clauses.
