@@ -36,15 +36,15 @@ any-decided P each (x ∷ xs) = elim (each x) [
 ]
 
 -- both, where each is decided
-both : {P Q : Type 0} → IsDecided P → IsDecided Q → IsDecided (P × Q)
-both (inl p) (inl q) = inl (p, q)
-both (inl p) (inr q) = inr (λ h. q h.1)
-both (inr p) second = inr (λ h. p h.0)
+pub both-decided : {P Q : Type 0} → IsDecided P → IsDecided Q → IsDecided (P × Q)
+both-decided (inl p) (inl q) = inl (p, q)
+both-decided (inl p) (inr q) = inr (λ h. q h.1)
+both-decided (inr p) second = inr (λ h. p h.0)
 
-either : {P Q : Type 0} → IsDecided P → IsDecided Q → IsDecided (P ⊎ Q)
-either (inl p) second = inl (inl p)
-either (inr p) (inl q) = inl (inr q)
-either (inr p) (inr q) = inr (λ h. elim h [
+pub either-decided : {P Q : Type 0} → IsDecided P → IsDecided Q → IsDecided (P ⊎ Q)
+either-decided (inl p) second = inl (inl p)
+either-decided (inr p) (inl q) = inl (inr q)
+either-decided (inr p) (inr q) = inr (λ h. elim h [
   | inl x ↦ p x
   | inr x ↦ q x
 ])
@@ -85,12 +85,12 @@ architecture-decided : (architecture : Option (List ℕ)) (name : List ℕ) → 
 architecture-decided None name = inr (λ h. cc)
 architecture-decided (Some here) name = same-as (λ h. ap (λ (x : List ℕ). Some x) h) (λ h. cc) (text-decided here name)
 
-usable-decided : (architecture : Option (List ℕ)) (qualifier : Qualifier) → IsDecided (IsUsable architecture qualifier)
+pub usable-decided : (architecture : Option (List ℕ)) (qualifier : Qualifier) → IsDecided (IsUsable architecture qualifier)
 usable-decided architecture Plain = inl tt
 usable-decided architecture (Named name) =
-    either (text-decided name (codes "any")) (either (text-decided name (codes "native")) (architecture-decided architecture name))
+    either-decided (text-decided name (codes "any")) (either-decided (text-decided name (codes "native")) (architecture-decided architecture name))
 
-bound-decided : (version : List ℕ) (bound : Option Bound) → IsDecided (IfSome bound (λ b. Satisfies version b))
+pub bound-decided : (version : List ℕ) (bound : Option Bound) → IsDecided (IfSome bound (λ b. Satisfies version b))
 bound-decided version None = inl tt
 bound-decided version (Some bound) = satisfies-decided version bound
 
@@ -101,18 +101,18 @@ entry-bound-decided (Some version) (Some bound) = satisfies-decided version boun
 
 name-decided : (atom : Atom) (p : Package) → IsDecided (MatchesByName atom p)
 name-decided atom p =
-    same-as (λ h. record { name = h.0; bound = h.1 }) (λ h. (h.name, h.bound)) (both (text-decided p.name atom.name) (bound-decided p.version atom.bound))
+    same-as (λ h. record { name = h.0; bound = h.1 }) (λ h. (h.name, h.bound)) (both-decided (text-decided p.name atom.name) (bound-decided p.version atom.bound))
 
-entry-decided : (architecture : Option (List ℕ)) (atom : Atom) (entry : Provide) → IsDecided (MatchesByEntry architecture atom entry)
+pub entry-decided : (architecture : Option (List ℕ)) (atom : Atom) (entry : Provide) → IsDecided (MatchesByEntry architecture atom entry)
 entry-decided architecture atom entry =
     same-as (λ h. record { usable = h.0; name = h.1.0; bound = h.1.1 }) (λ h. (h.usable, (h.name, h.bound)))
-    (both (usable-decided architecture entry.qualifier) (both (text-decided entry.name atom.name) (entry-bound-decided entry.version atom.bound)))
+    (both-decided (usable-decided architecture entry.qualifier) (both-decided (text-decided entry.name atom.name) (entry-bound-decided entry.version atom.bound)))
 
 pub matches-decided : (architecture : Option (List ℕ)) (atom : Atom) (p : Package) → IsDecided (Matches architecture atom p)
 matches-decided architecture atom p =
     same-as (λ h. record { usable = h.0; matched = h.1 }) (λ h. (h.usable, h.matched))
-    (both (usable-decided architecture atom.qualifier)
-    (either (name-decided atom p) (any-decided (MatchesByEntry architecture atom) (entry-decided architecture atom) p.provides)))
+    (both-decided (usable-decided architecture atom.qualifier)
+    (either-decided (name-decided atom p) (any-decided (MatchesByEntry architecture atom) (entry-decided architecture atom) p.provides)))
 
 pub met-decided : (architecture : Option (List ℕ)) (members : List Package) (item : List Atom) → IsDecided (IsMet architecture members item)
 met-decided architecture members item =

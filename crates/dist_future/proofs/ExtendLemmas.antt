@@ -8,7 +8,8 @@ use Rattle.std.proofs.lemmas.List.FromFn.{get_or-range_with_len, length-range_wi
 use Rattle.std.proofs.lemmas.Option.{get_or_from_slice_get, slice_get-get_or, slice_get_within}
 use Rattle.dist_relation.specs.declared.atom.Provide.{Provide}
 use Rattle.dist_future.specs.Kept.{IsExtended, IsFull}
-use Rattle.dist_future.specs.Numbering.{below, entry_part, is_usable, usable_from}
+use Rattle.dist_future.specs.Usable.{is_usable}
+use Rattle.dist_future.specs.Numbering.{below, entry_part, usable_from}
 use Rattle.dist_future.specs.declared.errors.SpaceError.{SpaceError}
 use Rattle.dist_future.specs.declared.errors.SpaceError.TheVariants.{TooManyVariables, NoMemory}
 use Rattle.dist_future.specs.declared.meaning.Meaning.{Meaning}

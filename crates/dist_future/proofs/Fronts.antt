@@ -11,8 +11,8 @@ use Rattle.dist_clause.specs.declared.clause_set.PushError.TheVariants.{TooManyC
 use Rattle.dist_repo.specs.declared.package.Package.{Package}
 use Rattle.dist_future.specs.Gathering.{IsBelow, IsCauseAt, IsFront, IsRefused}
 use Rattle.dist_future.specs.Space.{IsMeaning, IsSpace, SpaceView, variable_of}
-use Rattle.dist_future.specs.SpaceClauses.{Demand, OneClass, Gone, Moved, Carried, OneFresh, Item, Apart, StaysNow, AbsentNow, Required, AreClausesOf, Excludes, IsBefore, IsClauseFor, IsDemand, group_of, leading, rank_of, second_of}
-use Rattle.dist_future.specs.SpaceSet.{IsCause, IsSetOf}
+use Rattle.dist_future.specs.SpaceClauses.{Demand, OneClass, Gone, Moved, Carried, OneFresh, Item, Apart, StaysNow, AbsentNow, Required, Excludes, IsBefore, IsClauseFor, IsDemand, group_of, leading, rank_of, second_of}
+use Rattle.dist_future.specs.SpaceSet.{IsSetOf}
 use Rattle.dist_future.specs.declared.meaning.Meaning.{Meaning}
 use Rattle.dist_future.proofs.DemandLists.{clauses-more, clauses-shift}
 use Rattle.dist_future.proofs.Lex.{IsLess, cmp-less, less-cmp}
@@ -189,33 +189,6 @@ module _ (s : SpaceView) (space : IsSpace s) (limits : ClauseList) where
             inr (group, inr (same, subst At (sym one.1) (inl (all d is group same one.0 one.1))))
       ]
 
-  -- to the next group, where all variables were gone through
-  pub front-group : (g v : ℕ) (set : ClauseList) → length s.meanings < v → g < 6 → IsFront s g v 0 limits set → IsFront s (g + 1) 1 0 limits set
-  front-group g v set past few of =
-      set-shift (IsBelow s g v 0) (IsBelow s (g + 1) 1 0) limits.clause_limit limits.literal_limit set
-      (λ d h. (h.0, cases-below s d (g + 1) 1 0 (to d (below-cases s d g v 0 h.1))))
-      (λ d h. (h.0, cases-below s d g v 0 (back d h.0 (below-cases s d (g + 1) 1 0 h.1)))) of
-    where
-      to : (d : Demand) → IsLess (rank_of s d) (g ∷ v ∷ 0 ∷ []) → IsLess (rank_of s d) ((g + 1) ∷ 1 ∷ 0 ∷ [])
-      to d (inl less) = inl (omega (arith, less))
-      to d (inr (group, rest)) = inl (omega (arith, group))
-
-      back : (d : Demand) → IsDemand s d → IsLess (rank_of s d) ((g + 1) ∷ 1 ∷ 0 ∷ []) → IsLess (rank_of s d) (g ∷ v ∷ 0 ∷ [])
-      back d is (inr (group, inl less)) = absurd (let range = variable-range s (leading d) space (leading-is s d is) in omega (arith, less, range.0))
-      back d is (inr (group, inr (variable, second))) =
-          let one = second-one s d (omega (arith, group, few)) in
-          let Zero : List ℕ → Type 0 = λ ys. IsLess ys (0 ∷ []) in
-          absurd (elim (subst Zero one.1 second) [
-            | inl below ↦ omega (arith, below)
-            | inr more ↦ more.1
-          ])
-      back d is (inl less) = elim (cases_lt (group_of d) g) [
-        | inl below ↦ inl below
-        | inr past_group ↦
-            let range = variable-range s (leading d) space (leading-is s d is) in
-            inr (omega (arith, less, past_group), inl (omega (arith, past, range.1)))
-      ]
-
   -- with the clause of the demand at this place
   pub front-more : (g v b : ℕ) (set : ClauseList) (d : Demand) (clause : List Literal) → g < 7 → IsDemand s d → group_of d ≡ g → variable_of s (leading d) ≡ v → second_of s d ≡ b ∷ [] → IsClauseFor s d clause
       → IsFront s g v b limits set → IsFront s g v (b + 1) limits (record set { clauses = set.clauses ++ clause ∷ [] })
@@ -245,21 +218,14 @@ module _ (s : SpaceView) (space : IsSpace s) (limits : ClauseList) where
             inr (rank-one s d e space is h.0 (group ∙ sym same.0) lead (second ∙ sym same.2))
       ]
 
-  -- why a set stops at the clause of the demand at this place
-  pub stops : (g v b : ℕ) (set : ClauseList) (d : Demand) (clause : List Literal) (error : PushError) → IsDemand s d → group_of d ≡ g → variable_of s (leading d) ≡ v → second_of s d ≡ b ∷ [] → IsClauseFor s d clause
-      → IsFront s g v b limits set → IsRefused set clause error → IsCauseAt s limits error
-  stops g v b set d clause error is group variable second is_clause of refused = by error refused
+  -- why a set stops at the clause of a demand
+  pub stops-at : (set : ClauseList) (d : Demand) (clause : List Literal) (error : PushError) → IsDemand s d → IsClauseFor s d clause → IsSetOf s (λ e. IsDemand s e × IsBefore s e d) limits.clause_limit limits.literal_limit set → IsRefused set clause error → IsCauseAt s limits error
+  stops-at set d clause error is is_clause of refused = by error refused
     where
-      rank_is : rank_of s d ≡ g ∷ v ∷ b ∷ []
-      rank_is = ap (λ (x : ℕ). x ∷ variable_of s (leading d) ∷ second_of s d) group ∙ ap (λ (x : ℕ). g ∷ x ∷ second_of s d) variable ∙ ap (λ (xs : List ℕ). g ∷ v ∷ xs) second
-
-      front : AreClausesOf s (λ e. IsDemand s e × IsBefore s e d) set.clauses
-      front = let Of : List ℕ → Type 0 = λ xs. AreClausesOf s (λ e. IsDemand s e × (slice_cmp nat_cmp (rank_of s e) xs ≡ Less)) set.clauses in subst Of (sym rank_is) of.clauses
-
       by : (e : PushError) → IsRefused set clause e → IsCauseAt s limits e
       by TooManyClauses r =
           let c = of.clause_limit_is in let l = of.literal_limit_is in
-          record { demand = d; is_demand = is; clause = clause; is_clause = is_clause; front = set.clauses; before = front; clauses_kept = omega (arith, r.1, c); literals_kept = omega (arith, r.0, l); passes = r.1 ∙ c }
+          record { demand = d; is_demand = is; clause = clause; is_clause = is_clause; front = set.clauses; before = of.clauses; clauses_kept = omega (arith, r.1, c); literals_kept = omega (arith, r.0, l); passes = r.1 ∙ c }
       by TooManyLiterals r =
           let c = of.clause_limit_is in let l = of.literal_limit_is in
           record {
@@ -268,48 +234,18 @@ module _ (s : SpaceView) (space : IsSpace s) (limits : ClauseList) where
             clause = clause;
             is_clause = is_clause;
             front = set.clauses;
-            before = front;
+            before = of.clauses;
             clauses_kept = omega (arith, r.1, c);
             literals_kept = omega (arith, r.0, l);
             passes = (omega (arith, r.1, c), omega (arith, r.2, l));
           }
       by NoMemory r = tt
 
-  -- to the names, where all variables were gone through
-  pub front-last : (v : ℕ) (set : ClauseList) → length s.meanings < v → IsFront s 6 v 0 limits set → IsFront s 7 0 0 limits set
-  front-last v set past of =
-      set-shift (IsBelow s 6 v 0) (IsBelow s 7 0 0) limits.clause_limit limits.literal_limit set
-      (λ d h. (h.0, cases-below s d 7 0 0 (to d (below-cases s d 6 v 0 h.1))))
-      (λ d h. (h.0, cases-below s d 6 v 0 (back d h.0 (below-cases s d 7 0 0 h.1)))) of
-    where
-      to : (d : Demand) → IsLess (rank_of s d) (6 ∷ v ∷ 0 ∷ []) → IsLess (rank_of s d) (7 ∷ 0 ∷ 0 ∷ [])
-      to d (inl less) = inl (omega (arith, less))
-      to d (inr (group, rest)) = inl (omega (arith, group))
-
-      back : (d : Demand) → IsDemand s d → IsLess (rank_of s d) (7 ∷ 0 ∷ 0 ∷ []) → IsLess (rank_of s d) (6 ∷ v ∷ 0 ∷ [])
-      back d is (inr (group, inl less)) = absurd (omega (arith, less))
-      back d is (inr (group, inr (variable, second))) = absurd (let range = variable-range s (leading d) space (leading-is s d is) in omega (arith, variable, range.0))
-      back d is (inl less) = elim (cases_lt (group_of d) 6) [
-        | inl below ↦ inl below
-        | inr past_group ↦
-            let range = variable-range s (leading d) space (leading-is s d is) in
-            inr (omega (arith, less, past_group), inl (omega (arith, past, range.1)))
-      ]
-
--- ---- the limits of one set and of another
-
-module _ (s : SpaceView) (limits : ClauseList) (g v b : ℕ) where
-  -- a set has its own limits
-  pub front-own : (set : ClauseList) → IsFront s g v b limits set → IsFront s g v b set set
-  front-own set of = record { clauses = of.clauses; variables = of.variables; clause_limit_is = refl; literal_limit_is = refl }
-
-  -- one front after another
-  pub front-from : (h w c : ℕ) (set new : ClauseList) → IsFront s g v b limits set → IsFront s h w c set new → IsFront s h w c limits new
-  front-from h w c set new of next = record { clauses = next.clauses; variables = next.variables; clause_limit_is = next.clause_limit_is ∙ of.clause_limit_is; literal_limit_is = next.literal_limit_is ∙ of.literal_limit_is }
-
-  -- a cause on the way is one
-  pub cause-from : (set : ClauseList) → IsFront s g v b limits set → (error : PushError) → IsCauseAt s set error → IsCauseAt s limits error
-  cause-from set of error cause =
-      let Clauses : ℕ → Type 0 = λ n. IsCause s n limits.literal_limit error in
-      let Literals : ℕ → Type 0 = λ n. IsCause s set.clause_limit n error in
-      subst Clauses of.clause_limit_is (subst Literals of.literal_limit_is cause)
+  -- the same at this place
+  pub stops : (g v b : ℕ) (set : ClauseList) (d : Demand) (clause : List Literal) (error : PushError) → IsDemand s d → group_of d ≡ g → variable_of s (leading d) ≡ v → second_of s d ≡ b ∷ [] → IsClauseFor s d clause
+      → IsFront s g v b limits set → IsRefused set clause error → IsCauseAt s limits error
+  stops g v b set d clause error is group variable second is_clause of refused =
+      let rank_is : rank_of s d ≡ g ∷ v ∷ b ∷ [] =
+      ap (λ (x : ℕ). x ∷ variable_of s (leading d) ∷ second_of s d) group ∙ ap (λ (x : ℕ). g ∷ x ∷ second_of s d) variable ∙ ap (λ (xs : List ℕ). g ∷ v ∷ xs) second in
+      let Of : List ℕ → Type 0 = λ xs. IsSetOf s (λ e. IsDemand s e × (slice_cmp nat_cmp (rank_of s e) xs ≡ Less)) limits.clause_limit limits.literal_limit set in
+      stops-at set d clause error is is_clause (subst Of (sym rank_is) of) refused

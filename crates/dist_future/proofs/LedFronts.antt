@@ -49,7 +49,7 @@ module _ (s : SpaceView) (space : IsSpace s) (limits : ClauseList) (g v b : ℕ)
 
 -- ---- one class of a cluster
 
-classes-of : (s : SpaceView) (d : Demand) (c k n : ℕ) → IsDemand s d → group_of d ≡ 1 → leading d ≡ At c k → second_of s d ≡ n ∷ [] → (k < n) × (n < length (cluster_classes s c))
+pub classes-of : (s : SpaceView) (d : Demand) (c k n : ℕ) → IsDemand s d → group_of d ≡ 1 → leading d ≡ At c k → second_of s d ≡ n ∷ [] → (k < n) × (n < length (cluster_classes s c))
 classes-of s (OneClass c' k' l) c k n is group lead second =
     let cluster : c' ≡ c = cc in
     let class : k' ≡ k = cc in
@@ -139,7 +139,7 @@ carried-pair s v r k j of = record {
   apart = λ same. cc;
 }
 
-moves-of : (s : SpaceView) (d : Demand) (r k n : ℕ) → IsDemand s d → group_of d ≡ 2 → leading d ≡ New r k → second_of s d ≡ n ∷ [] → n < 2
+pub moves-of : (s : SpaceView) (d : Demand) (r k n : ℕ) → IsDemand s d → group_of d ≡ 2 → leading d ≡ New r k → second_of s d ≡ n ∷ [] → n < 2
 moves-of s (Gone r' k') r k n is group lead second = omega (arith, first-number 0 n second)
 moves-of s (Moved r' k') r k n is group lead second = omega (arith, first-number 1 n second)
 moves-of s (Carried r' k' j) r k n is group lead second = cc
@@ -149,7 +149,7 @@ pub moves-end : (s : SpaceView) (limits set : ClauseList) (v r k : ℕ) → IsMe
 moves-end s limits set v r k of front =
     front-variable s of.space limits 2 v 2 set (λ d is group variable n second. moves-of s d r k n is group (leads s d v (New r k) of.space is of.is_meaning of.variable_is variable) second) (omega arith) front
 
-carried-of : (s : SpaceView) (d : Demand) (r k j n : ℕ) → IsDemand s d → group_of d ≡ 2 → leading d ≡ Kept r k j → second_of s d ≡ n ∷ [] → n < 1
+pub carried-of : (s : SpaceView) (d : Demand) (r k j n : ℕ) → IsDemand s d → group_of d ≡ 2 → leading d ≡ Kept r k j → second_of s d ≡ n ∷ [] → n < 1
 carried-of s (Gone r' k') r k j n is group lead second = cc
 carried-of s (Moved r' k') r k j n is group lead second = cc
 carried-of s (Carried r' k' i) r k j n is group lead second = omega (arith, first-number 0 n second)
@@ -167,7 +167,7 @@ no-moves s m new kept d is group lead = omega (arith, group)
 
 -- ---- one class of a new name
 
-fresh-of : (s : SpaceView) (d : Demand) (x k n : ℕ) → IsDemand s d → group_of d ≡ 3 → leading d ≡ Fresh x k → second_of s d ≡ n ∷ [] → (k < n) × (n < length (fresh_classes s x))
+pub fresh-of : (s : SpaceView) (d : Demand) (x k n : ℕ) → IsDemand s d → group_of d ≡ 3 → leading d ≡ Fresh x k → second_of s d ≡ n ∷ [] → (k < n) × (n < length (fresh_classes s x))
 fresh-of s (OneFresh x' k' l) x k n is group lead second =
     let name : x' ≡ x = cc in
     let class : k' ≡ k = cc in
@@ -232,7 +232,7 @@ absent-pair s v x k of = record {
   apart = λ same. cc;
 }
 
-today-of : (s : SpaceView) (d : Demand) (n : ℕ) → IsDemand s d → group_of d ≡ 6 → second_of s d ≡ n ∷ [] → n < 1
+pub today-of : (s : SpaceView) (d : Demand) (n : ℕ) → IsDemand s d → group_of d ≡ 6 → second_of s d ≡ n ∷ [] → n < 1
 today-of s (StaysNow c k) n is group second = omega (arith, first-number 0 n second)
 today-of s (AbsentNow x k) n is group second = omega (arith, first-number 0 n second)
 today-of s d n is group second = absurd (omega (arith, group))

@@ -33,6 +33,7 @@ use Rattle.dist_future.proofs.ClassMatch.{ClassLaws, IsMemberAt, fresh-at, fresh
 use Rattle.dist_future.proofs.DemandLemmas.{AreMet}
 use Rattle.dist_future.proofs.FutureToModel.{conflict-back, option-cases}
 use Rattle.dist_future.proofs.Lists.{all-contained, any-at, any-contained, at-has, contains-at, element-at, found-at, has-at, here-at, PlaceOf, place-of, within-from}
+use Rattle.dist_future.proofs.NumberingLemmas.{usable-is}
 use Rattle.dist_future.proofs.Parts.{first-none, first-some, flag-at, flag-is, if-some, if-true, kept-carried, length-flags, made, made-of, made-pairs, map-some, pairs-more}
 use Rattle.dist_future.proofs.SpaceLemmas.{above-top, class-above, clustered-same, has-cluster, names-apart}
 use Rattle.dist_future.proofs.VersionOrder.{equal-itself}
@@ -89,7 +90,7 @@ module _ (laws : ClassLaws) (s : SpaceView) (space : IsSpace s) (holds : Meaning
   ]
 
   abbrev kept_of : ℕ → ℕ → Package → List Bool
-  kept_of r k p = flags_from (λ j. holds (Kept r k j)) p.provides
+  kept_of r k p = flags_from s.repository.architecture (λ j. holds (Kept r k j)) p.provides
 
   new-of : (r k : ℕ) (p : Package) → k < length (member_classes s r) → IsNewVersionOf p (kept_of r k p) (new_version s holds version r k p)
   new-of r k p short =
@@ -97,7 +98,7 @@ module _ (laws : ClassLaws) (s : SpaceView) (space : IsSpace s) (holds : Meaning
       record {
         name = refl;
         version = is;
-        provides = kept-carried p.version (version (slice_index s.cluster_of r) k) (kept_of r k p) p.provides is (length-flags (λ j. holds (Kept r k j)) p.provides);
+        provides = kept-carried p.version (version (slice_index s.cluster_of r) k) (kept_of r k p) p.provides is (length-flags s.repository.architecture (λ j. holds (Kept r k j)) p.provides);
       }
 
   class-of-new : (r k : ℕ) (p : Package) → k < length (member_classes s r) → IsOfClassAt (member_classes s r) k (new_version s holds version r k p).version
@@ -429,7 +430,7 @@ module _ (laws : ClassLaws) (s : SpaceView) (space : IsSpace s) (holds : Meaning
       let here = has-at (λ (p : Package). IsSomeAnd (slice_get p.provides j) (λ entry. IsUsable s.repository.architecture entry.qualifier)) s.repository.packages r q is is_meaning.0 in
       let entry = here-at (λ (e : Provide). IsUsable s.repository.architecture e.qualifier) q.provides j here in
       from-kept s r k q (member-of-class r k q is is_meaning.1) atom of (new_version s holds version r k q) (kept_of r k q) j (new-of r k q is_meaning.1) (class-of-new r k q is_meaning.1)
-      (flag-is (λ i. holds (Kept r k i)) q.provides j entry.element entry.is true_is) matched
+      (flag-is s.repository.architecture (λ i. holds (Kept r k i)) q.provides j entry.element entry.is (usable-is s.repository.architecture entry.element.qualifier entry.holds) true_is) matched
 
   kept-within : (r k j : ℕ) → IsMeaning s (Kept r k j) → IsMeaning s (New r k)
   kept-within r k j is_meaning = (within-from (λ (p : Package). IsSomeAnd (slice_get p.provides j) (λ entry. IsUsable s.repository.architecture entry.qualifier)) s.repository.packages r is_meaning.0, is_meaning.1)
@@ -518,7 +519,7 @@ module _ (laws : ClassLaws) (s : SpaceView) (space : IsSpace s) (holds : Meaning
         | inr kept ↦
             let j = kept.0 in
             met.apart r p (Kept o k j) a.is kept.1.1 (other-name o b.q p.name b.is other, any-at (λ atom. IsMatched s atom (Kept o k j)) p.conflicts at.place at.element at.is kept.1.2) a.holds_is
-            (flag-at (λ i. holds (Kept o k i)) b.q.provides j kept.1.0)
+            (flag-at s.repository.architecture (λ i. holds (Kept o k i)) b.q.provides j kept.1.0)
       ]
 
   old-rejects-fresh : (r x k : ℕ) (p n : Package) → IsOld r p → IsFreshPackage x k n → IsMeaning s (Fresh x k) → p.name ≢ n.name → ¬ Rejects p n

@@ -16,7 +16,8 @@ use Rattle.dist_relation.specs.declared.atom.Qualifier.{Qualifier}
 use Rattle.dist_relation.specs.declared.atom.Qualifier.TheVariants.{Plain, Named}
 use Rattle.dist_repo.specs.Match.{IsUsable}
 use Rattle.dist_repo.specs.declared.package.Package.{Package}
-use Rattle.dist_future.specs.Numbering.{below, class_part, cluster_part, fresh_part, is_architecture, is_usable, meanings_of, member_part, provided_by, usable_from}
+use Rattle.dist_future.specs.Usable.{is_architecture, is_usable}
+use Rattle.dist_future.specs.Numbering.{below, class_part, cluster_part, fresh_part, meanings_of, member_part, provided_by, usable_from}
 use Rattle.dist_future.specs.Space.{AreMeaningsOf, IsFrame, IsMeaning, SpaceView, StandsBefore, cluster_classes, fresh_classes, key_of, member_classes}
 use Rattle.dist_future.specs.declared.meaning.Meaning.{Meaning}
 use Rattle.dist_future.specs.declared.meaning.Meaning.TheVariants.{Now, Present, At, New, Kept, Fresh}

@@ -1,7 +1,7 @@
 -- Lists of the packages that meanings give.
 use Rattle.std.proofs.Common.{◌≡◌, ℕ, zero, suc, ◌<◌, Bool, true, false, List, [], ◌∷◌, Option, Some, None, length, get_or, refl, ap, subst, ◌∙◌, inl, inr, arith, slice_get}
-use Rattle.std.specs.Prelude.{All, AllPairs, Contains, filter_map, if◌then◌else◌}
-use Rattle.std.proofs.lemmas.Bool.{cases_lt}
+use Rattle.std.specs.Prelude.{All, AllPairs, Contains, filter_map, ◌&&◌, if◌then◌else◌}
+use Rattle.std.proofs.lemmas.Bool.{cases_lt, false≢true}
 use Rattle.std.proofs.lemmas.List.Elements.{Contains-get_or}
 use Rattle.std.proofs.lemmas.Option.{same_Some}
 use Rattle.std.specs.List.{cons_option}
@@ -11,6 +11,7 @@ use Rattle.dist_version.specs.Spelling.{IsVersion}
 use Rattle.dist_classes.specs.NewVersion.{AreCarried}
 use Rattle.dist_future.specs.Space.{moved_entry}
 use Rattle.dist_future.specs.Stands.{first_true, flags_from, kept_entries, or_else}
+use Rattle.dist_future.specs.Usable.{is_usable}
 use Rattle.dist_future.proofs.ClassMatch.{moved-carried}
 use Rattle.dist_future.proofs.Lists.{all-contained}
 
@@ -113,19 +114,30 @@ first-none test n is = subst (IsFirst test n) is (first-is test n)
 
 -- ---- kept entries
 
-pub flag-at : (test : ℕ → Bool) (entries : List Provide) (j : ℕ) → slice_get (flags_from test entries) j ≡ Some true → test j ≡ true
-flag-at test [] j is = absurd (let none : None ≡ Some true = is in cc)
-flag-at test (entry ∷ entries) zero is = same_Some (test 0) true is
-flag-at test (entry ∷ entries) (suc j) is = flag-at (λ k. test (suc k)) entries j is
+and-right : (a b : Bool) → (a && b) ≡ true → b ≡ true
+and-right true b is = is
+and-right false b is = absurd (false≢true is)
 
-pub flag-is : (test : ℕ → Bool) (entries : List Provide) (j : ℕ) (entry : Provide) → slice_get entries j ≡ Some entry → test j ≡ true → slice_get (flags_from test entries) j ≡ Some true
-flag-is test [] j entry at is = absurd (let none : None ≡ Some entry = at in cc)
-flag-is test (first ∷ entries) zero entry at is = ap (λ (b : Bool). Some b) is
-flag-is test (first ∷ entries) (suc j) entry at is = flag-is (λ k. test (suc k)) entries j entry at is
+and-both : (a b : Bool) → a ≡ true → b ≡ true → (a && b) ≡ true
+and-both true b first second = second
+and-both false b first second = first
 
-pub length-flags : (test : ℕ → Bool) (entries : List Provide) → length (flags_from test entries) ≡ length entries
-length-flags test [] = refl
-length-flags test (entry ∷ entries) = ap suc (length-flags (λ k. test (suc k)) entries)
+pub flag-at : (architecture : Option (List ℕ)) (test : ℕ → Bool) (entries : List Provide) (j : ℕ) → slice_get (flags_from architecture test entries) j ≡ Some true → test j ≡ true
+flag-at architecture test [] j is = absurd (let none : None ≡ Some true = is in cc)
+flag-at architecture test (entry ∷ entries) zero is = and-right (is_usable architecture entry.qualifier) (test 0) (same_Some (is_usable architecture entry.qualifier && test 0) true is)
+flag-at architecture test (entry ∷ entries) (suc j) is = flag-at architecture (λ k. test (suc k)) entries j is
+
+pub flag-is : (architecture : Option (List ℕ)) (test : ℕ → Bool) (entries : List Provide) (j : ℕ) (entry : Provide) → slice_get entries j ≡ Some entry → is_usable architecture entry.qualifier ≡ true → test j ≡ true
+    → slice_get (flags_from architecture test entries) j ≡ Some true
+flag-is architecture test [] j entry at usable is = absurd (let none : None ≡ Some entry = at in cc)
+flag-is architecture test (first ∷ entries) zero entry at usable is =
+    let same : entry ≡ first = cc in
+    ap (λ (b : Bool). Some b) (and-both (is_usable architecture first.qualifier) (test 0) (subst (λ (e : Provide). is_usable architecture e.qualifier ≡ true) same usable) is)
+flag-is architecture test (first ∷ entries) (suc j) entry at usable is = flag-is architecture (λ k. test (suc k)) entries j entry at usable is
+
+pub length-flags : (architecture : Option (List ℕ)) (test : ℕ → Bool) (entries : List Provide) → length (flags_from architecture test entries) ≡ length entries
+length-flags architecture test [] = refl
+length-flags architecture test (entry ∷ entries) = ap suc (length-flags architecture (λ k. test (suc k)) entries)
 
 pub kept-carried : (old new : List ℕ) (flags : List Bool) (entries : List Provide) → IsVersion new → length flags ≡ length entries → AreCarried old new flags entries (kept_entries old new flags entries)
 kept-carried old new [] [] is same = refl

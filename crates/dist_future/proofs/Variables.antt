@@ -79,7 +79,7 @@ value-at s f m space is_meaning =
 abbrev pub before_it : SpaceView → Meaning → Meaning → Bool
 before_it s m a = is_lt (slice_cmp nat_cmp (key_of s a) (key_of s m))
 
-less-is : (o : Ordering) → is_lt o ≡ true → o ≡ Less
+pub less-is : (o : Ordering) → is_lt o ≡ true → o ≡ Less
 less-is Less is = refl
 less-is Equal is = cc
 less-is Greater is = cc

@@ -1,10 +1,10 @@
 -- A frame with its meanings is a space.
-use Rattle.std.proofs.Common.{◌≡◌, ℕ, ◌-◌, ◌≤◌, Bool, List, length, Some, refl, sym, subst, arith, slice_get}
+use Rattle.std.proofs.Common.{◌≡◌, ℕ, ◌-◌, ◌≤◌, Bool, List, length, Some, Result, Ok, Err, refl, sym, ap, subst, ◌∙◌, arith, slice_get}
 use Rattle.dist_repo.specs.PackageList.{PackageList}
 use Rattle.dist_future.specs.Kept.{IsFrameOf, IsFull}
 use Rattle.dist_future.specs.Numbering.{meanings_of}
 use Rattle.dist_future.specs.Space.{AreMeaningsOf, IsFrame, IsSpace, SpaceView, variable_of}
-use Rattle.dist_future.specs.SpaceOf.{IsSpaceOf, IsTooLarge}
+use Rattle.dist_future.specs.SpaceOf.{HasMoreVariables, IsExactly, IsSpaceOf}
 use Rattle.dist_future.specs.declared.errors.SpaceError.{SpaceError}
 use Rattle.dist_future.specs.declared.errors.SpaceError.TheVariants.{TooManyVariables, NoMemory}
 use Rattle.dist_future.specs.declared.meaning.Meaning.{Meaning}
@@ -37,9 +37,18 @@ whole s ms frame is =
 pub whole-of : (r : PackageList) (essential : Bool) (s : SpaceView) (ms : List Meaning) → IsFrameOf r essential s → ms ≡ meanings_of s → IsSpaceOf r essential (with_meanings s ms)
 whole-of r essential s ms of is = record { space = whole s ms of.frame is; repository = of.repository; essential_is = of.essential_is }
 
-pub too-large : (r : PackageList) (essential : Bool) (s : SpaceView) (variables : ℕ) (e : SpaceError) → IsFrameOf r essential s → IsFull variables (length (meanings_of s)) e → IsTooLarge r essential variables e
-too-large r essential s variables TooManyVariables of full = (with_meanings s (meanings_of s), whole-of r essential s (meanings_of s) of refl, full)
-too-large r essential s variables NoMemory of full = tt
+-- exactly where there are too many
+pub exactly-none : {X : Type 0} (r : PackageList) (essential : Bool) (s : SpaceView) (variables : ℕ) (e : SpaceError) (result : Result X SpaceError) → result ≡ Err e → IsFrameOf r essential s → IsFull variables (length (meanings_of s)) e
+    → IsExactly result TooManyVariables (HasMoreVariables r essential variables)
+exactly-none r essential s variables TooManyVariables result is of full = λ some. (λ err. (with_meanings s (meanings_of s), whole-of r essential s (meanings_of s) of refl, full), λ more. is)
+exactly-none r essential s variables NoMemory result is of full = λ some. absurd (some is)
+
+pub exactly-some : {X : Type 0} (r : PackageList) (essential : Bool) (s : SpaceView) (variables : ℕ) (result : Result X SpaceError) (space : X) → result ≡ Ok space → IsSpaceOf r essential s → length s.meanings ≤ variables
+    → ((a b : SpaceView) → IsSpaceOf r essential a → IsSpaceOf r essential b → b ≡ a) → IsExactly result TooManyVariables (HasMoreVariables r essential variables)
+exactly-some r essential s variables result space is of within one = λ some. (
+  λ err. absurd (let no : Ok space ≡ Err TooManyVariables = sym is ∙ err in cc),
+  λ more. absurd (let same = ap (λ (x : SpaceView). length x.meanings) (one s more.0 of more.1) in let past = more.2 in omega (arith, within, same, past)),
+)
 
 pub variable-back : (s : SpaceView) (m : Meaning) (variable : ℕ) → IsSpace s → 1 ≤ variable → slice_get s.meanings (variable - 1) ≡ Some m → variable_of s m ≡ variable
 variable-back s m variable space from is = let at = variable-at s m (variable - 1) space.meanings.rising is in omega (arith, at, from)

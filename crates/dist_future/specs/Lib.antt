@@ -1,6 +1,7 @@
 pub mod Future
 pub mod Outdated
 pub mod Space
+pub mod Usable
 pub mod SpaceClauses
 pub mod SpaceSet
 pub mod Stands
@@ -10,4 +11,10 @@ pub mod SpaceOf
 pub mod Numbering
 pub mod Kept
 pub mod Gathering
+pub mod Groups
+pub mod Rejecting
 pub mod FutureExamples
+pub mod Least
+pub mod FutureHealth
+pub mod Matching
+pub mod HealthLaws

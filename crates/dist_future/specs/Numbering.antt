@@ -1,26 +1,17 @@
 -- What the variables of a space mean, from the first one on, as they are made. No public clause cites it.
-use Rattle.std.specs.Prelude.{ℕ, ◌+◌, Bool, true, false, ◌||◌, List, [], ◌∷◌, ◌++◌, Option, None, Some, bytes_eq, codes, length, map, slice_get, slice_index_or, if◌then◌else◌}
+use Rattle.std.specs.Prelude.{ℕ, ◌+◌, List, [], ◌∷◌, ◌++◌, Option, None, Some, length, map, slice_get, slice_index_or, if◌then◌else◌}
 use Rattle.std.specs.List.{flat_map, range_with_len}
 use Rattle.dist_relation.specs.declared.atom.Provide.{Provide}
 use Rattle.dist_relation.specs.declared.atom.Qualifier.{Qualifier}
-use Rattle.dist_relation.specs.declared.atom.Qualifier.TheVariants.{Plain, Named}
 use Rattle.dist_repo.specs.declared.package.Package.{Package}
 use Rattle.dist_future.specs.Space.{SpaceView, cluster_classes, fresh_classes}
+use Rattle.dist_future.specs.Usable.{is_usable}
 use Rattle.dist_future.specs.declared.meaning.Meaning.{Meaning}
 use Rattle.dist_future.specs.declared.meaning.Meaning.TheVariants.{Now, Present, At, New, Kept, Fresh}
 
 -- the numbers below another one
 abbrev pub below : ℕ → List ℕ
 below n = range_with_len 0 n
-
--- a qualifier is usable: there is none, or it is `any`, `native` or the file's architecture
-abbrev pub is_architecture : Option (List ℕ) → List ℕ → Bool
-is_architecture None name = false
-is_architecture (Some architecture) name = bytes_eq architecture name
-
-abbrev pub is_usable : Option (List ℕ) → Qualifier → Bool
-is_usable architecture Plain = true
-is_usable architecture (Named name) = bytes_eq name (codes "any") || (bytes_eq name (codes "native") || is_architecture architecture name)
 
 -- the places, from one on, of the usable entries of Provides
 abbrev pub usable_from : Option (List ℕ) → ℕ → List Provide → List ℕ

@@ -1,9 +1,10 @@
 -- What an assignment stands for: a future, and an installation in it. New versions of a class are at one version of it.
-use Rattle.std.specs.Prelude.{ℕ, zero, suc, Bool, true, false, List, [], ◌∷◌, Option, None, Some, filter_map, length, slice_get, slice_index, if◌then◌else◌}
+use Rattle.std.specs.Prelude.{ℕ, zero, suc, Bool, true, false, ◌&&◌, List, [], ◌∷◌, Option, None, Some, filter_map, length, slice_get, slice_index, if◌then◌else◌}
 use Rattle.std.specs.Option.{option_map}
 use Rattle.dist_relation.specs.declared.atom.Provide.{Provide}
 use Rattle.dist_repo.specs.declared.package.Package.{Package}
 use Rattle.dist_future.specs.Space.{SpaceView, cluster_classes, example_at, fresh_classes, moved_entry}
+use Rattle.dist_future.specs.Usable.{is_usable}
 use Rattle.dist_future.specs.declared.meaning.Meaning.{Meaning}
 use Rattle.dist_future.specs.declared.meaning.Meaning.TheVariants.{Now, Present, At, New, Kept, Fresh}
 
@@ -40,10 +41,10 @@ abbrev pub first_true : (ℕ → Bool) → ℕ → Option ℕ
 first_true test zero = None
 first_true test (suc n) = or_else (first_true test n) (if test n then Some n else None)
 
--- for each entry its flag
-abbrev pub flags_from : (ℕ → Bool) → List Provide → List Bool
-flags_from test [] = []
-flags_from test (entry ∷ entries) = test 0 ∷ flags_from (λ j. test (suc j)) entries
+-- for each entry whether it is kept: it is usable, and a test of its place gives true
+abbrev pub flags_from : Option (List ℕ) → (ℕ → Bool) → List Provide → List Bool
+flags_from architecture test [] = []
+flags_from architecture test (entry ∷ entries) = (is_usable architecture entry.qualifier && test 0) ∷ flags_from architecture (λ j. test (suc j)) entries
 
 -- the class that a cluster is at
 abbrev pub class_chosen : SpaceView → (Meaning → Bool) → ℕ → Option ℕ
@@ -51,7 +52,7 @@ class_chosen s holds c = first_true (λ k. holds (At c k)) (length (cluster_clas
 
 -- a member's new version of a class, with the entries that are kept; `version` has one for each cluster and class
 abbrev pub new_version : SpaceView → (Meaning → Bool) → (version : ℕ → ℕ → List ℕ) → (r k : ℕ) → Package → Package
-new_version s holds version r k p = new_package p (version (slice_index s.cluster_of r) k) (flags_from (λ j. holds (Kept r k j)) p.provides)
+new_version s holds version r k p = new_package p (version (slice_index s.cluster_of r) k) (flags_from s.repository.architecture (λ j. holds (Kept r k j)) p.provides)
 
 abbrev pub moved_package : SpaceView → (Meaning → Bool) → (version : ℕ → ℕ → List ℕ) → ℕ → Package → Option ℕ → Package
 moved_package s holds version r p None = p

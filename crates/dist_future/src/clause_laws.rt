@@ -6,6 +6,11 @@ ghost use Rattle.dist_future.specs.Space.{IsSpace, SpaceView};
 ghost use Rattle.dist_future.specs.SpaceClauses.{AreClausesBefore, AreSpaceClauses, Demand, IsClauseFor, IsDemand};
 ghost use Rattle.dist_future.specs.SpaceSet.{PassesClauses, PassesLiterals};
 
+/// Each space has a list of clauses.
+pub fn space_clauses_are_there()
+    ensures { (s : SpaceView) → IsSpace s → (clauses : List (List Literal)) × AreSpaceClauses s clauses }
+{}
+
 /// A space has one list of clauses.
 pub fn space_clauses_are_one()
     ensures { (s : SpaceView) (clauses other : List (List Literal)) → AreSpaceClauses s clauses → AreSpaceClauses s other → other ≡ clauses }

@@ -1,19 +1,21 @@
 //! The space of the futures of a repository.
-ghost use Rattle.std.specs.Prelude.{◌≡◌, ◌≤◌, ◌<◌, ◌-◌, ◌^◌, IfErr, IfOk, Some, length, slice_get};
+ghost use Rattle.std.specs.Prelude.{◌≡◌, ◌≤◌, ◌<◌, ◌-◌, ◌^◌, IfOk, Some, length, slice_get};
 ghost use Rattle.dist_base.specs.declared.TheConstants.{MAX_VARIABLES};
 ghost use Rattle.dist_repo.specs.Order.{IsFlat};
 ghost use Rattle.dist_repo.specs.Size.{IsWithinSize};
 ghost use Rattle.dist_future.specs.Gathering.{IsMeaningOf};
-ghost use Rattle.dist_future.specs.Space.{IsMeaning, IsSpace, cluster_classes, fresh_classes, variable_of};
-ghost use Rattle.dist_future.specs.SpaceOf.{IsSpaceOf, IsTooLarge};
+ghost use Rattle.dist_future.specs.Space.{IsMeaning, IsSpace, cluster_classes, example_at, fresh_classes, variable_of};
+ghost use Rattle.dist_future.specs.SpaceOf.{HasMoreVariables, IsExactly, IsSpaceOf};
 
 use crate::errors::SpaceError;
 use crate::frame::Frame;
 use crate::meaning::Meaning;
 use crate::numbering::number_meanings;
+use crate::space_laws::spaces_are_one;
 use dist_classes::{Classes, Names};
 use dist_cluster::Clusters;
-use dist_repo::Repository;
+use dist_repo::{Package, Repository};
+use dist_version::Version;
 use std::alloc::Global;
 use std::marker::Model;
 
@@ -67,8 +69,10 @@ pub fn space_of(
     requires variables { variables ≤ MAX_VARIABLES }
     ensures ok { IfOk result (λ space. IsSpaceOf repo essential space) }
     ensures within { IfOk result (λ space. length space.meanings ≤ variables) }
-    ensures err { IfErr result (IsTooLarge repo essential variables) }
+    ensures too_many { IsExactly result SpaceError.TooManyVariables (HasMoreVariables repo essential variables) }
 {
+    // What this call tells is that no other space has another number of variables.
+    spaces_are_one();
     let frame = Frame::new(alloc, repo, essential)?;
     let meanings = number_meanings(alloc, &frame, variables)?;
     Ok(Space { frame, meanings })
@@ -158,5 +162,37 @@ impl Space {
             Some(classes) => classes.len(),
             None => 0,
         }
+    }
+
+    /// How many packages there are.
+    pub(crate) fn package_count(&self) -> u32
+        ensures { result ≡ length self.now.repository.packages }
+    {
+        self.frame.package_count()
+    }
+
+    /// The package of a number. Together the packages of a repository have fewer entries than 32 bits can number.
+    pub(crate) fn package(&self, number: u32) -> &Package
+        requires { number < length self.now.repository.packages }
+        ensures value { slice_get self.now.repository.packages number ≡ Some result.now }
+        ensures few_entries { length result.now.provides < 2 ^ 32 }
+    {
+        self.frame.package(number)
+    }
+
+    /// The example of a class of a cluster.
+    pub(crate) fn example(&self, cluster: u32, class: u32) -> &Version
+        requires { class < length (cluster_classes self.now cluster) }
+        ensures { result.now ≡ example_at (cluster_classes self.now cluster) class }
+    {
+        self.frame.classes[cluster as usize].example(class)
+    }
+
+    /// The example of a class of a new name.
+    pub(crate) fn name_example(&self, name: u32, class: u32) -> &Version
+        requires { class < length (fresh_classes self.now name) }
+        ensures { result.now ≡ example_at (fresh_classes self.now name) class }
+    {
+        self.frame.name_classes[name as usize].example(class)
     }
 }

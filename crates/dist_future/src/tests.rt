@@ -1,64 +1,10 @@
 //! Worked rows: how many variables a space has, and what they mean.
-ghost use Rattle.std.specs.Prelude.{◌+◌, ◌<◌, ◌≤◌, length};
+ghost use Rattle.std.specs.Prelude.{◌<◌, length};
 
 use super::*;
-use dist_relation::{Name, read_atoms, read_depends, read_provides};
-use dist_repo::{Added, Builder, Package, Repository};
-use dist_version::Version;
+use crate::test_spaces::{Stanza, space_within};
 use std::alloc::Global;
 use std::test::Fail;
-
-/// A package of version 1: its name, its source, what it depends on and provides.
-type Row = (&'static str, &'static str, &'static str, &'static str);
-
-/// The package of a row. Its source has its version.
-fn package(alloc: Global, row: &Row) -> Result<Package, Fail> {
-    Ok(Package {
-        name: Name::read(alloc, row.0.as_bytes())?,
-        version: Version::read(alloc, b"1")?,
-        source: Name::read(alloc, row.1.as_bytes())?,
-        source_version: Version::read(alloc, b"1")?,
-        depends: read_depends(alloc, row.2.as_bytes())?,
-        conflicts: read_atoms(alloc, b"")?,
-        provides: read_provides(alloc, row.3.as_bytes())?,
-        essential: false,
-    })
-}
-
-/// Adds the package of a row.
-fn add(alloc: Global, builder: &mut Builder, row: &Row) -> Result<(), Fail>
-    requires { length builder.old < 100 }
-    ensures { length builder.new ≤ length builder.old + 1 }
-{
-    match builder.add(package(alloc, row)?, 1) {
-        Ok(Added::New) => Ok(()),
-        _ => Err(Fail::from("not added")),
-    }
-}
-
-/// The repository of three packages.
-fn repository(alloc: Global, rows: &(Row, Row, Row)) -> Result<Repository, Fail> {
-    let mut builder = Builder::new(alloc);
-    add(alloc, &mut builder, &rows.0)?;
-    add(alloc, &mut builder, &rows.1)?;
-    add(alloc, &mut builder, &rows.2)?;
-    Ok(builder.finish(None)?)
-}
-
-/// The space of three packages, of a number of variables at most.
-fn made(
-    alloc: Global,
-    rows: &(Row, Row, Row),
-    variables: u32,
-) -> Result<Result<Space, SpaceError>, Fail>
-    requires { variables < 100 }
-{
-    let repo = repository(alloc, rows)?;
-    if !repo.is_flat() || !repo.is_within_size() {
-        Err("not flat, or too large")?
-    }
-    Ok(space_of(alloc, repo, false, variables))
-}
 
 /// Whether these are the meanings of all variables, in order, and each has its variable.
 fn has_meanings(space: &Space, meanings: &[Meaning]) -> bool {
@@ -75,15 +21,16 @@ fn has_meanings(space: &Space, meanings: &[Meaning]) -> bool {
 }
 
 /// The space with these meanings is there, and none with fewer variables.
-fn check(alloc: Global, rows: &(Row, Row, Row), meanings: &[Meaning]) -> Result<(), Fail>
+fn check(alloc: Global, stanzas: &[Stanza], meanings: &[Meaning]) -> Result<(), Fail>
+    requires stanzas { length stanzas.now < 100 }
     requires some { 0 < length meanings.now }
     requires few { length meanings.now < 100 }
 {
-    match made(alloc, rows, meanings.len() as u32)? {
+    match space_within(alloc, stanzas, false, meanings.len() as u32)? {
         Ok(space) if has_meanings(&space, meanings) => {}
         _ => Err("no such space")?,
     }
-    match made(alloc, rows, meanings.len() as u32 - 1)? {
+    match space_within(alloc, stanzas, false, meanings.len() as u32 - 1)? {
         Err(SpaceError::TooManyVariables) => Ok(()),
         _ => Err("not refused")?,
     }
@@ -91,14 +38,13 @@ fn check(alloc: Global, rows: &(Row, Row, Row), meanings: &[Meaning]) -> Result<
 
 #[test]
 fn members_move_together(rt: HostRuntime) -> Result<(), Fail> {
-    let rows = (
-        ("a", "s", "", ""),
-        ("b", "s", "", ""),
-        ("p", "p", "a (= 1), b (>= 2)", ""),
-    );
     check(
         rt.alloc(),
-        &rows,
+        &[
+            ("a", "s", "", "", "", false),
+            ("b", "s", "", "", "", false),
+            ("p", "p", "a (= 1), b (>= 2)", "", "", false),
+        ],
         &[
             Meaning::Now,
             Meaning::Present(0),
@@ -121,14 +67,13 @@ fn members_move_together(rt: HostRuntime) -> Result<(), Fail> {
 
 #[test]
 fn entries_are_kept_and_new_names_come(rt: HostRuntime) -> Result<(), Fail> {
-    let rows = (
-        ("p", "p", "m | n", ""),
-        ("q", "q", "", "m"),
-        ("r", "r", "", ""),
-    );
     check(
         rt.alloc(),
-        &rows,
+        &[
+            ("p", "p", "m | n", "", "", false),
+            ("q", "q", "", "", "m", false),
+            ("r", "r", "", "", "", false),
+        ],
         &[
             Meaning::Now,
             Meaning::Present(0),

@@ -1,0 +1,10 @@
+use Rattle.dist_future.specs.Least.{IsLeastIfAny}
+use Rattle.dist_future.specs.Matching.{IsPresentBut}
+use Rattle.dist_future.proofs.FoundLemmas.{IsPresentOf, OneOf}
+use Rattle.dist_future.proofs.Leasts.{Before}
+use Rattle.dist_future.proofs.found.present_found.Given as goal
+
+-- the least of the providers so far
+abbrev pub invariant-loop-number : goal.invariant-loop-number
+invariant-loop-number l =
+    IsLeastIfAny (Before (OneOf l.space l.members l.atom (IsPresentOf l.space l.members l.atom) (IsPresentBut l.but) l.providers) l.number-index) l.least

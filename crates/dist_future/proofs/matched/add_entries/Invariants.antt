@@ -1,0 +1,11 @@
+use Rattle.std.proofs.Common.{◌≡◌}
+use Rattle.dist_future.specs.Gathering.{Gathers, IsKeptOf}
+use Rattle.dist_future.specs.declared.meaning.Meaning.TheVariants.{Kept}
+use Rattle.dist_future.proofs.Gathered.{UpTo}
+use Rattle.dist_future.proofs.MatchLemmas.{MatchedAnd}
+use Rattle.dist_future.proofs.matched.add_entries.Given as goal
+
+-- the entries so far that the atom matches were added
+abbrev pub invariant-loop-place : goal.invariant-loop-place
+invariant-loop-place l =
+    Gathers l.space l.initial.variables.items l.variables.items (MatchedAnd l.space l.atom (IsKeptOf l.member l.class)) (UpTo l.space (λ place. MatchedAnd l.space l.atom (λ m. m ≡ Kept l.member l.class place)) l.place)

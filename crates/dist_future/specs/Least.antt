@@ -1,0 +1,25 @@
+-- The least of numbers, or of pairs of numbers in the order of their first and then of their second.
+use Rattle.std.specs.Prelude.{◌≡◌, ◌⊎◌, ℕ, ◌<◌, ◌≤◌, Option, MatchOption}
+
+abbrev pub IsAtMost : (first second n k : ℕ) → Type 0
+IsAtMost first second n k = (first < n) ⊎ ((first ≡ n) × (second ≤ k))
+
+-- a pair with a property, and no lesser one has it
+pub record IsLeastPair (P : ℕ → ℕ → Type 0) (first second : ℕ) : Type 0 where
+  pub holds : P first second
+  pub least : (n k : ℕ) → P n k → IsAtMost first second n k
+
+-- no pair has the property
+abbrev pub IsNoPair : (ℕ → ℕ → Type 0) → Type 0
+IsNoPair P = (n k : ℕ) → ¬ P n k
+
+pub record IsLeast (P : ℕ → Type 0) (number : ℕ) : Type 0 where
+  pub holds : P number
+  pub least : (n : ℕ) → P n → number ≤ n
+
+-- the least number, or the least pair, with a property, if there is one
+abbrev pub IsLeastIfAny : (ℕ → Type 0) → Option ℕ → Type 0
+IsLeastIfAny P found = MatchOption found ((n : ℕ) → ¬ P n) (IsLeast P)
+
+abbrev pub IsLeastPairIfAny : (ℕ → ℕ → Type 0) → Option (ℕ × ℕ) → Type 0
+IsLeastPairIfAny P found = MatchOption found (IsNoPair P) (λ pair. IsLeastPair P pair.0 pair.1)

@@ -1,0 +1,199 @@
+//! The least variable that holds under an assignment and that an atom matches, by the index of names.
+ghost use Rattle.std.specs.Prelude.{◌≡◌, ◌<◌, ◌↔◌, IsTrue, Some, length, slice_get};
+ghost use Rattle.dist_repo.specs.Match.{IsUsable};
+ghost use Rattle.dist_repo.specs.Providers.{AreProviders};
+ghost use Rattle.dist_future.specs.FutureHealth.{IsOneEach};
+ghost use Rattle.dist_future.specs.Gathering.{IsFresh, IsLaterOf, IsOfVersion};
+ghost use Rattle.dist_future.specs.Least.{IsLeastIfAny};
+ghost use Rattle.dist_future.specs.Matching.{IsFound, IsLesserOf, IsMovedBut, IsOther, IsPresentBut};
+ghost use Rattle.dist_future.specs.Space.{IsMeaning, member_classes};
+ghost use Rattle.dist_future.specs.declared.meaning.Meaning.TheVariants as meaning;
+
+use crate::meaning::Meaning;
+use crate::space::Space;
+use dist_clause::Assignment;
+use dist_relation::{Atom, Provide};
+
+/// The lesser of two numbers, each of which may be missing.
+pub(crate) fn lesser(first: Option<u32>, second: Option<u32>) -> Option<u32>
+    ensures { IsLesserOf first second result }
+{
+    match (first, second) {
+        (None, other) => other,
+        (Some(one), None) => Some(one),
+        (Some(one), Some(other)) => Some(if one < other { one } else { other }),
+    }
+}
+
+/// Whether a package is the one that is left out.
+fn is_left_out(but: Option<u32>, number: u32) -> bool
+    ensures { IsTrue result ↔ (but ≡ Some number) }
+{
+    match but {
+        Some(other) => other == number,
+        None => false,
+    }
+}
+
+/// The variable of a meaning, if it holds and the atom matches it.
+fn candidate(space: &Space, members: &Assignment, atom: &Atom, meaning: Meaning) -> Option<u32>
+    requires one_each { IsOneEach space.now members.now }
+    requires is_meaning { IsMeaning space.now meaning }
+    ensures { IsLeastIfAny (IsFound space.now members.now atom.now (λ m. m ≡ meaning)) result }
+{
+    let variable = space.variable(&meaning);
+    if members.value(variable) && space.matches(atom, &meaning) {
+        Some(variable)
+    } else {
+        None
+    }
+}
+
+/// The variable of an entry of a new version, if it holds and the atom matches it.
+fn entry_found(
+    space: &Space,
+    members: &Assignment,
+    atom: &Atom,
+    member: u32,
+    class: u32,
+    place: u32,
+) -> Option<u32>
+    requires one_each { IsOneEach space.now members.now }
+    requires class { IsMeaning space.now (meaning.New member class) }
+    ensures { IsLeastIfAny (IsFound space.now members.now atom.now (λ m. m ≡ meaning.Kept member class place)) result }
+{
+    let provides = &space.package(member).provides;
+    if place as usize >= provides.len() {
+        return None;
+    }
+    let entry = provides.get(place as usize);
+    if entry.name != atom.name || !space.repo().usable(&entry.qualifier) {
+        return None;
+    }
+    candidate(space, members, atom, Meaning::Kept(member, class, place))
+}
+
+/// The least variable of a new version of a class.
+fn version_found(
+    space: &Space,
+    members: &Assignment,
+    atom: &Atom,
+    member: u32,
+    class: u32,
+) -> Option<u32>
+    requires one_each { IsOneEach space.now members.now }
+    requires class { IsMeaning space.now (meaning.New member class) }
+    ensures { IsLeastIfAny (IsFound space.now members.now atom.now (IsOfVersion member class)) result }
+{
+    let mut least = None;
+    for place in 0..space.package(member).provides.len() {
+        least = lesser(
+            least,
+            entry_found(space, members, atom, member, class, place as u32),
+        );
+    }
+    lesser(
+        candidate(space, members, atom, Meaning::New(member, class)),
+        least,
+    )
+}
+
+/// The least variable of the new versions of a member.
+fn member_found(space: &Space, members: &Assignment, atom: &Atom, member: u32) -> Option<u32>
+    requires one_each { IsOneEach space.now members.now }
+    requires member { member < length space.now.repository.packages }
+    ensures { IsLeastIfAny (IsFound space.now members.now atom.now (IsLaterOf member)) result }
+{
+    let mut least = None;
+    for class in 0..space.class_count(space.cluster_of(member)) {
+        least = lesser(least, version_found(space, members, atom, member, class));
+    }
+    least
+}
+
+/// The least variable of the packages as they are today, but for one.
+fn present_found(
+    space: &Space,
+    members: &Assignment,
+    atom: &Atom,
+    providers: &[u32],
+    but: Option<u32>,
+) -> Option<u32>
+    requires one_each { IsOneEach space.now members.now }
+    requires providers { AreProviders space.now.repository atom.now.name providers.now }
+    ensures { IsLeastIfAny (IsFound space.now members.now atom.now (IsPresentBut but)) result }
+{
+    let mut least = None;
+    for number in providers {
+        if !is_left_out(but, *number) {
+            least = lesser(
+                least,
+                candidate(space, members, atom, Meaning::Present(*number)),
+            );
+        }
+    }
+    least
+}
+
+/// The least variable of the new versions of members, but for one.
+fn moved_found(
+    space: &Space,
+    members: &Assignment,
+    atom: &Atom,
+    providers: &[u32],
+    but: Option<u32>,
+) -> Option<u32>
+    requires one_each { IsOneEach space.now members.now }
+    requires providers { AreProviders space.now.repository atom.now.name providers.now }
+    ensures { IsLeastIfAny (IsFound space.now members.now atom.now (IsMovedBut but)) result }
+{
+    let mut least = None;
+    for number in providers {
+        if !is_left_out(but, *number) {
+            least = lesser(least, member_found(space, members, atom, *number));
+        }
+    }
+    least
+}
+
+/// The least variable of packages of new names.
+fn fresh_found(space: &Space, members: &Assignment, atom: &Atom) -> Option<u32>
+    requires one_each { IsOneEach space.now members.now }
+    ensures { IsLeastIfAny (IsFound space.now members.now atom.now IsFresh) result }
+{
+    let name = space.find_name(&atom.name)?;
+    let mut least = None;
+    for class in 0..space.name_class_count(name) {
+        least = lesser(
+            least,
+            candidate(space, members, atom, Meaning::Fresh(name, class)),
+        );
+    }
+    least
+}
+
+/// The least variable that holds and that the atom matches, where those of one package may be left out. `providers` are
+/// those of the atom's name.
+pub(crate) fn found(
+    space: &Space,
+    members: &Assignment,
+    atom: &Atom,
+    providers: &[u32],
+    but: Option<u32>,
+) -> Option<u32>
+    requires one_each { IsOneEach space.now members.now }
+    requires providers { AreProviders space.now.repository atom.now.name providers.now }
+    ensures { IsLeastIfAny (λ v. IsUsable space.now.repository.architecture atom.now.qualifier × IsFound space.now members.now atom.now (IsOther but) v) result }
+{
+    if !space.repo().usable(&atom.qualifier) {
+        return None;
+    }
+    // What this call tells is that variables stand in their order.
+    let _variables = space.variables();
+    // Packages as they are today come before all others, and mostly one of them is found.
+    if let Some(variable) = present_found(space, members, atom, providers, but) {
+        return Some(variable);
+    }
+    let moved = moved_found(space, members, atom, providers, but);
+    lesser(moved, fresh_found(space, members, atom))
+}

@@ -1,0 +1,34 @@
+//! What health means, apart from the work. These functions do nothing.
+ghost use Rattle.std.specs.Prelude.{◌≡◌, ◌↔◌, Bool, List};
+ghost use Rattle.dist_clause.specs.Formula.{IsModel, Literal, value_of};
+ghost use Rattle.dist_future.specs.FutureHealth.{IsFutureHealth};
+ghost use Rattle.dist_future.specs.HealthLaws.{IsHealthyIn, StandsForHealthy};
+ghost use Rattle.dist_future.specs.Space.{IsSpace, SpaceView};
+ghost use Rattle.dist_future.specs.SpaceClauses.{AreSpaceClauses};
+ghost use Rattle.dist_future.specs.SpaceLaws.{StandsForFuture};
+ghost use Rattle.dist_future.specs.declared.health_kind.FutureHealth.{FutureHealth};
+
+use dist_classes::{new_names_match_alike, new_versions_match_alike, versions_are_in_one_class};
+
+/// An assignment has one health.
+pub fn one_future_health()
+    ensures { (s : SpaceView) (values : List Bool) (health other : FutureHealth) → IsFutureHealth s values health → IsFutureHealth s values other
+        → other ≡ health }
+{}
+
+/// The healthy assignments are exactly the models of the clauses of the space.
+pub fn healthy_are_models()
+    ensures { (s : SpaceView) (clauses : List (List Literal)) (values : List Bool) → IsSpace s → AreSpaceClauses s clauses
+        → IsHealthyIn s values ↔ IsModel (value_of values) clauses }
+{}
+
+/// An assignment is healthy exactly where it stands for a future and the installation that it stands for is a healthy one of
+/// that: what its true meanings say, with examples of the classes.
+pub fn healthy_stand_for_futures()
+    ensures future { (s : SpaceView) (values : List Bool) → IsSpace s → IsHealthyIn s values → StandsForFuture s values }
+    ensures exactly { (s : SpaceView) (values : List Bool) → IsSpace s → IsHealthyIn s values ↔ StandsForHealthy s values }
+{
+    versions_are_in_one_class();
+    new_versions_match_alike();
+    new_names_match_alike();
+}

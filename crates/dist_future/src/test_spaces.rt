@@ -1,0 +1,74 @@
+//! Small spaces for tests.
+ghost use Rattle.std.specs.Prelude.{◌+◌, ◌<◌, ◌≤◌, length};
+
+use super::*;
+use dist_relation::{Name, read_atoms, read_depends, read_provides};
+use dist_repo::{Builder, Package, Repository};
+use dist_version::Version;
+use std::alloc::Global;
+use std::test::Fail;
+
+/// A package of version 1: its name, its source, values of Depends, Conflicts and Provides, and whether it is essential. Its
+/// source has its version.
+pub type Stanza = (
+    &'static str,
+    &'static str,
+    &'static str,
+    &'static str,
+    &'static str,
+    bool,
+);
+
+/// The package of a stanza.
+fn package(alloc: Global, stanza: &Stanza) -> Result<Package, Fail> {
+    let (name, source, depends, conflicts, provides, essential) = *stanza;
+    Ok(Package {
+        name: Name::read(alloc, name.as_bytes())?,
+        version: Version::read(alloc, b"1")?,
+        source: Name::read(alloc, source.as_bytes())?,
+        source_version: Version::read(alloc, b"1")?,
+        depends: read_depends(alloc, depends.as_bytes())?,
+        conflicts: read_atoms(alloc, conflicts.as_bytes())?,
+        provides: read_provides(alloc, provides.as_bytes())?,
+        essential,
+    })
+}
+
+/// Adds a package.
+fn add(builder: &mut Builder, package: Package) -> Result<(), Fail>
+    requires { length builder.old < 100 }
+    ensures { length builder.new ≤ length builder.old + 1 }
+{
+    match builder.add(package, 1) {
+        Ok(_) => Ok(()),
+        Err(_) => Err("not added")?,
+    }
+}
+
+/// The repository of some stanzas.
+fn repository(alloc: Global, stanzas: &[Stanza]) -> Result<Repository, Fail>
+    requires { length stanzas.now < 100 }
+{
+    let mut builder = Builder::new(alloc);
+    for stanza in stanzas {
+        add(&mut builder, package(alloc, stanza)?)?;
+    }
+    Ok(builder.finish(None)?)
+}
+
+/// The space of some stanzas, of a number of variables at most.
+pub fn space_within(
+    alloc: Global,
+    stanzas: &[Stanza],
+    essential: bool,
+    variables: u32,
+) -> Result<Result<Space, SpaceError>, Fail>
+    requires stanzas { length stanzas.now < 100 }
+    requires variables { variables ≤ 1000 }
+{
+    let repo = repository(alloc, stanzas)?;
+    if !repo.is_flat() || !repo.is_within_size() {
+        Err("not flat, or too large")?
+    }
+    Ok(space_of(alloc, repo, essential, variables))
+}
