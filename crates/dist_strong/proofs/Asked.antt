@@ -88,15 +88,15 @@ reply-line (answers.Refuted hints) reply is = absurd is
 reply-line answers.Undecided replies.Undecided is = refl
 reply-line answers.Undecided reply is = absurd is
 
-reply-holds : (g : Setting) (question : List Word) (old new : ClauseLog) (limit : ℕ) (answer : Answer) (reply : Reply) → old.variables ≡ length g.repo.packages → IsAnswer old new (clause_of question) limit (Ok answer)
-    → IsReplyOf answer reply → Holds g question reply
-reply-holds g question old new limit (answers.Found values) (replies.Found told) size answered is =
+pub reply-holds : (n : ℕ) (question : List Word) (old new : ClauseLog) (limit : ℕ) (answer : Answer) (reply : Reply) → old.variables ≡ n → IsAnswer old new (clause_of question) limit (Ok answer)
+    → IsReplyOf answer reply → Holds n question reply
+reply-holds n question old new limit (answers.Found values) (replies.Found told) size answered is =
     (ap length is ∙ answered.variables ∙ size, subst (λ (v : List Bool). All (IsTrueLiteral (value_of v)) (clause_of question)) (sym is) answered.assumed)
-reply-holds g question old new limit (answers.Found values) reply size answered is = absurd is
-reply-holds g question old new limit (answers.Refuted hints) replies.Refuted size answered is = tt
-reply-holds g question old new limit (answers.Refuted hints) reply size answered is = absurd is
-reply-holds g question old new limit answers.Undecided replies.Undecided size answered is = tt
-reply-holds g question old new limit answers.Undecided reply size answered is = absurd is
+reply-holds n question old new limit (answers.Found values) reply size answered is = absurd is
+reply-holds n question old new limit (answers.Refuted hints) replies.Refuted size answered is = tt
+reply-holds n question old new limit (answers.Refuted hints) reply size answered is = absurd is
+reply-holds n question old new limit answers.Undecided replies.Undecided size answered is = tt
+reply-holds n question old new limit answers.Undecided reply size answered is = absurd is
 
 -- the line of an answer is no derived line and no end
 no-clause : (answer : Answer) → derived (closing_line answer ∷ []) ≡ []
@@ -140,7 +140,6 @@ asked twice t s after question first mid later last w behind ends answer reply i
       only_derived = d.only_derived;
       answer = closing_line answer;
       is_answer = reply-line answer reply replied;
-      holds = reply-holds g question t.log after t.limit answer reply here.log.variables d.answered replied;
       grew = subst (λ text. FileGrew text first last) bytes (twice (ended (record_text (Question question))) (lines_text d.between ++ ended (record_text (closing_line answer))) first mid last grew
           (twice (lines_text d.between) (ended (record_text (closing_line answer))) mid later last d.grew closed));
       at = record {

@@ -1,7 +1,8 @@
 -- Lists: what is mapped, and what stands at a place.
-use Rattle.std.proofs.Common.{◌≡◌, ℕ, zero, suc, ◌+◌, ◌<◌, ◌≤◌, Bool, filter, if◌then◌else◌, List, [], ◌∷◌, ◌++◌, length, get_or, map, take, drop, refl, ap, sym, subst, ◌∙◌, arith, length-append}
-use Rattle.std.specs.List.{All, AllPairs, Any, range_with_len}
-use Rattle.std.proofs.lemmas.List.{get_or_at, get_or-map, length-map}
+use Rattle.std.proofs.Common.{◌≡◌, inl, inr, ℕ, zero, suc, ◌+◌, ◌<◌, ◌≤◌, Bool, filter, if◌then◌else◌, List, [], ◌∷◌, ◌++◌, length, get_or, map, take, drop, refl, ap, sym, subst, ◌∙◌, arith, length-append}
+use Rattle.std.specs.List.{All, AllPairs, Any, Contains, range_with_len}
+use Rattle.std.proofs.lemmas.List.{get_or_at, get_or_append_left, get_or-map, length-map}
+use Rattle.std.proofs.lemmas.Bool.{cases_lt}
 use Rattle.std.proofs.lemmas.List.Elements.{filter-append}
 
 pub all-at : {X : Type 0} (P : X → Type 0) (xs front : List X) (b : X) (cs : List X) → xs ≡ front ++ b ∷ cs → All P xs → P b
@@ -61,3 +62,28 @@ map-taken {X} {Y} f (x ∷ xs) (suc k) d within = ap (λ (ys : List Y). f x ∷ 
 
 pub map-more : {X Y : Type 0} (f : X → Y) (xs : List X) (k : ℕ) (d : X) → k < length xs → map f (take (k + 1) xs) ≡ map f (take k xs) ++ f (get_or xs k d) ∷ []
 map-more f xs k d within = let next : k + 1 ≡ suc k = omega arith in ap (λ (n : ℕ). map f (take n xs)) next ∙ map-taken f xs k d within
+
+-- ---- a number above the others
+
+pub rising-push : (xs : List ℕ) (n k : ℕ) → AllPairs (λ v w. v < w) xs → All (λ v. v ≤ n) xs → n < k → AllPairs (λ v w. v < w) (xs ++ k ∷ [])
+rising-push xs n k rising upto above i j d before within =
+    elim (cases_lt j (length xs)) [
+      | inl inside ↦
+          let first = get_or_append_left xs (k ∷ []) d i (omega arith) in
+          let second = get_or_append_left xs (k ∷ []) d j inside in
+          let less = rising i j d before inside in
+          omega (arith, first, second, less)
+      | inr past ↦
+          let last : length xs ≡ j = omega (arith, past, within, length-append xs (k ∷ [])) in
+          let early : i < length xs = omega arith in
+          let first = get_or_append_left xs (k ∷ []) d i early in
+          let second = get_or_at xs k [] d j last in
+          let least = upto i d early in
+          omega (arith, first, second, least)
+    ]
+
+pub contains-push : {X : Type 0} (xs : List X) (x y : X) → Contains xs x → Contains (xs ++ y ∷ []) x
+contains-push xs x y there = (there.0, omega (arith, there.1, length-append xs (y ∷ [])), get_or_append_left xs (y ∷ []) x there.0 there.1 ∙ there.2)
+
+pub contains-last : {X : Type 0} (xs : List X) (x : X) → Contains (xs ++ x ∷ []) x
+contains-last xs x = (length xs, omega (arith, length-append xs (x ∷ [])), get_or_at xs x [] x (length xs) refl)

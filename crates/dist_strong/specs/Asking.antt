@@ -80,10 +80,10 @@ is_derived step = false
 abbrev pub question_lines : List Word → List CertRecord → CertRecord → List CertRecord
 question_lines question between answer = lines.Question question ∷ (between ++ answer ∷ [])
 
--- a reply that is an installation tells one truth value for each package, and the assumptions are true
-abbrev pub Holds : Setting → List Word → Reply → Type 0
-Holds g question (Found values) = (length values ≡ length g.repo.packages) × All (IsTrueLiteral (value_of values)) (clause_of question)
-Holds g question reply = Unit {0}
+-- a reply that is an installation tells one truth value for each of n packages, and the assumptions are true
+abbrev pub Holds : ℕ → List Word → Reply → Type 0
+Holds n question (Found values) = (length values ≡ n) × All (IsTrueLiteral (value_of values)) (clause_of question)
+Holds n question reply = Unit {0}
 
 -- The question was asked: its lines were written behind those before, and what is kept is what they all hold.
 pub record IsAsked (g : Setting) (before : List CertRecord) (question : List Word) (old new : DeskView) (t : AskerView) (reply : Reply) : Type 0 where
@@ -91,7 +91,6 @@ pub record IsAsked (g : Setting) (before : List CertRecord) (question : List Wor
   pub only_derived : AllPass is_derived between
   pub answer : CertRecord
   pub is_answer : IsReplyLine reply answer
-  pub holds : Holds g question reply
   pub grew : FileGrew (lines_text (question_lines question between answer)) old new
   pub at : IsAt g (before ++ question_lines question between answer) t
 

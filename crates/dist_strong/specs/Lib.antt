@@ -2,3 +2,4 @@ pub mod Words
 pub mod Script
 pub mod Asking
 pub mod Window
+pub mod Group

@@ -3,13 +3,14 @@ ghost use Rattle.std.specs.Prelude.{◌≡◌, ◌≤◌, List, [], ◌∷◌, �
 ghost use Rattle.dist_clause.specs.Formula.{IsClauseOver};
 ghost use Rattle.dist_outside.specs.DeskView.{FileGrew};
 ghost use Rattle.dist_outside.specs.Files.{IsWriting};
+ghost use Rattle.dist_solver.specs.Ask.{IsAnswer};
 ghost use Rattle.dist_cert.specs.Form.{KeepsRules, Word, record_text};
 ghost use Rattle.dist_cert.specs.Groups.{clause_of};
 ghost use Rattle.dist_cert.specs.Part.{IsNextQuestion};
 ghost use Rattle.dist_cert.specs.Writing.{ended};
 ghost use Rattle.dist_cert.specs.declared.records.CertRecord.{CertRecord};
 ghost use Rattle.dist_cert.specs.declared.records.CertRecord.TheVariants.{Question};
-ghost use Rattle.dist_strong.specs.Asking.{IsAsked, IsAt, IsDerived, IsOver, IsReplyOf, MayDerive, work_of};
+ghost use Rattle.dist_strong.specs.Asking.{Holds, IsAsked, IsAt, IsDerived, IsOver, IsReplyOf, MayDerive, work_of};
 ghost use Rattle.dist_strong.specs.Script.{Grows, PutMore, PutStops, Setting, Stops, matter_in};
 ghost use Rattle.dist_strong.specs.Words.{IsAnswerOver, closing_line};
 
@@ -104,6 +105,7 @@ fn derive<D: Desk>(
         → MayDerive g before question solver.old.log limit writer.old
         → Stops g (before ++ Question question ∷ []) (D.view desk.old) (D.view desk.new) error) }
     ensures over { IfOk result (IsAnswerOver solver.old.log.variables) }
+    ensures answered { IfOk result (λ answer. IsAnswer solver.old.log solver.new.log assumptions.now limit (Ok answer)) }
     ensures variables { solver.new.log.variables ≡ solver.old.log.variables }
     ensures grows { Grows (D.view desk.old) (D.view desk.new) }
 {
@@ -185,6 +187,7 @@ impl Asker {
         ensures err { IfErr result (λ error. (g : Setting) (before : List CertRecord) → IsAt g before self.old
             → IsNextQuestion (matter_in g) g.header before question.now
             → Stops g before (D.view desk.old) (D.view desk.new) error) }
+        ensures holds { IfOk result (Holds self.old.log.variables question.now) }
         ensures variables { self.new.log.variables ≡ self.old.log.variables }
         ensures limit { self.new.limit ≡ self.old.limit }
         ensures grows { Grows (D.view desk.old) (D.view desk.new) }

@@ -2,6 +2,7 @@
 #![tactic(auto)]
 
 mod asker;
+mod group;
 mod putting;
 mod window;
 mod words;

@@ -1,12 +1,13 @@
-use Rattle.std.proofs.Common.{◌∙◌, ◌^◌, ◌<◌, List, Result, IfErr, ap, arith, sym, subst}
+use Rattle.std.proofs.Common.{◌∙◌, ◌^◌, ◌<◌, List, Result, IfErr, ap, arith, sym, subst, Ok}
 use Rattle.dist_clause.specs.Formula.{Literal, IsClauseOver}
 use Rattle.dist_derive.specs.ClauseLog.{ClauseLog}
 use Rattle.dist_outside.specs.DeskView.{DeskView}
 use Rattle.dist_outside.specs.declared.trouble.WorkError.{WorkError}
 use Rattle.dist_outside.specs.declared.trouble.WorkError.TheVariants.{NoMemory}
+use Rattle.dist_solver.specs.Ask.{IsAnswer}
 use Rattle.dist_strong.specs.Asking.{AskerView, IsOver}
 use Rattle.dist_strong.specs.declared.asker.Reply.{Reply}
-use Rattle.dist_strong.proofs.Asked.{AskStops, asked, clause-over, stops-at-answer, stops-at-question, stops-before, stops-while-derived}
+use Rattle.dist_strong.proofs.Asked.{AskStops, asked, clause-over, reply-holds, stops-at-answer, stops-at-question, stops-before, stops-while-derived}
 use Rattle.dist_strong.proofs.Closing.{Derives, DerivesNone}
 use Rattle.dist_strong.proofs.OneLine.{by-exit, two-grow}
 use Rattle.dist_strong.proofs.asker.Asker.ask.Goals as goal
@@ -95,3 +96,10 @@ returns-clause-grows g c =
     let both = two-grow twice c.put_question.ensures.grows.0 c.derive.ensures.grows.0 (g.D.Desk.view c.args.desk.now) (g.D.Desk.view c.put_question.new.desk) (g.D.Desk.view c.derive.new.desk)
     c.put_question.ensures.grows.1 c.derive.ensures.grows.1 in
     two-grow twice both.0 c.put_answer.ensures.grows.0 (g.D.Desk.view c.args.desk.now) (g.D.Desk.view c.derive.new.desk) (g.D.Desk.view c.put_answer.new.desk) both.1 c.put_answer.ensures.grows.1
+
+pub returns-clause-holds : goal.returns-clause-holds
+returns-clause-holds g c =
+    let variables = ap (λ (v : AskerView). v.log.variables) c.self.view_is in
+    reply-holds c.args.self.now.log.variables c.args.question.now c.self.inside.solver.log c.derive.new.solver.log c.self.inside.limit c.in_ok-answer.answer c.reply_of.result variables
+    (subst (λ (ls : List Literal). IsAnswer c.self.inside.solver.log c.derive.new.solver.log ls c.self.inside.limit (Ok c.in_ok-answer.answer)) (c.deref.ensures.value ∙ c.in_ok-assumptions.ensures) c.in_ok-answer.ensures.answered)
+    c.reply_of.ensures

@@ -1,0 +1,50 @@
+-- What is kept of the group of a claim.
+use Rattle.std.specs.Prelude.{◌≡◌, ◌==◌, ◌&&◌, ◌<◌, ◌≤◌, ℕ, Bool, true, List, All, AllPairs, Contains, not}
+use Rattle.dist_clause.specs.Formula.{value_of}
+use Rattle.dist_strong.specs.Window.{WindowView}
+
+-- the package of the claim, what all installations of its group have, and the packages without which it was refuted, or
+-- stayed undecided
+pub record GroupView : Type 0 where
+  pub claimed : ℕ
+  pub variables : ℕ
+  pub common : List Bool
+  pub refuted : List Bool
+  pub undecided : List Bool
+
+-- another package is in all installations of the group and was not asked for
+abbrev pub is_open : GroupView → ℕ → Bool
+is_open group q = not (q == group.claimed) && value_of group.common q && not (value_of group.refuted q) && not (value_of group.undecided q)
+
+-- each kept installation with the package has the other one
+abbrev pub HasEach : WindowView → ℕ → ℕ → Type 0
+HasEach w p q = All (λ v. value_of v p ≡ true → value_of v q ≡ true) w.kept
+
+-- A package that is in all installations of the claim and was not asked for.
+pub record IsCandidate (w : WindowView) (group : GroupView) (q : ℕ) : Type 0 where
+  pub from_one : 1 ≤ q
+  pub upto : q ≤ group.variables
+  pub opens : is_open group q ≡ true
+  pub each : HasEach w group.claimed q
+
+-- A package that stayed undecided and is in all installations of the claim.
+pub record IsLeft (w : WindowView) (group : GroupView) (q : ℕ) : Type 0 where
+  pub from_one : 1 ≤ q
+  pub upto : q ≤ group.variables
+  pub is_undecided : value_of group.undecided q ≡ true
+  pub is_common : value_of group.common q ≡ true
+  pub each : HasEach w group.claimed q
+
+-- the packages up to n of this sort, rising
+pub record AreLeftUpto (w : WindowView) (group : GroupView) (n : ℕ) (left : List ℕ) : Type 0 where
+  pub rising : AllPairs (λ q r. q < r) left
+  pub upto : All (λ q. q ≤ n) left
+  pub each : All (IsLeft w group) left
+  pub all : (q : ℕ) → q ≤ n → IsLeft w group q → Contains left q
+
+abbrev pub AreLeft : WindowView → GroupView → List ℕ → Type 0
+AreLeft w group left = AreLeftUpto w group group.variables left
+
+-- of each of n variables: it is true where it is true in both
+abbrev pub IsNarrowed : ℕ → List Bool → List Bool → List Bool → Type 0
+IsNarrowed n old values new = (v : ℕ) → 1 ≤ v → v ≤ n → value_of new v ≡ (value_of old v && value_of values v)
