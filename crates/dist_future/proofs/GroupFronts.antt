@@ -29,9 +29,6 @@ use Rattle.dist_future.proofs.Lists.{at-has, has-at, here-at, within-from}
 -- ---- the limits of one set and of another
 
 module _ (s : SpaceView) (P : Demand → Type 0) (limits : ClauseList) where
-  abbrev Holds : ClauseList → ClauseList → Type 0
-  Holds of set = IsSetOf s P of.clause_limit of.literal_limit set
-
   -- a set has its own limits
   pub own-limits : (set : ClauseList) → IsSetOf s P limits.clause_limit limits.literal_limit set → IsSetOf s P set.clause_limit set.literal_limit set
   own-limits set of = record { clauses = of.clauses; variables = of.variables; clause_limit_is = refl; literal_limit_is = refl }

@@ -44,9 +44,6 @@ module _ (s : SpaceView) (atom : Atom) where
   pub new-matched : (r k : ℕ) (p : Package) (example : List ℕ) → slice_get s.repository.packages r ≡ Some p → example ≡ example_at (member_classes s r) k → p.name ≡ atom.name → MeetsBound atom example → IsMatchedBy s atom (New r k)
   new-matched r k p example is_p is name meets = at-has (NameMeets r k) s.repository.packages r p is_p (name, subst (MeetsBound atom) is meets)
 
-  pub matched-new : (r k : ℕ) (p : Package) (example : List ℕ) → slice_get s.repository.packages r ≡ Some p → example ≡ example_at (member_classes s r) k → IsMatchedBy s atom (New r k) → (p.name ≡ atom.name) × MeetsBound atom example
-  matched-new r k p example is_p is matched = let both = has-at (NameMeets r k) s.repository.packages r p is_p matched in (both.0, subst (MeetsBound atom) (sym is) both.1)
-
   abbrev FreshMeets : (x k : ℕ) → List ℕ → Type 0
   FreshMeets x k name = (name ≡ atom.name) × MeetsBound atom (example_at (fresh_classes s x) k)
 
@@ -161,6 +158,3 @@ module _ (s : SpaceView) (atom : Atom) where
 
   pub provider-within : (providers : List ℕ) (number : ℕ) → AreProviders s.repository atom.name providers → Contains providers number → number < length s.repository.packages
   provider-within providers number are there = within-from (IsProvider s.repository.architecture atom.name) s.repository.packages number ((are.exact number).0 there)
-
-  pub provided-matched : (providers : List ℕ) (m : Meaning) → Any (λ number. MatchedAnd (IsOf number) m) providers → IsMatchedBy s atom m
-  provided-matched providers m any = any.4.1

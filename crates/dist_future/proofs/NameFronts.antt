@@ -167,17 +167,6 @@ module _ (s : SpaceView) (space : IsSpace s) (limits : ClauseList) where
             (some.number, omega (arith, past, within-from (IsEssentialOf name) s.repository.packages some.number some.has), some.has)),
       )) of
 
-  -- at mode plain no name is required
-  pub plain-end : (set : ClauseList) → s.essential ≡ false → IsGroupsFront s 7 limits set → IsWholeSet s limits set
-  plain-end set plain of =
-      set-shift s space limits (λ d. IsDemand s d × (group_of d < 7)) (IsDemand s) limits.clause_limit limits.literal_limit set (λ d h. h.0)
-      (λ d demand. (
-        demand,
-        by-name (λ e. group_of e < 7) d (λ less. less) (λ name is.
-            let none : Contains (required_names false s.repository.packages) name = subst (λ (b : Bool). Contains (required_names b s.repository.packages) name) plain (subst (IsDemand s) is demand) in
-            absurd (omega (arith, none.1))),
-      )) of
-
   module _ (number : ℕ) (p : Package) (is : slice_get s.repository.packages number ≡ Some p) where
     below-wider : (name : List ℕ) → IsNamedBelow s number name → IsNamedBelow s (number + 1) name
     below-wider name below = (below.0, omega (arith, below.1), below.2)
