@@ -25,7 +25,7 @@ def seconds(job):
 
 reading, found = seconds("count-packages")
 print(f"{os.path.getsize(path)} bytes, {found}: read in {reading:.3f} s")
-for job in ("count-clauses", "count-classes"):
+for job in ("count-clauses", "count-classes", "count-future-variables", "count-future-clauses"):
     ours, found = seconds(job)
     print(f"{found}: {ours - reading:.3f} s beyond reading, ratio to reading {(ours - reading) / reading:.2f}")
 PYTHON

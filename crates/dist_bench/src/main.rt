@@ -4,6 +4,7 @@
 mod clauses;
 mod present;
 mod relations;
+mod space;
 mod versions;
 
 use anyhow::{Result, bail};
@@ -16,6 +17,8 @@ fn main(rt: HostRuntime) -> Result<()> {
         Some("count-lines") => relations::print_lines(&rt, text.as_bytes()),
         Some("count-classes") => present::print_classes(&rt, text.as_bytes()),
         Some("count-clauses") => present::print_clauses(&rt, text.as_bytes()),
+        Some("count-future-clauses") => space::print_clauses(&rt, text.as_bytes()),
+        Some("count-future-variables") => space::print_variables(&rt, text.as_bytes()),
         Some("count-packages") => present::print_packages(&rt, text.as_bytes()),
         Some("fill-clauses") => clauses::print_filled(&rt, text.as_str()),
         Some("read-relations") => relations::print_counts(&rt, text.as_bytes()),

@@ -11,7 +11,7 @@ use dist_repo::{Repository, latest_is_one};
 use std::alloc::{AllocError, Global};
 
 /// The repository of a file within the stated limits.
-fn repository_of(alloc: Global, text: &[u8]) -> Option<Repository>
+pub(crate) fn repository_of(alloc: Global, text: &[u8]) -> Option<Repository>
     ensures { IfSome result IsWithinSize }
 {
     if text.len() as u64 > MAX_BYTES {
