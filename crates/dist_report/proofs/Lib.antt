@@ -1,5 +1,9 @@
 pub mod LineLemmas
 pub mod PlainLemmas
 pub mod ToldLemmas
+pub mod PickedLemmas
+pub mod NotedLemmas
+pub mod TurnedLemmas
+pub mod ImpactLemmas
 pub mod OneText
 pub mod SomeText

@@ -28,3 +28,7 @@ joined-three old p s t a b c first second third = joined-two old p (s ++ t) a c 
 
 pub joined-class : (old p s t e a b c d : List ℕ) → a ≡ old ++ p → b ≡ a ++ s → c ≡ b ++ t → d ≡ c ++ e → d ≡ old ++ ((p ++ (s ++ t)) ++ e)
 joined-class old p s t e a b c d first second third fourth = joined-two old (p ++ (s ++ t)) e c d (joined-three old p s t a b c first second third) fourth
+
+pub joined-five : (old p s t u v a b c d e : List ℕ) → a ≡ old ++ p → b ≡ a ++ s → c ≡ b ++ t → d ≡ c ++ u → e ≡ d ++ v → e ≡ old ++ (p ++ (s ++ (t ++ (u ++ v))))
+joined-five old p s t u v a b c d e first second third fourth fifth =
+    joined-two old p (s ++ (t ++ (u ++ v))) a e first (joined-two a s (t ++ (u ++ v)) b e second (joined-three b t u v c d e third fourth fifth))

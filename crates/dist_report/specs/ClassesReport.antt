@@ -9,7 +9,7 @@ use Rattle.dist_classes.specs.ClassList.{HasExample, class_text, example_text}
 use Rattle.dist_classes.specs.NewNames.{AreNewNames}
 use Rattle.dist_classes.specs.declared.class_value.Class.{Class}
 use Rattle.dist_report.specs.Lines.{listed, string_line}
-use Rattle.dist_report.specs.PackageText.{label}
+use Rattle.dist_report.specs.PackageText.{label, package_line}
 
 -- what is told of a cluster, and of a new name
 pub record ToldCluster : Type 0 where
@@ -39,10 +39,6 @@ pub record AreToldNames (r : PackageList) (names : List ToldName) : Type 0 where
 abbrev pub class_lines : Class → List ℕ
 class_lines class = string_line (codes "      - class: ") (class_text class) ++ string_line (codes "        example: ") (example_text class)
 
--- a package, by its number
-abbrev pub member_line : List Package → ℕ → List ℕ
-member_line packages number = string_line (codes "      - ") (option_map_or label (slice_get packages number) [])
-
 -- a cluster goes by its least member; what follows are the name of its source and its greatest version
 abbrev pub head_lines : List Package → (least : ℕ) → (top : List ℕ) → List ℕ
 head_lines packages first top =
@@ -51,7 +47,7 @@ head_lines packages first top =
 
 abbrev pub cluster_lines : List Package → ToldCluster → List ℕ
 cluster_lines packages c =
-    head_lines packages (least c.members) c.top ++ (listed (codes "    members:") (member_line packages) c.members ++ listed (codes "    classes:") class_lines c.classes)
+    head_lines packages (least c.members) c.top ++ (listed (codes "    members:") (package_line (codes "      - ") packages) c.members ++ listed (codes "    classes:") class_lines c.classes)
 
 abbrev pub name_lines : ToldName → List ℕ
 name_lines n = string_line (codes "  - name: ") n.name ++ listed (codes "    classes:") class_lines n.classes

@@ -1,6 +1,9 @@
-pub mod PackageText
 pub mod Lines
+pub mod PackageText
 pub mod ClassesReport
+pub mod StrongReport
+pub mod ClaimParts
 pub mod Plain
 pub mod Written
 pub mod Examples
+pub mod StrongExamples

@@ -1,13 +1,13 @@
 //! The report of `classes`: clusters with their members and classes, and new names with theirs.
-ghost use Rattle.std.specs.Prelude.{◌≡◌, ◌++◌, ◌<◌, [], ℕ, List, All, IfOk, OnOk, length, slice_index_or, codes};
+ghost use Rattle.std.specs.Prelude.{◌≡◌, ◌++◌, ◌<◌, [], All, IfOk, OnOk, length, slice_index_or, codes};
 ghost use Rattle.dist_classes.specs.Answers.{AreClustersOf};
 ghost use Rattle.dist_classes.specs.ClassList.{HasExample, HasVersions};
 ghost use Rattle.dist_classes.specs.NewNames.{AreNewNames};
-ghost use Rattle.dist_report.specs.ClassesReport.{IsClassesText, class_lines, head_lines, opening, member_line};
+ghost use Rattle.dist_report.specs.ClassesReport.{IsClassesText, class_lines, head_lines, opening};
 ghost use Rattle.dist_report.specs.Lines.{listed};
 ghost use Rattle.dist_report.specs.Written.{TellsCluster, TellsClusters, TellsName, TellsNames};
 
-use crate::lines::{write_key, write_package, write_string};
+use crate::lines::{write_key, write_package, write_packages, write_string};
 use dist_classes::{
     Class, Classes, CutFinder, Names, class_has_example, example, new_names, print_class,
     repository_clusters,
@@ -41,18 +41,6 @@ fn write_classes(alloc: Global, out: &mut Vec<u8>, classes: &Classes) -> Result<
     write_key(out, b"    classes:", classes.len() == 0)?;
     for place in 0..classes.len() {
         write_class(alloc, out, classes.get(place))?;
-    }
-    Ok(())
-}
-
-/// Adds the members of a cluster.
-fn write_members(out: &mut Vec<u8>, repo: &Repository, members: &[u32]) -> Result<(), AllocError>
-    requires { All (λ number. number < length repo.now.packages) members.now }
-    ensures { OnOk result (out.new.items ≡ out.old.items ++ listed (codes "    members:") (member_line repo.now.packages) members.now) }
-{
-    write_key(out, b"    members:", members.is_empty())?;
-    for number in members {
-        write_package(out, b"      - ", repo.package(*number))?;
     }
     Ok(())
 }
@@ -91,7 +79,7 @@ fn write_cluster(
     let members = clusters.members(cluster);
     let classes = finder.classes_of_cluster(clusters, cluster)?;
     write_head(out, repo, members[0], clusters.top(cluster))?;
-    write_members(out, repo, members)?;
+    write_packages(out, repo, b"    members:", b"      - ", members)?;
     write_classes(alloc, out, &classes)?;
     Ok(())
 }

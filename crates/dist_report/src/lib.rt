@@ -1,13 +1,17 @@
 //! Reports: the texts that tell what was found, in YAML 1.2.
 #![tactic(auto)]
 
+mod claim_parts;
 mod classes_report;
+mod impact;
 mod laws;
 mod lines;
+mod strong_report;
 
 pub use classes_report::classes_text;
 pub use laws::{classes_texts_are_one, strings_are_plain};
 pub use lines::print_label;
+pub use strong_report::text;
 
 #[cfg(test)]
 mod tests;

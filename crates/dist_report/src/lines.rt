@@ -1,10 +1,10 @@
-//! The lines that reports are made of: a key with a string, a key with a list, a package of a list.
-ghost use Rattle.std.specs.Prelude.{◌≡◌, ◌++◌, OnErr, OnOk};
+//! The lines that reports are made of: a key with a string, a key with a list, a package of a list, a list of packages.
+ghost use Rattle.std.specs.Prelude.{◌≡◌, ◌++◌, ◌<◌, All, OnErr, OnOk, length};
 ghost use Rattle.dist_base.specs.Front.{IsFrontOf};
-ghost use Rattle.dist_report.specs.Lines.{key_line, string_line};
-ghost use Rattle.dist_report.specs.PackageText.{label};
+ghost use Rattle.dist_report.specs.Lines.{key_line, listed, string_line};
+ghost use Rattle.dist_report.specs.PackageText.{label, package_line};
 
-use dist_repo::Package;
+use dist_repo::{Package, Repository};
 use std::alloc::AllocError;
 
 /// Adds a string in double quotes, behind what stands before it, and the line's end.
@@ -64,5 +64,23 @@ pub(crate) fn write_package(
     out.push(b'"')?;
     print_label(package, out)?;
     out.extend_from_slice(b"\"\n")?;
+    Ok(())
+}
+
+/// Adds a list of packages, by their numbers, behind its key.
+pub(crate) fn write_packages(
+    out: &mut Vec<u8>,
+    repo: &Repository,
+    key: &[u8],
+    before: &[u8],
+    numbers: &[u32],
+) -> Result<(), AllocError>
+    requires { All (λ number. number < length repo.now.packages) numbers.now }
+    ensures { OnOk result (out.new.items ≡ out.old.items ++ listed key.now (package_line before.now repo.now.packages) numbers.now) }
+{
+    write_key(out, key, numbers.is_empty())?;
+    for number in numbers {
+        write_package(out, before, repo.package(*number))?;
+    }
     Ok(())
 }

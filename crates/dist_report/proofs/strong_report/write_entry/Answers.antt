@@ -1,0 +1,13 @@
+use Rattle.std.proofs.Common.{◌++◌, [], Option, codes, sym, ap, ◌∙◌}
+use Rattle.std.specs.Option.{option_map_or}
+use Rattle.dist_repo.specs.declared.package.Package.{Package}
+use Rattle.dist_report.specs.Lines.{string_line}
+use Rattle.dist_report.specs.PackageText.{label}
+use Rattle.dist_report.proofs.LineLemmas.{joined-two}
+use Rattle.dist_report.proofs.strong_report.write_entry.Goals as goal
+
+pub returns : goal.returns
+returns c =
+    let old = c.args.out.now.items in
+    let first = c.in_ok-write_package.ensures ∙ ap (λ (o : Option Package). old ++ string_line (codes "  - package: ") (option_map_or label o [])) (sym c.package.ensures) in
+    joined-two old _ _ _ _ first c.in_ok-write_packages.ensures

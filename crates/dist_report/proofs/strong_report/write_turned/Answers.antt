@@ -1,0 +1,47 @@
+use Rattle.std.proofs.Common.{◌≡◌, ◌<◌, ℕ, Bool, List, [], Some, ◌++◌, append_assoc, append-nil, codes, get_or, length, arith, sym, ap, subst, ◌∙◌, slice_get}
+use Rattle.std.specs.Prelude.{◌==◌, All}
+use Rattle.std.specs.List.{flat_map}
+use Rattle.std.proofs.lemmas.Option.{slice_get-get_or}
+use Rattle.dist_report.specs.Lines.{key_line}
+use Rattle.dist_report.specs.StrongReport.{entry_lines}
+use Rattle.dist_report.proofs.LineLemmas.{lines-all, lines-more}
+use Rattle.dist_report.proofs.strong_report.write_turned.Goals as goal
+
+pub loop-number-init : goal.loop-number-init
+loop-number-init c =
+    let old = c.args.out.now.items in
+    c.in_ok-write_key.ensures ∙ ap (λ (b : Bool). old ++ key_line (codes "impact:") b) c.is_empty.ensures
+    ∙ sym (append-nil (old ++ key_line (codes "impact:") (length c.args.numbers.now == 0)))
+
+pub numbers_at-list-requires : goal.numbers_at-list-requires
+numbers_at-list-requires c =
+    let packages = length c.args.repo.now.packages in
+    let within : get_or c.args.numbers.now c.loop-number.number-index 0 < packages = c.requires.within c.loop-number.number-index 0 c.loop-number-test.true in
+    omega (arith, within, c.requires.length)
+
+pub write_entry-requires-clause-list : goal.write_entry-requires-clause-list
+write_entry-requires-clause-list c =
+    let packages = length c.args.repo.now.packages in
+    let number = get_or c.args.numbers.now c.loop-number.number-index 0 in
+    let Within : List ℕ → Type 0 = λ list. All (λ q. q < packages) list in
+    let within : number < packages = c.requires.within c.loop-number.number-index 0 c.loop-number-test.true in
+    subst Within (sym c.numbers_at-list.ensures) (c.requires.each number [] (omega (arith, within, c.requires.length)))
+
+pub loop-number-preserved : goal.loop-number-preserved
+loop-number-preserved c =
+    let packages = c.args.repo.now.packages in
+    let numbers = c.args.numbers.now in
+    let number = get_or c.args.numbers.now c.loop-number.number-index 0 in
+    let before = c.args.out.now.items ++ key_line (codes "impact:") (length numbers == 0) in
+    let lines : ℕ → List ℕ = λ q. entry_lines packages (codes "    of:") q (get_or c.args.lists.now q []) in
+    let is : slice_get numbers c.loop-number.number-index ≡ Some number = slice_get-get_or numbers c.loop-number.number-index 0 c.loop-number-test.true in
+    let more = c.in_ok-write_entry.ensures ∙ ap (λ (list : List ℕ). c.loop-number.out.items ++ entry_lines packages (codes "    of:") number list) c.numbers_at-list.ensures in
+    lines-more lines numbers c.loop-number.number-index number before c.loop-number.out.items c.write_entry.new.out.items is c.loop-number.invariant more
+
+pub returns : goal.returns
+returns c =
+    let numbers = c.args.numbers.now in
+    let key = key_line (codes "impact:") (length numbers == 0) in
+    let lines : ℕ → List ℕ = λ q. entry_lines c.args.repo.now.packages (codes "    of:") q (get_or c.args.lists.now q []) in
+    lines-all lines numbers c.loop-number.number-index (c.args.out.now.items ++ key) c.loop-number.out.items (omega arith) c.loop-number.invariant
+    ∙ append_assoc c.args.out.now.items key (flat_map lines numbers)

@@ -1,0 +1,182 @@
+//! The report of strong dependencies. The text is one vector, and each of its lists one walk over the packages.
+ghost use Rattle.std.specs.Prelude.{◌≡◌, ◌++◌, ◌<◌, [], All, IfOk, OnOk, length, slice_index_or, codes};
+ghost use Rattle.dist_cert.specs.declared.records.CertKind.TheVariants.{Strong};
+ghost use Rattle.dist_subject.specs.Claims.{AreClaimsOf};
+ghost use Rattle.dist_report.specs.ClaimParts.{is_part, list_at};
+ghost use Rattle.dist_report.specs.declared.claim_parts.Part.TheVariants.{With};
+ghost use Rattle.dist_report.specs.Lines.{listed};
+ghost use Rattle.dist_report.specs.PackageText.{package_line};
+ghost use Rattle.dist_report.specs.StrongReport.{claimed, entry_lines, impact_at, strong_lines, strong_opening, with_impact};
+
+use crate::claim_parts::{Dependence, Part, claim_list, told};
+use crate::impact::{numbers_at, turned, with_some};
+use crate::lines::{write_key, write_package, write_packages};
+use dist_cert::{Claims, Header, Numbers};
+use dist_repo::Repository;
+use itoa::Buffer;
+use std::alloc::{AllocError, Global};
+
+/// Adds a package and the packages of its list.
+fn write_entry(
+    out: &mut Vec<u8>,
+    repo: &Repository,
+    key: &[u8],
+    number: u32,
+    list: &[u32],
+) -> Result<(), AllocError>
+    requires package { number < length repo.now.packages }
+    requires list { All (λ q. q < length repo.now.packages) list.now }
+    ensures { OnOk result (out.new.items ≡ out.old.items ++ entry_lines repo.now.packages key.now number list.now) }
+{
+    write_package(out, b"  - package: ", repo.package(number))?;
+    write_packages(out, repo, key, b"      - ", list)?;
+    Ok(())
+}
+
+/// Adds the packages that a part tells.
+fn write_part(
+    alloc: Global,
+    out: &mut Vec<u8>,
+    repo: &Repository,
+    claims: &Claims,
+    key: &[u8],
+    part: Part,
+) -> Result<(), AllocError>
+    requires { AreClaimsOf (length repo.now.packages) claims.now }
+    ensures { OnOk result (out.new.items ≡ out.old.items ++ listed key.now (package_line (codes "  - ") repo.now.packages) (claimed (is_part part) claims.now)) }
+{
+    let numbers = told(alloc, claims, repo.len(), part)?;
+    write_packages(out, repo, key, b"  - ", &numbers)?;
+    Ok(())
+}
+
+/// Adds packages, each with its list of one kind.
+fn write_lists(
+    out: &mut Vec<u8>,
+    repo: &Repository,
+    claims: &Claims,
+    key: &[u8],
+    kind: Dependence,
+    numbers: &[u32],
+) -> Result<(), AllocError>
+    requires claims { AreClaimsOf (length repo.now.packages) claims.now }
+    requires within { All (λ p. p < length repo.now.packages) numbers.now }
+    ensures { OnOk result (out.new.items ≡ out.old.items ++ listed key.now (λ p. entry_lines repo.now.packages (codes "    on:") p (list_at kind claims.now p)) numbers.now) }
+{
+    write_key(out, key, numbers.is_empty())?;
+    for number in numbers {
+        let list = claim_list(claims.get(*number as usize), kind);
+        write_entry(out, repo, b"    on:", *number, list)?;
+    }
+    Ok(())
+}
+
+/// Adds the lists of one kind that aren't empty, each behind its package.
+fn write_dependences(
+    alloc: Global,
+    out: &mut Vec<u8>,
+    repo: &Repository,
+    claims: &Claims,
+    key: &[u8],
+    kind: Dependence,
+) -> Result<(), AllocError>
+    requires { AreClaimsOf (length repo.now.packages) claims.now }
+    ensures { OnOk result (out.new.items ≡ out.old.items ++ listed key.now (λ p. entry_lines repo.now.packages (codes "    on:") p (list_at kind claims.now p)) (claimed (is_part (With kind)) claims.now)) }
+{
+    let numbers = told(alloc, claims, repo.len(), Part::With(kind))?;
+    write_lists(out, repo, claims, key, kind, &numbers)?;
+    Ok(())
+}
+
+/// Adds packages, each with the list at its place.
+fn write_turned(
+    out: &mut Vec<u8>,
+    repo: &Repository,
+    lists: &[Numbers],
+    numbers: &[u32],
+) -> Result<(), AllocError>
+    requires length { length lists.now ≡ length repo.now.packages }
+    requires each { All (λ list. All (λ p. p < length repo.now.packages) list) lists.now }
+    requires within { All (λ q. q < length repo.now.packages) numbers.now }
+    ensures { OnOk result (out.new.items ≡ out.old.items ++ listed (codes "impact:") (λ q. entry_lines repo.now.packages (codes "    of:") q (slice_index_or lists.now q [])) numbers.now) }
+{
+    write_key(out, b"impact:", numbers.is_empty())?;
+    for number in numbers {
+        let list = numbers_at(lists, *number);
+        write_entry(out, repo, b"    of:", *number, list)?;
+    }
+    Ok(())
+}
+
+/// Adds the packages on which others depend strongly, each with those.
+fn write_impact(
+    alloc: Global,
+    out: &mut Vec<u8>,
+    repo: &Repository,
+    claims: &Claims,
+) -> Result<(), AllocError>
+    requires { AreClaimsOf (length repo.now.packages) claims.now }
+    ensures { OnOk result (out.new.items ≡ out.old.items ++ listed (codes "impact:") (λ q. entry_lines repo.now.packages (codes "    of:") q (impact_at claims.now q)) (with_impact claims.now)) }
+{
+    let packages = repo.len();
+    let lists = turned(alloc, claims, packages)?;
+    let numbers = with_some(alloc, &lists, packages)?;
+    write_turned(out, repo, &lists, &numbers)?;
+    Ok(())
+}
+
+/// The lines before the first list.
+fn opened(alloc: Global, repo: &Repository, header: &Header) -> Result<Vec<u8>, AllocError>
+    ensures { IfOk result (λ out. out.items ≡ strong_opening repo.now.packages header.now) }
+{
+    let mut out = Vec::from_slice(alloc, b"report: \"strong\"\nlimit: ")?;
+    let mut buffer = Buffer::new();
+    out.extend_from_slice(buffer.format(header.limit).as_bytes())?;
+    out.extend_from_slice(b"\npackages: ")?;
+    out.extend_from_slice(buffer.format(repo.len()).as_bytes())?;
+    out.push(b'\n')?;
+    Ok(out)
+}
+
+/// The report of what an accepted certificate claims of the packages of a repository.
+///
+/// Its time and memory are linear in the packages and the listed pairs.
+pub fn text(
+    alloc: Global,
+    repo: &Repository,
+    header: &Header,
+    claims: &Claims,
+) -> Result<Vec<u8>, AllocError>
+    requires kind { header.now.kind ≡ Strong }
+    requires claims { AreClaimsOf (length repo.now.packages) claims.now }
+    ensures { IfOk result (λ text. text.items ≡ strong_lines repo.now.packages header.now claims.now) }
+{
+    let mut out = opened(alloc, repo, header)?;
+    write_part(
+        alloc,
+        &mut out,
+        repo,
+        claims,
+        b"uninstallable:",
+        Part::NotInstallable,
+    )?;
+    write_dependences(
+        alloc,
+        &mut out,
+        repo,
+        claims,
+        b"strong:",
+        Dependence::Strong,
+    )?;
+    write_impact(alloc, &mut out, repo, claims)?;
+    write_part(alloc, &mut out, repo, claims, b"undecided:", Part::NotKnown)?;
+    write_dependences(
+        alloc,
+        &mut out,
+        repo,
+        claims,
+        b"undecided_pairs:",
+        Dependence::Undecided,
+    )?;
+    Ok(out)
+}
