@@ -7,3 +7,7 @@ mod TrueOnes
 mod Answered
 mod Closing
 mod Asked
+mod GroupLines
+mod GroupSteps
+mod Counting
+mod SettleSteps

@@ -3,3 +3,4 @@ pub mod Script
 pub mod Asking
 pub mod Window
 pub mod Group
+pub mod Settling

@@ -80,6 +80,13 @@ impl Group {
         })
     }
 
+    /// The package of the claim.
+    pub(crate) fn claimed(&self) -> u32
+        ensures { result ≡ self.now.claimed }
+    {
+        self.claimed
+    }
+
     /// Whether another package is in all installations of the group and was not asked for.
     fn is_open(&self, other: u32) -> bool
         requires from_one { 1 ≤ other }
@@ -96,6 +103,7 @@ impl Group {
     pub(crate) fn add(&mut self, values: &Assignment)
         requires { length values.now ≡ self.old.variables }
         ensures rest { self.new ≡ record self.old { common = self.new.common } }
+        ensures size { length self.new.common ≡ self.old.variables }
         ensures both { IsNarrowed self.old.variables self.old.common values.now self.new.common }
     {
         narrow(&mut self.common, values, self.variables);

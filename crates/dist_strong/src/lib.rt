@@ -4,5 +4,6 @@
 mod asker;
 mod group;
 mod putting;
+mod settling;
 mod window;
 mod words;
