@@ -1,11 +1,13 @@
 -- The group of the lines of a question, behind those before.
 use Rattle.std.proofs.Common.{◌≡◌, ◌≢◌, ◌⊎◌, ⊎_elim, inl, inr, ℕ, zero, suc, ◌<◌, ◌||◌, Bool, true, false, List, [], ◌∷◌, ◌++◌, length, get_or, refl, ap, sym, ◌∙◌, append_assoc, append-nil, arith, if◌then◌else◌}
 use Rattle.std.specs.List.{AllPass, Contains, flat_map, list_any}
-use Rattle.std.proofs.lemmas.Bool.{or_parts, true≢false, false≢true}
+use Rattle.std.proofs.lemmas.Bool.{or_right, or_parts, true≢false, false≢true}
 use Rattle.std.proofs.lemmas.Grind.{flat_map-append}
 use Rattle.std.proofs.lemmas.List.Elements.{All-head, All-tail}
 use Rattle.dist_cert.specs.declared.records.CertRecord.{CertRecord}
-use Rattle.dist_cert.specs.declared.records.CertRecord.TheVariants.{Question, Derived, Refuted, Installation, Undecided}
+use Rattle.dist_cert.specs.declared.records.CertRecord.TheVariants.{Question, Derived, Refuted, Installation, Undecided, End}
+use Rattle.dist_cert.specs.declared.records.Claim.{Claim}
+use Rattle.dist_cert.specs.Accepted.{claim_in, claims_in}
 use Rattle.dist_cert.specs.Form.{Word}
 use Rattle.dist_cert.specs.Groups.{claim_count, claimed, group, installations, installed_in, is_claim, is_some_number, leaves_open, IsClosedBy}
 use Rattle.dist_strong.specs.Asking.{IsReplyLine, is_derived, question_lines}
@@ -128,7 +130,7 @@ reply-line replies.Undecided answer is = record { no_claim = ap is_claim is; no_
     leaves : (question : List Word) → Undecided ≡ Question question → ⊥
     leaves question e = cc
 
-any-join : (lines more : List CertRecord) → list_any is_claim lines ≡ false → list_any is_claim more ≡ false → list_any is_claim (lines ++ more) ≡ false
+pub any-join : (lines more : List CertRecord) → list_any is_claim lines ≡ false → list_any is_claim more ≡ false → list_any is_claim (lines ++ more) ≡ false
 any-join [] more none later = later
 any-join (x ∷ lines) more none later =
     let parts = or_parts (is_claim x) (list_any is_claim lines) none in
@@ -180,3 +182,37 @@ closed-more lines more question answer closed = (
 
 pub closed-now : (lines between : List CertRecord) (question : List Word) (answer : CertRecord) → AllPass is_derived between → IsClosedBy (lines ++ question_lines question between answer) question answer
 closed-now lines between question answer all = (lines, between, [], sym (append_assoc lines (Question question ∷ between) (answer ∷ [])), all-open between all)
+
+-- ---- a claim ends the group
+
+pub group-claim : (lines : List CertRecord) (step : CertRecord) → is_claim step ≡ true → group (lines ++ step ∷ []) ≡ []
+group-claim [] step claim = by (is_claim step) claim
+  where
+    by : (b : Bool) → b ≡ true → (if (b || false) then [] else step ∷ []) ≡ []
+    by true e = refl
+    by false e = absurd (false≢true e)
+group-claim (s ∷ lines) step claim =
+    let some : list_any is_claim (s ∷ (lines ++ step ∷ [])) ≡ true = any-push (s ∷ lines) step ∙ or_right (list_any is_claim (s ∷ lines)) (is_claim step) claim in
+    ap (λ (b : Bool). if b then group (lines ++ step ∷ []) else s ∷ (lines ++ step ∷ [])) some ∙ group-claim lines step claim
+
+none-claim-in : (step : CertRecord) → is_claim step ≡ false → claim_in step ≡ []
+none-claim-in (Question literals) none = refl
+none-claim-in (Derived literals hints) none = refl
+none-claim-in (Refuted hints) none = refl
+none-claim-in (Installation variables) none = refl
+none-claim-in Undecided none = refl
+none-claim-in End none = refl
+none-claim-in step none = absurd (true≢false none)
+
+none-claims-in : (lines : List CertRecord) → list_any is_claim lines ≡ false → claims_in lines ≡ []
+none-claims-in [] none = refl
+none-claims-in (x ∷ lines) none =
+    let parts = or_parts (is_claim x) (list_any is_claim lines) none in
+    ap (λ (cs : List Claim). cs ++ claims_in lines) (none-claim-in x parts.0) ∙ none-claims-in lines parts.1
+
+pub claims-append : (lines more : List CertRecord) → list_any is_claim more ≡ false → claims_in (lines ++ more) ≡ claims_in lines
+claims-append lines more none =
+    flat_map-append claim_in lines more ∙ ap (λ (cs : List Claim). claims_in lines ++ cs) (none-claims-in more none) ∙ append-nil (claims_in lines)
+
+pub claims-push : (lines : List CertRecord) (step : CertRecord) → claims_in (lines ++ step ∷ []) ≡ claims_in lines ++ claim_in step
+claims-push lines step = flat_map-append claim_in lines (step ∷ []) ∙ ap (λ (cs : List Claim). claims_in lines ++ cs) (append-nil (claim_in step))

@@ -3,7 +3,7 @@ use Rattle.std.proofs.Common.{◌≡◌, ◌≢◌, ◌⊎◌, ⊎_elim, inl, in
 use Rattle.std.specs.List.{All, AllPass, Contains}
 use Rattle.std.proofs.lemmas.Bool.{and_from, and_parts, cases_eq, eq-eqb, ne_eqb, true≢false, false≢true}
 use Rattle.std.proofs.lemmas.List.{drop-append-le, drop-drop, drop-map, get_or_append_left, get_or_at, length-map, map-append}
-use Rattle.std.proofs.lemmas.List.Elements.{All-append, All-nil, All-cons}
+use Rattle.std.proofs.lemmas.List.Elements.{All-append, All-nil, All-cons, All-drop, All-push}
 use Rattle.circular_buffer.specs.Buffer.{keep_last}
 use Rattle.dist_clause.specs.Formula.{value_of}
 use Rattle.dist_cert.specs.declared.records.CertKind.{CertKind}
@@ -91,42 +91,42 @@ question-on g before a w group q settling candidate =
 -- ---- what the lines of a question hold
 
 -- the lines of a question, of which the last installs some packages or none
-pub record AreAsked (before : List CertRecord) (p q : ℕ) (installed : List (List ℕ)) (after : List CertRecord) : Type 0 where
+pub record AreAsked (before : List CertRecord) (question : List Word) (installed : List (List ℕ)) (after : List CertRecord) : Type 0 where
   pub between : List CertRecord
   pub answer : CertRecord
   pub only_derived : AllPass is_derived between
   pub answer_line : IsAnswerLine answer
   pub installs : installed_in answer ≡ installed
-  pub is : after ≡ before ++ question_lines (without p q) between answer
+  pub is : after ≡ before ++ question_lines question between answer
 
-group-after : (before : List CertRecord) (p q : ℕ) (installed : List (List ℕ)) (after : List CertRecord) (asked : AreAsked before p q installed after)
-    → group after ≡ group before ++ question_lines (without p q) asked.between asked.answer
-group-after before p q installed after asked =
-    ap group asked.is ∙ group-append before (question_lines (without p q) asked.between asked.answer) (question-claims (without p q) asked.between asked.answer asked.only_derived asked.answer_line)
+group-after : (before : List CertRecord) (question : List Word) (installed : List (List ℕ)) (after : List CertRecord) (asked : AreAsked before question installed after)
+    → group after ≡ group before ++ question_lines question asked.between asked.answer
+group-after before question installed after asked =
+    ap group asked.is ∙ group-append before (question_lines question asked.between asked.answer) (question-claims question asked.between asked.answer asked.only_derived asked.answer_line)
 
-count-after : (before : List CertRecord) (p q : ℕ) (installed : List (List ℕ)) (after : List CertRecord) → AreAsked before p q installed after → claim_count after ≡ claim_count before
-count-after before p q installed after asked =
-    ap claim_count asked.is ∙ count-append before (question_lines (without p q) asked.between asked.answer) (question-claims (without p q) asked.between asked.answer asked.only_derived asked.answer_line)
+count-after : (before : List CertRecord) (question : List Word) (installed : List (List ℕ)) (after : List CertRecord) → AreAsked before question installed after → claim_count after ≡ claim_count before
+count-after before question installed after asked =
+    ap claim_count asked.is ∙ count-append before (question_lines question asked.between asked.answer) (question-claims question asked.between asked.answer asked.only_derived asked.answer_line)
 
-pub installed-after : (before : List CertRecord) (p q : ℕ) (installed : List (List ℕ)) (after : List CertRecord) → AreAsked before p q installed after → installations after ≡ installations before ++ installed
-installed-after before p q installed after asked =
-    ap installations asked.is ∙ installations-append before (question_lines (without p q) asked.between asked.answer)
-    ∙ ap (λ (ms : List (List ℕ)). installations before ++ ms) (question-installs (without p q) asked.between asked.answer asked.only_derived ∙ asked.installs)
+pub installed-after : (before : List CertRecord) (question : List Word) (installed : List (List ℕ)) (after : List CertRecord) → AreAsked before question installed after → installations after ≡ installations before ++ installed
+installed-after before question installed after asked =
+    ap installations asked.is ∙ installations-append before (question_lines question asked.between asked.answer)
+    ∙ ap (λ (ms : List (List ℕ)). installations before ++ ms) (question-installs question asked.between asked.answer asked.only_derived ∙ asked.installs)
 
-in-group-after : (before : List CertRecord) (p q : ℕ) (installed : List (List ℕ)) (after : List CertRecord) → AreAsked before p q installed after → installations (group after) ≡ installations (group before) ++ installed
-in-group-after before p q installed after asked =
-    ap installations (group-after before p q installed after asked) ∙ installations-append (group before) (question_lines (without p q) asked.between asked.answer)
-    ∙ ap (λ (ms : List (List ℕ)). installations (group before) ++ ms) (question-installs (without p q) asked.between asked.answer asked.only_derived ∙ asked.installs)
+in-group-after : (before : List CertRecord) (question : List Word) (installed : List (List ℕ)) (after : List CertRecord) → AreAsked before question installed after → installations (group after) ≡ installations (group before) ++ installed
+in-group-after before question installed after asked =
+    ap installations (group-after before question installed after asked) ∙ installations-append (group before) (question_lines question asked.between asked.answer)
+    ∙ ap (λ (ms : List (List ℕ)). installations (group before) ++ ms) (question-installs question asked.between asked.answer asked.only_derived ∙ asked.installs)
 
-closed-after : (before : List CertRecord) (p q : ℕ) (installed : List (List ℕ)) (after : List CertRecord) (question : List Word) (answer : CertRecord) → AreAsked before p q installed after
-    → IsClosedBy (group before) question answer → IsClosedBy (group after) question answer
-closed-after before p q installed after question answer asked closed =
-    subst (λ ls. IsClosedBy ls question answer) (sym (group-after before p q installed after asked))
-    (closed-more (group before) (question_lines (without p q) asked.between asked.answer) question answer closed)
+closed-after : (before : List CertRecord) (question : List Word) (installed : List (List ℕ)) (after : List CertRecord) (other : List Word) (answer : CertRecord) → AreAsked before question installed after
+    → IsClosedBy (group before) other answer → IsClosedBy (group after) other answer
+closed-after before question installed after other answer asked closed =
+    subst (λ ls. IsClosedBy ls other answer) (sym (group-after before question installed after asked))
+    (closed-more (group before) (question_lines question asked.between asked.answer) other answer closed)
 
-closed-here : (before : List CertRecord) (p q : ℕ) (installed : List (List ℕ)) (after : List CertRecord) (asked : AreAsked before p q installed after) → IsClosedBy (group after) (without p q) asked.answer
-closed-here before p q installed after asked =
-    subst (λ ls. IsClosedBy ls (without p q) asked.answer) (sym (group-after before p q installed after asked)) (closed-now (group before) asked.between (without p q) asked.answer asked.only_derived)
+closed-here : (before : List CertRecord) (question : List Word) (installed : List (List ℕ)) (after : List CertRecord) (asked : AreAsked before question installed after) → IsClosedBy (group after) question asked.answer
+closed-here before question installed after asked =
+    subst (λ ls. IsClosedBy ls question asked.answer) (sym (group-after before question installed after asked)) (closed-now (group before) asked.between question asked.answer asked.only_derived)
 
 no-of : List Word → ℕ
 no-of (v ∷ w ∷ words) = w.0
@@ -140,13 +140,18 @@ same-other : (p q r : ℕ) → Question (without p q) ≡ Question (without p r)
 unfolding no-of words-of
 same-other p q r e = ap (λ (s : CertRecord). no-of (words-of s)) e
 
+-- a question that was asked
+question-after : (before : List CertRecord) (question other : List Word) (installed : List (List ℕ)) (after : List CertRecord) → AreAsked before question installed after → Contains (group after) (Question other)
+    → Contains (group before) (Question other) ⊎ (Question question ≡ Question other)
+question-after before question other installed after asked there =
+    questions-of (group before) asked.between question other asked.answer asked.only_derived asked.answer_line
+    (subst (λ (ls : List CertRecord). Contains ls (Question other)) (group-after before question installed after asked) there)
+
 -- a package that was asked for
-asked-after : (before : List CertRecord) (p q r : ℕ) (installed : List (List ℕ)) (after : List CertRecord) → AreAsked before p q installed after → Contains (group after) (Question (without p r))
+asked-after : (before : List CertRecord) (p q r : ℕ) (installed : List (List ℕ)) (after : List CertRecord) → AreAsked before (without p q) installed after → Contains (group after) (Question (without p r))
     → Contains (group before) (Question (without p r)) ⊎ (q ≡ r)
 asked-after before p q r installed after asked there =
-    ⊎_elim (λ old. inl old) (λ new. inr (same-other p q r new))
-    (questions-of (group before) asked.between (without p q) (without p r) asked.answer asked.only_derived asked.answer_line
-    (subst (λ (ls : List CertRecord). Contains ls (Question (without p r))) (group-after before p q installed after asked) there))
+    ⊎_elim (λ old. inl old) (λ new. inr (same-other p q r new)) (question-after before (without p q) (without p r) installed after asked there)
 
 noted-after : (old new : GroupView) (flags : List Bool) (IsClosed Closed : List Word → Type 0) → new.claimed ≡ old.claimed → new.variables ≡ old.variables
     → ((question : List Word) → IsClosed question → Closed question) → AreNoted old flags IsClosed → AreNoted new flags Closed
@@ -156,13 +161,13 @@ noted-after old new flags IsClosed Closed claimed variables more noted q from up
 
 -- ---- after each reply
 
-again : (before : List CertRecord) (p q : ℕ) (after : List CertRecord) → AreAsked before p q [] after → installations (group after) ≡ installations (group before)
-again before p q after asked = in-group-after before p q [] after asked ∙ append-nil (installations (group before))
+again : (before : List CertRecord) (question : List Word) (after : List CertRecord) → AreAsked before question [] after → installations (group after) ≡ installations (group before)
+again before question after asked = in-group-after before question [] after asked ∙ append-nil (installations (group before))
 
 pub refuted-step : (g : Setting) (before after : List CertRecord) (w : WindowView) (kept : GroupView) (q : ℕ) (hints : List ℕ) → IsGroupAt g before kept → IsCandidate w kept q
-    → (asked : AreAsked before kept.claimed q [] after) → asked.answer ≡ Refuted hints → IsGroupAt g after (record kept { refuted = slice_set kept.refuted (q - 1) true })
+    → (asked : AreAsked before (without kept.claimed q) [] after) → asked.answer ≡ Refuted hints → IsGroupAt g after (record kept { refuted = slice_set kept.refuted (q - 1) true })
 refuted-step g before after w kept q hints at candidate asked is = record {
-  claimed = at.claimed ∙ ap (λ (n : ℕ). n + 1) (sym (count-after before kept.claimed q [] after asked));
+  claimed = at.claimed ∙ ap (λ (n : ℕ). n + 1) (sym (count-after before (without kept.claimed q) [] after asked));
   from_one = at.from_one;
   upto = at.upto;
   variables = at.variables;
@@ -174,12 +179,12 @@ refuted-step g before after w kept q hints at candidate asked is = record {
     | inl same ↦ (
       (λ e. parts.other (sym same ∙ e)),
       subst (λ (k : ℕ). IsRefutedIn (group after) (without kept.claimed k)) (sym same)
-          (hints, subst (λ s. IsClosedBy (group after) (without kept.claimed q) s) is (closed-here before kept.claimed q [] after asked)),
+          (hints, subst (λ s. IsClosedBy (group after) (without kept.claimed q) s) is (closed-here before (without kept.claimed q) [] after asked)),
     )
     | inr other ↦ more-refuted (at.refuted r from upto (sym (value-other kept.refuted q r candidate.from_one from other) ∙ holds))
   ];
   undecided = noted-after kept kept kept.undecided (IsUndecidedIn (group before)) (IsUndecidedIn (group after)) refl refl
-      (λ question closed. closed-after before kept.claimed q [] after question Undecided asked closed) at.undecided;
+      (λ question closed. closed-after before (without kept.claimed q) [] after question Undecided asked closed) at.undecided;
   apart = λ r from holds. elim (cases_eq r q) [
     | inl same ↦ ap (value_of kept.undecided) same ∙ parts.undecided
     | inr other ↦ at.apart r from (sym (value-other kept.refuted q r candidate.from_one from other) ∙ holds)
@@ -191,13 +196,13 @@ refuted-step g before after w kept q hints at candidate asked is = record {
 }
   where
     inst : installations (group after) ≡ installations (group before)
-    inst = again before kept.claimed q after asked
+    inst = again before (without kept.claimed q) after asked
 
     parts : OpenParts kept q
     parts = open-parts kept q candidate.opens
 
     more-refuted : {r : ℕ} → (r ≢ kept.claimed) × IsRefutedIn (group before) (without kept.claimed r) → (r ≢ kept.claimed) × IsRefutedIn (group after) (without kept.claimed r)
-    more-refuted {r} old = (old.0, (old.1.0, closed-after before kept.claimed q [] after (without kept.claimed r) (Refuted old.1.0) asked old.1.1))
+    more-refuted {r} old = (old.0, (old.1.0, closed-after before (without kept.claimed q) [] after (without kept.claimed r) (Refuted old.1.0) asked old.1.1))
 
     back : (r : ℕ) → 1 ≤ r → OpenParts (record kept { refuted = slice_set kept.refuted (q - 1) true }) r → OpenParts kept r
     back r from open_still = elim (cases_eq r q) [
@@ -206,9 +211,9 @@ refuted-step g before after w kept q hints at candidate asked is = record {
     ]
 
 pub undecided-step : (g : Setting) (before after : List CertRecord) (w : WindowView) (kept : GroupView) (q : ℕ) → IsGroupAt g before kept → IsCandidate w kept q
-    → (asked : AreAsked before kept.claimed q [] after) → asked.answer ≡ Undecided → IsGroupAt g after (record kept { undecided = slice_set kept.undecided (q - 1) true })
+    → (asked : AreAsked before (without kept.claimed q) [] after) → asked.answer ≡ Undecided → IsGroupAt g after (record kept { undecided = slice_set kept.undecided (q - 1) true })
 undecided-step g before after w kept q at candidate asked is = record {
-  claimed = at.claimed ∙ ap (λ (n : ℕ). n + 1) (sym (count-after before kept.claimed q [] after asked));
+  claimed = at.claimed ∙ ap (λ (n : ℕ). n + 1) (sym (count-after before (without kept.claimed q) [] after asked));
   from_one = at.from_one;
   upto = at.upto;
   variables = at.variables;
@@ -217,12 +222,12 @@ undecided-step g before after w kept q at candidate asked is = record {
   each = subst (λ (ms : List (List ℕ)). All (λ m. Contains m kept.claimed) ms) (sym inst) at.each;
   common = λ r from upto. subst (λ (ms : List (List ℕ)). (value_of kept.common r ≡ true) ↔ All (λ m. Contains m r) ms) (sym inst) (at.common r from upto);
   refuted = noted-after kept kept kept.refuted (IsRefutedIn (group before)) (IsRefutedIn (group after)) refl refl
-      (λ question closed. (closed.0, closed-after before kept.claimed q [] after question (Refuted closed.0) asked closed.1)) at.refuted;
+      (λ question closed. (closed.0, closed-after before (without kept.claimed q) [] after question (Refuted closed.0) asked closed.1)) at.refuted;
   undecided = λ r from upto holds. elim (cases_eq r q) [
     | inl same ↦ (
       (λ e. parts.other (sym same ∙ e)),
       subst (λ (k : ℕ). IsUndecidedIn (group after) (without kept.claimed k)) (sym same)
-          (subst (λ s. IsClosedBy (group after) (without kept.claimed q) s) is (closed-here before kept.claimed q [] after asked)),
+          (subst (λ s. IsClosedBy (group after) (without kept.claimed q) s) is (closed-here before (without kept.claimed q) [] after asked)),
     )
     | inr other ↦ more-undecided (at.undecided r from upto (sym (value-other kept.undecided q r candidate.from_one from other) ∙ holds))
   ];
@@ -237,13 +242,13 @@ undecided-step g before after w kept q at candidate asked is = record {
 }
   where
     inst : installations (group after) ≡ installations (group before)
-    inst = again before kept.claimed q after asked
+    inst = again before (without kept.claimed q) after asked
 
     parts : OpenParts kept q
     parts = open-parts kept q candidate.opens
 
     more-undecided : {r : ℕ} → (r ≢ kept.claimed) × IsUndecidedIn (group before) (without kept.claimed r) → (r ≢ kept.claimed) × IsUndecidedIn (group after) (without kept.claimed r)
-    more-undecided {r} old = (old.0, closed-after before kept.claimed q [] after (without kept.claimed r) Undecided asked old.1)
+    more-undecided {r} old = (old.0, closed-after before (without kept.claimed q) [] after (without kept.claimed r) Undecided asked old.1)
 
     back : (r : ℕ) → 1 ≤ r → OpenParts (record kept { undecided = slice_set kept.undecided (q - 1) true }) r → OpenParts kept r
     back r from open_still = elim (cases_eq r q) [
@@ -260,10 +265,10 @@ all-last : {X : Type 0} (P : X → Type 0) (xs : List X) (y : X) → All P (xs +
 all-last P xs y all = subst P (get_or_at xs y [] y (length xs) refl) (all (length xs) y (omega (arith, length-append xs (y ∷ []))))
 
 pub found-step : (g : Setting) (before after : List CertRecord) (w : WindowView) (kept new : GroupView) (q : ℕ) (values : List Bool) → IsGroupAt g before kept → IsCandidate w kept q
-    → AreAsked before kept.claimed q (true_variables values ∷ []) after → length values ≡ kept.variables → value_of values kept.claimed ≡ true → value_of values q ≡ false
+    → AreAsked before (without kept.claimed q) (true_variables values ∷ []) after → length values ≡ kept.variables → value_of values kept.claimed ≡ true → value_of values q ≡ false
     → new ≡ record kept { common = new.common } → length new.common ≡ kept.variables → IsNarrowed kept.variables kept.common values new.common → IsGroupAt g after (record kept { common = new.common })
 found-step g before after w kept new q values at candidate asked size has lacks is new_size narrowed = record {
-  claimed = at.claimed ∙ ap (λ (n : ℕ). n + 1) (sym (count-after before kept.claimed q (true_variables values ∷ []) after asked));
+  claimed = at.claimed ∙ ap (λ (n : ℕ). n + 1) (sym (count-after before (without kept.claimed q) (true_variables values ∷ []) after asked));
   from_one = at.from_one;
   upto = at.upto;
   variables = at.variables;
@@ -272,9 +277,9 @@ found-step g before after w kept new q values at candidate asked size has lacks 
   each = subst (λ (ms : List (List ℕ)). All (λ m. Contains m kept.claimed) ms) (sym inst) (with-one kept.claimed at.each ((true-ones values kept.claimed at.from_one (omega (arith, at.upto, size))).1 has));
   common = λ r from upto. subst (λ (ms : List (List ℕ)). (value_of new.common r ≡ true) ↔ All (λ m. Contains m r) ms) (sym inst) (both r from upto);
   refuted = noted-after kept (record kept { common = new.common }) kept.refuted (IsRefutedIn (group before)) (IsRefutedIn (group after)) refl refl
-      (λ question closed. (closed.0, closed-after before kept.claimed q (true_variables values ∷ []) after question (Refuted closed.0) asked closed.1)) at.refuted;
+      (λ question closed. (closed.0, closed-after before (without kept.claimed q) (true_variables values ∷ []) after question (Refuted closed.0) asked closed.1)) at.refuted;
   undecided = noted-after kept (record kept { common = new.common }) kept.undecided (IsUndecidedIn (group before)) (IsUndecidedIn (group after)) refl refl
-      (λ question closed. closed-after before kept.claimed q (true_variables values ∷ []) after question Undecided asked closed) at.undecided;
+      (λ question closed. closed-after before (without kept.claimed q) (true_variables values ∷ []) after question Undecided asked closed) at.undecided;
   apart = at.apart;
   asked = λ r from upto there. ⊎_elim (λ old. still-closed kept (record kept { common = new.common }) r
       (λ parts. record { other = parts.other; common = (and_parts (value_of kept.common r) (value_of values r) (sym (narrowed r from upto) ∙ parts.common)).0; refuted = parts.refuted; undecided = parts.undecided })
@@ -285,7 +290,7 @@ found-step g before after w kept new q values at candidate asked size has lacks 
 }
   where
     inst : installations (group after) ≡ installations (group before) ++ true_variables values ∷ []
-    inst = in-group-after before kept.claimed q (true_variables values ∷ []) after asked
+    inst = in-group-after before (without kept.claimed q) (true_variables values ∷ []) after asked
 
     with-one : (r : ℕ) → All (λ m. Contains m r) (installations (group before)) → Contains (true_variables values) r → All (λ m. Contains m r) (installations (group before) ++ true_variables values ∷ [])
     with-one r all one = All-append (λ m. Contains m r) (installations (group before)) (true_variables values ∷ []) all (All-cons (λ m. Contains m r) (true_variables values) [] one (All-nil (λ m. Contains m r)))
@@ -315,17 +320,18 @@ keep-push {X} n xs y =
 keep-map : {X Y : Type 0} (f : X → Y) (n : ℕ) (xs : List X) → map f (keep_last n xs) ≡ keep_last n (map f xs)
 keep-map f n xs = sym (drop-map f (length xs - n) xs) ∙ ap (λ (m : ℕ). drop (m - n) (map f xs)) (sym (length-map xs f))
 
-pub window-more : (before after : List CertRecord) (p q : ℕ) (w : WindowView) (values : List Bool) → IsWindowAt before w → AreAsked before p q (true_variables values ∷ []) after
+pub window-more : (before after : List CertRecord) (question : List Word) (w : WindowView) (values : List Bool) → IsWindowAt before w → AreAsked before question (true_variables values ∷ []) after → length values ≡ w.variables
     → IsWindowAt after (record w { kept = keep_last 1024 (w.kept ++ values ∷ []); count = w.count + 1 })
-window-more before after p q w values at asked =
-    let inst = installed-after before p q (true_variables values ∷ []) after asked in
+window-more before after question w values at asked size =
+    let inst = installed-after before question (true_variables values ∷ []) after asked in
     record {
       kept = keep-map true_variables 1024 (w.kept ++ values ∷ []) ∙ ap (λ (ms : List (List ℕ)). keep_last 1024 ms) (map-append true_variables w.kept (values ∷ []) ∙ ap (λ (ms : List (List ℕ)). ms ++ true_variables values ∷ []) at.kept)
           ∙ keep-push 1024 (installations before) (true_variables values) ∙ ap (λ (ms : List (List ℕ)). keep_last 1024 ms) (sym inst);
       count = ap (λ (n : ℕ). n + 1) at.count ∙ sym (ap length inst ∙ length-append (installations before) (true_variables values ∷ []));
+      sizes = All-drop (λ v. length v ≡ w.variables) (length (w.kept ++ values ∷ []) - 1024) (w.kept ++ values ∷ []) (All-push (λ v. length v ≡ w.variables) w.kept values at.sizes size);
     }
 
-pub window-same : (before after : List CertRecord) (p q : ℕ) (w : WindowView) → IsWindowAt before w → AreAsked before p q [] after → IsWindowAt after w
-window-same before after p q w at asked =
-    let inst = installed-after before p q [] after asked ∙ append-nil (installations before) in
-    record { kept = at.kept ∙ ap (λ (ms : List (List ℕ)). keep_last 1024 ms) (sym inst); count = at.count ∙ ap length (sym inst) }
+pub window-same : (before after : List CertRecord) (question : List Word) (w : WindowView) → IsWindowAt before w → AreAsked before question [] after → IsWindowAt after w
+window-same before after question w at asked =
+    let inst = installed-after before question [] after asked ∙ append-nil (installations before) in
+    record { kept = at.kept ∙ ap (λ (ms : List (List ℕ)). keep_last 1024 ms) (sym inst); count = at.count ∙ ap length (sym inst); sizes = at.sizes }

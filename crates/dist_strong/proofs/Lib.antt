@@ -11,3 +11,6 @@ mod GroupLines
 mod GroupSteps
 mod Counting
 mod SettleSteps
+mod ClaimLines
+mod StrongLine
+mod ClaimSteps

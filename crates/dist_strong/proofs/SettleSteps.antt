@@ -1,5 +1,7 @@
 -- A candidate that was asked for, and several one after another.
-use Rattle.std.proofs.Common.{◌≡◌, inl, inr, ℕ, ◌+◌, ◌-◌, ◌++◌, Bool, true, false, List, [], ◌∷◌, length, slice_set, refl, ap, sym, subst, ◌∙◌, append_assoc, append-nil, arith, lit<}
+use Rattle.std.proofs.Common.{◌≡◌, inl, inr, ℕ, ◌≤◌, ◌+◌, ◌-◌, ◌++◌, Bool, true, false, List, [], ◌∷◌, length, slice_set, refl, ap, sym, subst, ◌∙◌, append_assoc, append-nil, arith, drop, length-append, lit<}
+use Rattle.std.specs.List.{Any}
+use Rattle.std.proofs.lemmas.List.{drop-append-le, get_or_at}
 use Rattle.std.proofs.lemmas.Bool.{and_parts, cases_eq, true≢false}
 use Rattle.circular_buffer.specs.Buffer.{keep_last}
 use Rattle.dist_clause.specs.Formula.{value_of}
@@ -20,7 +22,7 @@ use Rattle.dist_strong.specs.Words.{true_variables}
 use Rattle.dist_strong.specs.declared.asker.Reply.{Reply}
 use Rattle.dist_strong.specs.declared.asker.Reply.TheVariants as replies
 use Rattle.dist_strong.proofs.Asked.{AskStops}
-use Rattle.dist_strong.proofs.GroupLines.{reply-line}
+use Rattle.dist_strong.proofs.GroupLines.{any-join, question-claims, reply-line}
 use Rattle.dist_strong.proofs.GroupSteps.{AreAsked, found-step, never-open, open-from, open-parts, question-on, refuted-step, value-other, value-same, undecided-step, window-more, window-same}
 use Rattle.dist_strong.proofs.OneLine.{BeginsLaw, TwiceLaw, lines-more, stops-after, stops-for-memory}
 
@@ -34,6 +36,7 @@ settle-join twice first mid last a b d w v u group later kept one two g before a
     record {
       added = x.added ++ y.added;
       grew = subst (λ bytes. FileGrew bytes first last) (sym (lines-more x.added y.added)) (twice (lines_text x.added) (lines_text y.added) first mid last x.grew y.grew);
+      no_claims = any-join x.added y.added x.no_claims y.no_claims;
       settling = subst (λ ls. IsSettling g ls d u kept) (append_assoc before x.added y.added) y.settling;
     }
 
@@ -47,7 +50,7 @@ settle-stops twice first mid last a b w v group later error one two g before at 
 pub asked-refuted : (g : Setting) (before : List CertRecord) (old new : DeskView) (a b : AskerView) (w : WindowView) (kept : GroupView) (q : ℕ) → IsSettling g before a w kept → IsCandidate w kept q
     → IsAsked g before (without kept.claimed q) old new b replies.Refuted → Settles g before old new b w (record kept { refuted = slice_set kept.refuted (q - 1) true })
 asked-refuted g before old new a b w kept q settling candidate asked =
-    let lines : AreAsked before kept.claimed q [] (before ++ question_lines (without kept.claimed q) asked.between asked.answer) = record {
+    let lines : AreAsked before (without kept.claimed q) [] (before ++ question_lines (without kept.claimed q) asked.between asked.answer) = record {
       between = asked.between;
       answer = asked.answer;
       only_derived = asked.only_derived;
@@ -58,9 +61,10 @@ asked-refuted g before old new a b w kept q settling candidate asked =
     record {
       added = question_lines (without kept.claimed q) asked.between asked.answer;
       grew = asked.grew;
+      no_claims = question-claims (without kept.claimed q) asked.between asked.answer asked.only_derived (reply-line replies.Refuted asked.answer asked.is_answer);
       settling = record {
         at = asked.at;
-        window = window-same before (before ++ question_lines (without kept.claimed q) asked.between asked.answer) kept.claimed q w settling.window lines;
+        window = window-same before (before ++ question_lines (without kept.claimed q) asked.between asked.answer) (without kept.claimed q) w settling.window lines;
         group_at = refuted-step g before (before ++ question_lines (without kept.claimed q) asked.between asked.answer) w kept q asked.is_answer.0 settling.group_at candidate lines asked.is_answer.1;
       };
     }
@@ -68,7 +72,7 @@ asked-refuted g before old new a b w kept q settling candidate asked =
 pub asked-undecided : (g : Setting) (before : List CertRecord) (old new : DeskView) (a b : AskerView) (w : WindowView) (kept : GroupView) (q : ℕ) → IsSettling g before a w kept → IsCandidate w kept q
     → IsAsked g before (without kept.claimed q) old new b replies.Undecided → Settles g before old new b w (record kept { undecided = slice_set kept.undecided (q - 1) true })
 asked-undecided g before old new a b w kept q settling candidate asked =
-    let lines : AreAsked before kept.claimed q [] (before ++ question_lines (without kept.claimed q) asked.between asked.answer) = record {
+    let lines : AreAsked before (without kept.claimed q) [] (before ++ question_lines (without kept.claimed q) asked.between asked.answer) = record {
       between = asked.between;
       answer = asked.answer;
       only_derived = asked.only_derived;
@@ -79,9 +83,10 @@ asked-undecided g before old new a b w kept q settling candidate asked =
     record {
       added = question_lines (without kept.claimed q) asked.between asked.answer;
       grew = asked.grew;
+      no_claims = question-claims (without kept.claimed q) asked.between asked.answer asked.only_derived (reply-line replies.Undecided asked.answer asked.is_answer);
       settling = record {
         at = asked.at;
-        window = window-same before (before ++ question_lines (without kept.claimed q) asked.between asked.answer) kept.claimed q w settling.window lines;
+        window = window-same before (before ++ question_lines (without kept.claimed q) asked.between asked.answer) (without kept.claimed q) w settling.window lines;
         group_at = undecided-step g before (before ++ question_lines (without kept.claimed q) asked.between asked.answer) w kept q settling.group_at candidate lines asked.is_answer;
       };
     }
@@ -95,10 +100,10 @@ lacks-other n p q values holds = holds.1 1 (record { variable = q; positive = fa
 
 pub asked-found : (g : Setting) (before : List CertRecord) (old new : DeskView) (a b : AskerView) (w : WindowView) (kept after : GroupView) (q : ℕ) (values : List Bool) → IsSettling g before a w kept → IsCandidate w kept q
     → IsAsked g before (without kept.claimed q) old new b (replies.Found values) → Holds kept.variables (without kept.claimed q) (replies.Found values)
-    → after ≡ record kept { common = after.common } → length after.common ≡ kept.variables → IsNarrowed kept.variables kept.common values after.common
+    → after ≡ record kept { common = after.common } → length after.common ≡ kept.variables → IsNarrowed kept.variables kept.common values after.common → w.variables ≡ kept.variables
     → Settles g before old new b (record w { kept = keep_last 1024 (w.kept ++ values ∷ []); count = w.count + 1 }) (record kept { common = after.common })
-asked-found g before old new a b w kept after q values settling candidate asked holds is size narrowed =
-    let lines : AreAsked before kept.claimed q (true_variables values ∷ []) (before ++ question_lines (without kept.claimed q) asked.between asked.answer) = record {
+asked-found g before old new a b w kept after q values settling candidate asked holds is size narrowed window =
+    let lines : AreAsked before (without kept.claimed q) (true_variables values ∷ []) (before ++ question_lines (without kept.claimed q) asked.between asked.answer) = record {
       between = asked.between;
       answer = asked.answer;
       only_derived = asked.only_derived;
@@ -109,9 +114,10 @@ asked-found g before old new a b w kept after q values settling candidate asked 
     record {
       added = question_lines (without kept.claimed q) asked.between asked.answer;
       grew = asked.grew;
+      no_claims = question-claims (without kept.claimed q) asked.between asked.answer asked.only_derived (reply-line (replies.Found values) asked.answer asked.is_answer);
       settling = record {
         at = asked.at;
-        window = window-more before (before ++ question_lines (without kept.claimed q) asked.between asked.answer) kept.claimed q w values settling.window lines;
+        window = window-more before (before ++ question_lines (without kept.claimed q) asked.between asked.answer) (without kept.claimed q) w values settling.window lines (holds.0 ∙ sym window);
         group_at = found-step g before (before ++ question_lines (without kept.claimed q) asked.between asked.answer) w kept after q values settling.group_at candidate lines holds.0
             (has-claimed kept.variables kept.claimed q values holds) (lacks-other kept.variables kept.claimed q values holds) is size narrowed;
       };
@@ -143,11 +149,11 @@ settled-undecided old new a b w kept after q words reply are is more candidate b
 
 pub settled-found : (old new : DeskView) (a b : AskerView) (w v : WindowView) (kept after : GroupView) (q : ℕ) (values : List Bool) (words : List Word) (reply : Reply) → words ≡ without kept.claimed q → reply ≡ replies.Found values
     → AskMore old new a b words reply → IsCandidate w kept q → Holds kept.variables (without kept.claimed q) (replies.Found values) → after ≡ record kept { common = after.common } → length after.common ≡ kept.variables
-    → IsNarrowed kept.variables kept.common values after.common → v ≡ record w { kept = keep_last 1024 (w.kept ++ values ∷ []); count = w.count + 1 } → SettleMore old new a b w v kept after
-settled-found old new a b w v kept after q values words reply are is more candidate holds becomes size narrowed window g before settling =
+    → IsNarrowed kept.variables kept.common values after.common → v ≡ record w { kept = keep_last 1024 (w.kept ++ values ∷ []); count = w.count + 1 } → w.variables ≡ kept.variables → SettleMore old new a b w v kept after
+settled-found old new a b w v kept after q values words reply are is more candidate holds becomes size narrowed window same g before settling =
     subst (λ (u : WindowView). Settles g before old new b u after) (sym window)
     (subst (λ (k : GroupView). Settles g before old new b (record w { kept = keep_last 1024 (w.kept ++ values ∷ []); count = w.count + 1 }) k) (sym becomes)
-    (asked-found g before old new a b w kept after q values settling candidate (ask-at old new a b w kept q words reply (replies.Found values) are is more candidate g before settling) holds becomes size narrowed))
+    (asked-found g before old new a b w kept after q values settling candidate (ask-at old new a b w kept q words reply (replies.Found values) are is more candidate g before settling) holds becomes size narrowed same))
 
 -- want of memory for the window
 pub found-stops : (old new : DeskView) (a b : AskerView) (w : WindowView) (kept : GroupView) (q : ℕ) (words : List Word) (reply : Reply) → words ≡ without kept.claimed q → AskMore old new a b words reply → IsCandidate w kept q
@@ -211,12 +217,25 @@ found-further w kept after q values candidate becomes narrowed lacks = subst (λ
 -- ---- what is given on
 
 pub fits-after : (a b : AskerView) (w v : WindowView) (kept after : GroupView) → Fits a w kept → b.limit ≡ a.limit → b.log.variables ≡ a.log.variables → v.variables ≡ w.variables
-    → after.claimed ≡ kept.claimed → after.variables ≡ kept.variables → HasSizes after → Fits b v after
-fits-after a b w v kept after fits limit variables window claimed same sizes = record {
+    → after.claimed ≡ kept.claimed → after.variables ≡ kept.variables → HasSizes after → Any (λ values. value_of values kept.claimed ≡ true) v.kept → Fits b v after
+fits-after a b w v kept after fits limit variables window claimed same sizes some = record {
   limit = omega (arith, limit, fits.limit);
   variables = variables ∙ fits.variables ∙ sym same;
   window = window ∙ fits.window ∙ sym same;
   from_one = omega (arith, claimed, fits.from_one);
   upto = omega (arith, claimed, same, fits.upto);
   sizes = sizes;
+  some = subst (λ (p : ℕ). Any (λ values. value_of values p ≡ true) v.kept) (sym claimed) some;
 }
+
+-- the latest installation is kept
+last-any : (P : List Bool → Type 0) (xs : List (List Bool)) (x : List Bool) → P x → Any P (xs ++ x ∷ [])
+last-any P xs x holds = (length xs, x, omega (arith, length-append xs (x ∷ [])), get_or_at xs x [] x (length xs) refl, holds)
+
+pub added-some : (w v : WindowView) (p : ℕ) (values : List Bool) → v ≡ record w { kept = keep_last 1024 (w.kept ++ values ∷ []); count = w.count + 1 } → value_of values p ≡ true
+    → Any (λ xs. value_of xs p ≡ true) v.kept
+added-some w v p values is has =
+    let size = length-append w.kept (values ∷ []) in
+    let within : length (w.kept ++ values ∷ []) - 1024 ≤ length w.kept = omega (arith, size) in
+    subst (λ (xs : List (List Bool)). Any (λ ys. value_of ys p ≡ true) xs) (sym (ap (λ (u : WindowView). u.kept) is ∙ drop-append-le (length (w.kept ++ values ∷ []) - 1024) w.kept (values ∷ []) within))
+    (last-any (λ ys. value_of ys p ≡ true) (drop (length (w.kept ++ values ∷ []) - 1024) w.kept) values has)

@@ -4,3 +4,4 @@ pub mod Asking
 pub mod Window
 pub mod Group
 pub mod Settling
+pub mod Claiming

@@ -1,5 +1,6 @@
 -- What is kept while the group of a claim is settled.
-use Rattle.std.specs.Prelude.{◌≡◌, ◌≢◌, ◌↔◌, ℕ, ◌+◌, ◌<◌, ◌≤◌, Bool, true, false, List, [], ◌∷◌, ◌++◌, All, Contains, length}
+use Rattle.std.specs.Prelude.{◌≡◌, ◌≢◌, ◌↔◌, ℕ, ◌+◌, ◌<◌, ◌≤◌, Bool, true, false, List, [], ◌∷◌, ◌++◌, All, Any, Contains, length}
+use Rattle.std.specs.List.{list_any}
 use Rattle.dist_clause.specs.Formula.{value_of}
 use Rattle.dist_outside.specs.DeskView.{DeskView, FileGrew}
 use Rattle.dist_outside.specs.declared.trouble.WorkError.{WorkError}
@@ -53,6 +54,7 @@ pub record IsSettling (g : Setting) (before : List CertRecord) (a : AskerView) (
 pub record Settles (g : Setting) (before : List CertRecord) (old new : DeskView) (a : AskerView) (w : WindowView) (group : GroupView) : Type 0 where
   pub added : List CertRecord
   pub grew : FileGrew (lines_text added) old new
+  pub no_claims : list_any lines.is_claim added ≡ false
   pub settling : IsSettling g (before ++ added) a w group
 
 -- no package is open that was not, and one of them is no longer
@@ -70,6 +72,7 @@ pub record Fits (a : AskerView) (w : WindowView) (group : GroupView) : Type 0 wh
   pub from_one : 1 ≤ group.claimed
   pub upto : group.claimed ≤ group.variables
   pub sizes : HasSizes group
+  pub some : Any (λ values. value_of values group.claimed ≡ true) w.kept
 
 abbrev pub SettleMore : DeskView → DeskView → AskerView → AskerView → WindowView → WindowView → GroupView → GroupView → Type 0
 SettleMore old new a b w v group h = (g : Setting) (before : List CertRecord) → IsSettling g before a w group → Settles g before old new b v h

@@ -2,6 +2,7 @@
 #![tactic(auto)]
 
 mod asker;
+mod claiming;
 mod group;
 mod putting;
 mod settling;

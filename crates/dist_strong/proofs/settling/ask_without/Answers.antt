@@ -10,7 +10,7 @@ use Rattle.dist_strong.specs.Window.{WindowView}
 use Rattle.dist_strong.specs.declared.asker.Reply.{Reply}
 use Rattle.dist_strong.specs.declared.asker.Reply.TheVariants as replies
 use Rattle.dist_strong.proofs.OneLine.{by-exit}
-use Rattle.dist_strong.proofs.SettleSteps.{ask-stops, fits-after, found-further, found-stops, lacks-other, leave-further, memory-stops, refute-further, settled-found, settled-refuted, settled-undecided}
+use Rattle.dist_strong.proofs.SettleSteps.{added-some, ask-stops, has-claimed, fits-after, found-further, found-stops, lacks-other, leave-further, memory-stops, refute-further, settled-found, settled-refuted, settled-undecided}
 use Rattle.dist_strong.proofs.settling.ask_without.Goals as goal
 
 pub returns-in_err-question-clause-err : goal.returns-in_err-question-clause-err
@@ -45,7 +45,7 @@ returns-in-Found-clause-ok g c =
     (subst (λ (ws : List Word). Holds c.args.asker.now.log.variables ws (replies.Found c.in-Found.values)) words
     (subst (λ (r : Reply). Holds c.args.asker.now.log.variables c.deref.result.now r) c.in-Found.is c.in_ok-values.ensures.holds)) in
     settled-found old new c.args.asker.now c.ask.new.self c.args.window.now c.add-in-Found.new.self kept c.add.new.self c.args.other c.in-Found.values c.deref.result.now c.in_ok-values.field-0 words c.in-Found.is c.in_ok-values.ensures.ok
-    c.requires.candidate holds c.add.ensures.rest c.add.ensures.size c.add.ensures.both c.in_ok-add-in-Found.ensures
+    c.requires.candidate holds c.add.ensures.rest c.add.ensures.size c.add.ensures.both c.in_ok-add-in-Found.ensures c.requires.fits.window
 
 pub returns-in-Found-clause-further : goal.returns-in-Found-clause-further
 returns-in-Found-clause-further g c =
@@ -63,6 +63,9 @@ returns-in-Found-clause-fits g c =
     fits-after c.args.asker.now c.ask.new.self c.args.window.now c.add-in-Found.new.self kept c.add.new.self c.requires.fits c.ask.ensures.limit c.ask.ensures.variables
     (ap (λ (w : WindowView). w.variables) c.in_ok-add-in-Found.ensures) (ap (λ (k : GroupView). k.claimed) rest) (ap (λ (k : GroupView). k.variables) rest)
     (subst HasSizes (sym rest) (record { common = c.add.ensures.size; refuted = c.requires.fits.sizes.refuted; undecided = c.requires.fits.sizes.undecided }))
+    (added-some c.args.window.now c.add-in-Found.new.self kept.claimed c.in-Found.values c.in_ok-add-in-Found.ensures (has-claimed c.args.asker.now.log.variables kept.claimed c.args.other c.in-Found.values
+    (subst (λ (ws : List Word). Holds c.args.asker.now.log.variables ws (replies.Found c.in-Found.values)) (c.deref.ensures.value ∙ c.in_ok-question.ensures ∙ ap (λ (p : ℕ). without p c.args.other) c.claimed.ensures)
+    (subst (λ (r : Reply). Holds c.args.asker.now.log.variables c.deref.result.now r) c.in-Found.is c.in_ok-values.ensures.holds))))
 
 pub returns-in-Refuted-clause-ok : goal.returns-in-Refuted-clause-ok
 returns-in-Refuted-clause-ok g c =
@@ -85,7 +88,7 @@ returns-in-Refuted-clause-fits g c =
       common = c.requires.fits.sizes.common;
       refuted = length-set kept.refuted (c.args.other - 1) true ∙ c.requires.fits.sizes.refuted;
       undecided = c.requires.fits.sizes.undecided;
-    }))
+    })) c.requires.fits.some
 
 pub returns-clause-ok : goal.returns-clause-ok
 returns-clause-ok g c =
@@ -108,4 +111,4 @@ returns-clause-fits g c =
       common = c.requires.fits.sizes.common;
       refuted = c.requires.fits.sizes.refuted;
       undecided = length-set kept.undecided (c.args.other - 1) true ∙ c.requires.fits.sizes.undecided;
-    }))
+    })) c.requires.fits.some
