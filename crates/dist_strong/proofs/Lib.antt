@@ -7,3 +7,10 @@ mod TrueOnes
 mod Answered
 mod Closing
 mod Asked
+mod GroupLines
+mod GroupSteps
+mod Counting
+mod SettleSteps
+mod ClaimLines
+mod StrongLine
+mod ClaimSteps

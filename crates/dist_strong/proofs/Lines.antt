@@ -28,7 +28,7 @@ use Rattle.dist_strong.proofs.Opened.{one-open}
 all-small : (n : ℕ) (words : List Word) → n < 2 ^ 32 → All (λ w. w.0 ≤ n) words → All (λ w. IsSmall w.0) words
 all-small n words fits upto k d within = let least = upto k d within in omega (arith, least, fits)
 
-plains-small : (n : ℕ) (numbers : List ℕ) → n < 2 ^ 32 → All (λ v. v ≤ n) numbers → All (λ w. IsSmall w.0) (plains numbers)
+pub plains-small : (n : ℕ) (numbers : List ℕ) → n < 2 ^ 32 → All (λ v. v ≤ n) numbers → All (λ w. IsSmall w.0) (plains numbers)
 plains-small n numbers fits upto = All-map (λ w. IsSmall w.0) (λ (v : ℕ). (v, true)) numbers (λ k d within. let least = upto k d within in omega (arith, least, fits))
 
 -- ---- hints

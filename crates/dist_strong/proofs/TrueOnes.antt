@@ -14,7 +14,7 @@ pub record IsKept (p : ℕ → Bool) (a n v : ℕ) : Type 0 where
   pub high : v < a + n
   pub holds : p v ≡ true
 
-all-kept : (p : ℕ → Bool) (a n : ℕ) → All (IsKept p a n) (filter p (range_with_len a n))
+pub all-kept : (p : ℕ → Bool) (a n : ℕ) → All (IsKept p a n) (filter p (range_with_len a n))
 all-kept p a zero = All-nil (IsKept p a zero)
 all-kept p a (suc n) = by (all-kept p (a + 1) n) (p a) refl
   where
@@ -25,7 +25,7 @@ all-kept p a (suc n) = by (all-kept p (a + 1) n) (p a) refl
     by rest true is = All-cons (IsKept p a (suc n)) a (filter p (range_with_len (a + 1) n)) (record { low = omega arith; high = omega arith; holds = is }) (weaker rest)
     by rest false is = weaker rest
 
-kept-there : (p : ℕ → Bool) (a n v : ℕ) → IsKept p a n v → Contains (filter p (range_with_len a n)) v
+pub kept-there : (p : ℕ → Bool) (a n v : ℕ) → IsKept p a n v → Contains (filter p (range_with_len a n)) v
 kept-there p a zero v kept = absurd (omega (arith, kept.low, kept.high))
 kept-there p a (suc n) v kept = by (kept-there p (a + 1) n v) (p a) refl
   where
@@ -42,7 +42,7 @@ kept-there p a (suc n) v kept = by (kept-there p (a + 1) n v) (p a) refl
       | inr other ↦ let low : a + 1 ≤ v = omega (arith, kept.low) in rest (record { low = low; high = omega (arith, kept.high); holds = kept.holds })
     ]
 
-range-rises : (a n : ℕ) → AllPairs (λ v w. v < w) (range_with_len a n)
+pub range-rises : (a n : ℕ) → AllPairs (λ v w. v < w) (range_with_len a n)
 range-rises a n i j d before within =
     let short : j < n = omega (arith, within, length-range_with_len a n) in
     let early : i < n = omega arith in
@@ -59,7 +59,7 @@ true-low values k d within = (all-kept (λ v. value_of values v) 1 (length value
 pub true-upto : (values : List Bool) → All (λ v. v ≤ length values) (true_variables values)
 true-upto values k d within = let kept = all-kept (λ v. value_of values v) 1 (length values) k d within in omega (arith, kept.high)
 
-contained : {X : Type 0} (P : X → Type 0) (xs : List X) (x : X) → All P xs → Contains xs x → P x
+pub contained : {X : Type 0} (P : X → Type 0) (xs : List X) (x : X) → All P xs → Contains xs x → P x
 contained P xs x all there = subst P there.2 (all there.0 x there.1)
 
 pub true-ones : (values : List Bool) → AreTrueOf values (true_variables values)

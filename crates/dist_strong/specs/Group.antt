@@ -1,5 +1,6 @@
 -- What is kept of the group of a claim.
-use Rattle.std.specs.Prelude.{◌≡◌, ◌==◌, ◌&&◌, ◌<◌, ◌≤◌, ℕ, Bool, true, List, All, AllPairs, Contains, not}
+use Rattle.std.specs.Prelude.{◌≡◌, ◌==◌, ◌&&◌, ◌<◌, ◌≤◌, ℕ, Bool, true, List, All, AllPairs, Contains, filter, length, not}
+use Rattle.std.specs.List.{range_with_len}
 use Rattle.dist_clause.specs.Formula.{value_of}
 use Rattle.dist_strong.specs.Window.{WindowView}
 
@@ -48,3 +49,10 @@ AreLeft w group left = AreLeftUpto w group group.variables left
 -- of each of n variables: it is true where it is true in both
 abbrev pub IsNarrowed : ℕ → List Bool → List Bool → List Bool → Type 0
 IsNarrowed n old values new = (v : ℕ) → 1 ≤ v → v ≤ n → value_of new v ≡ (value_of old v && value_of values v)
+
+abbrev pub HasNoCandidate : WindowView → GroupView → Type 0
+HasNoCandidate w group = (q : ℕ) → ¬ IsCandidate w group q
+
+-- how many packages are open
+abbrev pub open_count : GroupView → ℕ
+open_count group = length (filter (is_open group) (range_with_len 1 group.variables))

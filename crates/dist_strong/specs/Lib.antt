@@ -3,3 +3,5 @@ pub mod Script
 pub mod Asking
 pub mod Window
 pub mod Group
+pub mod Settling
+pub mod Claiming

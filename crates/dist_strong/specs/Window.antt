@@ -1,5 +1,5 @@
 -- What is kept of the installations before a line.
-use Rattle.std.specs.Prelude.{◌≡◌, ℕ, ◌+◌, ◌-◌, Bool, List, [], filter, length, map, slice_index_or}
+use Rattle.std.specs.Prelude.{◌≡◌, ℕ, ◌+◌, ◌-◌, Bool, List, [], All, filter, length, map, slice_index_or}
 use Rattle.std.specs.List.{range_with_len}
 use Rattle.circular_buffer.specs.Buffer.{keep_last}
 use Rattle.dist_clause.specs.Formula.{value_of}
@@ -25,3 +25,4 @@ numbers_of w p = filter (λ number. value_of (kept_at w number) p) (range_with_l
 pub record IsWindowAt (before : List CertRecord) (w : WindowView) : Type 0 where
   pub kept : map true_variables w.kept ≡ keep_last 1024 (installations before)
   pub count : w.count ≡ length (installations before)
+  pub sizes : All (λ values. length values ≡ w.variables) w.kept

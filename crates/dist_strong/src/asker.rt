@@ -1,5 +1,6 @@
 //! Questions, each with its lines.
 ghost use Rattle.std.specs.Prelude.{◌≡◌, ◌≤◌, List, [], ◌∷◌, ◌++◌, IfErr, IfOk, OnOk};
+ghost use Rattle.dist_base.specs.declared.TheConstants.{MAX_VARIABLES};
 ghost use Rattle.dist_clause.specs.Formula.{IsClauseOver};
 ghost use Rattle.dist_outside.specs.DeskView.{FileGrew};
 ghost use Rattle.dist_outside.specs.Files.{IsWriting};
@@ -172,6 +173,27 @@ fn put_answer<D: Desk>(
 }
 
 impl Asker {
+    /// How many variables there are.
+    pub(crate) fn variables(&self) -> u32
+        ensures value { result ≡ self.now.log.variables }
+        ensures stated { result ≤ MAX_VARIABLES }
+    {
+        self.solver.log().variables()
+    }
+
+    /// Puts a line that is none of a question.
+    pub(crate) fn put<D: Desk>(&mut self, desk: &mut D, step: &CertRecord) -> Result<(), WorkError>
+        requires writing { IsWriting (D.view desk.old).mode }
+        requires form { KeepsRules step.now }
+        ensures rest { self.new ≡ record self.old { writer = self.new.writer } }
+        ensures grew { OnOk result (FileGrew (ended (record_text step.now)) (D.view desk.old) (D.view desk.new)) }
+        ensures ok { OnOk result (PutMore self.old.writer self.new.writer step.now) }
+        ensures err { IfErr result (PutStops self.old.writer step.now (D.view desk.old) (D.view desk.new)) }
+        ensures grows { Grows (D.view desk.old) (D.view desk.new) }
+    {
+        put_line(&mut self.writer, desk, step)
+    }
+
     /// Asks a question and writes its lines.
     pub(crate) fn ask<D: Desk>(
         &mut self,

@@ -2,8 +2,10 @@
 ghost use Rattle.std.specs.Prelude.{◌≡◌, ◌-◌, ◌≤◌, ◌&&◌, ◌↔◌, ℕ, IfOk, IfSome, IsTrue, None, length, replicate, slice_set, true, false};
 ghost use Rattle.dist_clause.specs.Formula.{value_of};
 ghost use Rattle.dist_strong.specs.Group.{AreLeft, GroupView, IsCandidate, IsLeft, IsNarrowed, is_open};
+ghost use Rattle.dist_strong.specs.Words.{true_variables};
 
 use crate::window::Window;
+use crate::words::true_variables;
 use dist_clause::Assignment;
 use std::alloc::{AllocError, Global};
 use std::marker::Model;
@@ -80,6 +82,13 @@ impl Group {
         })
     }
 
+    /// The package of the claim.
+    pub(crate) fn claimed(&self) -> u32
+        ensures { result ≡ self.now.claimed }
+    {
+        self.claimed
+    }
+
     /// Whether another package is in all installations of the group and was not asked for.
     fn is_open(&self, other: u32) -> bool
         requires from_one { 1 ≤ other }
@@ -96,6 +105,7 @@ impl Group {
     pub(crate) fn add(&mut self, values: &Assignment)
         requires { length values.now ≡ self.old.variables }
         ensures rest { self.new ≡ record self.old { common = self.new.common } }
+        ensures size { length self.new.common ≡ self.old.variables }
         ensures both { IsNarrowed self.old.variables self.old.common values.now self.new.common }
     {
         narrow(&mut self.common, values, self.variables);
@@ -117,6 +127,13 @@ impl Group {
         ensures { self.new ≡ record self.old { undecided = slice_set self.old.undecided (other - 1) true } }
     {
         self.undecided.set(other, true);
+    }
+
+    /// The packages without which the package of the claim was refuted, rising.
+    pub(crate) fn needed(&self, alloc: Global) -> Result<Vec<u32>, AllocError>
+        ensures { IfOk result (λ needed. needed.items ≡ true_variables self.now.refuted) }
+    {
+        true_variables(alloc, &self.refuted, self.variables)
     }
 
     /// The first package that is in all installations of the claim and was not asked for.

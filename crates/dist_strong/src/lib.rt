@@ -2,7 +2,9 @@
 #![tactic(auto)]
 
 mod asker;
+mod claiming;
 mod group;
 mod putting;
+mod settling;
 mod window;
 mod words;

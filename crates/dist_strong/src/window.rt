@@ -1,5 +1,5 @@
 //! The latest installations, by their numbers.
-ghost use Rattle.std.specs.Prelude.{◌≡◌, ◌+◌, ◌<◌, ◌≤◌, ◌↔◌, [], ◌∷◌, ◌++◌, All, IfOk, IsTrue, OnOk, length, slice_index_or, true};
+ghost use Rattle.std.specs.Prelude.{◌≡◌, ◌+◌, ◌^◌, ◌<◌, ◌≤◌, ◌↔◌, [], ◌∷◌, ◌++◌, All, IfOk, IsTrue, OnOk, length, slice_index_or, true};
 ghost use Rattle.circular_buffer.specs.Buffer.{keep_last};
 ghost use Rattle.dist_clause.specs.Formula.{value_of};
 ghost use Rattle.dist_strong.specs.Window.{WindowView, numbers_of};
@@ -79,7 +79,8 @@ impl Window {
     pub(crate) fn numbers_with(&self, alloc: Global, package: u32) -> Result<Vec<u32>, AllocError>
         requires from_one { 1 ≤ «package» }
         requires upto { «package» ≤ self.now.variables }
-        ensures { IfOk result (λ numbers. numbers.items ≡ numbers_of self.now «package») }
+        ensures numbers { IfOk result (λ numbers. numbers.items ≡ numbers_of self.now «package») }
+        ensures small { self.now.count < 2 ^ 32 }
     {
         let mut numbers = Vec::new(alloc);
         let first = self.count - self.kept.len() as u32;

@@ -1,0 +1,218 @@
+-- The group of the lines of a question, behind those before.
+use Rattle.std.proofs.Common.{◌≡◌, ◌≢◌, ◌⊎◌, ⊎_elim, inl, inr, ℕ, zero, suc, ◌<◌, ◌||◌, Bool, true, false, List, [], ◌∷◌, ◌++◌, length, get_or, refl, ap, sym, ◌∙◌, append_assoc, append-nil, arith, if◌then◌else◌}
+use Rattle.std.specs.List.{AllPass, Contains, flat_map, list_any}
+use Rattle.std.proofs.lemmas.Bool.{or_right, or_parts, true≢false, false≢true}
+use Rattle.std.proofs.lemmas.Grind.{flat_map-append}
+use Rattle.std.proofs.lemmas.List.Elements.{All-head, All-tail}
+use Rattle.dist_cert.specs.declared.records.CertRecord.{CertRecord}
+use Rattle.dist_cert.specs.declared.records.CertRecord.TheVariants.{Question, Derived, Refuted, Installation, Undecided, End}
+use Rattle.dist_cert.specs.declared.records.Claim.{Claim}
+use Rattle.dist_cert.specs.Accepted.{claim_in, claims_in}
+use Rattle.dist_cert.specs.Form.{Word}
+use Rattle.dist_cert.specs.Groups.{claim_count, claimed, group, installations, installed_in, is_claim, is_some_number, leaves_open, IsClosedBy}
+use Rattle.dist_strong.specs.Asking.{IsReplyLine, is_derived, question_lines}
+use Rattle.dist_strong.specs.Words.{true_variables}
+use Rattle.dist_strong.specs.declared.asker.Reply.{Reply}
+use Rattle.dist_strong.specs.declared.asker.Reply.TheVariants as replies
+
+-- ---- lines that are no claims
+
+any-push : (lines : List CertRecord) (step : CertRecord) → list_any is_claim (lines ++ step ∷ []) ≡ (list_any is_claim lines || is_claim step)
+any-push [] step = or-false (is_claim step)
+  where
+    or-false : (b : Bool) → (b || false) ≡ b
+    or-false true = refl
+    or-false false = refl
+any-push (s ∷ lines) step = ap (λ (b : Bool). is_claim s || b) (any-push lines step) ∙ sym (or-assoc (is_claim s) (list_any is_claim lines) (is_claim step))
+  where
+    or-assoc : (a b c : Bool) → ((a || b) || c) ≡ (a || (b || c))
+    or-assoc true b c = refl
+    or-assoc false b c = refl
+
+-- a line that is no claim is in the group of the lines before it
+group-push : (lines : List CertRecord) (step : CertRecord) → is_claim step ≡ false → group (lines ++ step ∷ []) ≡ group lines ++ step ∷ []
+group-push [] step no_claim = by (is_claim step) no_claim
+  where
+    by : (b : Bool) → b ≡ false → (if (b || false) then [] else step ∷ []) ≡ step ∷ []
+    by true e = absurd (true≢false e)
+    by false e = refl
+group-push (s ∷ lines) step no_claim =
+    let same : list_any is_claim (s ∷ (lines ++ step ∷ [])) ≡ list_any is_claim (s ∷ lines)
+    = any-push (s ∷ lines) step ∙ ap (λ (b : Bool). list_any is_claim (s ∷ lines) || b) no_claim ∙ or-false (list_any is_claim (s ∷ lines)) in
+    ap (λ (b : Bool). if b then group (lines ++ step ∷ []) else s ∷ (lines ++ step ∷ [])) same
+    ∙ by (list_any is_claim (s ∷ lines)) (group-push lines step no_claim)
+  where
+    or-false : (b : Bool) → (b || false) ≡ b
+    or-false true = refl
+    or-false false = refl
+
+    by : (b : Bool) → group (lines ++ step ∷ []) ≡ group lines ++ step ∷ []
+        → (if b then group (lines ++ step ∷ []) else s ∷ (lines ++ step ∷ [])) ≡ (if b then group lines else s ∷ lines) ++ step ∷ []
+    by true e = e
+    by false e = refl
+
+pub group-append : (lines more : List CertRecord) → list_any is_claim more ≡ false → group (lines ++ more) ≡ group lines ++ more
+group-append lines [] none = ap group (append-nil lines) ∙ sym (append-nil (group lines))
+group-append lines (x ∷ more) none =
+    let parts = or_parts (is_claim x) (list_any is_claim more) none in
+    ap group (sym (append_assoc lines (x ∷ []) more)) ∙ group-append (lines ++ x ∷ []) more parts.1
+    ∙ ap (λ (ls : List CertRecord). ls ++ more) (group-push lines x parts.0) ∙ append_assoc (group lines) (x ∷ []) more
+
+none-claimed : (step : CertRecord) → is_claim step ≡ false → claimed step ≡ []
+none-claimed step none = by (claimed step) none
+  where
+    by : (ps : List ℕ) → is_some_number ps ≡ false → ps ≡ []
+    by [] e = refl
+    by (p ∷ ps) e = absurd (true≢false e)
+
+no-claims-count : (lines : List CertRecord) → list_any is_claim lines ≡ false → flat_map claimed lines ≡ []
+no-claims-count [] none = refl
+no-claims-count (x ∷ lines) none =
+    let parts = or_parts (is_claim x) (list_any is_claim lines) none in
+    ap (λ (ps : List ℕ). ps ++ flat_map claimed lines) (none-claimed x parts.0) ∙ no-claims-count lines parts.1
+
+pub count-append : (lines more : List CertRecord) → list_any is_claim more ≡ false → claim_count (lines ++ more) ≡ claim_count lines
+count-append lines more none =
+    ap length (flat_map-append claimed lines more ∙ ap (λ (ps : List ℕ). flat_map claimed lines ++ ps) (no-claims-count more none) ∙ append-nil (flat_map claimed lines))
+
+pub installations-append : (lines more : List CertRecord) → installations (lines ++ more) ≡ installations lines ++ installations more
+installations-append lines more = flat_map-append installed_in lines more
+
+-- ---- derived lines
+
+derived-opens : (step : CertRecord) → is_derived step ≡ true → leaves_open step ≡ true
+derived-opens (Derived literals hints) is = refl
+derived-opens step is = absurd (false≢true is)
+
+derived-claims : (step : CertRecord) → is_derived step ≡ true → is_claim step ≡ false
+derived-claims (Derived literals hints) is = refl
+derived-claims step is = absurd (false≢true is)
+
+derived-installs : (step : CertRecord) → is_derived step ≡ true → installed_in step ≡ []
+derived-installs (Derived literals hints) is = refl
+derived-installs step is = absurd (false≢true is)
+
+derived-asks : (step : CertRecord) (question : List Word) → is_derived step ≡ true → step ≢ Question question
+derived-asks (Derived literals hints) question is e = cc
+derived-asks step question is e = absurd (false≢true is)
+
+all-open : (lines : List CertRecord) → AllPass is_derived lines → AllPass leaves_open lines
+all-open lines all k d within = derived-opens (get_or lines k d) (all k d within)
+
+none-claims : (lines : List CertRecord) → AllPass is_derived lines → list_any is_claim lines ≡ false
+none-claims [] all = refl
+none-claims (x ∷ lines) all =
+    ap (λ (b : Bool). b || list_any is_claim lines) (derived-claims x (All-head (λ s. is_derived s ≡ true) x lines all)) ∙ none-claims lines (All-tail (λ s. is_derived s ≡ true) x lines all)
+
+none-installs : (lines : List CertRecord) → AllPass is_derived lines → installations lines ≡ []
+none-installs [] all = refl
+none-installs (x ∷ lines) all =
+    ap (λ (ms : List (List ℕ)). ms ++ installations lines) (derived-installs x (All-head (λ s. is_derived s ≡ true) x lines all)) ∙ none-installs lines (All-tail (λ s. is_derived s ≡ true) x lines all)
+
+-- ---- the lines of a question
+
+-- the line of a reply is no claim and opens no question
+pub record IsAnswerLine (answer : CertRecord) : Type 0 where
+  pub no_claim : is_claim answer ≡ false
+  pub no_question : (question : List Word) → answer ≢ Question question
+
+pub reply-line : (reply : Reply) (answer : CertRecord) → IsReplyLine reply answer → IsAnswerLine answer
+reply-line (replies.Found values) answer is = record { no_claim = ap is_claim is; no_question = λ question e. installs question (sym is ∙ e) }
+  where
+    installs : (question : List Word) → Installation (true_variables values) ≡ Question question → ⊥
+    installs question e = cc
+reply-line replies.Refuted answer is = record { no_claim = ap is_claim is.1; no_question = λ question e. refutes question (sym is.1 ∙ e) }
+  where
+    refutes : (question : List Word) → Refuted is.0 ≡ Question question → ⊥
+    refutes question e = cc
+reply-line replies.Undecided answer is = record { no_claim = ap is_claim is; no_question = λ question e. leaves question (sym is ∙ e) }
+  where
+    leaves : (question : List Word) → Undecided ≡ Question question → ⊥
+    leaves question e = cc
+
+pub any-join : (lines more : List CertRecord) → list_any is_claim lines ≡ false → list_any is_claim more ≡ false → list_any is_claim (lines ++ more) ≡ false
+any-join [] more none later = later
+any-join (x ∷ lines) more none later =
+    let parts = or_parts (is_claim x) (list_any is_claim lines) none in
+    ap (λ (b : Bool). b || list_any is_claim (lines ++ more)) parts.0 ∙ any-join lines more parts.1 later
+
+pub question-claims : (question : List Word) (between : List CertRecord) (answer : CertRecord) → AllPass is_derived between → IsAnswerLine answer → list_any is_claim (question_lines question between answer) ≡ false
+question-claims question between answer all line = any-join between (answer ∷ []) (none-claims between all) (ap (λ (b : Bool). b || false) line.no_claim)
+
+pub question-installs : (question : List Word) (between : List CertRecord) (answer : CertRecord) → AllPass is_derived between → installations (question_lines question between answer) ≡ installed_in answer
+question-installs question between answer all =
+    installations-append between (answer ∷ []) ∙ ap (λ (ms : List (List ℕ)). ms ++ (installed_in answer ++ [])) (none-installs between all) ∙ append-nil (installed_in answer)
+
+-- a question among some lines and those of a question
+contains-cases : {X : Type 0} (y : X) (xs : List X) (x : X) → Contains (y ∷ xs) x → (y ≡ x) ⊎ Contains xs x
+contains-cases y xs x there = at there.0 there.1 there.2
+  where
+    at : (k : ℕ) → k < length (y ∷ xs) → get_or (y ∷ xs) k x ≡ x → (y ≡ x) ⊎ Contains xs x
+    at zero within is = inl is
+    at (suc k) within is = inr (k, omega (arith, within), is)
+
+contains-join : {X : Type 0} (xs ys : List X) (x : X) → Contains (xs ++ ys) x → Contains xs x ⊎ Contains ys x
+contains-join [] ys x there = inr there
+contains-join (z ∷ xs) ys x there = ⊎_elim (λ here. inl (0, omega arith, here)) (λ later. ⊎_elim (λ left. inl (suc left.0, omega (arith, left.1), left.2)) (λ right. inr right) (contains-join xs ys x later)) (contains-cases z (xs ++ ys) x there)
+
+not-derived : (lines : List CertRecord) (question : List Word) → AllPass is_derived lines → ¬ Contains lines (Question question)
+not-derived lines question all there = derived-asks (get_or lines there.0 (Question question)) question (all there.0 (Question question) there.1) there.2
+
+pub questions-of : (lines between : List CertRecord) (question other : List Word) (answer : CertRecord) → AllPass is_derived between → IsAnswerLine answer
+    → Contains (lines ++ question_lines question between answer) (Question other) → Contains lines (Question other) ⊎ (Question question ≡ Question other)
+questions-of lines between question other answer all line there =
+    ⊎_elim (λ left. inl left) (λ right. ⊎_elim (λ here. inr here) (λ later. ⊎_elim (λ derived. absurd (not-derived between other all derived))
+    (λ last. ⊎_elim (λ here. absurd (line.no_question other here)) (λ none. absurd (nothing none)) (contains-cases answer [] (Question other) last))
+    (contains-join between (answer ∷ []) (Question other) later)) (contains-cases (Question question) (between ++ answer ∷ []) (Question other) right))
+    (contains-join lines (question_lines question between answer) (Question other) there)
+  where
+    nothing : Contains [] (Question other) → ⊥
+    nothing none = omega (arith, none.1)
+
+-- ---- closed questions
+
+pub closed-more : (lines more : List CertRecord) (question : List Word) (answer : CertRecord) → IsClosedBy lines question answer → IsClosedBy (lines ++ more) question answer
+closed-more lines more question answer closed = (
+  closed.0,
+  closed.1,
+  closed.2 ++ more,
+  ap (λ (ls : List CertRecord). ls ++ more) closed.3 ∙ append_assoc (closed.0 ++ Question question ∷ closed.1) (answer ∷ closed.2) more,
+  closed.4,
+)
+
+pub closed-now : (lines between : List CertRecord) (question : List Word) (answer : CertRecord) → AllPass is_derived between → IsClosedBy (lines ++ question_lines question between answer) question answer
+closed-now lines between question answer all = (lines, between, [], sym (append_assoc lines (Question question ∷ between) (answer ∷ [])), all-open between all)
+
+-- ---- a claim ends the group
+
+pub group-claim : (lines : List CertRecord) (step : CertRecord) → is_claim step ≡ true → group (lines ++ step ∷ []) ≡ []
+group-claim [] step claim = by (is_claim step) claim
+  where
+    by : (b : Bool) → b ≡ true → (if (b || false) then [] else step ∷ []) ≡ []
+    by true e = refl
+    by false e = absurd (false≢true e)
+group-claim (s ∷ lines) step claim =
+    let some : list_any is_claim (s ∷ (lines ++ step ∷ [])) ≡ true = any-push (s ∷ lines) step ∙ or_right (list_any is_claim (s ∷ lines)) (is_claim step) claim in
+    ap (λ (b : Bool). if b then group (lines ++ step ∷ []) else s ∷ (lines ++ step ∷ [])) some ∙ group-claim lines step claim
+
+none-claim-in : (step : CertRecord) → is_claim step ≡ false → claim_in step ≡ []
+none-claim-in (Question literals) none = refl
+none-claim-in (Derived literals hints) none = refl
+none-claim-in (Refuted hints) none = refl
+none-claim-in (Installation variables) none = refl
+none-claim-in Undecided none = refl
+none-claim-in End none = refl
+none-claim-in step none = absurd (true≢false none)
+
+none-claims-in : (lines : List CertRecord) → list_any is_claim lines ≡ false → claims_in lines ≡ []
+none-claims-in [] none = refl
+none-claims-in (x ∷ lines) none =
+    let parts = or_parts (is_claim x) (list_any is_claim lines) none in
+    ap (λ (cs : List Claim). cs ++ claims_in lines) (none-claim-in x parts.0) ∙ none-claims-in lines parts.1
+
+pub claims-append : (lines more : List CertRecord) → list_any is_claim more ≡ false → claims_in (lines ++ more) ≡ claims_in lines
+claims-append lines more none =
+    flat_map-append claim_in lines more ∙ ap (λ (cs : List Claim). claims_in lines ++ cs) (none-claims-in more none) ∙ append-nil (claims_in lines)
+
+pub claims-push : (lines : List CertRecord) (step : CertRecord) → claims_in (lines ++ step ∷ []) ≡ claims_in lines ++ claim_in step
+claims-push lines step = flat_map-append claim_in lines (step ∷ []) ∙ ap (λ (cs : List Claim). claims_in lines ++ cs) (append-nil (claim_in step))

@@ -1,0 +1,337 @@
+-- What the lines of a question make of what is kept of a group.
+use Rattle.std.proofs.Common.{◌≡◌, ◌≢◌, ◌⊎◌, ⊎_elim, inl, inr, ℕ, ◌+◌, ◌-◌, ◌<◌, ◌≤◌, ◌==◌, ◌&&◌, ◌↔◌, Bool, true, false, List, [], ◌∷◌, ◌++◌, length, drop, length-drop, map, slice_set, refl, ap, sym, subst, ◌∙◌, append-nil, arith, length-append, length-set, get_or-set_same, get_or-set_other, not}
+use Rattle.std.specs.List.{All, AllPass, Contains}
+use Rattle.std.proofs.lemmas.Bool.{and_from, and_parts, cases_eq, eq-eqb, ne_eqb, true≢false, false≢true}
+use Rattle.std.proofs.lemmas.List.{drop-append-le, drop-drop, drop-map, get_or_append_left, get_or_at, length-map, map-append}
+use Rattle.std.proofs.lemmas.List.Elements.{All-append, All-nil, All-cons, All-drop, All-push}
+use Rattle.circular_buffer.specs.Buffer.{keep_last}
+use Rattle.dist_clause.specs.Formula.{value_of}
+use Rattle.dist_cert.specs.declared.records.CertKind.{CertKind}
+use Rattle.dist_cert.specs.declared.records.CertRecord.{CertRecord}
+use Rattle.dist_cert.specs.declared.records.CertRecord.TheVariants.{Question, Refuted, Undecided}
+use Rattle.dist_cert.specs.ClaimRules.{yes, no}
+use Rattle.dist_cert.specs.Form.{Word}
+use Rattle.dist_cert.specs.Groups.{claim_count, group, installations, installed_in, IsClosedBy, IsRefutedIn, IsUndecidedIn}
+use Rattle.dist_cert.specs.Part.{IsNextQuestion, IsQuestionOn}
+use Rattle.dist_strong.specs.Asking.{AskerView, is_derived, question_lines}
+use Rattle.dist_strong.specs.Group.{GroupView, IsCandidate, IsNarrowed, is_open}
+use Rattle.dist_strong.specs.Script.{Setting, matter_in}
+use Rattle.dist_strong.specs.Settling.{AreNoted, IsGroupAt, IsSettling, without}
+use Rattle.dist_strong.specs.Window.{WindowView, IsWindowAt}
+use Rattle.dist_strong.specs.Words.{true_variables}
+use Rattle.dist_strong.proofs.GroupLines.{IsAnswerLine, closed-more, closed-now, count-append, group-append, installations-append, question-claims, question-installs, questions-of}
+use Rattle.dist_strong.proofs.TrueOnes.{true-ones}
+
+-- ---- values that are set
+
+pub value-same : (xs : List Bool) (q : ℕ) → 1 ≤ q → q ≤ length xs → value_of (slice_set xs (q - 1) true) q ≡ true
+value-same xs q from upto = let within : q - 1 < length xs = omega arith in get_or-set_same xs (q - 1) true false within
+
+pub value-other : (xs : List Bool) (q r : ℕ) → 1 ≤ q → 1 ≤ r → r ≢ q → value_of (slice_set xs (q - 1) true) r ≡ value_of xs r
+value-other xs q r from low other = get_or-set_other xs (q - 1) (r - 1) true false (λ e. other (omega (arith, e)))
+
+-- ---- what is open
+
+pub record OpenParts (group : GroupView) (q : ℕ) : Type 0 where
+  pub other : q ≢ group.claimed
+  pub common : value_of group.common q ≡ true
+  pub refuted : value_of group.refuted q ≡ false
+  pub undecided : value_of group.undecided q ≡ false
+
+not-true : (b : Bool) → not b ≡ true → b ≡ false
+not-true true e = absurd (false≢true e)
+not-true false e = refl
+
+true-not : (b : Bool) → b ≡ false → not b ≡ true
+true-not b e = ap not e
+
+pub open-parts : (group : GroupView) (q : ℕ) → is_open group q ≡ true → OpenParts group q
+open-parts group q opens =
+    let a = and_parts ((not (q == group.claimed) && value_of group.common q) && not (value_of group.refuted q)) (not (value_of group.undecided q)) opens in
+    let b = and_parts (not (q == group.claimed) && value_of group.common q) (not (value_of group.refuted q)) a.0 in
+    let d = and_parts (not (q == group.claimed)) (value_of group.common q) b.0 in
+    record {
+      other = λ e. true≢false (sym (eq-eqb q group.claimed e) ∙ not-true (q == group.claimed) d.0);
+      common = d.1;
+      refuted = not-true (value_of group.refuted q) b.1;
+      undecided = not-true (value_of group.undecided q) a.1;
+    }
+
+pub open-from : (group : GroupView) (q : ℕ) → OpenParts group q → is_open group q ≡ true
+open-from group q parts =
+    and_from ((not (q == group.claimed) && value_of group.common q) && not (value_of group.refuted q)) (not (value_of group.undecided q))
+    (and_from (not (q == group.claimed) && value_of group.common q) (not (value_of group.refuted q))
+    (and_from (not (q == group.claimed)) (value_of group.common q) (true-not (q == group.claimed) (ne_eqb q group.claimed parts.other)) parts.common)
+    (true-not (value_of group.refuted q) parts.refuted)) (true-not (value_of group.undecided q) parts.undecided)
+
+pub never-open : (group : GroupView) (q : ℕ) → ¬ OpenParts group q → is_open group q ≡ false
+never-open group q never = by (is_open group q) refl
+  where
+    by : (b : Bool) → is_open group q ≡ b → b ≡ false
+    by true e = absurd (never (open-parts group q e))
+    by false e = refl
+
+-- what is open in one is open in the other
+still-closed : (old new : GroupView) (r : ℕ) → (OpenParts new r → OpenParts old r) → is_open old r ≡ false → is_open new r ≡ false
+still-closed old new r back closed = never-open new r (λ parts. true≢false (sym (open-from old r (back parts)) ∙ closed))
+
+-- ---- the question may be asked
+
+pub question-on : (g : Setting) (before : List CertRecord) (a : AskerView) (w : WindowView) (group : GroupView) (q : ℕ) → IsSettling g before a w group → IsCandidate w group q
+    → IsNextQuestion (matter_in g) g.header before (without group.claimed q)
+question-on g before a w group q settling candidate =
+    let kept = settling.group_at in
+    record {
+      claim_left = omega (arith, kept.claimed, kept.upto, kept.variables);
+      on_next = subst (λ (k : CertKind). IsQuestionOn (matter_in g) k (claim_count before + 1) (without group.claimed q)) (sym settling.at.log.strong)
+          (inr (q, ap (λ (p : ℕ). yes p ∷ no q ∷ []) kept.claimed));
+      not_twice = λ there. true≢false (sym candidate.opens ∙ kept.asked q candidate.from_one candidate.upto there);
+    }
+
+-- ---- what the lines of a question hold
+
+-- the lines of a question, of which the last installs some packages or none
+pub record AreAsked (before : List CertRecord) (question : List Word) (installed : List (List ℕ)) (after : List CertRecord) : Type 0 where
+  pub between : List CertRecord
+  pub answer : CertRecord
+  pub only_derived : AllPass is_derived between
+  pub answer_line : IsAnswerLine answer
+  pub installs : installed_in answer ≡ installed
+  pub is : after ≡ before ++ question_lines question between answer
+
+group-after : (before : List CertRecord) (question : List Word) (installed : List (List ℕ)) (after : List CertRecord) (asked : AreAsked before question installed after)
+    → group after ≡ group before ++ question_lines question asked.between asked.answer
+group-after before question installed after asked =
+    ap group asked.is ∙ group-append before (question_lines question asked.between asked.answer) (question-claims question asked.between asked.answer asked.only_derived asked.answer_line)
+
+count-after : (before : List CertRecord) (question : List Word) (installed : List (List ℕ)) (after : List CertRecord) → AreAsked before question installed after → claim_count after ≡ claim_count before
+count-after before question installed after asked =
+    ap claim_count asked.is ∙ count-append before (question_lines question asked.between asked.answer) (question-claims question asked.between asked.answer asked.only_derived asked.answer_line)
+
+pub installed-after : (before : List CertRecord) (question : List Word) (installed : List (List ℕ)) (after : List CertRecord) → AreAsked before question installed after → installations after ≡ installations before ++ installed
+installed-after before question installed after asked =
+    ap installations asked.is ∙ installations-append before (question_lines question asked.between asked.answer)
+    ∙ ap (λ (ms : List (List ℕ)). installations before ++ ms) (question-installs question asked.between asked.answer asked.only_derived ∙ asked.installs)
+
+in-group-after : (before : List CertRecord) (question : List Word) (installed : List (List ℕ)) (after : List CertRecord) → AreAsked before question installed after → installations (group after) ≡ installations (group before) ++ installed
+in-group-after before question installed after asked =
+    ap installations (group-after before question installed after asked) ∙ installations-append (group before) (question_lines question asked.between asked.answer)
+    ∙ ap (λ (ms : List (List ℕ)). installations (group before) ++ ms) (question-installs question asked.between asked.answer asked.only_derived ∙ asked.installs)
+
+closed-after : (before : List CertRecord) (question : List Word) (installed : List (List ℕ)) (after : List CertRecord) (other : List Word) (answer : CertRecord) → AreAsked before question installed after
+    → IsClosedBy (group before) other answer → IsClosedBy (group after) other answer
+closed-after before question installed after other answer asked closed =
+    subst (λ ls. IsClosedBy ls other answer) (sym (group-after before question installed after asked))
+    (closed-more (group before) (question_lines question asked.between asked.answer) other answer closed)
+
+closed-here : (before : List CertRecord) (question : List Word) (installed : List (List ℕ)) (after : List CertRecord) (asked : AreAsked before question installed after) → IsClosedBy (group after) question asked.answer
+closed-here before question installed after asked =
+    subst (λ ls. IsClosedBy ls question asked.answer) (sym (group-after before question installed after asked)) (closed-now (group before) asked.between question asked.answer asked.only_derived)
+
+no-of : List Word → ℕ
+no-of (v ∷ w ∷ words) = w.0
+no-of words = 0
+
+words-of : CertRecord → List Word
+words-of (Question words) = words
+words-of step = []
+
+same-other : (p q r : ℕ) → Question (without p q) ≡ Question (without p r) → q ≡ r
+unfolding no-of words-of
+same-other p q r e = ap (λ (s : CertRecord). no-of (words-of s)) e
+
+-- a question that was asked
+question-after : (before : List CertRecord) (question other : List Word) (installed : List (List ℕ)) (after : List CertRecord) → AreAsked before question installed after → Contains (group after) (Question other)
+    → Contains (group before) (Question other) ⊎ (Question question ≡ Question other)
+question-after before question other installed after asked there =
+    questions-of (group before) asked.between question other asked.answer asked.only_derived asked.answer_line
+    (subst (λ (ls : List CertRecord). Contains ls (Question other)) (group-after before question installed after asked) there)
+
+-- a package that was asked for
+asked-after : (before : List CertRecord) (p q r : ℕ) (installed : List (List ℕ)) (after : List CertRecord) → AreAsked before (without p q) installed after → Contains (group after) (Question (without p r))
+    → Contains (group before) (Question (without p r)) ⊎ (q ≡ r)
+asked-after before p q r installed after asked there =
+    ⊎_elim (λ old. inl old) (λ new. inr (same-other p q r new)) (question-after before (without p q) (without p r) installed after asked there)
+
+noted-after : (old new : GroupView) (flags : List Bool) (IsClosed Closed : List Word → Type 0) → new.claimed ≡ old.claimed → new.variables ≡ old.variables
+    → ((question : List Word) → IsClosed question → Closed question) → AreNoted old flags IsClosed → AreNoted new flags Closed
+noted-after old new flags IsClosed Closed claimed variables more noted q from upto holds =
+    let there = noted q from (omega (arith, upto, variables)) holds in
+    ((λ e. there.0 (e ∙ claimed)), subst (λ (p : ℕ). Closed (without p q)) (sym claimed) (more (without old.claimed q) there.1))
+
+-- ---- after each reply
+
+again : (before : List CertRecord) (question : List Word) (after : List CertRecord) → AreAsked before question [] after → installations (group after) ≡ installations (group before)
+again before question after asked = in-group-after before question [] after asked ∙ append-nil (installations (group before))
+
+pub refuted-step : (g : Setting) (before after : List CertRecord) (w : WindowView) (kept : GroupView) (q : ℕ) (hints : List ℕ) → IsGroupAt g before kept → IsCandidate w kept q
+    → (asked : AreAsked before (without kept.claimed q) [] after) → asked.answer ≡ Refuted hints → IsGroupAt g after (record kept { refuted = slice_set kept.refuted (q - 1) true })
+refuted-step g before after w kept q hints at candidate asked is = record {
+  claimed = at.claimed ∙ ap (λ (n : ℕ). n + 1) (sym (count-after before (without kept.claimed q) [] after asked));
+  from_one = at.from_one;
+  upto = at.upto;
+  variables = at.variables;
+  sizes = record { common = at.sizes.common; refuted = length-set kept.refuted (q - 1) true ∙ at.sizes.refuted; undecided = at.sizes.undecided };
+  some = subst (λ (ms : List (List ℕ)). 0 < length ms) (sym inst) at.some;
+  each = subst (λ (ms : List (List ℕ)). All (λ m. Contains m kept.claimed) ms) (sym inst) at.each;
+  common = λ r from upto. subst (λ (ms : List (List ℕ)). (value_of kept.common r ≡ true) ↔ All (λ m. Contains m r) ms) (sym inst) (at.common r from upto);
+  refuted = λ r from upto holds. elim (cases_eq r q) [
+    | inl same ↦ (
+      (λ e. parts.other (sym same ∙ e)),
+      subst (λ (k : ℕ). IsRefutedIn (group after) (without kept.claimed k)) (sym same)
+          (hints, subst (λ s. IsClosedBy (group after) (without kept.claimed q) s) is (closed-here before (without kept.claimed q) [] after asked)),
+    )
+    | inr other ↦ more-refuted (at.refuted r from upto (sym (value-other kept.refuted q r candidate.from_one from other) ∙ holds))
+  ];
+  undecided = noted-after kept kept kept.undecided (IsUndecidedIn (group before)) (IsUndecidedIn (group after)) refl refl
+      (λ question closed. closed-after before (without kept.claimed q) [] after question Undecided asked closed) at.undecided;
+  apart = λ r from holds. elim (cases_eq r q) [
+    | inl same ↦ ap (value_of kept.undecided) same ∙ parts.undecided
+    | inr other ↦ at.apart r from (sym (value-other kept.refuted q r candidate.from_one from other) ∙ holds)
+  ];
+  asked = λ r from upto there. ⊎_elim (λ old. still-closed kept (record kept { refuted = slice_set kept.refuted (q - 1) true }) r (back r from) (at.asked r from upto old))
+      (λ new. never-open (record kept { refuted = slice_set kept.refuted (q - 1) true }) r
+      (λ open_still. true≢false (sym (ap (value_of (slice_set kept.refuted (q - 1) true)) (sym new) ∙ value-same kept.refuted q candidate.from_one (omega (arith, candidate.upto, at.sizes.refuted))) ∙ open_still.refuted)))
+      (asked-after before kept.claimed q r [] after asked there);
+}
+  where
+    inst : installations (group after) ≡ installations (group before)
+    inst = again before (without kept.claimed q) after asked
+
+    parts : OpenParts kept q
+    parts = open-parts kept q candidate.opens
+
+    more-refuted : {r : ℕ} → (r ≢ kept.claimed) × IsRefutedIn (group before) (without kept.claimed r) → (r ≢ kept.claimed) × IsRefutedIn (group after) (without kept.claimed r)
+    more-refuted {r} old = (old.0, (old.1.0, closed-after before (without kept.claimed q) [] after (without kept.claimed r) (Refuted old.1.0) asked old.1.1))
+
+    back : (r : ℕ) → 1 ≤ r → OpenParts (record kept { refuted = slice_set kept.refuted (q - 1) true }) r → OpenParts kept r
+    back r from open_still = elim (cases_eq r q) [
+      | inl same ↦ record { other = open_still.other; common = open_still.common; refuted = ap (value_of kept.refuted) same ∙ parts.refuted; undecided = open_still.undecided }
+      | inr other ↦ record { other = open_still.other; common = open_still.common; refuted = sym (value-other kept.refuted q r candidate.from_one from other) ∙ open_still.refuted; undecided = open_still.undecided }
+    ]
+
+pub undecided-step : (g : Setting) (before after : List CertRecord) (w : WindowView) (kept : GroupView) (q : ℕ) → IsGroupAt g before kept → IsCandidate w kept q
+    → (asked : AreAsked before (without kept.claimed q) [] after) → asked.answer ≡ Undecided → IsGroupAt g after (record kept { undecided = slice_set kept.undecided (q - 1) true })
+undecided-step g before after w kept q at candidate asked is = record {
+  claimed = at.claimed ∙ ap (λ (n : ℕ). n + 1) (sym (count-after before (without kept.claimed q) [] after asked));
+  from_one = at.from_one;
+  upto = at.upto;
+  variables = at.variables;
+  sizes = record { common = at.sizes.common; refuted = at.sizes.refuted; undecided = length-set kept.undecided (q - 1) true ∙ at.sizes.undecided };
+  some = subst (λ (ms : List (List ℕ)). 0 < length ms) (sym inst) at.some;
+  each = subst (λ (ms : List (List ℕ)). All (λ m. Contains m kept.claimed) ms) (sym inst) at.each;
+  common = λ r from upto. subst (λ (ms : List (List ℕ)). (value_of kept.common r ≡ true) ↔ All (λ m. Contains m r) ms) (sym inst) (at.common r from upto);
+  refuted = noted-after kept kept kept.refuted (IsRefutedIn (group before)) (IsRefutedIn (group after)) refl refl
+      (λ question closed. (closed.0, closed-after before (without kept.claimed q) [] after question (Refuted closed.0) asked closed.1)) at.refuted;
+  undecided = λ r from upto holds. elim (cases_eq r q) [
+    | inl same ↦ (
+      (λ e. parts.other (sym same ∙ e)),
+      subst (λ (k : ℕ). IsUndecidedIn (group after) (without kept.claimed k)) (sym same)
+          (subst (λ s. IsClosedBy (group after) (without kept.claimed q) s) is (closed-here before (without kept.claimed q) [] after asked)),
+    )
+    | inr other ↦ more-undecided (at.undecided r from upto (sym (value-other kept.undecided q r candidate.from_one from other) ∙ holds))
+  ];
+  apart = λ r from holds. elim (cases_eq r q) [
+    | inl same ↦ absurd (true≢false (sym holds ∙ ap (value_of kept.refuted) same ∙ parts.refuted))
+    | inr other ↦ value-other kept.undecided q r candidate.from_one from other ∙ at.apart r from holds
+  ];
+  asked = λ r from upto there. ⊎_elim (λ old. still-closed kept (record kept { undecided = slice_set kept.undecided (q - 1) true }) r (back r from) (at.asked r from upto old))
+      (λ new. never-open (record kept { undecided = slice_set kept.undecided (q - 1) true }) r
+      (λ open_still. true≢false (sym (ap (value_of (slice_set kept.undecided (q - 1) true)) (sym new) ∙ value-same kept.undecided q candidate.from_one (omega (arith, candidate.upto, at.sizes.undecided))) ∙ open_still.undecided)))
+      (asked-after before kept.claimed q r [] after asked there);
+}
+  where
+    inst : installations (group after) ≡ installations (group before)
+    inst = again before (without kept.claimed q) after asked
+
+    parts : OpenParts kept q
+    parts = open-parts kept q candidate.opens
+
+    more-undecided : {r : ℕ} → (r ≢ kept.claimed) × IsUndecidedIn (group before) (without kept.claimed r) → (r ≢ kept.claimed) × IsUndecidedIn (group after) (without kept.claimed r)
+    more-undecided {r} old = (old.0, closed-after before (without kept.claimed q) [] after (without kept.claimed r) Undecided asked old.1)
+
+    back : (r : ℕ) → 1 ≤ r → OpenParts (record kept { undecided = slice_set kept.undecided (q - 1) true }) r → OpenParts kept r
+    back r from open_still = elim (cases_eq r q) [
+      | inl same ↦ record { other = open_still.other; common = open_still.common; refuted = open_still.refuted; undecided = ap (value_of kept.undecided) same ∙ parts.undecided }
+      | inr other ↦ record { other = open_still.other; common = open_still.common; refuted = open_still.refuted; undecided = sym (value-other kept.undecided q r candidate.from_one from other) ∙ open_still.undecided }
+    ]
+
+-- ---- a new installation
+
+all-left : {X : Type 0} (P : X → Type 0) (xs : List X) (y : X) → All P (xs ++ y ∷ []) → All P xs
+all-left P xs y all k d within = subst P (get_or_append_left xs (y ∷ []) d k within) (all k d (omega (arith, within, length-append xs (y ∷ []))))
+
+all-last : {X : Type 0} (P : X → Type 0) (xs : List X) (y : X) → All P (xs ++ y ∷ []) → P y
+all-last P xs y all = subst P (get_or_at xs y [] y (length xs) refl) (all (length xs) y (omega (arith, length-append xs (y ∷ []))))
+
+pub found-step : (g : Setting) (before after : List CertRecord) (w : WindowView) (kept new : GroupView) (q : ℕ) (values : List Bool) → IsGroupAt g before kept → IsCandidate w kept q
+    → AreAsked before (without kept.claimed q) (true_variables values ∷ []) after → length values ≡ kept.variables → value_of values kept.claimed ≡ true → value_of values q ≡ false
+    → new ≡ record kept { common = new.common } → length new.common ≡ kept.variables → IsNarrowed kept.variables kept.common values new.common → IsGroupAt g after (record kept { common = new.common })
+found-step g before after w kept new q values at candidate asked size has lacks is new_size narrowed = record {
+  claimed = at.claimed ∙ ap (λ (n : ℕ). n + 1) (sym (count-after before (without kept.claimed q) (true_variables values ∷ []) after asked));
+  from_one = at.from_one;
+  upto = at.upto;
+  variables = at.variables;
+  sizes = record { common = new_size; refuted = at.sizes.refuted; undecided = at.sizes.undecided };
+  some = omega (arith, ap length inst, length-append (installations (group before)) (true_variables values ∷ []));
+  each = subst (λ (ms : List (List ℕ)). All (λ m. Contains m kept.claimed) ms) (sym inst) (with-one kept.claimed at.each ((true-ones values kept.claimed at.from_one (omega (arith, at.upto, size))).1 has));
+  common = λ r from upto. subst (λ (ms : List (List ℕ)). (value_of new.common r ≡ true) ↔ All (λ m. Contains m r) ms) (sym inst) (both r from upto);
+  refuted = noted-after kept (record kept { common = new.common }) kept.refuted (IsRefutedIn (group before)) (IsRefutedIn (group after)) refl refl
+      (λ question closed. (closed.0, closed-after before (without kept.claimed q) (true_variables values ∷ []) after question (Refuted closed.0) asked closed.1)) at.refuted;
+  undecided = noted-after kept (record kept { common = new.common }) kept.undecided (IsUndecidedIn (group before)) (IsUndecidedIn (group after)) refl refl
+      (λ question closed. closed-after before (without kept.claimed q) (true_variables values ∷ []) after question Undecided asked closed) at.undecided;
+  apart = at.apart;
+  asked = λ r from upto there. ⊎_elim (λ old. still-closed kept (record kept { common = new.common }) r
+      (λ parts. record { other = parts.other; common = (and_parts (value_of kept.common r) (value_of values r) (sym (narrowed r from upto) ∙ parts.common)).0; refuted = parts.refuted; undecided = parts.undecided })
+      (at.asked r from upto old))
+      (λ now. never-open (record kept { common = new.common }) r (λ parts.
+      true≢false (sym (and_parts (value_of kept.common r) (value_of values r) (sym (narrowed r from upto) ∙ parts.common)).1 ∙ ap (value_of values) (sym now) ∙ lacks)))
+      (asked-after before kept.claimed q r (true_variables values ∷ []) after asked there);
+}
+  where
+    inst : installations (group after) ≡ installations (group before) ++ true_variables values ∷ []
+    inst = in-group-after before (without kept.claimed q) (true_variables values ∷ []) after asked
+
+    with-one : (r : ℕ) → All (λ m. Contains m r) (installations (group before)) → Contains (true_variables values) r → All (λ m. Contains m r) (installations (group before) ++ true_variables values ∷ [])
+    with-one r all one = All-append (λ m. Contains m r) (installations (group before)) (true_variables values ∷ []) all (All-cons (λ m. Contains m r) (true_variables values) [] one (All-nil (λ m. Contains m r)))
+
+    both : (r : ℕ) → 1 ≤ r → r ≤ kept.variables → (value_of new.common r ≡ true) ↔ All (λ m. Contains m r) (installations (group before) ++ true_variables values ∷ [])
+    both r from upto = (
+      (λ holds.
+          let parts = and_parts (value_of kept.common r) (value_of values r) (sym (narrowed r from upto) ∙ holds) in
+          with-one r ((at.common r from upto).0 parts.0) ((true-ones values r from (omega (arith, upto, size))).1 parts.1)),
+      λ all. narrowed r from upto ∙ and_from (value_of kept.common r) (value_of values r) ((at.common r from upto).1 (all-left (λ m. Contains m r) (installations (group before)) (true_variables values) all))
+          ((true-ones values r from (omega (arith, upto, size))).0 (all-last (λ m. Contains m r) (installations (group before)) (true_variables values) all)),
+    )
+
+-- ---- the window
+
+keep-push : {X : Type 0} (n : ℕ) (xs : List X) (y : X) → keep_last n (keep_last n xs ++ y ∷ []) ≡ keep_last n (xs ++ y ∷ [])
+keep-push {X} n xs y =
+    let k : ℕ = length xs - n in
+    let within : k ≤ length xs = omega arith in
+    let joined : drop k xs ++ y ∷ [] ≡ drop k (xs ++ y ∷ []) = sym (drop-append-le k xs (y ∷ []) within) in
+    let size = length-append (drop k xs) (y ∷ []) in
+    let dropped = length-drop k xs in
+    let whole = length-append xs (y ∷ []) in
+    let count : k + (length (drop k xs ++ y ∷ []) - n) ≡ length (xs ++ y ∷ []) - n = omega (arith, size, dropped, whole) in
+    ap (λ (ys : List X). drop (length (drop k xs ++ y ∷ []) - n) ys) joined ∙ drop-drop (length (drop k xs ++ y ∷ []) - n) k (xs ++ y ∷ []) ∙ ap (λ (m : ℕ). drop m (xs ++ y ∷ [])) count
+
+keep-map : {X Y : Type 0} (f : X → Y) (n : ℕ) (xs : List X) → map f (keep_last n xs) ≡ keep_last n (map f xs)
+keep-map f n xs = sym (drop-map f (length xs - n) xs) ∙ ap (λ (m : ℕ). drop (m - n) (map f xs)) (sym (length-map xs f))
+
+pub window-more : (before after : List CertRecord) (question : List Word) (w : WindowView) (values : List Bool) → IsWindowAt before w → AreAsked before question (true_variables values ∷ []) after → length values ≡ w.variables
+    → IsWindowAt after (record w { kept = keep_last 1024 (w.kept ++ values ∷ []); count = w.count + 1 })
+window-more before after question w values at asked size =
+    let inst = installed-after before question (true_variables values ∷ []) after asked in
+    record {
+      kept = keep-map true_variables 1024 (w.kept ++ values ∷ []) ∙ ap (λ (ms : List (List ℕ)). keep_last 1024 ms) (map-append true_variables w.kept (values ∷ []) ∙ ap (λ (ms : List (List ℕ)). ms ++ true_variables values ∷ []) at.kept)
+          ∙ keep-push 1024 (installations before) (true_variables values) ∙ ap (λ (ms : List (List ℕ)). keep_last 1024 ms) (sym inst);
+      count = ap (λ (n : ℕ). n + 1) at.count ∙ sym (ap length inst ∙ length-append (installations before) (true_variables values ∷ []));
+      sizes = All-drop (λ v. length v ≡ w.variables) (length (w.kept ++ values ∷ []) - 1024) (w.kept ++ values ∷ []) (All-push (λ v. length v ≡ w.variables) w.kept values at.sizes size);
+    }
+
+pub window-same : (before after : List CertRecord) (question : List Word) (w : WindowView) → IsWindowAt before w → AreAsked before question [] after → IsWindowAt after w
+window-same before after question w at asked =
+    let inst = installed-after before question [] after asked ∙ append-nil (installations before) in
+    record { kept = at.kept ∙ ap (λ (ms : List (List ℕ)). keep_last 1024 ms) (sym inst); count = at.count ∙ ap length (sym inst); sizes = at.sizes }

@@ -1,0 +1,91 @@
+//! The claim on one package, with the questions that it needs before it.
+ghost use Rattle.std.specs.Prelude.{◌≡◌, ◌^◌, ◌<◌, ◌≤◌, [], ◌∷◌, Any, IfErr, IfOk, true};
+ghost use Rattle.dist_clause.specs.Formula.{value_of};
+ghost use Rattle.dist_outside.specs.Files.{IsWriting};
+ghost use Rattle.dist_cert.specs.Accepted.{claim_in, from_zero};
+ghost use Rattle.dist_cert.specs.ClaimRules.{yes};
+ghost use Rattle.dist_cert.specs.Form.{AreFromOne, KeepsRules};
+ghost use Rattle.dist_strong.specs.Claiming.{IsStrongLine, StrongMore};
+ghost use Rattle.dist_strong.specs.Group.{HasNoCandidate};
+ghost use Rattle.dist_strong.specs.Script.{Grows};
+ghost use Rattle.dist_strong.specs.Settling.{Fits, SettleStops};
+
+use crate::asker::Asker;
+use crate::group::Group;
+use crate::window::Window;
+use dist_cert::{CertRecord, Claim, Items, Numbers};
+use dist_outside::{Desk, WorkError, file_grows};
+use std::alloc::{AllocError, Global};
+
+/// The question of a package.
+fn alone(alloc: Global, package: u32) -> Result<Vec<(u32, bool)>, AllocError>
+    ensures { IfOk result (λ words. words.items ≡ yes «package» ∷ []) }
+{
+    let mut words = Vec::new(alloc);
+    words.push((package, true))?;
+    Ok(words)
+}
+
+/// The numbers, each less by one.
+fn from_zero(alloc: Global, numbers: &[u32]) -> Result<Numbers, AllocError>
+    requires { AreFromOne numbers.now }
+    ensures { IfOk result (λ less. less ≡ from_zero numbers.now) }
+{
+    let mut less = Vec::new(alloc);
+    for number in numbers {
+        less.push(*number - 1)?;
+    }
+    Ok(Items::from_vec(less))
+}
+
+/// The line of the claim on strong dependencies, and what it claims.
+fn strong_line(
+    alloc: Global,
+    window: &Window,
+    group: &Group,
+) -> Result<(CertRecord, Claim), AllocError>
+    requires from_one { 1 ≤ group.now.claimed }
+    requires upto { group.now.claimed ≤ group.now.variables }
+    requires variables { window.now.variables ≡ group.now.variables }
+    requires some { Any (λ values. value_of values group.now.claimed ≡ true) window.now.kept }
+    ensures line { IfOk result (λ both. IsStrongLine window.now group.now both.0) }
+    ensures form { IfOk result (λ both. KeepsRules both.0) }
+    ensures claim { IfOk result (λ both. claim_in both.0 ≡ both.1 ∷ []) }
+    ensures small { window.now.count < 2 ^ 32 }
+{
+    let named = window.numbers_with(alloc, group.claimed())?;
+    let on = group.needed(alloc)?;
+    let left = group.left(alloc, window)?;
+    let claim = Claim::Strong(from_zero(alloc, &on)?, from_zero(alloc, &left)?);
+    let step = CertRecord::Strong(
+        group.claimed(),
+        Items::from_vec(named),
+        Items::from_vec(on),
+        Items::from_vec(left),
+    );
+    Ok((step, claim))
+}
+
+/// Puts the claim on strong dependencies, once no candidate is left.
+fn put_strong<D: Desk>(
+    alloc: Global,
+    asker: &mut Asker,
+    window: &Window,
+    group: &Group,
+    desk: &mut D,
+) -> Result<Claim, WorkError>
+    requires writing { IsWriting (D.view desk.old).mode }
+    requires fits { Fits asker.old window.now group.now }
+    requires done { HasNoCandidate window.now group.now }
+    ensures ok { IfOk result (StrongMore (D.view desk.old) (D.view desk.new) asker.old asker.new window.now group.now) }
+    ensures err { IfErr result (SettleStops (D.view desk.old) (D.view desk.new) asker.old window.now group.now) }
+    ensures limit { asker.new.limit ≡ asker.old.limit }
+    ensures variables { asker.new.log.variables ≡ asker.old.log.variables }
+    ensures grows { Grows (D.view desk.old) (D.view desk.new) }
+{
+    file_grows();
+    let _stated = asker.variables();
+    let (step, claim) = strong_line(alloc, window, group)?;
+    asker.put(desk, &step)?;
+    Ok(claim)
+}

@@ -1,0 +1,83 @@
+//! The group of a claim: each package that may be strongly needed is asked for once.
+ghost use Rattle.std.specs.Prelude.{◌≡◌, ◌≢◌, ◌≤◌, IfErr, IfOk, OnOk};
+ghost use Rattle.dist_outside.specs.Files.{IsWriting};
+ghost use Rattle.dist_strong.specs.Asking.{IsOver};
+ghost use Rattle.dist_strong.specs.Group.{HasNoCandidate, IsCandidate};
+ghost use Rattle.dist_strong.specs.Script.{Grows};
+ghost use Rattle.dist_strong.specs.Settling.{Fits, IsFurther, SettleMore, SettleStops, without};
+
+use crate::asker::{Asker, Reply};
+use crate::group::Group;
+use crate::window::Window;
+use dist_outside::{Desk, WorkError, file_grows};
+use std::alloc::{AllocError, Global};
+
+/// The question of a package without another one.
+fn without(alloc: Global, package: u32, other: u32) -> Result<Vec<(u32, bool)>, AllocError>
+    ensures { IfOk result (λ words. words.items ≡ without «package» other) }
+{
+    let mut words = Vec::new(alloc);
+    words.push((package, true))?;
+    words.push((other, false))?;
+    Ok(words)
+}
+
+/// Asks for the package of the claim without a candidate.
+fn ask_without<D: Desk>(
+    alloc: Global,
+    asker: &mut Asker,
+    window: &mut Window,
+    group: &mut Group,
+    desk: &mut D,
+    other: u32,
+) -> Result<(), WorkError>
+    requires writing { IsWriting (D.view desk.old).mode }
+    requires fits { Fits asker.old window.old group.old }
+    requires candidate { IsCandidate window.old group.old other }
+    ensures ok { OnOk result (SettleMore (D.view desk.old) (D.view desk.new) asker.old asker.new window.old window.new group.old group.new) }
+    ensures err { IfErr result (SettleStops (D.view desk.old) (D.view desk.new) asker.old window.old group.old) }
+    ensures further { OnOk result (IsFurther group.old group.new other) }
+    ensures fits { OnOk result (Fits asker.new window.new group.new) }
+    ensures grows { Grows (D.view desk.old) (D.view desk.new) }
+{
+    file_grows();
+    let question = without(alloc, group.claimed(), other)?;
+    match asker.ask(desk, &question)? {
+        Reply::Found(values) => {
+            group.add(&values);
+            window.add(values)?;
+            Ok(())
+        }
+        Reply::Refuted => {
+            group.refute(other);
+            Ok(())
+        }
+        Reply::Undecided => {
+            group.leave(other);
+            Ok(())
+        }
+    }
+}
+
+/// Asks for each candidate once, until none is left.
+pub(crate) fn ask_candidates<D: Desk>(
+    alloc: Global,
+    asker: &mut Asker,
+    window: &mut Window,
+    group: &mut Group,
+    desk: &mut D,
+) -> Result<(), WorkError>
+    requires writing { IsWriting (D.view desk.old).mode }
+    requires fits { Fits asker.old window.old group.old }
+    ensures ok { OnOk result (SettleMore (D.view desk.old) (D.view desk.new) asker.old asker.new window.old window.new group.old group.new) }
+    ensures err { IfErr result (SettleStops (D.view desk.old) (D.view desk.new) asker.old window.old group.old) }
+    ensures done { OnOk result (HasNoCandidate window.new group.new) }
+    ensures fits { OnOk result (Fits asker.new window.new group.new) }
+    ensures grows { Grows (D.view desk.old) (D.view desk.new) }
+{
+    file_grows();
+    'candidates: while let Some(other) = group.candidate(window) {
+        ask_without(alloc, asker, window, group, desk, other)?;
+    }
+    Ok(())
+}
