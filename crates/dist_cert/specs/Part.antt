@@ -106,9 +106,10 @@ pub record HasNextLine (subject : Subject) (limits : Limits) (h : Header) (text 
   pub steps : List CertRecord
   pub longer : IsPartOf subject limits h (text ++ ended line) steps
 
--- The text is a part, and with one line more it is one that passes a number.
+-- The text is a part that does not pass a number, and with one line more it is one that does.
 pub record IsStoppedBy (subject : Subject) (limits : Limits) (h : Header) (text : List ℕ) (what : What) : Type 0 where
   pub part : IsPart subject limits h text
+  pub kept : (steps : List CertRecord) → IsPartOf subject limits h text steps → ¬ Passes limits h steps what
   pub line : List ℕ
   pub next : HasNextLine subject limits h text line
   pub passes : Passes limits h next.steps what

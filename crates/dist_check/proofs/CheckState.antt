@@ -21,7 +21,8 @@ use Rattle.dist_cert.specs.ClearForms.{FormsAreClear}
 use Rattle.dist_cert.specs.Groups.{derived, installations}
 use Rattle.dist_cert.specs.Reading.{ReaderView, WhereTold, PassesWhole, RecordAnswers, RecordCause}
 use Rattle.dist_cert.specs.Refusal.{IsTooLong, certificate_text, AreFaultless}
-use Rattle.dist_check.specs.Checking.{KeepsNumbers, IsReached, IsCompleted, TextAnswers, OfText}
+use Rattle.dist_check.specs.Checking.{IsReached, TextAnswers, OfText}
+use Rattle.dist_subject.specs.Completed.{KeepsNumbers, IsCompleted}
 use Rattle.dist_check.specs.Means.{Means}
 use Rattle.dist_subject.specs.Present.{subject_of}
 use Rattle.dist_state.specs.State.{StateView}

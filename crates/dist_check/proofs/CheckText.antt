@@ -11,7 +11,8 @@ use Rattle.dist_cert.specs.declared.faults.ReadCertError.TheVariants.{Bad, Work}
 use Rattle.dist_cert.specs.declared.records.Claim.{Claim}
 use Rattle.dist_cert.specs.declared.records.Header.{Header}
 use Rattle.dist_cert.specs.Reading.{ReaderView, in_front, text_left}
-use Rattle.dist_check.specs.Checking.{IsCompleted, TextAnswers, TextCause, OfText}
+use Rattle.dist_check.specs.Checking.{TextAnswers, TextCause, OfText}
+use Rattle.dist_subject.specs.Completed.{IsCompleted}
 use Rattle.dist_check.proofs.CheckSteps.{new_reader, rose-from}
 
 -- nothing is held before the first line

@@ -25,17 +25,8 @@ use Rattle.dist_cert.specs.Groups.{clause_of, derived}
 use Rattle.dist_cert.specs.Reading.{PassesWhole, KeepsLimits}
 use Rattle.dist_cert.specs.Refusal.{BeginsWith, HasFirstFault, HasLineFault, in_order, IsFirstOf, certificate_text, AreFaultless}
 use Rattle.dist_check.specs.Limited.{AreInputsWithin}
+use Rattle.dist_subject.specs.Completed.{KeepsNumbers, IsCompleted}
 use Rattle.dist_subject.specs.Present.{AreInputs, subject_of}
-
--- ---- the numbers
-
--- The input clauses and the lines keep the numbers: clauses and their literals, derived lines and theirs, and bytes.
-pub record KeepsNumbers (limits : Limits) (inputs : List (List Literal)) (h : Header) (lines : List CertRecord) : Type 0 where
-  pub clauses : length inputs ≤ limits.clauses
-  pub literals : literal_count inputs ≤ limits.literals
-  pub derived_lines : length (derived lines) ≤ limits.lines
-  pub line_literals : literal_count (derived lines) ≤ limits.line_literals
-  pub bytes : length (certificate_text h lines) ≤ limits.certificate
 
 -- The text begins with the lines of this header and these records, which have no fault and keep the numbers.
 pub record IsReached (r : PackageList) (inputs : Bool → List (List Literal)) (limits : Limits) (text : List ℕ) (h : Header) (before : List CertRecord) (rest : List ℕ) : Type 0 where
@@ -44,15 +35,6 @@ pub record IsReached (r : PackageList) (inputs : Bool → List (List Literal)) (
   pub numbers : KeepsNumbers limits (inputs h.essential) h before
 
 -- ---- the answers
-
--- The text is accepted, and keeps the numbers.
-pub record IsCompleted (r : PackageList) (limits : Limits) (text : List ℕ) (h : Header) (made : List Claim) : Type 0 where
-  pub inputs : Bool → List (List Literal)
-  pub are_inputs : AreInputs r inputs
-  pub steps : List CertRecord
-  pub accepted : IsAcceptedAs (subject_of r inputs) limits text h steps
-  pub claims : made ≡ claims_in steps
-  pub numbers : KeepsNumbers limits (inputs h.essential) h steps
 
 -- where the text begins with a first line of kind strong, its clauses keep both numbers
 abbrev pub HasInputsWithin : (Bool → List (List Literal)) → Limits → List ℕ → Type 0

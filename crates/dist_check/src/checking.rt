@@ -8,7 +8,7 @@ ghost use Rattle.dist_cert.specs.Reading.{text_left};
 ghost use Rattle.dist_check.specs.Answers.{AcceptedMeans};
 ghost use Rattle.dist_check.specs.Checked.{IsChecked};
 ghost use Rattle.dist_check.specs.Checking.{OfText, TextAnswers, TextCause};
-ghost use Rattle.dist_check.specs.Limited.{AreStated};
+ghost use Rattle.dist_subject.specs.Limited.{AreStated};
 ghost use Rattle.dist_check.specs.Means.{Means};
 
 use crate::start::start;

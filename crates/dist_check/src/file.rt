@@ -5,7 +5,7 @@ ghost use Rattle.dist_outside.specs.Files.{IsNotWriting, IsPresent, file_bytes};
 ghost use Rattle.dist_repo.specs.Size.{IsWithinSize};
 ghost use Rattle.dist_check.specs.Answers.{Answers, OnceRead, VerdictMeans};
 ghost use Rattle.dist_check.specs.Checking.{OfText, TextCause};
-ghost use Rattle.dist_check.specs.Limited.{AreStated};
+ghost use Rattle.dist_subject.specs.Limited.{AreStated};
 
 use crate::checking::check_text;
 use crate::verdict::Verdict;

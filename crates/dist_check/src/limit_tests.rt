@@ -1,5 +1,5 @@
 //! Texts that pass a number, and files that are not read.
-ghost use Rattle.dist_check.specs.Limited.{AreStated};
+ghost use Rattle.dist_subject.specs.Limited.{AreStated};
 
 use crate::check;
 use crate::texts::{TEN, at, edited, refused, two, verdict};

@@ -2,7 +2,8 @@
 ghost use Rattle.std.specs.Prelude.{◌≡◌, ◌↔◌, IsTrue};
 ghost use Rattle.dist_repo.specs.Size.{IsWithinSize};
 ghost use Rattle.dist_check.specs.Start.{HasNumbers, StartAnswers};
-ghost use Rattle.dist_check.specs.Limited.{AreStated, large_by};
+ghost use Rattle.dist_check.specs.Limited.{large_by};
+ghost use Rattle.dist_subject.specs.Limited.{AreStated};
 
 use dist_cert::{CertCause, CertFault, CertKind, Header, ReadCertError};
 use dist_clause::{ClauseSet, PushError};

@@ -1,6 +1,6 @@
 //! Repositories, texts and their edits, for tests.
 ghost use Rattle.std.specs.Prelude.{◌+◌, ◌<◌, ◌≤◌, length};
-ghost use Rattle.dist_check.specs.Limited.{AreStated};
+ghost use Rattle.dist_subject.specs.Limited.{AreStated};
 
 use crate::{Verdict, check};
 use dist_cert::{CertCause, CertFault};

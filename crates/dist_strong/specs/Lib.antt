@@ -5,3 +5,4 @@ pub mod Window
 pub mod Group
 pub mod Settling
 pub mod Claiming
+pub mod Sweep

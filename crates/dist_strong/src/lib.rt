@@ -6,5 +6,8 @@ mod claiming;
 mod group;
 mod putting;
 mod settling;
+mod sweep;
 mod window;
 mod words;
+
+pub use sweep::strong;

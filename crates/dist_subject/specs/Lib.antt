@@ -2,3 +2,5 @@ pub mod Present
 pub mod PresentExamples
 pub mod Claims
 pub mod Installed
+pub mod Limited
+pub mod Completed
