@@ -14,3 +14,10 @@ mod SettleSteps
 mod ClaimLines
 mod StrongLine
 mod ClaimSteps
+mod FewNumbers
+mod Fronts
+mod KeptLines
+mod BudgetCounts
+mod BudgetQuestions
+mod BudgetWidths
+mod Budgets

@@ -2,6 +2,7 @@
 #![tactic(auto)]
 
 mod asker;
+mod budget_laws;
 mod claiming;
 mod group;
 mod putting;
@@ -10,4 +11,5 @@ mod sweep;
 mod window;
 mod words;
 
+pub use budget_laws::budgets_are_enough;
 pub use sweep::strong;
