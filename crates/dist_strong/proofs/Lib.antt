@@ -1,4 +1,5 @@
 mod Lists
+mod Keeping
 mod Opened
 mod Lines
 mod OneLine
@@ -14,3 +15,4 @@ mod SettleSteps
 mod ClaimLines
 mod StrongLine
 mod ClaimSteps
+mod Claimed

@@ -17,7 +17,7 @@ use Rattle.dist_cert.specs.Form.{record_text, header_text}
 use Rattle.dist_cert.specs.PartByRecords.{IsLine, IsShortLine}
 use Rattle.dist_cert.specs.Refusal.{line_feed, lines_text, certificate_text}
 use Rattle.dist_cert.specs.Writing.{WriterView, HasRoom, PutAnswers, WritesNothing, ended, after_line}
-use Rattle.dist_strong.specs.Script.{Setting, matter_in, AllNext, AreWritten, IsWriter, IsCutOff, StopsBy, Stops, PutMore, PutStops}
+use Rattle.dist_strong.specs.Script.{Setting, matter_in, AllNext, AreWritten, IsWriter, IsCutOff, KeepsLines, StopsBy, Stops, PutMore, PutStops}
 
 -- ---- one line more
 
@@ -42,13 +42,15 @@ certificate-more h before step =
 short-line : (g : Setting) (step : CertRecord) (limit : ℕ) → limit ≡ g.limits.record_line → length (ended (record_text step)) ≤ limit → IsShortLine g.limits step
 short-line g step limit is within = omega (arith, is, within, length-append (record_text step) (10 ∷ []))
 
-pub writer-more : (g : Setting) (before : List CertRecord) (step : CertRecord) (w after : WriterView) → IsWriter g before w → IsLine (matter_in g) g.header before step → HasRoom w (ended (record_text step))
-    → after ≡ after_line w (ended (record_text step)) → IsWriter g (before ++ step ∷ []) after
-writer-more g before step w after writer line room counted = record {
+pub writer-more : (g : Setting) (before : List CertRecord) (step : CertRecord) (w after : WriterView) → IsWriter g before w → IsLine (matter_in g) g.header before step → KeepsLines g.limits (before ++ step ∷ [])
+    → HasRoom w (ended (record_text step)) → after ≡ after_line w (ended (record_text step)) → IsWriter g (before ++ step ∷ []) after
+writer-more g before step w after writer line kept room counted = record {
   written = record {
     next = next-push g [] before step writer.written.next line;
     short = All-push (IsShortLine g.limits) before step writer.written.short (short-line g step w.line_limit (ap (λ (v : WriterView). v.line_limit) writer.stands) room.line_within);
     header_short = writer.written.header_short;
+    kept = kept;
+    bytes = omega (arith, certificate-more g.header before step, room.whole_within, ap (λ (v : WriterView). v.whole_limit) writer.stands, ap (λ (v : WriterView). v.written) writer.stands);
   };
   stands = counted ∙ ap (λ (v : WriterView). after_line v (ended (record_text step))) writer.stands
       ∙ ap (λ (n : ℕ). record { line_limit = g.limits.record_line; whole_limit = g.limits.certificate; written = n }) (sym (certificate-more g.header before step));
@@ -56,7 +58,7 @@ writer-more g before step w after writer line room counted = record {
 
 pub put-more : (w after : WriterView) (step : CertRecord) (old new : DeskView) (result : Result (Unit {0}) WorkError) → PutAnswers w (ended (record_text step)) old new result
     → OnOk result (after ≡ after_line w (ended (record_text step))) → OnOk result (PutMore w after step)
-put-more w after step old new (Ok u) answers counted = λ g before writer line. writer-more g before step w after writer line answers counted
+put-more w after step old new (Ok u) answers counted = λ g before writer line kept. writer-more g before step w after writer line kept answers counted
 put-more w after step old new (Err error) answers counted = tt
 
 -- ---- where it stops
