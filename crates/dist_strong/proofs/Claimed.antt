@@ -1,5 +1,5 @@
 -- The claim on a package, from the lines of its first question on.
-use Rattle.std.proofs.Common.{◌≡◌, ◌≢◌, inl, inr, ℕ, ◌+◌, ◌<◌, ◌≤◌, ◌^◌, ◌↔◌, Bool, true, false, List, [], ◌∷◌, ◌++◌, length, get_or, replicate, refl, ap, sym, subst, ◌∙◌, append_assoc, append-nil, arith, lit<, ⊎_elim}
+use Rattle.std.proofs.Common.{◌≡◌, ◌≢◌, inl, inr, ℕ, ◌+◌, ◌-◌, ◌<◌, ◌≤◌, ◌^◌, ◌↔◌, Bool, true, false, List, [], ◌∷◌, ◌++◌, length, get_or, replicate, refl, ap, sym, subst, ◌∙◌, append_assoc, append-nil, arith, lit<, ⊎_elim}
 use Rattle.std.specs.List.{All, Contains, list_any}
 use Rattle.std.proofs.Math.ListN.{get_or-eq_default}
 use Rattle.std.proofs.lemmas.Bool.{cases_lt, true≢false}
@@ -107,6 +107,7 @@ unknown-kind p = record { no_clause = refl; no_installation = refl; no_end = ref
 
 uninstallable-next : (g : Setting) (before : List CertRecord) (p : ℕ) (old new : DeskView) (a b : AskerView) (w : WindowView) → a.log.variables < 2 ^ 32 → Suits a w p → IsSwept g before a w → p ≡ claim_count before + 1
     → (asked : IsAsked g before (yes p ∷ []) old new b replies.Refuted) → IsLine (matter_in g) g.header (before ++ question_lines (yes p ∷ []) asked.between asked.answer) (NotInstallable p)
+unfolding alone-lines
 uninstallable-next g before p old new a b w fits suits swept next asked =
     let lines = alone-lines g before p old new b replies.Refuted [] asked (ap installed_in asked.is_answer.1) in
     uninstallable-line g (before ++ question_lines (yes p ∷ []) asked.between asked.answer) p asked.at.log.strong asked.at.log.not_ended (omega (arith, fits, swept.at.log.variables))
@@ -115,6 +116,7 @@ uninstallable-next g before p old new a b w fits suits swept next asked =
 
 unknown-next : (g : Setting) (before : List CertRecord) (p : ℕ) (old new : DeskView) (a b : AskerView) (w : WindowView) → a.log.variables < 2 ^ 32 → Suits a w p → IsSwept g before a w → p ≡ claim_count before + 1
     → (asked : IsAsked g before (yes p ∷ []) old new b replies.Undecided) → IsLine (matter_in g) g.header (before ++ question_lines (yes p ∷ []) asked.between asked.answer) (Unknown p)
+unfolding alone-lines
 unknown-next g before p old new a b w fits suits swept next asked =
     let lines = alone-lines g before p old new b replies.Undecided [] asked (ap installed_in asked.is_answer) in
     unknown-line g (before ++ question_lines (yes p ∷ []) asked.between asked.answer) p asked.at.log.strong asked.at.log.not_ended (omega (arith, fits, swept.at.log.variables))
