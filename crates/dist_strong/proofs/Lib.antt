@@ -16,3 +16,7 @@ mod ClaimLines
 mod StrongLine
 mod ClaimSteps
 mod Claimed
+mod FirstLine
+mod SweepLines
+mod Parts
+mod SweptFile

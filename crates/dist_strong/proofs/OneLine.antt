@@ -32,12 +32,13 @@ lines-more lines more = flat_map-append (λ step. record_text step ++ line_feed 
 pub one-line : (step : CertRecord) → lines_text (step ∷ []) ≡ ended (record_text step)
 one-line step = append-nil (record_text step ++ line_feed ∷ [])
 
+pub certificate-push : (h : Header) (before : List CertRecord) (step : CertRecord) → certificate_text h (before ++ step ∷ []) ≡ certificate_text h before ++ ended (record_text step)
+certificate-push h before step =
+    ap (λ (text : List ℕ). header_text h ++ line_feed ∷ text) (lines-more before (step ∷ []) ∙ ap (λ (text : List ℕ). lines_text before ++ text) (one-line step))
+    ∙ sym (append_assoc (header_text h) (line_feed ∷ lines_text before) (ended (record_text step)))
+
 certificate-more : (h : Header) (before : List CertRecord) (step : CertRecord) → length (certificate_text h (before ++ step ∷ [])) ≡ length (certificate_text h before) + length (ended (record_text step))
-certificate-more h before step =
-    let whole : certificate_text h (before ++ step ∷ []) ≡ certificate_text h before ++ ended (record_text step)
-    = ap (λ (text : List ℕ). header_text h ++ line_feed ∷ text) (lines-more before (step ∷ []) ∙ ap (λ (text : List ℕ). lines_text before ++ text) (one-line step))
-    ∙ sym (append_assoc (header_text h) (line_feed ∷ lines_text before) (ended (record_text step))) in
-    ap length whole ∙ length-append (certificate_text h before) (ended (record_text step))
+certificate-more h before step = ap length (certificate-push h before step) ∙ length-append (certificate_text h before) (ended (record_text step))
 
 short-line : (g : Setting) (step : CertRecord) (limit : ℕ) → limit ≡ g.limits.record_line → length (ended (record_text step)) ≤ limit → IsShortLine g.limits step
 short-line g step limit is within = omega (arith, is, within, length-append (record_text step) (10 ∷ []))
@@ -111,11 +112,11 @@ put-stops begins w step old new (Err error) answers nothing front = absurd answe
 
 -- ---- stops behind more lines
 
-rose-later : (old mid new : ℕ) → old ≤ mid → mid ≤ new → Rose mid new → Rose old new
+pub rose-later : (old mid new : ℕ) → old ≤ mid → mid ≤ new → Rose mid new → Rose old new
 rose-later old mid new first second (inl less) = inl (omega arith)
 rose-later old mid new first second (inr full) = elim (cases_lt old mid) [ inl less ↦ inl (omega arith) | inr past ↦ inr (omega arith) ]
 
-by-later : (g : Setting) (lines : List CertRecord) (cut : List ℕ) (old mid new : DeskView) (error : WorkError) → WriteCounts old mid → WriteCounts mid new → StopsBy g lines cut mid new error → StopsBy g lines cut old new error
+pub by-later : (g : Setting) (lines : List CertRecord) (cut : List ℕ) (old mid new : DeskView) (error : WorkError) → WriteCounts old mid → WriteCounts mid new → StopsBy g lines cut mid new error → StopsBy g lines cut old new error
 by-later g lines cut old mid new WriteFault first second by = rose-later old.write_faults mid.write_faults new.write_faults first.write_faults_stand second.write_faults_stand by
 by-later g lines cut old mid new (TooLarge what) first second by = by
 by-later g lines cut old mid new NoMemory first second by = tt

@@ -6,3 +6,4 @@ pub mod Group
 pub mod Settling
 pub mod Claiming
 pub mod Sweep
+pub mod Sweeping
