@@ -1,7 +1,7 @@
 -- What a sweep wrote as a text: a part of a certificate, one that is full, and an accepted one.
 use Rattle.std.proofs.Common.{◌≡◌, ◌≢◌, ◌⊎◌, ⊎_elim, inl, inr, ℕ, ◌<◌, ◌≤◌, Bool, List, [], ◌∷◌, ◌++◌, length, refl, ap, sym, subst, ◌∙◌, append_assoc, append-nil, arith, length-append}
 use Rattle.std.specs.List.{All, Any, Contains}
-use Rattle.std.proofs.lemmas.List.Elements.{All-cons, All-head, All-tail}
+use Rattle.std.proofs.lemmas.List.Elements.{All-cons, All-head, All-nil, All-tail}
 use Rattle.dist_base.specs.Front.{IsFrontOf}
 use Rattle.dist_clause.specs.Formula.{Literal}
 use Rattle.dist_outside.specs.declared.limits.Limits.{Limits}
@@ -22,7 +22,7 @@ use Rattle.dist_cert.specs.Part.{HasNextLine, IsCutPart, IsPartOf, IsStoppedBy, 
 use Rattle.dist_cert.specs.PartByRecords.{AreLines, IsHeaderOf, IsLine, IsShortLine, part_by_records, sound_by_lines}
 use Rattle.dist_cert.specs.Refusal.{Reads, certificate_text, line_feed, lines_text}
 use Rattle.dist_cert.specs.Writing.{ended}
-use Rattle.dist_subject.specs.Completed.{KeepsNumbers}
+use Rattle.dist_subject.specs.Completed.{IsCompleted, KeepsNumbers}
 use Rattle.dist_subject.specs.Present.{AreInputs, subject_of}
 use Rattle.dist_strong.specs.Script.{AllNext, AreWritten, IsCutOff, IsPassed, Setting, matter_in}
 use Rattle.dist_strong.specs.Sweep.{IsCutSweep, IsFull, IsSweep}
@@ -72,7 +72,7 @@ same-lines clear (x ∷ ones) (y ∷ twos) a b e =
     subst (λ z. x ∷ ones ≡ z ∷ twos) same (ap (λ (ls : List CertRecord). x ∷ ls) (same-lines clear ones twos (All-tail Form x ones a) (All-tail Form y twos b) lines.1))
 
 formed : (g : Setting) (before steps : List CertRecord) → AllNext g before steps → All (λ step. HasForm (record_text step) step) steps
-formed g before [] all k d within = absurd (omega (arith, within))
+formed g before [] all = All-nil (λ step. HasForm (record_text step) step)
 formed g before (step ∷ steps) all = All-cons (λ s. HasForm (record_text s) s) step steps all.0.form (formed g (before ++ step ∷ []) steps all.1)
 
 one-reading : FormsAreClear → (g : Setting) (lines others : List CertRecord) → HasHeaderForm (header_text g.header) g.header → AreWritten g lines → Reads (certificate_text g.header lines) g.header others [] → others ≡ lines
@@ -209,17 +209,14 @@ whole r essential limit limits inputs is kept lines written =
     let all : AreSound limits (matter_in g) g.header [] steps = sound_by_lines limits (matter_in g) g.header [] steps (are-lines g [] steps written.next written.short) written.short in
     let accepted = subst (λ (text : List ℕ). Accepted (subject_of r inputs) limits text g.header (claims_in steps)) (append-nil (certificate_text g.header steps))
     (accepted_by_records is.clear (subject_of r inputs) limits g.header steps sound all (contains-last lines End)) in
-    let same : accepted.0 ≡ steps = one-reading is.clear g steps accepted.0 is.header.form written accepted.1.faultless.reads in (
-      inputs,
-      is.are_inputs,
-      record {
-        inputs = inputs;
-        are_inputs = is.are_inputs;
-        steps = accepted.0;
-        accepted = accepted.1;
-        claims = accepted.2;
-        numbers = subst (λ (ls : List CertRecord). KeepsNumbers limits (inputs essential) g.header ls) (sym same)
-            (record { clauses = kept.clauses; literals = kept.literals; derived_lines = written.kept.count; line_literals = written.kept.literals; bytes = written.bytes });
-      },
-      inr (steps, part-of r essential limit limits inputs is steps written),
-    )
+    let same : accepted.0 ≡ steps = one-reading is.clear g steps accepted.0 is.header.form written accepted.1.faultless.reads in
+    let completed : IsCompleted r limits (certificate_text g.header steps) g.header (claims_in steps) = record {
+      inputs = inputs;
+      are_inputs = is.are_inputs;
+      steps = accepted.0;
+      accepted = accepted.1;
+      claims = accepted.2;
+      numbers = subst (λ (ls : List CertRecord). KeepsNumbers limits (inputs essential) g.header ls) (sym same)
+          (record { clauses = kept.clauses; literals = kept.literals; derived_lines = written.kept.count; line_literals = written.kept.literals; bytes = written.bytes });
+    } in
+    (inputs, is.are_inputs, (completed, inr (steps, part-of r essential limit limits inputs is steps written)))
