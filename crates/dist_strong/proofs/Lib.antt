@@ -20,3 +20,4 @@ mod FirstLine
 mod SweepLines
 mod Parts
 mod SweptFile
+mod Begun

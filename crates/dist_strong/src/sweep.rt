@@ -147,6 +147,41 @@ fn inputs_of(
     }
 }
 
+/// Writes the certificate over the input clauses of a repository.
+fn write_over<D: Desk>(
+    alloc: Global,
+    repo: &Repository,
+    essential: bool,
+    inputs: ClauseSet,
+    desk: &mut D,
+    name: &str,
+    limit: u32,
+    limits: &Limits,
+) -> Result<Claims, WorkError>
+    requires idle { IsNotWriting (D.view desk.old).mode }
+    requires packages { length repo.now.packages ≤ MAX_PACKAGES }
+    requires inputs { IsSetOf repo.now (IsDemand repo.now essential) limits.now.clauses limits.now.literals inputs }
+    requires from_one { 1 ≤ limit }
+    requires upto { limit ≤ 1000000 }
+    requires limits { AreStated limits.now }
+    ensures { SweepAnswers repo.now essential limit limits.now name.now (D.view desk.old) (D.view desk.new) result }
+{
+    inputs_are_one();
+    present_clauses_are_one();
+    let packages = repo.len();
+    let header = Header {
+        kind: CertKind::Strong,
+        limit,
+        packages,
+        variables: packages,
+        clauses: inputs.len(),
+        essential,
+    };
+    let mut asker = Asker::new(alloc, inputs, limit, limits)?;
+    let mut window = Window::new(alloc, packages)?;
+    write_file(alloc, &mut asker, &mut window, desk, name, &header)
+}
+
 /// Writes a certificate of the strong dependencies of all packages to the file of that name, and tells its claims, one for
 /// each package in order. So many derived lines leave a question undecided. The file grows while the sweep works.
 pub fn strong<D: Desk>(
@@ -167,19 +202,6 @@ pub fn strong<D: Desk>(
     ensures too_many_clauses { ComesExactly result (TooLarge what.Clauses) (PassesClauses repo.now essential limits.now.clauses limits.now.literals) }
     ensures too_many_literals { ComesExactly result (TooLarge what.Literals) (PassesLiterals repo.now essential limits.now.clauses limits.now.literals) }
 {
-    inputs_are_one();
-    present_clauses_are_one();
     let inputs = inputs_of(alloc, repo, essential, limits)?;
-    let packages = repo.len();
-    let header = Header {
-        kind: CertKind::Strong,
-        limit,
-        packages,
-        variables: packages,
-        clauses: inputs.len(),
-        essential,
-    };
-    let mut asker = Asker::new(alloc, inputs, limit, limits)?;
-    let mut window = Window::new(alloc, packages)?;
-    write_file(alloc, &mut asker, &mut window, desk, name, &header)
+    write_over(alloc, repo, essential, inputs, desk, name, limit, limits)
 }
