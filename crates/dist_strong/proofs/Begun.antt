@@ -1,5 +1,5 @@
 -- A sweep may begin, and when it is refused for its input clauses.
-use Rattle.std.proofs.Common.{◌≡◌, ◌≢◌, ◌↔◌, inl, ℕ, ◌<◌, ◌≤◌, ◌^◌, Bool, List, [], ◌++◌, length, Result, Ok, Err, refl, ap, sym, subst, ◌∙◌, append-nil, arith}
+use Rattle.std.proofs.Common.{◌≡◌, ◌≢◌, ℕ, ◌<◌, ◌≤◌, ◌^◌, Bool, List, [], length, Result, Ok, Err, refl, ap, sym, subst, ◌∙◌, append-nil, arith}
 use Rattle.std.proofs.lemmas.List.Elements.{All-nil}
 use Rattle.dist_base.specs.declared.TheConstants.{MAX_CLAUSES, MAX_PACKAGES}
 use Rattle.dist_clause.specs.ClauseList.{ClauseList, IsWithinLimits, literal_count}

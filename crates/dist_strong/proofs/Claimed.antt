@@ -1,5 +1,5 @@
 -- The claim on a package, from the lines of its first question on.
-use Rattle.std.proofs.Common.{◌≡◌, ◌≢◌, inl, inr, ℕ, ◌+◌, ◌-◌, ◌<◌, ◌≤◌, ◌^◌, ◌↔◌, Bool, true, false, List, [], ◌∷◌, ◌++◌, length, get_or, replicate, refl, ap, sym, subst, ◌∙◌, append_assoc, append-nil, arith, lit<, ⊎_elim}
+use Rattle.std.proofs.Common.{◌≡◌, inl, inr, ℕ, ◌+◌, ◌-◌, ◌<◌, ◌≤◌, ◌^◌, ◌↔◌, Bool, true, false, List, [], ◌∷◌, ◌++◌, length, replicate, refl, ap, sym, subst, ◌∙◌, append_assoc, arith, lit<, ⊎_elim}
 use Rattle.std.specs.List.{All, Contains, list_any}
 use Rattle.std.proofs.Math.ListN.{get_or-eq_default}
 use Rattle.std.proofs.lemmas.Bool.{cases_lt, true≢false}
@@ -16,19 +16,19 @@ use Rattle.dist_cert.specs.declared.records.CertRecord.TheVariants.{Question, No
 use Rattle.dist_cert.specs.declared.records.Claim.{Claim}
 use Rattle.dist_cert.specs.declared.records.Claim.TheVariants as claims
 use Rattle.dist_cert.specs.Accepted.{claims_in}
-use Rattle.dist_cert.specs.ClaimRules.{yes, no}
+use Rattle.dist_cert.specs.ClaimRules.{yes}
 use Rattle.dist_cert.specs.Form.{Word, record_text}
-use Rattle.dist_cert.specs.Groups.{claim_count, group, installations, installed_in, is_claim, IsClosedBy, IsRefutedIn, IsUndecidedIn}
+use Rattle.dist_cert.specs.Groups.{claim_count, group, installations, installed_in, is_claim, IsClosedBy}
 use Rattle.dist_cert.specs.Part.{IsNextQuestion, IsQuestionOn}
 use Rattle.dist_cert.specs.PartByRecords.{IsLine}
 use Rattle.dist_cert.specs.Refusal.{lines_text}
 use Rattle.dist_cert.specs.Writing.{ended}
-use Rattle.dist_strong.specs.Asking.{AskerView, Holds, IsAsked, IsAt, IsOver, question_lines}
+use Rattle.dist_strong.specs.Asking.{AskerView, Holds, IsAsked, IsOver, question_lines}
 use Rattle.dist_strong.specs.Claiming.{ClaimMore, ClaimStops, IsClaimed, IsSwept, StrongMore, Suits}
-use Rattle.dist_strong.specs.Group.{GroupView, is_open, new_group}
-use Rattle.dist_strong.specs.Script.{Setting, matter_in, PutMore, PutStops, Stops}
-use Rattle.dist_strong.specs.Settling.{AreNoted, Fits, IsGroupAt, IsSettling, SettleMore, SettleStops, without}
-use Rattle.dist_strong.specs.Window.{WindowView, IsWindowAt}
+use Rattle.dist_strong.specs.Group.{GroupView, new_group}
+use Rattle.dist_strong.specs.Script.{Setting, matter_in, PutMore, PutStops}
+use Rattle.dist_strong.specs.Settling.{Fits, IsGroupAt, IsSettling, SettleMore, SettleStops, without}
+use Rattle.dist_strong.specs.Window.{WindowView}
 use Rattle.dist_strong.specs.Words.{true_variables}
 use Rattle.dist_strong.specs.declared.asker.Reply.{Reply}
 use Rattle.dist_strong.specs.declared.asker.Reply.TheVariants as replies
@@ -36,7 +36,7 @@ use Rattle.dist_strong.proofs.Asked.{AskStops}
 use Rattle.dist_strong.proofs.ClaimLines.{uninstallable-line, unknown-line}
 use Rattle.dist_strong.proofs.ClaimSteps.{IsClaimLine, put-claimed}
 use Rattle.dist_strong.proofs.GroupLines.{claims-append, count-append, question-claims, reply-line}
-use Rattle.dist_strong.proofs.GroupSteps.{AreAsked, closed-here, count-after, group-after, in-group-after, never-open, question-after, window-more, window-same}
+use Rattle.dist_strong.proofs.GroupSteps.{AreAsked, closed-here, count-after, in-group-after, question-after, window-more, window-same}
 use Rattle.dist_strong.proofs.OneLine.{BeginsLaw, TwiceLaw, lines-more, stops-after, stops-for-memory}
 use Rattle.dist_strong.proofs.SettleSteps.{AskMore, added-some}
 use Rattle.dist_strong.proofs.TrueOnes.{true-ones}

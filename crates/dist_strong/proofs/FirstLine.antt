@@ -1,5 +1,5 @@
 -- What putting the first line makes of a writer that has written nothing, and where it stops.
-use Rattle.std.proofs.Common.{◌≡◌, inl, ℕ, ◌+◌, ◌<◌, ◌≤◌, List, [], ◌∷◌, ◌++◌, length, take, Result, Ok, Err, OnOk, OnErr, IfErr, refl, ap, sym, subst, ◌∙◌, arith, length-append}
+use Rattle.std.proofs.Common.{◌≡◌, inl, ℕ, ◌+◌, List, [], ◌∷◌, length, Result, Ok, Err, OnOk, OnErr, IfErr, refl, ap, sym, subst, ◌∙◌, arith, length-append}
 use Rattle.std.proofs.lemmas.List.Elements.{All-nil}
 use Rattle.dist_base.specs.Front.{IsFrontOf}
 use Rattle.dist_outside.specs.DeskView.{DeskView, FileGrew, FileGrewByFront}
@@ -10,8 +10,8 @@ use Rattle.dist_cert.specs.declared.records.Header.{Header}
 use Rattle.dist_cert.specs.Form.{header_text}
 use Rattle.dist_cert.specs.PartByRecords.{IsShortLine}
 use Rattle.dist_cert.specs.Writing.{WriterView, HasRoom, PutAnswers, WritesNothing, ended, after_line}
-use Rattle.dist_strong.specs.Script.{Setting, IsWriter}
-use Rattle.dist_strong.specs.Sweeping.{FirstStopsBy, HeaderMore, HeaderStops, StopsFirst, new_writer}
+use Rattle.dist_strong.specs.Script.{Setting}
+use Rattle.dist_strong.specs.Sweeping.{FirstStopsBy, HeaderMore, HeaderStops, new_writer}
 use Rattle.dist_strong.proofs.OneLine.{BeginsLaw}
 
 -- no line stands behind it

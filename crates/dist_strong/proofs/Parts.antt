@@ -1,6 +1,6 @@
 -- What a sweep wrote as a text: a part of a certificate, one that is full, and an accepted one.
-use Rattle.std.proofs.Common.{◌≡◌, ◌≢◌, ◌⊎◌, ⊎_elim, inl, inr, ℕ, ◌<◌, ◌≤◌, Bool, List, [], ◌∷◌, ◌++◌, length, refl, ap, sym, subst, ◌∙◌, append_assoc, append-nil, arith, length-append}
-use Rattle.std.specs.List.{All, Any, Contains}
+use Rattle.std.proofs.Common.{◌≡◌, ◌⊎◌, ⊎_elim, inl, inr, ℕ, Bool, List, [], ◌∷◌, ◌++◌, length, refl, ap, sym, subst, ◌∙◌, append_assoc, append-nil, arith, length-append}
+use Rattle.std.specs.List.{All}
 use Rattle.std.proofs.lemmas.List.Elements.{All-cons, All-head, All-nil, All-tail}
 use Rattle.dist_base.specs.Front.{IsFrontOf}
 use Rattle.dist_clause.specs.Formula.{Literal}
@@ -11,14 +11,13 @@ use Rattle.dist_outside.specs.declared.trouble.WorkError.TheVariants.{TooLarge}
 use Rattle.dist_repo.specs.PackageList.{PackageList}
 use Rattle.dist_cert.specs.declared.records.CertRecord.{CertRecord}
 use Rattle.dist_cert.specs.declared.records.CertRecord.TheVariants.{End}
-use Rattle.dist_cert.specs.declared.records.Claim.{Claim}
 use Rattle.dist_cert.specs.declared.records.Header.{Header}
 use Rattle.dist_cert.specs.Accepted.{Accepted, claims_in}
 use Rattle.dist_cert.specs.ByRecords.{AreSound, IsSoundHeader, accepted_by_records}
 use Rattle.dist_cert.specs.ClearForms.{FormsAreClear}
 use Rattle.dist_cert.specs.Form.{HasForm, HasHeaderForm, header_text, record_text}
-use Rattle.dist_cert.specs.OneVerdict.{first_line_of, one_line}
-use Rattle.dist_cert.specs.Part.{HasNextLine, IsCutPart, IsPartOf, IsStoppedBy, Passes}
+use Rattle.dist_cert.specs.OneVerdict.{one_line}
+use Rattle.dist_cert.specs.Part.{IsPartOf, Passes}
 use Rattle.dist_cert.specs.PartByRecords.{AreLines, IsHeaderOf, IsLine, IsShortLine, part_by_records, sound_by_lines}
 use Rattle.dist_cert.specs.Refusal.{Reads, certificate_text, line_feed, lines_text}
 use Rattle.dist_cert.specs.Writing.{ended}

@@ -1,6 +1,6 @@
 -- The lines of a sweep, claim by claim, and the end behind them.
-use Rattle.std.proofs.Common.{◌≡◌, ◌⊎◌, inl, inr, ℕ, ◌+◌, ◌<◌, ◌≤◌, false, List, [], ◌∷◌, ◌++◌, length, refl, ap, sym, subst, ◌∙◌, append_assoc, append-nil, arith, length-append}
-use Rattle.std.specs.List.{All, list_any}
+use Rattle.std.proofs.Common.{◌≡◌, inl, inr, ℕ, ◌+◌, false, List, [], ◌∷◌, ◌++◌, length, refl, ap, sym, subst, ◌∙◌, append_assoc, append-nil, arith, length-append}
+use Rattle.std.specs.List.{list_any}
 use Rattle.std.proofs.lemmas.Bool.{false≢true}
 use Rattle.std.proofs.lemmas.List.Elements.{All-nil}
 use Rattle.dist_outside.specs.DeskView.{DeskView, FileGrew}
@@ -24,7 +24,7 @@ use Rattle.dist_cert.specs.Writing.{ended}
 use Rattle.dist_strong.specs.Asking.{AskerView, IsAt}
 use Rattle.dist_strong.specs.Claiming.{ClaimMore, ClaimStops, IsSwept}
 use Rattle.dist_strong.specs.Script.{PutMore, PutStops, Setting, Stops, matter_in}
-use Rattle.dist_strong.specs.Sweeping.{AreClaimed, Begins, ClaimsMore, ClaimsStop, HeaderMore, HeaderStops, IsWhole, StopsFirst, StopsLater, SweepMore, SweepStops}
+use Rattle.dist_strong.specs.Sweeping.{AreClaimed, Begins, ClaimsMore, ClaimsStop, HeaderMore, HeaderStops, StopsLater, SweepMore, SweepStops}
 use Rattle.dist_strong.specs.Window.{WindowView}
 use Rattle.dist_strong.proofs.GroupLines.{claims-push}
 use Rattle.dist_strong.proofs.Keeping.{keeps-same}

@@ -1,9 +1,8 @@
 -- What a sweep leaves in its file, by its answer.
-use Rattle.std.proofs.Common.{◌≡◌, ◌⊎◌, ⊎_elim, inl, inr, ℕ, ◌<◌, ◌≤◌, Bool, List, [], ◌∷◌, ◌++◌, ◌∙◌, Result, Ok, Err, refl, ap, sym, subst, append-nil, arith}
-use Rattle.std.proofs.lemmas.Bool.{cases_lt}
+use Rattle.std.proofs.Common.{⊎_elim, inl, inr, ℕ, ◌≤◌, Bool, List, [], ◌∷◌, ◌++◌, ◌∙◌, Ok, Err, refl, ap, sym, subst, append-nil, arith}
 use Rattle.dist_clause.specs.Formula.{Literal}
 use Rattle.dist_outside.specs.Counts.{Rose}
-use Rattle.dist_outside.specs.DeskView.{Closed, DeskView, FileGrew, Holds, NotCreated, WriteCounts}
+use Rattle.dist_outside.specs.DeskView.{Closed, DeskView, FileGrew, Holds, NotCreated}
 use Rattle.dist_outside.specs.Files.{Idle, IsNotWriting, Mode, Writing, where_told}
 use Rattle.dist_outside.specs.Reading.{DeskWriteCause}
 use Rattle.dist_outside.specs.declared.limits.Limits.{Limits}
@@ -15,12 +14,10 @@ use Rattle.dist_cert.specs.declared.records.CertRecord.TheVariants.{End}
 use Rattle.dist_cert.specs.declared.records.Claim.{Claim}
 use Rattle.dist_cert.specs.declared.records.Header.{Header}
 use Rattle.dist_cert.specs.ClearForms.{FormsAreClear}
-use Rattle.dist_cert.specs.Part.{Passes}
 use Rattle.dist_cert.specs.Refusal.{certificate_text}
 use Rattle.dist_strong.specs.Asking.{AskerView}
-use Rattle.dist_strong.specs.Script.{IsPassed, StopsBy}
 use Rattle.dist_strong.specs.Sweep.{IsCutSweep, IsSweep, LeavesPart, SweepAnswers}
-use Rattle.dist_strong.specs.Sweeping.{FileAnswers, FirstStopsBy, MayBegin, StopsFirst, StopsLater, SweepMore, SweepStops, setting_of}
+use Rattle.dist_strong.specs.Sweeping.{FileAnswers, MayBegin, StopsFirst, StopsLater, SweepMore, SweepStops, setting_of}
 use Rattle.dist_strong.specs.Window.{WindowView}
 use Rattle.dist_strong.proofs.OneLine.{rose-later}
 use Rattle.dist_strong.proofs.Parts.{IsSet, cut-behind, cut-first, cut-nothing, first-full, full, whole}
