@@ -1,4 +1,5 @@
 mod Lists
+mod Keeping
 mod Opened
 mod Lines
 mod OneLine
@@ -21,3 +22,9 @@ mod BudgetCounts
 mod BudgetQuestions
 mod BudgetWidths
 mod Budgets
+mod Claimed
+mod FirstLine
+mod SweepLines
+mod Parts
+mod SweptFile
+mod Begun

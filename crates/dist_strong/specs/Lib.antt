@@ -7,3 +7,4 @@ pub mod Settling
 pub mod Claiming
 pub mod Sweep
 pub mod Budget
+pub mod Sweeping
