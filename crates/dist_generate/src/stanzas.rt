@@ -36,7 +36,8 @@ fn add_head(text: &mut Vec<u8>, number: u32, digit: u32) -> Result<(), AllocErro
     add_line(text, b"Package: g", number)?;
     add_line(text, b"Version: 1.", digit)?;
     text.extend_from_slice(b"Architecture: all\n")?;
-    add_line(text, b"Source: s", number / 2)
+    add_line(text, b"Source: s", number / 2)?;
+    Ok(())
 }
 
 /// The bound of an alternative.

@@ -1,5 +1,4 @@
-use Rattle.dist_generate.specs.Generator.{drawn, stanza_text}
-use Rattle.std.proofs.Common.{[]}
+use Rattle.dist_generate.specs.Generator.{drawn}
 use Rattle.dist_generate.proofs.Adding.{next-moved, next-stanza}
 use Rattle.dist_generate.proofs.stanzas.generate.Goals as goal
 
@@ -9,5 +8,5 @@ loop-number-preserved c =
     let was = c.loop-number.invariant.moved in
     record {
       text = next-stanza c.args.seed c.loop-number.number c.loop-number.text.items c.loop-number.draws.state _ c.loop-number.invariant.text was adds.text;
-      moved = next-moved drawn stanza_text [] [] c.args.seed c.loop-number.number [] c.loop-number.draws.state [] _ was adds.moved;
+      moved = next-moved drawn c.args.seed c.loop-number.number c.loop-number.draws.state _ was adds.moved;
     }
