@@ -4,7 +4,7 @@ use Rattle.std.specs.Prelude.{codes, decimal, if◌then◌else◌}
 use Rattle.std.specs.List.{flat_map, join_by}
 use Rattle.std.proofs.lemmas.List.Concat.{flat_map-append}
 use Rattle.dist_generate.specs.Draws.{Drawing, next_state, draw, give, ◌>>=◌, many}
-use Rattle.dist_generate.specs.Generator.{Choice, Drawn, item, items, item_text, conflict, depends_lines, conflicts_lines, head_lines, text_of_lines, drawn, stanza_text}
+use Rattle.dist_generate.specs.Generator.{Alternative, Drawn, item, items, item_text, conflict, depends_lines, conflicts_lines, head_lines, text_of_lines, drawn, stanza_text}
 use Rattle.dist_generate.specs.Steps.{Adds}
 use Rattle.dist_generate.proofs.Joins.{joined-first, joined-more}
 use Rattle.dist_generate.proofs.SmallDraws.{length-many}
@@ -43,7 +43,7 @@ many-at each place count start state same was = ap (λ n. many each n start) sam
 
 -- ---- the lines of relations
 
-pub depends-text : (items : List (List Choice)) → 0 < length items →
+pub depends-text : (items : List (List Alternative)) → 0 < length items →
     text_of_lines (depends_lines items) ≡ codes "Depends: " ++ (join_by item_text (codes ", ") items ++ 10 ∷ [])
 depends-text [] some = absurd (omega arith)
 depends-text (item ∷ items) some = append-nil ((codes "Depends: " ++ join_by item_text (codes ", ") (item ∷ items)) ++ 10 ∷ [])
@@ -142,8 +142,8 @@ pub next-stanza : (seed number : ℕ) (text : List ℕ) (state : ℕ) (new : Lis
 next-stanza seed number text state new before was here =
     let last = (drawn number (many drawn number seed).1).0 in
     rw add-one (
-      here
-      ∙ ap (λ s. text ++ stanza_text (drawn number s).0) was
-      ∙ ap (λ (t : List ℕ). t ++ stanza_text last) before
-      ∙ sym (flat_map-append stanza_text (many drawn number seed).0 (last ∷ []) ∙ ap (λ (t : List ℕ). flat_map stanza_text (many drawn number seed).0 ++ t) (append-nil (stanza_text last)))
+    here
+    ∙ ap (λ s. text ++ stanza_text (drawn number s).0) was
+    ∙ ap (λ (t : List ℕ). t ++ stanza_text last) before
+    ∙ sym (flat_map-append stanza_text (many drawn number seed).0 (last ∷ []) ∙ ap (λ (t : List ℕ). flat_map stanza_text (many drawn number seed).0 ++ t) (append-nil (stanza_text last)))
     )

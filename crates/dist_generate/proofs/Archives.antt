@@ -72,7 +72,7 @@ reads-drawn earlier line number (d ∷ all) small numbered are = (
     free = no-clash earlier d small.0.number (subst (λ n. AreEarlier n earlier) (sym numbered.0) are);
   },
   reads-drawn (earlier ++ read_of line d ∷ []) (next_line line d) (number + 1) all small.1 numbered.1
-  (all-push (IsEarlier (number + 1)) earlier (read_of line d) (earlier-later number earlier are) (number, omega arith, ap name_of numbered.0)),
+      (all-push (IsEarlier (number + 1)) earlier (read_of line d) (earlier-later number earlier are) (number, omega arith, ap name_of numbered.0)),
 )
 
 reads-packages : (line : ℕ) (all : List Drawn) → map (λ (read : Read). read.package_) (reads_from line all) ≡ map package_of all

@@ -4,7 +4,7 @@ use Rattle.std.specs.Prelude.{codes, decimal, if◌then◌else◌}
 use Rattle.std.specs.List.{list_all, flat_map, join_by}
 use Rattle.std.proofs.lemmas.List.{append-nil}
 use Rattle.std.proofs.lemmas.Fmt.{length-decimal-le}
-use Rattle.dist_generate.specs.Generator.{Choice, Drawn, bound_text, choice_text, item_text, depends_lines, conflicts_lines, field_lines, stanza_lines, stanza_text, text_of_lines}
+use Rattle.dist_generate.specs.Generator.{Alternative, Drawn, bound_text, alternative_text, item_text, depends_lines, conflicts_lines, field_lines, stanza_lines, stanza_text, text_of_lines}
 use Rattle.dist_generate.proofs.Small.{AreTargets, IsItem, AreItems, IsTarget, IsSmall, small}
 use Rattle.dist_generate.proofs.Digits.{decimal-passes, all-append}
 use Rattle.dist_generate.proofs.SmallDraws.{AreSmall}
@@ -20,17 +20,17 @@ bound-short true y = omega arith
 bound-short false true = omega arith
 bound-short false false = omega arith
 
-choice-short : (c : Choice) → c.target < 10000 → length (choice_text c) ≤ 12
-choice-short c h = omega (arith, length-append (decimal c.target) (bound_text c.bound), decimal-short c.target h, bound-short (c.bound == 2) (c.bound == 3))
+alternative-short : (c : Alternative) → c.target < 10000 → length (alternative_text c) ≤ 12
+alternative-short c h = omega (arith, length-append (decimal c.target) (bound_text c.bound), decimal-short c.target h, bound-short (c.bound == 2) (c.bound == 3))
 
-item-short : (item : List Choice) → IsItem item → length (item_text item) ≤ 27
+item-short : (item : List Alternative) → IsItem item → length (item_text item) ≤ 27
 item-short [] is = omega arith
-item-short (c ∷ []) is = omega (arith, ap length (append-nil (choice_text c)), choice-short c is.2.0)
+item-short (c ∷ []) is = omega (arith, ap length (append-nil (alternative_text c)), alternative-short c is.2.0)
 item-short (c ∷ d ∷ []) is =
-    omega (arith, length-append (choice_text c) (32 ∷ 124 ∷ 32 ∷ item_text (d ∷ [])), ap length (append-nil (choice_text d)), choice-short c is.2.0, choice-short d is.2.1.0)
+    omega (arith, length-append (alternative_text c) (32 ∷ 124 ∷ 32 ∷ item_text (d ∷ [])), ap length (append-nil (alternative_text d)), alternative-short c is.2.0, alternative-short d is.2.1.0)
 item-short (c ∷ d ∷ e ∷ more) is = absurd (omega (arith, is.1))
 
-items-short : (items : List (List Choice)) → length items ≤ 2 → AreItems items → length (join_by item_text (codes ", ") items) ≤ 56
+items-short : (items : List (List Alternative)) → length items ≤ 2 → AreItems items → length (join_by item_text (codes ", ") items) ≤ 56
 items-short [] few is = omega arith
 items-short (item ∷ []) few is = omega (arith, ap length (append-nil (item_text item)), item-short item is.0)
 items-short (item ∷ next ∷ []) few is =
@@ -40,7 +40,7 @@ items-short (item ∷ next ∷ third ∷ more) few is = absurd (omega arith)
 length-line : (line : List ℕ) (ls : List (List ℕ)) → length (text_of_lines (line ∷ ls)) ≡ length line + 1 + length (text_of_lines ls)
 length-line line ls = length-append (line ++ 10 ∷ []) (text_of_lines ls) ∙ ap (λ n. n + length (text_of_lines ls)) (length-append line (10 ∷ []))
 
-relations-short : (items : List (List Choice)) (conflict : Option ℕ) → length items ≤ 2 → AreItems items → IsTarget conflict →
+relations-short : (items : List (List Alternative)) (conflict : Option ℕ) → length items ≤ 2 → AreItems items → IsTarget conflict →
     length (text_of_lines ((depends_lines items ++ conflicts_lines conflict) ++ [] ∷ [])) ≤ 100
 relations-short [] None few is target = omega arith
 relations-short [] (Some other) few is target =
@@ -88,21 +88,21 @@ inner-bound true y = refl
 inner-bound false true = refl
 inner-bound false false = refl
 
-inner-choice : (c : Choice) → c.target < 10000 → list_all is_inner (choice_text c) ≡ true
-inner-choice c h = all-append is_inner (decimal c.target) (bound_text c.bound) (inner-number c.target h) (inner-bound (c.bound == 2) (c.bound == 3))
+inner-alternative : (c : Alternative) → c.target < 10000 → list_all is_inner (alternative_text c) ≡ true
+inner-alternative c h = all-append is_inner (decimal c.target) (bound_text c.bound) (inner-number c.target h) (inner-bound (c.bound == 2) (c.bound == 3))
 
-inner-item : (item : List Choice) → AreTargets item → list_all is_inner (item_text item) ≡ true
+inner-item : (item : List Alternative) → AreTargets item → list_all is_inner (item_text item) ≡ true
 inner-item [] are = refl
-inner-item (c ∷ []) are = all-append is_inner (choice_text c) [] (inner-choice c are.0) refl
-inner-item (c ∷ d ∷ cs) are = all-append is_inner (choice_text c) (32 ∷ 124 ∷ 32 ∷ item_text (d ∷ cs)) (inner-choice c are.0) (inner-item (d ∷ cs) are.1)
+inner-item (c ∷ []) are = all-append is_inner (alternative_text c) [] (inner-alternative c are.0) refl
+inner-item (c ∷ d ∷ cs) are = all-append is_inner (alternative_text c) (32 ∷ 124 ∷ 32 ∷ item_text (d ∷ cs)) (inner-alternative c are.0) (inner-item (d ∷ cs) are.1)
 
-inner-items : (items : List (List Choice)) → AreItems items → list_all is_inner (join_by item_text (codes ", ") items) ≡ true
+inner-items : (items : List (List Alternative)) → AreItems items → list_all is_inner (join_by item_text (codes ", ") items) ≡ true
 inner-items [] are = refl
 inner-items (item ∷ []) are = all-append is_inner (item_text item) [] (inner-item item are.0.2) refl
 inner-items (item ∷ next ∷ items) are =
     all-append is_inner (item_text item) (44 ∷ 32 ∷ join_by item_text (codes ", ") (next ∷ items)) (inner-item item are.0.2) (inner-items (next ∷ items) are.1)
 
-depends-inner : (items : List (List Choice)) → AreItems items → AreLines (depends_lines items)
+depends-inner : (items : List (List Alternative)) → AreItems items → AreLines (depends_lines items)
 depends-inner [] are = tt
 depends-inner (item ∷ items) are = (inner-items (item ∷ items) are, tt)
 
@@ -114,10 +114,16 @@ stanza-inner : (d : Drawn) → IsSmall d → AreLines (stanza_lines d)
 stanza-inner d is =
     lines-append (field_lines d) ([] ∷ []) (
       inner-number d.number is.number,
-      (inner-number d.digit (omega (arith, is.digit)),
-      (refl,
-      (inner-number (d.number / 2) (omega (arith, is.number)),
-      lines-append (depends_lines d.items) (conflicts_lines d.conflict) (depends-inner d.items is.items) (conflicts-inner d.conflict is.conflict))))
+      (
+        inner-number d.digit (omega (arith, is.digit)),
+        (
+          refl,
+          (
+            inner-number (d.number / 2) (omega (arith, is.number)),
+            lines-append (depends_lines d.items) (conflicts_lines d.conflict) (depends-inner d.items is.items) (conflicts-inner d.conflict is.conflict),
+          ),
+        ),
+      ),
     ) (refl, tt)
 
 pub all-inner : (all : List Drawn) → AreSmall all → AreLines (flat_map stanza_lines all)

@@ -11,7 +11,7 @@ use Rattle.dist_package.specs.Named.{IsFieldOf, value_of, name_of as field_name}
 use Rattle.dist_package.specs.PackageOf.{IsPackageOf, ReadsName, ReadsVersionField, ReadsSource, ReadsArchitecture, ReadsRelations, all}
 use Rattle.dist_package.specs.declared.error.RelationField.TheVariants.{Depends, Conflicts}
 use Rattle.dist_relation.specs.Grammar.{ReadsDepends, ReadsAtoms}
-use Rattle.dist_generate.specs.Generator.{Choice, Drawn, bound_text, choice_text, item_text, depends_lines, conflicts_lines, head_lines, field_lines}
+use Rattle.dist_generate.specs.Generator.{Alternative, Drawn, bound_text, alternative_text, item_text, depends_lines, conflicts_lines, head_lines, field_lines}
 use Rattle.dist_generate.specs.Packages.{name_of, atom_of, conflicts_of, version_of, package_of}
 use Rattle.dist_generate.proofs.Small.{AreTargets, IsItem, AreItems, IsTarget, IsSmall, small}
 use Rattle.dist_generate.proofs.RawStanzas.{raw_of, sound-drawn}
@@ -25,18 +25,18 @@ ends-bound digits e true y = ends-append digits (codes " (>= 1)") (record { fron
 ends-bound digits e false true = ends-append digits (codes " (<< 2)") (record { front = codes " (<< 2"; last = 41; whole = refl; dark = refl })
 ends-bound digits e false false = subst Ends (sym (append-nil digits)) e
 
-ends-choice : (c : Choice) → c.target < 10000 → Ends (choice_text c)
-ends-choice c h = ends-append (codes "g") (decimal c.target ++ bound_text c.bound) (ends-bound (decimal c.target) (ends-decimal c.target (small c.target h)) (c.bound == 2) (c.bound == 3))
+ends-alternative : (c : Alternative) → c.target < 10000 → Ends (alternative_text c)
+ends-alternative c h = ends-append (codes "g") (decimal c.target ++ bound_text c.bound) (ends-bound (decimal c.target) (ends-decimal c.target (small c.target h)) (c.bound == 2) (c.bound == 3))
 
-ends-item : (c : Choice) (cs : List Choice) → AreTargets (c ∷ cs) → Ends (item_text (c ∷ cs))
-ends-item c [] h = subst Ends (sym (append-nil (choice_text c))) (ends-choice c h.0)
-ends-item c (d ∷ cs) h = ends-append (choice_text c) (32 ∷ 124 ∷ 32 ∷ item_text (d ∷ cs)) (ends-append (codes " | ") (item_text (d ∷ cs)) (ends-item d cs h.1))
+ends-item : (c : Alternative) (cs : List Alternative) → AreTargets (c ∷ cs) → Ends (item_text (c ∷ cs))
+ends-item c [] h = subst Ends (sym (append-nil (alternative_text c))) (ends-alternative c h.0)
+ends-item c (d ∷ cs) h = ends-append (alternative_text c) (32 ∷ 124 ∷ 32 ∷ item_text (d ∷ cs)) (ends-append (codes " | ") (item_text (d ∷ cs)) (ends-item d cs h.1))
 
-ends-spelled : (item : List Choice) → IsItem item → Ends (item_text item)
+ends-spelled : (item : List Alternative) → IsItem item → Ends (item_text item)
 ends-spelled [] is = absurd (omega (arith, is.0))
 ends-spelled (c ∷ cs) is = ends-item c cs is.2
 
-ends-items : (item : List Choice) (items : List (List Choice)) → AreItems (item ∷ items) → Ends (join_by item_text (codes ", ") (item ∷ items))
+ends-items : (item : List Alternative) (items : List (List Alternative)) → AreItems (item ∷ items) → Ends (join_by item_text (codes ", ") (item ∷ items))
 ends-items item [] h = subst Ends (sym (append-nil (item_text item))) (ends-spelled item h.0)
 ends-items item (next ∷ items) h =
     ends-append (item_text item) (44 ∷ 32 ∷ join_by item_text (codes ", ") (next ∷ items)) (ends-append (codes ", ") (join_by item_text (codes ", ") (next ∷ items)) (ends-items next items h.1))
@@ -45,7 +45,7 @@ ends-items item (next ∷ items) h =
 trimmed-number : (first n : ℕ) → is_white first ≡ false → n < 10000 → trim (first ∷ decimal n) ≡ first ∷ decimal n
 trimmed-number first n dark h = trimmed first (decimal n) dark (ends-append (first ∷ []) (decimal n) (ends-decimal n (small n h)))
 
-trimmed-items : (item : List Choice) (items : List (List Choice)) → AreItems (item ∷ items) →
+trimmed-items : (item : List Alternative) (items : List (List Alternative)) → AreItems (item ∷ items) →
     trim (join_by item_text (codes ", ") (item ∷ items)) ≡ join_by item_text (codes ", ") (item ∷ items)
 trimmed-items [] items h = absurd (omega (arith, h.0.0))
 trimmed-items (c ∷ cs) items h = trimmed 103 _ refl (ends-items (c ∷ cs) items h)
@@ -63,7 +63,7 @@ unfolding stanza_of
 reading-drawn number d = record { sound = sound-drawn number d; line = refl; fields = refl }
 
 -- no line of relations continues a field
-not-continued : (items : List (List Choice)) (conflict : Option ℕ) → continuations (depends_lines items ++ conflicts_lines conflict) ≡ []
+not-continued : (items : List (List Alternative)) (conflict : Option ℕ) → continuations (depends_lines items ++ conflicts_lines conflict) ≡ []
 not-continued [] None = refl
 not-continued [] (Some other) = refl
 not-continued (item ∷ items) conflict = refl
@@ -111,7 +111,7 @@ module _ (number : ℕ) (d : Drawn) (is : IsSmall d) where
     agrees = inl refl;
   }
 
-value-depends : (number : ℕ) (d : Drawn) (items : List (List Choice)) → AreItems items → (conflict : Option ℕ) →
+value-depends : (number : ℕ) (d : Drawn) (items : List (List Alternative)) → AreItems items → (conflict : Option ℕ) →
     ReadsDepends (value_of (stanza_of number (record d { items = items; conflict = conflict })) (field_name Depends)) (map (map atom_of) items)
 unfolding stanza_of
 value-depends number d [] h None = depends-none
@@ -121,7 +121,7 @@ value-depends number d (item ∷ items) h None =
 value-depends number d (item ∷ items) h (Some other) =
     subst (λ (t : List ℕ). ReadsDepends t (map (map atom_of) (item ∷ items))) (sym (trimmed-items item items h)) (reads-depends item items h)
 
-value-conflicts : (number : ℕ) (d : Drawn) (items : List (List Choice)) (conflict : Option ℕ) → IsTarget conflict →
+value-conflicts : (number : ℕ) (d : Drawn) (items : List (List Alternative)) (conflict : Option ℕ) → IsTarget conflict →
     ReadsAtoms (value_of (stanza_of number (record d { items = items; conflict = conflict })) (field_name Conflicts)) (conflicts_of conflict)
 unfolding stanza_of
 value-conflicts number d [] None h = atoms-none
@@ -138,7 +138,7 @@ record LacksOthers (stanza : Stanza) : Type 0 where
   provides : value_of stanza (codes "Provides") ≡ []
   essential : value_of stanza (codes "Essential") ≡ []
 
-lacks-others : (number : ℕ) (d : Drawn) (items : List (List Choice)) (conflict : Option ℕ) → LacksOthers (stanza_of number (record d { items = items; conflict = conflict }))
+lacks-others : (number : ℕ) (d : Drawn) (items : List (List Alternative)) (conflict : Option ℕ) → LacksOthers (stanza_of number (record d { items = items; conflict = conflict }))
 unfolding stanza_of
 lacks-others number d [] None = record { pre_depends = refl; breaks = refl; provides = refl; essential = refl }
 lacks-others number d [] (Some other) = record { pre_depends = refl; breaks = refl; provides = refl; essential = refl }

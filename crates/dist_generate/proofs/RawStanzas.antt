@@ -5,7 +5,7 @@ use Rattle.std.proofs.lemmas.Bool.{cond-true, cond-false}
 use Rattle.dist_control.specs.Bytes.{is_blank}
 use Rattle.dist_control.specs.Faults.{IsSound, fault_at}
 use Rattle.dist_control.specs.RawStanza.{RawStanza, run, raw_stanzas_from}
-use Rattle.dist_generate.specs.Generator.{Choice, Drawn, depends_lines, conflicts_lines, field_lines, stanza_lines}
+use Rattle.dist_generate.specs.Generator.{Alternative, Drawn, depends_lines, conflicts_lines, field_lines, stanza_lines}
 
 -- ---- the longest runs of lines that are not blank
 
@@ -53,7 +53,7 @@ abbrev pub raws_from : ℕ → List Drawn → List RawStanza
 raws_from number [] = []
 raws_from number (d ∷ all) = raw_of number d ∷ raws_from (next_line number d) all
 
-full-relations : (items : List (List Choice)) (conflict : Option ℕ) → AreFull (depends_lines items ++ conflicts_lines conflict)
+full-relations : (items : List (List Alternative)) (conflict : Option ℕ) → AreFull (depends_lines items ++ conflicts_lines conflict)
 unfolding AreFull
 full-relations [] None = tt
 full-relations [] (Some other) = (refl, tt)
@@ -70,7 +70,7 @@ raw-drawn number (d ∷ all) =
 
 -- ---- no line has a fault
 
-sound-from : (number : ℕ) (d : Drawn) (items : List (List Choice)) (conflict : Option ℕ) → IsSound (raw_of number (record d { items = items; conflict = conflict }))
+sound-from : (number : ℕ) (d : Drawn) (items : List (List Alternative)) (conflict : Option ℕ) → IsSound (raw_of number (record d { items = items; conflict = conflict }))
 sound-from number d [] None zero h = refl
 sound-from number d [] None (suc zero) h = refl
 sound-from number d [] None (suc (suc zero)) h = refl

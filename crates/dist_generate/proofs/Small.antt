@@ -1,15 +1,15 @@
 -- Drawn packages whose numbers are small, with few items of few alternatives.
 use Rattle.std.proofs.Common.{ℕ, ◌<◌, ◌≤◌, ◌^◌, List, [], ◌∷◌, length, Option, Some, None, arith}
 use Rattle.std.specs.List.{AllByRecursion}
-use Rattle.dist_generate.specs.Generator.{Choice, Drawn}
+use Rattle.dist_generate.specs.Generator.{Alternative, Drawn}
 
-abbrev pub AreTargets : List Choice → Type 0
+abbrev pub AreTargets : List Alternative → Type 0
 AreTargets item = AllByRecursion (λ c. c.target < 10000) item
 
-abbrev pub IsItem : List Choice → Type 0
+abbrev pub IsItem : List Alternative → Type 0
 IsItem item = (0 < length item) × (length item ≤ 2) × AreTargets item
 
-abbrev pub AreItems : List (List Choice) → Type 0
+abbrev pub AreItems : List (List Alternative) → Type 0
 AreItems items = AllByRecursion IsItem items
 
 abbrev pub IsTarget : Option ℕ → Type 0

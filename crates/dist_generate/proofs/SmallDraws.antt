@@ -4,7 +4,7 @@ use Rattle.std.specs.Prelude.{if◌then◌else◌}
 use Rattle.std.specs.List.{AllByRecursion}
 use Rattle.std.proofs.lemmas.Bool.{cases_Bool, eqb-false}
 use Rattle.dist_generate.specs.Draws.{Drawing, next_state, draw, give, ◌>>=◌, many}
-use Rattle.dist_generate.specs.Generator.{Choice, Drawn, choice, item, items, conflict, drawn, generated_packages}
+use Rattle.dist_generate.specs.Generator.{Alternative, Drawn, alternative, item, items, conflict, drawn, generated_packages}
 use Rattle.dist_generate.proofs.Small.{AreTargets, IsItem, AreItems, IsTarget, IsSmall}
 
 -- ---- many draws
@@ -27,13 +27,13 @@ all-many P each holds (suc count) state =
 -- ---- one package
 
 module _ (number : ℕ) (some : 0 < number) (few : number < 10000) where
-  choice-small : (k state : ℕ) → (choice number state).0.target < 10000
-  choice-small k state = omega arith
+  alternative-small : (k state : ℕ) → (alternative number state).0.target < 10000
+  alternative-small k state = omega arith
 
   item-small : (k state : ℕ) → IsItem (item number state).0
   item-small k state =
-      let long = length-many (λ _. choice number) (suc (next_state state / 65536 % 2)) (next_state state) in
-      (omega (arith, long), omega (arith, long), all-many (λ (c : Choice). c.target < 10000) (λ _. choice number) choice-small (suc (next_state state / 65536 % 2)) (next_state state))
+      let long = length-many (λ _. alternative number) (suc (next_state state / 65536 % 2)) (next_state state) in
+      (omega (arith, long), omega (arith, long), all-many (λ (c : Alternative). c.target < 10000) (λ _. alternative number) alternative-small (suc (next_state state / 65536 % 2)) (next_state state))
 
   items-few : (state : ℕ) → length (items number state).0 ≤ 2
   items-few state = omega (arith, length-many (λ _. item number) (next_state state / 65536 % 3) (next_state state))

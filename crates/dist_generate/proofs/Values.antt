@@ -13,7 +13,7 @@ use Rattle.dist_relation.specs.declared.atom.Op.TheVariants.{Lt, Ge}
 use Rattle.dist_relation.specs.declared.atom.Qualifier.TheVariants.{Plain}
 use Rattle.dist_control.specs.Fields.{trim}
 use Rattle.dist_package.specs.Source.{SpellsSource, ends_name, name_part}
-use Rattle.dist_generate.specs.Generator.{Choice, Drawn, bound_text, choice_text, item_text}
+use Rattle.dist_generate.specs.Generator.{Alternative, Drawn, bound_text, alternative_text, item_text}
 use Rattle.dist_generate.specs.Packages.{name_of, bound_of, atom_of, conflicts_of, version_of}
 use Rattle.dist_generate.proofs.Digits.{decimal-passes, all-append}
 use Rattle.dist_generate.proofs.Small.{AreTargets, IsItem, AreItems, IsTarget, small}
@@ -80,10 +80,10 @@ module _ (lead trail : List ℕ) (n : ℕ) (blank_lead : IsBlank lead) (blank_tr
   around : (text : List ℕ) → lead ++ ((codes "g" ++ (decimal n ++ text)) ++ trail) ≡ lead ++ (103 ∷ (decimal n ++ (text ++ trail)))
   around text = ap (λ (t : List ℕ). lead ++ (103 ∷ t)) (append_assoc (decimal n) text trail)
 
-  choice-case : (x y : Bool) →
+  alternative-case : (x y : Bool) →
       SpellsOne (lead ++ ((codes "g" ++ (decimal n ++ (if x then codes " (>= 1)" else if y then codes " (<< 2)" else []))) ++ trail))
       (record { name = name_of n; qualifier = Plain; bound = if x then Some (record { op = Ge; version = codes "1" }) else if y then Some (record { op = Lt; version = codes "2" }) else None })
-  choice-case true y = record {
+  alternative-case true y = record {
     before = lead;
     between = codes " ";
     bound = codes "(>= 1)";
@@ -108,7 +108,7 @@ module _ (lead trail : List ℕ) (n : ℕ) (blank_lead : IsBlank lead) (blank_tr
       is_version = plain-version (codes "1") (omega arith, refl) refl refl;
     };
   }
-  choice-case false true = record {
+  alternative-case false true = record {
     before = lead;
     between = codes " ";
     bound = codes "(<< 2)";
@@ -133,7 +133,7 @@ module _ (lead trail : List ℕ) (n : ℕ) (blank_lead : IsBlank lead) (blank_tr
       is_version = plain-version (codes "2") (omega arith, refl) refl refl;
     };
   }
-  choice-case false false = record {
+  alternative-case false false = record {
     before = lead;
     between = [];
     bound = [];
@@ -147,35 +147,35 @@ module _ (lead trail : List ℕ) (n : ℕ) (blank_lead : IsBlank lead) (blank_tr
     is_bound = refl;
   }
 
-spells-choice : (lead trail : List ℕ) (c : Choice) → IsBlank lead → IsBlank trail → c.target < 10000 → SpellsOne (lead ++ (choice_text c ++ trail)) (atom_of c)
-spells-choice lead trail c blank_lead blank_trail h = choice-case lead trail c.target blank_lead blank_trail h (c.bound == 2) (c.bound == 3)
+spells-alternative : (lead trail : List ℕ) (c : Alternative) → IsBlank lead → IsBlank trail → c.target < 10000 → SpellsOne (lead ++ (alternative_text c ++ trail)) (atom_of c)
+spells-alternative lead trail c blank_lead blank_trail h = alternative-case lead trail c.target blank_lead blank_trail h (c.bound == 2) (c.bound == 3)
 
-spells-item : (lead : List ℕ) (c : Choice) (cs : List Choice) → IsBlank lead → AreTargets (c ∷ cs) →
+spells-item : (lead : List ℕ) (c : Alternative) (cs : List Alternative) → IsBlank lead → AreTargets (c ∷ cs) →
     SpellsAlternatives (lead ++ item_text (c ∷ cs)) (map atom_of (c ∷ cs))
-spells-item lead c [] blank h = spells-choice lead [] c blank refl h.0
+spells-item lead c [] blank h = spells-alternative lead [] c blank refl h.0
 spells-item lead c (d ∷ cs) blank h =
     let rest = item_text (d ∷ cs) in
-    let whole : lead ++ (choice_text c ++ (32 ∷ 124 ∷ 32 ∷ rest)) ≡ (lead ++ (choice_text c ++ codes " ")) ++ (bar ∷ (32 ∷ rest)) =
-    ap (λ (t : List ℕ). lead ++ t) (sym (append_assoc (choice_text c) (codes " ") (124 ∷ 32 ∷ rest)))
-    ∙ sym (append_assoc lead (choice_text c ++ codes " ") (124 ∷ 32 ∷ rest)) in
-    (lead ++ (choice_text c ++ codes " "), 32 ∷ rest, spells-choice lead (codes " ") c blank refl h.0, spells-item (codes " ") d cs refl h.1, whole)
+    let whole : lead ++ (alternative_text c ++ (32 ∷ 124 ∷ 32 ∷ rest)) ≡ (lead ++ (alternative_text c ++ codes " ")) ++ (bar ∷ (32 ∷ rest)) =
+    ap (λ (t : List ℕ). lead ++ t) (sym (append_assoc (alternative_text c) (codes " ") (124 ∷ 32 ∷ rest)))
+    ∙ sym (append_assoc lead (alternative_text c ++ codes " ") (124 ∷ 32 ∷ rest)) in
+    (lead ++ (alternative_text c ++ codes " "), 32 ∷ rest, spells-alternative lead (codes " ") c blank refl h.0, spells-item (codes " ") d cs refl h.1, whole)
 
 -- ---- the values of Depends and Conflicts
 
-item-spelled : (lead : List ℕ) (item : List Choice) → IsBlank lead → IsItem item → SpellsAlternatives (lead ++ item_text item) (map atom_of item)
+item-spelled : (lead : List ℕ) (item : List Alternative) → IsBlank lead → IsItem item → SpellsAlternatives (lead ++ item_text item) (map atom_of item)
 item-spelled lead [] blank is = absurd (omega (arith, is.0))
 item-spelled lead (c ∷ cs) blank is = spells-item lead c cs blank is.2
 
-pieces_of : List (List Choice) → List (Option (List Atom))
+pieces_of : List (List Alternative) → List (Option (List Atom))
 pieces_of [] = []
 pieces_of (item ∷ items) = Some (map atom_of item) ∷ pieces_of items
 
-given : (items : List (List Choice)) → map (map atom_of) items ≡ filter_map (λ (piece : Option (List Atom)). piece) (pieces_of items)
+given : (items : List (List Alternative)) → map (map atom_of) items ≡ filter_map (λ (piece : Option (List Atom)). piece) (pieces_of items)
 unfolding pieces_of
 given [] = refl
 given (item ∷ items) = ap (λ t. map atom_of item ∷ t) (given items)
 
-spells-items : (lead : List ℕ) (item : List Choice) (items : List (List Choice)) → IsBlank lead → AreItems (item ∷ items) →
+spells-items : (lead : List ℕ) (item : List Alternative) (items : List (List Alternative)) → IsBlank lead → AreItems (item ∷ items) →
     Joined comma (SpellsPiece SpellsAlternatives) (lead ++ join_by item_text (codes ", ") (item ∷ items)) (pieces_of (item ∷ items))
 unfolding pieces_of
 spells-items lead item [] blank h =
@@ -184,7 +184,7 @@ spells-items lead item (next ∷ items) blank h =
     let rest = join_by item_text (codes ", ") (next ∷ items) in
     (lead ++ item_text item, 32 ∷ rest, item-spelled lead item blank h.0, spells-items (codes " ") next items refl h.1, sym (append_assoc lead (item_text item) (44 ∷ 32 ∷ rest)))
 
-pub reads-depends : (item : List Choice) (items : List (List Choice)) → AreItems (item ∷ items) →
+pub reads-depends : (item : List Alternative) (items : List (List Alternative)) → AreItems (item ∷ items) →
     ReadsDepends (join_by item_text (codes ", ") (item ∷ items)) (map (map atom_of) (item ∷ items))
 reads-depends item items h = record { pieces = pieces_of (item ∷ items); joined = spells-items [] item items refl h; given = given (item ∷ items) }
 

@@ -6,7 +6,7 @@ use Rattle.dist_generate.specs.Draws.{Drawing, draw, give, ◌>>=◌, many}
 -- ---- what is drawn
 
 -- an alternative: a package by its number, and which bound it has
-pub record Choice : Type 0 where
+pub record Alternative : Type 0 where
   pub target : ℕ
   pub bound : ℕ
 
@@ -14,24 +14,24 @@ pub record Choice : Type 0 where
 pub record Drawn : Type 0 where
   pub number : ℕ
   pub digit : ℕ
-  pub items : List (List Choice)
+  pub items : List (List Alternative)
   pub conflict : Option ℕ
 
 -- one of the packages before this one, and one of four bounds
-abbrev pub choice : ℕ → Drawing Choice
-choice number = do
+abbrev pub alternative : ℕ → Drawing Alternative
+alternative number = do
   target ← draw number
   bound ← draw 4
   give (record { target = target; bound = bound })
 
 -- one alternative or two
-abbrev pub item : ℕ → Drawing (List Choice)
+abbrev pub item : ℕ → Drawing (List Alternative)
 item number = do
   more ← draw 2
-  many (λ _. choice number) (suc more)
+  many (λ _. alternative number) (suc more)
 
 -- none to two items
-abbrev pub items : ℕ → Drawing (List (List Choice))
+abbrev pub items : ℕ → Drawing (List (List Alternative))
 items number = do
   count ← draw 3
   many (λ _. item number) count
@@ -55,14 +55,14 @@ drawn number = do
 abbrev pub bound_text : ℕ → List ℕ
 bound_text bound = if bound == 2 then codes " (>= 1)" else if bound == 3 then codes " (<< 2)" else []
 
-abbrev pub choice_text : Choice → List ℕ
-choice_text choice = codes "g" ++ (decimal choice.target ++ bound_text choice.bound)
+abbrev pub alternative_text : Alternative → List ℕ
+alternative_text alternative = codes "g" ++ (decimal alternative.target ++ bound_text alternative.bound)
 
-abbrev pub item_text : List Choice → List ℕ
-item_text item = join_by choice_text (codes " | ") item
+abbrev pub item_text : List Alternative → List ℕ
+item_text item = join_by alternative_text (codes " | ") item
 
 -- the line of the items, where there is one
-abbrev pub depends_lines : List (List Choice) → List (List ℕ)
+abbrev pub depends_lines : List (List Alternative) → List (List ℕ)
 depends_lines [] = []
 depends_lines (item ∷ items) = (codes "Depends: " ++ join_by item_text (codes ", ") (item ∷ items)) ∷ []
 

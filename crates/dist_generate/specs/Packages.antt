@@ -5,7 +5,7 @@ use Rattle.dist_relation.specs.declared.atom.Bound.{Bound}
 use Rattle.dist_relation.specs.declared.atom.Op.TheVariants.{Lt, Ge}
 use Rattle.dist_relation.specs.declared.atom.Qualifier.TheVariants.{Plain}
 use Rattle.dist_repo.specs.declared.package.Package.{Package}
-use Rattle.dist_generate.specs.Generator.{Choice, Drawn}
+use Rattle.dist_generate.specs.Generator.{Alternative, Drawn}
 
 abbrev pub name_of : ℕ → List ℕ
 name_of number = codes "g" ++ decimal number
@@ -17,8 +17,8 @@ bound_of bound =
     else if bound == 3 then Some (record { op = Lt; version = codes "2" })
     else None
 
-abbrev pub atom_of : Choice → Atom
-atom_of choice = record { name = name_of choice.target; qualifier = Plain; bound = bound_of choice.bound }
+abbrev pub atom_of : Alternative → Atom
+atom_of alternative = record { name = name_of alternative.target; qualifier = Plain; bound = bound_of alternative.bound }
 
 abbrev pub conflicts_of : Option ℕ → List Atom
 conflicts_of None = []

@@ -2,7 +2,7 @@
 ghost use Rattle.std.specs.Prelude.{◌≡◌, ◌++◌, ◌∷◌, [], ◌<◌, ◌≤◌, codes, decimal, IfOk, None, OnOk};
 ghost use Rattle.std.specs.List.{join_by};
 ghost use Rattle.dist_generate.specs.Draws.{many};
-ghost use Rattle.dist_generate.specs.Generator.{choice, item, items, conflict, drawn, bound_text, choice_text, item_text, depends_lines, conflicts_lines, head_lines, stanza_text, text_of_lines, generated};
+ghost use Rattle.dist_generate.specs.Generator.{alternative, item, items, conflict, drawn, bound_text, alternative_text, item_text, depends_lines, conflicts_lines, head_lines, stanza_text, text_of_lines, generated};
 ghost use Rattle.dist_generate.specs.Steps.{Adds};
 
 use crate::draws::Draws;
@@ -52,9 +52,9 @@ fn bound_bytes(bound: u32) -> &'static [u8]
 }
 
 /// Draws an alternative of the package of a number, and adds it.
-fn add_choice(text: &mut Vec<u8>, draws: &mut Draws, number: u32) -> Result<(), AllocError>
+fn add_alternative(text: &mut Vec<u8>, draws: &mut Draws, number: u32) -> Result<(), AllocError>
     requires { 0 < number }
-    ensures { OnOk result (Adds (choice number) choice_text text.old.items draws.old.state text.new.items draws.new.state) }
+    ensures { OnOk result (Adds (alternative number) alternative_text text.old.items draws.old.state text.new.items draws.new.state) }
 {
     let target = draws.draw(number);
     let bound = draws.draw(4);
@@ -68,18 +68,23 @@ fn add_item(text: &mut Vec<u8>, draws: &mut Draws, number: u32) -> Result<(), Al
     requires { 0 < number }
     ensures { OnOk result (Adds (item number) item_text text.old.items draws.old.state text.new.items draws.new.state) }
 {
-    let choices = 1 + draws.draw(2);
-    for place in 0..choices {
+    let alternatives = 1 + draws.draw(2);
+    for place in 0..alternatives {
         if place > 0 {
             text.extend_from_slice(b" | ")?;
         }
-        add_choice(text, draws, number)?;
+        add_alternative(text, draws, number)?;
     }
     Ok(())
 }
 
 /// Draws so many items, and adds them.
-fn add_items(text: &mut Vec<u8>, draws: &mut Draws, number: u32, count: u32) -> Result<(), AllocError>
+fn add_items(
+    text: &mut Vec<u8>,
+    draws: &mut Draws,
+    number: u32,
+    count: u32,
+) -> Result<(), AllocError>
     requires { 0 < number }
     ensures { OnOk result (Adds (many (λ _. item number) count) (join_by item_text (codes ", ")) text.old.items draws.old.state text.new.items draws.new.state) }
 {
