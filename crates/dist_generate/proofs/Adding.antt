@@ -1,6 +1,6 @@
 -- What was drawn and stands there, step by step.
-use Rattle.std.proofs.Common.{◌≡◌, ◌≢◌, ℕ, zero, suc, ◌+◌, ◌/◌, ◌%◌, ◌<◌, ◌≤◌, Bool, true, false, ◌==◌, List, [], ◌∷◌, ◌++◌, append_assoc, append-nil, add-one, length, Option, Some, None, refl, ap, sym, ◌∙◌, arith, ne_eqb, eq-eqb}
-use Rattle.std.specs.Prelude.{codes, decimal, if◌then◌else◌}
+use Rattle.std.proofs.Common.{◌≡◌, ◌≢◌, ℕ, ◌+◌, ◌<◌, ◌≤◌, Bool, true, false, ◌==◌, List, [], ◌∷◌, ◌++◌, append_assoc, append-nil, add-one, length, Some, None, ap, sym, ◌∙◌, arith, ne_eqb, eq-eqb}
+use Rattle.std.specs.Prelude.{codes, if◌then◌else◌}
 use Rattle.std.specs.List.{flat_map, join_by}
 use Rattle.std.proofs.lemmas.List.Concat.{flat_map-append}
 use Rattle.dist_generate.specs.Draws.{Drawing, next_state, draw, give, ◌>>=◌, many}

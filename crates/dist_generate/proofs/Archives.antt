@@ -1,27 +1,27 @@
 -- A generated text has a repository.
-use Rattle.std.proofs.Common.{◌≡◌, ◌≢◌, ℕ, zero, suc, ◌+◌, ◌*◌, ◌<◌, ◌≤◌, true, List, [], ◌∷◌, ◌++◌, length, get_or, map, Option, refl, ap, sym, subst, ◌∙◌, arith, length-append}
-use Rattle.std.specs.Prelude.{All, Any, Contains, IsPermutation}
+use Rattle.std.proofs.Common.{◌≡◌, ℕ, suc, ◌+◌, ◌*◌, ◌<◌, ◌≤◌, true, List, [], ◌∷◌, ◌++◌, length, get_or, map, refl, ap, sym, subst, ◌∙◌, arith}
+use Rattle.std.specs.Prelude.{All, Any, Contains}
 use Rattle.std.specs.List.{AllByRecursion, flat_map}
 use Rattle.std.proofs.lemmas.List.{length-map, get_or-map}
 use Rattle.std.proofs.lemmas.List.Elements.{All-cons, All-nil, All-weaker, All-from_recursion}
 use Rattle.std.proofs.lemmas.List.Sorted.{All-permutation, Contains-permutation, length_permutation}
 use Rattle.std.proofs.lemmas.Fmt.{decimal_injective}
 use Rattle.dist_control.specs.RawStanza.{raw_stanzas, raw_stanzas_from}
-use Rattle.dist_package.specs.FirstFault.{Read, IsClash, ReadsAs, AreReadAfter, architecture_of}
+use Rattle.dist_package.specs.FirstFault.{Read, IsClash, AreReadAfter, architecture_of}
 use Rattle.dist_package.specs.PackageOf.{all as all_name}
 use Rattle.dist_package.specs.RepositoryOf.{IsRepositoryOf}
 use Rattle.dist_repo.specs.PackageList.{PackageList}
 use Rattle.dist_repo.specs.Size.{relation_count}
 use Rattle.dist_repo.specs.declared.package.Package.{Package}
 use Rattle.dist_generate.specs.Archive.{IsArchive}
-use Rattle.dist_generate.specs.Generator.{Drawn, drawn, generated, generated_packages, stanza_lines, stanza_text}
+use Rattle.dist_generate.specs.Generator.{Drawn, drawn, generated, generated_packages, stanza_lines}
 use Rattle.dist_generate.specs.Packages.{name_of, package_of}
 use Rattle.dist_generate.proofs.Bytes.{all-inner, text-short}
 use Rattle.dist_generate.proofs.SmallDraws.{all-push, length-many, AreSmall, AreNumbered, packages-small, packages-numbered}
 use Rattle.dist_generate.proofs.Fields.{stanza_of, reading-drawn, package-drawn}
-use Rattle.dist_generate.proofs.Small.{IsSmall, small}
+use Rattle.dist_generate.proofs.Small.{small}
 use Rattle.dist_generate.proofs.Sorting.{IsApart, AreApart, apart-by_name, sorted, sorted-permutes, sorted-in_order}
-use Rattle.dist_generate.proofs.RawStanzas.{raw_of, next_line, raws_from, raw-drawn}
+use Rattle.dist_generate.proofs.RawStanzas.{next_line, raws_from, raw-drawn}
 use Rattle.dist_generate.proofs.TextLines.{lines-written, stanza-texts}
 
 -- ---- names differ

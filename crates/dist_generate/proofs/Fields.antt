@@ -1,17 +1,17 @@
 -- The fields of the stanza of a drawn package give that package.
-use Rattle.std.proofs.Common.{◌≡◌, ℕ, ◌+◌, ◌/◌, ◌<◌, ◌==◌, Bool, true, false, List, [], ◌∷◌, ◌++◌, append-nil, length, map, Option, Some, None, refl, ap, sym, subst, ◌∙◌, arith, inl, inr}
+use Rattle.std.proofs.Common.{◌≡◌, ℕ, ◌+◌, ◌/◌, ◌<◌, ◌==◌, Bool, true, false, List, [], ◌∷◌, ◌++◌, append-nil, map, Option, Some, None, refl, ap, sym, subst, ◌∙◌, arith, inl, inr}
 use Rattle.std.specs.Prelude.{codes, decimal, if◌then◌else◌}
-use Rattle.std.specs.List.{flat_map, join_by, join_with_byte}
+use Rattle.std.specs.List.{join_by, join_with_byte}
 use Rattle.std.proofs.lemmas.Bool.{false≢true}
 use Rattle.dist_control.specs.Bytes.{is_white}
 use Rattle.dist_control.specs.ControlText.{IsReading}
 use Rattle.dist_control.specs.Fields.{trim, continuations, fields_from, field_spelled}
 use Rattle.dist_control.specs.declared.field_list.Stanza.{Stanza}
-use Rattle.dist_package.specs.Named.{IsFieldOf, value_of, name_of as field_name}
-use Rattle.dist_package.specs.PackageOf.{IsPackageOf, ReadsName, ReadsVersionField, ReadsSource, ReadsArchitecture, ReadsRelations, all}
+use Rattle.dist_package.specs.Named.{value_of, name_of as field_name}
+use Rattle.dist_package.specs.PackageOf.{IsPackageOf, ReadsName, ReadsVersionField, ReadsSource, ReadsArchitecture, all}
 use Rattle.dist_package.specs.declared.error.RelationField.TheVariants.{Depends, Conflicts}
 use Rattle.dist_relation.specs.Grammar.{ReadsDepends, ReadsAtoms}
-use Rattle.dist_generate.specs.Generator.{Alternative, Drawn, bound_text, alternative_text, item_text, depends_lines, conflicts_lines, head_lines, field_lines}
+use Rattle.dist_generate.specs.Generator.{Alternative, Drawn, bound_text, alternative_text, item_text, depends_lines, conflicts_lines, field_lines}
 use Rattle.dist_generate.specs.Packages.{name_of, atom_of, conflicts_of, version_of, package_of}
 use Rattle.dist_generate.proofs.Small.{AreTargets, IsItem, AreItems, IsTarget, IsSmall, small}
 use Rattle.dist_generate.proofs.RawStanzas.{raw_of, sound-drawn}

@@ -1,9 +1,9 @@
 -- The raw stanzas of the lines of drawn packages, which have no faults.
-use Rattle.std.proofs.Common.{◌≡◌, ℕ, zero, suc, ◌+◌, ◌<◌, true, false, List, [], ◌∷◌, ◌++◌, append_assoc, length, Option, Some, None, refl, ap, sym, ◌∙◌, arith}
+use Rattle.std.proofs.Common.{◌≡◌, ℕ, zero, suc, ◌+◌, true, false, List, [], ◌∷◌, ◌++◌, append_assoc, length, Option, Some, None, refl, ap, ◌∙◌, arith}
 use Rattle.std.specs.List.{flat_map}
-use Rattle.std.proofs.lemmas.Bool.{cond-true, cond-false}
+use Rattle.std.proofs.lemmas.Bool.{cond-false}
 use Rattle.dist_control.specs.Bytes.{is_blank}
-use Rattle.dist_control.specs.Faults.{IsSound, fault_at}
+use Rattle.dist_control.specs.Faults.{IsSound}
 use Rattle.dist_control.specs.RawStanza.{RawStanza, run, raw_stanzas_from}
 use Rattle.dist_generate.specs.Generator.{Alternative, Drawn, depends_lines, conflicts_lines, field_lines, stanza_lines}
 

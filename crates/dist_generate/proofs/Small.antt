@@ -1,5 +1,5 @@
 -- Drawn packages whose numbers are small, with few items of few alternatives.
-use Rattle.std.proofs.Common.{ℕ, ◌<◌, ◌≤◌, ◌^◌, List, [], ◌∷◌, length, Option, Some, None, arith}
+use Rattle.std.proofs.Common.{ℕ, ◌<◌, ◌≤◌, ◌^◌, List, length, Option, Some, None, arith}
 use Rattle.std.specs.List.{AllByRecursion}
 use Rattle.dist_generate.specs.Generator.{Alternative, Drawn}
 

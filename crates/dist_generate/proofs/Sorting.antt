@@ -1,6 +1,6 @@
 -- Packages of different names, brought into order one after another.
-use Rattle.std.proofs.Common.{◌≡◌, ◌≢◌, ℕ, zero, suc, ◌<◌, ◌≤◌, List, [], ◌∷◌, length, get_or, Ordering, Less, Equal, Greater, refl, ap, sym, subst, ◌∙◌, arith, nat_cmp, is_eq}
-use Rattle.std.specs.Prelude.{All, AllPairs, IsPermutation}
+use Rattle.std.proofs.Common.{◌≡◌, ◌≢◌, ℕ, suc, List, [], ◌∷◌, get_or, Ordering, Less, Equal, Greater, refl, ap, sym, ◌∙◌, arith, nat_cmp, is_eq}
+use Rattle.std.specs.Prelude.{All, IsPermutation}
 use Rattle.std.specs.Cmp.Lexicographic.{slice_cmp}
 use Rattle.std.specs.Ordering.{ordering_then, ordering_reverse}
 use Rattle.std.proofs.lemmas.List.Elements.{All-cons, All-head, All-tail}

@@ -1,5 +1,5 @@
 -- Texts without white space at their ends, which stay as they are when white space is cut off.
-use Rattle.std.proofs.Common.{◌≡◌, ℕ, ◌+◌, ◌%◌, ◌<◌, ◌^◌, true, false, not, List, [], ◌∷◌, ◌++◌, append_assoc, reverse, refl, ap, sym, ◌∙◌, arith}
+use Rattle.std.proofs.Common.{◌≡◌, ℕ, ◌+◌, ◌%◌, ◌<◌, ◌^◌, false, not, List, [], ◌∷◌, ◌++◌, append_assoc, reverse, refl, ap, sym, ◌∙◌, arith}
 use Rattle.std.specs.Prelude.{decimal}
 use Rattle.std.proofs.lemmas.Bool.{cond-false, not-true}
 use Rattle.std.proofs.lemmas.List.{reverse-append, reverse-reverse}

@@ -1,22 +1,22 @@
 -- What the values of the fields of a drawn package spell.
-use Rattle.std.proofs.Common.{◌≡◌, ◌⊎◌, ℕ, zero, suc, ◌+◌, ◌/◌, ◌<◌, ◌≤◌, ◌^◌, Bool, true, false, not, ◌==◌, List, [], ◌∷◌, ◌++◌, append_assoc, append-nil, length, take, drop, map, Option, Some, None, refl, ap, sym, subst, ◌∙◌, arith, inl, inr}
-use Rattle.std.specs.Prelude.{codes, decimal, if◌then◌else◌, filter_map, IsTrue}
-use Rattle.std.specs.List.{list_all, flat_map, join_by, prefix_len}
-use Rattle.std.proofs.lemmas.Bool.{and_parts, and_from, cond-true, false≢true}
+use Rattle.std.proofs.Common.{◌≡◌, ℕ, zero, suc, ◌+◌, ◌<◌, Bool, true, false, not, ◌==◌, List, [], ◌∷◌, ◌++◌, append_assoc, append-nil, length, take, drop, map, Option, Some, None, refl, ap, sym, subst, ◌∙◌, arith, inl, inr}
+use Rattle.std.specs.Prelude.{codes, decimal, if◌then◌else◌, filter_map}
+use Rattle.std.specs.List.{list_all, join_by, prefix_len}
+use Rattle.std.proofs.lemmas.Bool.{and_parts, cond-true, false≢true}
 use Rattle.std.proofs.lemmas.List.{take_all, drop_all}
 use Rattle.std.proofs.lemmas.Fmt.{decimal_digit}
-use Rattle.dist_version.specs.Spelling.{Parts, Spells, IsVersion, IsMadeOf, is_upstream_byte, has, colon, hyphen}
+use Rattle.dist_version.specs.Spelling.{IsVersion, IsMadeOf, is_upstream_byte, has, colon, hyphen}
 use Rattle.dist_relation.specs.Bytes.{IsName, IsBlank, is_name_byte, comma, bar}
-use Rattle.dist_relation.specs.Grammar.{SpellsAlternatives, SpellsPiece, Joined, Reads, ReadsDepends, ReadsAtoms, ReadsProvides}
+use Rattle.dist_relation.specs.Grammar.{SpellsAlternatives, SpellsPiece, Joined, ReadsDepends, ReadsAtoms, ReadsProvides}
 use Rattle.dist_relation.specs.declared.atom.Atom.{Atom}
 use Rattle.dist_relation.specs.declared.atom.Op.TheVariants.{Lt, Ge}
 use Rattle.dist_relation.specs.declared.atom.Qualifier.TheVariants.{Plain}
 use Rattle.dist_control.specs.Fields.{trim}
 use Rattle.dist_package.specs.Source.{SpellsSource, ends_name, name_part}
-use Rattle.dist_generate.specs.Generator.{Alternative, Drawn, bound_text, alternative_text, item_text}
-use Rattle.dist_generate.specs.Packages.{name_of, bound_of, atom_of, conflicts_of, version_of}
-use Rattle.dist_generate.proofs.Digits.{decimal-passes, all-append}
-use Rattle.dist_generate.proofs.Small.{AreTargets, IsItem, AreItems, IsTarget, small}
+use Rattle.dist_generate.specs.Generator.{Alternative, alternative_text, item_text}
+use Rattle.dist_generate.specs.Packages.{name_of, atom_of, conflicts_of}
+use Rattle.dist_generate.proofs.Digits.{decimal-passes}
+use Rattle.dist_generate.proofs.Small.{AreTargets, IsItem, AreItems, small}
 
 -- ---- names and versions
 

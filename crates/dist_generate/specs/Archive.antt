@@ -1,5 +1,5 @@
 -- What holds of generated texts.
-use Rattle.std.specs.Prelude.{◌≡◌, ℕ, List, length, map, IsPermutation}
+use Rattle.std.specs.Prelude.{◌≡◌, ℕ, length, map, IsPermutation}
 use Rattle.dist_package.specs.RepositoryOf.{IsRepositoryOf}
 use Rattle.dist_repo.specs.PackageList.{PackageList}
 use Rattle.dist_repo.specs.Size.{IsWithinSize}

@@ -1,5 +1,5 @@
 -- The archive of a size and a seed: so many packages, and what is drawn of each.
-use Rattle.std.specs.Prelude.{ℕ, suc, ◌/◌, ◌==◌, List, [], ◌∷◌, ◌++◌, Option, None, Some, if◌then◌else◌, map, codes, decimal}
+use Rattle.std.specs.Prelude.{ℕ, suc, ◌/◌, ◌==◌, List, [], ◌∷◌, ◌++◌, Option, None, Some, if◌then◌else◌, codes, decimal}
 use Rattle.std.specs.List.{flat_map, join_by}
 use Rattle.dist_generate.specs.Draws.{Drawing, draw, give, ◌>>=◌, many}
 

@@ -2,7 +2,8 @@
 ghost use Rattle.std.specs.Prelude.{◌≡◌, ◌++◌, ◌∷◌, [], ◌<◌, ◌≤◌, codes, decimal, IfOk, None, OnOk};
 ghost use Rattle.std.specs.List.{join_by};
 ghost use Rattle.dist_generate.specs.Draws.{many};
-ghost use Rattle.dist_generate.specs.Generator.{alternative, item, items, conflict, drawn, bound_text, alternative_text, item_text, depends_lines, conflicts_lines, head_lines, stanza_text, text_of_lines, generated};
+ghost use Rattle.dist_generate.specs.Generator.{alternative, item, items, conflict, drawn, generated};
+ghost use Rattle.dist_generate.specs.Generator.{bound_text, alternative_text, item_text, depends_lines, conflicts_lines, head_lines, stanza_text, text_of_lines};
 ghost use Rattle.dist_generate.specs.Steps.{Adds};
 
 use crate::draws::Draws;

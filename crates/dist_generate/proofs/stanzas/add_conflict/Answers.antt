@@ -1,4 +1,4 @@
-use Rattle.std.proofs.Common.{◌≡◌, ◌++◌, refl, ap, sym, ◌∙◌, Some}
+use Rattle.std.proofs.Common.{◌≡◌, ◌++◌, ap, sym, ◌∙◌, Some}
 use Rattle.dist_generate.specs.Draws.{draw, next_state}
 use Rattle.dist_generate.specs.Generator.{conflict, conflicts_lines, text_of_lines}
 use Rattle.dist_generate.proofs.Adding.{adds-is, conflict-some}

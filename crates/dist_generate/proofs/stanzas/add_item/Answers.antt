@@ -1,6 +1,6 @@
-use Rattle.std.proofs.Common.{◌≡◌, ℕ, suc, ◌++◌, [], ap, ◌∙◌, arith}
+use Rattle.std.proofs.Common.{◌≡◌, ℕ, suc, ◌++◌, ap, ◌∙◌, arith}
 use Rattle.std.specs.Prelude.{codes}
-use Rattle.dist_generate.specs.Draws.{draw, next_state, many}
+use Rattle.dist_generate.specs.Draws.{draw, next_state}
 use Rattle.dist_generate.specs.Generator.{alternative, alternative_text, item_text}
 use Rattle.dist_generate.proofs.Adding.{next-moved, next-first, next-more, many-at}
 use Rattle.dist_generate.proofs.stanzas.add_item.Goals as goal

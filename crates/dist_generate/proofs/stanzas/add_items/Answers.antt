@@ -1,8 +1,7 @@
-use Rattle.std.proofs.Common.{◌≡◌, ℕ, suc, ◌++◌, [], ap, ◌∙◌, arith}
+use Rattle.std.proofs.Common.{ℕ, ◌++◌, ap, ◌∙◌, arith}
 use Rattle.std.specs.Prelude.{codes}
-use Rattle.dist_generate.specs.Draws.{draw, next_state, many}
 use Rattle.dist_generate.specs.Generator.{item, item_text, item_text}
-use Rattle.dist_generate.proofs.Adding.{next-moved, next-first, next-more, many-at}
+use Rattle.dist_generate.proofs.Adding.{next-moved, next-first, next-more}
 use Rattle.dist_generate.proofs.stanzas.add_items.Goals as goal
 use Rattle.dist_generate.proofs.stanzas.add_items.Goals.{then-place-gt0+in_ok-extend_from_slice, else-place-gt0}
 

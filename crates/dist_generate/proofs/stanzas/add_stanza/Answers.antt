@@ -1,4 +1,4 @@
-use Rattle.std.proofs.Common.{◌≡◌, ◌++◌, [], ◌∷◌, ap, ◌∙◌}
+use Rattle.std.proofs.Common.{◌++◌, [], ◌∷◌, ap, ◌∙◌}
 use Rattle.std.specs.Prelude.{None}
 use Rattle.dist_generate.specs.Generator.{head_lines, text_of_lines}
 use Rattle.dist_generate.proofs.Adding.{stanza-first, stanza-more}
