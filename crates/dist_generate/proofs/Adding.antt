@@ -1,5 +1,5 @@
 -- What was drawn and stands there, step by step.
-use Rattle.std.proofs.Common.{◌≡◌, ◌≢◌, ℕ, ◌+◌, ◌<◌, ◌≤◌, Bool, true, false, ◌==◌, List, [], ◌∷◌, ◌++◌, append_assoc, append-nil, add-one, length, Some, None, ap, sym, ◌∙◌, arith, ne_eqb, eq-eqb}
+use Rattle.std.proofs.Common.{◌≡◌, ℕ, ◌+◌, ◌<◌, ◌≤◌, Bool, true, false, ◌==◌, List, [], ◌∷◌, ◌++◌, append_assoc, append-nil, add-one, length, Some, None, ap, sym, ◌∙◌, arith, ne_eqb, eq-eqb}
 use Rattle.std.specs.Prelude.{codes, if◌then◌else◌}
 use Rattle.std.specs.List.{flat_map, join_by}
 use Rattle.std.proofs.lemmas.List.Concat.{flat_map-append}
@@ -52,10 +52,6 @@ pub conflict-some : (number state : ℕ) → (draw 8 state).0 ≡ 0 →
     conflict number state ≡ (Some (draw number (next_state state)).0, next_state (next_state state))
 conflict-some number state zero_drawn =
     ap (λ n. (if n == 0 then (draw number >>= λ other. give (Some other)) else give None) (next_state state)) zero_drawn
-
-pub conflict-none : (number state : ℕ) → (draw 8 state).0 ≢ 0 → conflict number state ≡ (None, next_state state)
-conflict-none number state other =
-    ap (λ b. (if b then (draw number >>= λ o. give (Some o)) else give None) (next_state state)) (ne_eqb (draw 8 state).0 0 other)
 
 -- ---- a stanza
 

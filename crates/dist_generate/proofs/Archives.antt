@@ -7,7 +7,7 @@ use Rattle.std.proofs.lemmas.List.Elements.{All-cons, All-nil, All-weaker, All-f
 use Rattle.std.proofs.lemmas.List.Sorted.{All-permutation, Contains-permutation, length_permutation}
 use Rattle.std.proofs.lemmas.Fmt.{decimal_injective}
 use Rattle.dist_control.specs.RawStanza.{raw_stanzas, raw_stanzas_from}
-use Rattle.dist_package.specs.FirstFault.{Read, IsClash, AreReadAfter, architecture_of}
+use Rattle.dist_package.specs.FirstFault.{Read, IsClash, IsTooMany, AreReadAfter, architecture_of}
 use Rattle.dist_package.specs.PackageOf.{all as all_name}
 use Rattle.dist_package.specs.RepositoryOf.{IsRepositoryOf}
 use Rattle.dist_repo.specs.PackageList.{PackageList}
@@ -23,6 +23,7 @@ use Rattle.dist_generate.proofs.Small.{small}
 use Rattle.dist_generate.proofs.Sorting.{IsApart, AreApart, apart-by_name, sorted, sorted-permutes, sorted-in_order}
 use Rattle.dist_generate.proofs.RawStanzas.{next_line, raws_from, raw-drawn}
 use Rattle.dist_generate.proofs.TextLines.{lines-written, stanza-texts}
+use Rattle.dist_generate.proofs.TooMany.{too-many}
 
 -- ---- names differ
 
@@ -131,24 +132,37 @@ module _ (size seed : ℕ) (few : size ≤ 2000) where
   pub short : length (generated size seed) ≤ 200 * size
   short = omega (arith, text-short (generated_packages size seed) all-small, length-many drawn size seed)
 
+  same-count : length (reads_from 1 (generated_packages size seed)) ≡ size
+  same-count =
+      let all = generated_packages size seed in
+      sym (length-map (reads_from 1 all) (λ (r : Read). r.package_)) ∙ ap length (reads-packages 1 all) ∙ length-map all package_of ∙ length-many drawn size seed
+
+  all-read : AreReadAfter [] (raw_stanzas (generated size seed)) (reads_from 1 (generated_packages size seed))
+  unfolding AreEarlier
+  all-read =
+      let all = generated_packages size seed in
+      subst (λ rs. AreReadAfter [] rs (reads_from 1 all)) (sym raws) (reads-drawn [] 1 0 all all-small (packages-numbered size seed) tt)
+
+  pub over : (limit : ℕ) → limit < size → IsTooMany (raw_stanzas (generated size seed)) limit
+  over limit past = too-many (raw_stanzas (generated size seed)) (reads_from 1 (generated_packages size seed)) limit all-read (omega (arith, same-count))
+
   pub archive : ((text : List ℕ) (limit : ℕ) (repository : PackageList) → IsRepositoryOf text limit repository → relation_count repository.packages ≤ length text) →
       (limit : ℕ) → size ≤ limit → IsArchive size seed limit
-  unfolding IsRead AreEarlier
+  unfolding IsRead
   archive relations limit within =
       let all = generated_packages size seed in
       let reads = reads_from 1 all in
       let packages = map package_of all in
       let permutes = sorted-permutes packages in
       let long : length packages ≡ size = length-map all package_of ∙ length-many drawn size seed in
-      let same : length reads ≡ size = sym (length-map reads (λ (r : Read). r.package_)) ∙ ap length (reads-packages 1 all) ∙ long in
       let count : length (sorted packages) ≡ size = length_permutation packages (sorted packages) permutes ∙ long in
       let contains : All (λ (read : Read). Contains packages read.package_) reads =
       subst (λ (ps : List Package). All (λ (read : Read). Contains ps read.package_) reads) (reads-packages 1 all) (contains-reads reads) in
       let repository : PackageList = record { architecture = architecture_of reads; packages = sorted packages } in
       let is : IsRepositoryOf (generated size seed) limit repository = record {
         reads = reads;
-        read = subst (λ rs. AreReadAfter [] rs reads) (sym raws) (reads-drawn [] 1 0 all all-small (packages-numbered size seed) tt);
-        within = omega (arith, same, within);
+        read = all-read;
+        within = omega (arith, same-count, within);
         in_order = sorted-in_order packages (are-apart 0 all all-small (packages-numbered size seed));
         from_stanzas = All-permutation (IsRead reads) packages (sorted packages) permutes (subst (All (IsRead reads)) (reads-packages 1 all) (from-reads reads));
         all_stanzas = All-weaker (λ (read : Read). Contains packages read.package_) (λ (read : Read). Contains (sorted packages) read.package_)

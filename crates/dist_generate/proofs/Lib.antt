@@ -8,6 +8,7 @@ pub mod Fields
 pub mod Sorting
 pub mod SmallDraws
 pub mod Bytes
+pub mod TooMany
 pub mod Archives
 pub mod Joins
 pub mod Adding

@@ -52,25 +52,29 @@ drawn number = do
 
 -- ---- what is written
 
+-- version 1 or later, or below version 2, or none
 abbrev pub bound_text : ℕ → List ℕ
 bound_text bound = if bound == 2 then codes " (>= 1)" else if bound == 3 then codes " (<< 2)" else []
 
+-- the names of packages are g and their numbers
 abbrev pub alternative_text : Alternative → List ℕ
 alternative_text alternative = codes "g" ++ (decimal alternative.target ++ bound_text alternative.bound)
 
+-- alternatives with bars in between
 abbrev pub item_text : List Alternative → List ℕ
 item_text item = join_by alternative_text (codes " | ") item
 
--- the line of the items, where there is one
+-- the line of the items, with commas in between, where there is one
 abbrev pub depends_lines : List (List Alternative) → List (List ℕ)
 depends_lines [] = []
 depends_lines (item ∷ items) = (codes "Depends: " ++ join_by item_text (codes ", ") (item ∷ items)) ∷ []
 
+-- the line of the conflict, where there is one
 abbrev pub conflicts_lines : Option ℕ → List (List ℕ)
 conflicts_lines None = []
 conflicts_lines (Some other) = (codes "Conflicts: g" ++ decimal other) ∷ []
 
--- the lines that each stanza has
+-- the lines that each stanza has; two packages after each other have one source
 abbrev pub head_lines : Drawn → List (List ℕ)
 head_lines drawn =
     (codes "Package: g" ++ decimal drawn.number)
@@ -79,10 +83,11 @@ head_lines drawn =
     ∷ (codes "Source: s" ++ decimal (drawn.number / 2))
     ∷ []
 
--- the lines of a stanza, and the empty line after it
+-- the lines of a stanza
 abbrev pub field_lines : Drawn → List (List ℕ)
 field_lines drawn = head_lines drawn ++ (depends_lines drawn.items ++ conflicts_lines drawn.conflict)
 
+-- and the empty line after it
 abbrev pub stanza_lines : Drawn → List (List ℕ)
 stanza_lines drawn = field_lines drawn ++ [] ∷ []
 
@@ -90,12 +95,14 @@ stanza_lines drawn = field_lines drawn ++ [] ∷ []
 abbrev pub text_of_lines : List (List ℕ) → List ℕ
 text_of_lines lines = flat_map (λ line. line ++ 10 ∷ []) lines
 
+-- the text of a stanza
 abbrev pub stanza_text : Drawn → List ℕ
 stanza_text drawn = text_of_lines (stanza_lines drawn)
 
--- the packages of a size and a seed, and the text of the archive
+-- the packages of a size and a seed
 abbrev pub generated_packages : (size seed : ℕ) → List Drawn
 generated_packages size seed = (many drawn size seed).0
 
+-- the text of the archive
 abbrev pub generated : (size seed : ℕ) → List ℕ
 generated size seed = flat_map stanza_text (generated_packages size seed)
