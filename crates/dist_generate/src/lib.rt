@@ -1,7 +1,7 @@
 //! Archives that are made from a size and a seed, for runs without a file.
 //!
-//! Each package depends on packages with smaller numbers and conflicts with them, so that the questions about it are
-//! neither all trivial nor all hard. A text is written in one pass, each draw where it is needed.
+//! A package depends on packages of smaller numbers alone, and conflicts with such alone. A text is written in one pass, in
+//! time linear in its bytes: each draw is made where its value is written.
 #![tactic(auto)]
 
 mod draws;
