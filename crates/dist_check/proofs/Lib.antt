@@ -22,3 +22,6 @@ mod CheckState
 mod CheckSteps
 mod CheckText
 mod OneVerdict
+mod Stops
+mod FirstStops
+mod OneAnswer
