@@ -25,3 +25,4 @@ mod OneVerdict
 mod Stops
 mod FirstStops
 mod OneAnswer
+mod LargeCauses
