@@ -2,21 +2,11 @@
 ghost use Rattle.std.specs.Prelude.{◌<◌, length};
 
 use super::*;
-use crate::test_spaces::{Stanza, space_within};
+use crate::test_spaces::{Stanza, small_space};
 use dist_base::{MAX_CLAUSES, MAX_LITERALS};
 use dist_clause::{ClauseSet, Lit, PushError};
 use std::alloc::Global;
 use std::test::Fail;
-
-/// The space of some stanzas.
-fn made_space(alloc: Global, stanzas: &[Stanza], essential: bool) -> Result<Space, Fail>
-    requires { length stanzas.now < 100 }
-{
-    match space_within(alloc, stanzas, essential, 1000)? {
-        Ok(space) => Ok(space),
-        Err(_) => Err("no space")?,
-    }
-}
 
 /// Whether a clause has these literals.
 fn is_clause(clause: &[Lit], expected: &[i32]) -> bool {
@@ -51,7 +41,7 @@ fn has(set: &ClauseSet, clauses: &[&[i32]]) -> bool {
 fn check(alloc: Global, stanzas: &[Stanza], essential: bool, clauses: &[&[i32]]) -> Result<(), Fail>
     requires { length stanzas.now < 100 }
 {
-    let space = made_space(alloc, stanzas, essential)?;
+    let space = small_space(alloc, stanzas, essential)?;
     match clauses_of(alloc, &space, MAX_CLAUSES, MAX_LITERALS) {
         Ok(set) if has(&set, clauses) && set.variables() == space.variables() => Ok(()),
         _ => Err("other clauses")?,
@@ -290,7 +280,7 @@ fn conflicts_of_all_kinds(rt: HostRuntime) -> Result<(), Fail> {
 #[test]
 fn the_limits_of_clauses(rt: HostRuntime) -> Result<(), Fail> {
     let alloc = rt.alloc();
-    let space = made_space(alloc, &LIBRARY, false)?;
+    let space = small_space(alloc, &LIBRARY, false)?;
     for (clauses, literals, error) in [
         (15, 33, Some(PushError::TooManyClauses)),
         (16, 32, Some(PushError::TooManyLiterals)),

@@ -10,7 +10,7 @@ use std::test::Fail;
 
 /// A package of version 1: its name, its source, values of Depends, Conflicts and Provides, and whether it is essential. Its
 /// source has its version.
-pub type Stanza = (
+pub(crate) type Stanza = (
     &'static str,
     &'static str,
     &'static str,
@@ -57,7 +57,7 @@ fn repository(alloc: Global, stanzas: &[Stanza]) -> Result<Repository, Fail>
 }
 
 /// The space of some stanzas, of a number of variables at most.
-pub fn space_within(
+pub(crate) fn space_within(
     alloc: Global,
     stanzas: &[Stanza],
     essential: bool,
@@ -71,4 +71,14 @@ pub fn space_within(
         Err("not flat, or too large")?
     }
     Ok(space_of(alloc, repo, essential, variables))
+}
+
+/// The space of some stanzas, which is not large.
+pub(crate) fn small_space(alloc: Global, stanzas: &[Stanza], essential: bool) -> Result<Space, Fail>
+    requires { length stanzas.now < 100 }
+{
+    match space_within(alloc, stanzas, essential, 1000)? {
+        Ok(space) => Ok(space),
+        Err(_) => Err("no space")?,
+    }
 }

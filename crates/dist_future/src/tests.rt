@@ -90,3 +90,27 @@ fn entries_are_kept_and_new_names_come(rt: HostRuntime) -> Result<(), Fail> {
         ],
     )
 }
+
+#[test]
+fn three_classes_of_a_library(rt: HostRuntime) -> Result<(), Fail> {
+    check(
+        rt.alloc(),
+        &[
+            ("libx", "libx", "", "", "", false),
+            ("p", "p", "libx (<< 2)", "", "", false),
+        ],
+        &[
+            Meaning::Now,
+            Meaning::Present(0),
+            Meaning::Present(1),
+            Meaning::At(0, 0),
+            Meaning::New(0, 0),
+            Meaning::At(0, 1),
+            Meaning::New(0, 1),
+            Meaning::At(0, 2),
+            Meaning::New(0, 2),
+            Meaning::At(1, 0),
+            Meaning::New(1, 0),
+        ],
+    )
+}

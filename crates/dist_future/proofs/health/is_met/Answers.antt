@@ -1,10 +1,9 @@
-use Rattle.std.proofs.Common.{ap, arith, refl, subst, sym, ◌∙◌, slice_get}
+use Rattle.std.proofs.Common.{ap, arith, refl, subst, sym, ◌∙◌, slice_get, None}
 use Rattle.dist_repo.specs.PackageList.{PackageList}
 use Rattle.dist_repo.specs.Providers.{AreProviders}
 use Rattle.dist_future.proofs.FoundLemmas.{IsAny}
 use Rattle.dist_future.proofs.Leasts.{none-found, some-found}
 use Rattle.dist_future.proofs.UnmetLemmas.{any-met, none-met, none-more}
-use Rattle.std.proofs.Common.{None}
 use Rattle.dist_future.proofs.health.is_met.Goals as goal
 
 pub found-requires-clause-providers : goal.found-requires-clause-providers

@@ -1,6 +1,6 @@
 use Rattle.std.proofs.Common.{ap, slice_get, sym, ◌∙◌}
 use Rattle.dist_repo.specs.PackageList.{PackageList}
-use Rattle.dist_future.specs.declared.meaning.Meaning.TheVariants.{Present}
+use Rattle.dist_space.specs.declared.meaning.Meaning.TheVariants.{Present}
 use Rattle.dist_future.proofs.FoundLemmas.{holds-from}
 use Rattle.dist_future.proofs.UnmetLemmas.{no-unmet, other-unmet, unmet-row}
 use Rattle.dist_future.proofs.health.unmet_row.Goals as goal
