@@ -1,9 +1,8 @@
 -- The clauses of the demands below a group, a variable and a number: how they grow, and why a set stops.
-use Rattle.std.proofs.Common.{◌≡◌, ◌⊎◌, ℕ, ◌+◌, ◌-◌, ◌<◌, ◌≤◌, List, [], ◌∷◌, ◌++◌, Some, Less, nat_cmp, length, get_or, refl, sym, ap, subst, ◌∙◌, arith, inl, inr, slice_get}
+use Rattle.std.proofs.Common.{◌≡◌, ◌⊎◌, ℕ, ◌+◌, ◌<◌, ◌≤◌, List, [], ◌∷◌, ◌++◌, Less, nat_cmp, get_or, refl, sym, ap, subst, ◌∙◌, arith, inl, inr, slice_get}
 use Rattle.std.specs.Prelude.{IsSomeAnd}
 use Rattle.std.specs.Cmp.Lexicographic.{slice_cmp}
 use Rattle.std.proofs.lemmas.Bool.{cases_lt}
-use Rattle.std.proofs.lemmas.Option.{same_Some, slice_get_within}
 use Rattle.dist_clause.specs.ClauseList.{ClauseList}
 use Rattle.dist_clause.specs.Formula.{Literal}
 use Rattle.dist_clause.specs.declared.clause_set.PushError.{PushError}
@@ -16,8 +15,8 @@ use Rattle.dist_space_clauses.specs.SpaceSet.{IsSetOf}
 use Rattle.dist_space.specs.declared.meaning.Meaning.{Meaning}
 use Rattle.dist_space_clauses.proofs.DemandLists.{clauses-more, clauses-shift}
 use Rattle.dist_space.specs.KeyLaws.{IsLess, cmp-less, less-cmp}
-use Rattle.dist_space.specs.ListLaws.{place-of, within-from}
-use Rattle.dist_space.specs.VariableLaws.{variable-at, one-meaning}
+use Rattle.dist_space.specs.ListLaws.{within-from}
+use Rattle.dist_space.specs.VariableLaws.{one-meaning}
 
 -- the meaning that leads a demand is one
 pub leading-is : (s : SpaceView) (d : Demand) → IsDemand s d → IsMeaning s (leading d)

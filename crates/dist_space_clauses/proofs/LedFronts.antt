@@ -8,7 +8,7 @@ use Rattle.dist_repo.specs.Match.{IsUsable}
 use Rattle.dist_repo.specs.declared.package.Package.{Package}
 use Rattle.dist_space_clauses.specs.Gathering.{IsCauseAt, IsFront, IsRefused}
 use Rattle.dist_space.specs.Space.{IsChange, IsMeaningOf, IsMeaning, IsSpace, SpaceView, cluster_classes, fresh_classes, variable_of}
-use Rattle.dist_space_clauses.specs.SpaceClauses.{Demand, OneClass, Gone, Moved, Carried, OneFresh, StaysNow, AbsentNow, IsClauseFor, IsDemand, group_of, leading, second_of}
+use Rattle.dist_space_clauses.specs.SpaceClauses.{Demand, OneClass, Gone, Moved, Carried, OneFresh, StaysNow, AbsentNow, Required, IsClauseFor, IsDemand, group_of, leading, second_of}
 use Rattle.dist_space.specs.declared.meaning.Meaning.{Meaning}
 use Rattle.dist_space.specs.declared.meaning.Meaning.TheVariants.{Now, Present, At, New, Kept, Fresh}
 use Rattle.dist_space_clauses.proofs.Fronts.{front-more, front-skip, front-variable, leads, stops}

@@ -1,13 +1,11 @@
 -- Clauses of two literals of a space.
-use Rattle.std.proofs.Common.{◌≡◌, ◌≢◌, ℕ, ◌-◌, ◌≤◌, Bool, [], ◌∷◌, Some, length, slice_get, sym, ap, subst, ◌∙◌, arith}
+use Rattle.std.proofs.Common.{◌≡◌, ◌≢◌, ℕ, ◌≤◌, Bool, [], ◌∷◌, length, sym, ap, subst, ◌∙◌, arith}
 use Rattle.std.proofs.lemmas.List.Elements.{All-cons, All-nil}
 use Rattle.std.proofs.lemmas.List.Kept.{AllPairs-cons}
-use Rattle.dist_base.specs.declared.TheConstants.{MAX_VARIABLES}
 use Rattle.dist_clause.specs.Formula.{IsClauseOver, Literal, literal}
-use Rattle.dist_space.specs.Space.{IsMeaningOf, IsMeaning, IsSpace, SpaceView, variable_of}
+use Rattle.dist_space.specs.Space.{IsMeaning, IsSpace, SpaceView, variable_of}
 use Rattle.dist_space.specs.declared.meaning.Meaning.{Meaning}
-use Rattle.dist_space.specs.VariableLaws.{one-meaning, variable-range, variable-back}
-use Rattle.dist_space.specs.ListLaws.{contains-at}
+use Rattle.dist_space.specs.VariableLaws.{one-meaning, variable-range}
 use Rattle.dist_space.specs.RisingLaws.{pairs-none}
 
 abbrev InRange : ℕ → Literal → Type 0

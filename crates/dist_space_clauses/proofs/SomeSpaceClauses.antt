@@ -1,25 +1,22 @@
 -- There is a list of the clauses of a space: what a demand asks is decided, and each demand has a clause.
-use Rattle.std.proofs.Common.{◌≡◌, ◌≢◌, ◌⊎◌, ℕ, zero, suc, ◌+◌, ◌-◌, ◌<◌, ◌≤◌, List, [], ◌∷◌, ◌++◌, Option, Some, None, length, map, take, Ordering, Less, Equal, Greater, refl, sym, ap, subst, ◌∙◌, arith, inl, inr, slice_get}
+use Rattle.std.proofs.Common.{◌≡◌, ◌≢◌, ◌⊎◌, ℕ, zero, suc, ◌+◌, ◌-◌, ◌<◌, ◌≤◌, List, [], ◌∷◌, ◌++◌, length, map, take, refl, sym, ap, subst, ◌∙◌, arith, inl, inr, slice_get}
 use Rattle.std.specs.Prelude.{◌↔◌, AllPairs, Any, Contains, IsSomeAnd, slice_index}
 use Rattle.std.proofs.lemmas.Bool.{cases_lt}
 use Rattle.dist_clause.specs.ClauseList.{ClauseList}
 use Rattle.dist_clause.specs.Formula.{Literal}
-use Rattle.dist_version.specs.Order.{version_cmp}
 use Rattle.dist_relation.specs.declared.atom.Atom.{Atom}
-use Rattle.dist_relation.specs.declared.atom.Provide.{Provide}
 use Rattle.dist_repo.specs.Conflict.{AreInConflict}
-use Rattle.dist_repo.specs.Match.{Matches, MatchesByEntry}
+use Rattle.dist_repo.specs.Match.{Matches}
 use Rattle.dist_repo.specs.Healthy.{required_names}
-use Rattle.dist_repo.specs.Order.{IsSamePackage}
 use Rattle.dist_repo.specs.PackageList.{IsPackageAnd}
 use Rattle.dist_repo.specs.declared.package.Package.{Package}
 use Rattle.dist_space_clauses.specs.Gathering.{IsFront, IsGroupsFront}
-use Rattle.dist_space.specs.Space.{AreMeaningsOf, IsMatched, IsMatchedBy, IsMeaning, IsMetBy, IsSpace, MeetsBound, SpaceView, StandsBefore, cluster_classes, example_at, fresh_classes, member_classes, moved_entry, name_of, variable_of}
+use Rattle.dist_space.specs.Space.{AreMeaningsOf, IsMeaning, IsMetBy, IsSpace, SpaceView, StandsBefore, cluster_classes, fresh_classes, name_of, variable_of}
 use Rattle.dist_space_clauses.specs.SpaceClauses.{Demand, OneClass, Gone, Moved, Carried, OneFresh, Item, Apart, StaysNow, AbsentNow, Required, AreSpaceClauses, Excludes, IsBearer, IsBefore, IsClauseFor, IsDemand, group_of, leading, rank_of, no, second_of, yes}
 use Rattle.dist_space_clauses.specs.SpaceSet.{IsSetOf}
 use Rattle.dist_space.specs.declared.meaning.Meaning.{Meaning}
 use Rattle.dist_space.specs.declared.meaning.Meaning.TheVariants.{Now, Present, At, New, Kept, Fresh}
-use Rattle.dist_space_clauses.specs.DecidedLaws.{IsDecided, any-decided, both-decided, bound-decided, either-decided, entry-decided, matches-decided, text-decided, usable-decided, at-decided, bearer-decided, conflict-decided, less-decided, met-decided, not-decided, some-decided}
+use Rattle.dist_space_clauses.specs.DecidedLaws.{IsDecided, any-decided, both-decided, matches-decided, text-decided, at-decided, bearer-decided, conflict-decided, less-decided, met-decided, not-decided, some-decided}
 use Rattle.dist_space_clauses.specs.ItemLaws.{item-at}
 use Rattle.dist_space_clauses.proofs.DemandLists.{clauses-more, clauses-shift}
 use Rattle.dist_space_clauses.proofs.Fronts.{set-shift, front-more, front-skip, front-variable, leads}
@@ -33,11 +30,14 @@ use Rattle.dist_space_clauses.proofs.NameFronts.{group-cases}
 use Rattle.dist_space_clauses.proofs.SortedNames.{InOrder, IsLess, first-less, in-order}
 use Rattle.dist_space.specs.RisingLaws.{contains-cons, contains-first, contains-later, pairs-cons, pairs-head, pairs-none, pairs-tail}
 
+-- ---- what is decided
+
+module _ (s : SpaceView) where
   other-decided : (p : Package) (m : Meaning) → IsDecided (IsSomeAnd (name_of s m) (λ name. name ≢ p.name) × IsMetBy s p.conflicts m)
-  other-decided p m = both-decided (some-decided (λ (name : List ℕ). name ≢ p.name) (λ name. not-decided (text-decided name p.name)) (name_of s m)) (met-decided p.conflicts m)
+  other-decided p m = both-decided (some-decided (λ (name : List ℕ). name ≢ p.name) (λ name. not-decided (text-decided name p.name)) (name_of s m)) (met-decided s p.conflicts m)
 
   excludes-decided : (n : ℕ) (p : Package) (m : Meaning) → IsDecided (Excludes s n p m)
-  excludes-decided n p (Present other) = both-decided (less-decided n other) (at-decided (AreInConflict s.repository.architecture p) (conflict-decided p) s.repository.packages other)
+  excludes-decided n p (Present other) = both-decided (less-decided n other) (at-decided (AreInConflict s.repository.architecture p) (conflict-decided s p) s.repository.packages other)
   excludes-decided n p Now = other-decided p Now
   excludes-decided n p (At c k) = other-decided p (At c k)
   excludes-decided n p (New r k) = other-decided p (New r k)
@@ -122,7 +122,7 @@ use Rattle.dist_space.specs.RisingLaws.{contains-cons, contains-first, contains-
     has-clause (Item n place) demand =
         let holder = here-at (λ (p : Package). IsSomeAnd (slice_get p.depends place) (λ item. ¬ Any (λ atom. Matches s.repository.architecture atom p) item)) s.repository.packages n demand in
         let item = here-at (λ (i : List Atom). ¬ Any (λ atom. Matches s.repository.architecture atom holder.element) i) holder.element.depends place holder.holds in
-        let some = some-meanings (IsMetBy s item.element) (met-decided item.element) in
+        let some = some-meanings (IsMetBy s item.element) (met-decided s item.element) in
         record {
           clause = no s (Present n) ∷ map (yes s) some.meanings;
           is_clause = (some.meanings, item-at s n place (λ p i. AreMeaningsOf s (IsMetBy s i) some.meanings) holder.element item.element holder.is item.is some.are, refl);
@@ -130,7 +130,7 @@ use Rattle.dist_space.specs.RisingLaws.{contains-cons, contains-first, contains-
     has-clause (Apart n other) demand = record { clause = no s (Present n) ∷ no s other ∷ []; is_clause = refl }
     has-clause (StaysNow c k) demand = record { clause = no s Now ∷ no s (At c k) ∷ []; is_clause = refl }
     has-clause (AbsentNow x k) demand = record { clause = no s Now ∷ no s (Fresh x k) ∷ []; is_clause = refl }
-    has-clause (Required name) demand = let some = some-meanings (IsBearer s name) (bearer-decided name) in record { clause = map (yes s) some.meanings; is_clause = (some.meanings, some.are, refl) }
+    has-clause (Required name) demand = let some = some-meanings (IsBearer s name) (bearer-decided s name) in record { clause = map (yes s) some.meanings; is_clause = (some.meanings, some.are, refl) }
 
     -- ---- one place after another
 

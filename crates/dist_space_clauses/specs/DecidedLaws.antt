@@ -14,7 +14,6 @@ use Rattle.dist_relation.specs.declared.atom.Op.TheVariants.{Lt, Le, Eq, Ge, Gt}
 use Rattle.dist_relation.specs.declared.atom.Provide.{Provide}
 use Rattle.dist_relation.specs.declared.atom.Qualifier.{Qualifier}
 use Rattle.dist_relation.specs.declared.atom.Qualifier.TheVariants.{Plain, Named}
-use Rattle.dist_repo.specs.Healthy.{IsMet}
 use Rattle.dist_repo.specs.Match.{IsUsable, Matches, MatchesByEntry, MatchesByName}
 use Rattle.dist_repo.specs.declared.package.Package.{Package}
 use Rattle.std.proofs.lemmas.Bool.{cases_lt}
@@ -120,11 +119,6 @@ matches-decided architecture atom p =
     same-as (λ h. record { usable = h.0; matched = h.1 }) (λ h. (h.usable, h.matched))
     (both-decided (usable-decided architecture atom.qualifier)
     (either-decided (name-decided atom p) (any-decided (MatchesByEntry architecture atom) (entry-decided architecture atom) p.provides)))
-
-pub met-decided : (architecture : Option (List ℕ)) (members : List Package) (item : List Atom) → IsDecided (IsMet architecture members item)
-met-decided architecture members item =
-    any-decided (λ atom. Any (Matches architecture atom) members)
-    (λ atom. any-decided (Matches architecture atom) (matches-decided architecture atom) members) item
 
 -- ---- what the demands of a space ask
 

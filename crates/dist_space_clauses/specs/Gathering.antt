@@ -8,13 +8,12 @@ use Rattle.dist_clause.specs.ClauseList.{ClauseList, literal_count}
 use Rattle.dist_clause.specs.Formula.{Literal, literal}
 use Rattle.dist_clause.specs.declared.clause_set.PushError.{PushError}
 use Rattle.dist_clause.specs.declared.clause_set.PushError.TheVariants.{TooManyClauses, TooManyLiterals, NoMemory}
-use Rattle.dist_base.specs.declared.TheConstants.{MAX_VARIABLES}
 use Rattle.dist_relation.specs.declared.atom.Atom.{Atom}
 use Rattle.dist_repo.specs.PackageList.{IsPackageAnd}
 use Rattle.dist_repo.specs.declared.package.Package.{Package}
 use Rattle.dist_space.specs.declared.meaning.Meaning.{Meaning}
 use Rattle.dist_space.specs.declared.meaning.Meaning.TheVariants.{Now, Present, At, New, Kept, Fresh}
-use Rattle.dist_space.specs.Space.{IsMeaning, IsSpace, SpaceView, variable_of}
+use Rattle.dist_space.specs.Space.{IsMeaning, SpaceView, variable_of}
 use Rattle.dist_space_clauses.specs.SpaceClauses.{Demand, OneClass, Gone, Moved, Carried, OneFresh, Item, Apart, StaysNow, AbsentNow, Required, IsDemand, group_of, rank_of}
 use Rattle.dist_space_clauses.specs.SpaceSet.{IsCause, IsSetOf}
 

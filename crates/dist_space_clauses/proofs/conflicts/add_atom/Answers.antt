@@ -21,9 +21,9 @@ returns c =
     let atom = c.args.atom.now in
     let providers = c.providers-providers.result.now in
     let Excluded = Excludes s c.args.number p in
-    let usable : IsUsable s.repository.architecture atom.qualifier = subst (λ (r : PackageList). IsUsable r.architecture atom.qualifier) c.repo-repo.ensures (c.if-not-usable.ensures.0 refl) in
+    let usable : IsUsable s.repository.architecture atom.qualifier = subst (λ (r : PackageList). IsUsable r.architecture atom.qualifier) c.repo-repo.ensures.value (c.if-not-usable.ensures.0 refl) in
     let are : AreProviders s.repository atom.name providers =
-    subst (λ (r : PackageList). AreProviders r atom.name providers) c.repo-repo.ensures (subst (λ (name : List ℕ). AreProviders c.repo-repo.result.now name providers) c.bytes.ensures.value c.providers-providers.ensures) in
+    subst (λ (r : PackageList). AreProviders r atom.name providers) c.repo-repo.ensures.value (subst (λ (name : List ℕ). AreProviders c.repo-repo.result.now name providers) c.bytes.ensures.value c.providers-providers.ensures) in
     let Packages : Meaning → Type 0 = λ m. Any (λ other. MatchedAnd s atom (IsOf other) m × Excluded m) providers in
     let Names : Meaning → Type 0 = λ m. MatchedAnd s atom IsFresh m × IsNamedOther s c.args.number p m in
     let All : Meaning → Type 0 = λ m. IsMatched s atom m × Excluded m in

@@ -29,7 +29,7 @@ add_clause-requires c =
     let p = c.args.package.now in
     let n = c.args.number in
     let vs = c.gather_bearers.new.variables.items in
-    let ordered : IsInOrder s.repository.packages = subst (λ (r : PackageList). IsInOrder r.packages) c.repo.ensures c.len-packages.ensures.in_order in
+    let ordered : IsInOrder s.repository.packages = subst (λ (r : PackageList). IsInOrder r.packages) c.repo.ensures.value c.len-packages.ensures.in_order in
     let written : c.deref.result.now ≡ map positive vs = c.deref.ensures.value ∙ c.in_default-write_positive.ensures in
     let is = name-clause s space p.name vs c.deref.result.now c.in_default.ensures written in
     subst (λ (k : ℕ). IsClauseOver k c.deref.result.now) (sym c.requires.front.variables) (subst (IsClauseOver _) (sym written) (over-positive s space (IsBearer s p.name) vs c.in_default.ensures))
@@ -41,7 +41,7 @@ returns-clause-ok c =
     let p = c.args.package.now in
     let n = c.args.number in
     let vs = c.gather_bearers.new.variables.items in
-    let ordered : IsInOrder s.repository.packages = subst (λ (r : PackageList). IsInOrder r.packages) c.repo.ensures c.len-packages.ensures.in_order in
+    let ordered : IsInOrder s.repository.packages = subst (λ (r : PackageList). IsInOrder r.packages) c.repo.ensures.value c.len-packages.ensures.in_order in
     let written : c.deref.result.now ≡ map positive vs = c.deref.ensures.value ∙ c.in_default-write_positive.ensures in
     let is = name-clause s space p.name vs c.deref.result.now c.in_default.ensures written in
     on_ok_weaker c.add_clause.result
@@ -55,7 +55,7 @@ returns-clause-err c =
     let p = c.args.package.now in
     let n = c.args.number in
     let vs = c.gather_bearers.new.variables.items in
-    let ordered : IsInOrder s.repository.packages = subst (λ (r : PackageList). IsInOrder r.packages) c.repo.ensures c.len-packages.ensures.in_order in
+    let ordered : IsInOrder s.repository.packages = subst (λ (r : PackageList). IsInOrder r.packages) c.repo.ensures.value c.len-packages.ensures.in_order in
     let written : c.deref.result.now ≡ map positive vs = c.deref.ensures.value ∙ c.in_default-write_positive.ensures in
     let is = name-clause s space p.name vs c.deref.result.now c.in_default.ensures written in
     IfErr-weaker c.add_clause.result _ _

@@ -16,9 +16,9 @@ returns c =
     let s = c.args.space.now in
     let atom = c.args.atom.now in
     let providers = c.providers.result.now in
-    let usable : IsUsable s.repository.architecture atom.qualifier = subst (λ (r : PackageList). IsUsable r.architecture atom.qualifier) c.repo-repo.ensures (c.if-not-usable.ensures.0 refl) in
+    let usable : IsUsable s.repository.architecture atom.qualifier = subst (λ (r : PackageList). IsUsable r.architecture atom.qualifier) c.repo-repo.ensures.value (c.if-not-usable.ensures.0 refl) in
     let are : AreProviders s.repository atom.name providers =
-    subst (λ (r : PackageList). AreProviders r atom.name providers) c.repo-repo.ensures (subst (λ (name : List ℕ). AreProviders c.repo-repo.result.now name providers) c.bytes.ensures.value c.providers.ensures) in
+    subst (λ (r : PackageList). AreProviders r atom.name providers) c.repo-repo.ensures.value (subst (λ (name : List ℕ). AreProviders c.repo-repo.result.now name providers) c.bytes.ensures.value c.providers.ensures) in
     let Packages : Meaning → Type 0 = λ m. Any (λ number. MatchedAnd s atom (IsOf number) m) providers in
     let Names = MatchedAnd s atom IsFresh in
     let Matched = IsMatched s atom in

@@ -15,7 +15,7 @@ add_variable-requires c =
     let entry = c.get-entry.result.now in
     let matches = c.if-matches_moved.ensures.0 refl in
     kept-meaning s c.args.atom.now c.args.member c.args.class c.args.place c.args.package.now entry c.requires.member c.get-entry.ensures c.requires.class
-    (subst (λ (r : PackageList). IsUsable r.architecture entry.qualifier) c.repo.ensures matches.usable)
+    (subst (λ (r : PackageList). IsUsable r.architecture entry.qualifier) c.repo.ensures.value matches.usable)
 
 pub returns-then-matches_moved : goal.returns-then-matches_moved
 returns-then-matches_moved c =
@@ -23,7 +23,7 @@ returns-then-matches_moved c =
     let entry = c.get-entry.result.now in
     let example : c.example-example.result.now ≡ example_at (member_classes s c.args.member) c.args.class = c.example-example.ensures ∙ ap (λ (n : ℕ). example_at (cluster_classes s n) c.args.class) c.cluster_of.ensures in
     let matches : MatchesByEntry s.repository.architecture c.args.atom.now (moved_entry c.args.package.now.version c.example-example.result.now entry) =
-    subst (λ (r : PackageList). MatchesByEntry r.architecture c.args.atom.now (moved_entry c.args.package.now.version c.example-example.result.now entry)) c.repo.ensures (c.if-matches_moved.ensures.0 refl) in
+    subst (λ (r : PackageList). MatchesByEntry r.architecture c.args.atom.now (moved_entry c.args.package.now.version c.example-example.result.now entry)) c.repo.ensures.value (c.if-matches_moved.ensures.0 refl) in
     on_ok_weaker c.add_variable.result
     (λ adds. gathers-one s c.args.variables.now.items c.add_variable.new.variables.items (Kept c.args.member c.args.class c.args.place) (IsMatchedBy s c.args.atom.now)
     (kept-matched s c.args.atom.now c.args.member c.args.class c.args.place c.args.package.now entry c.example-example.result.now c.requires.member c.get-entry.ensures example matches) adds)
@@ -36,5 +36,5 @@ returns c =
     let example : c.example-example.result.now ≡ example_at (member_classes s c.args.member) c.args.class = c.example-example.ensures ∙ ap (λ (n : ℕ). example_at (cluster_classes s n) c.args.class) c.cluster_of.ensures in
     gathers-not s c.args.variables.now.items (Kept c.args.member c.args.class c.args.place) (IsMatchedBy s c.args.atom.now)
     (λ matched. false≢true (c.if-matches_moved.ensures.1
-    (subst (λ (r : PackageList). MatchesByEntry r.architecture c.args.atom.now (moved_entry c.args.package.now.version c.example-example.result.now entry)) (sym c.repo.ensures)
+    (subst (λ (r : PackageList). MatchesByEntry r.architecture c.args.atom.now (moved_entry c.args.package.now.version c.example-example.result.now entry)) (sym c.repo.ensures.value)
     (matched-kept s c.args.atom.now c.args.member c.args.class c.args.place c.args.package.now entry c.example-example.result.now c.requires.member c.get-entry.ensures example matched))))
