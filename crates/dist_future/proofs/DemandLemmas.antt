@@ -11,11 +11,11 @@ use Rattle.dist_repo.specs.Healthy.{required_names}
 use Rattle.dist_repo.specs.Match.{IsUsable, Matches}
 use Rattle.dist_repo.specs.declared.package.Package.{Package}
 use Rattle.dist_space.specs.Space.{SpaceView, AreMeaningsOf, IsMatched, IsMeaning, IsMetBy, cluster_classes, fresh_classes, variable_of}
-use Rattle.dist_space_clauses.specs.SpaceClauses.{Demand, OneClass, Gone, Moved, Carried, OneFresh, Item, Apart, StaysNow, AbsentNow, Required, AreSpaceClauses, Excludes, IsBearer, IsClauseFor, IsDemand, IsItemAnd, no, yes}
+use Rattle.dist_space_clauses.specs.SpaceClauses.{Demand, OneClass, Gone, Moved, Carried, OneFresh, Item, Apart, StaysNow, AbsentNow, Required, AreSpaceClauses, Excludes, IsBearer, IsClauseFor, IsDemand, no, yes}
 use Rattle.dist_space.specs.declared.meaning.Meaning.{Meaning}
 use Rattle.dist_space.specs.declared.meaning.Meaning.TheVariants.{Now, Present, At, New, Kept, Fresh}
 use Rattle.dist_space_clauses.specs.DecidedLaws.{any-decided, matches-decided}
-use Rattle.dist_space.specs.ListLaws.{all-contained, any-at, any-cases, any-head, any-later, any-more, at-has, contains-at, has-at, here-at, place-of, within-from}
+use Rattle.dist_space.specs.ListLaws.{all-contained, any-at, any-cases, any-head, any-later, any-more, at-has, contains-at, here-at, place-of, within-from}
 use Rattle.dist_space_clauses.specs.ItemLaws.{item-at, item-has}
 
 -- some meaning that holds meets the item, or has the name

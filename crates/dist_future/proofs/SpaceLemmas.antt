@@ -1,13 +1,9 @@
 -- Clusters, tops and classes of a space.
-use Rattle.std.proofs.Common.{◌≡◌, ◌≢◌, ℕ, ◌<◌, List, [], Some, Equal, length, get_or, map, refl, sym, ap, subst, ◌∙◌, inl, inr, arith, slice_get}
+use Rattle.std.proofs.Common.{◌≡◌, ◌≢◌, ℕ, ◌<◌, List, [], Some, Equal, length, get_or, map, refl, sym, ap, subst, ◌∙◌, slice_get}
 use Rattle.std.specs.Prelude.{AllPairs, Contains, IsSomeAnd, slice_index}
-use Rattle.std.specs.Option.{option_map}
-use Rattle.std.proofs.lemmas.Bool.{cases_lt}
-use Rattle.std.proofs.lemmas.List.{length-map}
-use Rattle.std.proofs.lemmas.List.Elements.{All-contains}
-use Rattle.std.proofs.lemmas.Option.{get_or_from_slice_get, slice_get-get_or, slice_get-map, slice_get_within}
+use Rattle.std.proofs.lemmas.Option.{slice_get-get_or, slice_get_within}
 use Rattle.dist_version.specs.Order.{version_cmp, IsBelow}
-use Rattle.dist_cluster.specs.Partition.{IsClusterOf, IsIn}
+use Rattle.dist_cluster.specs.Partition.{IsIn}
 use Rattle.dist_cluster.specs.Relation.{Member, AreClustered, AreTogether}
 use Rattle.dist_cluster.specs.Top.{IsTop, IsVersionIn}
 use Rattle.dist_repo.specs.declared.package.Package.{Package}
@@ -19,8 +15,8 @@ use Rattle.dist_classes.specs.declared.class_value.Class.TheVariants as class
 use Rattle.dist_future.specs.Future.{IsAboveCluster}
 use Rattle.dist_space.specs.Space.{IsFrame, SpaceView, cluster_classes, fresh_classes, member_classes}
 use Rattle.dist_future.proofs.ClassMatch.{ClassLaws}
-use Rattle.dist_space.specs.ClusterLaws.{HasCluster, has-cluster, in-package, member-at, names-apart, placed-in, whole-at}
-use Rattle.dist_space.specs.ListLaws.{at-has, contains-at, element-at, found-at, has-at, here-at, place-of, within-from}
+use Rattle.dist_space.specs.ClusterLaws.{has-cluster, in-package, member-at, names-apart, placed-in, whole-at}
+use Rattle.dist_space.specs.ListLaws.{at-has, contains-at, has-at, here-at, place-of}
 use Rattle.dist_future.proofs.VersionOrder.{alike-left, alike-right, not-above_below, not-both}
 
 -- ---- classes of equal versions

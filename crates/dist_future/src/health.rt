@@ -13,7 +13,7 @@ use crate::no_future::no_future;
 use dist_clause::Assignment;
 use dist_relation::Alternatives;
 use dist_repo::Package;
-use dist_space::{Space, Meaning};
+use dist_space::{Meaning, Space};
 
 /// Whether something that holds meets the item at a place of a package.
 fn is_met(

@@ -16,7 +16,7 @@ use crate::rejecting::Rejecting;
 use dist_clause::{ClauseSet, Lit, PushError};
 use dist_relation::{Atom, Name};
 use dist_repo::Package;
-use dist_space::{Space, Meaning};
+use dist_space::{Meaning, Space};
 use std::alloc::AllocError;
 
 /// Adds another package as it is, if it stands behind a package and is in conflict with it.
