@@ -2,7 +2,9 @@
 ghost use Rattle.std.specs.Prelude.{◌<◌, length};
 
 use super::*;
-use crate::test_spaces::{Stanza, small_space};
+use crate::test_spaces::{
+    ESSENTIAL, LIBRARY, MOVING, NEW_NAME, ONE_SOURCE, Stanza, VIRTUAL, small_space,
+};
 use dist_base::{MAX_CLAUSES, MAX_LITERALS};
 use dist_clause::{ClauseSet, Lit, PushError};
 use std::alloc::Global;
@@ -58,11 +60,7 @@ fn a_future_of_nothing(rt: HostRuntime) -> Result<(), Fail> {
 fn members_of_one_source(rt: HostRuntime) -> Result<(), Fail> {
     check(
         rt.alloc(),
-        &[
-            ("a", "s", "", "", "", false),
-            ("b", "s", "", "", "", false),
-            ("p", "p", "a (= 1), b (>= 2)", "", "", false),
-        ],
+        &ONE_SOURCE,
         false,
         &[
             &[-5, -8],
@@ -91,11 +89,6 @@ fn members_of_one_source(rt: HostRuntime) -> Result<(), Fail> {
         ],
     )
 }
-
-const LIBRARY: [Stanza; 2] = [
-    ("libx", "libx", "", "", "", false),
-    ("p", "p", "libx (<< 2)", "", "", false),
-];
 
 #[test]
 fn a_version_too_late(rt: HostRuntime) -> Result<(), Fail> {
@@ -128,10 +121,7 @@ fn a_version_too_late(rt: HostRuntime) -> Result<(), Fail> {
 fn an_entry_is_dropped(rt: HostRuntime) -> Result<(), Fail> {
     check(
         rt.alloc(),
-        &[
-            ("p", "p", "q", "m", "", false),
-            ("q", "q", "", "", "m", false),
-        ],
+        &VIRTUAL,
         false,
         &[
             &[-2, -4],
@@ -152,10 +142,7 @@ fn an_entry_is_dropped(rt: HostRuntime) -> Result<(), Fail> {
 fn a_moving_entry(rt: HostRuntime) -> Result<(), Fail> {
     check(
         rt.alloc(),
-        &[
-            ("libx", "libx", "", "", "abi (= 1)", false),
-            ("p", "p", "libx", "abi (>= 2)", "", false),
-        ],
+        &MOVING,
         false,
         &[
             &[-4, -7],
@@ -183,11 +170,6 @@ fn a_moving_entry(rt: HostRuntime) -> Result<(), Fail> {
     )
 }
 
-const BASE: [Stanza; 2] = [
-    ("base", "base", "", "", "", true),
-    ("p", "p", "", "base (>= 2)", "", false),
-];
-
 /// The clauses of mode plain, and then the one of the name.
 const OF_BASE: [&[i32]; 18] = [
     &[-4, -6],
@@ -212,19 +194,19 @@ const OF_BASE: [&[i32]; 18] = [
 
 #[test]
 fn an_essential_name(rt: HostRuntime) -> Result<(), Fail> {
-    check(rt.alloc(), &BASE, true, &OF_BASE)
+    check(rt.alloc(), &ESSENTIAL, true, &OF_BASE)
 }
 
 #[test]
 fn no_name_at_mode_plain(rt: HostRuntime) -> Result<(), Fail> {
-    check(rt.alloc(), &BASE, false, &OF_BASE[..17])
+    check(rt.alloc(), &ESSENTIAL, false, &OF_BASE[..17])
 }
 
 #[test]
 fn a_new_name(rt: HostRuntime) -> Result<(), Fail> {
     check(
         rt.alloc(),
-        &[("p", "p", "foo (<< 1)", "", "", false)],
+        &NEW_NAME,
         false,
         &[
             &[-2, -3],

@@ -1,15 +1,9 @@
 //! Worked rows: the faults of assignments, and which packages have a model under which classes, with all assignments tried.
 use super::*;
 use crate::assignments::{check_faults, check_models};
-use crate::test_spaces::Stanza;
+use crate::test_spaces::{ESSENTIAL, LIBRARY, MOVING, NEW_NAME, ONE_SOURCE, VIRTUAL};
 use dist_space::Meaning::{At, Fresh, Now, Present};
 use std::test::Fail;
-
-/// A library, and a package that needs it below a version.
-const LIBRARY: [Stanza; 2] = [
-    ("libx", "libx", "", "", "", false),
-    ("p", "p", "libx (<< 2)", "", "", false),
-];
 
 #[test]
 fn nothing_installed_is_healthy(rt: HostRuntime) -> Result<(), Fail> {
@@ -35,12 +29,6 @@ fn classes_of_a_cluster_and_an_item(rt: HostRuntime) -> Result<(), Fail> {
         ],
     )
 }
-
-/// What a package needs provides a name that the package is in conflict with.
-const VIRTUAL: [Stanza; 2] = [
-    ("p", "p", "q", "m", "", false),
-    ("q", "q", "", "", "m", false),
-];
 
 #[test]
 fn kept_entries_and_conflicts(rt: HostRuntime) -> Result<(), Fail> {
@@ -73,12 +61,6 @@ fn new_names(rt: HostRuntime) -> Result<(), Fail> {
         ],
     )
 }
-
-/// An essential package, and one that is in conflict with its later versions.
-const ESSENTIAL: [Stanza; 2] = [
-    ("base", "base", "", "", "", true),
-    ("p", "p", "", "base (>= 2)", "", false),
-];
 
 #[test]
 fn essential_names(rt: HostRuntime) -> Result<(), Fail> {
@@ -171,11 +153,7 @@ fn it_does_not_break_what_needs_that(rt: HostRuntime) -> Result<(), Fail> {
 fn members_of_a_cluster_move_together(rt: HostRuntime) -> Result<(), Fail> {
     check_models(
         rt.alloc(),
-        &[
-            ("a", "s", "", "", "", false),
-            ("b", "s", "", "", "", false),
-            ("p", "p", "a (= 1), b (>= 2)", "", "", false),
-        ],
+        &ONE_SOURCE,
         false,
         &[
             (&[Present(0)], true),
@@ -220,7 +198,7 @@ fn no_version_goes_down(rt: HostRuntime) -> Result<(), Fail> {
 fn a_new_name_comes_at_any_version(rt: HostRuntime) -> Result<(), Fail> {
     check_models(
         rt.alloc(),
-        &[("p", "p", "foo (<< 1)", "", "", false)],
+        &NEW_NAME,
         false,
         &[
             (&[Present(0)], true),
@@ -267,10 +245,7 @@ fn a_new_version_drops_an_entry(rt: HostRuntime) -> Result<(), Fail> {
 fn a_new_version_drops_a_moving_entry(rt: HostRuntime) -> Result<(), Fail> {
     check_models(
         rt.alloc(),
-        &[
-            ("libx", "libx", "", "", "abi (= 1)", false),
-            ("p", "p", "libx", "abi (>= 2)", "", false),
-        ],
+        &MOVING,
         false,
         &[
             (&[Now, Present(1)], true),

@@ -19,6 +19,40 @@ pub(crate) type Stanza = (
     bool,
 );
 
+/// A library, and a package that needs it below a version.
+pub(crate) const LIBRARY: [Stanza; 2] = [
+    ("libx", "libx", "", "", "", false),
+    ("p", "p", "libx (<< 2)", "", "", false),
+];
+
+/// Two packages of one source, and one that needs them at versions that they never have together.
+pub(crate) const ONE_SOURCE: [Stanza; 3] = [
+    ("a", "s", "", "", "", false),
+    ("b", "s", "", "", "", false),
+    ("p", "p", "a (= 1), b (>= 2)", "", "", false),
+];
+
+/// What a package needs provides a name that the package is in conflict with.
+pub(crate) const VIRTUAL: [Stanza; 2] = [
+    ("p", "p", "q", "m", "", false),
+    ("q", "q", "", "", "m", false),
+];
+
+/// An entry at the version of its package, and a package that is in conflict with later ones.
+pub(crate) const MOVING: [Stanza; 2] = [
+    ("libx", "libx", "", "", "abi (= 1)", false),
+    ("p", "p", "libx", "abi (>= 2)", "", false),
+];
+
+/// An essential package, and one that is in conflict with its later versions.
+pub(crate) const ESSENTIAL: [Stanza; 2] = [
+    ("base", "base", "", "", "", true),
+    ("p", "p", "", "base (>= 2)", "", false),
+];
+
+/// A package that needs one of a new name.
+pub(crate) const NEW_NAME: [Stanza; 1] = [("p", "p", "foo (<< 1)", "", "", false)];
+
 /// The package of a stanza.
 fn package(alloc: Global, stanza: &Stanza) -> Result<Package, Fail> {
     let (name, source, depends, conflicts, provides, essential) = *stanza;

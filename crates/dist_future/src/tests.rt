@@ -2,7 +2,7 @@
 ghost use Rattle.std.specs.Prelude.{◌<◌, length};
 
 use super::*;
-use crate::test_spaces::{Stanza, space_within};
+use crate::test_spaces::{LIBRARY, ONE_SOURCE, Stanza, space_within};
 use std::alloc::Global;
 use std::test::Fail;
 
@@ -40,11 +40,7 @@ fn check(alloc: Global, stanzas: &[Stanza], meanings: &[Meaning]) -> Result<(), 
 fn members_move_together(rt: HostRuntime) -> Result<(), Fail> {
     check(
         rt.alloc(),
-        &[
-            ("a", "s", "", "", "", false),
-            ("b", "s", "", "", "", false),
-            ("p", "p", "a (= 1), b (>= 2)", "", "", false),
-        ],
+        &ONE_SOURCE,
         &[
             Meaning::Now,
             Meaning::Present(0),
@@ -95,10 +91,7 @@ fn entries_are_kept_and_new_names_come(rt: HostRuntime) -> Result<(), Fail> {
 fn three_classes_of_a_library(rt: HostRuntime) -> Result<(), Fail> {
     check(
         rt.alloc(),
-        &[
-            ("libx", "libx", "", "", "", false),
-            ("p", "p", "libx (<< 2)", "", "", false),
-        ],
+        &LIBRARY,
         &[
             Meaning::Now,
             Meaning::Present(0),
