@@ -4,7 +4,6 @@ pub mod FrameLemmas
 pub mod NewNames
 pub mod NumberingLemmas
 pub mod OneSpace
-pub mod PresentPlaces
 pub mod SizeLemmas
 pub mod Variables
 pub mod WholeSpace

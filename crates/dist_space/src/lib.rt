@@ -10,6 +10,7 @@ mod meaning;
 mod meaning_match;
 mod numbering;
 mod place;
+mod places;
 mod space;
 mod space_laws;
 

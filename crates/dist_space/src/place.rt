@@ -85,7 +85,54 @@ impl Space {
         self.key(first).as_slice() < self.key(second).as_slice()
     }
 
-    /// The variable of a meaning, found by halving where it isn't known at once.
+    /// Where a meaning is looked for first.
+    fn guess(&self, meaning: &Meaning) -> u32 {
+        match *meaning {
+            Meaning::Present(number) => number.wrapping_add(1),
+            Meaning::At(cluster, class) => self.class_guess(cluster, class),
+            Meaning::New(member, class) => self.new_guess(member, class),
+            Meaning::Kept(member, class, entry) => {
+                let new = self.new_guess(member, class);
+                new.wrapping_add(1).wrapping_add(entry)
+            }
+            Meaning::Now | Meaning::Fresh(_, _) => 0,
+        }
+    }
+
+    fn class_guess(&self, cluster: u32, class: u32) -> u32 {
+        let classes = self.class_count(cluster);
+        self.places.of_class(cluster, class, classes)
+    }
+
+    fn new_guess(&self, member: u32, class: u32) -> u32 {
+        let at = self.class_guess(self.cluster_of(member), class);
+        at.wrapping_add(self.places.behind(member))
+    }
+
+    /// Whether the meaning at a place is this one.
+    fn is_at(&self, place: u32, meaning: &Meaning) -> bool
+        ensures { IsTrue result ↔ (slice_get self.now.meanings place ≡ Some meaning.now) }
+    {
+        match self.meanings.get(place as usize) {
+            Some(other) => *other == *meaning,
+            None => false,
+        }
+    }
+
+    /// The place of a meaning, found by halving where it isn't where it is looked for first.
+    fn place(&self, meaning: &Meaning) -> u32
+        requires { IsMeaning self.now meaning.now }
+        ensures { slice_get self.now.meanings result ≡ Some meaning.now }
+    {
+        let guess = self.guess(meaning);
+        if self.is_at(guess, meaning) {
+            return guess;
+        }
+        let meanings = self.meanings.as_slice();
+        meanings.partition_point(|other| self.stands_before(other, meaning)) as u32
+    }
+
+    /// The variable of a meaning.
     pub fn variable(&self, meaning: &Meaning) -> u32
         requires { IsMeaning self.now meaning.now }
         ensures value { result ≡ variable_of self.now meaning.now }
@@ -94,13 +141,9 @@ impl Space {
         ensures stated { result ≤ MAX_VARIABLES }
         ensures back { slice_get self.now.meanings (result - 1) ≡ Some meaning.now }
     {
-        let meanings = self.meanings.as_slice();
-        if let Meaning::Present(number) = *meaning {
-            // Packages as they are today follow Now, in their order.
-            return number + 2;
-        }
-        let before = meanings.partition_point(|other| self.stands_before(other, meaning));
-        before as u32 + 1
+        // What this call tells is that variables stand in their order, and how many there may be.
+        let _variables = self.variables();
+        self.place(meaning) + 1
     }
 
     /// The number of a new name.

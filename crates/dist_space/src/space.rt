@@ -10,6 +10,7 @@ use crate::errors::SpaceError;
 use crate::frame::Frame;
 use crate::meaning::Meaning;
 use crate::numbering::number_meanings;
+use crate::places::Places;
 use crate::space_laws::spaces_are_one;
 use dist_classes::{Classes, Names};
 use dist_cluster::Clusters;
@@ -25,6 +26,7 @@ pub struct Space {
     pub(crate) frame: Frame,
     /// The variable of a number, from 1, has the meaning at the place before.
     pub(crate) meanings: Vec<Meaning>,
+    pub(crate) places: Places,
 }
 
 impl Model for Space {
@@ -74,7 +76,12 @@ pub fn space_of(
     spaces_are_one();
     let frame = Frame::new(alloc, repo, essential)?;
     let meanings = number_meanings(alloc, &frame, variables)?;
-    Ok(Space { frame, meanings })
+    let places = Places::of(alloc, frame.package_count(), &meanings)?;
+    Ok(Space {
+        frame,
+        meanings,
+        places,
+    })
 }
 
 impl Space {
