@@ -42,7 +42,7 @@ exact-err {X} {Y} error other P exact = λ free.
     let both = exact (λ is. free (ap Err (same-error error NoMemory is))) in
     ((λ is. both.0 (ap Err (same-error error other is))), λ p. ap Err (same-error error other (both.1 p)))
 
-exact-none : {Y : Type 0} (other : WorkError) (P : Type 0) → ComesExactly {X = Y} (Err NoMemory) other P
+pub exact-none : {Y : Type 0} (other : WorkError) (P : Type 0) → ComesExactly {X = Y} (Err NoMemory) other P
 exact-none other P = λ free. absurd (free refl)
 
 pub exact-memory : {X Y : Type 0} (error other : WorkError) (P : Type 0) → ComesExactly {X = X} (Err error) other P → ComesExactly {X = Y} (Err (in_memory error)) other P
