@@ -41,7 +41,7 @@ is-archive one many size seed limits r few bytes is =
 pub within-size : OneAnswerLaw → ArchiveLaw → TooManyLaw → (size seed limit : ℕ) (r : PackageList) → size ≤ 2000 → IsRepositoryOf (generated size seed) limit r → IsWithinSize r
 within-size one archive many size seed limit r few is =
     let a = archive size seed limit few (reaches one many size seed limit r few is) in
-    subst IsWithinSize (sym ((one (generated size seed) limit).one_repository r a.repository is a.is_repository)) a.within_size
+    subst IsWithinSize ((one (generated size seed) limit).one_repository r a.repository is a.is_repository) a.within_size
 
 -- a refusal says that there are too many stanzas
 pub is-past : OneAnswerLaw → ArchiveLaw → (size seed limit : ℕ) (error : PackagesError) → size ≤ 2000 → IsRefused (raw_stanzas (generated size seed)) limit error → limit < size
