@@ -1,5 +1,5 @@
 -- A generated text as an archive at a limit.
-use Rattle.std.proofs.Common.{◌≡◌, ◌≢◌, ◌⊎◌, ◌∙◌, List, Result, Ok, Err, IsErrAnd, inl, inr, ℕ, ◌<◌, ◌≤◌, length, refl, sym, subst, arith}
+use Rattle.std.proofs.Common.{◌≡◌, ◌≢◌, ◌⊎◌, ◌∙◌, List, Result, Ok, Err, IsErrAnd, inl, inr, ℕ, ◌<◌, ◌≤◌, length, refl, sym, subst}
 use Rattle.std.proofs.lemmas.Bool.{cases_lt}
 use Rattle.dist_control.specs.RawStanza.{raw_stanzas}
 use Rattle.dist_outside.specs.declared.limits.Limits.{Limits}

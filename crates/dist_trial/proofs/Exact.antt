@@ -5,7 +5,6 @@ use Rattle.dist_outside.specs.declared.trouble.What.{What}
 use Rattle.dist_outside.specs.declared.trouble.What.TheVariants.{Bytes, Stanzas, Variables, Clauses, Literals, Lines, LineLiterals, Certificate, RecordLine}
 use Rattle.dist_outside.specs.declared.trouble.WorkError.{WorkError}
 use Rattle.dist_outside.specs.declared.trouble.WorkError.TheVariants.{ReadFault, WriteFault, TooLarge, NoMemory}
-use Rattle.dist_package.specs.RepositoryOf.{IsRepositoryOf}
 use Rattle.dist_repo.specs.PackageList.{PackageList}
 use Rattle.dist_now.specs.PresentSet.{PassesClauses, PassesLiterals}
 use Rattle.dist_strong.specs.Sweep.{ComesExactly, IsFull}
@@ -13,7 +12,7 @@ use Rattle.dist_generate.specs.Generator.{generated}
 use Rattle.dist_trial.specs.Trial.{ArchiveAnswers, IsTrial, OfArchive, SweptAnswers, TrialAnswers}
 use Rattle.dist_trial.specs.declared.trials.Trial.{Trial}
 use Rattle.dist_trial.proofs.Archives.{OneAnswerLaw}
-use Rattle.dist_trial.proofs.Sweeps.{no-error, same-error}
+use Rattle.dist_trial.proofs.Sweeps.{same-error}
 
 -- ---- an error that comes
 

@@ -1,5 +1,5 @@
 -- The lines of a summary, one after another.
-use Rattle.std.proofs.Common.{◌≡◌, ◌∙◌, ℕ, List, [], ◌++◌, append_assoc, ap, codes}
+use Rattle.std.proofs.Common.{◌≡◌, ◌∙◌, ℕ, List, ◌++◌, append_assoc, ap, codes}
 use Rattle.dist_cert.specs.declared.records.Claim.{Claim}
 use Rattle.dist_trial.specs.Summary.{mark_count, number_line, pair_count, summary_text, uninstallable_count}
 

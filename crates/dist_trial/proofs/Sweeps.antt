@@ -1,12 +1,11 @@
 -- What comes of a sweep and of the check of its file.
-use Rattle.std.proofs.Common.{◌≡◌, ◌≢◌, ◌∙◌, ℕ, cond, false, List, Option, Some, Result, Ok, Err, refl, sym, ap, subst}
+use Rattle.std.proofs.Common.{◌≡◌, ◌≢◌, ◌∙◌, ℕ, cond, false, List, Option, Some, Result, Ok, Err, refl, ap, subst}
 use Rattle.std.proofs.lemmas.Cmp.{nat_list_cmp_total}
 use Rattle.std.specs.Cmp.{eq_by_cmp_equiv}
 use Rattle.std.specs.FinMap.{get, insert, get-insert}
 use Rattle.dist_outside.specs.DeskView.{DeskView, Holds}
 use Rattle.dist_outside.specs.Files.{Files, Mode, Idle, file_bytes, with_file}
 use Rattle.dist_outside.specs.declared.limits.Limits.{Limits}
-use Rattle.dist_outside.specs.declared.trouble.What.{What}
 use Rattle.dist_outside.specs.declared.trouble.What.TheVariants.{Bytes, Stanzas, Variables, Clauses, Literals, Lines, LineLiterals, Certificate, RecordLine}
 use Rattle.dist_outside.specs.declared.trouble.WorkError.{WorkError}
 use Rattle.dist_outside.specs.declared.trouble.WorkError.TheVariants.{ReadFault, WriteFault, TooLarge, NoMemory}
@@ -14,7 +13,7 @@ use Rattle.dist_repo.specs.PackageList.{PackageList}
 use Rattle.dist_cert.specs.declared.faults.CertFault.{CertFault}
 use Rattle.dist_cert.specs.declared.records.Claim.{Claim}
 use Rattle.dist_cert.specs.declared.records.Header.{Header}
-use Rattle.dist_strong.specs.Sweep.{ComesExactly, IsFull, IsSweep, SweepAnswers, header_of}
+use Rattle.dist_strong.specs.Sweep.{ComesExactly, SweepAnswers, header_of}
 use Rattle.dist_check.specs.Answers.{Answers, IsVerdict}
 use Rattle.dist_check.specs.Checking.{OfText}
 use Rattle.dist_check.specs.declared.verdict.Verdict.{Verdict}

@@ -1,4 +1,4 @@
-use Rattle.std.proofs.Common.{false, List, Result}
+use Rattle.std.proofs.Common.{false, Result}
 use Rattle.dist_now.specs.PresentSet.{PassesClauses, PassesLiterals}
 use Rattle.dist_outside.specs.declared.trouble.What.TheVariants.{Clauses, Literals}
 use Rattle.dist_outside.specs.declared.trouble.WorkError.{WorkError}
