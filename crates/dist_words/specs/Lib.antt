@@ -1,0 +1,3 @@
+pub mod Clap
+pub mod CommandLine
+pub mod Table
