@@ -40,27 +40,36 @@ simple_command = record {
 
 -- ---- the words as they were taken
 
--- a command's word, the names of files, the numbers of the options that stand, and whether the flag stands
-pub record Taken : Type 0 where
-  pub command : Option Text
-  pub files : List Text
+-- the numbers of the options that stand, and whether the flag stands
+pub record Options : Type 0 where
   pub limit : Option ℕ
   pub size : Option ℕ
   pub seed : Option ℕ
   pub essential : Bool
 
+-- a command's word, the names of files, and the options
+pub record Taken : Type 0 where
+  pub command : Option Text
+  pub files : List Text
+  pub options : Options
+
 -- the number of an option that stands
 abbrev pub number_of : Text → List Row → Option ℕ
 number_of name rows = option_map (λ text. digits_value 10 (without_leading_plus text)) (one_of name rows)
+
+abbrev pub options_of : List Row → Options
+options_of rows = record {
+  limit = number_of (codes "limit") rows;
+  size = number_of (codes "size") rows;
+  seed = number_of (codes "seed") rows;
+  essential = bytes_eq (unwrap_or (one_of (codes "essential") rows) []) (codes "true");
+}
 
 abbrev pub taken_of : List Row → Taken
 taken_of rows = record {
   command = first_of (codes "command") rows;
   files = unwrap_or (all_of (codes "files") rows) [];
-  limit = number_of (codes "limit") rows;
-  size = number_of (codes "size") rows;
-  seed = number_of (codes "seed") rows;
-  essential = bytes_eq (unwrap_or (one_of (codes "essential") rows) []) (codes "true");
+  options = options_of rows;
 }
 
 -- the words as `clap` states that it matches them, where it takes them

@@ -9,18 +9,18 @@ use Rattle.std.specs.Prelude.{◌≡◌, ◌&&◌, ℕ, Bool, not, List, [], ◌
 use Rattle.std.specs.Str.{bytes_eq}
 use Rattle.clap.specs.Walk.{Text, is_empty}
 use Rattle.clap.specs.Faults.{fault_of}
-use Rattle.dist_words.specs.Clap.{Taken, simple_command, taken}
+use Rattle.dist_words.specs.Clap.{Options, Taken, simple_command, taken}
 use Rattle.dist_words.specs.CommandLine.{CommandLine, Health, Classes, Strong, Check}
 
 -- ---- options
 
 -- neither a size nor a seed stands
-abbrev pub has_no_seed : Taken → Bool
-has_no_seed t = not (is_some t.size) && not (is_some t.seed)
+abbrev pub has_no_seed : Options → Bool
+has_no_seed options = not (is_some options.size) && not (is_some options.seed)
 
 -- no option stands
-abbrev pub has_no_option : Taken → Bool
-has_no_option t = has_no_seed t && (not (is_some t.limit) && not t.essential)
+abbrev pub has_no_option : Options → Bool
+has_no_option options = has_no_seed options && (not (is_some options.limit) && not options.essential)
 
 -- ---- files
 
@@ -38,18 +38,20 @@ with_two command files = None
 abbrev pub where_allowed : Bool → Option CommandLine → Option CommandLine
 where_allowed allowed line = if allowed then line else None
 
--- the command of a word
-abbrev pub in_table : Text → Taken → Option CommandLine
-in_table word t =
-    if bytes_eq word (codes "health") then where_allowed (has_no_option t) (with_two Health t.files)
-    else (if bytes_eq word (codes "classes") then where_allowed (has_no_option t) (with_one Classes t.files)
-    else (if bytes_eq word (codes "strong") then where_allowed (has_no_seed t) (with_two (λ packages cert. Strong packages cert t.essential (unwrap_or t.limit 10000)) t.files)
-    else (if bytes_eq word (codes "check") then where_allowed (has_no_option t) (with_two Check t.files)
+abbrev pub strong_with : Options → Text → Text → CommandLine
+strong_with options packages cert = Strong packages cert options.essential (unwrap_or options.limit 10000)
+
+abbrev pub in_table : Text → List Text → Options → Option CommandLine
+in_table word files options =
+    if bytes_eq word (codes "health") then where_allowed (has_no_option options) (with_two Health files)
+    else (if bytes_eq word (codes "classes") then where_allowed (has_no_option options) (with_one Classes files)
+    else (if bytes_eq word (codes "strong") then where_allowed (has_no_seed options) (with_two (strong_with options) files)
+    else (if bytes_eq word (codes "check") then where_allowed (has_no_option options) (with_two Check files)
     else None)))
 
 -- the command that the table has for what was taken
 abbrev pub accepted : Taken → Option CommandLine
-accepted t = in_table (unwrap_or t.command []) t
+accepted t = in_table (unwrap_or t.command []) t.files t.options
 
 -- The command of the words: what `clap` states that it matches, accepted by the table. There is none where `clap` states
 -- that it refuses the words, or the table has none.
