@@ -1,5 +1,5 @@
 -- What a chain of `.arg(..)` calls makes of a command, and what a getter reads of one of its arguments.
-use Rattle.std.proofs.Common.{◌≡◌, ◌≤◌, ◌∙◌, ◌++◌, ◌<◌, ◌&&◌, ◌||◌, ap, suc, zero, ℕ, Bool, true, false, not, List, [], ◌∷◌, length, map, is_some, Option, Some, None, refl, sym, subst, inl, inr, arith, append-nil, append_assoc}
+use Rattle.std.proofs.Common.{◌≡◌, ◌∙◌, ◌++◌, ◌<◌, ◌&&◌, ◌||◌, ap, suc, zero, ℕ, Bool, true, false, not, List, [], ◌∷◌, length, map, is_some, Option, Some, None, refl, sym, subst, inl, inr, arith, append-nil, append_assoc}
 use Rattle.std.specs.List.{All, slice_index_or}
 use Rattle.std.specs.Prelude.{option_map, slice_get}
 use Rattle.std.specs.Str.{bytes_eq}
@@ -53,16 +53,15 @@ chain_facts c d (x ∷ xs) h all plain globals negates =
       f.5,
     )
 
-
 -- ---- an argument with an id of its own
 
 -- no rule has the id
-no_rule : Text → List Rule → Bool
+unfoldable pub no_rule : Text → List Rule → Bool
 no_rule id [] = true
 no_rule id (r ∷ rules) = not (bytes_eq r.id id) && no_rule id rules
 
 -- no rule but the one at this place has the id
-pub alone : ℕ → Text → List Rule → Bool
+unfoldable pub alone : ℕ → Text → List Rule → Bool
 alone k id [] = true
 alone zero id (r ∷ rules) = no_rule id rules
 alone (suc k) id (r ∷ rules) = not (bytes_eq r.id id) && alone k id rules

@@ -5,7 +5,7 @@
 --   classes    PACKAGES          none
 --   strong     PACKAGES CERT     --limit, --essential
 --   check      PACKAGES CERT     none
-use Rattle.std.specs.Prelude.{◌≡◌, ◌&&◌, ℕ, Bool, not, List, [], ◌∷◌, Option, Some, None, is_some, if◌then◌else◌, codes, unwrap_or}
+use Rattle.std.specs.Prelude.{◌≡◌, ◌&&◌, Bool, not, List, [], ◌∷◌, Option, Some, None, is_some, if◌then◌else◌, codes, unwrap_or}
 use Rattle.std.specs.Str.{bytes_eq}
 use Rattle.clap.specs.Walk.{Text, is_empty}
 use Rattle.clap.specs.Faults.{fault_of}

@@ -1,6 +1,6 @@
 -- Worked examples of the table.
 use Rattle.std.specs.Prelude.{◌≡◌, true, false, [], ◌∷◌, Some, None, codes, refl}
-use Rattle.dist_words.specs.CommandLine.{Strong, Check}
+use Rattle.dist_words.specs.CommandLine.{Strong}
 use Rattle.dist_words.specs.Table.{in_table}
 
 -- `strong f g`, with no limit
