@@ -5,7 +5,6 @@ pub mod HealthStages
 pub mod ClassesStages
 pub mod Due
 pub mod Lists
-pub mod Three
 pub mod KindText
 pub mod Writing
 pub mod PartLemmas

@@ -83,9 +83,9 @@ pub record Runs (words : List (List ℕ)) (limits : Limits) (result : Status) (d
   pub ends : EndsAs ending result desk desk' out out'
   pub told : IsTold ending.err err err'
   pub leaves : Leaves words desk desk'
-  -- Bad words are told exactly where the words are of no command.
+  -- Bad words are told exactly where the words are of no command, but for want of memory.
   pub words_refused : (result ≡ status.BadWords) → IsBadWords words
-  pub words_told : IsBadWords words → result ≡ status.BadWords
+  pub words_told : IsBadWords words → (result ≡ status.BadWords) ⊎ (result ≡ status.NoMemory)
   -- Faults are told only where they were counted.
   pub read_fault : result ≡ status.ReadFault → Rose desk.read_faults desk'.read_faults
   pub write_fault : result ≡ status.WriteFault → Rose out.faults out'.faults ⊎ Rose desk.write_faults desk'.write_faults

@@ -2,6 +2,9 @@
 #![tactic(auto)]
 
 mod answer;
+mod cause_text;
+mod check_command;
+mod claims;
 mod classes_command;
 mod command;
 mod fault_text;
@@ -15,8 +18,8 @@ mod pieces;
 mod refusal;
 mod refusal_text;
 mod status;
+mod strong_command;
 mod top_call;
-mod words;
 
 pub use laws::archives_have_reports;
 pub use status::Status;
