@@ -25,6 +25,7 @@ fn has_mark(claim: &Claim) -> bool
 }
 
 /// The status of a run that reports claims.
+#[tactic(auto, using(crate::proofs::Marks::marked, crate::proofs::Marks::none_more, crate::proofs::Marks::unmarked))]
 fn claims_status(claims: &Claims) -> Status
     ensures { result ≡ claims_status claims.now }
 {
