@@ -31,7 +31,15 @@ fn options_are_read(rt: HostRuntime) -> Result<(), Fail> {
     assert_eq!(rt; equals, Some((3, false)));
     let before = strong_options(
         alloc,
-        &["--essential", "--limit", "1000000", "strong", "f", "--", "g"],
+        &[
+            "--essential",
+            "--limit",
+            "1000000",
+            "strong",
+            "f",
+            "--",
+            "g",
+        ],
     )?;
     assert_eq!(rt; before, Some((1_000_000, true)));
     Ok(())
@@ -41,11 +49,15 @@ fn options_are_read(rt: HostRuntime) -> Result<(), Fail> {
 fn files_are_read(rt: HostRuntime) -> Result<(), Fail> {
     let alloc = rt.alloc();
     let words = all(alloc, &["health", "f", "g"])?;
-    assert!(rt; matches!(command_of(alloc, &words), Ok(Command::Health(files)) if files.packages == "f" && files.list == "g"));
+    assert!(rt;
+        matches!(command_of(alloc, &words), Ok(Command::Health(files)) if files.packages == "f" && files.list == "g")
+    );
     let words = all(alloc, &["classes", "f"])?;
     assert!(rt; matches!(command_of(alloc, &words), Ok(Command::Classes("f"))));
     let words = all(alloc, &["check", "f", "g"])?;
-    assert!(rt; matches!(command_of(alloc, &words), Ok(Command::Check(files)) if files.packages == "f" && files.cert == "g"));
+    assert!(rt;
+        matches!(command_of(alloc, &words), Ok(Command::Check(files)) if files.packages == "f" && files.cert == "g")
+    );
     Ok(())
 }
 
