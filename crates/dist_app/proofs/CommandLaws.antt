@@ -1,5 +1,5 @@
--- Where the desk tells its files, a refusal of a command that its inputs decide is its only end.
-use Rattle.std.proofs.Common.{◌≡◌, ◌≤◌, ◌<◌, ℕ, List, Bool, inl, inr, Option, Some, length, ap, sym, ◌∙◌, subst, arith}
+-- Where the desk tells its files, a refusal that comes before anything is written is the only end of a command.
+use Rattle.std.proofs.Common.{◌≡◌, ◌≤◌, ◌<◌, ℕ, List, Bool, inl, inr, Option, Some, None, length, refl, ap, sym, ◌∙◌, subst, arith}
 use Rattle.dist_outside.specs.Files.{Files}
 use Rattle.dist_outside.specs.declared.limits.Limits.{Limits}
 use Rattle.dist_package.specs.OneAnswer.{HasOneAnswer}
@@ -7,16 +7,21 @@ use Rattle.dist_package.specs.declared.error.PackagesError.{PackagesError}
 use Rattle.dist_package.specs.declared.error.PackagesError.TheVariants as packages_error
 use Rattle.dist_repo.specs.PackageList.{PackageList}
 use Rattle.dist_repo.specs.declared.package.Package.{Package}
-use Rattle.dist_app.specs.Classes.{ClassesDecides, TellsClasses}
-use Rattle.dist_app.specs.Command.{CommandLine, Health, Classes, CommandDecides, words_of}
-use Rattle.dist_app.specs.Health.{ListStage, Judges, HealthDecides}
+use Rattle.dist_words.specs.CommandLine.{CommandLine, Health, Classes, Strong, Check}
+use Rattle.dist_words.specs.Table.{command_of}
+use Rattle.dist_app.specs.Check.{Checks}
+use Rattle.dist_app.specs.Classes.{TellsClasses}
+use Rattle.dist_app.specs.Command.{CommandDecides, CommandRefuses, CommandIsGivenUp}
+use Rattle.dist_app.specs.Health.{ListStage, Judges}
+use Rattle.dist_app.specs.PackagesStage.{PackagesStage}
 use Rattle.dist_app.specs.RepositoryStage.{IsEndOf, RepositoryStage}
-use Rattle.dist_app.specs.Run.{Decides}
-use Rattle.dist_app.specs.Stages.{Ending, Goes, Ends, IsDetermined, RefusesAlone, refused}
+use Rattle.dist_app.specs.Run.{Decides, Refuses, IsGivenUp}
+use Rattle.dist_app.specs.Stages.{Ending, Goes, Ends, IsDetermined, Excludes, Then, refused}
+use Rattle.dist_app.specs.Strong.{ClausesStage, StrongStages, Sweeps}
 use Rattle.dist_app.specs.TextStage.{TextStage}
 use Rattle.dist_app.specs.declared.refusal.Refusal.TheVariants as refusal
 use Rattle.dist_app.proofs.Lists.{NamesSet-one, NamesSet-not_bad, IsBadAt-one}
-use Rattle.dist_app.proofs.StageLaws.{then_refuses_alone}
+use Rattle.dist_app.proofs.StageLaws.{apart, nothing_excludes, same_end as same_ending, same_value, then_excludes}
 
 same_text : (a b : List ℕ) (whole : Option (List ℕ)) → whole ≡ Some a → whole ≡ Some b → b ≡ a
 same_text a b whole first second = cc
@@ -54,43 +59,80 @@ list_determined files packages text (Ends e) (Goes b) (line, bad, is) g = absurd
 list_determined files packages text (Ends e) (Ends other) (line, bad, is) (line', bad', is') =
     ap Ends (is' ∙ ap (λ (n : ℕ). refused files (refusal.BadList n)) (IsBadAt-one packages text line line' bad bad') ∙ sym is)
 
--- a judgement is no refusal, which tells something
-judges_alone : (files : Option Files) (repository : PackageList) (members : List Bool) → RefusesAlone files (Judges files repository members)
-judges_alone files repository members r ending first second = let e = ap (λ (x : Ending). x.err) first.is in cc
+packages_determined : AreExact → (files : Files) (limits : Limits) (name : List ℕ) → IsDetermined (PackagesStage (Some files) limits name)
+packages_determined exact files limits name (Goes a) (Goes b) (t, f, g) (u, h, k) =
+    let same : u ≡ t = same_value u t (text_determined files name limits.bytes (Goes t) (Goes u) f h) in
+    repository_determined exact (Some files) limits.stanzas t (Goes a) (Goes b) g (subst (λ (x : List ℕ). RepositoryStage (Some files) limits.stanzas x (Goes b)) same k)
+packages_determined exact files limits name (Goes a) (Ends e) (t, f, g) (inl k) = absurd (apart e t (text_determined files name limits.bytes (Goes t) (Ends e) f k))
+packages_determined exact files limits name (Goes a) (Ends e) (t, f, g) (inr (u, h, k)) =
+    let same : u ≡ t = same_value u t (text_determined files name limits.bytes (Goes t) (Goes u) f h) in
+    absurd (apart e a (repository_determined exact (Some files) limits.stanzas t (Goes a) (Ends e) g (subst (λ (x : List ℕ). RepositoryStage (Some files) limits.stanzas x (Ends e)) same k)))
+packages_determined exact files limits name (Ends e) (Goes b) (inl g) (u, h, k) = absurd (apart e u (sym (text_determined files name limits.bytes (Ends e) (Goes u) g h)))
+packages_determined exact files limits name (Ends e) (Goes b) (inr (t, f, g)) (u, h, k) =
+    let same : u ≡ t = same_value u t (text_determined files name limits.bytes (Goes t) (Goes u) f h) in
+    absurd (apart e b (sym (repository_determined exact (Some files) limits.stanzas t (Ends e) (Goes b) g (subst (λ (x : List ℕ). RepositoryStage (Some files) limits.stanzas x (Goes b)) same k))))
+packages_determined exact files limits name (Ends e) (Ends o) (inl g) (inl k) = ap Ends (same_ending o e (text_determined files name limits.bytes (Ends e) (Ends o) g k))
+packages_determined exact files limits name (Ends e) (Ends o) (inl g) (inr (u, h, k)) = absurd (apart e u (sym (text_determined files name limits.bytes (Ends e) (Goes u) g h)))
+packages_determined exact files limits name (Ends e) (Ends o) (inr (t, f, g)) (inl k) = absurd (apart o t (text_determined files name limits.bytes (Goes t) (Ends o) f k))
+packages_determined exact files limits name (Ends e) (Ends o) (inr (t, f, g)) (inr (u, h, k)) =
+    let same : u ≡ t = same_value u t (text_determined files name limits.bytes (Goes t) (Goes u) f h) in
+    repository_determined exact (Some files) limits.stanzas t (Ends e) (Ends o) g (subst (λ (x : List ℕ). RepositoryStage (Some files) limits.stanzas x (Ends o)) same k)
 
-health_alone : AreExact → (files : Files) (limits : Limits) (packages list : List ℕ) → RefusesAlone (Some files) (HealthDecides (Some files) limits packages list)
-health_alone exact files limits packages list =
-    then_refuses_alone (Some files) (TextStage (Some files) packages limits.bytes) _ (text_determined files packages limits.bytes) (λ text goes.
-    then_refuses_alone (Some files) (RepositoryStage (Some files) limits.stanzas text) _ (repository_determined exact (Some files) limits.stanzas text) (λ repository reads.
-    then_refuses_alone (Some files) (TextStage (Some files) list limits.bytes) _ (text_determined files list limits.bytes) (λ names whole.
-    then_refuses_alone (Some files) (ListStage (Some files) repository.packages names) _ (list_determined (Some files) repository.packages names) (λ members has.
-    judges_alone (Some files) repository members))))
+clauses_determined : (files : Option Files) (limits : Limits) (essential : Bool) (r : PackageList) → IsDetermined (ClausesStage files limits essential r)
+clauses_determined files limits essential r (Goes a) (Goes b) f g = refl
+clauses_determined files limits essential r (Goes a) (Ends e) (clauses, literals) (inl (passes, is)) = absurd (clauses passes)
+clauses_determined files limits essential r (Goes a) (Ends e) (clauses, literals) (inr (not, passes, is)) = absurd (literals passes)
+clauses_determined files limits essential r (Ends e) (Goes b) (inl (passes, is)) (clauses, literals) = absurd (clauses passes)
+clauses_determined files limits essential r (Ends e) (Goes b) (inr (not, passes, is)) (clauses, literals) = absurd (literals passes)
+clauses_determined files limits essential r (Ends e) (Ends o) (inl (passes, is)) (inl (passes', is')) = ap Ends (is' ∙ sym is)
+clauses_determined files limits essential r (Ends e) (Ends o) (inl (passes, is)) (inr (not, passes', is')) = absurd (not passes)
+clauses_determined files limits essential r (Ends e) (Ends o) (inr (not, passes, is)) (inl (passes', is')) = absurd (not passes')
+clauses_determined files limits essential r (Ends e) (Ends o) (inr (not, passes, is)) (inr (not', passes', is')) = ap Ends (is' ∙ sym is)
 
--- nor is the report of the classes
-tells_alone : (files : Option Files) (repository : PackageList) → RefusesAlone files (TellsClasses files repository)
-tells_alone files repository r ending first second = let e = ap (λ (x : Ending). x.err) first.is in cc
+strong_excludes : AreExact → (files : Files) (limits : Limits) (packages : List ℕ) (essential : Bool) (Last : PackageList → Ending → Type 0)
+    → Excludes (StrongStages (Some files) limits packages essential (λ r ending. ⊥)) (StrongStages (Some files) limits packages essential Last)
+strong_excludes exact files limits packages essential Last =
+    then_excludes (PackagesStage (Some files) limits packages) _ _ (packages_determined exact files limits packages) (λ r goes.
+    then_excludes (ClausesStage (Some files) limits essential r) _ _ (clauses_determined (Some files) limits essential r) (λ _ kept.
+    nothing_excludes (Last r)))
 
-classes_alone : AreExact → (files : Files) (limits : Limits) (packages : List ℕ) → RefusesAlone (Some files) (ClassesDecides (Some files) limits packages)
-classes_alone exact files limits packages =
-    then_refuses_alone (Some files) (TextStage (Some files) packages limits.bytes) _ (text_determined files packages limits.bytes) (λ text goes.
-    then_refuses_alone (Some files) (RepositoryStage (Some files) limits.stanzas text) _ (repository_determined exact (Some files) limits.stanzas text) (λ repository reads.
-    tells_alone (Some files) repository))
+command_excludes : AreExact → (line : CommandLine) (files : Files) (limits : Limits) → Excludes (CommandRefuses line (Some files) limits) (CommandDecides line (Some files) limits)
+command_excludes exact (Health packages list) files limits =
+    then_excludes (PackagesStage (Some files) limits packages) _ _ (packages_determined exact files limits packages) (λ r goes.
+    then_excludes (TextStage (Some files) list limits.bytes) _ _ (text_determined files list limits.bytes) (λ names whole.
+    then_excludes (ListStage (Some files) r.packages names) _ _ (list_determined (Some files) r.packages names) (λ members has.
+    nothing_excludes (Judges (Some files) r members))))
+command_excludes exact (Classes packages) files limits =
+    then_excludes (PackagesStage (Some files) limits packages) _ _ (packages_determined exact files limits packages) (λ r goes. nothing_excludes (TellsClasses (Some files) r))
+command_excludes exact (Strong packages cert essential limit) files limits = strong_excludes exact files limits packages essential (Sweeps (Some files) limits cert essential limit)
+command_excludes exact (Check packages cert) files limits =
+    then_excludes (PackagesStage (Some files) limits packages) _ _ (packages_determined exact files limits packages) (λ r goes. nothing_excludes (Checks (Some files) limits cert r))
 
-command_alone : AreExact → (line : CommandLine) (files : Files) (limits : Limits) → RefusesAlone (Some files) (CommandDecides line (Some files) limits)
-command_alone exact (Health packages list) files limits = health_alone exact files limits packages list
-command_alone exact (Classes packages) files limits = classes_alone exact files limits packages
+-- nor is a fault of writing the end
+given_up_excludes : AreExact → (line : CommandLine) (files : Files) (limits : Limits)
+    → Excludes (CommandRefuses line (Some files) limits) (CommandIsGivenUp line (Some files) limits refusal.WriteFault)
+given_up_excludes exact (Health packages list) files limits end ending refuses given_up = absurd given_up
+given_up_excludes exact (Classes packages) files limits end ending refuses given_up = absurd given_up
+given_up_excludes exact (Strong packages cert essential limit) files limits end ending refuses given_up =
+    strong_excludes exact files limits packages essential (λ r e. Unit {0}) end ending refuses (inr (given_up.repository, given_up.read, inr (tt, given_up.kept refl, tt)))
+given_up_excludes exact (Check packages cert) files limits end ending refuses given_up = absurd given_up
 
--- words are of one command
-same_line : (line other : CommandLine) → words_of line ≡ words_of other → other ≡ line
-same_line (Health p l) (Health p' l') is = let same_p : p' ≡ p = cc in let same_l : l' ≡ l = cc in ap (λ (x : List ℕ). Health x l') same_p ∙ ap (λ (x : List ℕ). Health p x) same_l
-same_line (Health p l) (Classes p') is = cc
-same_line (Classes p) (Health p' l') is = cc
-same_line (Classes p) (Classes p') is = let same_p : p' ≡ p = cc in ap (λ (x : List ℕ). Classes x) same_p
+one_line : (line other : CommandLine) (found : Option CommandLine) → found ≡ Some line → found ≡ Some other → other ≡ line
+one_line line other found is is' = cc
 
-pub decides_alone : AreExact → (words : List (List ℕ)) (files : Files) (limits : Limits) → RefusesAlone (Some files) (Decides words (Some files) limits)
-decides_alone exact words files limits r ending (inl (bad, is)) (inl (bad', is')) = is' ∙ sym is
-decides_alone exact words files limits r ending (inl (bad, is)) (inr (line, is_line, decides)) = absurd (bad line is_line)
-decides_alone exact words files limits r ending (inr (line, is_line, decides)) (inl (bad, is)) = absurd (bad line is_line)
-decides_alone exact words files limits r ending (inr (line, is_line, decides)) (inr (other, is_other, decides')) =
-    let same : other ≡ line = same_line line other (sym is_line ∙ is_other) in
-    command_alone exact line files limits r ending decides (subst (λ (x : CommandLine). CommandDecides x (Some files) limits ending) same decides')
+no_line : (line : CommandLine) (found : Option CommandLine) → found ≡ None → found ≡ Some line → ⊥
+no_line line found none is = cc
+
+pub decides_excludes : AreExact → (words : List (List ℕ)) (files : Files) (limits : Limits) → Excludes (Refuses words (Some files) limits) (Decides words (Some files) limits)
+decides_excludes exact words files limits end ending (inl (bad, is)) (inl (bad', is')) = is' ∙ sym is
+decides_excludes exact words files limits end ending (inl (bad, is)) (inr (line, is_line, decides)) = absurd (no_line line (command_of words) bad is_line)
+decides_excludes exact words files limits end ending (inr (line, is_line, refuses)) (inl (bad, is)) = absurd (no_line line (command_of words) bad is_line)
+decides_excludes exact words files limits end ending (inr (line, is_line, refuses)) (inr (other, is_other, decides)) =
+    command_excludes exact line files limits end ending refuses
+    (subst (λ (x : CommandLine). CommandDecides x (Some files) limits ending) (one_line line other (command_of words) is_line is_other) decides)
+
+pub fault_excludes : AreExact → (words : List (List ℕ)) (files : Files) (limits : Limits) → Excludes (Refuses words (Some files) limits) (IsGivenUp words (Some files) limits refusal.WriteFault)
+fault_excludes exact words files limits end ending (inl (bad, is)) (line, is_line, given_up) = absurd (no_line line (command_of words) bad is_line)
+fault_excludes exact words files limits end ending (inr (line, is_line, refuses)) (other, is_other, given_up) =
+    given_up_excludes exact line files limits end ending refuses
+    (subst (λ (x : CommandLine). CommandIsGivenUp x (Some files) limits refusal.WriteFault ending) (one_line line other (command_of words) is_line is_other) given_up)

@@ -1,10 +1,14 @@
 -- Why a chain of stages was given up, from why its parts were.
-use Rattle.std.proofs.Common.{inl, inr, Option, Result, Ok, Err, IfOk, IfErr, subst}
+use Rattle.std.proofs.Common.{inl, inr, ℕ, List, Option, Result, Ok, Err, IfOk, IfErr, sym, subst}
 use Rattle.dist_outside.specs.Files.{Files}
 use Rattle.dist_outside.specs.DeskView.{DeskView, OnlyReads}
-use Rattle.dist_app.specs.Due.{IsDue, IsGivenUp}
-use Rattle.dist_app.specs.Stages.{Ending, refused}
+use Rattle.dist_outside.specs.declared.limits.Limits.{Limits}
+use Rattle.dist_words.specs.CommandLine.{CommandLine}
+use Rattle.dist_app.specs.Command.{CommandDecides}
+use Rattle.dist_app.specs.Due.{IsDue, IsGivenUp, Stops}
+use Rattle.dist_app.specs.Stages.{Ending, answered, refused}
 use Rattle.dist_app.specs.declared.refusal.Refusal.{Refusal}
+use Rattle.dist_app.specs.declared.status.Status.{Status}
 use Rattle.dist_app.proofs.Writing.{rose_earlier}
 
 -- a part that was given up gives up the whole that it decides
@@ -34,3 +38,17 @@ ok_more (Err error) P Q more has = tt
 pub err_more : {X E : Type 0} (result : Result X E) (P Q : E → Type 0) → ((error : E) → P error → Q error) → IfErr result P → IfErr result Q
 err_more (Ok value) P Q more has = tt
 err_more (Err error) P Q more has = more error has
+
+-- what a command was given up for, where it only read
+pub due_stops : (line : CommandLine) (limits : Limits) (Part : Ending → Type 0) (old new : DeskView) (why : Refusal) → ((ending : Ending) → Part ending → CommandDecides line old.files limits ending)
+    → OnlyReads old new → IsDue Part old new why → Stops line limits old new why
+due_stops line limits Part old new why more reads (inl (is, rose)) = inr (inl (is, reads.files_stay, rose))
+due_stops line limits Part old new why more reads (inr (inl memory)) = inr (inr (inr (memory, inl reads.files_stay)))
+due_stops line limits Part old new why more reads (inr (inr decided)) =
+    inl (subst (λ (files : Option Files). CommandDecides line old.files limits (refused files why)) (sym reads.files_stay) (more (refused old.files why) decided))
+
+-- and what it answers then
+pub read_answers : (line : CommandLine) (limits : Limits) (old new : DeskView) (status : Status) (text : List ℕ) → OnlyReads old new
+    → CommandDecides line old.files limits (answered old.files status text) → CommandDecides line old.files limits (answered new.files status text)
+read_answers line limits old new status text reads decides =
+    subst (λ (files : Option Files). CommandDecides line old.files limits (answered files status text)) (sym reads.files_stay) decides

@@ -1,93 +1,60 @@
 -- How a run ends, from how carrying out its command does.
-use Rattle.std.proofs.Common.{◌≡◌, ◌⊎◌, ℕ, List, [], inl, inr, Option, Result, Ok, Err, MatchResult, refl, ap, sym, subst}
+use Rattle.std.proofs.Common.{◌≡◌, ◌⊎◌, ◌≤◌, ℕ, List, [], length, take, inl, inr, Option, Some, None, Result, Ok, Err, MatchResult, refl, ap, sym, ◌∙◌, subst, arith}
+use Rattle.dist_base.specs.Front.{IsFrontOf}
 use Rattle.dist_outside.specs.Counts.{Rose}
-use Rattle.dist_outside.specs.Files.{Files}
-use Rattle.dist_outside.specs.DeskView.{DeskView}
+use Rattle.dist_outside.specs.Files.{Files, IsNotWriting}
+use Rattle.dist_outside.specs.DeskView.{DeskView, OnlyReads}
 use Rattle.dist_outside.specs.SinkView.{SinkView, Grew, GrewByFront, WriteCause}
 use Rattle.dist_outside.specs.declared.limits.Limits.{Limits}
-use Rattle.dist_outside.specs.declared.trouble.What.TheVariants.{Bytes, Stanzas}
 use Rattle.dist_outside.specs.declared.trouble.WorkError.{WorkError}
 use Rattle.dist_outside.specs.declared.trouble.WorkError.TheVariants as work
-use Rattle.dist_package.specs.declared.error.PackagesError.{PackagesError}
-use Rattle.dist_package.specs.declared.error.PackagesError.TheVariants as packages_error
-use Rattle.dist_now.specs.declared.kinds.Health.{Health as Judgement}
-use Rattle.dist_now.specs.declared.kinds.Health.TheVariants as health
-use Rattle.dist_repo.specs.declared.package.Package.{Package}
+use Rattle.dist_words.specs.CommandLine.{CommandLine}
+use Rattle.dist_words.specs.Table.{IsBadWords, command_of}
 use Rattle.dist_app.specs.Carried.{IsAnswered, IsRefused, Prints}
-use Rattle.dist_app.specs.Due.{IsDue}
-use Rattle.dist_app.specs.Health.{Tells, HealthDecides}
+use Rattle.dist_app.specs.Command.{CommandDecides, CommandIsGivenUp, OnlyReadsFiles}
+use Rattle.dist_app.specs.Due.{LeavesDesk, Stops}
 use Rattle.dist_app.specs.Refusal.{status_of, refusal_text, refusal_of}
-use Rattle.dist_app.specs.RepositoryStage.{IsEndOf}
-use Rattle.dist_app.specs.Classes.{ClassesDecides}
-use Rattle.dist_app.specs.Command.{CommandLine, Health, Classes, CommandDecides, words_of}
-use Rattle.dist_app.specs.Run.{IsBadWords, Decides}
+use Rattle.dist_app.specs.Run.{Decides, Leaves}
 use Rattle.dist_app.specs.Stages.{Ending, refused, answered}
 use Rattle.dist_app.specs.declared.refusal.Refusal.{Refusal}
 use Rattle.dist_app.specs.declared.refusal.Refusal.TheVariants as refusal
 use Rattle.dist_app.specs.declared.status.Status.{Status}
-use Rattle.dist_app.specs.declared.status.Status.TheVariants.{Done, BadWords, BadPackages, ReadFault, WriteFault, NoMemory, TooLarge, NotHealthy, BadList}
+use Rattle.dist_app.specs.declared.status.Status.TheVariants.{WriteFault, NoMemory}
+use Rattle.dist_app.proofs.Refused.{not_read_fault, not_write_fault}
 
--- the statuses that the files and the limits may decide
-abbrev pub IsOfFiles : Status → Type 0
-IsOfFiles Done = Unit {0}
-IsOfFiles NotHealthy = Unit {0}
-IsOfFiles BadPackages = Unit {0}
-IsOfFiles BadList = Unit {0}
-IsOfFiles TooLarge = Unit {0}
-IsOfFiles _ = ⊥
+-- ---- the desk
 
-from_status : (ending other : Ending) → ending ≡ other → IsOfFiles other.status → IsOfFiles ending.status
-from_status ending other is of = subst (λ (e : Ending). IsOfFiles e.status) (sym is) of
+pub untouched : (words : List (List ℕ)) (desk : DeskView) → IsNotWriting desk.mode → Leaves words desk desk
+untouched words desk idle = record {
+  not_writing = idle;
+  read_faults_stand = omega arith;
+  write_faults_stand = omega arith;
+  only_reads = λ _. record { files_stay = refl; not_writing = idle; read_faults_stand = omega arith; write_faults_stay = refl };
+}
 
-end_of_packages : (files : Option Files) (error : PackagesError) (ending : Ending) → IsEndOf files error ending → IsOfFiles ending.status
-end_of_packages files (packages_error.Bad fault) ending is = from_status ending (refused files (refusal.BadPackages fault)) is tt
-end_of_packages files packages_error.TooMany ending is = from_status ending (refused files (refusal.TooLarge Stanzas)) is tt
-end_of_packages files packages_error.NoMemory ending is = absurd is
+pub command_leaves : (words : List (List ℕ)) (line : CommandLine) (desk desk' : DeskView) → command_of words ≡ Some line → LeavesDesk desk desk'
+    → (OnlyReadsFiles line → OnlyReads desk desk') → Leaves words desk desk'
+command_leaves words line desk desk' is leaves reads = record {
+  not_writing = leaves.not_writing;
+  read_faults_stand = leaves.read_faults_stand;
+  write_faults_stand = leaves.write_faults_stand;
+  only_reads = λ each. reads (each line is);
+}
 
-told_status : (packages : List Package) (kind : Judgement) (status : Status) (line : List ℕ) → Tells packages kind status line → IsOfFiles status
-told_status packages health.Healthy status line tells = subst IsOfFiles (sym tells.0) tt
-told_status packages (health.TwoVersions p q) status line tells = subst IsOfFiles (sym tells.0) tt
-told_status packages (health.Unmet p place) status line tells = subst IsOfFiles (sym tells.0) tt
-told_status packages (health.Conflict p q) status line tells = subst IsOfFiles (sym tells.0) tt
-told_status packages (health.EssentialMissing p) status line tells = absurd tells
+-- ---- the ends
 
-pub health_status : (files : Option Files) (limits : Limits) (packages list : List ℕ) (ending : Ending) → HealthDecides files limits packages list ending → IsOfFiles ending.status
-health_status files limits packages list ending (inl (longer, is)) = from_status ending (refused files (refusal.TooLarge Bytes)) is tt
-health_status files limits packages list ending (inr (text, goes, inl (error, refuses, is))) = end_of_packages files error ending is
-health_status files limits packages list ending (inr (text, goes, inr (repository, reads, inl (longer, is)))) = from_status ending (refused files (refusal.TooLarge Bytes)) is tt
-health_status files limits packages list ending (inr (text, goes, inr (repository, reads, inr (names, whole, inl (line, bad, is))))) = from_status ending (refused files (refusal.BadList line)) is tt
-health_status files limits packages list ending (inr (text, goes, inr (repository, reads, inr (names, whole, inr (members, has, judges))))) =
-    from_status ending (answered files judges.status judges.line) judges.is (told_status repository.packages judges.health judges.status judges.line judges.tells)
+no_front : (text : List ℕ) → IsFrontOf text []
+no_front text = record { count = 0; within = omega arith; is = refl }
 
-pub classes_status : (files : Option Files) (limits : Limits) (packages : List ℕ) (ending : Ending) → ClassesDecides files limits packages ending → IsOfFiles ending.status
-classes_status files limits packages ending (inl (longer, is)) = from_status ending (refused files (refusal.TooLarge Bytes)) is tt
-classes_status files limits packages ending (inr (text, goes, inl (error, refuses, is))) = end_of_packages files error ending is
-classes_status files limits packages ending (inr (text, goes, inr (repository, reads, tells))) = from_status ending (answered files Done tells.text) tells.is tt
-
-pub command_status : (line : CommandLine) (files : Option Files) (limits : Limits) (ending : Ending) → CommandDecides line files limits ending → IsOfFiles ending.status
-command_status (Health packages list) files limits ending decides = health_status files limits packages list ending decides
-command_status (Classes packages) files limits ending decides = classes_status files limits packages ending decides
-
-not_of_files : (status other : Status) → IsOfFiles status → status ≡ other → IsOfFiles other
-not_of_files status other of is = subst IsOfFiles is of
-
--- a refusal that files decide is no fault
-decided_no_fault : (words : List (List ℕ)) (files : Option Files) (limits : Limits) (ending : Ending) → Decides words files limits ending
-    → (ending.status ≡ BadWords) ⊎ IsOfFiles ending.status
-decided_no_fault words files limits ending (inl (bad, is)) = inl (ap (λ (e : Ending). e.status) is)
-decided_no_fault words files limits ending (inr (line, is, decides)) = inr (command_status line files limits ending decides)
-
-pub not_read_fault : (words : List (List ℕ)) (files : Option Files) (limits : Limits) (ending : Ending) → Decides words files limits ending → ¬ (ending.status ≡ ReadFault)
-not_read_fault words files limits ending decides is =
-    elim (decided_no_fault words files limits ending decides) [ inl words_bad ↦ let e = words_bad in let f = is in cc | inr of ↦ not_of_files ending.status ReadFault of is ]
-
-pub not_write_fault : (words : List (List ℕ)) (files : Option Files) (limits : Limits) (ending : Ending) → Decides words files limits ending → ¬ (ending.status ≡ WriteFault)
-not_write_fault words files limits ending decides is =
-    elim (decided_no_fault words files limits ending decides) [ inl words_bad ↦ let e = words_bad in let f = is in cc | inr of ↦ not_of_files ending.status WriteFault of is ]
+good : (words : List (List ℕ)) (line : CommandLine) → command_of words ≡ Some line → ¬ IsBadWords words
+good words line is bad = apart (command_of words) is bad
+  where
+    apart : (o : Option CommandLine) → o ≡ Some line → o ≡ None → ⊥
+    apart o e f = cc
 
 -- what carrying out a command comes to, for each way that it goes
-module _ (words : List (List ℕ)) (limits : Limits) (desk desk' : DeskView) (out out' : SinkView) where
-  pub refused_words : IsBadWords words → Grew [] out out' → IsRefused words limits desk desk' out out' refusal.BadWords
+module _ (words : List (List ℕ)) (limits : Limits) (desk : DeskView) (out out' : SinkView) where
+  pub refused_words : IsBadWords words → Grew [] out out' → IsRefused words limits desk desk out out' refusal.BadWords
   refused_words bad grew = record {
     ending = refused desk.files refusal.BadWords;
     comes = inl (inl (bad, refl));
@@ -95,63 +62,119 @@ module _ (words : List (List ℕ)) (limits : Limits) (desk desk' : DeskView) (ou
     told = refl;
     files = refl;
     printed = grew;
-    of_words = λ _. refl;
+    of_words = λ _. inl refl;
     read_fault = λ is. cc;
     write_fault = λ is. cc;
   }
 
-  decided_refusal : (r : Refusal) → ¬ IsBadWords words → Decides words desk.files limits (refused desk.files r) → Grew [] out out' → IsRefused words limits desk desk' out out' r
-  decided_refusal r good decides grew = record {
-    ending = refused desk.files r;
-    comes = inl decides;
+  -- there was no memory for the words
+  pub unread_words : Grew [] out out' → IsRefused words limits desk desk out out' refusal.NoMemory
+  unread_words grew = record {
+    ending = refused desk.files refusal.NoMemory;
+    comes = inr (inr (inl refl));
     status = refl;
     told = refl;
     files = refl;
     printed = grew;
-    of_words = λ bad. absurd (good bad);
-    read_fault = λ is. absurd (not_read_fault words desk.files limits (refused desk.files r) decides (ap status_of is));
-    write_fault = λ is. absurd (not_write_fault words desk.files limits (refused desk.files r) decides (ap status_of is));
-  }
-
-  unread : (r : Refusal) → ¬ IsBadWords words → r ≡ refusal.ReadFault → Rose desk.read_faults desk'.read_faults → Grew [] out out' → IsRefused words limits desk desk' out out' r
-  unread r good is rose grew = record {
-    ending = refused desk.files r;
-    comes = inr (inl (ap (refused desk.files) is));
-    status = refl;
-    told = refl;
-    files = refl;
-    printed = grew;
-    of_words = λ bad. absurd (good bad);
-    read_fault = λ _. rose;
-    write_fault = λ other. cc;
-  }
-
-  unstored : (r : Refusal) → ¬ IsBadWords words → r ≡ refusal.NoMemory → Grew [] out out' → IsRefused words limits desk desk' out out' r
-  unstored r good is grew = record {
-    ending = refused desk.files r;
-    comes = inr (inr (inl (ap (refused desk.files) is)));
-    status = refl;
-    told = refl;
-    files = refl;
-    printed = grew;
-    of_words = λ bad. absurd (good bad);
-    read_fault = λ other. cc;
-    write_fault = λ other. cc;
+    of_words = λ _. inr refl;
+    read_fault = λ is. cc;
+    write_fault = λ is. cc;
   }
 
   -- of a command: its words are there, and it came to this end
-  module _ (line : CommandLine) (is_line : words ≡ words_of line) where
-    good : ¬ IsBadWords words
-    good bad = bad line is_line
+  module _ (desk' : DeskView) (line : CommandLine) (is_line : command_of words ≡ Some line) where
+    abbrev Refused : Refusal → Type 0
+    Refused = IsRefused words limits desk desk' out out'
 
-    pub refused_command : (r : Refusal) → IsDue (CommandDecides line desk.files limits) desk desk' r → Grew [] out out' → IsRefused words limits desk desk' out out' r
-    refused_command r (inl (is, rose)) grew = unread r good is rose grew
-    refused_command r (inr (inl is)) grew = unstored r good is grew
-    refused_command r (inr (inr decides)) grew = decided_refusal r good (inr (line, is_line, decides)) grew
+    decided_refusal : (r : Refusal) → CommandDecides line desk.files limits (refused desk'.files r) → Grew [] out out' → Refused r
+    decided_refusal r decides grew = record {
+      ending = refused desk'.files r;
+      comes = inl (inr (line, is_line, decides));
+      status = refl;
+      told = refl;
+      files = refl;
+      printed = grew;
+      of_words = λ bad. absurd (good words line is_line bad);
+      read_fault = λ is. absurd (not_read_fault words desk.files limits (refused desk'.files r) (inr (line, is_line, decides)) (ap status_of is));
+      write_fault = λ is. absurd (not_write_fault words desk.files limits (refused desk'.files r) (inr (line, is_line, decides)) (ap status_of is));
+    }
 
-    answered_command : (status : Status) (text : List ℕ) → CommandDecides line desk.files limits (answered desk.files status text) → Grew text out out' → IsAnswered words limits desk out out' status
+    unread : desk'.files ≡ desk.files → Rose desk.read_faults desk'.read_faults → Grew [] out out' → Refused refusal.ReadFault
+    unread same rose grew = record {
+      ending = refused desk'.files refusal.ReadFault;
+      comes = inr (inl (ap (λ (f : Option Files). refused f refusal.ReadFault) same));
+      status = refl;
+      told = refl;
+      files = refl;
+      printed = grew;
+      of_words = λ bad. absurd (good words line is_line bad);
+      read_fault = λ _. rose;
+      write_fault = λ is. cc;
+    }
+
+    unwritten : Rose desk.write_faults desk'.write_faults → CommandIsGivenUp line desk.files limits refusal.WriteFault (refused desk'.files refusal.WriteFault) → Grew [] out out' → Refused refusal.WriteFault
+    unwritten rose given_up grew = record {
+      ending = refused desk'.files refusal.WriteFault;
+      comes = inr (inr (inr (inl (inl (line, is_line, given_up)))));
+      status = refl;
+      told = refl;
+      files = refl;
+      printed = grew;
+      of_words = λ bad. absurd (good words line is_line bad);
+      read_fault = λ is. cc;
+      write_fault = λ _. inr rose;
+    }
+
+    unstored : desk'.files ≡ desk.files → Grew [] out out' → Refused refusal.NoMemory
+    unstored same grew = record {
+      ending = refused desk'.files refusal.NoMemory;
+      comes = inr (inr (inl (ap (λ (f : Option Files). refused f refusal.NoMemory) same)));
+      status = refl;
+      told = refl;
+      files = refl;
+      printed = grew;
+      of_words = λ _. inr refl;
+      read_fault = λ is. cc;
+      write_fault = λ is. cc;
+    }
+
+    unfinished : CommandIsGivenUp line desk.files limits refusal.NoMemory (refused desk'.files refusal.NoMemory) → Grew [] out out' → Refused refusal.NoMemory
+    unfinished given_up grew = record {
+      ending = refused desk'.files refusal.NoMemory;
+      comes = inr (inr (inr (inl (inr (line, is_line, given_up)))));
+      status = refl;
+      told = refl;
+      files = refl;
+      printed = grew;
+      of_words = λ _. inr refl;
+      read_fault = λ is. cc;
+      write_fault = λ is. cc;
+    }
+
+    untold : (status : Status) (text : List ℕ) → CommandDecides line desk.files limits (answered desk'.files status text) → Grew [] out out' → Refused refusal.NoMemory
+    untold status text decides grew = record {
+      ending = refused desk'.files refusal.NoMemory;
+      comes = inr (inr (inr (inr (inr (record { decided = answered desk'.files status text; decides = inr (line, is_line, decides); answers = refl; front = no_front text; is = refl })))));
+      status = refl;
+      told = refl;
+      files = refl;
+      printed = grew;
+      of_words = λ _. inr refl;
+      read_fault = λ is. cc;
+      write_fault = λ is. cc;
+    }
+
+    pub refused_command : (r : Refusal) → Stops line limits desk desk' r → Grew [] out out' → Refused r
+    refused_command r (inl decides) grew = decided_refusal r decides grew
+    refused_command r (inr (inl (is, same, rose))) grew = subst Refused (sym is) (unread same rose grew)
+    refused_command r (inr (inr (inl (is, rose, given_up)))) grew = subst Refused (sym is) (unwritten rose given_up grew)
+    refused_command r (inr (inr (inr (is, inl same)))) grew = subst Refused (sym is) (unstored same grew)
+    refused_command r (inr (inr (inr (is, inr (inl given_up))))) grew = subst Refused (sym is) (unfinished given_up grew)
+    refused_command r (inr (inr (inr (is, inr (inr (status, text, decides)))))) grew = subst Refused (sym is) (untold status text decides grew)
+
+    answered_command : (status : Status) (text : List ℕ) → CommandDecides line desk.files limits (answered desk'.files status text) → Grew text out out' → IsAnswered words limits desk desk' out out' status
     answered_command status text decides grew = record {
-      ending = answered desk.files status text;
+      ending = answered desk'.files status text;
       decides = inr (line, is_line, decides);
       status_is = refl;
       quiet = refl;
@@ -159,37 +182,37 @@ module _ (words : List (List ℕ)) (limits : Limits) (desk desk' : DeskView) (ou
       printed = grew;
     }
 
-    cut_command : (status : Status) (text : List ℕ) (error : WorkError) → CommandDecides line desk.files limits (answered desk.files status text) → GrewByFront text out out' → WriteCause error out out'
-        → IsRefused words limits desk desk' out out' (refusal_of error)
+    cut_command : (status : Status) (text : List ℕ) (error : WorkError) → CommandDecides line desk.files limits (answered desk'.files status text) → GrewByFront text out out' → WriteCause error out out'
+        → Refused (refusal_of error)
     cut_command status text work.ReadFault decides front cause = absurd cause
     cut_command status text (work.TooLarge limit) decides front cause = absurd cause
     cut_command status text work.WriteFault decides front cause = record {
-      ending = record { status = WriteFault; out = front.front; err = refusal_text refusal.WriteFault; files = desk.files };
-      comes = inr (inr (inr (inl (record { decided = answered desk.files status text; decides = inr (line, is_line, decides); answers = refl; front = front.is_front; is = refl }))));
+      ending = record { status = WriteFault; out = front.front; err = refusal_text refusal.WriteFault; files = desk'.files };
+      comes = inr (inr (inr (inr (inl (record { decided = answered desk'.files status text; decides = inr (line, is_line, decides); answers = refl; front = front.is_front; is = refl })))));
       status = refl;
       told = refl;
       files = refl;
       printed = front.grew;
-      of_words = λ bad. absurd (good bad);
+      of_words = λ bad. absurd (good words line is_line bad);
       read_fault = λ is. cc;
-      write_fault = λ _. cause;
+      write_fault = λ _. inl cause;
     }
     cut_command status text work.NoMemory decides front cause = record {
-      ending = record { status = NoMemory; out = front.front; err = refusal_text refusal.NoMemory; files = desk.files };
-      comes = inr (inr (inr (inr (record { decided = answered desk.files status text; decides = inr (line, is_line, decides); answers = refl; front = front.is_front; is = refl }))));
+      ending = record { status = NoMemory; out = front.front; err = refusal_text refusal.NoMemory; files = desk'.files };
+      comes = inr (inr (inr (inr (inr (record { decided = answered desk'.files status text; decides = inr (line, is_line, decides); answers = refl; front = front.is_front; is = refl })))));
       status = refl;
       told = refl;
       files = refl;
       printed = front.grew;
-      of_words = λ bad. absurd (good bad);
+      of_words = λ _. inr refl;
       read_fault = λ is. cc;
       write_fault = λ is. cc;
     }
 
     -- the text of an answer was written, or a front of it
-    pub printed_command : (status : Status) (text : List ℕ) (result : Result Status Refusal) → CommandDecides line desk.files limits (answered desk.files status text) → Prints status text result out out'
-        → MatchResult result (IsAnswered words limits desk out out') (IsRefused words limits desk desk' out out')
+    pub printed_command : (status : Status) (text : List ℕ) (result : Result Status Refusal) → CommandDecides line desk.files limits (answered desk'.files status text) → Prints status text result out out'
+        → MatchResult result (IsAnswered words limits desk desk' out out') Refused
     printed_command status text (Ok printed) decides (same, grew) =
-        subst (IsAnswered words limits desk out out') (sym same) (answered_command status text decides grew)
+        subst (IsAnswered words limits desk desk' out out') (sym same) (answered_command status text decides grew)
     printed_command status text (Err r) decides (error, is, front, cause) =
-        subst (IsRefused words limits desk desk' out out') (sym is) (cut_command status text error decides front cause)
+        subst Refused (sym is) (cut_command status text error decides front cause)

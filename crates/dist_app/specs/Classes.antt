@@ -5,9 +5,8 @@ use Rattle.dist_outside.specs.declared.limits.Limits.{Limits}
 use Rattle.dist_repo.specs.Order.{IsLatestOf}
 use Rattle.dist_repo.specs.PackageList.{PackageList}
 use Rattle.dist_report.specs.ClassesReport.{IsClassesText}
-use Rattle.dist_app.specs.RepositoryStage.{RepositoryStage}
+use Rattle.dist_app.specs.PackagesStage.{PackagesStage}
 use Rattle.dist_app.specs.Stages.{Ending, Then, answered}
-use Rattle.dist_app.specs.TextStage.{TextStage}
 use Rattle.dist_app.specs.declared.status.Status.TheVariants.{Done}
 
 -- the report of the classes of the newest versions
@@ -19,8 +18,5 @@ pub record TellsClasses (files : Option Files) (repository : PackageList) (endin
   pub is : ending ≡ answered files Done text
 
 -- PACKAGES is read and taken apart, and its newest versions are told of.
-abbrev pub ClassesDecides : Option Files → Limits → (packages : List ℕ) → Ending → Type 0
-ClassesDecides files limits packages =
-    Then (TextStage files packages limits.bytes) (λ text.
-    Then (RepositoryStage files limits.stanzas text) (λ repository.
-    TellsClasses files repository))
+abbrev pub ClassesStages : Option Files → Limits → (packages : List ℕ) → (PackageList → Ending → Type 0) → Ending → Type 0
+ClassesStages files limits packages Last = Then (PackagesStage files limits packages) Last

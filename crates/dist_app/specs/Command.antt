@@ -1,29 +1,35 @@
--- The commands: the words of each, and what each decides.
-use Rattle.std.specs.Prelude.{ℕ, List, [], ◌∷◌, Option, codes}
+-- What each command comes to, from the files and the limits.
+use Rattle.std.specs.Prelude.{ℕ, Option}
 use Rattle.dist_outside.specs.Files.{Files}
 use Rattle.dist_outside.specs.declared.limits.Limits.{Limits}
-use Rattle.dist_app.specs.Classes.{ClassesDecides}
-use Rattle.dist_app.specs.Health.{HealthDecides}
+use Rattle.dist_words.specs.CommandLine.{CommandLine, Health, Classes, Strong, Check}
+use Rattle.dist_app.specs.Check.{CheckStages, Checks}
+use Rattle.dist_app.specs.Classes.{ClassesStages, TellsClasses}
+use Rattle.dist_app.specs.Health.{HealthStages, Judges}
 use Rattle.dist_app.specs.Stages.{Ending}
-use Rattle.dist_app.specs.declared.command.Command.{Command}
-use Rattle.dist_app.specs.declared.command.Command.TheVariants as command
+use Rattle.dist_app.specs.Strong.{StrongStages, Sweeps, IsGivenUp}
+use Rattle.dist_app.specs.declared.refusal.Refusal.{Refusal}
 
--- a command, with the names of its files
-pub data CommandLine : Type 0 where
-  Health : (packages list : List ℕ) → CommandLine
-  Classes : (packages : List ℕ) → CommandLine
-
--- the words of a command
-abbrev pub words_of : CommandLine → List (List ℕ)
-words_of (Health packages list) = codes "health" ∷ packages ∷ list ∷ []
-words_of (Classes packages) = codes "classes" ∷ packages ∷ []
-
--- the ends that a command may come to, from the files and the limits
+-- the ends that the inputs decide
 abbrev pub CommandDecides : CommandLine → Option Files → Limits → Ending → Type 0
-CommandDecides (Health packages list) files limits = HealthDecides files limits packages list
-CommandDecides (Classes packages) files limits = ClassesDecides files limits packages
+CommandDecides (Health packages list) files limits = HealthStages files limits packages list (Judges files)
+CommandDecides (Classes packages) files limits = ClassesStages files limits packages (TellsClasses files)
+CommandDecides (Strong packages cert essential limit) files limits = StrongStages files limits packages essential (Sweeps files limits cert essential limit)
+CommandDecides (Check packages cert) files limits = CheckStages files limits packages (Checks files limits cert)
 
--- what the code keeps of a command
-abbrev pub line_of : Command → CommandLine
-line_of (command.Health files) = Health files.packages.now files.list.now
-line_of (command.Classes packages) = Classes packages.now
+-- The refusals that come whatever happens later: the end of a stage before the last one.
+abbrev pub CommandRefuses : CommandLine → Option Files → Limits → Ending → Type 0
+CommandRefuses (Health packages list) files limits = HealthStages files limits packages list (λ repository members ending. ⊥)
+CommandRefuses (Classes packages) files limits = ClassesStages files limits packages (λ repository ending. ⊥)
+CommandRefuses (Strong packages cert essential limit) files limits = StrongStages files limits packages essential (λ repository ending. ⊥)
+CommandRefuses (Check packages cert) files limits = CheckStages files limits packages (λ repository ending. ⊥)
+
+-- the ends of a command that was given up while it wrote a file
+abbrev pub CommandIsGivenUp : CommandLine → Option Files → Limits → Refusal → Ending → Type 0
+CommandIsGivenUp (Strong packages cert essential limit) files limits = IsGivenUp files limits packages cert essential limit
+CommandIsGivenUp line files limits = λ refusal ending. ⊥
+
+-- the command leaves all files as they are
+abbrev pub OnlyReadsFiles : CommandLine → Type 0
+OnlyReadsFiles (Strong packages cert essential limit) = ⊥
+OnlyReadsFiles line = Unit {0}

@@ -1,11 +1,20 @@
--- Why a part of a run was given up.
-use Rattle.std.specs.Prelude.{◌≡◌, ◌⊎◌, Option}
+-- Why a part of a run was given up, and what it leaves of the desk. No public clause cites it.
+use Rattle.std.specs.Prelude.{◌≡◌, ◌≤◌, ◌⊎◌, ℕ, Bool, List, Option}
 use Rattle.dist_outside.specs.Counts.{Rose}
-use Rattle.dist_outside.specs.Files.{Files}
+use Rattle.dist_outside.specs.Files.{Files, IsNotWriting, with_file}
 use Rattle.dist_outside.specs.DeskView.{DeskView}
-use Rattle.dist_app.specs.Stages.{Ending, refused}
+use Rattle.dist_outside.specs.declared.limits.Limits.{Limits}
+use Rattle.dist_repo.specs.PackageList.{PackageList}
+use Rattle.dist_strong.specs.Sweep.{IsCutSweep}
+use Rattle.dist_words.specs.CommandLine.{CommandLine}
+use Rattle.dist_app.specs.Command.{CommandDecides, CommandIsGivenUp}
+use Rattle.dist_app.specs.Stages.{Ending, Ends, Goes, answered, refused}
+use Rattle.dist_app.specs.Strong.{ClausesStage, IsStopped, IsSwept}
 use Rattle.dist_app.specs.declared.refusal.Refusal.{Refusal}
-use Rattle.dist_app.specs.declared.refusal.Refusal.TheVariants.{ReadFault, NoMemory}
+use Rattle.dist_app.specs.declared.refusal.Refusal.TheVariants.{ReadFault, WriteFault, NoMemory}
+use Rattle.dist_app.specs.declared.status.Status.{Status}
+
+-- ---- commands that only read
 
 -- for want of memory, or since the inputs decide so
 abbrev pub IsGivenUp : (Ending → Type 0) → Option Files → Refusal → Type 0
@@ -14,3 +23,44 @@ IsGivenUp Decided files refusal = (refusal ≡ NoMemory) ⊎ Decided (refused fi
 -- the same, or for a fault of reading that was counted
 abbrev pub IsDue : (Ending → Type 0) → DeskView → DeskView → Refusal → Type 0
 IsDue Decided old new refusal = ((refusal ≡ ReadFault) × Rose old.read_faults new.read_faults) ⊎ IsGivenUp Decided old.files refusal
+
+-- ---- the sweep
+
+-- the file is as before, or holds what a sweep may have written so far
+abbrev pub LeavesCut : PackageList → Bool → ℕ → Limits → (name : List ℕ) → (files left : Option Files) → Type 0
+LeavesCut r essential limit limits name files left =
+    (left ≡ files) ⊎ ((text : List ℕ) × IsCutSweep r essential limit limits text × (left ≡ with_file files name text))
+
+-- A sweep was given up: its clauses pass a number, a later line does, a fault of writing was counted, or memory was wanted,
+-- perhaps for the report alone.
+abbrev pub SweepStops : PackageList → Bool → ℕ → Limits → (name : List ℕ) → DeskView → DeskView → Refusal → Type 0
+SweepStops r essential limit limits name old new refusal =
+    (ClausesStage old.files limits essential r (Ends (refused new.files refusal)))
+    ⊎ (ClausesStage old.files limits essential r (Goes tt) × IsStopped old.files limits name essential limit r (refused new.files refusal))
+    ⊎ ((refusal ≡ WriteFault) × Rose old.write_faults new.write_faults × ClausesStage old.files limits essential r (Goes tt)
+    × LeavesCut r essential limit limits name old.files new.files)
+    ⊎ ((refusal ≡ NoMemory) × (LeavesCut r essential limit limits name old.files new.files
+    ⊎ ((status : Status) × (text : List ℕ) × ClausesStage old.files limits essential r (Goes tt)
+    × IsSwept old.files limits name essential limit r (answered new.files status text))))
+
+-- ---- all commands
+
+-- Memory was wanted: with all files as before, in the midst of a file, or for the text of an answer that was decided.
+abbrev pub IsUnfinished : CommandLine → Limits → DeskView → DeskView → Type 0
+IsUnfinished line limits old new =
+    (new.files ≡ old.files)
+    ⊎ CommandIsGivenUp line old.files limits NoMemory (refused new.files NoMemory)
+    ⊎ ((status : Status) × (text : List ℕ) × CommandDecides line old.files limits (answered new.files status text))
+
+abbrev pub Stops : CommandLine → Limits → DeskView → DeskView → Refusal → Type 0
+Stops line limits old new refusal =
+    CommandDecides line old.files limits (refused new.files refusal)
+    ⊎ ((refusal ≡ ReadFault) × (new.files ≡ old.files) × Rose old.read_faults new.read_faults)
+    ⊎ ((refusal ≡ WriteFault) × Rose old.write_faults new.write_faults × CommandIsGivenUp line old.files limits WriteFault (refused new.files WriteFault))
+    ⊎ ((refusal ≡ NoMemory) × IsUnfinished line limits old new)
+
+-- the desk writes no longer, and no count of it fell
+pub record LeavesDesk (old new : DeskView) : Type 0 where
+  pub not_writing : IsNotWriting new.mode
+  pub read_faults_stand : old.read_faults ≤ new.read_faults
+  pub write_faults_stand : old.write_faults ≤ new.write_faults

@@ -12,7 +12,7 @@ use Rattle.dist_now.specs.declared.kinds.Health.TheVariants.{Healthy, TwoVersion
 use Rattle.dist_report.specs.PackageText.{label}
 use Rattle.dist_app.specs.Stages.{Ending, Step, Ends, Goes, Then, answered, refused}
 use Rattle.dist_app.specs.TextStage.{TextStage}
-use Rattle.dist_app.specs.RepositoryStage.{RepositoryStage}
+use Rattle.dist_app.specs.PackagesStage.{PackagesStage}
 use Rattle.dist_app.specs.PackageSet.{NamesSet, IsBadAt}
 use Rattle.dist_app.specs.declared.status.Status.{Status}
 use Rattle.dist_app.specs.declared.status.Status.TheVariants.{Done, NotHealthy}
@@ -62,16 +62,14 @@ pub record Judges (files : Option Files) (repository : PackageList) (members : L
   pub tells : Tells repository.packages health status line
   pub is : ending ≡ answered files status line
 
--- LIST is read and taken apart, and the set that it names is judged.
-abbrev pub ListDecides : Option Files → Limits → PackageList → (list : List ℕ) → Ending → Type 0
-ListDecides files limits repository list =
+-- LIST is read and taken apart.
+abbrev pub ListStages : Option Files → Limits → PackageList → (list : List ℕ) → (List Bool → Ending → Type 0) → Ending → Type 0
+ListStages files limits repository list Last =
     Then (TextStage files list limits.bytes) (λ names.
-    Then (ListStage files repository.packages names) (λ members.
-    Judges files repository members))
+    Then (ListStage files repository.packages names) Last)
 
 -- PACKAGES is read and taken apart first. The first stage that is refused decides.
-abbrev pub HealthDecides : Option Files → Limits → (packages list : List ℕ) → Ending → Type 0
-HealthDecides files limits packages list =
-    Then (TextStage files packages limits.bytes) (λ text.
-    Then (RepositoryStage files limits.stanzas text) (λ repository.
-    ListDecides files limits repository list))
+abbrev pub HealthStages : Option Files → Limits → (packages list : List ℕ) → (PackageList → List Bool → Ending → Type 0) → Ending → Type 0
+HealthStages files limits packages list Last =
+    Then (PackagesStage files limits packages) (λ repository.
+    ListStages files limits repository list (Last repository))

@@ -4,15 +4,17 @@ use Rattle.dist_outside.specs.declared.trouble.What.{What}
 use Rattle.dist_outside.specs.declared.trouble.What.TheVariants as what
 use Rattle.dist_outside.specs.declared.trouble.WorkError.{WorkError}
 use Rattle.dist_outside.specs.declared.trouble.WorkError.TheVariants as work
+use Rattle.dist_app.specs.CauseText.{cause_text}
 use Rattle.dist_app.specs.FaultText.{kind_name, carried_text}
 use Rattle.dist_app.specs.declared.status.Status.{Status}
 use Rattle.dist_app.specs.declared.status.Status.TheVariants as status
 use Rattle.dist_app.specs.declared.refusal.Refusal.{Refusal}
-use Rattle.dist_app.specs.declared.refusal.Refusal.TheVariants.{BadWords, BadPackages, ReadFault, WriteFault, NoMemory, TooLarge, BadList}
+use Rattle.dist_app.specs.declared.refusal.Refusal.TheVariants.{BadWords, BadPackages, CertificateRefused, ReadFault, WriteFault, NoMemory, TooLarge, BadList}
 
 abbrev pub status_of : Refusal → Status
 status_of BadWords = status.BadWords
 status_of (BadPackages fault) = status.BadPackages
+status_of (CertificateRefused fault) = status.CertificateRefused
 status_of ReadFault = status.ReadFault
 status_of WriteFault = status.WriteFault
 status_of NoMemory = status.NoMemory
@@ -35,6 +37,7 @@ limit_text what.RecordLine = codes "RecordLine"
 abbrev pub reason_text : Refusal → List ℕ
 reason_text BadWords = codes "bad command line"
 reason_text (BadPackages fault) = codes "bad packages at line " ++ (decimal fault.line ++ (codes ": " ++ (kind_name fault.kind ++ carried_text fault.kind)))
+reason_text (CertificateRefused fault) = codes "certificate refused at line " ++ (decimal fault.line ++ (codes ": " ++ cause_text fault.cause))
 reason_text ReadFault = codes "read fault"
 reason_text WriteFault = codes "write fault"
 reason_text NoMemory = codes "no memory"

@@ -3,29 +3,33 @@ use Rattle.std.specs.Prelude.{◌≡◌, ◌⊎◌, ◌≤◌, ℕ, List, [], Op
 use Rattle.dist_base.specs.Front.{IsFrontOf}
 use Rattle.dist_base.specs.declared.TheConstants.{MAX_BYTES, MAX_STANZAS, MAX_VARIABLES, MAX_CLAUSES, MAX_LITERALS, MAX_LINES, MAX_LINE_LITERALS, MAX_CERTIFICATE, MAX_RECORD_LINE}
 use Rattle.dist_outside.specs.Counts.{Rose}
-use Rattle.dist_outside.specs.Files.{Files}
-use Rattle.dist_outside.specs.DeskView.{DeskView}
+use Rattle.dist_outside.specs.Files.{Files, IsNotWriting}
+use Rattle.dist_outside.specs.DeskView.{DeskView, OnlyReads}
 use Rattle.dist_outside.specs.SinkView.{SinkView, Grew, GrewByFront}
 use Rattle.dist_outside.specs.declared.limits.Limits.{Limits}
 use Rattle.dist_app.specs.Refusal.{status_of, refusal_text}
 use Rattle.dist_app.specs.Stages.{Ending, refused}
-use Rattle.dist_app.specs.Command.{CommandLine, CommandDecides, words_of}
+use Rattle.dist_words.specs.CommandLine.{CommandLine}
+use Rattle.dist_words.specs.Table.{IsBadWords, command_of}
+use Rattle.dist_app.specs.Command.{CommandDecides, CommandRefuses, CommandIsGivenUp, OnlyReadsFiles}
 use Rattle.dist_app.specs.declared.status.Status.{Status}
 use Rattle.dist_app.specs.declared.status.Status.TheVariants as status
 use Rattle.dist_app.specs.declared.refusal.Refusal.{Refusal}
 use Rattle.dist_app.specs.declared.refusal.Refusal.TheVariants.{BadWords, ReadFault, WriteFault, NoMemory}
 
--- the words are of no command
-abbrev pub IsBadWords : List (List ℕ) → Type 0
-IsBadWords words = (line : CommandLine) → ¬ (words ≡ words_of line)
-
 -- An end of the run that the words, the files and the limits decide.
 abbrev pub Decides : List (List ℕ) → Option Files → Limits → Ending → Type 0
 Decides words files limits ending =
     (IsBadWords words × (ending ≡ refused files BadWords))
-    ⊎ ((line : CommandLine) × (words ≡ words_of line) × CommandDecides line files limits ending)
+    ⊎ ((line : CommandLine) × (command_of words ≡ Some line) × CommandDecides line files limits ending)
 
--- The text of an answer that was decided could not be written whole: a front of it was.
+-- A refusal that they decide before anything is written.
+abbrev pub Refuses : List (List ℕ) → Option Files → Limits → Ending → Type 0
+Refuses words files limits ending =
+    (IsBadWords words × (ending ≡ refused files BadWords))
+    ⊎ ((line : CommandLine) × (command_of words ≡ Some line) × CommandRefuses line files limits ending)
+
+-- The text of an answer that was decided could not be written whole: a front of it was. A file that the command wrote is whole.
 pub record IsCutShort (words : List (List ℕ)) (files : Option Files) (limits : Limits) (refusal : Refusal) (ending : Ending) : Type 0 where
   pub decided : Ending
   pub decides : Decides words files limits decided
@@ -33,14 +37,18 @@ pub record IsCutShort (words : List (List ℕ)) (files : Option Files) (limits :
   pub front : IsFrontOf decided.out ending.out
   pub is : ending ≡ record { status = status_of refusal; out = ending.out; err = refusal_text refusal; files = decided.files }
 
--- The ends that may come at any time: a fault of reading, and want of memory, with nothing printed; a fault of writing,
--- and want of memory, with a front of a decided text printed.
+-- The command was given up while it wrote a file.
+abbrev pub IsGivenUp : List (List ℕ) → Option Files → Limits → Refusal → Ending → Type 0
+IsGivenUp words files limits refusal ending = (line : CommandLine) × (command_of words ≡ Some line) × CommandIsGivenUp line files limits refusal ending
+
+-- The ends that may come at any time: a fault of reading, and want of memory, with nothing printed and all files as before;
+-- and a fault of writing, and want of memory, in the midst of a file or with a front of a decided text printed.
 abbrev pub IsInterrupted : List (List ℕ) → Option Files → Limits → Ending → Type 0
 IsInterrupted words files limits ending =
     (ending ≡ refused files ReadFault)
     ⊎ (ending ≡ refused files NoMemory)
-    ⊎ IsCutShort words files limits WriteFault ending
-    ⊎ IsCutShort words files limits NoMemory ending
+    ⊎ (IsGivenUp words files limits WriteFault ending ⊎ IsGivenUp words files limits NoMemory ending)
+    ⊎ (IsCutShort words files limits WriteFault ending ⊎ IsCutShort words files limits NoMemory ending)
 
 -- an end that may come
 abbrev pub Comes : List (List ℕ) → Option Files → Limits → Ending → Type 0
@@ -60,6 +68,13 @@ IsTold text old new = Grew text old new ⊎ (GrewByFront text old new × (Rose o
 abbrev pub TellsFiles : DeskView → Type 0
 TellsFiles desk = (files : Files) × (desk.files ≡ Some files)
 
+-- The desk writes no longer, and no count of it fell. It was only read, but by a command that writes a file.
+pub record Leaves (words : List (List ℕ)) (old new : DeskView) : Type 0 where
+  pub not_writing : IsNotWriting new.mode
+  pub read_faults_stand : old.read_faults ≤ new.read_faults
+  pub write_faults_stand : old.write_faults ≤ new.write_faults
+  pub only_reads : ((line : CommandLine) → command_of words ≡ Some line → OnlyReadsFiles line) → OnlyReads old new
+
 -- What a run promises of its end.
 pub record Runs (words : List (List ℕ)) (limits : Limits) (result : Status) (desk desk' : DeskView) (out out' err err' : SinkView) : Type 0 where
   -- The status, what `out` grew by, the line on `err` and the files are those of an end that may come.
@@ -67,18 +82,20 @@ pub record Runs (words : List (List ℕ)) (limits : Limits) (result : Status) (d
   pub comes : Comes words desk.files limits ending
   pub ends : EndsAs ending result desk desk' out out'
   pub told : IsTold ending.err err err'
-  -- Bad words are told exactly where the words are of no command.
+  pub leaves : Leaves words desk desk'
+  -- Bad words are told exactly where the words are of no command, but for want of memory.
   pub words_refused : (result ≡ status.BadWords) → IsBadWords words
-  pub words_told : IsBadWords words → result ≡ status.BadWords
+  pub words_told : IsBadWords words → (result ≡ status.BadWords) ⊎ (result ≡ status.NoMemory)
   -- Faults are told only where they were counted.
   pub read_fault : result ≡ status.ReadFault → Rose desk.read_faults desk'.read_faults
-  pub write_fault : result ≡ status.WriteFault → Rose out.faults out'.faults
-  -- Where the desk tells its files and no fault of reading is counted, a refusal that the inputs decide is the end, but
-  -- for want of memory. Where `out` counts no fault either, the end is one that the inputs decide, but for want of memory.
-  pub refusal_comes : TellsFiles desk → ¬ Rose desk.read_faults desk'.read_faults → (refusal : Refusal)
-      → Decides words desk.files limits (refused desk.files refusal) → (ending ≡ refused desk.files refusal) ⊎ (result ≡ status.NoMemory)
-  pub answer_comes : TellsFiles desk → ¬ Rose desk.read_faults desk'.read_faults → ¬ Rose out.faults out'.faults
-      → Decides words desk.files limits ending ⊎ (result ≡ status.NoMemory)
+  pub write_fault : result ≡ status.WriteFault → Rose out.faults out'.faults ⊎ Rose desk.write_faults desk'.write_faults
+  -- Where the desk tells its files and no fault of reading is counted, a refusal that the inputs decide before anything is
+  -- written is the end, but for want of memory. Where no fault of writing is counted either, the end is one that the inputs
+  -- decide, but for want of memory.
+  pub refusal_comes : TellsFiles desk → ¬ Rose desk.read_faults desk'.read_faults → (end : Ending) → Refuses words desk.files limits end
+      → (ending ≡ end) ⊎ (result ≡ status.NoMemory)
+  pub answer_comes : TellsFiles desk → ¬ Rose desk.read_faults desk'.read_faults → ¬ Rose desk.write_faults desk'.write_faults
+      → ¬ Rose out.faults out'.faults → Decides words desk.files limits ending ⊎ (result ≡ status.NoMemory)
 
 -- the stated limits
 abbrev pub stated_limits : Limits

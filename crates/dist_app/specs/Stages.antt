@@ -34,6 +34,6 @@ Then {X} First Rest ending = First (Ends ending) ⊎ ((value : X) × First (Goes
 abbrev pub IsDetermined : {X : Type 0} → (Step X → Type 0) → Type 0
 IsDetermined {X} Stage = (step other : Step X) → Stage step → Stage other → other ≡ step
 
--- Where a run is given up for a reason that its inputs give, it ends in no other way.
-abbrev pub RefusesAlone : Option Files → (Ending → Type 0) → Type 0
-RefusesAlone files Run = (refusal : Refusal) (ending : Ending) → Run (refused files refusal) → Run ending → ending ≡ refused files refusal
+-- Where a refusal comes, no other end does.
+abbrev pub Excludes : (Refuses Decides : Ending → Type 0) → Type 0
+Excludes Refuses Decides = (end ending : Ending) → Refuses end → Decides ending → ending ≡ end

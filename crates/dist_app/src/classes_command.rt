@@ -3,7 +3,7 @@ ghost use Rattle.std.specs.Prelude.{IfOk, IfErr, Option};
 ghost use Rattle.dist_outside.specs.Files.{Files, IsNotWriting};
 ghost use Rattle.dist_outside.specs.DeskView.{OnlyReads};
 ghost use Rattle.dist_repo.specs.Size.{IsWithinSize};
-ghost use Rattle.dist_app.specs.Classes.{ClassesDecides, TellsClasses};
+ghost use Rattle.dist_app.specs.Classes.{ClassesStages, TellsClasses};
 ghost use Rattle.dist_app.specs.Due.{IsDue};
 ghost use Rattle.dist_app.specs.Run.{IsWithinStated};
 ghost use Rattle.dist_app.specs.Stages.{answered};
@@ -26,9 +26,9 @@ pub(crate) fn run_classes<D: Desk>(
 ) -> Result<Answer, Refusal>
     requires not_writing { IsNotWriting (D.view desk.old).mode }
     requires within { IsWithinStated limits.now }
-    ensures answers { IfOk result (λ answer. ClassesDecides (D.view desk.old).files limits.now packages.now
-        (answered (D.view desk.old).files answer.status answer.text.items)) }
-    ensures due { IfErr result (IsDue (ClassesDecides (D.view desk.old).files limits.now packages.now) (D.view desk.old) (D.view desk.new)) }
+    ensures answers { IfOk result (λ answer. ClassesStages (D.view desk.old).files limits.now packages.now
+        (TellsClasses (D.view desk.old).files) (answered (D.view desk.old).files answer.status answer.text.items)) }
+    ensures due { IfErr result (IsDue (ClassesStages (D.view desk.old).files limits.now packages.now (TellsClasses (D.view desk.old).files)) (D.view desk.old) (D.view desk.new)) }
     ensures only_reads { OnlyReads (D.view desk.old) (D.view desk.new) }
 {
     match read_repository(alloc, desk, packages, limits) {

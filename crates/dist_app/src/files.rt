@@ -1,11 +1,13 @@
 //! The stages that read files.
-ghost use Rattle.std.specs.Prelude.{ℕ, ◌≤◌, List, length, IfOk, IfErr, Option};
+ghost use Rattle.std.specs.Prelude.{◌≤◌, length, IfOk, IfErr, Option};
 ghost use Rattle.dist_base.specs.declared.TheConstants.{MAX_BYTES, MAX_STANZAS};
 ghost use Rattle.dist_outside.specs.Files.{Files, IsNotWriting};
 ghost use Rattle.dist_outside.specs.DeskView.{OnlyReads};
+ghost use Rattle.dist_repo.specs.Order.{IsInOrder};
 ghost use Rattle.dist_repo.specs.Size.{IsWithinSize};
-ghost use Rattle.dist_app.specs.Stages.{Ending, Goes, Ends, Then};
+ghost use Rattle.dist_app.specs.Stages.{Goes, Ends};
 ghost use Rattle.dist_app.specs.TextStage.{TextStage};
+ghost use Rattle.dist_app.specs.PackagesStage.{PackagesStage};
 ghost use Rattle.dist_app.specs.RepositoryStage.{RepositoryStage};
 ghost use Rattle.dist_app.specs.Due.{IsDue, IsGivenUp};
 ghost use Rattle.dist_app.specs.Run.{IsWithinStated};
@@ -59,10 +61,9 @@ pub(crate) fn read_repository<D: Desk>(
 ) -> Result<Repository, Refusal>
     requires not_writing { IsNotWriting (D.view desk.old).mode }
     requires within { IsWithinStated limits.now }
-    ensures goes { IfOk result (λ repository. (text : List ℕ) × TextStage (D.view desk.old).files name.now limits.now.bytes (Goes text)
-        × RepositoryStage (D.view desk.old).files limits.now.stanzas text (Goes repository)) }
-    ensures due { IfErr result (IsDue (Then (TextStage (D.view desk.old).files name.now limits.now.bytes)
-        (λ text ending. RepositoryStage (D.view desk.old).files limits.now.stanzas text (Ends ending))) (D.view desk.old) (D.view desk.new)) }
+    ensures goes { IfOk result (λ repository. PackagesStage (D.view desk.old).files limits.now name.now (Goes repository)) }
+    ensures due { IfErr result (IsDue (λ ending. PackagesStage (D.view desk.old).files limits.now name.now (Ends ending)) (D.view desk.old) (D.view desk.new)) }
+    ensures in_order { IfOk result (λ repository. IsInOrder repository.packages) }
     ensures within_size { IfOk result (λ repository. IsWithinSize repository) }
     ensures only_reads { OnlyReads (D.view desk.old) (D.view desk.new) }
 {

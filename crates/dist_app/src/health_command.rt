@@ -5,12 +5,11 @@ ghost use Rattle.dist_outside.specs.DeskView.{OnlyReads};
 ghost use Rattle.dist_repo.specs.Size.{IsWithinSize};
 ghost use Rattle.dist_app.specs.Stages.{Ending, Goes, Ends, Then, answered};
 ghost use Rattle.dist_app.specs.TextStage.{TextStage};
-ghost use Rattle.dist_app.specs.Health.{ListStage, ListDecides, HealthDecides};
+ghost use Rattle.dist_app.specs.Health.{HealthStages, Judges, ListStage, ListStages};
 ghost use Rattle.dist_app.specs.Due.{IsDue, IsGivenUp};
 ghost use Rattle.dist_app.specs.Run.{IsWithinStated};
 
 use crate::answer::Answer;
-use crate::command::HealthFiles;
 use crate::files::{read_repository, text_of};
 use crate::health::judge;
 use crate::list::{ListError, read_list};
@@ -18,6 +17,7 @@ use crate::refusal::Refusal;
 use dist_clause::Assignment;
 use dist_outside::{Desk, Limits};
 use dist_repo::Repository;
+use dist_words::HealthFiles;
 use std::alloc::Global;
 
 /// What the command answers, or why it was given up.
@@ -29,9 +29,9 @@ pub(crate) fn run_health<D: Desk>(
 ) -> Result<Answer, Refusal>
     requires not_writing { IsNotWriting (D.view desk.old).mode }
     requires within { IsWithinStated limits.now }
-    ensures answers { IfOk result (λ answer. HealthDecides (D.view desk.old).files limits.now files.now.packages.now files.now.list.now
-        (answered (D.view desk.old).files answer.status answer.text.items)) }
-    ensures due { IfErr result (IsDue (HealthDecides (D.view desk.old).files limits.now files.now.packages.now files.now.list.now)
+    ensures answers { IfOk result (λ answer. HealthStages (D.view desk.old).files limits.now files.now.packages.now files.now.list.now
+        (Judges (D.view desk.old).files) (answered (D.view desk.old).files answer.status answer.text.items)) }
+    ensures due { IfErr result (IsDue (HealthStages (D.view desk.old).files limits.now files.now.packages.now files.now.list.now (Judges (D.view desk.old).files))
         (D.view desk.old) (D.view desk.new)) }
     ensures only_reads { OnlyReads (D.view desk.old) (D.view desk.new) }
 {
@@ -51,9 +51,9 @@ fn judge_list<D: Desk>(
 ) -> Result<Answer, Refusal>
     requires not_writing { IsNotWriting (D.view desk.old).mode }
     requires within_size { IsWithinSize repository.now }
-    ensures answers { IfOk result (λ answer. ListDecides (D.view desk.old).files limits.now repository.now list.now
-        (answered (D.view desk.old).files answer.status answer.text.items)) }
-    ensures due { IfErr result (IsDue (ListDecides (D.view desk.old).files limits.now repository.now list.now) (D.view desk.old) (D.view desk.new)) }
+    ensures answers { IfOk result (λ answer. ListStages (D.view desk.old).files limits.now repository.now list.now
+        (Judges (D.view desk.old).files repository.now) (answered (D.view desk.old).files answer.status answer.text.items)) }
+    ensures due { IfErr result (IsDue (ListStages (D.view desk.old).files limits.now repository.now list.now (Judges (D.view desk.old).files repository.now)) (D.view desk.old) (D.view desk.new)) }
     ensures only_reads { OnlyReads (D.view desk.old) (D.view desk.new) }
 {
     match read_members(alloc, desk, list, repository, limits) {

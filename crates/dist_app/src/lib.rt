@@ -2,6 +2,9 @@
 #![tactic(auto)]
 
 mod answer;
+mod cause_text;
+mod check_command;
+mod claims;
 mod classes_command;
 mod command;
 mod fault_text;
@@ -15,13 +18,15 @@ mod pieces;
 mod refusal;
 mod refusal_text;
 mod status;
+mod strong_command;
 mod top_call;
-mod words;
 
 pub use laws::archives_have_reports;
 pub use status::Status;
 pub use top_call::{run, run_with};
 
+#[cfg(test)]
+mod check_tests;
 #[cfg(test)]
 mod classes_tests;
 #[cfg(test)]

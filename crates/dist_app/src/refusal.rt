@@ -3,6 +3,7 @@ ghost use Rattle.std.specs.Prelude.{◌≡◌};
 ghost use Rattle.dist_app.specs.Refusal.{status_of, refusal_of};
 
 use crate::status::Status;
+use dist_cert::CertFault;
 use dist_outside::{What, WorkError};
 use dist_package::Fault;
 
@@ -11,6 +12,7 @@ use dist_package::Fault;
 pub(crate) enum Refusal {
     BadWords,
     BadPackages(Fault),
+    CertificateRefused(CertFault),
     ReadFault,
     WriteFault,
     NoMemory,
@@ -26,6 +28,7 @@ impl Refusal {
         match self {
             Refusal::BadWords => Status::BadWords,
             Refusal::BadPackages(_) => Status::BadPackages,
+            Refusal::CertificateRefused(_) => Status::CertificateRefused,
             Refusal::ReadFault => Status::ReadFault,
             Refusal::WriteFault => Status::WriteFault,
             Refusal::NoMemory => Status::NoMemory,

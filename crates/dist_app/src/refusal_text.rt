@@ -3,9 +3,11 @@ ghost use Rattle.std.specs.Prelude.{◌≡◌, ◌++◌, codes};
 ghost use Rattle.dist_app.specs.Refusal.{limit_text, reason_text, refusal_text};
 ghost use Rattle.dist_app.specs.Writes.{Writes};
 
+use crate::cause_text::cause_text;
 use crate::fault_text::write_kind;
 use crate::pieces::write_pieces;
 use crate::refusal::Refusal;
+use dist_cert::CertFault;
 use dist_outside::{Sink, What, WorkError, sink_grows, write_whole};
 use dist_package::Fault;
 use itoa::Buffer;
@@ -40,6 +42,23 @@ fn write_fault<E: Sink>(err: &mut E, fault: Fault) -> Result<(), WorkError>
     }
 }
 
+/// Writes what is wrong with a certificate.
+fn write_cert_fault<E: Sink>(err: &mut E, fault: CertFault) -> Result<(), WorkError>
+    ensures { Writes (reason_text (Refusal.CertificateRefused fault)) result (E.view err.old) (E.view err.new) }
+{
+    let mut buffer = Buffer::new();
+    let place = buffer.format(fault.line).as_bytes();
+    write_pieces(
+        err,
+        &[
+            b"certificate refused at line ",
+            place,
+            b": ",
+            cause_text(fault.cause),
+        ],
+    )
+}
+
 /// Writes what a line says after the program's name.
 fn write_reason<E: Sink>(err: &mut E, refusal: Refusal) -> Result<(), WorkError>
     ensures { Writes (reason_text refusal) result (E.view err.old) (E.view err.new) }
@@ -47,6 +66,7 @@ fn write_reason<E: Sink>(err: &mut E, refusal: Refusal) -> Result<(), WorkError>
     match refusal {
         Refusal::BadWords => write_whole(err, b"bad command line"),
         Refusal::BadPackages(fault) => write_fault(err, fault),
+        Refusal::CertificateRefused(fault) => write_cert_fault(err, fault),
         Refusal::ReadFault => write_whole(err, b"read fault"),
         Refusal::WriteFault => write_whole(err, b"write fault"),
         Refusal::NoMemory => write_whole(err, b"no memory"),

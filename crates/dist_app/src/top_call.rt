@@ -1,8 +1,8 @@
 //! The top call.
 ghost use Rattle.std.specs.Prelude.{◌≡◌, ℕ, List, map, string_bytes, MatchResult};
 ghost use Rattle.dist_outside.specs.Files.{IsNotWriting};
-ghost use Rattle.dist_outside.specs.DeskView.{OnlyReads};
-ghost use Rattle.dist_app.specs.Run.{Runs, IsWithinStated, stated_limits};
+ghost use Rattle.dist_app.specs.Headline.{CheckIsProved, StrongIsProved, UndecidedAreHard};
+ghost use Rattle.dist_app.specs.Run.{IsWithinStated, Leaves, Runs, stated_limits};
 ghost use Rattle.dist_app.specs.Carried.{IsAnswered, IsRefused, Prints};
 
 use crate::answer::Answer;
@@ -10,9 +10,10 @@ use crate::command::run_command;
 use crate::refusal::{Refusal, refusal_of};
 use crate::refusal_text::write_refusal;
 use crate::status::Status;
-use crate::words::command_of;
+use dist_check::{accepted_claims_hold, undecided_questions_are_hard};
 use dist_outside::{Desk, Limits, Sink, sink_grows, write_whole};
 use dist_package::packages_are_exact;
+use dist_words::{WordsError, command_of};
 use std::alloc::Global;
 
 /// Carries out the command of the words, which stand after the program's name, at the stated limits.
@@ -28,7 +29,10 @@ pub fn run<D: Desk, W: Sink, E: Sink>(
     requires { IsNotWriting (D.view desk.old).mode }
     ensures runs { Runs (map string_bytes words.now) stated_limits result (D.view desk.old) (D.view desk.new)
         (W.view out.old) (W.view out.new) (E.view err.old) (E.view err.new) }
-    ensures only_reads { OnlyReads (D.view desk.old) (D.view desk.new) }
+    ensures strong { StrongIsProved (map string_bytes words.now) stated_limits result (D.view desk.old) (D.view desk.new)
+        (W.view out.old) (W.view out.new) }
+    ensures check { CheckIsProved (map string_bytes words.now) stated_limits result (D.view desk.old) (W.view out.old) (W.view out.new) }
+    ensures hard { UndecidedAreHard stated_limits }
 {
     run_with(alloc, words, desk, out, err, &Limits::stated())
 }
@@ -46,9 +50,14 @@ pub fn run_with<D: Desk, W: Sink, E: Sink>(
     requires within { IsWithinStated limits.now }
     ensures runs { Runs (map string_bytes words.now) limits.now result (D.view desk.old) (D.view desk.new)
         (W.view out.old) (W.view out.new) (E.view err.old) (E.view err.new) }
-    ensures only_reads { OnlyReads (D.view desk.old) (D.view desk.new) }
+    ensures strong { StrongIsProved (map string_bytes words.now) limits.now result (D.view desk.old) (D.view desk.new)
+        (W.view out.old) (W.view out.new) }
+    ensures check { CheckIsProved (map string_bytes words.now) limits.now result (D.view desk.old) (W.view out.old) (W.view out.new) }
+    ensures hard { UndecidedAreHard limits.now }
 {
     packages_are_exact();
+    accepted_claims_hold();
+    undecided_questions_are_hard();
     sink_grows();
     match carry_out(alloc, words, desk, out, limits) {
         Ok(status) => status,
@@ -72,13 +81,15 @@ fn carry_out<D: Desk, W: Sink>(
     requires not_writing { IsNotWriting (D.view desk.old).mode }
     requires within { IsWithinStated limits.now }
     ensures ends { MatchResult result
-        (IsAnswered (map string_bytes words.now) limits.now (D.view desk.old) (W.view out.old) (W.view out.new))
+        (IsAnswered (map string_bytes words.now) limits.now (D.view desk.old) (D.view desk.new) (W.view out.old) (W.view out.new))
         (IsRefused (map string_bytes words.now) limits.now (D.view desk.old) (D.view desk.new) (W.view out.old) (W.view out.new)) }
-    ensures only_reads { OnlyReads (D.view desk.old) (D.view desk.new) }
+    ensures leaves { Leaves (map string_bytes words.now) (D.view desk.old) (D.view desk.new) }
 {
     sink_grows();
-    let Some(command) = command_of(words) else {
-        return Err(Refusal::BadWords);
+    let command = match command_of(alloc, words) {
+        Ok(command) => command,
+        Err(WordsError::BadWords) => return Err(Refusal::BadWords),
+        Err(WordsError::NoMemory) => return Err(Refusal::NoMemory),
     };
     match run_command(alloc, desk, &command, limits) {
         Ok(answer) => print(out, &answer),

@@ -1,0 +1,172 @@
+-- The ends of the stages are refusals, and the statuses of the ends that inputs decide.
+use Rattle.std.proofs.Common.{◌≡◌, ◌⊎◌, ℕ, Bool, true, false, List, [], inl, inr, Option, Result, Ok, Err, refl, ap, sym, ◌∙◌, subst}
+use Rattle.std.specs.List.{list_any}
+use Rattle.dist_outside.specs.Files.{Files}
+use Rattle.dist_outside.specs.declared.limits.Limits.{Limits}
+use Rattle.dist_outside.specs.declared.trouble.What.TheVariants as what
+use Rattle.dist_outside.specs.declared.trouble.WorkError.{WorkError}
+use Rattle.dist_outside.specs.declared.trouble.WorkError.TheVariants as work
+use Rattle.dist_package.specs.declared.error.PackagesError.{PackagesError}
+use Rattle.dist_package.specs.declared.error.PackagesError.TheVariants as packages_error
+use Rattle.dist_now.specs.declared.kinds.Health.{Health as Judgement}
+use Rattle.dist_now.specs.declared.kinds.Health.TheVariants as health
+use Rattle.dist_repo.specs.PackageList.{PackageList}
+use Rattle.dist_repo.specs.declared.package.Package.{Package}
+use Rattle.dist_cert.specs.declared.records.Claim.{Claim}
+use Rattle.dist_check.specs.declared.verdict.Verdict.{Verdict}
+use Rattle.dist_check.specs.declared.verdict.Verdict.TheVariants as verdict
+use Rattle.dist_words.specs.CommandLine.{CommandLine, Health, Classes, Strong, Check}
+use Rattle.dist_app.specs.Check.{Concludes}
+use Rattle.dist_app.specs.Claims.{claims_status, has_mark}
+use Rattle.dist_app.specs.Command.{CommandDecides, CommandRefuses, CommandIsGivenUp}
+use Rattle.dist_app.specs.Headline.{IsCarriedOut}
+use Rattle.dist_app.specs.Health.{ListStage, Tells}
+use Rattle.dist_app.specs.PackagesStage.{PackagesStage}
+use Rattle.dist_app.specs.Refusal.{status_of, refusal_text}
+use Rattle.dist_app.specs.RepositoryStage.{IsEndOf}
+use Rattle.dist_app.specs.Run.{Decides, Refuses}
+use Rattle.dist_app.specs.Stages.{Ending, Ends, answered, refused}
+use Rattle.dist_app.specs.Strong.{ClausesStage}
+use Rattle.dist_app.specs.TextStage.{TextStage}
+use Rattle.dist_app.specs.declared.refusal.Refusal.{Refusal}
+use Rattle.dist_app.specs.declared.refusal.Refusal.TheVariants as refusal
+use Rattle.dist_app.specs.declared.status.Status.{Status}
+use Rattle.dist_app.specs.declared.status.Status.TheVariants.{Done, DoneWithUndecided, BadWords, BadPackages, CertificateRefused, ReadFault, WriteFault, NoMemory, TooLarge, NotHealthy, BadList}
+
+-- the statuses that the files and the limits may decide
+abbrev pub IsOfFiles : Status → Type 0
+IsOfFiles BadWords = ⊥
+IsOfFiles ReadFault = ⊥
+IsOfFiles WriteFault = ⊥
+IsOfFiles NoMemory = ⊥
+IsOfFiles _ = Unit {0}
+
+-- a refusal that they decide
+pub record IsRefusal (files : Option Files) (ending : Ending) : Type 0 where
+  pub why : Refusal
+  pub of_files : IsOfFiles (status_of why)
+  pub is : ending ≡ refused files why
+
+-- a refusal has a line
+pub told_not_empty : (r : Refusal) → ¬ (refusal_text r ≡ [])
+told_not_empty r is = cc
+
+pub refusal_told : (files : Option Files) (ending : Ending) → IsRefusal files ending → ¬ (ending.err ≡ [])
+refusal_told files ending r empty = told_not_empty r.why (sym (ap (λ (e : Ending). e.err) r.is) ∙ empty)
+
+pub refusal_status : (files : Option Files) (ending : Ending) → IsRefusal files ending → IsOfFiles ending.status
+refusal_status files ending r = subst (λ (e : Ending). IsOfFiles e.status) (sym r.is) r.of_files
+
+-- a refusal is carried out in no case
+pub not_carried_out : (r : Refusal) → ¬ IsCarriedOut (status_of r)
+not_carried_out refusal.BadWords out = out
+not_carried_out (refusal.BadPackages fault) out = out
+not_carried_out (refusal.CertificateRefused fault) out = out
+not_carried_out refusal.ReadFault out = out
+not_carried_out refusal.WriteFault out = out
+not_carried_out refusal.NoMemory out = out
+not_carried_out (refusal.TooLarge limit) out = out
+not_carried_out (refusal.BadList line) out = out
+
+pub refusal_not_carried_out : (files : Option Files) (ending : Ending) → IsRefusal files ending → ¬ IsCarriedOut ending.status
+refusal_not_carried_out files ending r out = not_carried_out r.why (subst (λ (e : Ending). IsCarriedOut e.status) r.is out)
+
+-- ---- stages
+
+text_refuses : (files : Option Files) (name : List ℕ) (limit : ℕ) (ending : Ending) → TextStage files name limit (Ends ending) → IsRefusal files ending
+text_refuses files name limit ending (longer, is) = record { why = refusal.TooLarge what.Bytes; of_files = tt; is = is }
+
+end_refuses : (files : Option Files) (error : PackagesError) (ending : Ending) → IsEndOf files error ending → IsRefusal files ending
+end_refuses files (packages_error.Bad fault) ending is = record { why = refusal.BadPackages fault; of_files = tt; is = is }
+end_refuses files packages_error.TooMany ending is = record { why = refusal.TooLarge what.Stanzas; of_files = tt; is = is }
+end_refuses files packages_error.NoMemory ending is = absurd is
+
+pub packages_refuses : (files : Option Files) (limits : Limits) (name : List ℕ) (ending : Ending) → PackagesStage files limits name (Ends ending) → IsRefusal files ending
+packages_refuses files limits name ending (inl ends) = text_refuses files name limits.bytes ending ends
+packages_refuses files limits name ending (inr (text, goes, (error, refuses, is))) = end_refuses files error ending is
+
+list_refuses : (files : Option Files) (packages : List Package) (text : List ℕ) (ending : Ending) → ListStage files packages text (Ends ending) → IsRefusal files ending
+list_refuses files packages text ending (line, bad, is) = record { why = refusal.BadList line; of_files = tt; is = is }
+
+pub clauses_refuse : (files : Option Files) (limits : Limits) (essential : Bool) (r : PackageList) (ending : Ending) → ClausesStage files limits essential r (Ends ending) → IsRefusal files ending
+clauses_refuse files limits essential r ending (inl (passes, is)) = record { why = refusal.TooLarge what.Clauses; of_files = tt; is = is }
+clauses_refuse files limits essential r ending (inr (not, passes, is)) = record { why = refusal.TooLarge what.Literals; of_files = tt; is = is }
+
+-- ---- commands
+
+command_refuses : (line : CommandLine) (files : Option Files) (limits : Limits) (ending : Ending) → CommandRefuses line files limits ending → IsRefusal files ending
+command_refuses (Health packages list) files limits ending (inl p) = packages_refuses files limits packages ending p
+command_refuses (Health packages list) files limits ending (inr (r, goes, inl t)) = text_refuses files list limits.bytes ending t
+command_refuses (Health packages list) files limits ending (inr (r, goes, inr (names, whole, inl l))) = list_refuses files r.packages names ending l
+command_refuses (Health packages list) files limits ending (inr (r, goes, inr (names, whole, inr (members, has, none)))) = absurd none
+command_refuses (Classes packages) files limits ending (inl p) = packages_refuses files limits packages ending p
+command_refuses (Classes packages) files limits ending (inr (r, goes, none)) = absurd none
+command_refuses (Strong packages cert essential limit) files limits ending (inl p) = packages_refuses files limits packages ending p
+command_refuses (Strong packages cert essential limit) files limits ending (inr (r, goes, inl c)) = clauses_refuse files limits essential r ending c
+command_refuses (Strong packages cert essential limit) files limits ending (inr (r, goes, inr (_, kept, none))) = absurd none
+command_refuses (Check packages cert) files limits ending (inl p) = packages_refuses files limits packages ending p
+command_refuses (Check packages cert) files limits ending (inr (r, goes, none)) = absurd none
+
+pub refuses_told : (words : List (List ℕ)) (files : Option Files) (limits : Limits) (ending : Ending) → Refuses words files limits ending → ¬ (ending.err ≡ [])
+refuses_told words files limits ending (inl (bad, is)) empty = told_not_empty refusal.BadWords (sym (ap (λ (e : Ending). e.err) is) ∙ empty)
+refuses_told words files limits ending (inr (line, is_line, refuses)) empty = refusal_told files ending (command_refuses line files limits ending refuses) empty
+
+-- ---- statuses
+
+told_status : (packages : List Package) (kind : Judgement) (status : Status) (line : List ℕ) → Tells packages kind status line → IsOfFiles status
+told_status packages health.Healthy status line tells = subst IsOfFiles (sym tells.0) tt
+told_status packages (health.TwoVersions p q) status line tells = subst IsOfFiles (sym tells.0) tt
+told_status packages (health.Unmet p place) status line tells = subst IsOfFiles (sym tells.0) tt
+told_status packages (health.Conflict p q) status line tells = subst IsOfFiles (sym tells.0) tt
+told_status packages (health.EssentialMissing p) status line tells = absurd tells
+
+pub claims_of_files : (made : List Claim) → IsOfFiles (claims_status made)
+claims_of_files made = go (list_any has_mark made) refl
+  where
+    go : (b : Bool) → list_any has_mark made ≡ b → IsOfFiles (claims_status made)
+    go true e = rw e tt
+    go false e = rw e tt
+
+with_status : (ending other : Ending) → ending ≡ other → IsOfFiles other.status → IsOfFiles ending.status
+with_status ending other is of = subst (λ (e : Ending). IsOfFiles e.status) (sym is) of
+
+concluded_status : (files : Option Files) (r : PackageList) (result : Result Verdict WorkError) (ending : Ending) → Concludes files r result ending → IsOfFiles ending.status
+concluded_status files r (Ok (verdict.Accepted h made)) ending (means, is) = subst (λ (e : Ending). IsOfFiles e.status) (sym is) (claims_of_files made)
+concluded_status files r (Ok (verdict.Refused fault)) ending is = with_status ending (refused files (refusal.CertificateRefused fault)) is tt
+concluded_status files r (Err (work.TooLarge limit)) ending is = with_status ending (refused files (refusal.TooLarge limit)) is tt
+concluded_status files r (Err work.ReadFault) ending is = absurd is
+concluded_status files r (Err work.WriteFault) ending is = absurd is
+concluded_status files r (Err work.NoMemory) ending is = absurd is
+
+pub command_status : (line : CommandLine) (files : Option Files) (limits : Limits) (ending : Ending) → CommandDecides line files limits ending → IsOfFiles ending.status
+command_status (Health packages list) files limits ending (inl p) = refusal_status files ending (packages_refuses files limits packages ending p)
+command_status (Health packages list) files limits ending (inr (r, goes, inl t)) = refusal_status files ending (text_refuses files list limits.bytes ending t)
+command_status (Health packages list) files limits ending (inr (r, goes, inr (names, whole, inl l))) = refusal_status files ending (list_refuses files r.packages names ending l)
+command_status (Health packages list) files limits ending (inr (r, goes, inr (names, whole, inr (members, has, judges)))) =
+    with_status ending (answered files judges.status judges.line) judges.is (told_status r.packages judges.health judges.status judges.line judges.tells)
+command_status (Classes packages) files limits ending (inl p) = refusal_status files ending (packages_refuses files limits packages ending p)
+command_status (Classes packages) files limits ending (inr (r, goes, tells)) = with_status ending (answered files Done tells.text) tells.is tt
+command_status (Strong packages cert essential limit) files limits ending (inl p) = refusal_status files ending (packages_refuses files limits packages ending p)
+command_status (Strong packages cert essential limit) files limits ending (inr (r, goes, inl c)) = refusal_status files ending (clauses_refuse files limits essential r ending c)
+command_status (Strong packages cert essential limit) files limits ending (inr (r, goes, inr (_, kept, inl swept))) = subst (λ (e : Ending). IsOfFiles e.status) (sym swept.is) (claims_of_files swept.made)
+command_status (Strong packages cert essential limit) files limits ending (inr (r, goes, inr (_, kept, inr stopped))) = subst (λ (e : Ending). IsOfFiles e.status) (sym stopped.is) tt
+command_status (Check packages cert) files limits ending (inl p) = refusal_status files ending (packages_refuses files limits packages ending p)
+command_status (Check packages cert) files limits ending (inr (r, goes, checks)) = concluded_status files r checks.result ending checks.concludes
+
+-- a command that was given up while it wrote ends with the status of why
+pub given_up_status : (line : CommandLine) (files : Option Files) (limits : Limits) (why : Refusal) (ending : Ending) → CommandIsGivenUp line files limits why ending → ending.status ≡ status_of why
+given_up_status (Health packages list) files limits why ending given_up = absurd given_up
+given_up_status (Classes packages) files limits why ending given_up = absurd given_up
+given_up_status (Strong packages cert essential limit) files limits why ending given_up = ap (λ (e : Ending). e.status) given_up.is
+given_up_status (Check packages cert) files limits why ending given_up = absurd given_up
+
+not_of_files : (status other : Status) → IsOfFiles status → status ≡ other → IsOfFiles other
+not_of_files status other of is = subst IsOfFiles is of
+
+pub not_read_fault : (words : List (List ℕ)) (files : Option Files) (limits : Limits) (ending : Ending) → Decides words files limits ending → ¬ (ending.status ≡ ReadFault)
+not_read_fault words files limits ending (inl (bad, is)) status = let e = ap (λ (x : Ending). x.status) is in cc
+not_read_fault words files limits ending (inr (line, is, decides)) status = not_of_files ending.status ReadFault (command_status line files limits ending decides) status
+
+pub not_write_fault : (words : List (List ℕ)) (files : Option Files) (limits : Limits) (ending : Ending) → Decides words files limits ending → ¬ (ending.status ≡ WriteFault)
+not_write_fault words files limits ending (inl (bad, is)) status = let e = ap (λ (x : Ending). x.status) is in cc
+not_write_fault words files limits ending (inr (line, is, decides)) status = not_of_files ending.status WriteFault (command_status line files limits ending decides) status

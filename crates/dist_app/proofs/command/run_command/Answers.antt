@@ -1,0 +1,15 @@
+use Rattle.dist_app.specs.Health.{HealthStages, Judges}
+use Rattle.dist_words.specs.CommandLine.{Health}
+use Rattle.dist_app.proofs.Due.{ok_more, err_more, read_answers, due_stops}
+use Rattle.dist_app.proofs.command.run_command.Goals as goal
+
+pub returns-in-Health-clause-answers : goal.returns-in-Health-clause-answers
+returns-in-Health-clause-answers g c =
+    rw c.in-Health.is (ok_more c.run_health.result _ _ (λ answer. read_answers (Health c.in-Health.files.packages.now c.in-Health.files.list.now) c.args.limits.now (g.D.Desk.view c.args.desk.now)
+    _ answer.status answer.text.items c.run_health.ensures.only_reads) c.run_health.ensures.answers)
+
+pub returns-in-Health-clause-stops : goal.returns-in-Health-clause-stops
+returns-in-Health-clause-stops g c =
+    rw c.in-Health.is (err_more c.run_health.result _ _ (λ why. due_stops (Health c.in-Health.files.packages.now c.in-Health.files.list.now) c.args.limits.now
+    (HealthStages (g.D.Desk.view c.args.desk.now).files c.args.limits.now c.in-Health.files.packages.now c.in-Health.files.list.now (Judges (g.D.Desk.view c.args.desk.now).files))
+    (g.D.Desk.view c.args.desk.now) (g.D.Desk.view c.run_health.new.desk) why (λ ending decides. decides) c.run_health.ensures.only_reads) c.run_health.ensures.due)

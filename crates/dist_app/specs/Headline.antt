@@ -1,0 +1,76 @@
+-- What a run of `strong` and one of `check` prove.
+use Rattle.std.specs.Prelude.{◌≡◌, ◌↔◌, ◌≤◌, ◌^◌, ℕ, Bool, List, [], Option, Some, Contains, length}
+use Rattle.dist_outside.specs.DeskView.{DeskView}
+use Rattle.dist_outside.specs.Files.{Files, file_bytes, with_file}
+use Rattle.dist_outside.specs.SinkView.{SinkView, Grew}
+use Rattle.dist_outside.specs.declared.limits.Limits.{Limits}
+use Rattle.dist_clause.specs.Formula.{Literal}
+use Rattle.dist_derive.specs.Cone.{InCone}
+use Rattle.dist_repo.specs.PackageList.{PackageList}
+use Rattle.dist_cert.specs.Accepted.{IsAcceptedAs}
+use Rattle.dist_cert.specs.Form.{Word}
+use Rattle.dist_cert.specs.Groups.{clause_of, IsUndecidedIn}
+use Rattle.dist_cert.specs.declared.records.CertRecord.{CertRecord}
+use Rattle.dist_cert.specs.declared.records.Claim.{Claim}
+use Rattle.dist_cert.specs.declared.records.Header.{Header}
+use Rattle.dist_subject.specs.Completed.{IsCompleted}
+use Rattle.dist_subject.specs.Present.{AreInputs, subject_of}
+use Rattle.dist_strong.specs.Sweep.{IsSweep, header_of}
+use Rattle.dist_check.specs.Answers.{AcceptedMeans}
+use Rattle.dist_check.specs.Checking.{OfText}
+use Rattle.dist_check.specs.Means.{Means}
+use Rattle.dist_report.specs.StrongReport.{strong_lines}
+use Rattle.dist_words.specs.CommandLine.{Strong, Check}
+use Rattle.dist_words.specs.Table.{command_of}
+use Rattle.dist_app.specs.Claims.{claims_status}
+use Rattle.dist_app.specs.PackagesStage.{PackagesStage}
+use Rattle.dist_app.specs.Stages.{Goes}
+use Rattle.dist_app.specs.declared.status.Status.{Status}
+use Rattle.dist_app.specs.declared.status.Status.TheVariants.{Done, DoneWithUndecided}
+
+-- the command was carried out
+abbrev pub IsCarriedOut : Status → Type 0
+IsCarriedOut Done = Unit {0}
+IsCarriedOut DoneWithUndecided = Unit {0}
+IsCarriedOut status = ⊥
+
+-- PACKAGES has a repository, and CERT holds a whole certificate over it, of kind strong, with the command's mode and limit.
+-- What it claims is true, and its report was printed. All other files are as before.
+pub record ProvesStrong (limits : Limits) (packages cert : List ℕ) (essential : Bool) (limit : ℕ) (result : Status) (desk desk' : DeskView) (out out' : SinkView) : Type 0 where
+  pub repository : PackageList
+  pub read : PackagesStage desk.files limits packages (Goes repository)
+  pub made : List Claim
+  pub text : List ℕ
+  pub certificate : IsSweep repository essential limit limits made text
+  pub files : desk'.files ≡ with_file desk.files cert text
+  pub means : Means essential repository made
+  pub printed : Grew (strong_lines repository.packages (header_of repository essential limit []) made) out out'
+  pub status : result ≡ claims_status made
+
+-- PACKAGES has a repository, and the file CERT was accepted over it, whoever wrote it, with a first line and claims. The line
+-- is of kind strong and has the repository's numbers, what is claimed is true at its mode, and the report was printed.
+pub record ProvesCheck (limits : Limits) (packages cert : List ℕ) (result : Status) (desk : DeskView) (out out' : SinkView) : Type 0 where
+  pub repository : PackageList
+  pub read : PackagesStage desk.files limits packages (Goes repository)
+  pub header : Header
+  pub made : List Claim
+  pub accepted : OfText (file_bytes desk.files cert) (λ text. IsCompleted repository limits text header made)
+  pub means : AcceptedMeans repository header made
+  pub printed : Grew (strong_lines repository.packages header made) out out'
+  pub status : result ≡ claims_status made
+
+-- the same of a run with these words
+abbrev pub StrongIsProved : List (List ℕ) → Limits → Status → DeskView → DeskView → SinkView → SinkView → Type 0
+StrongIsProved words limits result desk desk' out out' = (packages cert : List ℕ) (essential : Bool) (limit : ℕ)
+    → command_of words ≡ Some (Strong packages cert essential limit) → IsCarriedOut result → ProvesStrong limits packages cert essential limit result desk desk' out out'
+
+abbrev pub CheckIsProved : List (List ℕ) → Limits → Status → DeskView → SinkView → SinkView → Type 0
+CheckIsProved words limits result desk out out' = (packages cert : List ℕ)
+    → command_of words ≡ Some (Check packages cert) → IsCarriedOut result → ProvesCheck limits packages cert result desk out out'
+
+-- A question that an accepted text leaves undecided is hard: its limit is at most 3 to the power of the number of variables
+-- that it reaches.
+abbrev pub UndecidedAreHard : Limits → Type 0
+UndecidedAreHard limits = (r : PackageList) (inputs : Bool → List (List Literal)) (text : List ℕ) (h : Header) (steps : List CertRecord) (question : List Word) (cone : List ℕ)
+    → AreInputs r inputs → IsAcceptedAs (subject_of r inputs) limits text h steps → IsUndecidedIn steps question
+    → ((v : ℕ) → Contains cone v ↔ InCone (inputs h.essential) (clause_of question) v) → h.limit ≤ 3 ^ length cone

@@ -1,0 +1,68 @@
+//! `check PACKAGES CERT`, stage by stage.
+ghost use Rattle.std.specs.Prelude.{IfOk, IfErr};
+ghost use Rattle.dist_outside.specs.DeskView.{OnlyReads};
+ghost use Rattle.dist_outside.specs.Files.{IsNotWriting};
+ghost use Rattle.dist_repo.specs.Size.{IsWithinSize};
+ghost use Rattle.dist_app.specs.Check.{CheckStages, Checks};
+ghost use Rattle.dist_app.specs.Due.{IsDue};
+ghost use Rattle.dist_app.specs.Run.{IsWithinStated};
+ghost use Rattle.dist_app.specs.Stages.{answered};
+
+use crate::answer::Answer;
+use crate::claims::tell_claims;
+use crate::files::read_repository;
+use crate::refusal::{Refusal, refusal_of};
+use dist_check::{Verdict, check};
+use dist_outside::{Desk, Limits};
+use dist_repo::Repository;
+use dist_words::CertFiles;
+use std::alloc::Global;
+
+/// What the command answers, or why it was given up.
+pub(crate) fn run_check<D: Desk>(
+    alloc: Global,
+    desk: &mut D,
+    files: &CertFiles<'_>,
+    limits: &Limits,
+) -> Result<Answer, Refusal>
+    requires not_writing { IsNotWriting (D.view desk.old).mode }
+    requires within { IsWithinStated limits.now }
+    ensures answers { IfOk result (λ answer. CheckStages (D.view desk.old).files limits.now files.now.packages.now
+        (Checks (D.view desk.old).files limits.now files.now.cert.now) (answered (D.view desk.old).files answer.status answer.text.items)) }
+    ensures due { IfErr result (IsDue (CheckStages (D.view desk.old).files limits.now files.now.packages.now
+        (Checks (D.view desk.old).files limits.now files.now.cert.now)) (D.view desk.old) (D.view desk.new)) }
+    ensures only_reads { OnlyReads (D.view desk.old) (D.view desk.new) }
+{
+    match read_repository(alloc, desk, files.packages, limits) {
+        Ok(repository) => judge_certificate(alloc, desk, &repository, files.cert, limits),
+        Err(refusal) => Err(refusal),
+    }
+}
+
+/// What the command answers once its repository is read.
+fn judge_certificate<D: Desk>(
+    alloc: Global,
+    desk: &mut D,
+    repository: &Repository,
+    cert: &str,
+    limits: &Limits,
+) -> Result<Answer, Refusal>
+    requires not_writing { IsNotWriting (D.view desk.old).mode }
+    requires within { IsWithinStated limits.now }
+    requires within_size { IsWithinSize repository.now }
+    ensures answers { IfOk result (λ answer. Checks (D.view desk.old).files limits.now cert.now repository.now
+        (answered (D.view desk.old).files answer.status answer.text.items)) }
+    ensures due { IfErr result (IsDue (Checks (D.view desk.old).files limits.now cert.now repository.now) (D.view desk.old) (D.view desk.new)) }
+    ensures only_reads { OnlyReads (D.view desk.old) (D.view desk.new) }
+{
+    match check(alloc, repository, desk, cert, limits) {
+        Ok(Verdict::Accepted(header, claims)) => {
+            match tell_claims(alloc, repository, &header, &claims) {
+                Ok(answer) => Ok(answer),
+                Err(_) => Err(Refusal::NoMemory),
+            }
+        }
+        Ok(Verdict::Refused(fault)) => Err(Refusal::CertificateRefused(fault)),
+        Err(error) => Err(refusal_of(error)),
+    }
+}

@@ -1,0 +1,4 @@
+mod Chain
+mod Getters
+mod Readings
+mod SimpleChain

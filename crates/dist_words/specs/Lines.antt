@@ -1,0 +1,33 @@
+-- What the code keeps of the words, as the definitions see it.
+use Rattle.std.specs.Prelude.{◌≤◌, ℕ, List, map}
+use Rattle.std.specs.Borrow.{Bor}
+use Rattle.dist_words.specs.Clap.{Options as Chosen}
+use Rattle.dist_words.specs.CommandLine.{CommandLine, Health, Classes, Strong, Check}
+use Rattle.dist_words.specs.declared.command.Command.{Command}
+use Rattle.dist_words.specs.declared.command.Command.TheVariants as command
+use Rattle.dist_words.specs.declared.taken.Options.{Options}
+
+-- a command
+abbrev pub line_of : Command → CommandLine
+line_of (command.Health files) = Health files.packages.now files.list.now
+line_of (command.Classes packages) = Classes packages.now
+line_of (command.Strong words) = Strong words.packages.now words.cert.now words.essential words.limit
+line_of (command.Check files) = Check files.packages.now files.cert.now
+
+-- a limit of derived lines that may stand
+pub record IsLimit (limit : ℕ) : Type 0 where
+  pub least : 1 ≤ limit
+  pub greatest : limit ≤ 1000000
+
+-- a command's limit may stand
+abbrev pub HasLimit : Command → Type 0
+HasLimit (command.Strong words) = IsLimit words.limit
+HasLimit line = Unit {0}
+
+-- the names of files
+abbrev pub names : List (Bor (List ℕ)) → List (List ℕ)
+names files = map (λ file. file.now) files
+
+-- the options as they were taken
+abbrev pub seen : Options → Chosen
+seen options = record { limit = options.limit; size = options.size; seed = options.seed; essential = options.essential }

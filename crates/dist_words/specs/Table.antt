@@ -1,0 +1,63 @@
+-- The table of the commands: for each word the number of files and the options that may stand with it.
+--
+--   command    files             options
+--   health     PACKAGES LIST     none
+--   classes    PACKAGES          none
+--   strong     PACKAGES CERT     --limit, --essential
+--   check      PACKAGES CERT     none
+use Rattle.std.specs.Prelude.{◌≡◌, ◌&&◌, Bool, not, List, [], ◌∷◌, Option, Some, None, is_some, if◌then◌else◌, codes, unwrap_or}
+use Rattle.std.specs.Str.{bytes_eq}
+use Rattle.clap.specs.Walk.{Text, is_empty}
+use Rattle.clap.specs.Faults.{fault_of}
+use Rattle.dist_words.specs.Clap.{Options, Taken, simple_command, taken}
+use Rattle.dist_words.specs.CommandLine.{CommandLine, Health, Classes, Strong, Check}
+
+-- ---- options
+
+-- neither a size nor a seed stands
+abbrev pub has_no_seed : Options → Bool
+has_no_seed options = not (is_some options.size) && not (is_some options.seed)
+
+-- no option stands
+abbrev pub has_no_option : Options → Bool
+has_no_option options = has_no_seed options && (not (is_some options.limit) && not options.essential)
+
+-- ---- files
+
+abbrev pub with_one : (Text → CommandLine) → List Text → Option CommandLine
+with_one command (first ∷ []) = Some (command first)
+with_one command files = None
+
+abbrev pub with_two : (Text → Text → CommandLine) → List Text → Option CommandLine
+with_two command (first ∷ second ∷ []) = Some (command first second)
+with_two command files = None
+
+-- ---- the table
+
+-- a line of the table, where its options allow it
+abbrev pub where_allowed : Bool → Option CommandLine → Option CommandLine
+where_allowed allowed line = if allowed then line else None
+
+abbrev pub strong_with : Options → Text → Text → CommandLine
+strong_with options packages cert = Strong packages cert options.essential (unwrap_or options.limit 10000)
+
+abbrev pub in_table : Text → List Text → Options → Option CommandLine
+in_table word files options =
+    if bytes_eq word (codes "health") then where_allowed (has_no_option options) (with_two Health files)
+    else (if bytes_eq word (codes "classes") then where_allowed (has_no_option options) (with_one Classes files)
+    else (if bytes_eq word (codes "strong") then where_allowed (has_no_seed options) (with_two (strong_with options) files)
+    else (if bytes_eq word (codes "check") then where_allowed (has_no_option options) (with_two Check files)
+    else None)))
+
+-- the command that the table has for what was taken
+abbrev pub accepted : Taken → Option CommandLine
+accepted t = in_table (unwrap_or t.command []) t.files t.options
+
+-- The command of the words: what `clap` states that it matches, accepted by the table. There is none where `clap` states
+-- that it refuses the words, or the table has none.
+unfoldable pub command_of : List Text → Option CommandLine
+command_of words = if is_empty (fault_of simple_command words) then accepted (taken words) else None
+
+-- the words are of no command
+abbrev pub IsBadWords : List Text → Type 0
+IsBadWords words = command_of words ≡ None

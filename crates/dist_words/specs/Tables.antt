@@ -1,0 +1,18 @@
+-- Worked examples of the table.
+use Rattle.std.specs.Prelude.{◌≡◌, true, false, [], ◌∷◌, Some, None, codes, refl}
+use Rattle.dist_words.specs.CommandLine.{Strong}
+use Rattle.dist_words.specs.Table.{in_table}
+
+-- `strong f g`, with no limit
+strong_by_default : in_table (codes "strong") (codes "f" ∷ codes "g" ∷ []) (record { limit = None; size = None; seed = None; essential = false })
+    ≡ Some (Strong (codes "f") (codes "g") false 10000)
+strong_by_default = refl
+
+-- `check f g --limit 3`
+check_takes_no_limit : in_table (codes "check") (codes "f" ∷ codes "g" ∷ []) (record { limit = Some 3; size = None; seed = None; essential = false })
+    ≡ None
+check_takes_no_limit = refl
+
+-- `strong f`
+strong_takes_two_files : in_table (codes "strong") (codes "f" ∷ []) (record { limit = None; size = None; seed = None; essential = true }) ≡ None
+strong_takes_two_files = refl

@@ -1,0 +1,15 @@
+//! The words of the command line. `clap` takes them apart, and a table says which command they are.
+#![tactic(auto)]
+
+mod clap_command;
+mod command;
+mod error;
+mod table;
+mod taken;
+
+pub use command::{CertFiles, Command, HealthFiles, StrongWords};
+pub use error::WordsError;
+pub use table::command_of;
+
+#[cfg(test)]
+mod tests;

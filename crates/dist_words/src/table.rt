@@ -1,0 +1,133 @@
+//! The table of the commands.
+ghost use Rattle.std.specs.Prelude.{◌≡◌, IfOk, IfSome, Err, Some, map, option_map, string_bytes};
+ghost use Rattle.clap.specs.Matches.{found_of};
+ghost use Rattle.clap.specs.Walk.{rows_of};
+ghost use Rattle.dist_words.specs.Clap.{taken_of};
+ghost use Rattle.dist_words.specs.SimpleCommand.{IsMatched};
+ghost use Rattle.dist_words.specs.CommandLine.{Health, Classes, Check};
+ghost use Rattle.dist_words.specs.Lines.{HasLimit, IsLimit, line_of, names, seen};
+ghost use Rattle.dist_words.specs.Table.{IsBadWords, accepted, command_of, in_table, has_no_option, has_no_seed, strong_with, where_allowed, with_one, with_two};
+ghost use Rattle.dist_words.specs.declared.error.WordsError.TheVariants.{BadWords};
+
+use crate::clap_command::matches_of;
+use crate::command::{CertFiles, Command, HealthFiles, StrongWords};
+use crate::error::WordsError;
+use crate::taken::{Options, options_of};
+use clap::ArgMatches;
+use std::alloc::Global;
+
+/// The limit where no option gives one.
+const DEFAULT_LIMIT: u32 = 10_000;
+
+/// The command of the words, which stand after the program's name.
+#[tactic(auto, unfolding(crate::specs::Table::command_of))]
+pub fn command_of<'a>(alloc: Global, words: &'a [String]) -> Result<Command<'a>, WordsError>
+    ensures command { IfOk result (λ command. command_of (map string_bytes words.now) ≡ Some (line_of command)) }
+    ensures bad { result ≡ Err BadWords → IsBadWords (map string_bytes words.now) }
+    ensures limit { IfOk result HasLimit }
+{
+    let matches = matches_of(alloc, words)?;
+    match accepted(&matches) {
+        Some(command) => Ok(command),
+        None => Err(WordsError::BadWords),
+    }
+}
+
+/// The command that the table has for the matches.
+fn accepted<'a>(matches: &ArgMatches<'a>) -> Option<Command<'a>>
+    requires { IsMatched matches.now }
+    ensures command { option_map line_of result ≡ accepted (taken_of (rows_of (found_of matches.now))) }
+    ensures limit { IfSome result HasLimit }
+{
+    let options = options_of(matches);
+    let word = matches.get_str("command").unwrap_or("");
+    match matches.get_strs("files") {
+        Some(files) => in_table(word, files, options),
+        None => in_table(word, &[], options),
+    }
+}
+
+/// The command of a word.
+fn in_table<'a>(word: &str, files: &[&'a str], options: Options) -> Option<Command<'a>>
+    requires { IfSome options.limit IsLimit }
+    ensures command { option_map line_of result ≡ in_table word.now (names files.now) (seen options) }
+    ensures limit { IfSome result HasLimit }
+{
+    if word == "health" {
+        health(files, options)
+    } else if word == "classes" {
+        classes(files, options)
+    } else if word == "strong" {
+        strong(files, options)
+    } else if word == "check" {
+        check(files, options)
+    } else {
+        None
+    }
+}
+
+/// Neither a size nor a seed stands.
+fn has_no_seed(options: Options) -> bool
+    ensures { result ≡ has_no_seed (seen options) }
+{
+    options.size.is_none() && options.seed.is_none()
+}
+
+/// No option stands.
+fn has_no_option(options: Options) -> bool
+    ensures { result ≡ has_no_option (seen options) }
+{
+    has_no_seed(options) && options.limit.is_none() && !options.essential
+}
+
+/// `health PACKAGES LIST`.
+fn health<'a>(files: &[&'a str], options: Options) -> Option<Command<'a>>
+    ensures { option_map line_of result ≡ where_allowed (has_no_option (seen options)) (with_two Health (names files.now)) }
+{
+    match files {
+        [packages, list] if has_no_option(options) => {
+            Some(Command::Health(HealthFiles { packages, list }))
+        }
+        _ => None,
+    }
+}
+
+/// `classes PACKAGES`.
+fn classes<'a>(files: &[&'a str], options: Options) -> Option<Command<'a>>
+    ensures { option_map line_of result ≡ where_allowed (has_no_option (seen options)) (with_one Classes (names files.now)) }
+{
+    match files {
+        [packages] if has_no_option(options) => Some(Command::Classes(packages)),
+        _ => None,
+    }
+}
+
+/// `strong PACKAGES CERT`.
+fn strong<'a>(files: &[&'a str], options: Options) -> Option<Command<'a>>
+    requires { IfSome options.limit IsLimit }
+    ensures command { option_map line_of result
+        ≡ where_allowed (has_no_seed (seen options)) (with_two (strong_with (seen options)) (names files.now)) }
+    ensures limit { IfSome result HasLimit }
+{
+    match files {
+        [packages, cert] if has_no_seed(options) => Some(Command::Strong(StrongWords {
+            packages,
+            cert,
+            essential: options.essential,
+            limit: options.limit.unwrap_or(DEFAULT_LIMIT),
+        })),
+        _ => None,
+    }
+}
+
+/// `check PACKAGES CERT`.
+fn check<'a>(files: &[&'a str], options: Options) -> Option<Command<'a>>
+    ensures { option_map line_of result ≡ where_allowed (has_no_option (seen options)) (with_two Check (names files.now)) }
+{
+    match files {
+        [packages, cert] if has_no_option(options) => {
+            Some(Command::Check(CertFiles { packages, cert }))
+        }
+        _ => None,
+    }
+}
