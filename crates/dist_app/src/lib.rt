@@ -30,4 +30,6 @@ mod check_tests;
 #[cfg(test)]
 mod classes_tests;
 #[cfg(test)]
+mod strong_tests;
+#[cfg(test)]
 mod tests;
