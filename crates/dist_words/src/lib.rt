@@ -10,3 +10,6 @@ mod taken;
 pub use command::{CertFiles, Command, HealthFiles, StrongWords, TryWords};
 pub use error::WordsError;
 pub use table::command_of;
+
+#[cfg(test)]
+mod tests;
