@@ -15,7 +15,6 @@ pub mod Decoded
 pub mod Accepted
 pub mod ClearForms
 pub mod OneVerdict
-pub mod Told
 pub mod SomeVerdict
 pub mod ReadBack
 pub mod FaultsRead

@@ -19,11 +19,11 @@ use Rattle.dist_cert.specs.Accepted.{claims_in, Accepted}
 
 -- ---- first causes
 
-has_first : (Has : CertCause → Type 0) (causes : List CertCause) (cause : CertCause) → IsFirstOf causes Has cause → Has cause
+pub has_first : (Has : CertCause → Type 0) (causes : List CertCause) (cause : CertCause) → IsFirstOf causes Has cause → Has cause
 has_first Has [] cause h = absurd h
 has_first Has (next ∷ later) cause h = ⊎_elim (λ x. subst Has (sym x.1) x.0) (λ x. has_first Has later cause x.1) h
 
-one_first : (Has : CertCause → Type 0) (causes : List CertCause) (cause other : CertCause) → IsFirstOf causes Has cause → IsFirstOf causes Has other → cause ≡ other
+pub one_first : (Has : CertCause → Type 0) (causes : List CertCause) (cause other : CertCause) → IsFirstOf causes Has cause → IsFirstOf causes Has other → cause ≡ other
 one_first Has [] cause other h g = absurd h
 one_first Has (next ∷ later) cause other h g = ⊎_elim
     (λ x. ⊎_elim (λ y. x.1 ∙ sym y.1) (λ y. absurd (y.0 x.0)) g)
@@ -71,13 +71,13 @@ first_line_of step steps rest = append_assoc (record_text step ++ line_feed ∷ 
 IsFront : List CertRecord → List ℕ → List CertRecord → List ℕ → Type 0
 IsFront few rest many other = (more : List CertRecord) × (many ≡ few ++ more) × (rest ≡ lines_text more ++ other)
 
-IsShorter : List CertRecord → List ℕ → List CertRecord → List ℕ → Type 0
+abbrev pub IsShorter : List CertRecord → List ℕ → List CertRecord → List ℕ → Type 0
 IsShorter few rest many other = (step : CertRecord) × (more : List CertRecord) × (many ≡ few ++ step ∷ more) × (rest ≡ lines_text (step ∷ more) ++ other)
 
 -- of two readings of a text one is a front of the other
 one_is_front : FormsAreClear → (ones twos : List CertRecord) (rest other : List ℕ) → AreRecords ones → AreRecords twos → lines_text ones ++ rest ≡ lines_text twos ++ other
     → IsFront ones rest twos other ⊎ IsShorter twos other ones rest
-unfolding AreRecords IsFront IsShorter
+unfolding AreRecords IsFront
 one_is_front clear [] twos rest other ha hb e = inl (twos, refl, e)
 one_is_front clear (a ∷ ones) [] rest other ha hb e = inr (a, ones, refl, sym e)
 one_is_front clear (a ∷ ones) (b ∷ twos) rest other ha hb e =
@@ -103,9 +103,8 @@ same_lines clear text h other ones twos rest more r s =
 -- ---- the laws
 
 -- a line of faultless lines has no fault
-not_faulty : (subject : Subject) (limits : Limits) (text : List ℕ) (h other : Header) (few many : List CertRecord) (rest more : List ℕ) (cause : CertCause)
+pub not_faulty : (subject : Subject) (limits : Limits) (text : List ℕ) (h other : Header) (few many : List CertRecord) (rest more : List ℕ) (cause : CertCause)
     → h ≡ other → AreFaultless subject limits text other many more → IsShorter few rest many more → ¬ HasLineFault subject limits h few rest cause
-unfolding IsShorter
 not_faulty subject limits text h other few many rest more cause same faultless shorter fault = faultless.later few shorter.0 shorter.1 shorter.2 cause
     (subst (λ bytes. HasLineFault subject limits other few bytes cause) shorter.3 (subst (λ k. HasLineFault subject limits k few rest cause) same fault))
 
@@ -113,7 +112,7 @@ same_fault : (fault other : CertFault) → fault.line ≡ other.line → fault.c
 same_fault fault other line cause = subst (λ n. fault ≡ record { line = n; cause = other.cause }) line (ap (λ c. record { line = fault.line; cause = c }) cause)
 
 front_cases : (few many : List CertRecord) (rest more : List ℕ) → IsFront few rest many more → ((few ≡ many) × (rest ≡ more)) ⊎ IsShorter few rest many more
-unfolding IsFront IsShorter
+unfolding IsFront
 front_cases few many rest more h = cases h.0 h.1 h.2
   where
     cases : (others : List CertRecord) → many ≡ few ++ others → rest ≡ lines_text others ++ more → ((few ≡ many) × (rest ≡ more)) ⊎ ((step : CertRecord) × (later : List CertRecord) × (many ≡ few ++ step ∷ later) × (rest ≡ lines_text (step ∷ later) ++ more))
@@ -121,7 +120,7 @@ front_cases few many rest more h = cases h.0 h.1 h.2
     cases (step ∷ later) e f = inr (step, later, e, f)
 
 -- two readings of one text have one header, and are the same or one is shorter
-readings : FormsAreClear → (text : List ℕ) (h other : Header) (ones twos : List CertRecord) (rest more : List ℕ) → Reads text h ones rest → Reads text other twos more
+pub readings : FormsAreClear → (text : List ℕ) (h other : Header) (ones twos : List CertRecord) (rest more : List ℕ) → Reads text h ones rest → Reads text other twos more
     → (h ≡ other) × (((ones ≡ twos) × (rest ≡ more)) ⊎ (IsShorter ones rest twos more ⊎ IsShorter twos more ones rest))
 unfolding AreRecords
 readings clear text h other ones twos rest more r s =
@@ -150,8 +149,7 @@ one_later clear subject limits text fault gault h other ones twos rest more x y 
     read.1
 
 -- nothing stands behind the end of a text
-nothing_more : (few many : List CertRecord) (more : List ℕ) → ¬ IsShorter few [] many more
-unfolding IsShorter
+pub nothing_more : (few many : List CertRecord) (more : List ℕ) → ¬ IsShorter few [] many more
 nothing_more few many more h = false≢true (ap is_some_number h.3)
 
 -- A text has one refusal at most.

@@ -1,4 +1,4 @@
--- A law of acceptance and refusal: where each fault can be told, a text is accepted or has a refusal.
+-- A law of acceptance and refusal: no text is neither accepted nor refused.
 use Rattle.std.proofs.Common.{◌≡◌, ◌≢◌, ◌⊎◌, ⊎_elim, inl, inr, ℕ, zero, suc, ◌+◌, ◌<◌, List, [], ◌∷◌, ◌++◌, length, refl, ap, sym, subst, ◌∙◌, append_assoc, arith, length-append}
 use Rattle.std.proofs.lemmas.Bool.{cases_eq}
 use Rattle.std.proofs.lemmas.Grind.{flat_map-append}
@@ -13,7 +13,6 @@ use Rattle.dist_cert.specs.declared.records.Header.{Header}
 use Rattle.dist_cert.specs.Form.{record_text, HasForm, header_text, HasHeaderForm}
 use Rattle.dist_cert.specs.Subject.{Subject}
 use Rattle.dist_cert.specs.Refusal.{line_feed, IsOneLine, BeginsWith, lines_text, HasFirstFault, HasLineFault, in_order, IsFirstOf, AreFaultless, Refusal}
-use Rattle.dist_cert.specs.Told.{CanBeTold}
 use Rattle.dist_cert.specs.Accepted.{claims_in, Accepted}
 
 -- ---- causes
@@ -22,13 +21,17 @@ NoneOf : List CertCause → (CertCause → Type 0) → Type 0
 NoneOf [] Has = Unit {0}
 NoneOf (next ∷ later) Has = (¬ Has next) × NoneOf later Has
 
-first_or_none : (Has : CertCause → Type 0) → ((cause : CertCause) → Has cause ⊎ (¬ Has cause)) → (list : List CertCause) → ((cause : CertCause) × IsFirstOf list Has cause) ⊎ NoneOf list Has
+-- it cannot be that something neither holds nor fails
+either_way : (P : Type 0) → ¬ ¬ (P ⊎ (¬ P))
+either_way P never = never (inr (λ p. never (inl p)))
+
+first_or_none : (Has : CertCause → Type 0) (list : List CertCause) → ¬ ¬ (((cause : CertCause) × IsFirstOf list Has cause) ⊎ NoneOf list Has)
 unfolding NoneOf
-first_or_none Has told [] = inr tt
-first_or_none Has told (next ∷ later) = ⊎_elim
-    (λ yes. inl (next, inl (yes, refl)))
-    (λ no. ⊎_elim (λ found. inl (found.0, inr (no, found.1))) (λ none. inr (no, none)) (first_or_none Has told later))
-    (told next)
+first_or_none Has [] never = never (inr tt)
+first_or_none Has (next ∷ later) never = either_way (Has next) (λ told. ⊎_elim
+    (λ yes. never (inl (next, inl (yes, refl))))
+    (λ none. first_or_none Has later (λ rest. ⊎_elim (λ found. never (inl (found.0, inr (none, found.1)))) (λ all. never (inr (none, all))) rest))
+    told)
 
 -- the list has all causes
 not_any : (Has : CertCause → Type 0) → NoneOf in_order Has → (cause : CertCause) → ¬ Has cause
@@ -131,52 +134,57 @@ IsJudged subject limits text = ((h : Header) × (made : List Claim) × Accepted 
 some_byte : (x : ℕ) (xs : List ℕ) → x ∷ xs ≢ []
 some_byte x xs e = let n = ap length e in omega (arith, n)
 
-judge_rest : (subject : Subject) (limits : Limits) (told : CanBeTold subject limits) (text : List ℕ) (h : Header) (fuel : ℕ) (before : List CertRecord) (rest : List ℕ)
-    → length rest < fuel → AreFaultless subject limits text h before rest → IsJudged subject limits text
-judge_rest subject limits told text h zero before rest enough faultless = absurd (omega (arith, enough))
-judge_rest subject limits told text h (suc fuel) before rest enough faultless = ⊎_elim
-    (λ found. inr (record { line = length before + 2; cause = found.0 }, inr (h, before, rest, record { faultless = faultless; line = refl; cause = found.1 })))
+judge_rest : (subject : Subject) (limits : Limits) (text : List ℕ) (h : Header) (fuel : ℕ) (before : List CertRecord) (rest : List ℕ)
+    → length rest < fuel → AreFaultless subject limits text h before rest → ¬ ¬ IsJudged subject limits text
+judge_rest subject limits text h zero before rest enough faultless never = omega (arith, enough)
+judge_rest subject limits text h (suc fuel) before rest enough faultless never = first_or_none (HasLineFault subject limits h before rest) in_order (λ told. ⊎_elim
+    (λ found. never (inr (record { line = length before + 2; cause = found.0 }, inr (h, before, rest, record { faultless = faultless; line = refl; cause = found.1 }))))
     (λ n.
     let none : (cause : CertCause) → ¬ HasLineFault subject limits h before rest cause = not_any (HasLineFault subject limits h before rest) n in
-    ⊎_elim
-    (λ s. ⊎_elim
-    (λ f.
-    let size : length rest ≡ length s.0 + length (line_feed ∷ s.1) = ap length s.2.ended ∙ length-append s.0 (line_feed ∷ s.1) in
-    judge_rest subject limits told text h fuel (before ++ f.0 ∷ []) s.1 (omega (arith, enough, size)) (grown subject limits text h before rest s.0 s.1 f.0 faultless none s.2 f.1))
-    (λ f. absurd (none causes.BadRecord (s.0, s.1, s.2, inr f)))
-    (told.form s.0))
-    (λ one. at_the_end rest one faultless none)
-    (split_line rest))
-    (first_or_none (HasLineFault subject limits h before rest) (told.later h before rest) in_order)
+    read_on none (λ line more step begins form.
+    let size : length rest ≡ length line + length (line_feed ∷ more) = ap length begins.ended ∙ length-append line (line_feed ∷ more) in
+    judge_rest subject limits text h fuel (before ++ step ∷ []) more (omega (arith, enough, size)) (grown subject limits text h before rest line more step faultless none begins form) never))
+    told)
   where
     at_the_end : (left : List ℕ) → IsOneLine left → AreFaultless subject limits text h before left
         → ((cause : CertCause) → ¬ HasLineFault subject limits h before left cause) → IsJudged subject limits text
     at_the_end [] one all none = inl (h, claims_in before, (before, record { faultless = all; ends = none }, refl))
     at_the_end (x ∷ left) one all none = absurd (none causes.Truncated (one, inl (some_byte x left)))
 
--- Where each form and each fault can be told, a text is accepted or has a refusal.
-pub some_verdict : (subject : Subject) (limits : Limits) → CanBeTold subject limits → (text : List ℕ)
-    → ((h : Header) × (made : List Claim) × Accepted subject limits text h made) ⊎ ((fault : CertFault) × Refusal subject limits text fault)
-some_verdict subject limits told text = ⊎_elim
-    (λ found. inr (record { line = 1; cause = found.0 }, inl (record { line = refl; cause = found.1 })))
-    (λ n.
-    let none : (cause : CertCause) → ¬ HasFirstFault subject limits text cause = not_any (HasFirstFault subject limits text) n in
-    ⊎_elim
-    (λ s. ⊎_elim
-    (λ f. judge_rest subject limits told text f.0 (suc (length s.1)) [] s.1 (omega arith) (record {
-      reads = record {
-        text_is = s.2.ended ∙ ap (λ l. l ++ line_feed ∷ s.1) f.1.text ∙ sym (append_assoc (header_text f.0) (line_feed ∷ []) s.1);
-        header = subst (λ l. HasHeaderForm l f.0) f.1.text f.1;
-        records = All-nil (λ step. HasForm (record_text step) step);
-      };
-      first = none;
-      later = λ earlier step others e. absurd (not_among earlier step others e);
-    }))
-    (λ f. absurd (none causes.BadHeader (s.0, s.1, s.2, λ h form. absurd (f h form))))
-    (told.header s.0))
-    (λ one. absurd (none causes.Truncated one))
-    (split_line text))
-    (first_or_none (HasFirstFault subject limits text) (told.first text) in_order)
+    read_on : ((cause : CertCause) → ¬ HasLineFault subject limits h before rest cause)
+        → ((line more : List ℕ) (step : CertRecord) → BeginsWith rest line more → ¬ HasForm line step) → ⊥
+    read_on none go = ⊎_elim
+        (λ s. either_way ((step : CertRecord) × HasForm s.0 step) (λ form. ⊎_elim
+        (λ f. go s.0 s.1 f.0 s.2 f.1)
+        (λ f. none causes.BadRecord (s.0, s.1, s.2, inr (λ step has. f (step, has))))
+        form))
+        (λ one. never (at_the_end rest one faultless none))
+        (split_line rest)
+
+-- No text is neither accepted nor refused.
+pub some_verdict : (subject : Subject) (limits : Limits) (text : List ℕ)
+    → ¬ ¬ (((h : Header) × (made : List Claim) × Accepted subject limits text h made) ⊎ ((fault : CertFault) × Refusal subject limits text fault))
+some_verdict subject limits text never = first_or_none (HasFirstFault subject limits text) in_order (λ told. ⊎_elim
+    (λ found. never (inr (record { line = 1; cause = found.0 }, inl (record { line = refl; cause = found.1 }))))
+    (λ n. read_on (not_any (HasFirstFault subject limits text) n))
+    told)
   where
     not_among : (earlier : List CertRecord) (step : CertRecord) (others : List CertRecord) → [] ≡ earlier ++ step ∷ others → ⊥
     not_among earlier step others e = let n = ap length e in omega (arith, n, length-append earlier (step ∷ others))
+
+    read_on : ((cause : CertCause) → ¬ HasFirstFault subject limits text cause) → ⊥
+    read_on none = ⊎_elim
+        (λ s. either_way ((h : Header) × HasHeaderForm s.0 h) (λ form. ⊎_elim
+        (λ f. judge_rest subject limits text f.0 (suc (length s.1)) [] s.1 (omega arith) (record {
+          reads = record {
+            text_is = s.2.ended ∙ ap (λ l. l ++ line_feed ∷ s.1) f.1.text ∙ sym (append_assoc (header_text f.0) (line_feed ∷ []) s.1);
+            header = subst (λ l. HasHeaderForm l f.0) f.1.text f.1;
+            records = All-nil (λ step. HasForm (record_text step) step);
+          };
+          first = none;
+          later = λ earlier step others e. absurd (not_among earlier step others e);
+        }) never)
+        (λ f. none causes.BadHeader (s.0, s.1, s.2, λ h form. absurd (f (h, form))))
+        form))
+        (λ one. none causes.Truncated one)
+        (split_line text)

@@ -22,3 +22,7 @@ mod CheckState
 mod CheckSteps
 mod CheckText
 mod OneVerdict
+mod Stops
+mod FirstStops
+mod OneAnswer
+mod LargeCauses

@@ -26,7 +26,7 @@ right r limits text (verdicts.Refused fault) answer = ⊎_elim
     answer
 
 -- the clauses of the present are the same ones
-same-inputs : ClausesAreOne → (r : PackageList) (inputs other : Bool → List (List Literal)) → AreInputs r inputs → AreInputs r other → inputs ≡ other
+pub same-inputs : ClausesAreOne → (r : PackageList) (inputs other : Bool → List (List Literal)) → AreInputs r inputs → AreInputs r other → inputs ≡ other
 same-inputs one r inputs other first second = fun_ext (λ essential. one r essential (other essential) (inputs essential) (second essential) (first essential))
 
 accepted-by : ClausesAreOne → (r : PackageList) (limits : Limits) (text : List ℕ) (h : Header) (made : List Claim) (inputs : Bool → List (List Literal)) → AreInputs r inputs → IsAccepted r limits text h made

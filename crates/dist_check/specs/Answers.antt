@@ -53,3 +53,9 @@ OnceRead (Err error) Holds = Holds
 abbrev pub IsVerdict : PackageList → Limits → List ℕ → Verdict → Type 0
 IsVerdict r limits text (Accepted h made) = IsAccepted r limits text h made
 IsVerdict r limits text (Refused fault) = IsRefused r limits text fault
+
+-- an answer that the text decides: neither a fault of reading nor want of memory
+abbrev pub IsOfText : Result Verdict WorkError → Type 0
+IsOfText (Err ReadFault) = ⊥
+IsOfText (Err NoMemory) = ⊥
+IsOfText result = Unit {0}

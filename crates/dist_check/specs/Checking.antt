@@ -126,3 +126,10 @@ TextCause old new (Work (TooLarge Lines)) = Unit {0}
 TextCause old new (Work (TooLarge LineLiterals)) = Unit {0}
 TextCause old new (Work (TooLarge Certificate)) = Unit {0}
 TextCause old new (Work error) = ⊥
+
+-- Whatever the desk tells, too many input clauses or literals are told only of a repository of which the clauses pass that
+-- number, at one mode.
+abbrev pub LargeCause : PackageList → Limits → ReadCertError → Type 0
+LargeCause r limits (Work (TooLarge Clauses)) = (essential : Bool) × PassesClauses r essential limits.clauses limits.literals
+LargeCause r limits (Work (TooLarge Literals)) = (essential : Bool) × PassesLiterals r essential limits.clauses limits.literals
+LargeCause r limits error = Unit {0}

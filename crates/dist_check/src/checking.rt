@@ -7,7 +7,7 @@ ghost use Rattle.dist_repo.specs.Size.{IsWithinSize};
 ghost use Rattle.dist_cert.specs.Reading.{text_left};
 ghost use Rattle.dist_check.specs.Answers.{AcceptedMeans};
 ghost use Rattle.dist_check.specs.Checked.{IsChecked};
-ghost use Rattle.dist_check.specs.Checking.{OfText, TextAnswers, TextCause};
+ghost use Rattle.dist_check.specs.Checking.{LargeCause, OfText, TextAnswers, TextCause};
 ghost use Rattle.dist_subject.specs.Limited.{AreStated};
 ghost use Rattle.dist_check.specs.Means.{Means};
 
@@ -45,6 +45,7 @@ fn take_lines<D: Desk>(
         → OfText told (λ text. TextAnswers (λ _. header.now) (λ _. state.new.claims) repo.now limits.now text result) }
     ensures means { OnOk result (Means header.now.essential repo.now state.new.claims) }
     ensures cause { IfErr result (TextCause (D.view desk.old) (D.view desk.new)) }
+    ensures large { IfErr result (LargeCause repo.now limits.now) }
     ensures only_reads { OnlyReads (D.view desk.old) (D.view desk.new) }
 {
     forms_are_clear();
@@ -75,6 +76,7 @@ pub(crate) fn check_text<D: Desk>(
         (λ text. TextAnswers (λ c. c.header) (λ c. c.claims) repo.now limits.now text result) }
     ensures means { IfOk result (λ c. AcceptedMeans repo.now c.header c.claims) }
     ensures cause { IfErr result (TextCause (D.view desk.old) (D.view desk.new)) }
+    ensures large { IfErr result (LargeCause repo.now limits.now) }
     ensures only_reads { OnlyReads (D.view desk.old) (D.view desk.new) }
 {
     forms_are_clear();

@@ -4,7 +4,7 @@ ghost use Rattle.dist_outside.specs.DeskView.{OnlyReads};
 ghost use Rattle.dist_outside.specs.Files.{IsNotWriting, IsPresent, file_bytes};
 ghost use Rattle.dist_repo.specs.Size.{IsWithinSize};
 ghost use Rattle.dist_check.specs.Answers.{Answers, OnceRead, VerdictMeans};
-ghost use Rattle.dist_check.specs.Checking.{OfText, TextCause};
+ghost use Rattle.dist_check.specs.Checking.{LargeCause, OfText, TextCause};
 ghost use Rattle.dist_subject.specs.Limited.{AreStated};
 
 use crate::checking::check_text;
@@ -31,6 +31,7 @@ pub fn check<D: Desk>(
     ensures means { IfOk result (VerdictMeans repo.now) }
     ensures present { OnceRead result (IsPresent (D.view desk.old).files name.now) }
     ensures cause { IfErr result (λ error. TextCause (D.view desk.old) (D.view desk.new) (ReadCertError.Work error)) }
+    ensures large { IfErr result (λ error. LargeCause repo.now limits.now (ReadCertError.Work error)) }
     ensures only_reads { OnlyReads (D.view desk.old) (D.view desk.new) }
 {
     match desk.start_read(name) {

@@ -1,10 +1,12 @@
 //! What an accepted certificate proves, apart from the work. The functions do nothing.
-ghost use Rattle.std.specs.Prelude.{◌≡◌, ℕ, ◌^◌, ◌≤◌, ◌↔◌, Bool, List, Ok, Contains, length};
+ghost use Rattle.std.specs.Prelude.{◌≡◌, ℕ, ◌^◌, ◌≤◌, ◌↔◌, Bool, List, Ok, Contains, Result, length};
 ghost use Rattle.dist_outside.specs.declared.limits.Limits.{Limits};
+ghost use Rattle.dist_outside.specs.declared.trouble.WorkError.{WorkError};
 ghost use Rattle.dist_clause.specs.Formula.{Literal};
 ghost use Rattle.dist_derive.specs.Cone.{InCone};
 ghost use Rattle.dist_repo.specs.Order.{IsInOrder};
 ghost use Rattle.dist_repo.specs.PackageList.{PackageList};
+ghost use Rattle.dist_cert.specs.declared.faults.CertFault.{CertFault};
 ghost use Rattle.dist_cert.specs.declared.records.CertRecord.{CertRecord};
 ghost use Rattle.dist_cert.specs.declared.records.Claim.{Claim};
 ghost use Rattle.dist_cert.specs.declared.records.Header.{Header};
@@ -12,13 +14,14 @@ ghost use Rattle.dist_cert.specs.Accepted.{IsAcceptedAs};
 ghost use Rattle.dist_cert.specs.Form.{Word};
 ghost use Rattle.dist_cert.specs.Groups.{clause_of, IsUndecidedIn};
 ghost use Rattle.dist_check.specs.declared.verdict.Verdict.{Verdict};
-ghost use Rattle.dist_check.specs.Answers.{Answers, IsVerdict};
-ghost use Rattle.dist_subject.specs.Present.{IsAccepted, AreInputs, subject_of};
+ghost use Rattle.dist_check.specs.Answers.{Answers, IsOfText, IsVerdict};
+ghost use Rattle.dist_subject.specs.Present.{IsAccepted, IsRefused, AreInputs, subject_of};
 ghost use Rattle.dist_check.specs.Means.{Means};
 
 use dist_cert::forms_are_clear;
 use dist_derive::{lines_keep_models, new_lines_are_few};
-use dist_now::{models_are_installations, present_clauses_are_one};
+use dist_now::{models_are_installations, present_clauses_are_one, present_clauses_go_on};
+use dist_subject::inputs_are_one;
 
 /// The claims of an accepted text hold, whoever wrote it.
 pub fn accepted_claims_hold()
@@ -51,4 +54,24 @@ pub fn texts_have_one_verdict()
 {
     forms_are_clear();
     present_clauses_are_one();
+}
+
+/// No text is neither accepted nor refused.
+pub fn each_text_has_a_verdict()
+    ensures { (r : PackageList) (limits : Limits) (text : List ℕ) → IsInOrder r.packages
+        → ((h : Header) (made : List Claim) → ¬ IsAccepted r limits text h made) → ¬ ((fault : CertFault) → ¬ IsRefused r limits text fault) }
+{
+    inputs_are_one();
+}
+
+/// A text has one answer, but for a fault of reading and want of memory: that a number is passed and a verdict, for two,
+/// exclude each other.
+pub fn texts_have_one_answer()
+    ensures { (r : PackageList) (limits : Limits) (text : List ℕ) (result other : Result Verdict WorkError) → IsInOrder r.packages
+        → Answers r limits text result → Answers r limits text other → IsOfText result → IsOfText other → other ≡ result }
+{
+    forms_are_clear();
+    inputs_are_one();
+    present_clauses_are_one();
+    present_clauses_go_on();
 }

@@ -18,5 +18,8 @@ mod texts;
 mod verdict;
 
 pub use file::check;
-pub use laws::{accepted_claims_hold, texts_have_one_verdict, undecided_questions_are_hard};
+pub use laws::{
+    accepted_claims_hold, each_text_has_a_verdict, texts_have_one_answer, texts_have_one_verdict,
+    undecided_questions_are_hard,
+};
 pub use verdict::Verdict;

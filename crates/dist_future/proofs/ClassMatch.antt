@@ -15,11 +15,12 @@ use Rattle.dist_classes.specs.ClassList.{AreInOneClass, IsInOneClass, IsOfClassA
 use Rattle.dist_classes.specs.Cuts.{AreCuts, IsClusterCut, IsNameCut, Rises, RisesFrom}
 use Rattle.dist_classes.specs.NewVersion.{AreCarried, IsCarried, IsNewVersionOf, IsOfNewName}
 use Rattle.dist_classes.specs.declared.class_value.Class.{Class}
-use Rattle.dist_future.specs.Space.{IsExample, IsMatched, IsMeaning, IsFrame, MeetsBound, SpaceView, example_at, fresh_classes, member_classes, moved_entry, moved_version}
+use Rattle.dist_space.specs.Space.{IsExample, IsMatched, IsMeaning, IsFrame, MeetsBound, SpaceView, example_at, fresh_classes, member_classes, moved_entry, moved_version}
 use Rattle.dist_future.specs.Stands.{fresh_package}
-use Rattle.dist_future.specs.declared.meaning.Meaning.TheVariants.{New, Kept, Fresh}
-use Rattle.dist_future.proofs.Lists.{any-at, any-cases, any-head, at-has, contains-at, found-at, here-at, has-at}
+use Rattle.dist_space.specs.declared.meaning.Meaning.TheVariants.{New, Kept, Fresh}
+use Rattle.dist_space.specs.ListLaws.{any-at, any-cases, any-head, at-has, contains-at, found-at, here-at, has-at}
 use Rattle.dist_future.proofs.VersionOrder.{equal-itself}
+use Rattle.dist_space.specs.ClusterLaws.{HasCluster}
 
 -- ---- the laws of classes
 
@@ -166,10 +167,6 @@ pub record IsMemberAt (s : SpaceView) (r k : ℕ) (p : Package) : Type 0 where
       (atom : Atom) → IsAtomOf s.repository atom → Matches s.repository.architecture atom first ↔ Matches s.repository.architecture atom second
 
 -- the cluster of a package
-pub record HasCluster (s : SpaceView) (r : ℕ) : Type 0 where
-  pub within : slice_index s.cluster_of r < length s.clusters.members
-  pub there : Contains (get_or s.clusters.members (slice_index s.cluster_of r) []) r
-
 pub member-at : ClassLaws → (s : SpaceView) → IsFrame s → (r k : ℕ) (p : Package) → HasCluster s r → slice_get s.repository.packages r ≡ Some p → k < length (member_classes s r) → IsMemberAt s r k p
 member-at laws s frame r k p has is short =
     let c = slice_index s.cluster_of r in

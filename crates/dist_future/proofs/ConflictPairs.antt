@@ -12,13 +12,13 @@ use Rattle.dist_repo.specs.declared.package.Package.{Package}
 use Rattle.dist_future.specs.FutureHealth.{AreConflicting, Holds}
 use Rattle.dist_future.specs.Least.{IsAtMost, IsLeast, IsLeastPairIfAny}
 use Rattle.dist_future.specs.Matching.{IsLesserPair, IsOther, IsRejectedFrom}
-use Rattle.dist_future.specs.Space.{IsMatched, IsMeaning, IsMetBy, IsSpace, SpaceView, variable_of}
-use Rattle.dist_future.specs.SpaceClauses.{Excludes}
-use Rattle.dist_future.specs.declared.meaning.Meaning.{Meaning}
-use Rattle.dist_future.specs.declared.meaning.Meaning.TheVariants.{Now, Present, At, New, Kept, Fresh}
-use Rattle.dist_future.proofs.Fronts.{one-meaning, variable-range}
-use Rattle.dist_future.proofs.Lists.{any-contained, any-more, at-has, contains-at, element-at, has-at, here-at, within-from}
-use Rattle.dist_future.proofs.SpaceLemmas.{names-apart}
+use Rattle.dist_space.specs.Space.{IsMatched, IsMeaning, IsMetBy, IsSpace, SpaceView, variable_of}
+use Rattle.dist_space_clauses.specs.SpaceClauses.{Excludes}
+use Rattle.dist_space.specs.declared.meaning.Meaning.{Meaning}
+use Rattle.dist_space.specs.declared.meaning.Meaning.TheVariants.{Now, Present, At, New, Kept, Fresh}
+use Rattle.dist_space.specs.VariableLaws.{one-meaning, variable-range}
+use Rattle.dist_space.specs.ListLaws.{any-contained, any-more, at-has, contains-at, element-at, has-at, here-at, within-from}
+use Rattle.dist_space.specs.ClusterLaws.{names-apart}
 use Rattle.dist_future.proofs.VariableOrder.{key-less}
 
 module _ (s : SpaceView) (values : List Bool) (space : IsSpace s) where

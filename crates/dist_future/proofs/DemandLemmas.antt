@@ -10,12 +10,13 @@ use Rattle.dist_relation.specs.declared.atom.Atom.{Atom}
 use Rattle.dist_repo.specs.Healthy.{required_names}
 use Rattle.dist_repo.specs.Match.{IsUsable, Matches}
 use Rattle.dist_repo.specs.declared.package.Package.{Package}
-use Rattle.dist_future.specs.Space.{SpaceView, AreMeaningsOf, IsMatched, IsMeaning, IsMetBy, cluster_classes, fresh_classes, variable_of}
-use Rattle.dist_future.specs.SpaceClauses.{Demand, OneClass, Gone, Moved, Carried, OneFresh, Item, Apart, StaysNow, AbsentNow, Required, AreSpaceClauses, Excludes, IsBearer, IsClauseFor, IsDemand, IsItemAnd, no, yes}
-use Rattle.dist_future.specs.declared.meaning.Meaning.{Meaning}
-use Rattle.dist_future.specs.declared.meaning.Meaning.TheVariants.{Now, Present, At, New, Kept, Fresh}
-use Rattle.dist_future.proofs.Decided.{any-decided, matches-decided}
-use Rattle.dist_future.proofs.Lists.{all-contained, any-at, any-cases, any-head, any-later, any-more, at-has, contains-at, has-at, here-at, place-of, within-from}
+use Rattle.dist_space.specs.Space.{SpaceView, AreMeaningsOf, IsMatched, IsMeaning, IsMetBy, cluster_classes, fresh_classes, variable_of}
+use Rattle.dist_space_clauses.specs.SpaceClauses.{Demand, OneClass, Gone, Moved, Carried, OneFresh, Item, Apart, StaysNow, AbsentNow, Required, AreSpaceClauses, Excludes, IsBearer, IsClauseFor, IsDemand, no, yes}
+use Rattle.dist_space.specs.declared.meaning.Meaning.{Meaning}
+use Rattle.dist_space.specs.declared.meaning.Meaning.TheVariants.{Now, Present, At, New, Kept, Fresh}
+use Rattle.dist_space_clauses.specs.DecidedLaws.{any-decided, matches-decided}
+use Rattle.dist_space.specs.ListLaws.{all-contained, any-at, any-cases, any-head, any-later, any-more, at-has, contains-at, here-at, place-of, within-from}
+use Rattle.dist_space_clauses.specs.ItemLaws.{item-at, item-has}
 
 -- some meaning that holds meets the item, or has the name
 pub record IsMetIn (s : SpaceView) (T : Meaning → Type 0) (P : Meaning → Type 0) : Type 0 where
@@ -35,18 +36,6 @@ pub record AreMet (s : SpaceView) (T : Meaning → Type 0) : Type 0 where
   pub stays : (c k : ℕ) → IsMeaning s (At c k) → T Now → T (At c k) → ⊥
   pub absent : (x k : ℕ) → IsMeaning s (Fresh x k) → T Now → T (Fresh x k) → ⊥
   pub required : (name : List ℕ) → Contains (required_names s.essential s.repository.packages) name → IsMetIn s T (IsBearer s name)
-
--- ---- items
-
-pub item-has : (s : SpaceView) (number place : ℕ) (P : Package → List Atom → Type 0) (p : Package) (item : List Atom) → slice_get s.repository.packages number ≡ Some p → slice_get p.depends place ≡ Some item
-    → IsItemAnd s number place P → P p item
-item-has s number place P p item is is_item here =
-    has-at (P p) p.depends place item is_item (has-at (λ q. IsSomeAnd (slice_get q.depends place) (P q)) s.repository.packages number p is here)
-
-pub item-at : (s : SpaceView) (number place : ℕ) (P : Package → List Atom → Type 0) (p : Package) (item : List Atom) → slice_get s.repository.packages number ≡ Some p → slice_get p.depends place ≡ Some item
-    → P p item → IsItemAnd s number place P
-item-at s number place P p item is is_item holds =
-    at-has (λ q. IsSomeAnd (slice_get q.depends place) (P q)) s.repository.packages number p is (at-has (P p) p.depends place item is_item holds)
 
 -- ---- literals
 

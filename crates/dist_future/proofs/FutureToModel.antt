@@ -18,15 +18,16 @@ use Rattle.dist_classes.specs.NewNames.{IsNewName}
 use Rattle.dist_classes.specs.NewVersion.{IsNewOf, IsNewVersionOf, IsOfNewName}
 use Rattle.dist_future.specs.Future.{IsProvided, IsTaken}
 use Rattle.dist_future.specs.Outdated.{IsInstallationOf}
-use Rattle.dist_future.specs.Space.{IsMatched, IsMeaning, IsMetBy, IsSpace, SpaceView, cluster_classes, fresh_classes, member_classes}
-use Rattle.dist_future.specs.SpaceClauses.{Excludes, IsBearer}
-use Rattle.dist_future.specs.declared.meaning.Meaning.{Meaning}
-use Rattle.dist_future.specs.declared.meaning.Meaning.TheVariants.{Now, Present, At, New, Kept, Fresh}
+use Rattle.dist_space.specs.Space.{IsMatched, IsMeaning, IsMetBy, IsSpace, SpaceView, cluster_classes, fresh_classes, member_classes}
+use Rattle.dist_space_clauses.specs.SpaceClauses.{Excludes, IsBearer}
+use Rattle.dist_space.specs.declared.meaning.Meaning.{Meaning}
+use Rattle.dist_space.specs.declared.meaning.Meaning.TheVariants.{Now, Present, At, New, Kept, Fresh}
 use Rattle.dist_future.proofs.ClassMatch.{ClassLaws, IsMemberAt, fresh-at, from-fresh, from-kept, from-new, member-at, to-fresh, to-new}
-use Rattle.dist_future.proofs.Decided.{IsDecided, any-decided, text-decided}
+use Rattle.dist_space_clauses.specs.DecidedLaws.{IsDecided, any-decided, text-decided}
 use Rattle.dist_future.proofs.DemandLemmas.{AreMet, IsMetIn}
-use Rattle.dist_future.proofs.Lists.{FoundAt, all-contained, any-at, element-at, any-contained, at-has, contains-at, found-at, has-at, here-at, pair-from, place-of, within-from}
-use Rattle.dist_future.proofs.SpaceLemmas.{has-cluster, names-apart, never-at, one-of-name, fresh-class}
+use Rattle.dist_space.specs.ListLaws.{FoundAt, all-contained, any-at, element-at, any-contained, at-has, contains-at, found-at, has-at, here-at, pair-from, place-of, within-from}
+use Rattle.dist_space.specs.ClusterLaws.{has-cluster, names-apart}
+use Rattle.dist_future.proofs.SpaceLemmas.{never-at, one-of-name, fresh-class}
 use Rattle.dist_future.proofs.VersionOrder.{equal-back}
 
 -- ---- conflicts

@@ -13,16 +13,16 @@ use Rattle.dist_classes.specs.ClassList.{IsOfClass, IsOfClassAt}
 use Rattle.dist_classes.specs.declared.class_value.Class.{Class}
 use Rattle.dist_classes.specs.declared.class_value.Class.TheVariants.{Point, Between, Above, Below}
 use Rattle.dist_classes.specs.declared.class_value.Class.TheVariants as class
-use Rattle.dist_future.specs.Space.{IsMeaning, IsSpace, SpaceView, fresh_classes}
-use Rattle.dist_future.specs.SpaceClauses.{AreSpaceClauses}
-use Rattle.dist_future.specs.declared.meaning.Meaning.{Meaning}
-use Rattle.dist_future.specs.declared.meaning.Meaning.TheVariants.{Now, Present, At, New, Kept, Fresh}
+use Rattle.dist_space.specs.Space.{IsMeaning, IsSpace, SpaceView, fresh_classes}
+use Rattle.dist_space_clauses.specs.SpaceClauses.{AreSpaceClauses}
+use Rattle.dist_space.specs.declared.meaning.Meaning.{Meaning}
+use Rattle.dist_space.specs.declared.meaning.Meaning.TheVariants.{Now, Present, At, New, Kept, Fresh}
 use Rattle.dist_future.proofs.ClassMatch.{ClassLaws}
-use Rattle.dist_future.proofs.Decided.{IsDecided, any-decided, text-decided}
+use Rattle.dist_space_clauses.specs.DecidedLaws.{IsDecided, any-decided, text-decided}
 use Rattle.dist_future.proofs.DemandLemmas.{IsTrueMeaning, met-alike, model-from-met}
 use Rattle.dist_future.proofs.FutureToModel.{Holds, IsNamedIn, IsSeen, kept_of, met-by-future}
-use Rattle.dist_future.proofs.Lists.{any-contained}
-use Rattle.dist_future.proofs.Variables.{value-at}
+use Rattle.dist_space.specs.ListLaws.{any-contained}
+use Rattle.dist_space.specs.VariableLaws.{value-at}
 
 -- ---- what is decided
 

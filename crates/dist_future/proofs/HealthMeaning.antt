@@ -18,22 +18,22 @@ use Rattle.dist_future.specs.FutureHealth.{AreNoFuture}
 use Rattle.dist_future.specs.HealthLaws.{IsHealthyIn, StandsForHealthy}
 use Rattle.dist_future.specs.Least.{IsNoPair}
 use Rattle.dist_future.specs.Outdated.{IsInstallationOf}
-use Rattle.dist_future.specs.Space.{IsMatched, IsMeaning, IsMetBy, IsSpace, MeetsBound, SpaceView, example_at, fresh_classes, member_classes}
-use Rattle.dist_future.specs.SpaceClauses.{Excludes, IsBearer}
+use Rattle.dist_space.specs.Space.{IsMatched, IsMeaning, IsMetBy, IsSpace, MeetsBound, SpaceView, example_at, fresh_classes, member_classes}
+use Rattle.dist_space_clauses.specs.SpaceClauses.{Excludes, IsBearer}
 use Rattle.dist_future.specs.SpaceLaws.{StandsForFuture, examples_of, holds_under}
 use Rattle.dist_future.specs.Stands.{flags_from, fresh_package, future_of, installation_of, installed_package, new_version}
-use Rattle.dist_future.specs.declared.meaning.Meaning.{Meaning}
-use Rattle.dist_future.specs.declared.meaning.Meaning.TheVariants.{Now, Present, At, New, Kept, Fresh}
+use Rattle.dist_space.specs.declared.meaning.Meaning.{Meaning}
+use Rattle.dist_space.specs.declared.meaning.Meaning.TheVariants.{Now, Present, At, New, Kept, Fresh}
 use Rattle.dist_future.proofs.ClassMatch.{ClassLaws, IsMemberAt, fresh-at, fresh-new, from-fresh, from-kept, from-new, member-at, to-fresh, to-new}
 use Rattle.dist_future.proofs.DemandLemmas.{IsMetIn, IsTrueMeaning}
 use Rattle.dist_future.proofs.FutureToModel.{never-conflict, required-package}
 use Rattle.dist_future.proofs.HealthLemmas.{health-from-met, met-from-health, met-with, with-it}
-use Rattle.dist_future.proofs.Lists.{any-at, at-has, contains-at, element-at, found-at, has-at, here-at, place-of}
+use Rattle.dist_space.specs.ListLaws.{any-at, at-has, contains-at, element-at, found-at, has-at, here-at, place-of}
 use Rattle.dist_future.proofs.ModelToFuture.{future-is, healthy-is}
 use Rattle.dist_future.proofs.NoFutureLemmas.{new-of as kept-new}
-use Rattle.dist_future.proofs.NumberingLemmas.{usable-is}
+use Rattle.dist_space.specs.UsableLaws.{usable-is}
 use Rattle.dist_future.proofs.Parts.{flag-at, flag-is, if-some, if-true, kept-carried, length-flags, made, made-of, map-some}
-use Rattle.dist_future.proofs.SpaceLemmas.{has-cluster, names-apart}
+use Rattle.dist_space.specs.ClusterLaws.{has-cluster, names-apart}
 
 module _ (laws : ClassLaws) (s : SpaceView) (space : IsSpace s) (values : List Bool) where
   pub healthy-stands : IsHealthyIn s values → StandsForFuture s values

@@ -8,13 +8,13 @@ use Rattle.dist_repo.specs.declared.package.Package.{Package}
 use Rattle.dist_future.specs.FutureHealth.{Holds, IsMissing, SomeHolds}
 use Rattle.dist_future.specs.Least.{IsLeast}
 use Rattle.dist_future.specs.Matching.{IsInstalled}
-use Rattle.dist_future.specs.Space.{SpaceView, member_classes}
-use Rattle.dist_future.specs.SpaceClauses.{IsBearer}
+use Rattle.dist_space.specs.Space.{SpaceView, member_classes}
+use Rattle.dist_space_clauses.specs.SpaceClauses.{IsBearer}
 use Rattle.dist_future.specs.SpaceLaws.{holds_under}
-use Rattle.dist_future.specs.declared.meaning.Meaning.{Meaning}
-use Rattle.dist_future.specs.declared.meaning.Meaning.TheVariants.{Now, Present, At, New, Kept, Fresh}
-use Rattle.dist_future.proofs.Lists.{at-has, has-at, here-at}
-use Rattle.dist_future.proofs.SpaceLemmas.{names-apart}
+use Rattle.dist_space.specs.declared.meaning.Meaning.{Meaning}
+use Rattle.dist_space.specs.declared.meaning.Meaning.TheVariants.{Now, Present, At, New, Kept, Fresh}
+use Rattle.dist_space.specs.ListLaws.{at-has, has-at, here-at}
+use Rattle.dist_space.specs.ClusterLaws.{names-apart}
 
 module _ (s : SpaceView) (values : List Bool) where
   -- ---- one package

@@ -24,18 +24,20 @@ use Rattle.dist_classes.specs.ClassList.{IsOfClassAt}
 use Rattle.dist_classes.specs.NewVersion.{IsNewOf, IsNewVersionOf, IsOfNewName}
 use Rattle.dist_future.specs.Future.{IsFuture, IsInClusterOf, IsProvided, IsTaken, Moves, Stays}
 use Rattle.dist_future.specs.Outdated.{HoldsCluster, IsInstallationOf}
-use Rattle.dist_future.specs.Space.{IsMatched, IsMeaning, IsSpace, MeetsBound, SpaceView, StandsBefore, cluster_classes, example_at, fresh_classes, key_of, member_classes}
-use Rattle.dist_future.specs.SpaceClauses.{IsBearer}
+use Rattle.dist_space.specs.Space.{IsMatched, IsMeaning, IsSpace, MeetsBound, SpaceView, StandsBefore, cluster_classes, example_at, fresh_classes, key_of, member_classes}
+use Rattle.dist_space_clauses.specs.SpaceClauses.{IsBearer}
 use Rattle.dist_future.specs.Stands.{class_chosen, flags_from, fresh_package, future_of, installation_of, installed_package, later_package, moved_package, new_version}
-use Rattle.dist_future.specs.declared.meaning.Meaning.{Meaning}
-use Rattle.dist_future.specs.declared.meaning.Meaning.TheVariants.{Now, Present, At, New, Kept, Fresh}
+use Rattle.dist_space.specs.declared.meaning.Meaning.{Meaning}
+use Rattle.dist_space.specs.declared.meaning.Meaning.TheVariants.{Now, Present, At, New, Kept, Fresh}
 use Rattle.dist_future.proofs.ClassMatch.{ClassLaws, IsMemberAt, fresh-at, fresh-new, from-fresh, from-kept, from-new, member-at, to-fresh, to-new}
 use Rattle.dist_future.proofs.DemandLemmas.{AreMet}
 use Rattle.dist_future.proofs.FutureToModel.{conflict-back, option-cases}
-use Rattle.dist_future.proofs.Lists.{all-contained, any-at, any-contained, at-has, contains-at, element-at, found-at, has-at, here-at, PlaceOf, place-of, within-from}
-use Rattle.dist_future.proofs.NumberingLemmas.{usable-is}
-use Rattle.dist_future.proofs.Parts.{first-none, first-some, flag-at, flag-is, if-some, if-true, kept-carried, length-flags, made, made-of, made-pairs, map-some, pairs-more}
-use Rattle.dist_future.proofs.SpaceLemmas.{above-top, class-above, clustered-same, has-cluster, names-apart}
+use Rattle.dist_space.specs.ListLaws.{all-contained, any-at, any-contained, at-has, contains-at, element-at, found-at, has-at, here-at, PlaceOf, place-of, within-from}
+use Rattle.dist_space.specs.UsableLaws.{usable-is}
+use Rattle.dist_future.proofs.Parts.{first-none, first-some, flag-at, flag-is, if-some, if-true, kept-carried, length-flags, made, made-of, made-pairs, map-some}
+use Rattle.dist_space.specs.RisingLaws.{pairs-more}
+use Rattle.dist_future.proofs.SpaceLemmas.{above-top, class-above, clustered-same}
+use Rattle.dist_space.specs.ClusterLaws.{has-cluster, names-apart}
 use Rattle.dist_future.proofs.VersionOrder.{equal-itself}
 
 -- a name stands once among names in order

@@ -7,15 +7,14 @@ use Rattle.dist_clause.specs.Formula.{value_of}
 use Rattle.dist_repo.specs.Match.{IsUsable}
 use Rattle.dist_repo.specs.declared.package.Package.{Package}
 use Rattle.dist_future.specs.FutureHealth.{AreApart, AreNoFuture, Holds, Needs}
-use Rattle.dist_future.specs.Gathering.{IsMeaningOf}
+use Rattle.dist_space.specs.Space.{IsChange, IsMeaningOf, IsMeaning, IsSpace, SpaceView, variable_of}
 use Rattle.dist_future.specs.Least.{IsLeast, IsLeastIfAny}
-use Rattle.dist_future.specs.Matching.{IsChange, IsChangeAt, IsHeldFrom, IsLacking}
-use Rattle.dist_future.specs.Space.{IsMeaning, IsSpace, SpaceView, variable_of}
+use Rattle.dist_future.specs.Matching.{IsChangeAt, IsHeldFrom, IsLacking}
 use Rattle.dist_future.specs.SpaceLaws.{holds_under}
-use Rattle.dist_future.specs.declared.meaning.Meaning.{Meaning}
-use Rattle.dist_future.specs.declared.meaning.Meaning.TheVariants.{Now, Present, At, New, Kept, Fresh}
-use Rattle.dist_future.proofs.Fronts.{one-meaning, variable-range}
-use Rattle.dist_future.proofs.Lists.{within-from}
+use Rattle.dist_space.specs.declared.meaning.Meaning.{Meaning}
+use Rattle.dist_space.specs.declared.meaning.Meaning.TheVariants.{Now, Present, At, New, Kept, Fresh}
+use Rattle.dist_space.specs.VariableLaws.{one-meaning, variable-range}
+use Rattle.dist_space.specs.ListLaws.{within-from}
 use Rattle.dist_future.proofs.Leasts.{IsNoneBelow, IsNoneTo, least-shift}
 
 -- ---- numbered meanings, from a number on

@@ -2,18 +2,17 @@
 use Rattle.std.proofs.Common.{◌≡◌, ℕ, zero, suc, ◌<◌, Bool, true, false, List, [], ◌∷◌, Option, Some, None, length, get_or, refl, ap, subst, ◌∙◌, inl, inr, arith, slice_get}
 use Rattle.std.specs.Prelude.{All, AllPairs, Contains, filter_map, ◌&&◌, if◌then◌else◌}
 use Rattle.std.proofs.lemmas.Bool.{cases_lt, false≢true}
-use Rattle.std.proofs.lemmas.List.Elements.{Contains-get_or}
 use Rattle.std.proofs.lemmas.Option.{same_Some}
 use Rattle.std.specs.List.{cons_option}
 use Rattle.std.specs.Option.{option_map}
 use Rattle.dist_relation.specs.declared.atom.Provide.{Provide}
 use Rattle.dist_version.specs.Spelling.{IsVersion}
 use Rattle.dist_classes.specs.NewVersion.{AreCarried}
-use Rattle.dist_future.specs.Space.{moved_entry}
+use Rattle.dist_space.specs.Space.{moved_entry}
 use Rattle.dist_future.specs.Stands.{first_true, flags_from, kept_entries, or_else}
-use Rattle.dist_future.specs.Usable.{is_usable}
+use Rattle.dist_space.specs.Usable.{is_usable}
 use Rattle.dist_future.proofs.ClassMatch.{moved-carried}
-use Rattle.dist_future.proofs.Lists.{all-contained}
+use Rattle.dist_space.specs.ListLaws.{all-contained}
 
 -- ---- elements that are made of elements
 
@@ -69,12 +68,6 @@ module _ {X Y : Type 0} (h : X → Option Y) where
       pairs-cons R (h x) (filter_map h xs)
       (λ y gives. all-contained (R y) (filter_map h xs) (λ q there. let made = made-of xs q there in related 0 (suc made.place) x made.source y q (omega arith) refl made.is gives made.gives))
       (made-pairs R xs (λ i j a b p q less. related (suc i) (suc j) a b p q (omega (arith, less))))
-
--- ---- pairs
-
-pub pairs-more : {X : Type 0} (R S : X → X → Type 0) (xs : List X) → ((x y : X) → Contains xs x → Contains xs y → R x y → S x y) → AllPairs R xs → AllPairs S xs
-pairs-more R S xs more pairs i j d less short =
-    more (get_or xs i d) (get_or xs j d) (Contains-get_or xs i d (omega (arith, less, short))) (Contains-get_or xs j d short) (pairs i j d less short)
 
 -- ---- choices
 

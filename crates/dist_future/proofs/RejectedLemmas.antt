@@ -5,15 +5,14 @@ use Rattle.dist_clause.specs.Formula.{value_of}
 use Rattle.dist_relation.specs.declared.atom.Atom.{Atom}
 use Rattle.dist_repo.specs.declared.package.Package.{Package}
 use Rattle.dist_future.specs.FutureHealth.{Holds}
-use Rattle.dist_future.specs.Gathering.{IsMeaningOf}
+use Rattle.dist_space.specs.Space.{IsMeaningOf, IsMatched, SpaceView}
 use Rattle.dist_future.specs.Least.{IsLeastIfAny}
 use Rattle.dist_future.specs.Matching.{IsRejectedBy, IsRejectedFrom}
-use Rattle.dist_future.specs.Space.{IsMatched, SpaceView}
-use Rattle.dist_future.specs.declared.meaning.Meaning.{Meaning}
-use Rattle.dist_future.specs.declared.meaning.Meaning.TheVariants.{Present}
+use Rattle.dist_space.specs.declared.meaning.Meaning.{Meaning}
+use Rattle.dist_space.specs.declared.meaning.Meaning.TheVariants.{Present}
 use Rattle.dist_future.proofs.FoundLemmas.{IsAny}
 use Rattle.dist_future.proofs.Leasts.{Before, least-shift}
-use Rattle.dist_future.proofs.Lists.{any-at, found-at}
+use Rattle.dist_space.specs.ListLaws.{any-at, found-at}
 use Rattle.dist_future.proofs.NoFutureLemmas.{meaning-holds, never-holds}
 
 number-of : (a b : ℕ) → Present a ≡ Present b → a ≡ b

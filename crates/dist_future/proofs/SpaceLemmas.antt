@@ -1,13 +1,9 @@
 -- Clusters, tops and classes of a space.
-use Rattle.std.proofs.Common.{◌≡◌, ◌≢◌, ℕ, ◌<◌, List, [], Some, Equal, length, get_or, map, refl, sym, ap, subst, ◌∙◌, inl, inr, arith, slice_get}
+use Rattle.std.proofs.Common.{◌≡◌, ◌≢◌, ℕ, ◌<◌, List, [], Some, Equal, length, get_or, map, refl, sym, ap, subst, ◌∙◌, slice_get}
 use Rattle.std.specs.Prelude.{AllPairs, Contains, IsSomeAnd, slice_index}
-use Rattle.std.specs.Option.{option_map}
-use Rattle.std.proofs.lemmas.Bool.{cases_lt}
-use Rattle.std.proofs.lemmas.List.{length-map}
-use Rattle.std.proofs.lemmas.List.Elements.{All-contains}
-use Rattle.std.proofs.lemmas.Option.{get_or_from_slice_get, slice_get-get_or, slice_get-map, slice_get_within}
+use Rattle.std.proofs.lemmas.Option.{slice_get-get_or, slice_get_within}
 use Rattle.dist_version.specs.Order.{version_cmp, IsBelow}
-use Rattle.dist_cluster.specs.Partition.{IsClusterOf, IsIn}
+use Rattle.dist_cluster.specs.Partition.{IsIn}
 use Rattle.dist_cluster.specs.Relation.{Member, AreClustered, AreTogether}
 use Rattle.dist_cluster.specs.Top.{IsTop, IsVersionIn}
 use Rattle.dist_repo.specs.declared.package.Package.{Package}
@@ -17,9 +13,10 @@ use Rattle.dist_classes.specs.declared.class_value.Class.{Class}
 use Rattle.dist_classes.specs.declared.class_value.Class.TheVariants.{Point, Between, Above, Below}
 use Rattle.dist_classes.specs.declared.class_value.Class.TheVariants as class
 use Rattle.dist_future.specs.Future.{IsAboveCluster}
-use Rattle.dist_future.specs.Space.{IsFrame, SpaceView, cluster_classes, fresh_classes, member_classes}
-use Rattle.dist_future.proofs.ClassMatch.{ClassLaws, HasCluster}
-use Rattle.dist_future.proofs.Lists.{at-has, contains-at, element-at, found-at, has-at, here-at, place-of, within-from}
+use Rattle.dist_space.specs.Space.{IsFrame, SpaceView, cluster_classes, fresh_classes, member_classes}
+use Rattle.dist_future.proofs.ClassMatch.{ClassLaws}
+use Rattle.dist_space.specs.ClusterLaws.{has-cluster, in-package, member-at, names-apart, placed-in, whole-at}
+use Rattle.dist_space.specs.ListLaws.{at-has, contains-at, has-at, here-at, place-of}
 use Rattle.dist_future.proofs.VersionOrder.{alike-left, alike-right, not-above_below, not-both}
 
 -- ---- classes of equal versions
@@ -38,18 +35,6 @@ class_at-same classes k v w same is =
 
 -- ---- one package of a name
 
-pub names-apart : (packages : List Package) (m n : ℕ) (p q : Package) → AllPairs (λ (a b : Package). a.name ≢ b.name) packages → slice_get packages m ≡ Some p → slice_get packages n ≡ Some q → p.name ≡ q.name → m ≡ n
-names-apart packages m n p q apart first second same =
-    elim (cases_lt m n) [
-      | inl less ↦ absurd (apart m n p less (slice_get_within packages n q second)
-          (ap (λ (x : Package). x.name) (get_or_from_slice_get packages m p p first) ∙ same ∙ sym (ap (λ (x : Package). x.name) (get_or_from_slice_get packages n q p second))))
-      | inr more ↦ elim (cases_lt n m) [
-        | inl less ↦ absurd (apart n m p less (slice_get_within packages m p first)
-            (ap (λ (x : Package). x.name) (get_or_from_slice_get packages n q p second) ∙ sym same ∙ sym (ap (λ (x : Package). x.name) (get_or_from_slice_get packages m p p first))))
-        | inr also ↦ omega arith
-      ]
-    ]
-
 pub one-of-name : (packages : List Package) (p q : Package) → AllPairs (λ (a b : Package). a.name ≢ b.name) packages → Contains packages p → Contains packages q → p.name ≡ q.name → p ≡ q
 one-of-name packages p q apart first second same =
     let a = place-of packages p first in
@@ -59,83 +44,31 @@ one-of-name packages p q apart first second same =
     let also = b.is in cc
 
 module _ (s : SpaceView) (frame : IsFrame s) where
-  abbrev packages : List Package
-  packages = s.repository.packages
-
-  abbrev members : List Member
-  members = map member_of s.repository.packages
-
-  member-at : (m : ℕ) (p : Package) → slice_get s.repository.packages m ≡ Some p → slice_get (map member_of s.repository.packages) m ≡ Some (member_of p)
-  member-at m p is = slice_get-map member_of s.repository.packages m ∙ ap (option_map member_of) is
-
-  -- ---- the cluster of a package
-
-  pub placed-in : (c m : ℕ) → IsIn s.clusters.members c m → slice_index s.cluster_of m ≡ c
-  placed-in c m is_in = get_or_from_slice_get s.cluster_of m c 0 ((frame.placed c m).0 is_in)
-
-  pub has-cluster : (m : ℕ) → m < length s.repository.packages → HasCluster s m
-  has-cluster m short =
-      let every = frame.clusters.partition.every m (omega (arith, length-map s.repository.packages member_of)) in
-      let at = found-at (λ (cluster : List ℕ). Contains cluster m) s.clusters.members every in
-      let is_in : IsIn s.clusters.members at.place m = at-has (λ (cluster : List ℕ). Contains cluster m) s.clusters.members at.place at.element at.is at.holds in
-      let same : slice_index s.cluster_of m ≡ at.place = placed-in at.place m is_in in
-      let In : ℕ → Type 0 = λ c. Contains (get_or s.clusters.members c []) m in
-      record {
-        within = let inside = slice_get_within s.clusters.members at.place at.element at.is in omega arith;
-        there = subst In (sym same) (subst (λ (cluster : List ℕ). Contains cluster m) (sym (get_or_from_slice_get s.clusters.members at.place at.element [] at.is)) at.holds);
-      }
-
-  pub has-is_in : (m : ℕ) → HasCluster s m → IsIn s.clusters.members (slice_index s.cluster_of m) m
-  has-is_in m has =
-      at-has (λ (cluster : List ℕ). Contains cluster m) s.clusters.members (slice_index s.cluster_of m) (get_or s.clusters.members (slice_index s.cluster_of m) [])
-      (slice_get-get_or s.clusters.members (slice_index s.cluster_of m) [] has.within) has.there
-
-  -- a cluster has exactly what is clustered with one of it
-  whole-at : (c m : ℕ) → c < length s.clusters.members → Contains (get_or s.clusters.members c []) m → IsClusterOf (map member_of s.repository.packages) (get_or s.clusters.members c []) m
-  whole-at c m short there =
-      All-contains (IsClusterOf (map member_of s.repository.packages) (get_or s.clusters.members c [])) (get_or s.clusters.members c []) m (frame.clusters.partition.whole c [] short) there
-
   pub clustered-same : (m n : ℕ) (p q : Package) → slice_get s.repository.packages m ≡ Some p → slice_get s.repository.packages n ≡ Some q → AreClustered (member_of p) (member_of q)
       → slice_index s.cluster_of n ≡ slice_index s.cluster_of m
   clustered-same m n p q is_p is_q clustered =
       let c = slice_index s.cluster_of m in
-      let has = has-cluster m (slice_get_within s.repository.packages m p is_p) in
+      let has = has-cluster s frame m (slice_get_within s.repository.packages m p is_p) in
       let Second : Member → Type 0 = λ a. IsSomeAnd (slice_get (map member_of s.repository.packages) n) (λ b. AreClustered a b) in
       let together : AreTogether (map member_of s.repository.packages) m n =
-      at-has Second (map member_of s.repository.packages) m (member_of p) (member-at m p is_p)
-      (at-has (λ b. AreClustered (member_of p) b) (map member_of s.repository.packages) n (member_of q) (member-at n q is_q) clustered) in
-      let there = (whole-at c m has.within has.there n).1 together in
-      placed-in c n (at-has (λ (cluster : List ℕ). Contains cluster n) s.clusters.members c (get_or s.clusters.members c []) (slice_get-get_or s.clusters.members c [] has.within) there)
+      at-has Second (map member_of s.repository.packages) m (member_of p) (member-at s frame m p is_p)
+      (at-has (λ b. AreClustered (member_of p) b) (map member_of s.repository.packages) n (member_of q) (member-at s frame n q is_q) clustered) in
+      let there = (whole-at s frame c m has.within has.there n).1 together in
+      placed-in s frame c n (at-has (λ (cluster : List ℕ). Contains cluster n) s.clusters.members c (get_or s.clusters.members c []) (slice_get-get_or s.clusters.members c [] has.within) there)
 
   pub same-clustered : (m n : ℕ) (p q : Package) → slice_get s.repository.packages m ≡ Some p → slice_get s.repository.packages n ≡ Some q → slice_index s.cluster_of n ≡ slice_index s.cluster_of m
       → AreClustered (member_of p) (member_of q)
   same-clustered m n p q is_p is_q same =
       let c = slice_index s.cluster_of m in
-      let has = has-cluster m (slice_get_within s.repository.packages m p is_p) in
-      let other = has-cluster n (slice_get_within s.repository.packages n q is_q) in
+      let has = has-cluster s frame m (slice_get_within s.repository.packages m p is_p) in
+      let other = has-cluster s frame n (slice_get_within s.repository.packages n q is_q) in
       let In : ℕ → Type 0 = λ k. Contains (get_or s.clusters.members k []) n in
-      let together = (whole-at c m has.within has.there n).0 (subst In same other.there) in
+      let together = (whole-at s frame c m has.within has.there n).0 (subst In same other.there) in
       let Second : Member → Type 0 = λ a. IsSomeAnd (slice_get (map member_of s.repository.packages) n) (λ b. AreClustered a b) in
-      has-at (λ b. AreClustered (member_of p) b) (map member_of s.repository.packages) n (member_of q) (member-at n q is_q)
-      (has-at Second (map member_of s.repository.packages) m (member_of p) (member-at m p is_p) together)
-
-  -- the package of a member
-  pub record PackageOf (m : ℕ) : Type 0 where
-    pub package_is : Package
-    pub is : slice_get s.repository.packages m ≡ Some package_is
-
-  pub in-package : (c m : ℕ) → c < length s.clusters.members → Contains (get_or s.clusters.members c []) m → PackageOf m
-  in-package c m short there =
-      let together = (whole-at c m short there m).0 there in
-      let Second : Member → Type 0 = λ a. IsSomeAnd (slice_get (map member_of s.repository.packages) m) (λ b. AreClustered a b) in
-      let inside = within-from Second (map member_of s.repository.packages) m together in
-      let at = element-at s.repository.packages m (omega (arith, length-map s.repository.packages member_of)) in
-      record { package_is = at.element; is = at.is }
+      has-at (λ b. AreClustered (member_of p) b) (map member_of s.repository.packages) n (member_of q) (member-at s frame n q is_q)
+      (has-at Second (map member_of s.repository.packages) m (member_of p) (member-at s frame m p is_p) together)
 
   -- ---- tops
-
-  abbrev top_of : ℕ → List ℕ
-  top_of c = get_or s.clusters.tops c []
 
   top-is : (c : ℕ) → c < length s.clusters.members → IsTop (map member_of s.repository.packages) (get_or s.clusters.members c []) (get_or s.clusters.tops c [])
   top-is c short = frame.clusters.tops.each c short
@@ -143,25 +76,25 @@ module _ (s : SpaceView) (frame : IsFrame s) where
   pub above-top : (m : ℕ) (p : Package) (v : List ℕ) → slice_get s.repository.packages m ≡ Some p → IsBelow (get_or s.clusters.tops (slice_index s.cluster_of m) []) v → IsBelow p.version v
   above-top m p v is above =
       let c = slice_index s.cluster_of m in
-      let has = has-cluster m (slice_get_within s.repository.packages m p is) in
+      let has = has-cluster s frame m (slice_get_within s.repository.packages m p is) in
       let at = place-of (get_or s.clusters.members c []) m has.there in
       let Has : ℕ → Type 0 = λ n. IsSomeAnd (slice_get (map member_of s.repository.packages) n) (λ (a : Member). a.version ≡ p.version) in
       let in_cluster : IsVersionIn (map member_of s.repository.packages) (get_or s.clusters.members c []) p.version =
-      (has.there.0, m, has.there.1, has.there.2, at-has (λ (a : Member). a.version ≡ p.version) (map member_of s.repository.packages) m (member_of p) (member-at m p is) refl) in
+      (has.there.0, m, has.there.1, has.there.2, at-has (λ (a : Member). a.version ≡ p.version) (map member_of s.repository.packages) m (member_of p) (member-at s frame m p is) refl) in
       not-above_below (get_or s.clusters.tops c []) p.version v ((top-is c has.within).greatest p.version in_cluster) above
 
   pub top-below : (m : ℕ) (p : Package) (v : List ℕ) → slice_get s.repository.packages m ≡ Some p → IsAboveCluster s.repository p v → IsBelow (get_or s.clusters.tops (slice_index s.cluster_of m) []) v
   top-below m p v is above =
       let c = slice_index s.cluster_of m in
-      let has = has-cluster m (slice_get_within s.repository.packages m p is) in
+      let has = has-cluster s frame m (slice_get_within s.repository.packages m p is) in
       let top = get_or s.clusters.tops c [] in
       let Has : ℕ → Type 0 = λ n. IsSomeAnd (slice_get (map member_of s.repository.packages) n) (λ (a : Member). a.version ≡ top) in
       let there = (top-is c has.within).there in
       let in_cluster : Contains (get_or s.clusters.members c []) there.1 = (there.0, there.2, there.3) in
-      let q = in-package c there.1 has.within in_cluster in
-      let version : (member_of q.package_is).version ≡ top = has-at (λ (a : Member). a.version ≡ top) (map member_of s.repository.packages) there.1 (member_of q.package_is) (member-at there.1 q.package_is q.is) there.4 in
+      let q = in-package s frame c there.1 has.within in_cluster in
+      let version : (member_of q.package_is).version ≡ top = has-at (λ (a : Member). a.version ≡ top) (map member_of s.repository.packages) there.1 (member_of q.package_is) (member-at s frame there.1 q.package_is q.is) there.4 in
       let is_in : IsIn s.clusters.members c there.1 = at-has (λ (cluster : List ℕ). Contains cluster there.1) s.clusters.members c (get_or s.clusters.members c []) (slice_get-get_or s.clusters.members c [] has.within) in_cluster in
-      let clustered = same-clustered m there.1 p q.package_is is q.is (placed-in c there.1 is_in) in
+      let clustered = same-clustered m there.1 p q.package_is is q.is (placed-in s frame c there.1 is_in) in
       subst (λ (t : List ℕ). IsBelow t v) version (above.above q.package_is (record { there = contains-at s.repository.packages there.1 q.package_is q.is; clustered = clustered }))
 
 -- ---- classes of a cluster

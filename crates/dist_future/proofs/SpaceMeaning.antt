@@ -13,20 +13,21 @@ use Rattle.dist_repo.specs.declared.package.Package.{Package}
 use Rattle.dist_classes.specs.ClassList.{IsOfClass, IsOfClassAt}
 use Rattle.dist_future.specs.Future.{IsFuture, IsInClusterOf, Moves, Stays}
 use Rattle.dist_future.specs.Outdated.{HoldsCluster, IsInstallableAt, IsInstallableLater, IsInstallationOf}
-use Rattle.dist_future.specs.Space.{IsSpace, SpaceView, cluster_classes, example_at, variable_of}
-use Rattle.dist_future.specs.SpaceClauses.{AreSpaceClauses}
+use Rattle.dist_space.specs.Space.{IsSpace, SpaceView, cluster_classes, example_at, variable_of}
+use Rattle.dist_space_clauses.specs.SpaceClauses.{AreSpaceClauses}
 use Rattle.dist_future.specs.SpaceLaws.{HasModelWith, StandForFutures, StandsForFuture, examples_of, holds_under}
 use Rattle.dist_future.specs.Stands.{future_of, installation_of}
-use Rattle.dist_future.specs.declared.meaning.Meaning.{Meaning}
-use Rattle.dist_future.specs.declared.meaning.Meaning.TheVariants.{Now, Present, At}
+use Rattle.dist_space.specs.declared.meaning.Meaning.{Meaning}
+use Rattle.dist_space.specs.declared.meaning.Meaning.TheVariants.{Now, Present, At}
 use Rattle.dist_future.proofs.ClassMatch.{ClassLaws}
-use Rattle.dist_future.proofs.Decided.{IsDecided}
+use Rattle.dist_space_clauses.specs.DecidedLaws.{IsDecided}
 use Rattle.dist_future.proofs.DemandLemmas.{IsTrueMeaning, met-from-model}
 use Rattle.dist_future.proofs.FutureToModel.{IsFate, IsSeen, option-cases}
 use Rattle.dist_future.proofs.FutureValues.{both-decided, future-model, number-decided}
-use Rattle.dist_future.proofs.Lists.{any-contained, at-has, contains-at, element-at, within-from}
+use Rattle.dist_space.specs.ListLaws.{any-contained, at-has, contains-at, element-at, within-from}
 use Rattle.dist_future.proofs.ModelToFuture.{AreVersions, future-is, healthy-is, holds-cluster, old-member, today-is}
-use Rattle.dist_future.proofs.SpaceLemmas.{class-of, class_at-same, has-cluster, in-package, never-at, one-class, one-of-name, placed-in, same-clustered, top-below}
+use Rattle.dist_future.proofs.SpaceLemmas.{class-of, class_at-same, never-at, one-class, one-of-name, same-clustered, top-below}
+use Rattle.dist_space.specs.ClusterLaws.{has-cluster, in-package, placed-in}
 use Rattle.dist_future.proofs.VersionOrder.{equal-back}
 
 module _ (laws : ClassLaws) (s : SpaceView) (space : IsSpace s) where

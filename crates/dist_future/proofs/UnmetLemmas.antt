@@ -10,17 +10,16 @@ use Rattle.dist_repo.specs.PackageList.{PackageList}
 use Rattle.dist_repo.specs.Size.{IsWithinSize, relations_of}
 use Rattle.dist_repo.specs.declared.package.Package.{Package}
 use Rattle.dist_future.specs.FutureHealth.{Holds, IsUnmetAt, SomeHolds}
-use Rattle.dist_future.specs.Gathering.{IsMeaningOf}
+use Rattle.dist_space.specs.Space.{IsMeaningOf, IsMatched, IsMetBy, IsSpace, SpaceView, variable_of}
 use Rattle.dist_future.specs.Least.{IsLeastIfAny}
 use Rattle.dist_future.specs.Matching.{IsOther, IsUnmetItem}
-use Rattle.dist_future.specs.Space.{IsMatched, IsMetBy, IsSpace, SpaceView, variable_of}
-use Rattle.dist_future.specs.SpaceClauses.{IsItemAnd}
-use Rattle.dist_future.specs.declared.meaning.Meaning.{Meaning}
-use Rattle.dist_future.specs.declared.meaning.Meaning.TheVariants.{Now, Present, At, New, Kept, Fresh}
-use Rattle.dist_future.proofs.Fronts.{variable-range}
+use Rattle.dist_space_clauses.specs.SpaceClauses.{IsItemAnd}
+use Rattle.dist_space.specs.declared.meaning.Meaning.{Meaning}
+use Rattle.dist_space.specs.declared.meaning.Meaning.TheVariants.{Now, Present, At, New, Kept, Fresh}
+use Rattle.dist_space.specs.VariableLaws.{variable-range}
 use Rattle.dist_future.proofs.FoundLemmas.{IsAny}
 use Rattle.dist_future.proofs.Leasts.{IsNoneBelow, least-shift}
-use Rattle.dist_future.proofs.Lists.{any-at, at-has, found-at, has-at, here-at}
+use Rattle.dist_space.specs.ListLaws.{any-at, at-has, found-at, has-at, here-at}
 use Rattle.dist_future.proofs.NoFutureLemmas.{meaning-holds, never-holds}
 
 number-of : (a b : ℕ) → Present a ≡ Present b → a ≡ b

@@ -3,11 +3,11 @@ use Rattle.std.proofs.Common.{◌≡◌, ℕ, ◌-◌, ◌<◌, Less, Equal, get
 use Rattle.std.proofs.lemmas.Bool.{cases_lt}
 use Rattle.std.proofs.lemmas.Cmp.{nat_list_cmp_total, tied_itself}
 use Rattle.std.proofs.lemmas.Option.{get_or_from_slice_get, slice_get_within}
-use Rattle.dist_future.specs.Space.{IsMeaning, IsSpace, SpaceView, StandsBefore, key_of, variable_of}
-use Rattle.dist_future.specs.declared.meaning.Meaning.{Meaning}
-use Rattle.dist_future.specs.declared.meaning.Meaning.TheVariants.{At, Fresh}
-use Rattle.dist_future.proofs.Fronts.{one-meaning, place-at, variable-range}
-use Rattle.dist_future.proofs.Lex.{IsLess, less-cmp}
+use Rattle.dist_space.specs.Space.{IsMeaning, IsSpace, SpaceView, StandsBefore, key_of, variable_of}
+use Rattle.dist_space.specs.declared.meaning.Meaning.{Meaning}
+use Rattle.dist_space.specs.declared.meaning.Meaning.TheVariants.{At, Fresh}
+use Rattle.dist_space.specs.VariableLaws.{one-meaning, place-at, variable-range}
+use Rattle.dist_space.specs.KeyLaws.{IsLess, less-cmp}
 
 never-before-itself : (s : SpaceView) (m : Meaning) → ¬ StandsBefore s m m
 never-before-itself s m before = let no : Equal ≡ Less = sym (tied_itself nat_list_cmp_total (key_of s m)) ∙ before in cc

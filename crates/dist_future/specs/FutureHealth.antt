@@ -3,13 +3,13 @@
 use Rattle.std.specs.Prelude.{◌≡◌, ◌⊎◌, ℕ, ◌<◌, Bool, true, false, List, length, slice_index}
 use Rattle.dist_repo.specs.PackageList.{IsPackageAnd}
 use Rattle.dist_future.specs.Least.{IsLeast, IsLeastPair, IsNoPair}
-use Rattle.dist_future.specs.Space.{SpaceView, IsMeaning, IsMetBy, variable_of}
-use Rattle.dist_future.specs.SpaceClauses.{Excludes, IsBearer, IsItemAnd}
+use Rattle.dist_space.specs.Space.{SpaceView, IsMeaning, IsMetBy, variable_of}
+use Rattle.dist_space_clauses.specs.SpaceClauses.{Excludes, IsBearer, IsItemAnd}
 use Rattle.dist_future.specs.SpaceLaws.{holds_under}
 use Rattle.dist_future.specs.declared.health_kind.FutureHealth.{FutureHealth}
 use Rattle.dist_future.specs.declared.health_kind.FutureHealth.TheVariants.{Healthy, NotAFuture, Unmet, Conflict, EssentialMissing}
-use Rattle.dist_future.specs.declared.meaning.Meaning.{Meaning}
-use Rattle.dist_future.specs.declared.meaning.Meaning.TheVariants.{Now, Present, At, New, Kept, Fresh}
+use Rattle.dist_space.specs.declared.meaning.Meaning.{Meaning}
+use Rattle.dist_space.specs.declared.meaning.Meaning.TheVariants.{Now, Present, At, New, Kept, Fresh}
 
 -- one truth value per variable
 pub record IsOneEach (s : SpaceView) (values : List Bool) : Type 0 where

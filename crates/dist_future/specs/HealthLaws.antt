@@ -3,7 +3,7 @@ use Rattle.std.specs.Prelude.{Bool, List}
 use Rattle.dist_future.specs.FutureHealth.{AreNoFuture, IsFutureHealth}
 use Rattle.dist_future.specs.Least.{IsNoPair}
 use Rattle.dist_future.specs.Outdated.{IsInstallationOf}
-use Rattle.dist_future.specs.Space.{SpaceView}
+use Rattle.dist_space.specs.Space.{SpaceView}
 use Rattle.dist_future.specs.SpaceLaws.{examples_of, holds_under}
 use Rattle.dist_future.specs.Stands.{future_of, installation_of}
 use Rattle.dist_future.specs.declared.health_kind.FutureHealth.TheVariants.{Healthy}

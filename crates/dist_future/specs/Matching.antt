@@ -4,10 +4,10 @@ use Rattle.dist_relation.specs.declared.atom.Atom.{Atom}
 use Rattle.dist_repo.specs.declared.package.Package.{Package}
 use Rattle.dist_future.specs.FutureHealth.{Holds, SomeHolds}
 use Rattle.dist_future.specs.Least.{IsAtMost}
-use Rattle.dist_future.specs.Space.{SpaceView, IsMatchedBy, IsMetBy, variable_of}
+use Rattle.dist_space.specs.Space.{SpaceView, IsChange, IsMatchedBy, IsMetBy, variable_of}
 use Rattle.dist_future.specs.SpaceLaws.{holds_under}
-use Rattle.dist_future.specs.declared.meaning.Meaning.{Meaning}
-use Rattle.dist_future.specs.declared.meaning.Meaning.TheVariants.{Present, At, New, Kept, Fresh}
+use Rattle.dist_space.specs.declared.meaning.Meaning.{Meaning}
+use Rattle.dist_space.specs.declared.meaning.Meaning.TheVariants.{Present, New, Kept}
 
 -- the lesser of two numbers, each of which may be missing
 abbrev pub IsLesserOf : (first second least : Option ℕ) → Type 0
@@ -55,13 +55,7 @@ IsOther but m = Unit {0}
 
 -- ---- no future
 
--- a class of a cluster or of a new name
-abbrev pub IsChange : Meaning → Type 0
-IsChange (At c k) = Unit {0}
-IsChange (Fresh x k) = Unit {0}
-IsChange m = ⊥
-
--- the variable of such a meaning that holds
+-- the variable of a class of a cluster or of a new name that holds
 pub record IsChangeAt (s : SpaceView) (values : List Bool) (variable : ℕ) : Type 0 where
   pub meaning : Meaning
   pub variable_is : variable_of s meaning ≡ variable

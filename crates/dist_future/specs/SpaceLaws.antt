@@ -9,9 +9,9 @@ use Rattle.dist_repo.specs.Strong.{IsInstallable}
 use Rattle.dist_future.specs.Future.{IsFuture}
 use Rattle.dist_future.specs.Stands.{future_of, installation_of}
 use Rattle.dist_future.specs.Outdated.{IsInstallableAt, IsInstallableLater, IsInstallationOf}
-use Rattle.dist_future.specs.Space.{SpaceView, cluster_classes, example_at, variable_of}
-use Rattle.dist_future.specs.declared.meaning.Meaning.{Meaning}
-use Rattle.dist_future.specs.declared.meaning.Meaning.TheVariants.{Now, Present, At}
+use Rattle.dist_space.specs.Space.{SpaceView, cluster_classes, example_at, variable_of}
+use Rattle.dist_space.specs.declared.meaning.Meaning.{Meaning}
+use Rattle.dist_space.specs.declared.meaning.Meaning.TheVariants.{Now, Present, At}
 
 -- Some model of the clauses, with one truth value for each variable, makes all the meanings true.
 pub record HasModelWith (s : SpaceView) (clauses : List (List Literal)) (meanings : List Meaning) : Type 0 where

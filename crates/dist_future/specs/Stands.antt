@@ -3,10 +3,10 @@ use Rattle.std.specs.Prelude.{ℕ, zero, suc, Bool, true, false, ◌&&◌, List,
 use Rattle.std.specs.Option.{option_map}
 use Rattle.dist_relation.specs.declared.atom.Provide.{Provide}
 use Rattle.dist_repo.specs.declared.package.Package.{Package}
-use Rattle.dist_future.specs.Space.{SpaceView, cluster_classes, example_at, fresh_classes, moved_entry}
-use Rattle.dist_future.specs.Usable.{is_usable}
-use Rattle.dist_future.specs.declared.meaning.Meaning.{Meaning}
-use Rattle.dist_future.specs.declared.meaning.Meaning.TheVariants.{Now, Present, At, New, Kept, Fresh}
+use Rattle.dist_space.specs.Space.{SpaceView, cluster_classes, example_at, fresh_classes, moved_entry}
+use Rattle.dist_space.specs.Usable.{is_usable}
+use Rattle.dist_space.specs.declared.meaning.Meaning.{Meaning}
+use Rattle.dist_space.specs.declared.meaning.Meaning.TheVariants.{Now, Present, At, New, Kept, Fresh}
 
 -- the entries whose flags are true, as the new version has them
 abbrev pub kept_entries : (old new : List ℕ) → List Bool → List Provide → List Provide

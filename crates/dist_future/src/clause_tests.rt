@@ -2,21 +2,13 @@
 ghost use Rattle.std.specs.Prelude.{◌<◌, length};
 
 use super::*;
-use crate::test_spaces::{Stanza, space_within};
+use crate::test_spaces::{
+    ESSENTIAL, LIBRARY, MOVING, NEW_NAME, ONE_SOURCE, Stanza, VIRTUAL, small_space,
+};
 use dist_base::{MAX_CLAUSES, MAX_LITERALS};
 use dist_clause::{ClauseSet, Lit, PushError};
 use std::alloc::Global;
 use std::test::Fail;
-
-/// The space of some stanzas.
-fn made_space(alloc: Global, stanzas: &[Stanza], essential: bool) -> Result<Space, Fail>
-    requires { length stanzas.now < 100 }
-{
-    match space_within(alloc, stanzas, essential, 1000)? {
-        Ok(space) => Ok(space),
-        Err(_) => Err("no space")?,
-    }
-}
 
 /// Whether a clause has these literals.
 fn is_clause(clause: &[Lit], expected: &[i32]) -> bool {
@@ -51,7 +43,7 @@ fn has(set: &ClauseSet, clauses: &[&[i32]]) -> bool {
 fn check(alloc: Global, stanzas: &[Stanza], essential: bool, clauses: &[&[i32]]) -> Result<(), Fail>
     requires { length stanzas.now < 100 }
 {
-    let space = made_space(alloc, stanzas, essential)?;
+    let space = small_space(alloc, stanzas, essential)?;
     match clauses_of(alloc, &space, MAX_CLAUSES, MAX_LITERALS) {
         Ok(set) if has(&set, clauses) && set.variables() == space.variables() => Ok(()),
         _ => Err("other clauses")?,
@@ -68,11 +60,7 @@ fn a_future_of_nothing(rt: HostRuntime) -> Result<(), Fail> {
 fn members_of_one_source(rt: HostRuntime) -> Result<(), Fail> {
     check(
         rt.alloc(),
-        &[
-            ("a", "s", "", "", "", false),
-            ("b", "s", "", "", "", false),
-            ("p", "p", "a (= 1), b (>= 2)", "", "", false),
-        ],
+        &ONE_SOURCE,
         false,
         &[
             &[-5, -8],
@@ -101,11 +89,6 @@ fn members_of_one_source(rt: HostRuntime) -> Result<(), Fail> {
         ],
     )
 }
-
-const LIBRARY: [Stanza; 2] = [
-    ("libx", "libx", "", "", "", false),
-    ("p", "p", "libx (<< 2)", "", "", false),
-];
 
 #[test]
 fn a_version_too_late(rt: HostRuntime) -> Result<(), Fail> {
@@ -138,10 +121,7 @@ fn a_version_too_late(rt: HostRuntime) -> Result<(), Fail> {
 fn an_entry_is_dropped(rt: HostRuntime) -> Result<(), Fail> {
     check(
         rt.alloc(),
-        &[
-            ("p", "p", "q", "m", "", false),
-            ("q", "q", "", "", "m", false),
-        ],
+        &VIRTUAL,
         false,
         &[
             &[-2, -4],
@@ -162,10 +142,7 @@ fn an_entry_is_dropped(rt: HostRuntime) -> Result<(), Fail> {
 fn a_moving_entry(rt: HostRuntime) -> Result<(), Fail> {
     check(
         rt.alloc(),
-        &[
-            ("libx", "libx", "", "", "abi (= 1)", false),
-            ("p", "p", "libx", "abi (>= 2)", "", false),
-        ],
+        &MOVING,
         false,
         &[
             &[-4, -7],
@@ -193,11 +170,6 @@ fn a_moving_entry(rt: HostRuntime) -> Result<(), Fail> {
     )
 }
 
-const BASE: [Stanza; 2] = [
-    ("base", "base", "", "", "", true),
-    ("p", "p", "", "base (>= 2)", "", false),
-];
-
 /// The clauses of mode plain, and then the one of the name.
 const OF_BASE: [&[i32]; 18] = [
     &[-4, -6],
@@ -222,19 +194,19 @@ const OF_BASE: [&[i32]; 18] = [
 
 #[test]
 fn an_essential_name(rt: HostRuntime) -> Result<(), Fail> {
-    check(rt.alloc(), &BASE, true, &OF_BASE)
+    check(rt.alloc(), &ESSENTIAL, true, &OF_BASE)
 }
 
 #[test]
 fn no_name_at_mode_plain(rt: HostRuntime) -> Result<(), Fail> {
-    check(rt.alloc(), &BASE, false, &OF_BASE[..17])
+    check(rt.alloc(), &ESSENTIAL, false, &OF_BASE[..17])
 }
 
 #[test]
 fn a_new_name(rt: HostRuntime) -> Result<(), Fail> {
     check(
         rt.alloc(),
-        &[("p", "p", "foo (<< 1)", "", "", false)],
+        &NEW_NAME,
         false,
         &[
             &[-2, -3],
@@ -290,7 +262,7 @@ fn conflicts_of_all_kinds(rt: HostRuntime) -> Result<(), Fail> {
 #[test]
 fn the_limits_of_clauses(rt: HostRuntime) -> Result<(), Fail> {
     let alloc = rt.alloc();
-    let space = made_space(alloc, &LIBRARY, false)?;
+    let space = small_space(alloc, &LIBRARY, false)?;
     for (clauses, literals, error) in [
         (15, 33, Some(PushError::TooManyClauses)),
         (16, 32, Some(PushError::TooManyLiterals)),

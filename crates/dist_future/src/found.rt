@@ -3,16 +3,15 @@ ghost use Rattle.std.specs.Prelude.{◌≡◌, ◌<◌, ◌↔◌, IsTrue, Some,
 ghost use Rattle.dist_repo.specs.Match.{IsUsable};
 ghost use Rattle.dist_repo.specs.Providers.{AreProviders};
 ghost use Rattle.dist_future.specs.FutureHealth.{IsOneEach};
-ghost use Rattle.dist_future.specs.Gathering.{IsFresh, IsLaterOf, IsOfVersion};
+ghost use Rattle.dist_space_clauses.specs.Gathering.{IsFresh, IsLaterOf, IsOfVersion};
 ghost use Rattle.dist_future.specs.Least.{IsLeastIfAny};
 ghost use Rattle.dist_future.specs.Matching.{IsFound, IsLesserOf, IsMovedBut, IsOther, IsPresentBut};
-ghost use Rattle.dist_future.specs.Space.{IsMeaning, member_classes};
-ghost use Rattle.dist_future.specs.declared.meaning.Meaning.TheVariants as meaning;
+ghost use Rattle.dist_space.specs.Space.{IsMeaning, member_classes};
+ghost use Rattle.dist_space.specs.declared.meaning.Meaning.TheVariants as meaning;
 
-use crate::meaning::Meaning;
-use crate::space::Space;
 use dist_clause::Assignment;
 use dist_relation::{Atom, Provide};
+use dist_space::{Meaning, Space};
 
 /// The lesser of two numbers, each of which may be missing.
 pub(crate) fn lesser(first: Option<u32>, second: Option<u32>) -> Option<u32>

@@ -1,30 +1,19 @@
 //! Whether an assignment stands for a future and a healthy installation in it: the kinds of fault in their order.
 ghost use Rattle.std.specs.Prelude.{◌≡◌, ◌≤◌, ◌<◌, ◌↔◌, ℕ, IsTrue, Some, length, slice_get};
-ghost use Rattle.dist_repo.specs.Order.{IsFlat};
 ghost use Rattle.dist_repo.specs.Size.{IsWithinSize};
 ghost use Rattle.dist_future.specs.FutureHealth.{AreConflicting, IsFutureHealth, IsMissing, IsOneEach, IsUnmetAt, SomeHolds};
 ghost use Rattle.dist_future.specs.Least.{IsLeastIfAny, IsLeastPairIfAny};
 ghost use Rattle.dist_future.specs.Matching.{IsItemAt, IsLesserPair, IsInstalled, IsRejectedBy, IsRejectedFrom, IsUnmetItem};
-ghost use Rattle.dist_future.specs.Space.{IsMeaning, IsMetBy};
+ghost use Rattle.dist_space.specs.Space.{IsMeaning, IsMetBy};
 ghost use Rattle.dist_future.specs.SpaceLaws.{holds_under};
 
 use crate::found::{found, lesser};
 use crate::health_kind::FutureHealth;
-use crate::meaning::Meaning;
 use crate::no_future::no_future;
-use crate::space::Space;
 use dist_clause::Assignment;
 use dist_relation::Alternatives;
-use dist_repo::{Package, Repository};
-
-/// The repository of a space, which is flat and within the stated sizes.
-fn sized_repo(space: &Space) -> &Repository
-    ensures value { result.now ≡ space.now.repository }
-    ensures flat { IsFlat space.now.repository.packages }
-    ensures within_size { IsWithinSize space.now.repository }
-{
-    &space.frame.repo
-}
+use dist_repo::Package;
+use dist_space::{Meaning, Space};
 
 /// Whether something that holds meets the item at a place of a package.
 fn is_met(
@@ -77,7 +66,7 @@ fn unmet_row(space: &Space, members: &Assignment, variable: u32) -> Option<u32>
     }
     match space.meaning(variable) {
         Meaning::Present(number) => {
-            let package = sized_repo(space).package(number);
+            let package = space.repo().package(number);
             unmet_item(space, members, number, package)
         }
         _ => None,
@@ -196,7 +185,7 @@ fn missing(space: &Space, members: &Assignment) -> Option<u32>
     if !space.essential() {
         return None;
     }
-    let repo = sized_repo(space);
+    let repo = space.repo();
     for number in 0..repo.len() {
         if repo.package(number).essential && !is_borne(space, members, number) {
             return Some(number);

@@ -3,8 +3,8 @@ ghost use Rattle.std.specs.Prelude.{◌≡◌, ◌↔◌, Bool, List};
 ghost use Rattle.dist_clause.specs.Formula.{IsModel, Literal, value_of};
 ghost use Rattle.dist_future.specs.FutureHealth.{IsFutureHealth};
 ghost use Rattle.dist_future.specs.HealthLaws.{IsHealthyIn, StandsForHealthy};
-ghost use Rattle.dist_future.specs.Space.{IsSpace, SpaceView};
-ghost use Rattle.dist_future.specs.SpaceClauses.{AreSpaceClauses};
+ghost use Rattle.dist_space.specs.Space.{IsSpace, SpaceView};
+ghost use Rattle.dist_space_clauses.specs.SpaceClauses.{AreSpaceClauses};
 ghost use Rattle.dist_future.specs.SpaceLaws.{StandsForFuture};
 ghost use Rattle.dist_future.specs.declared.health_kind.FutureHealth.{FutureHealth};
 

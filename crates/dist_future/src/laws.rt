@@ -1,8 +1,8 @@
 //! What the clauses of a space mean, apart from the work. These functions do nothing.
 ghost use Rattle.std.specs.Prelude.{Bool, List};
 ghost use Rattle.dist_clause.specs.Formula.{IsModel, Literal, value_of};
-ghost use Rattle.dist_future.specs.Space.{IsSpace, SpaceView};
-ghost use Rattle.dist_future.specs.SpaceClauses.{AreSpaceClauses};
+ghost use Rattle.dist_space.specs.Space.{IsSpace, SpaceView};
+ghost use Rattle.dist_space_clauses.specs.SpaceClauses.{AreSpaceClauses};
 ghost use Rattle.dist_future.specs.SpaceLaws.{StandForFutures, StandsForFuture};
 
 use dist_classes::{new_names_match_alike, new_versions_match_alike, versions_are_in_one_class};

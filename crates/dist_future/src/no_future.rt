@@ -1,21 +1,13 @@
 //! The least two variables that make an assignment stand for no future.
-ghost use Rattle.std.specs.Prelude.{◌≡◌, ◌≤◌, ◌↔◌, IsTrue, length};
+ghost use Rattle.std.specs.Prelude.{◌≡◌, ◌≤◌, length};
 ghost use Rattle.dist_future.specs.FutureHealth.{AreNoFuture, IsOneEach};
 ghost use Rattle.dist_future.specs.Least.{IsLeastIfAny, IsLeastPairIfAny};
-ghost use Rattle.dist_future.specs.Matching.{IsChange, IsChangeAt, IsHeldFrom, IsLacking};
-ghost use Rattle.dist_future.specs.Space.{IsMeaning, cluster_classes, fresh_classes};
-ghost use Rattle.dist_future.specs.declared.meaning.Meaning.TheVariants as meaning;
+ghost use Rattle.dist_future.specs.Matching.{IsChangeAt, IsHeldFrom, IsLacking};
+ghost use Rattle.dist_space.specs.Space.{IsMeaning, cluster_classes, fresh_classes};
+ghost use Rattle.dist_space.specs.declared.meaning.Meaning.TheVariants as meaning;
 
-use crate::meaning::Meaning;
-use crate::space::Space;
 use dist_clause::Assignment;
-
-/// Whether a meaning is a class of a cluster or of a new name.
-fn is_change(meaning: &Meaning) -> bool
-    ensures { IsTrue result ↔ IsChange meaning.now }
-{
-    matches!(meaning, Meaning::At(_, _) | Meaning::Fresh(_, _))
-}
+use dist_space::{Meaning, Space};
 
 /// The least class of a cluster or of a new name that holds.
 fn change_held(space: &Space, members: &Assignment) -> Option<u32>
@@ -23,7 +15,7 @@ fn change_held(space: &Space, members: &Assignment) -> Option<u32>
     ensures { IsLeastIfAny (IsChangeAt space.now members.now) result }
 {
     for variable in 1..space.variables() + 1 {
-        if members.value(variable) && is_change(&space.meaning(variable)) {
+        if members.value(variable) && space.meaning(variable).is_change() {
             return Some(variable);
         }
     }

@@ -10,7 +10,7 @@ use std::test::Fail;
 
 /// A package of version 1: its name, its source, values of Depends, Conflicts and Provides, and whether it is essential. Its
 /// source has its version.
-pub type Stanza = (
+pub(crate) type Stanza = (
     &'static str,
     &'static str,
     &'static str,
@@ -18,6 +18,40 @@ pub type Stanza = (
     &'static str,
     bool,
 );
+
+/// A library, and a package that needs it below a version.
+pub(crate) const LIBRARY: [Stanza; 2] = [
+    ("libx", "libx", "", "", "", false),
+    ("p", "p", "libx (<< 2)", "", "", false),
+];
+
+/// Two packages of one source, and one that needs them at versions that they never have together.
+pub(crate) const ONE_SOURCE: [Stanza; 3] = [
+    ("a", "s", "", "", "", false),
+    ("b", "s", "", "", "", false),
+    ("p", "p", "a (= 1), b (>= 2)", "", "", false),
+];
+
+/// What a package needs provides a name that the package is in conflict with.
+pub(crate) const VIRTUAL: [Stanza; 2] = [
+    ("p", "p", "q", "m", "", false),
+    ("q", "q", "", "", "m", false),
+];
+
+/// An entry at the version of its package, and a package that is in conflict with later ones.
+pub(crate) const MOVING: [Stanza; 2] = [
+    ("libx", "libx", "", "", "abi (= 1)", false),
+    ("p", "p", "libx", "abi (>= 2)", "", false),
+];
+
+/// An essential package, and one that is in conflict with its later versions.
+pub(crate) const ESSENTIAL: [Stanza; 2] = [
+    ("base", "base", "", "", "", true),
+    ("p", "p", "", "base (>= 2)", "", false),
+];
+
+/// A package that needs one of a new name.
+pub(crate) const NEW_NAME: [Stanza; 1] = [("p", "p", "foo (<< 1)", "", "", false)];
 
 /// The package of a stanza.
 fn package(alloc: Global, stanza: &Stanza) -> Result<Package, Fail> {
@@ -57,7 +91,7 @@ fn repository(alloc: Global, stanzas: &[Stanza]) -> Result<Repository, Fail>
 }
 
 /// The space of some stanzas, of a number of variables at most.
-pub fn space_within(
+pub(crate) fn space_within(
     alloc: Global,
     stanzas: &[Stanza],
     essential: bool,
@@ -71,4 +105,14 @@ pub fn space_within(
         Err("not flat, or too large")?
     }
     Ok(space_of(alloc, repo, essential, variables))
+}
+
+/// The space of some stanzas, which is not large.
+pub(crate) fn small_space(alloc: Global, stanzas: &[Stanza], essential: bool) -> Result<Space, Fail>
+    requires { length stanzas.now < 100 }
+{
+    match space_within(alloc, stanzas, essential, 1000)? {
+        Ok(space) => Ok(space),
+        Err(_) => Err("no space")?,
+    }
 }

@@ -2,7 +2,7 @@
 ghost use Rattle.std.specs.Prelude.{◌<◌, length};
 
 use super::*;
-use crate::test_spaces::{Stanza, space_within};
+use crate::test_spaces::{LIBRARY, ONE_SOURCE, Stanza, space_within};
 use std::alloc::Global;
 use std::test::Fail;
 
@@ -40,11 +40,7 @@ fn check(alloc: Global, stanzas: &[Stanza], meanings: &[Meaning]) -> Result<(), 
 fn members_move_together(rt: HostRuntime) -> Result<(), Fail> {
     check(
         rt.alloc(),
-        &[
-            ("a", "s", "", "", "", false),
-            ("b", "s", "", "", "", false),
-            ("p", "p", "a (= 1), b (>= 2)", "", "", false),
-        ],
+        &ONE_SOURCE,
         &[
             Meaning::Now,
             Meaning::Present(0),
@@ -87,6 +83,27 @@ fn entries_are_kept_and_new_names_come(rt: HostRuntime) -> Result<(), Fail> {
             Meaning::At(2, 0),
             Meaning::New(2, 0),
             Meaning::Fresh(0, 0),
+        ],
+    )
+}
+
+#[test]
+fn three_classes_of_a_library(rt: HostRuntime) -> Result<(), Fail> {
+    check(
+        rt.alloc(),
+        &LIBRARY,
+        &[
+            Meaning::Now,
+            Meaning::Present(0),
+            Meaning::Present(1),
+            Meaning::At(0, 0),
+            Meaning::New(0, 0),
+            Meaning::At(0, 1),
+            Meaning::New(0, 1),
+            Meaning::At(0, 2),
+            Meaning::New(0, 2),
+            Meaning::At(1, 0),
+            Meaning::New(1, 0),
         ],
     )
 }

@@ -14,4 +14,6 @@ pub use lines::print_label;
 pub use strong_report::text;
 
 #[cfg(test)]
+mod strong_tests;
+#[cfg(test)]
 mod tests;

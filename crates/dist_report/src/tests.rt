@@ -9,7 +9,7 @@ use std::alloc::Global;
 use std::test::Fail;
 
 /// A package: its name, version, source and what it depends on.
-type Row = (&'static str, &'static str, &'static str, &'static str);
+pub(crate) type Row = (&'static str, &'static str, &'static str, &'static str);
 
 /// The package of a row. Its source has its version.
 fn package(alloc: Global, row: &Row) -> Result<Package, Fail> {
@@ -26,7 +26,7 @@ fn package(alloc: Global, row: &Row) -> Result<Package, Fail> {
 }
 
 /// Adds the package of a row.
-fn add(alloc: Global, builder: &mut Builder, row: &Row) -> Result<(), Fail>
+pub(crate) fn add(alloc: Global, builder: &mut Builder, row: &Row) -> Result<(), Fail>
     requires { length builder.old < 100 }
     ensures { length builder.new ≤ length builder.old + 1 }
 {

@@ -13,7 +13,7 @@ use Rattle.dist_solver.specs.declared.answers.Answer.TheVariants as answers
 use Rattle.dist_cert.specs.declared.records.CertRecord.{CertRecord}
 use Rattle.dist_cert.specs.declared.records.CertRecord.TheVariants.{Question, Installation}
 use Rattle.dist_cert.specs.Form.{Word, record_text, is_end}
-use Rattle.dist_cert.specs.Groups.{clause_of, derived}
+use Rattle.dist_cert.specs.Groups.{clause_of, derived, derived_in}
 use Rattle.dist_cert.specs.Part.{IsNextQuestion}
 use Rattle.dist_cert.specs.PartByRecords.{IsLine}
 use Rattle.dist_cert.specs.Refusal.{lines_text}
@@ -24,6 +24,7 @@ use Rattle.dist_strong.specs.Asking.{AskerView, Holds, IsAsked, IsAt, IsLogAt, I
 use Rattle.dist_strong.specs.Script.{Setting, matter_in, IsWriter, PutMore, PutStops, Stops}
 use Rattle.dist_strong.specs.Words.{closing_line, true_variables}
 use Rattle.dist_strong.proofs.Lists.{pairs-map}
+use Rattle.dist_strong.proofs.Keeping.{keeps-same}
 use Rattle.dist_strong.proofs.Lines.{question-line}
 use Rattle.dist_strong.proofs.OneLine.{BeginsLaw, TwiceLaw, lines-more, one-line, stops-after, stops-for-memory}
 use Rattle.dist_strong.proofs.Answered.{derived-append, none-ended}
@@ -47,7 +48,7 @@ question-next g before question t fits over at next =
 
 may-derive : (g : Setting) (before : List CertRecord) (question : List Word) (t : AskerView) (w : WriterView) → t.log.variables < 2 ^ 32 → IsOver t.log.variables question → PutMore t.writer w (Question question)
     → IsAt g before t → IsNextQuestion (matter_in g) g.header before question → MayDerive g before question t.log t.limit w
-may-derive g before question t w fits over more at next = record { log_at = at.log; writer = more g before at.writer (question-next g before question t fits over at next) }
+may-derive g before question t w fits over more at next = record { log_at = at.log; writer = more g before at.writer (question-next g before question t fits over at next) (keeps-same g.limits before (Question question) refl at.writer.written.kept) }
 
 -- ---- where it stops
 
@@ -99,7 +100,7 @@ reply-holds n question old new limit answers.Undecided replies.Undecided size an
 reply-holds n question old new limit answers.Undecided reply size answered is = absurd is
 
 -- the line of an answer is no derived line and no end
-no-clause : (answer : Answer) → derived (closing_line answer ∷ []) ≡ []
+no-clause : (answer : Answer) → derived_in (closing_line answer) ≡ []
 no-clause (answers.Found values) = refl
 no-clause (answers.Refuted hints) = refl
 no-clause answers.Undecided = refl
@@ -116,7 +117,7 @@ log-closed g before log limit answer at = record {
   ordered = at.ordered;
   present = at.present;
   clauses = at.clauses ∙ ap (λ (cs : List (List Literal)). g.inputs ++ cs)
-      (sym (derived-append before (closing_line answer ∷ []) ∙ ap (λ (cs : List (List Literal)). derived before ++ cs) (no-clause answer) ∙ append-nil (derived before)));
+      (sym (derived-append before (closing_line answer ∷ []) ∙ ap (λ (cs : List (List Literal)). derived before ++ (cs ++ [])) (no-clause answer) ∙ append-nil (derived before)));
   inputs = at.inputs;
   variables = at.variables;
   line_limit = at.line_limit;
@@ -144,6 +145,7 @@ asked twice t s after question first mid later last w behind ends answer reply i
           (twice (lines_text d.between) (ended (record_text (closing_line answer))) mid later last d.grew closed));
       at = record {
         log = subst (λ ls. IsLogAt g ls after t.limit) place (log-closed g (before ++ Question question ∷ d.between) after t.limit answer d.log_at);
-        writer = subst (λ ls. IsWriter g ls ends) place (put g (before ++ Question question ∷ d.between) d.writer d.closing);
+        writer = subst (λ ls. IsWriter g ls ends) place (put g (before ++ Question question ∷ d.between) d.writer d.closing
+            (keeps-same g.limits (before ++ Question question ∷ d.between) (closing_line answer) (no-clause answer) d.writer.written.kept));
       };
     }

@@ -20,6 +20,7 @@ use Rattle.dist_strong.specs.Script.{Setting, matter_in, PutMore, PutStops}
 use Rattle.dist_strong.specs.Settling.{Fits, IsSettling, SettleStops}
 use Rattle.dist_strong.specs.Window.{WindowView, IsWindowAt}
 use Rattle.dist_strong.proofs.Answered.{derived-append, none-ended}
+use Rattle.dist_strong.proofs.Keeping.{keeps-same}
 use Rattle.dist_strong.proofs.GroupLines.{claims-push, group-claim, installations-append}
 use Rattle.dist_strong.proofs.OneLine.{one-line}
 use Rattle.dist_strong.proofs.StrongLine.{strong-line}
@@ -52,7 +53,7 @@ put-claimed g before old new a b w step claim at window kind line is rest grew m
         line_literal_limit = at.log.line_literal_limit;
         not_ended = none-ended before (step ∷ []) at.log.not_ended (ap (λ (e : Bool). e || false) kind.no_end);
       };
-      writer = more g before at.writer line;
+      writer = more g before at.writer line (keeps-same g.limits before step kind.no_clause at.writer.written.kept);
     });
     window = record {
       kept = window.kept ∙ ap (λ (ms : List (List ℕ)). keep_last 1024 ms) (sym same);
@@ -79,7 +80,7 @@ strong-next g before a w kept step fits_variables fits settling none line small 
     (strong-line g before w kept line.left settling.at.log.strong settling.at.log.not_ended (omega (arith, fits_variables, settling.at.log.variables)) settling.window settling.group_at fits.window line.are_left none small)
 
 pub strong-more : (old new : DeskView) (a b : AskerView) (w : WindowView) (kept : GroupView) (step : CertRecord) (claim : Claim) → a.log.variables < 2 ^ 32 → Fits a w kept → HasNoCandidate w kept → IsStrongLine w kept step → w.count < 2 ^ 32
-    → claim_in step ≡ claim ∷ [] → b ≡ record a { writer = b.writer } → FileGrew (ended (record_text step)) old new → PutMore a.writer b.writer step → StrongMore old new a b w kept claim
+    → claim_in step ≡ claim ∷ [] → b ≡ record a { writer = b.writer } → FileGrew (ended (record_text step)) old new → PutMore a.writer b.writer step → StrongMore old new a b w w kept claim
 strong-more old new a b w kept step claim fits_variables fits none line small is rest grew more g before settling =
     put-claimed g before old new a b w step claim settling.at settling.window (strong-kind w kept step line) (strong-next g before a w kept step fits_variables fits settling none line small) is rest grew more
 

@@ -6,7 +6,7 @@ use Rattle.std.proofs.lemmas.List.{take-append-le, take_all}
 use Rattle.std.proofs.lemmas.List.Sums.{sum_by-append}
 use Rattle.dist_clause.specs.ClauseList.{literal_count}
 use Rattle.dist_clause.specs.Formula.{Literal, negation, IsClauseOver, IsModel, value_of}
-use Rattle.dist_derive.specs.ClauseLog.{ClauseLog, inputs_of, lines_of}
+use Rattle.dist_derive.specs.ClauseLog.{ClauseLog, IsWithinLineLimits, inputs_of, lines_of}
 use Rattle.dist_derive.specs.Follows.{Follows}
 use Rattle.dist_derive.specs.New.{EachIsNew, IsNew}
 use Rattle.dist_now.specs.PresentClauses.{ArePresentClauses}
@@ -33,7 +33,7 @@ use Rattle.dist_cert.specs.Writing.{WriterView}
 use Rattle.dist_subject.specs.Installed.{AreTrueOf}
 use Rattle.dist_subject.specs.Present.{matter_of}
 use Rattle.dist_strong.specs.Asking.{IsLogAt, IsDerived, MayDerive, work_of}
-use Rattle.dist_strong.specs.Script.{Setting, matter_in, IsWriter, Stops, PutAll, PutAllStops}
+use Rattle.dist_strong.specs.Script.{Setting, matter_in, IsWriter, KeepsLines, Stops, PutAll, PutAllStops}
 use Rattle.dist_strong.specs.Words.{IsAnswerOver, closing_line, derived_lines, words_of, true_variables}
 use Rattle.dist_strong.proofs.Lines.{all-numbered, derived-line, from-one, installation-line, refuted-line, undecided-line}
 use Rattle.dist_strong.proofs.DerivedLines.{derived-push}
@@ -54,6 +54,18 @@ inputs-are g before log limit at =
 lines-of : (g : Setting) (before : List CertRecord) (log : ClauseLog) (limit : ℕ) → IsLogAt g before log limit → lines_of log ≡ derived before
 lines-of g before log limit at =
     ap (λ (n : ℕ). drop n log.clauses) at.inputs ∙ ap (λ (cs : List (List Literal)). drop (length g.inputs) cs) at.clauses ∙ drop-append_seam g.inputs (derived before)
+
+-- what a log holds keeps the log's limits
+kept-by-log : (g : Setting) (before : List CertRecord) (log : ClauseLog) (limit : ℕ) → IsLogAt g before log limit → IsWithinLineLimits log → KeepsLines g.limits before
+kept-by-log g before log limit at within =
+    let lines = lines-of g before log limit at in
+    record { count = omega (arith, within.lines_within, ap length lines, at.line_limit); literals = omega (arith, within.literals_within, ap literal_count lines, at.line_literal_limit) }
+
+kept-derived : (g : Setting) (before : List CertRecord) (question : List Word) (old new : ClauseLog) (ds : List DerivedLine) (limit : ℕ) → IsLogAt g before old limit
+    → Adds old new ds (clause_of question) limit → IsSmallLog new → KeepsLines g.limits ((before ++ Question question ∷ []) ++ derived_lines new.clauses ds)
+kept-derived g before question old new ds limit at adds small =
+    subst (KeepsLines g.limits) (sym (append_assoc before (Question question ∷ []) (derived_lines new.clauses ds)))
+    (kept-by-log g (before ++ Question question ∷ derived_lines new.clauses ds) new limit (log-derived g before question old new ds limit at adds) small.within)
 
 -- ---- the line of the answer
 
@@ -153,7 +165,7 @@ derives law old new ds assumptions limit first last w after answer adds small an
       grew = grew;
       log_at = log-derived g before question old new ds limit may.log_at adds';
       writer = subst (λ ls. IsWriter g ls after) (append_assoc before (Question question ∷ []) (derived_lines new.clauses ds))
-          (more g (before ++ Question question ∷ []) may.writer (derived-all g before question old new ds limit may.log_at adds' small));
+          (more g (before ++ Question question ∷ []) may.writer (derived-all g before question old new ds limit may.log_at adds' small) (kept-derived g before question old new ds limit may.log_at adds' small));
       closing = closing-next law g before question old new ds limit answer may.log_at adds' small answered';
       answered = answered';
     }
@@ -164,12 +176,13 @@ pub derives-none : BeginsLaw → TwiceLaw → (old new : ClauseLog) (ds : List D
 derives-none begins twice old new ds assumptions limit first last w after error adds small answered grew more g before question is may =
     let adds' = subst (λ a. Adds old new ds a limit) (sym is) adds in
     no-answer begins twice g before question old new ds limit first last after error may.log_at adds' small (subst (λ a. IsAnswer old new a limit (Err error)) (sym is) answered) grew
-    (more g (before ++ Question question ∷ []) may.writer (derived-all g before question old new ds limit may.log_at adds' small))
+    (more g (before ++ Question question ∷ []) may.writer (derived-all g before question old new ds limit may.log_at adds' small) (kept-derived g before question old new ds limit may.log_at adds' small))
 
 pub derives-stopped : (old new : ClauseLog) (ds : List DerivedLine) (assumptions : List Literal) (limit : ℕ) (first last : DeskView) (w : WriterView) (error : WorkError)
     → Adds old new ds assumptions limit → IsSmallLog new → PutAllStops w (derived_lines new.clauses ds) first last error → DerivesNone old assumptions limit first last w error
 derives-stopped old new ds assumptions limit first last w error adds small stops g before question is may =
-    stops g (before ++ Question question ∷ []) may.writer (derived-all g before question old new ds limit may.log_at (subst (λ a. Adds old new ds a limit) (sym is) adds) small)
+    let adds' = subst (λ a. Adds old new ds a limit) (sym is) adds in
+    stops g (before ++ Question question ∷ []) may.writer (derived-all g before question old new ds limit may.log_at adds' small) (kept-derived g before question old new ds limit may.log_at adds' small)
 
 pub answer-over : (old new : ClauseLog) (assumptions : List Literal) (limit : ℕ) (answer : Answer) → IsAnswer old new assumptions limit (Ok answer) → IsAnswerOver old.variables answer
 answer-over old new assumptions limit (Found values) answered = answered.variables

@@ -99,12 +99,12 @@ pub record AreAsked (before : List CertRecord) (question : List Word) (installed
   pub installs : installed_in answer ≡ installed
   pub is : after ≡ before ++ question_lines question between answer
 
-group-after : (before : List CertRecord) (question : List Word) (installed : List (List ℕ)) (after : List CertRecord) (asked : AreAsked before question installed after)
+pub group-after : (before : List CertRecord) (question : List Word) (installed : List (List ℕ)) (after : List CertRecord) (asked : AreAsked before question installed after)
     → group after ≡ group before ++ question_lines question asked.between asked.answer
 group-after before question installed after asked =
     ap group asked.is ∙ group-append before (question_lines question asked.between asked.answer) (question-claims question asked.between asked.answer asked.only_derived asked.answer_line)
 
-count-after : (before : List CertRecord) (question : List Word) (installed : List (List ℕ)) (after : List CertRecord) → AreAsked before question installed after → claim_count after ≡ claim_count before
+pub count-after : (before : List CertRecord) (question : List Word) (installed : List (List ℕ)) (after : List CertRecord) → AreAsked before question installed after → claim_count after ≡ claim_count before
 count-after before question installed after asked =
     ap claim_count asked.is ∙ count-append before (question_lines question asked.between asked.answer) (question-claims question asked.between asked.answer asked.only_derived asked.answer_line)
 
@@ -113,7 +113,7 @@ installed-after before question installed after asked =
     ap installations asked.is ∙ installations-append before (question_lines question asked.between asked.answer)
     ∙ ap (λ (ms : List (List ℕ)). installations before ++ ms) (question-installs question asked.between asked.answer asked.only_derived ∙ asked.installs)
 
-in-group-after : (before : List CertRecord) (question : List Word) (installed : List (List ℕ)) (after : List CertRecord) → AreAsked before question installed after → installations (group after) ≡ installations (group before) ++ installed
+pub in-group-after : (before : List CertRecord) (question : List Word) (installed : List (List ℕ)) (after : List CertRecord) → AreAsked before question installed after → installations (group after) ≡ installations (group before) ++ installed
 in-group-after before question installed after asked =
     ap installations (group-after before question installed after asked) ∙ installations-append (group before) (question_lines question asked.between asked.answer)
     ∙ ap (λ (ms : List (List ℕ)). installations (group before) ++ ms) (question-installs question asked.between asked.answer asked.only_derived ∙ asked.installs)
@@ -124,7 +124,7 @@ closed-after before question installed after other answer asked closed =
     subst (λ ls. IsClosedBy ls other answer) (sym (group-after before question installed after asked))
     (closed-more (group before) (question_lines question asked.between asked.answer) other answer closed)
 
-closed-here : (before : List CertRecord) (question : List Word) (installed : List (List ℕ)) (after : List CertRecord) (asked : AreAsked before question installed after) → IsClosedBy (group after) question asked.answer
+pub closed-here : (before : List CertRecord) (question : List Word) (installed : List (List ℕ)) (after : List CertRecord) (asked : AreAsked before question installed after) → IsClosedBy (group after) question asked.answer
 closed-here before question installed after asked =
     subst (λ ls. IsClosedBy ls question asked.answer) (sym (group-after before question installed after asked)) (closed-now (group before) asked.between question asked.answer asked.only_derived)
 
@@ -141,7 +141,7 @@ unfolding no-of words-of
 same-other p q r e = ap (λ (s : CertRecord). no-of (words-of s)) e
 
 -- a question that was asked
-question-after : (before : List CertRecord) (question other : List Word) (installed : List (List ℕ)) (after : List CertRecord) → AreAsked before question installed after → Contains (group after) (Question other)
+pub question-after : (before : List CertRecord) (question other : List Word) (installed : List (List ℕ)) (after : List CertRecord) → AreAsked before question installed after → Contains (group after) (Question other)
     → Contains (group before) (Question other) ⊎ (Question question ≡ Question other)
 question-after before question other installed after asked there =
     questions-of (group before) asked.between question other asked.answer asked.only_derived asked.answer_line

@@ -1,4 +1,5 @@
 mod Lists
+mod Keeping
 mod Opened
 mod Lines
 mod OneLine
@@ -14,3 +15,16 @@ mod SettleSteps
 mod ClaimLines
 mod StrongLine
 mod ClaimSteps
+mod FewNumbers
+mod Fronts
+mod KeptLines
+mod BudgetCounts
+mod BudgetQuestions
+mod BudgetWidths
+mod Budgets
+mod Claimed
+mod FirstLine
+mod SweepLines
+mod Parts
+mod SweptFile
+mod Begun

@@ -17,7 +17,7 @@ use Rattle.dist_cert.specs.Form.{record_text, header_text}
 use Rattle.dist_cert.specs.PartByRecords.{IsLine, IsShortLine}
 use Rattle.dist_cert.specs.Refusal.{line_feed, lines_text, certificate_text}
 use Rattle.dist_cert.specs.Writing.{WriterView, HasRoom, PutAnswers, WritesNothing, ended, after_line}
-use Rattle.dist_strong.specs.Script.{Setting, matter_in, AllNext, AreWritten, IsWriter, IsCutOff, StopsBy, Stops, PutMore, PutStops}
+use Rattle.dist_strong.specs.Script.{Setting, matter_in, AllNext, AreWritten, IsWriter, IsCutOff, KeepsLines, StopsBy, Stops, PutMore, PutStops}
 
 -- ---- one line more
 
@@ -32,23 +32,26 @@ lines-more lines more = flat_map-append (λ step. record_text step ++ line_feed 
 pub one-line : (step : CertRecord) → lines_text (step ∷ []) ≡ ended (record_text step)
 one-line step = append-nil (record_text step ++ line_feed ∷ [])
 
+pub certificate-push : (h : Header) (before : List CertRecord) (step : CertRecord) → certificate_text h (before ++ step ∷ []) ≡ certificate_text h before ++ ended (record_text step)
+certificate-push h before step =
+    ap (λ (text : List ℕ). header_text h ++ line_feed ∷ text) (lines-more before (step ∷ []) ∙ ap (λ (text : List ℕ). lines_text before ++ text) (one-line step))
+    ∙ sym (append_assoc (header_text h) (line_feed ∷ lines_text before) (ended (record_text step)))
+
 certificate-more : (h : Header) (before : List CertRecord) (step : CertRecord) → length (certificate_text h (before ++ step ∷ [])) ≡ length (certificate_text h before) + length (ended (record_text step))
-certificate-more h before step =
-    let whole : certificate_text h (before ++ step ∷ []) ≡ certificate_text h before ++ ended (record_text step)
-    = ap (λ (text : List ℕ). header_text h ++ line_feed ∷ text) (lines-more before (step ∷ []) ∙ ap (λ (text : List ℕ). lines_text before ++ text) (one-line step))
-    ∙ sym (append_assoc (header_text h) (line_feed ∷ lines_text before) (ended (record_text step))) in
-    ap length whole ∙ length-append (certificate_text h before) (ended (record_text step))
+certificate-more h before step = ap length (certificate-push h before step) ∙ length-append (certificate_text h before) (ended (record_text step))
 
 short-line : (g : Setting) (step : CertRecord) (limit : ℕ) → limit ≡ g.limits.record_line → length (ended (record_text step)) ≤ limit → IsShortLine g.limits step
 short-line g step limit is within = omega (arith, is, within, length-append (record_text step) (10 ∷ []))
 
-pub writer-more : (g : Setting) (before : List CertRecord) (step : CertRecord) (w after : WriterView) → IsWriter g before w → IsLine (matter_in g) g.header before step → HasRoom w (ended (record_text step))
-    → after ≡ after_line w (ended (record_text step)) → IsWriter g (before ++ step ∷ []) after
-writer-more g before step w after writer line room counted = record {
+pub writer-more : (g : Setting) (before : List CertRecord) (step : CertRecord) (w after : WriterView) → IsWriter g before w → IsLine (matter_in g) g.header before step → KeepsLines g.limits (before ++ step ∷ [])
+    → HasRoom w (ended (record_text step)) → after ≡ after_line w (ended (record_text step)) → IsWriter g (before ++ step ∷ []) after
+writer-more g before step w after writer line kept room counted = record {
   written = record {
     next = next-push g [] before step writer.written.next line;
     short = All-push (IsShortLine g.limits) before step writer.written.short (short-line g step w.line_limit (ap (λ (v : WriterView). v.line_limit) writer.stands) room.line_within);
     header_short = writer.written.header_short;
+    kept = kept;
+    bytes = omega (arith, certificate-more g.header before step, room.whole_within, ap (λ (v : WriterView). v.whole_limit) writer.stands, ap (λ (v : WriterView). v.written) writer.stands);
   };
   stands = counted ∙ ap (λ (v : WriterView). after_line v (ended (record_text step))) writer.stands
       ∙ ap (λ (n : ℕ). record { line_limit = g.limits.record_line; whole_limit = g.limits.certificate; written = n }) (sym (certificate-more g.header before step));
@@ -56,7 +59,7 @@ writer-more g before step w after writer line room counted = record {
 
 pub put-more : (w after : WriterView) (step : CertRecord) (old new : DeskView) (result : Result (Unit {0}) WorkError) → PutAnswers w (ended (record_text step)) old new result
     → OnOk result (after ≡ after_line w (ended (record_text step))) → OnOk result (PutMore w after step)
-put-more w after step old new (Ok u) answers counted = λ g before writer line. writer-more g before step w after writer line answers counted
+put-more w after step old new (Ok u) answers counted = λ g before writer line kept. writer-more g before step w after writer line kept answers counted
 put-more w after step old new (Err error) answers counted = tt
 
 -- ---- where it stops
@@ -109,11 +112,11 @@ put-stops begins w step old new (Err error) answers nothing front = absurd answe
 
 -- ---- stops behind more lines
 
-rose-later : (old mid new : ℕ) → old ≤ mid → mid ≤ new → Rose mid new → Rose old new
+pub rose-later : (old mid new : ℕ) → old ≤ mid → mid ≤ new → Rose mid new → Rose old new
 rose-later old mid new first second (inl less) = inl (omega arith)
 rose-later old mid new first second (inr full) = elim (cases_lt old mid) [ inl less ↦ inl (omega arith) | inr past ↦ inr (omega arith) ]
 
-by-later : (g : Setting) (lines : List CertRecord) (cut : List ℕ) (old mid new : DeskView) (error : WorkError) → WriteCounts old mid → WriteCounts mid new → StopsBy g lines cut mid new error → StopsBy g lines cut old new error
+pub by-later : (g : Setting) (lines : List CertRecord) (cut : List ℕ) (old mid new : DeskView) (error : WorkError) → WriteCounts old mid → WriteCounts mid new → StopsBy g lines cut mid new error → StopsBy g lines cut old new error
 by-later g lines cut old mid new WriteFault first second by = rose-later old.write_faults mid.write_faults new.write_faults first.write_faults_stand second.write_faults_stand by
 by-later g lines cut old mid new (TooLarge what) first second by = by
 by-later g lines cut old mid new NoMemory first second by = tt

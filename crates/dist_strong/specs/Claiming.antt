@@ -48,6 +48,6 @@ pub record IsStrongLine (w : WindowView) (group : GroupView) (step : CertRecord)
   pub are_left : AreLeft w group left
   pub is : step ≡ Strong group.claimed (numbers_of w group.claimed) (true_variables group.refuted) left
 
--- the claim on strong dependencies was written behind the lines of its group
-abbrev pub StrongMore : DeskView → DeskView → AskerView → AskerView → WindowView → GroupView → Claim → Type 0
-StrongMore old new a b w kept claim = (g : Setting) (before : List CertRecord) → IsSettling g before a w kept → IsClaimed g before old new b w claim
+-- the claim on strong dependencies was written behind the lines of its group, and those that it still needed
+abbrev pub StrongMore : DeskView → DeskView → AskerView → AskerView → WindowView → WindowView → GroupView → Claim → Type 0
+StrongMore old new a b w v kept claim = (g : Setting) (before : List CertRecord) → IsSettling g before a w kept → IsClaimed g before old new b v claim

@@ -1,5 +1,5 @@
 -- What is kept of the group of a claim.
-use Rattle.std.specs.Prelude.{◌≡◌, ◌==◌, ◌&&◌, ◌<◌, ◌≤◌, ℕ, Bool, true, List, All, AllPairs, Contains, filter, length, not}
+use Rattle.std.specs.Prelude.{◌≡◌, ◌==◌, ◌&&◌, ◌<◌, ◌≤◌, ℕ, Bool, true, false, List, All, AllPairs, Contains, filter, length, not, replicate}
 use Rattle.std.specs.List.{range_with_len}
 use Rattle.dist_clause.specs.Formula.{value_of}
 use Rattle.dist_strong.specs.Window.{WindowView}
@@ -12,6 +12,16 @@ pub record GroupView : Type 0 where
   pub common : List Bool
   pub refuted : List Bool
   pub undecided : List Bool
+
+-- the group of a package over so many variables, with its first installation
+abbrev pub new_group : ℕ → ℕ → List Bool → GroupView
+new_group p variables values = record {
+  claimed = p;
+  variables = variables;
+  common = values;
+  refuted = replicate variables false;
+  undecided = replicate variables false;
+}
 
 -- another package is in all installations of the group and was not asked for
 abbrev pub is_open : GroupView → ℕ → Bool

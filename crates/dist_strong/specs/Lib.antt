@@ -6,3 +6,5 @@ pub mod Group
 pub mod Settling
 pub mod Claiming
 pub mod Sweep
+pub mod Budget
+pub mod Sweeping

@@ -1,6 +1,7 @@
 -- The lines that were written so far, and where the writing stops.
-use Rattle.std.specs.Prelude.{◌≡◌, ◌⊎◌, ℕ, ◌<◌, List, [], ◌∷◌, ◌++◌, All, length}
+use Rattle.std.specs.Prelude.{◌≡◌, ◌⊎◌, ℕ, ◌<◌, ◌≤◌, List, [], ◌∷◌, ◌++◌, All, length}
 use Rattle.dist_base.specs.Front.{IsFrontOf}
+use Rattle.dist_clause.specs.ClauseList.{literal_count}
 use Rattle.dist_clause.specs.Formula.{Literal}
 use Rattle.dist_outside.specs.Counts.{Rose}
 use Rattle.dist_outside.specs.DeskView.{DeskView, FileGrew}
@@ -11,6 +12,7 @@ use Rattle.dist_repo.specs.PackageList.{PackageList}
 use Rattle.dist_cert.specs.declared.records.CertRecord.{CertRecord}
 use Rattle.dist_cert.specs.declared.records.Header.{Header}
 use Rattle.dist_cert.specs.Form.{record_text, header_text}
+use Rattle.dist_cert.specs.Groups.{derived}
 use Rattle.dist_cert.specs.Part.{Passes}
 use Rattle.dist_cert.specs.PartByRecords.{IsLine, IsShortLine}
 use Rattle.dist_cert.specs.Refusal.{lines_text, certificate_text}
@@ -33,11 +35,18 @@ abbrev pub AllNext : Setting → List CertRecord → List CertRecord → Type 0
 AllNext g before [] = Unit {0}
 AllNext g before (step ∷ steps) = IsLine (matter_in g) g.header before step × AllNext g (before ++ step ∷ []) steps
 
--- Lines that may be written so far, each within the limit.
+-- The derived lines, and the literals in them, keep the numbers.
+pub record KeepsLines (limits : Limits) (lines : List CertRecord) : Type 0 where
+  pub count : length (derived lines) ≤ limits.lines
+  pub literals : literal_count (derived lines) ≤ limits.line_literals
+
+-- Lines that may be written so far. They pass no number.
 pub record AreWritten (g : Setting) (lines : List CertRecord) : Type 0 where
   pub next : AllNext g [] lines
   pub short : All (IsShortLine g.limits) lines
   pub header_short : length (header_text g.header) < g.limits.record_line
+  pub kept : KeepsLines g.limits lines
+  pub bytes : length (certificate_text g.header lines) ≤ g.limits.certificate
 
 -- the writer behind some lines
 abbrev pub writer_at : Setting → List CertRecord → WriterView
@@ -79,9 +88,10 @@ Grows old new = (bytes : List ℕ) × FileGrew bytes old new
 
 -- ---- putting one line
 
--- Where the writer stood behind some lines, and the line may come next, it stands behind the line.
+-- Where the writer stood behind some lines, and the line may come next and keeps the numbers, it stands behind the line.
 abbrev pub PutMore : WriterView → WriterView → CertRecord → Type 0
-PutMore w after step = (g : Setting) (before : List CertRecord) → IsWriter g before w → IsLine (matter_in g) g.header before step → IsWriter g (before ++ step ∷ []) after
+PutMore w after step = (g : Setting) (before : List CertRecord) → IsWriter g before w → IsLine (matter_in g) g.header before step
+    → KeepsLines g.limits (before ++ step ∷ []) → IsWriter g (before ++ step ∷ []) after
 
 -- or the writing stops there
 abbrev pub PutStops : WriterView → CertRecord → DeskView → DeskView → WorkError → Type 0
@@ -90,11 +100,11 @@ PutStops w step old new error = (g : Setting) (before : List CertRecord) → IsW
 -- ---- putting lines one after another
 
 abbrev pub PutAll : WriterView → WriterView → List CertRecord → Type 0
-PutAll w after steps = (g : Setting) (before : List CertRecord) → IsWriter g before w → AllNext g before steps → IsWriter g (before ++ steps) after
+PutAll w after steps = (g : Setting) (before : List CertRecord) → IsWriter g before w → AllNext g before steps → KeepsLines g.limits (before ++ steps) → IsWriter g (before ++ steps) after
 
 abbrev pub PutAllStops : WriterView → List CertRecord → DeskView → DeskView → WorkError → Type 0
-PutAllStops w steps old new error = (g : Setting) (before : List CertRecord) → IsWriter g before w → AllNext g before steps → Stops g before old new error
+PutAllStops w steps old new error = (g : Setting) (before : List CertRecord) → IsWriter g before w → AllNext g before steps → KeepsLines g.limits (before ++ steps) → Stops g before old new error
 
 -- the writer stands behind a front of them
 abbrev pub PutFront : WriterView → WriterView → (steps front : List CertRecord) → Type 0
-PutFront w after steps front = (g : Setting) (before : List CertRecord) → IsWriter g before w → AllNext g before steps → IsWriter g (before ++ front) after
+PutFront w after steps front = (g : Setting) (before : List CertRecord) → IsWriter g before w → AllNext g before steps → KeepsLines g.limits (before ++ steps) → IsWriter g (before ++ front) after

@@ -1,11 +1,11 @@
 //! Questions, each with its lines.
-ghost use Rattle.std.specs.Prelude.{◌≡◌, ◌≤◌, List, [], ◌∷◌, ◌++◌, IfErr, IfOk, OnOk};
-ghost use Rattle.dist_base.specs.declared.TheConstants.{MAX_VARIABLES};
+ghost use Rattle.std.specs.Prelude.{◌≡◌, ◌≤◌, List, [], ◌∷◌, ◌++◌, IfErr, IfOk, OnOk, length};
+ghost use Rattle.dist_base.specs.declared.TheConstants.{MAX_LINES, MAX_LINE_LITERALS, MAX_VARIABLES};
 ghost use Rattle.dist_clause.specs.Formula.{IsClauseOver};
 ghost use Rattle.dist_outside.specs.DeskView.{FileGrew};
 ghost use Rattle.dist_outside.specs.Files.{IsWriting};
 ghost use Rattle.dist_solver.specs.Ask.{IsAnswer};
-ghost use Rattle.dist_cert.specs.Form.{KeepsRules, Word, record_text};
+ghost use Rattle.dist_cert.specs.Form.{KeepsLimit, KeepsRules, Word, header_text, record_text};
 ghost use Rattle.dist_cert.specs.Groups.{clause_of};
 ghost use Rattle.dist_cert.specs.Part.{IsNextQuestion};
 ghost use Rattle.dist_cert.specs.Writing.{ended};
@@ -13,13 +13,14 @@ ghost use Rattle.dist_cert.specs.declared.records.CertRecord.{CertRecord};
 ghost use Rattle.dist_cert.specs.declared.records.CertRecord.TheVariants.{Question};
 ghost use Rattle.dist_strong.specs.Asking.{Holds, IsAsked, IsAt, IsDerived, IsOver, IsReplyOf, MayDerive, work_of};
 ghost use Rattle.dist_strong.specs.Script.{Grows, PutMore, PutStops, Setting, Stops, matter_in};
+ghost use Rattle.dist_strong.specs.Sweeping.{HeaderMore, HeaderStops, new_writer};
 ghost use Rattle.dist_strong.specs.Words.{IsAnswerOver, closing_line};
 
 use crate::putting::{put_derived, put_line};
 use crate::words::{clause_of, true_variables};
-use dist_cert::{CertRecord, Items, Writer};
-use dist_clause::{Assignment, Lit};
-use dist_outside::{Desk, What, WorkError, file_grows};
+use dist_cert::{CertRecord, Header, Items, Writer};
+use dist_clause::{Assignment, ClauseSet, Lit};
+use dist_outside::{Desk, Limits, What, WorkError, file_grows};
 use dist_solver::{Answer, AskError, Solver};
 use dist_subject::models_are_healthy;
 use std::alloc::{AllocError, Global};
@@ -173,12 +174,59 @@ fn put_answer<D: Desk>(
 }
 
 impl Asker {
+    /// An asker that has asked and written nothing.
+    pub(crate) fn new(
+        alloc: Global,
+        clauses: ClauseSet,
+        limit: u32,
+        limits: &Limits,
+    ) -> Result<Asker, AllocError>
+        requires lines { limits.now.lines ≤ MAX_LINES }
+        requires line_literals { limits.now.line_literals ≤ MAX_LINE_LITERALS }
+        ensures { IfOk result (λ asker. asker ≡ record {
+          log = record {
+            clauses = clauses.clauses;
+            inputs = length clauses.clauses;
+            variables = clauses.variables;
+            line_limit = limits.now.lines;
+            line_literal_limit = limits.now.line_literals;
+          };
+          writer = new_writer limits.now;
+          limit = limit;
+        }) }
+    {
+        Ok(Asker {
+            alloc,
+            solver: Solver::new(alloc, clauses, limits.lines, limits.line_literals)?,
+            writer: Writer::new(alloc, limits),
+            limit,
+        })
+    }
+
     /// How many variables there are.
     pub(crate) fn variables(&self) -> u32
         ensures value { result ≡ self.now.log.variables }
         ensures stated { result ≤ MAX_VARIABLES }
     {
         self.solver.log().variables()
+    }
+
+    /// Puts the first line.
+    pub(crate) fn put_header<D: Desk>(
+        &mut self,
+        desk: &mut D,
+        header: &Header,
+    ) -> Result<(), WorkError>
+        requires writing { IsWriting (D.view desk.old).mode }
+        requires form { KeepsLimit header.now }
+        ensures rest { self.new ≡ record self.old { writer = self.new.writer } }
+        ensures grew { OnOk result (FileGrew (ended (header_text header.now)) (D.view desk.old) (D.view desk.new)) }
+        ensures ok { OnOk result (HeaderMore self.old.writer self.new.writer header.now) }
+        ensures err { IfErr result (HeaderStops self.old.writer header.now (D.view desk.old) (D.view desk.new)) }
+        ensures grows { Grows (D.view desk.old) (D.view desk.new) }
+    {
+        file_grows();
+        self.writer.put_header(desk, header)
     }
 
     /// Puts a line that is none of a question.

@@ -1,19 +1,22 @@
 //! The claim on one package, with the questions that it needs before it.
-ghost use Rattle.std.specs.Prelude.{◌≡◌, ◌^◌, ◌<◌, ◌≤◌, [], ◌∷◌, Any, IfErr, IfOk, true};
+ghost use Rattle.std.specs.Prelude.{◌≡◌, ◌+◌, ◌^◌, ◌<◌, ◌≤◌, [], ◌∷◌, ◌++◌, Any, IfErr, IfOk, OnOk, length, true};
+ghost use Rattle.circular_buffer.specs.Buffer.{keep_last};
 ghost use Rattle.dist_clause.specs.Formula.{value_of};
 ghost use Rattle.dist_outside.specs.Files.{IsWriting};
 ghost use Rattle.dist_cert.specs.Accepted.{claim_in, from_zero};
 ghost use Rattle.dist_cert.specs.ClaimRules.{yes};
 ghost use Rattle.dist_cert.specs.Form.{AreFromOne, KeepsRules};
-ghost use Rattle.dist_strong.specs.Claiming.{IsStrongLine, StrongMore};
-ghost use Rattle.dist_strong.specs.Group.{HasNoCandidate};
+ghost use Rattle.dist_strong.specs.Claiming.{ClaimMore, ClaimStops, IsStrongLine, StrongMore, Suits};
+ghost use Rattle.dist_strong.specs.Group.{HasNoCandidate, new_group};
 ghost use Rattle.dist_strong.specs.Script.{Grows};
 ghost use Rattle.dist_strong.specs.Settling.{Fits, SettleStops};
 
-use crate::asker::Asker;
+use crate::asker::{Asker, Reply};
 use crate::group::Group;
+use crate::settling::ask_candidates;
 use crate::window::Window;
 use dist_cert::{CertRecord, Claim, Items, Numbers};
+use dist_clause::Assignment;
 use dist_outside::{Desk, WorkError, file_grows};
 use std::alloc::{AllocError, Global};
 
@@ -77,7 +80,7 @@ fn put_strong<D: Desk>(
     requires writing { IsWriting (D.view desk.old).mode }
     requires fits { Fits asker.old window.now group.now }
     requires done { HasNoCandidate window.now group.now }
-    ensures ok { IfOk result (StrongMore (D.view desk.old) (D.view desk.new) asker.old asker.new window.now group.now) }
+    ensures ok { IfOk result (StrongMore (D.view desk.old) (D.view desk.new) asker.old asker.new window.now window.now group.now) }
     ensures err { IfErr result (SettleStops (D.view desk.old) (D.view desk.new) asker.old window.now group.now) }
     ensures limit { asker.new.limit ≡ asker.old.limit }
     ensures variables { asker.new.log.variables ≡ asker.old.log.variables }
@@ -88,4 +91,76 @@ fn put_strong<D: Desk>(
     let (step, claim) = strong_line(alloc, window, group)?;
     asker.put(desk, &step)?;
     Ok(claim)
+}
+
+/// Asks for each candidate of a group and puts its claim.
+fn claim_group<D: Desk>(
+    alloc: Global,
+    asker: &mut Asker,
+    window: &mut Window,
+    group: &mut Group,
+    desk: &mut D,
+) -> Result<Claim, WorkError>
+    requires writing { IsWriting (D.view desk.old).mode }
+    requires fits { Fits asker.old window.old group.old }
+    ensures ok { IfOk result (StrongMore (D.view desk.old) (D.view desk.new) asker.old asker.new window.old window.new group.old) }
+    ensures err { IfErr result (SettleStops (D.view desk.old) (D.view desk.new) asker.old window.old group.old) }
+    ensures suits { OnOk result (Suits asker.new window.new group.old.claimed) }
+    ensures variables { OnOk result (window.new.variables ≡ window.old.variables) }
+    ensures grows { Grows (D.view desk.old) (D.view desk.new) }
+{
+    file_grows();
+    ask_candidates(alloc, asker, window, group, desk)?;
+    put_strong(alloc, asker, window, group, desk)
+}
+
+/// The group of a claim with its first installation, which is the latest of all.
+fn first_group(
+    alloc: Global,
+    window: &mut Window,
+    package: u32,
+    values: Assignment,
+) -> Result<Group, AllocError>
+    requires { length values ≡ window.old.variables }
+    ensures group { IfOk result (λ kept. kept ≡ new_group «package» window.old.variables values) }
+    ensures window { OnOk result (window.new ≡ record window.old { kept = keep_last 1024 (window.old.kept ++ values ∷ []); count = window.old.count + 1 }) }
+{
+    let group = Group::new(alloc, package, &values, window.variables())?;
+    window.add(values)?;
+    Ok(group)
+}
+
+/// Asks all that the claim on a package needs and puts its lines, the claim last.
+pub(crate) fn settle<D: Desk>(
+    alloc: Global,
+    asker: &mut Asker,
+    window: &mut Window,
+    desk: &mut D,
+    package: u32,
+) -> Result<Claim, WorkError>
+    requires writing { IsWriting (D.view desk.old).mode }
+    requires suits { Suits asker.old window.old «package» }
+    ensures ok { IfOk result (ClaimMore «package» (D.view desk.old) (D.view desk.new) asker.old asker.new window.old window.new) }
+    ensures err { IfErr result (ClaimStops «package» (D.view desk.old) (D.view desk.new) asker.old window.old) }
+    ensures suits { OnOk result (Suits asker.new window.new «package») }
+    ensures variables { OnOk result (window.new.variables ≡ window.old.variables) }
+    ensures grows { Grows (D.view desk.old) (D.view desk.new) }
+{
+    file_grows();
+    let _stated = asker.variables();
+    let question = alone(alloc, package)?;
+    match asker.ask(desk, &question)? {
+        Reply::Found(values) => {
+            let mut group = first_group(alloc, window, package, values)?;
+            claim_group(alloc, asker, window, &mut group, desk)
+        }
+        Reply::Refuted => {
+            asker.put(desk, &CertRecord::NotInstallable(package))?;
+            Ok(Claim::Uninstallable)
+        }
+        Reply::Undecided => {
+            asker.put(desk, &CertRecord::Unknown(package))?;
+            Ok(Claim::Unknown)
+        }
+    }
 }

@@ -1,7 +1,7 @@
 //! What is kept of the group of a claim.
-ghost use Rattle.std.specs.Prelude.{◌≡◌, ◌-◌, ◌≤◌, ◌&&◌, ◌↔◌, ℕ, IfOk, IfSome, IsTrue, None, length, replicate, slice_set, true, false};
+ghost use Rattle.std.specs.Prelude.{◌≡◌, ◌-◌, ◌≤◌, ◌&&◌, ◌↔◌, ℕ, IfOk, IfSome, IsTrue, None, length, slice_set, true};
 ghost use Rattle.dist_clause.specs.Formula.{value_of};
-ghost use Rattle.dist_strong.specs.Group.{AreLeft, GroupView, IsCandidate, IsLeft, IsNarrowed, is_open};
+ghost use Rattle.dist_strong.specs.Group.{AreLeft, GroupView, IsCandidate, IsLeft, IsNarrowed, is_open, new_group};
 ghost use Rattle.dist_strong.specs.Words.{true_variables};
 
 use crate::window::Window;
@@ -65,13 +65,7 @@ impl Group {
         variables: u32,
     ) -> Result<Group, AllocError>
         requires { length values.now ≡ variables }
-        ensures { IfOk result (λ g. g ≡ record {
-          claimed = «package»;
-          variables = variables;
-          common = values.now;
-          refuted = replicate variables false;
-          undecided = replicate variables false;
-        }) }
+        ensures { IfOk result (λ g. g ≡ new_group «package» variables values.now) }
     {
         Ok(Group {
             claimed: package,

@@ -2,12 +2,16 @@
 #![tactic(auto)]
 
 mod asker;
+mod budget_laws;
 mod claiming;
 mod group;
 mod putting;
 mod settling;
 mod sweep;
+#[cfg(test)]
+mod tests;
 mod window;
 mod words;
 
+pub use budget_laws::budgets_are_enough;
 pub use sweep::strong;

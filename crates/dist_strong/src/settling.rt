@@ -73,6 +73,7 @@ pub(crate) fn ask_candidates<D: Desk>(
     ensures err { IfErr result (SettleStops (D.view desk.old) (D.view desk.new) asker.old window.old group.old) }
     ensures done { OnOk result (HasNoCandidate window.new group.new) }
     ensures fits { OnOk result (Fits asker.new window.new group.new) }
+    ensures variables { OnOk result (group.new.variables ≡ group.old.variables) }
     ensures grows { Grows (D.view desk.old) (D.view desk.new) }
 {
     file_grows();

@@ -44,6 +44,13 @@ impl Window {
         })
     }
 
+    /// How many variables there are.
+    pub(crate) fn variables(&self) -> u32
+        ensures { result ≡ self.now.variables }
+    {
+        self.variables
+    }
+
     /// Adds an installation as the latest one. More than 4,294,967,295 installations in all are want of memory too.
     pub(crate) fn add(&mut self, values: Assignment) -> Result<(), AllocError>
         requires { length values ≡ self.old.variables }

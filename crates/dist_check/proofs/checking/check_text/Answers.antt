@@ -6,9 +6,10 @@ use Rattle.dist_cert.specs.declared.faults.ReadCertError.{ReadCertError}
 use Rattle.dist_cert.specs.declared.faults.ReadCertError.TheVariants.{Work}
 use Rattle.dist_cert.specs.Reading.{text_left}
 use Rattle.dist_check.specs.declared.checking.Checked.{Checked}
-use Rattle.dist_check.specs.Checking.{TextAnswers, TextCause, OfText}
+use Rattle.dist_check.specs.Checking.{LargeCause, TextAnswers, TextCause, OfText}
 use Rattle.dist_check.proofs.CheckSteps.{by-exit, header-stops, start-stops, starts-checked}
 use Rattle.dist_check.proofs.CheckText.{nothing-read, stops-alike, completed-alike, later-cause, no-memory}
+use Rattle.dist_check.proofs.LargeCauses.{header-large, start-large}
 use Rattle.dist_check.proofs.checking.check_text.Goals as goal
 
 pub returns-in_err-header-clause-text : goal.returns-in_err-header-clause-text
@@ -75,3 +76,22 @@ returns-clause-text g c =
     c.in_ok-header.ensures.gives c.in_ok-state.ensures in
     completed-alike (λ (x : Checked). x.header) (λ (x : Checked). x.claims) c.args.repo.now c.args.limits.now told c.in_ok-header.header c.take_lines.new.state.claims
     (record { header = c.in_ok-header.header; claims = c.into_claims.result }) refl c.into_claims.ensures (c.in_ok-take_lines.ensures.text told checked)
+
+pub returns-in_err-header-clause-large : goal.returns-in_err-header-clause-large
+returns-in_err-header-clause-large g c =
+    by-exit (λ (r : Result Checked ReadCertError). IfErr r (LargeCause c.args.repo.now c.args.limits.now)) c.from_residual.result c.in_err-header.field-0.0 c.from_residual.ensures.1
+    (header-large c.args.repo.now c.args.limits.now c.new-reader.result c.header.new.self (g.D.Desk.view c.args.desk.now) (g.D.Desk.view c.header.new.desk) c.in_err-header.field-0.0 c.in_err-header.ensures.cause)
+
+pub returns-in_err-state-clause-large : goal.returns-in_err-state-clause-large
+returns-in_err-state-clause-large g c =
+    by-exit (λ (r : Result Checked ReadCertError). IfErr r (LargeCause c.args.repo.now c.args.limits.now)) c.from_residual-in_err-state.result c.in_err-state.field-0.0 c.from_residual-in_err-state.ensures.1
+    (start-large c.args.repo.now c.args.limits.now c.in_ok-header.header c.in_err-state.field-0.0 c.in_err-state.ensures)
+
+pub returns-in_err-tools-clause-large : goal.returns-in_err-tools-clause-large
+returns-in_err-tools-clause-large g c =
+    by-exit (λ (r : Result Checked ReadCertError). IfErr r (LargeCause c.args.repo.now c.args.limits.now)) c.from_residual-in_err-tools.result (Work NoMemory) c.from_residual-in_err-tools.ensures.1 tt
+
+pub returns-in_err-take_lines-clause-large : goal.returns-in_err-take_lines-clause-large
+returns-in_err-take_lines-clause-large g c =
+    by-exit (λ (r : Result Checked ReadCertError). IfErr r (LargeCause c.args.repo.now c.args.limits.now)) c.from_residual-in_err-take_lines.result c.in_err-take_lines.field-0.0 c.from_residual-in_err-take_lines.ensures.1
+    c.in_err-take_lines.ensures.large

@@ -1,11 +1,12 @@
-use Rattle.std.proofs.Common.{◌∙◌, List, ℕ, Option, None, Result, Ok, arith, ap, refl, sym, subst}
+use Rattle.std.proofs.Common.{◌∙◌, List, ℕ, Option, None, Result, Ok, IfErr, arith, ap, refl, sym, subst}
 use Rattle.dist_outside.specs.DeskView.{DeskView}
 use Rattle.dist_cert.specs.declared.faults.ReadCertError.{ReadCertError}
 use Rattle.dist_cert.specs.declared.records.CertRecord.{CertRecord}
 use Rattle.dist_cert.specs.Reading.{ReaderView, RecordAnswers, RecordCause, GivesRecord, WhereTold, text_left}
-use Rattle.dist_check.specs.Checking.{TextAnswers, OfText}
+use Rattle.dist_check.specs.Checking.{LargeCause, TextAnswers, OfText}
 use Rattle.dist_check.proofs.CheckState.{next-stops, completes, means-at, count-fits}
 use Rattle.dist_check.proofs.CheckSteps.{by-exit, line-stops, next-checked, limits-stay, packages-stay, reads-on}
+use Rattle.dist_check.proofs.LargeCauses.{record-large, line-large}
 use Rattle.dist_check.proofs.checking.take_lines.Goals as goal
 
 pub returns-in_err-step-clause-text : goal.returns-in_err-step-clause-text
@@ -71,3 +72,13 @@ returns-in_err-take_line-clause-text g c = λ told x.
     (line-stops c.forms_are_clear.ensures c.args.repo.now c.args.limits.now told c.args.header.now c.lines.reader c.next.new.self left after c.lines.state old new (c.lines.invariant.told told x) c.lines-within.ensures.within
     c.in-Some.step answers cause c.lines-line.result (c.lines-line.ensures.value ∙ ap (λ (v : ReaderView). v.lines) gives) (λ (u : Unit {0}). c.args.header.now) (λ (u : Unit {0}). c.take_line.new.state.claims) c.in_err-take_line.field-0.0
     c.in_err-take_line.ensures.err)
+
+pub returns-in_err-step-clause-large : goal.returns-in_err-step-clause-large
+returns-in_err-step-clause-large g c =
+    by-exit (λ (r : Result (Unit {0}) ReadCertError). IfErr r (LargeCause c.args.repo.now c.args.limits.now)) c.from_residual.result c.in_err-step.field-0.0 c.from_residual.ensures.1
+    (record-large c.args.repo.now c.args.limits.now c.lines.reader c.next.new.self (g.D.Desk.view c.lines.desk) (g.D.Desk.view c.next.new.desk) c.in_err-step.field-0.0 c.in_err-step.ensures.cause)
+
+pub returns-in_err-take_line-clause-large : goal.returns-in_err-take_line-clause-large
+returns-in_err-take_line-clause-large g c =
+    by-exit (λ (r : Result (Unit {0}) ReadCertError). IfErr r (LargeCause c.args.repo.now c.args.limits.now)) c.from_residual-in_err-take_line.result c.in_err-take_line.field-0.0 c.from_residual-in_err-take_line.ensures.1
+    (line-large c.args.repo.now c.args.limits.now c.lines.state c.in-Some.step c.lines-line.result c.in_err-take_line.field-0.0 c.in_err-take_line.ensures.err)

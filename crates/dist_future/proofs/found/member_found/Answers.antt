@@ -1,5 +1,5 @@
 use Rattle.std.proofs.Common.{◌≡◌, ℕ, length, ap, ◌∙◌, arith}
-use Rattle.dist_future.specs.Space.{cluster_classes, member_classes}
+use Rattle.dist_space.specs.Space.{cluster_classes, member_classes}
 use Rattle.dist_future.proofs.FoundLemmas.{VersionFound, member-all}
 use Rattle.dist_future.proofs.Leasts.{least-more}
 use Rattle.dist_future.proofs.found.member_found.Goals as goal

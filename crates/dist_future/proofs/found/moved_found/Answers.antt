@@ -3,9 +3,9 @@ use Rattle.std.specs.Prelude.{Contains}
 use Rattle.std.proofs.lemmas.Bool.{false≢true}
 use Rattle.std.proofs.lemmas.List.{get_or_default}
 use Rattle.dist_repo.specs.Providers.{IsProvider}
-use Rattle.dist_future.proofs.Lists.{within-from}
+use Rattle.dist_space.specs.ListLaws.{within-from}
 use Rattle.dist_future.specs.Least.{IsLeastIfAny}
-use Rattle.dist_future.specs.Gathering.{IsLaterOf}
+use Rattle.dist_space_clauses.specs.Gathering.{IsLaterOf}
 use Rattle.dist_future.specs.Matching.{IsMovedBut}
 use Rattle.dist_future.proofs.FoundLemmas.{OneOf, moved-one, moved-provided, none-moved, providers-all}
 use Rattle.dist_future.proofs.Leasts.{Before, least-more, least-skip}

@@ -1,5 +1,5 @@
 use Rattle.dist_future.specs.Least.{IsLeastIfAny}
-use Rattle.dist_future.specs.Gathering.{IsLaterOf}
+use Rattle.dist_space_clauses.specs.Gathering.{IsLaterOf}
 use Rattle.dist_future.specs.Matching.{IsMovedBut}
 use Rattle.dist_future.proofs.FoundLemmas.{OneOf}
 use Rattle.dist_future.proofs.Leasts.{Before}

@@ -3,7 +3,7 @@ use Rattle.std.specs.Prelude.{Contains}
 use Rattle.std.proofs.lemmas.Bool.{false≢true}
 use Rattle.std.proofs.lemmas.List.{get_or_default}
 use Rattle.dist_repo.specs.Providers.{IsProvider}
-use Rattle.dist_future.proofs.Lists.{within-from}
+use Rattle.dist_space.specs.ListLaws.{within-from}
 use Rattle.dist_future.specs.Least.{IsLeastIfAny}
 use Rattle.dist_future.specs.Matching.{IsPresentBut}
 use Rattle.dist_future.proofs.FoundLemmas.{IsPresentOf, OneOf, none-left, present-one, present-provided, providers-all}

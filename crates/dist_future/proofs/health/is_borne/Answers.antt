@@ -1,6 +1,6 @@
 use Rattle.std.proofs.Common.{◌≡◌, ℕ, length, ap, sym, ◌∙◌, arith, refl}
-use Rattle.dist_future.specs.Space.{cluster_classes, member_classes}
-use Rattle.dist_future.specs.declared.meaning.Meaning.TheVariants.{New, Present}
+use Rattle.dist_space.specs.Space.{cluster_classes, member_classes}
+use Rattle.dist_space.specs.declared.meaning.Meaning.TheVariants.{New, Present}
 use Rattle.dist_future.proofs.MissingLemmas.{new-borne, none-borne, none-new, not-held, present-borne}
 use Rattle.dist_future.proofs.health.is_borne.Goals as goal
 

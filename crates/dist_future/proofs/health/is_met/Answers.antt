@@ -1,20 +1,19 @@
-use Rattle.std.proofs.Common.{ap, arith, refl, subst, sym, ◌∙◌, slice_get}
+use Rattle.std.proofs.Common.{ap, arith, refl, subst, sym, ◌∙◌, slice_get, None}
 use Rattle.dist_repo.specs.PackageList.{PackageList}
 use Rattle.dist_repo.specs.Providers.{AreProviders}
 use Rattle.dist_future.proofs.FoundLemmas.{IsAny}
 use Rattle.dist_future.proofs.Leasts.{none-found, some-found}
 use Rattle.dist_future.proofs.UnmetLemmas.{any-met, none-met, none-more}
-use Rattle.std.proofs.Common.{None}
 use Rattle.dist_future.proofs.health.is_met.Goals as goal
 
 pub found-requires-clause-providers : goal.found-requires-clause-providers
 found-requires-clause-providers c =
     let item = c.requires.item in
-    subst (λ (r : PackageList). AreProviders r c.get-atom.result.now.name c.alternative_providers-providers.result.now) c.repo.ensures
+    subst (λ (r : PackageList). AreProviders r c.get-atom.result.now.name c.alternative_providers-providers.result.now) c.repo.ensures.value
     (c.alternative_providers-providers.ensures c.get-atom.result.now (record {
       holder = item.holder;
       alternatives = c.args.alternatives.now;
-      is_holder = ap (λ (r : PackageList). slice_get r.packages c.args.number) c.repo.ensures ∙ item.is_holder;
+      is_holder = ap (λ (r : PackageList). slice_get r.packages c.args.number) c.repo.ensures.value ∙ item.is_holder;
       is_item = item.is_item;
       is_atom = c.get-atom.ensures;
     }))

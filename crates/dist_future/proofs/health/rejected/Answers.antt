@@ -7,9 +7,9 @@ use Rattle.dist_future.proofs.health.rejected.Goals as goal
 
 pub found-requires-clause-providers : goal.found-requires-clause-providers
 found-requires-clause-providers c =
-    subst (λ (r : PackageList). AreProviders r c.get-atom.result.now.name c.conflict_providers-providers.result.now) c.repo.ensures
+    subst (λ (r : PackageList). AreProviders r c.get-atom.result.now.name c.conflict_providers-providers.result.now) c.repo.ensures.value
     (c.conflict_providers-providers.ensures c.get-atom.result.now
-    (record { holder = c.args.package.now; is_holder = ap (λ (r : PackageList). slice_get r.packages c.args.number) c.repo.ensures ∙ c.requires.number; is_atom = c.get-atom.ensures }))
+    (record { holder = c.args.package.now; is_holder = ap (λ (r : PackageList). slice_get r.packages c.args.number) c.repo.ensures.value ∙ c.requires.number; is_atom = c.get-atom.ensures }))
 
 pub loop-place-preserved : goal.loop-place-preserved
 loop-place-preserved c =

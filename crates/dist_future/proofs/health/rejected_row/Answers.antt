@@ -1,5 +1,5 @@
 use Rattle.std.proofs.Common.{sym}
-use Rattle.dist_future.specs.declared.meaning.Meaning.TheVariants.{Present}
+use Rattle.dist_space.specs.declared.meaning.Meaning.TheVariants.{Present}
 use Rattle.dist_future.proofs.FoundLemmas.{holds-from}
 use Rattle.dist_future.proofs.RejectedLemmas.{no-rejected, other-rejected, rejected-row}
 use Rattle.dist_future.proofs.health.rejected_row.Goals as goal

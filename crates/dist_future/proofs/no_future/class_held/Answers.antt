@@ -1,5 +1,5 @@
 use Rattle.std.proofs.Common.{sym, arith}
-use Rattle.dist_future.specs.declared.meaning.Meaning.TheVariants.{At}
+use Rattle.dist_space.specs.declared.meaning.Meaning.TheVariants.{At}
 use Rattle.dist_future.proofs.FoundLemmas.{holds-from}
 use Rattle.dist_future.proofs.NoFutureLemmas.{held-least, held-more, held-none, never-holds}
 use Rattle.dist_future.proofs.VariableOrder.{class-less}

@@ -1,4 +1,4 @@
-use Rattle.dist_future.specs.declared.meaning.Meaning.TheVariants.{At}
+use Rattle.dist_space.specs.declared.meaning.Meaning.TheVariants.{At}
 use Rattle.dist_future.proofs.NoFutureLemmas.{IsNoneHeld}
 use Rattle.dist_future.proofs.no_future.class_held.Given as goal
 

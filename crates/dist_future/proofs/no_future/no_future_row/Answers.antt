@@ -2,8 +2,8 @@ use Rattle.std.proofs.Common.{◌+◌, ℕ, subst, refl, sym, arith}
 use Rattle.std.specs.Prelude.{slice_index}
 use Rattle.dist_future.specs.Least.{IsLeastIfAny}
 use Rattle.dist_future.specs.Matching.{IsChangeAt, IsHeldFrom, IsLacking}
-use Rattle.dist_future.specs.declared.meaning.Meaning.{Meaning}
-use Rattle.dist_future.specs.declared.meaning.Meaning.TheVariants.{Now, Present, At, New, Kept, Fresh}
+use Rattle.dist_space.specs.declared.meaning.Meaning.{Meaning}
+use Rattle.dist_space.specs.declared.meaning.Meaning.TheVariants.{Now, Present, At, New, Kept, Fresh}
 use Rattle.dist_future.proofs.FoundLemmas.{holds-from}
 use Rattle.dist_future.proofs.NoFutureLemmas.{at-apart, at-needs, fresh-apart, fresh-needs, held-from, held-to, kept-apart, kept-needs, lacking-from, lacking-to, new-apart, new-needs, new-of, no-row, now-from, now-to, present-apart, present-needs, row-is}
 use Rattle.dist_future.proofs.no_future.no_future_row.Goals as goal

@@ -1,4 +1,4 @@
-use Rattle.std.proofs.Common.{Result, IfErr, subst, sym}
+use Rattle.std.proofs.Common.{◌∙◌, Result, IfErr, subst, sym}
 use Rattle.dist_outside.specs.DeskView.{DeskView}
 use Rattle.dist_outside.specs.Files.{IsWriting}
 use Rattle.dist_outside.specs.declared.trouble.WorkError.{WorkError}
@@ -19,6 +19,7 @@ candidates-preserved g c =
     record {
       writing = subst IsWriting (sym c.ask_without.ensures.grows.1.mode_stays) c.candidates.invariant.writing;
       fits = c.in_ok-ask_without.ensures.fits;
+      variables = c.in_ok-ask_without.ensures.further.variables ∙ c.candidates.invariant.variables;
       more = settle-join c.file_grows.ensures.twice first mid last c.args.asker.now c.candidates.asker c.ask_without.new.asker c.args.window.now c.candidates.window c.ask_without.new.window
           c.args.group.now c.candidates.group c.ask_without.new.group c.candidates.invariant.more c.in_ok-ask_without.ensures.ok;
       grows = two-grow c.file_grows.ensures.twice c.candidates.invariant.grows.0 c.ask_without.ensures.grows.0 first mid last c.candidates.invariant.grows.1 c.ask_without.ensures.grows.1;

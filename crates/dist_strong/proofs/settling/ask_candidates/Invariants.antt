@@ -1,3 +1,4 @@
+use Rattle.std.proofs.Common.{◌≡◌}
 use Rattle.dist_outside.specs.Files.{IsWriting}
 use Rattle.dist_strong.specs.Group.{open_count}
 use Rattle.dist_strong.specs.Script.{Grows}
@@ -8,6 +9,7 @@ abbrev pub invariant-candidates : goal.invariant-candidates
 invariant-candidates g l = record {
   writing : IsWriting (g.D.Desk.view l.desk).mode;
   fits : Fits l.asker l.window l.group;
+  variables : l.group.variables ≡ l.fn.group.variables;
   more : SettleMore (g.D.Desk.view l.fn.desk) (g.D.Desk.view l.desk) l.fn.asker l.asker l.fn.window l.window l.fn.group l.group;
   grows : Grows (g.D.Desk.view l.fn.desk) (g.D.Desk.view l.desk);
 }

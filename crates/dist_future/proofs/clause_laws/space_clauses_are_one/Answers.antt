@@ -1,6 +1,0 @@
-use Rattle.dist_future.proofs.ExactLemmas.{one-list}
-use Rattle.dist_future.specs.SpaceClauses.{IsDemand}
-use Rattle.dist_future.proofs.clause_laws.space_clauses_are_one.Goals as goal
-
-pub returns : goal.returns
-returns c = λ s. one-list s (IsDemand s)

@@ -1,5 +1,0 @@
-use Rattle.dist_future.proofs.SomeSpaceClauses.{some-clauses}
-use Rattle.dist_future.proofs.clause_laws.space_clauses_are_there.Goals as goal
-
-pub returns : goal.returns
-returns c = some-clauses

@@ -1,7 +1,0 @@
-use Rattle.std.specs.Prelude.{◌≡◌, ◌++◌, map, take}
-use Rattle.dist_future.specs.Gathering.{positive}
-use Rattle.dist_future.proofs.clause_text.add_positive.Given as goal
-
--- the literals of the variables so far were added
-abbrev pub invariant-loop-variable : goal.invariant-loop-variable
-invariant-loop-variable l = l.clause.items ≡ l.initial.clause.items ++ map positive (take l.variable-index l.variables)

@@ -1,9 +1,0 @@
-use Rattle.std.proofs.Common.{take}
-use Rattle.dist_future.specs.Gathering.{Gathers}
-use Rattle.dist_future.specs.SpaceClauses.{Excludes}
-use Rattle.dist_future.proofs.ConflictLemmas.{IsOneOf}
-use Rattle.dist_future.proofs.conflicts.add_rejecting.Given as goal
-
--- those so far were added
-abbrev pub invariant-loop-other : goal.invariant-loop-other
-invariant-loop-other l = Gathers l.space l.initial.variables.items l.variables.items (Excludes l.space l.number l.package) (IsOneOf l.space l.number l.package (take l.other-index l.others))

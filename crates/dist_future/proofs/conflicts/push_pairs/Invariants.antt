@@ -1,6 +1,0 @@
-use Rattle.dist_future.proofs.GroupFronts.{IsPairFront}
-use Rattle.dist_future.proofs.conflicts.push_pairs.Given as goal
-
--- the clauses of those so far were added
-abbrev pub invariant-loop-other : goal.invariant-loop-other
-invariant-loop-other l = IsPairFront l.space l.initial.set l.number l.others l.other-index l.set

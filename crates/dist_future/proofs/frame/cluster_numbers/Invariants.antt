@@ -1,6 +1,0 @@
-use Rattle.std.proofs.Common.{◌≡◌, length}
-use Rattle.dist_future.proofs.FrameLemmas.{AreNumbers}
-use Rattle.dist_future.proofs.frame.cluster_numbers.Given as goal
-
-abbrev pub invariant-loop-member : goal.invariant-loop-member
-invariant-loop-member l = record { counted : length l.numbers.items ≡ l.member; are : AreNumbers l.clusters.members l.numbers.items l.member }

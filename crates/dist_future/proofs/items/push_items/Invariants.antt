@@ -1,8 +1,0 @@
-use Rattle.dist_future.specs.Gathering.{IsFront}
-use Rattle.dist_future.specs.Space.{variable_of}
-use Rattle.dist_future.specs.declared.meaning.Meaning.TheVariants.{Present}
-use Rattle.dist_future.proofs.items.push_items.Given as goal
-
--- the clauses of the items so far were added
-abbrev pub invariant-loop-place : goal.invariant-loop-place
-invariant-loop-place l = IsFront l.space 4 (variable_of l.space (Present l.number)) l.place l.initial.set l.set

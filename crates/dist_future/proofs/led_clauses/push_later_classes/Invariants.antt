@@ -1,5 +1,0 @@
-use Rattle.dist_future.specs.Gathering.{IsFront}
-use Rattle.dist_future.proofs.led_clauses.push_later_classes.Given as goal
-
-abbrev pub invariant-loop-later : goal.invariant-loop-later
-invariant-loop-later l = IsFront l.space 1 l.variable l.later l.initial.set l.set

@@ -1,8 +1,0 @@
-use Rattle.std.proofs.Common.{take}
-use Rattle.std.specs.List.{flat_map}
-use Rattle.dist_future.specs.Kept.{IsExtended}
-use Rattle.dist_future.specs.Numbering.{member_part}
-use Rattle.dist_future.proofs.numbering.add_members.Given as goal
-
-abbrev pub invariant-loop-member : goal.invariant-loop-member
-invariant-loop-member l = IsExtended l.limit l.initial.meanings.items (flat_map (member_part l.frame l.class) (take l.member-index l.members)) l.meanings.items

@@ -1,9 +1,0 @@
-use Rattle.std.proofs.Common.{[], ◌∷◌, length, take}
-use Rattle.std.specs.List.{flat_map}
-use Rattle.dist_future.specs.Kept.{IsExtended}
-use Rattle.dist_future.specs.Numbering.{below}
-use Rattle.dist_future.specs.declared.meaning.Meaning.TheVariants.{Present}
-use Rattle.dist_future.proofs.numbering.add_packages.Given as goal
-
-abbrev pub invariant-loop-number : goal.invariant-loop-number
-invariant-loop-number l = IsExtended l.limit l.initial.meanings.items (flat_map (λ r. Present r ∷ []) (take l.number (below (length l.frame.repository.packages)))) l.meanings.items

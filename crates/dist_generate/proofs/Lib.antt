@@ -1,0 +1,14 @@
+pub mod Small
+pub mod Digits
+pub mod TextLines
+pub mod Trimmed
+pub mod RawStanzas
+pub mod Values
+pub mod Fields
+pub mod Sorting
+pub mod SmallDraws
+pub mod Bytes
+pub mod TooMany
+pub mod Archives
+pub mod Joins
+pub mod Adding

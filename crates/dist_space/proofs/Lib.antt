@@ -1,0 +1,9 @@
+pub mod ExampleLemmas
+pub mod ExtendLemmas
+pub mod FrameLemmas
+pub mod NewNames
+pub mod NumberingLemmas
+pub mod OneSpace
+pub mod SizeLemmas
+pub mod Variables
+pub mod WholeSpace

@@ -1,0 +1,21 @@
+//! The space of the futures of a repository: its variables with what they mean, in their order, and which of them an atom
+//! matches.
+#![tactic(auto)]
+
+mod bounds;
+mod errors;
+mod exampled;
+mod frame;
+mod meaning;
+mod meaning_match;
+mod numbering;
+mod place;
+mod places;
+mod space;
+mod space_laws;
+
+pub use bounds::{matches_moved, meets_bound};
+pub use errors::SpaceError;
+pub use meaning::Meaning;
+pub use space::{Space, space_of};
+pub use space_laws::spaces_are_one;

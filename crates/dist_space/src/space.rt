@@ -1,0 +1,206 @@
+//! The space of the futures of a repository.
+ghost use Rattle.std.specs.Prelude.{◌≡◌, ◌≤◌, ◌<◌, ◌-◌, ◌^◌, IfOk, Some, length, slice_get};
+ghost use Rattle.dist_base.specs.declared.TheConstants.{MAX_VARIABLES};
+ghost use Rattle.dist_repo.specs.Order.{IsFlat};
+ghost use Rattle.dist_repo.specs.Size.{IsWithinSize};
+ghost use Rattle.dist_space.specs.Space.{IsMeaningOf, IsMeaning, IsSpace, cluster_classes, example_at, fresh_classes, variable_of};
+ghost use Rattle.dist_space.specs.SpaceOf.{HasMoreVariables, IsExactly, IsSpaceOf};
+
+use crate::errors::SpaceError;
+use crate::frame::Frame;
+use crate::meaning::Meaning;
+use crate::numbering::number_meanings;
+use crate::places::Places;
+use crate::space_laws::spaces_are_one;
+use dist_classes::{Classes, Names};
+use dist_cluster::Clusters;
+use dist_repo::{Package, Repository};
+use dist_version::Version;
+use std::alloc::Global;
+use std::marker::Model;
+
+/// A flat repository, the classes to which its clusters may move, and what each variable means. It is kept at mode essential
+/// or plain.
+#[derive(Drop)]
+pub struct Space {
+    pub(crate) frame: Frame,
+    /// The variable of a number, from 1, has the meaning at the place before.
+    pub(crate) meanings: Vec<Meaning>,
+    pub(crate) places: Places,
+}
+
+impl Model for Space {
+    ghost use Rattle.dist_space.specs.Kept.{IsWhole};
+    ghost use Rattle.dist_space.specs.Space.{SpaceView};
+
+    ghost Value = { SpaceView };
+
+    ghost view = { λ s. record {
+      repository = s.frame.repository;
+      essential = s.frame.essential;
+      clusters = s.frame.clusters;
+      cluster_of = s.frame.cluster_of;
+      classes = s.frame.classes;
+      names = s.frame.names;
+      name_classes = s.frame.name_classes;
+      meanings = s.meanings.items;
+    } };
+
+    ghost invariant = { λ s. IsWhole (record {
+      repository = s.frame.repository;
+      essential = s.frame.essential;
+      clusters = s.frame.clusters;
+      cluster_of = s.frame.cluster_of;
+      classes = s.frame.classes;
+      names = s.frame.names;
+      name_classes = s.frame.name_classes;
+      meanings = s.meanings.items;
+    }) };
+}
+
+/// The space of a flat repository, which is kept in it, at mode essential or plain. After an `Err` the repository is given up.
+pub fn space_of(
+    alloc: Global,
+    repo: Repository,
+    essential: bool,
+    variables: u32,
+) -> Result<Space, SpaceError>
+    requires flat { IsFlat repo.packages }
+    requires within_size { IsWithinSize repo }
+    requires variables { variables ≤ MAX_VARIABLES }
+    ensures ok { IfOk result (λ space. IsSpaceOf repo essential space) }
+    ensures within { IfOk result (λ space. length space.meanings ≤ variables) }
+    ensures too_many { IsExactly result SpaceError.TooManyVariables (HasMoreVariables repo essential variables) }
+{
+    // What this call tells is that no other space has another number of variables.
+    spaces_are_one();
+    let frame = Frame::new(alloc, repo, essential)?;
+    let meanings = number_meanings(alloc, &frame, variables)?;
+    let places = Places::of(alloc, frame.package_count(), &meanings)?;
+    Ok(Space {
+        frame,
+        meanings,
+        places,
+    })
+}
+
+impl Space {
+    /// The repository, which is flat and within the stated sizes.
+    pub fn repo(&self) -> &Repository
+        ensures value { result.now ≡ self.now.repository }
+        ensures flat { IsFlat self.now.repository.packages }
+        ensures within_size { IsWithinSize self.now.repository }
+    {
+        &self.frame.repo
+    }
+
+    /// Whether the space is at mode essential.
+    pub fn essential(&self) -> bool
+        ensures { result ≡ self.now.essential }
+    {
+        self.frame.essential
+    }
+
+    /// The clusters of the repository's packages.
+    pub fn clusters(&self) -> &Clusters
+        ensures { result.now ≡ self.now.clusters }
+    {
+        &self.frame.clusters
+    }
+
+    /// The new names.
+    pub fn names(&self) -> &Names
+        ensures { result.now ≡ self.now.names }
+    {
+        &self.frame.names
+    }
+
+    /// The classes of a cluster.
+    pub fn classes(&self, cluster: u32) -> &Classes
+        requires { cluster < length self.now.clusters.members }
+        ensures { result.now ≡ cluster_classes self.now cluster }
+    {
+        self.frame.classes[cluster as usize].classes()
+    }
+
+    /// The classes of a new name.
+    pub fn name_classes(&self, name: u32) -> &Classes
+        requires { name < length self.now.names }
+        ensures { result.now ≡ fresh_classes self.now name }
+    {
+        self.frame.name_classes[name as usize].classes()
+    }
+
+    /// How many variables there are.
+    pub fn variables(&self) -> u32
+        ensures value { result ≡ length self.now.meanings }
+        ensures stated { result ≤ MAX_VARIABLES }
+        ensures space { IsSpace self.now }
+    {
+        self.meanings.len() as u32
+    }
+
+    /// What a variable means; the first one has the number 1.
+    pub fn meaning(&self, variable: u32) -> Meaning
+        requires from_one { 1 ≤ variable }
+        requires in_range { variable ≤ length self.now.meanings }
+        ensures value { slice_get self.now.meanings (variable - 1) ≡ Some result }
+        ensures is_meaning { IsMeaning self.now result }
+        ensures back { variable_of self.now result ≡ variable }
+        ensures of { IsMeaningOf self.now variable result }
+    {
+        self.meanings[variable as usize - 1]
+    }
+
+    /// How many classes a cluster has. There are none of a number past the last cluster.
+    pub fn class_count(&self, cluster: u32) -> u32
+        ensures { result ≡ length (cluster_classes self.now cluster) }
+    {
+        match self.frame.classes.get(cluster as usize) {
+            Some(classes) => classes.len(),
+            None => 0,
+        }
+    }
+
+    /// How many classes a new name has. There are none of a number past the last name.
+    pub fn name_class_count(&self, name: u32) -> u32
+        ensures { result ≡ length (fresh_classes self.now name) }
+    {
+        match self.frame.name_classes.get(name as usize) {
+            Some(classes) => classes.len(),
+            None => 0,
+        }
+    }
+
+    /// How many packages there are.
+    pub fn package_count(&self) -> u32
+        ensures { result ≡ length self.now.repository.packages }
+    {
+        self.frame.package_count()
+    }
+
+    /// The package of a number. Together the packages of a repository have fewer entries than 32 bits can number.
+    pub fn package(&self, number: u32) -> &Package
+        requires { number < length self.now.repository.packages }
+        ensures value { slice_get self.now.repository.packages number ≡ Some result.now }
+        ensures few_entries { length result.now.provides < 2 ^ 32 }
+    {
+        self.frame.package(number)
+    }
+
+    /// The example of a class of a cluster.
+    pub fn example(&self, cluster: u32, class: u32) -> &Version
+        requires { class < length (cluster_classes self.now cluster) }
+        ensures { result.now ≡ example_at (cluster_classes self.now cluster) class }
+    {
+        self.frame.classes[cluster as usize].example(class)
+    }
+
+    /// The example of a class of a new name.
+    pub fn name_example(&self, name: u32, class: u32) -> &Version
+        requires { class < length (fresh_classes self.now name) }
+        ensures { result.now ≡ example_at (fresh_classes self.now name) class }
+    {
+        self.frame.name_classes[name as usize].example(class)
+    }
+}

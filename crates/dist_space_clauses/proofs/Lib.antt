@@ -1,0 +1,16 @@
+pub mod Bearers
+pub mod ConflictLemmas
+pub mod DemandLists
+pub mod ExactLemmas
+pub mod FoundIn
+pub mod Fronts
+pub mod Gathered
+pub mod GroupFronts
+pub mod LedFronts
+pub mod MatchLemmas
+pub mod NameFronts
+pub mod PairClauses
+pub mod RejectingLemmas
+pub mod SomeSpaceClauses
+pub mod SortedNames
+pub mod VariableLists

@@ -1,0 +1,7 @@
+use Rattle.dist_space_clauses.specs.Gathering.{IsFront}
+use Rattle.dist_space_clauses.specs.Groups.{number_of}
+use Rattle.dist_space_clauses.proofs.groups.push_group.Given as goal
+
+-- the clauses that the variables so far lead were added
+abbrev pub invariant-loop-variable : goal.invariant-loop-variable
+invariant-loop-variable l = IsFront l.space (number_of l.group) l.variable 0 l.initial.set l.set

@@ -1,0 +1,5 @@
+use Rattle.dist_space_clauses.specs.Gathering.{IsFront}
+use Rattle.dist_space_clauses.proofs.led_clauses.push_later_classes.Given as goal
+
+abbrev pub invariant-loop-later : goal.invariant-loop-later
+invariant-loop-later l = IsFront l.space 1 l.variable l.later l.initial.set l.set

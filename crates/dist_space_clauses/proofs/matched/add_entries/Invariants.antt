@@ -1,0 +1,11 @@
+use Rattle.std.proofs.Common.{◌≡◌}
+use Rattle.dist_space_clauses.specs.Gathering.{Gathers, IsKeptOf}
+use Rattle.dist_space.specs.declared.meaning.Meaning.TheVariants.{Kept}
+use Rattle.dist_space_clauses.proofs.Gathered.{UpTo}
+use Rattle.dist_space_clauses.proofs.MatchLemmas.{MatchedAnd}
+use Rattle.dist_space_clauses.proofs.matched.add_entries.Given as goal
+
+-- the entries so far that the atom matches were added
+abbrev pub invariant-loop-place : goal.invariant-loop-place
+invariant-loop-place l =
+    Gathers l.space l.initial.variables.items l.variables.items (MatchedAnd l.space l.atom (IsKeptOf l.member l.class)) (UpTo l.space (λ place. MatchedAnd l.space l.atom (λ m. m ≡ Kept l.member l.class place)) l.place)

@@ -1,0 +1,9 @@
+pub mod SpaceClauses
+pub mod SpaceSet
+pub mod ClauseLaws
+pub mod Gathering
+pub mod Groups
+pub mod Rejecting
+pub mod DecidedLaws
+pub mod ItemLaws
+pub use Rattle.dist_space.specs.Space

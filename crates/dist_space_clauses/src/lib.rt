@@ -1,0 +1,20 @@
+//! The clauses of the space of futures, made in their order: their models stand for the futures and the healthy installations
+//! in them.
+#![tactic(auto)]
+
+mod clause_laws;
+mod clause_text;
+mod clauses;
+mod conflicts;
+mod essential;
+mod groups;
+mod items;
+mod led_clauses;
+mod matched;
+mod name_key;
+mod rejecting;
+
+pub use clause_laws::{
+    one_limit_is_passed, space_clauses_are_one, space_clauses_are_there, space_clauses_go_on,
+};
+pub use clauses::clauses_of;

@@ -1,0 +1,169 @@
+//! The variables that an atom matches, added to a vector: packages as they are, their new versions with what these keep, and
+//! packages of new names.
+ghost use Rattle.std.specs.Prelude.{◌≡◌, ◌<◌, ◌^◌, ◌↔◌, ℕ, Contains, OnOk, Some, length, slice_get};
+ghost use Rattle.std.specs.List.Sorted.{IsStrictlyIncreasing};
+ghost use Rattle.dist_space_clauses.specs.Gathering.{Adds, IsFresh, IsKeptOf, IsLaterOf, IsOfVersion};
+ghost use Rattle.dist_space.specs.Space.{IsMatchedBy, IsMeaning, fresh_classes, member_classes};
+ghost use Rattle.dist_space.specs.declared.meaning.Meaning.TheVariants as meaning;
+
+use dist_relation::Atom;
+use dist_repo::Package;
+use dist_space::{Meaning, Space, matches_moved, meets_bound};
+use std::alloc::AllocError;
+
+/// Puts variables in their order, each once.
+pub(crate) fn put_in_order(variables: &mut Vec<u32>)
+    ensures rising { IsStrictlyIncreasing variables.new.items }
+    ensures same { (v : ℕ) → Contains variables.new.items v ↔ Contains variables.old.items v }
+{
+    variables.sort_unstable();
+    variables.dedup();
+}
+
+/// Adds the variable of a meaning.
+pub(crate) fn add_variable(
+    space: &Space,
+    meaning: Meaning,
+    variables: &mut Vec<u32>,
+) -> Result<(), AllocError>
+    requires { IsMeaning space.now meaning }
+    ensures { OnOk result (Adds space.now variables.old.items variables.new.items (λ m. m ≡ meaning)) }
+{
+    variables.push(space.variable(&meaning))?;
+    Ok(())
+}
+
+/// Adds an entry of a new version, if the atom matches it.
+fn add_entry(
+    space: &Space,
+    atom: &Atom,
+    package: &Package,
+    member: u32,
+    class: u32,
+    place: usize,
+    variables: &mut Vec<u32>,
+) -> Result<(), AllocError>
+    requires member { slice_get space.now.repository.packages member ≡ Some «package».now }
+    requires few_entries { length «package».now.provides < 2 ^ 32 }
+    requires class { class < length (member_classes space.now member) }
+    requires place { place < length «package».now.provides }
+    ensures { OnOk result (Adds space.now variables.old.items variables.new.items (λ m. (m ≡ meaning.Kept member class place) × IsMatchedBy space.now atom.now m)) }
+{
+    let entry = package.provides.get(place);
+    let example = space.example(space.cluster_of(member), class);
+    if matches_moved(space.repo(), atom, entry, &package.version, example) {
+        return add_variable(space, Meaning::Kept(member, class, place as u32), variables);
+    }
+    Ok(())
+}
+
+/// Adds the entries of a new version that the atom matches.
+fn add_entries(
+    space: &Space,
+    atom: &Atom,
+    package: &Package,
+    member: u32,
+    class: u32,
+    variables: &mut Vec<u32>,
+) -> Result<(), AllocError>
+    requires member { slice_get space.now.repository.packages member ≡ Some «package».now }
+    requires few_entries { length «package».now.provides < 2 ^ 32 }
+    requires class { class < length (member_classes space.now member) }
+    ensures { OnOk result (Adds space.now variables.old.items variables.new.items (λ m. IsKeptOf member class m × IsMatchedBy space.now atom.now m)) }
+{
+    for place in 0..package.provides.len() {
+        add_entry(space, atom, package, member, class, place, variables)?;
+    }
+    Ok(())
+}
+
+/// Adds a new version, if the atom matches its name and version.
+fn add_new(
+    space: &Space,
+    atom: &Atom,
+    package: &Package,
+    member: u32,
+    class: u32,
+    variables: &mut Vec<u32>,
+) -> Result<(), AllocError>
+    requires member { slice_get space.now.repository.packages member ≡ Some «package».now }
+    requires class { class < length (member_classes space.now member) }
+    ensures { OnOk result (Adds space.now variables.old.items variables.new.items (λ m. (m ≡ meaning.New member class) × IsMatchedBy space.now atom.now m)) }
+{
+    let example = space.example(space.cluster_of(member), class);
+    if package.name == atom.name && meets_bound(atom, example) {
+        return add_variable(space, Meaning::New(member, class), variables);
+    }
+    Ok(())
+}
+
+/// Adds what the atom matches of a new version.
+fn add_version(
+    space: &Space,
+    atom: &Atom,
+    package: &Package,
+    member: u32,
+    class: u32,
+    variables: &mut Vec<u32>,
+) -> Result<(), AllocError>
+    requires member { slice_get space.now.repository.packages member ≡ Some «package».now }
+    requires few_entries { length «package».now.provides < 2 ^ 32 }
+    requires class { class < length (member_classes space.now member) }
+    ensures { OnOk result (Adds space.now variables.old.items variables.new.items (λ m. IsOfVersion member class m × IsMatchedBy space.now atom.now m)) }
+{
+    add_new(space, atom, package, member, class, variables)?;
+    add_entries(space, atom, package, member, class, variables)
+}
+
+/// Adds what the atom matches of all new versions of a package.
+pub(crate) fn add_later(
+    space: &Space,
+    atom: &Atom,
+    package: &Package,
+    member: u32,
+    variables: &mut Vec<u32>,
+) -> Result<(), AllocError>
+    requires member { slice_get space.now.repository.packages member ≡ Some «package».now }
+    requires few_entries { length «package».now.provides < 2 ^ 32 }
+    ensures { OnOk result (Adds space.now variables.old.items variables.new.items (λ m. IsLaterOf member m × IsMatchedBy space.now atom.now m)) }
+{
+    for class in 0..space.class_count(space.cluster_of(member)) {
+        add_version(space, atom, package, member, class, variables)?;
+    }
+    Ok(())
+}
+
+/// Adds a package of a new name, if its class meets the atom's bound.
+fn add_fresh_class(
+    space: &Space,
+    atom: &Atom,
+    name: u32,
+    class: u32,
+    variables: &mut Vec<u32>,
+) -> Result<(), AllocError>
+    requires name { slice_get space.now.names name ≡ Some atom.now.name }
+    requires class { class < length (fresh_classes space.now name) }
+    ensures { OnOk result (Adds space.now variables.old.items variables.new.items (λ m. (m ≡ meaning.Fresh name class) × IsMatchedBy space.now atom.now m)) }
+{
+    if meets_bound(atom, space.name_example(name, class)) {
+        return add_variable(space, Meaning::Fresh(name, class), variables);
+    }
+    Ok(())
+}
+
+/// Adds the packages of new names that the atom matches.
+pub(crate) fn add_fresh(
+    space: &Space,
+    atom: &Atom,
+    variables: &mut Vec<u32>,
+) -> Result<(), AllocError>
+    ensures { OnOk result (Adds space.now variables.old.items variables.new.items (λ m. IsFresh m × IsMatchedBy space.now atom.now m)) }
+{
+    let Some(name) = space.find_name(&atom.name) else {
+        return Ok(());
+    };
+    for class in 0..space.name_class_count(name) {
+        add_fresh_class(space, atom, name, class, variables)?;
+    }
+    Ok(())
+}

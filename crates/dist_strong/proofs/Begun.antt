@@ -1,0 +1,130 @@
+-- A sweep may begin, and when it is refused for its input clauses.
+use Rattle.std.proofs.Common.{◌≡◌, ◌≢◌, ℕ, ◌<◌, ◌≤◌, ◌^◌, Bool, List, [], length, Result, Ok, Err, refl, ap, sym, subst, ◌∙◌, append-nil, arith}
+use Rattle.std.proofs.lemmas.List.Elements.{All-nil}
+use Rattle.dist_base.specs.declared.TheConstants.{MAX_CLAUSES, MAX_PACKAGES}
+use Rattle.dist_clause.specs.ClauseList.{ClauseList, IsWithinLimits, literal_count}
+use Rattle.dist_clause.specs.Formula.{Literal}
+use Rattle.dist_derive.specs.ClauseLog.{ClauseLog}
+use Rattle.dist_now.specs.PresentClauses.{ArePresentClauses, IsDemand}
+use Rattle.dist_now.specs.PresentSet.{IsSetOf, PassesClauses, PassesLiterals}
+use Rattle.dist_outside.specs.DeskView.{DeskView}
+use Rattle.dist_outside.specs.declared.limits.Limits.{Limits}
+use Rattle.dist_outside.specs.declared.trouble.What.TheVariants.{Clauses, Literals}
+use Rattle.dist_outside.specs.declared.trouble.WorkError.{WorkError}
+use Rattle.dist_outside.specs.declared.trouble.WorkError.TheVariants.{NoMemory, TooLarge}
+use Rattle.dist_repo.specs.Order.{IsInOrder}
+use Rattle.dist_repo.specs.PackageList.{PackageList}
+use Rattle.dist_cert.specs.declared.records.CertKind.TheVariants as kinds
+use Rattle.dist_cert.specs.declared.records.Claim.{Claim}
+use Rattle.dist_cert.specs.declared.records.Header.{Header}
+use Rattle.dist_cert.specs.PartByRecords.{IsHeaderOf}
+use Rattle.dist_subject.specs.Present.{AreInputs, subject_of}
+use Rattle.dist_strong.specs.Asking.{AskerView}
+use Rattle.dist_strong.specs.Sweep.{ComesExactly, SweepAnswers}
+use Rattle.dist_strong.specs.Sweeping.{Begins, MayBegin, new_writer, setting_of}
+use Rattle.dist_strong.specs.Window.{WindowView}
+
+-- ---- the laws of dist_subject and dist_now
+
+abbrev pub ThereLaw : Type 0
+ThereLaw = (r : PackageList) → IsInOrder r.packages → (inputs : Bool → List (List Literal)) × AreInputs r inputs
+
+abbrev pub OneLaw : Type 0
+OneLaw = (r : PackageList) (essential : Bool) (clauses other : List (List Literal)) → ArePresentClauses r essential clauses → ArePresentClauses r essential other → other ≡ clauses
+
+-- ---- the start
+
+-- the first line over a repository with so many input clauses
+abbrev pub first-header : PackageList → Bool → ℕ → ℕ → Header
+first-header r essential limit clauses =
+    record { kind = kinds.Strong; limit = limit; packages = length r.packages; variables = length r.packages; clauses = clauses; essential = essential }
+
+abbrev pub first-log : ClauseList → Limits → ClauseLog
+first-log set limits =
+    record { clauses = set.clauses; inputs = length set.clauses; variables = set.variables; line_limit = limits.lines; line_literal_limit = limits.line_literals }
+
+abbrev pub first-asker : ClauseList → ℕ → Limits → AskerView
+first-asker set limit limits = record { log = first-log set limits; writer = new_writer limits; limit = limit }
+
+abbrev pub first-window : ℕ → WindowView
+first-window variables = record { kept = []; count = 0; variables = variables }
+
+-- What a sweep starts from.
+pub record StartsFrom (r : PackageList) (essential : Bool) (limit : ℕ) (limits : Limits) (set : ClauseList) : Type 0 where
+  pub ordered : IsInOrder r.packages
+  pub packages : length r.packages ≤ MAX_PACKAGES
+  pub from_one : 1 ≤ limit
+  pub upto : limit ≤ 1000000
+  pub set_of : IsSetOf r (IsDemand r essential) limits.clauses limits.literals set
+  pub within : IsWithinLimits set
+  pub stated : length set.clauses ≤ MAX_CLAUSES
+
+begins : (r : PackageList) (essential : Bool) (limit : ℕ) (limits : Limits) (set : ClauseList) (inputs : Bool → List (List Literal)) → StartsFrom r essential limit limits set → AreInputs r inputs → inputs essential ≡ set.clauses
+    → Begins (setting_of r essential limit limits inputs) (first-header r essential limit (length set.clauses)) (first-asker set limit limits) (first-window (length r.packages))
+begins r essential limit limits set inputs starts are same = record {
+  header_is = ap (λ (cs : List (List Literal)). first-header r essential limit (length cs)) (sym same);
+  log = record {
+    strong = refl;
+    limit_is = refl;
+    ordered = starts.ordered;
+    present = are essential;
+    clauses = sym same ∙ sym (append-nil (inputs essential));
+    inputs = ap length (sym same);
+    variables = starts.set_of.variables;
+    line_limit = refl;
+    line_literal_limit = refl;
+    not_ended = refl;
+  };
+  writer = refl;
+  window = record { kept = refl; count = refl; sizes = All-nil (λ values. length values ≡ length r.packages) };
+}
+
+header-of : (r : PackageList) (essential : Bool) (limit : ℕ) (limits : Limits) (set : ClauseList) (inputs : Bool → List (List Literal)) → StartsFrom r essential limit limits set → inputs essential ≡ set.clauses
+    → IsHeaderOf (subject_of r inputs) (setting_of r essential limit limits inputs).header
+header-of r essential limit limits set inputs starts same =
+    let few : length r.packages < 2 ^ 32 = omega (arith, starts.packages) in
+    let count : length (inputs essential) < 2 ^ 32 = omega (arith, starts.stated, ap length same) in
+    record {
+      form = record { text = refl; rules = (starts.from_one, starts.upto); numbers = (few, few, count) };
+      fits = record { taken = refl; packages = refl; variables = refl; clauses = refl };
+    }
+
+pub may-begin : ThereLaw → OneLaw → (r : PackageList) (essential : Bool) (limit : ℕ) (limits : Limits) (set : ClauseList) (header : Header) (a : AskerView) (w : WindowView) → StartsFrom r essential limit limits set
+    → header ≡ first-header r essential limit (length set.clauses) → a ≡ first-asker set limit limits → w ≡ first-window (length r.packages) → MayBegin r essential limit limits header a w
+may-begin there one r essential limit limits set header a w starts header_is asker_is window_is =
+    let some = there r starts.ordered in
+    let same : some.0 essential ≡ set.clauses = one r essential set.clauses (some.0 essential) starts.set_of.clauses (some.1 essential) in
+    record {
+      inputs = some.0;
+      are_inputs = some.1;
+      kept = record {
+        clauses = omega (arith, ap length same, starts.within.clauses_within, starts.set_of.clause_limit_is);
+        literals = omega (arith, ap literal_count same, starts.within.literals_within, starts.set_of.literal_limit_is);
+      };
+      header_of = header-of r essential limit limits set some.0 starts same;
+      begins = subst (λ (h : Header). Begins (setting_of r essential limit limits some.0) h a w) (sym header_is)
+          (subst (λ (v : AskerView). Begins (setting_of r essential limit limits some.0) (first-header r essential limit (length set.clauses)) v w) (sym asker_is)
+          (subst (λ (v : WindowView). Begins (setting_of r essential limit limits some.0) (first-header r essential limit (length set.clauses)) (first-asker set limit limits) v) (sym window_is)
+          (begins r essential limit limits set some.0 starts some.1 same)));
+    }
+
+-- ---- where there are input clauses, no limit of them was passed
+
+no-error : (set : ClauseList) (error : WorkError) → Ok set ≢ Err error
+no-error set error e = cc
+
+pub clauses-exact : (r : PackageList) (essential : Bool) (limit : ℕ) (limits : Limits) (name : List ℕ) (old new : DeskView) (set : ClauseList) (result : Result (List Claim) WorkError)
+    → ComesExactly (Ok set) (TooLarge Clauses) (PassesClauses r essential limits.clauses limits.literals) → SweepAnswers r essential limit limits name old new result
+    → ComesExactly result (TooLarge Clauses) (PassesClauses r essential limits.clauses limits.literals)
+clauses-exact r essential limit limits name old new set result inputs answers = λ other. (
+  (λ is. (subst (λ (x : Result (List Claim) WorkError). SweepAnswers r essential limit limits name old new x) is answers).1),
+  λ cause. absurd (no-error set (TooLarge Clauses) ((inputs (no-error set NoMemory)).1 cause)),
+)
+
+pub literals-exact : (r : PackageList) (essential : Bool) (limit : ℕ) (limits : Limits) (name : List ℕ) (old new : DeskView) (set : ClauseList) (result : Result (List Claim) WorkError)
+    → ComesExactly (Ok set) (TooLarge Literals) (PassesLiterals r essential limits.clauses limits.literals) → SweepAnswers r essential limit limits name old new result
+    → ComesExactly result (TooLarge Literals) (PassesLiterals r essential limits.clauses limits.literals)
+literals-exact r essential limit limits name old new set result inputs answers = λ other. (
+  (λ is. (subst (λ (x : Result (List Claim) WorkError). SweepAnswers r essential limit limits name old new x) is answers).1),
+  λ cause. absurd (no-error set (TooLarge Literals) ((inputs (no-error set NoMemory)).1 cause)),
+)

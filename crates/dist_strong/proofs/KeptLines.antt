@@ -1,0 +1,46 @@
+-- Line by line, what a part keeps.
+use Rattle.std.proofs.Common.{◌≡◌, inl, ℕ, List, [], ◌∷◌, ◌++◌, sym, subst, append_assoc}
+use Rattle.std.specs.List.{Contains}
+use Rattle.dist_outside.specs.declared.limits.Limits.{Limits}
+use Rattle.dist_cert.specs.declared.faults.CertCause.{CertCause}
+use Rattle.dist_cert.specs.declared.faults.CertCause.TheVariants as causes
+use Rattle.dist_cert.specs.declared.records.CertRecord.{CertRecord}
+use Rattle.dist_cert.specs.declared.records.CertRecord.TheVariants.{End}
+use Rattle.dist_cert.specs.declared.records.Header.{Header}
+use Rattle.dist_cert.specs.ByRecords.{record_to_line}
+use Rattle.dist_cert.specs.ClearForms.{FormsAreClear}
+use Rattle.dist_cert.specs.Form.{record_text, HasForm}
+use Rattle.dist_cert.specs.LineRules.{HasRecordFault}
+use Rattle.dist_cert.specs.Part.{IsNextLine, IsPartOf}
+use Rattle.dist_cert.specs.Refusal.{line_feed, lines_text, HasLineFault}
+use Rattle.dist_cert.specs.Subject.{Matter, Subject}
+use Rattle.dist_strong.proofs.Lists.{all-at}
+
+-- The line has a form and no fault but its length, does not stand behind the end, and is one that a part may have next.
+pub record IsKept (matter : Matter) (h : Header) (before : List CertRecord) (step : CertRecord) : Type 0 where
+  pub form : HasForm (record_text step) step
+  pub not_ended : ¬ Contains before End
+  pub faultless : (cause : CertCause) → ¬ HasRecordFault matter h before step cause
+  pub next : IsNextLine matter h before step
+
+abbrev pub AreKept : Matter → Header → List CertRecord → Type 0
+AreKept matter h steps = (before : List CertRecord) (step : CertRecord) (after : List CertRecord) → steps ≡ before ++ step ∷ after → IsKept matter h before step
+
+not-both : causes.BadRecord ≡ causes.LineTooLong → ⊥
+not-both e = cc
+
+pub part-kept : FormsAreClear → (subject : Subject) (limits : Limits) (h : Header) (text : List ℕ) (steps : List CertRecord) → IsPartOf subject limits h text steps
+    → AreKept (subject.matter h.kind h.essential) h steps
+part-kept clear subject limits h text steps part before step after is =
+    let form = all-at (λ (s : CertRecord). HasForm (record_text s) s) steps before step after is part.reads.records in
+    let begins = append_assoc (record_text step) (line_feed ∷ []) (lines_text after) in
+    record {
+      form = form;
+      not_ended = λ ended. not-both (part.later before step after is causes.BadRecord
+          (record_text step, lines_text after, record { ended = begins; one_line = clear.record_line step form }, inl ended)).0;
+      faultless = λ cause fault.
+          let same = part.later before step after is cause (subst (λ (t : List ℕ). HasLineFault subject limits h before t cause) (sym begins)
+          (record_to_line clear subject limits h before step (lines_text after) form cause fault)) in
+          subst (λ (c : CertCause). HasRecordFault (subject.matter h.kind h.essential) h before step c) same.0 fault;
+      next = part.next before step after is;
+    }
