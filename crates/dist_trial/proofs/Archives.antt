@@ -1,0 +1,61 @@
+-- A generated text as an archive at a limit.
+use Rattle.std.proofs.Common.{◌≡◌, ◌≢◌, List, inl, inr, ℕ, ◌<◌, ◌≤◌, length, refl, sym, subst, arith}
+use Rattle.std.proofs.lemmas.Bool.{cases_lt}
+use Rattle.dist_control.specs.RawStanza.{raw_stanzas}
+use Rattle.dist_outside.specs.declared.limits.Limits.{Limits}
+use Rattle.dist_package.specs.FirstFault.{IsRefused, IsTooMany}
+use Rattle.dist_package.specs.OneAnswer.{HasOneAnswer}
+use Rattle.dist_package.specs.RepositoryOf.{IsRepositoryOf}
+use Rattle.dist_package.specs.declared.error.Fault.{Fault}
+use Rattle.dist_package.specs.declared.error.PackagesError.{PackagesError}
+use Rattle.dist_package.specs.declared.error.PackagesError.TheVariants.{Bad, TooMany}
+use Rattle.dist_repo.specs.PackageList.{PackageList}
+use Rattle.dist_repo.specs.Size.{IsWithinSize}
+use Rattle.dist_generate.specs.Archive.{IsArchive}
+use Rattle.dist_generate.specs.Generator.{generated}
+use Rattle.dist_trial.specs.Trial.{OfArchive}
+
+abbrev pub ArchiveLaw : Type 0
+ArchiveLaw = (size seed limit : ℕ) → size ≤ 2000 → size ≤ limit → IsArchive size seed limit
+
+abbrev pub TooManyLaw : Type 0
+TooManyLaw = (size seed limit : ℕ) → size ≤ 2000 → limit < size → IsTooMany (raw_stanzas (generated size seed)) limit
+
+abbrev pub OneAnswerLaw : Type 0
+OneAnswerLaw = (text : List ℕ) (limit : ℕ) → HasOneAnswer text limit
+
+-- what reads has no stanza too many
+reaches : OneAnswerLaw → TooManyLaw → (size seed limit : ℕ) (r : PackageList) → size ≤ 2000 → IsRepositoryOf (generated size seed) limit r → size ≤ limit
+reaches one many size seed limit r few is = elim (cases_lt limit size) [
+  | inl past ↦ absurd ((one (generated size seed) limit).never_both r TooMany is (many size seed limit few past))
+  | inr within ↦ within
+]
+
+pub is-archive : OneAnswerLaw → TooManyLaw → (size seed : ℕ) (limits : Limits) (r : PackageList) → size ≤ 2000 → length (generated size seed) ≤ limits.bytes
+    → IsRepositoryOf (generated size seed) limits.stanzas r → OfArchive size seed limits (λ other. other ≡ r)
+is-archive one many size seed limits r few bytes is =
+    record { bytes = bytes; stanzas = reaches one many size seed limits.stanzas r few is; repository = r; is_repository = is; holds = refl }
+
+-- and it is of a size that is asked
+pub within-size : OneAnswerLaw → ArchiveLaw → TooManyLaw → (size seed limit : ℕ) (r : PackageList) → size ≤ 2000 → IsRepositoryOf (generated size seed) limit r → IsWithinSize r
+within-size one archive many size seed limit r few is =
+    let a = archive size seed limit few (reaches one many size seed limit r few is) in
+    subst IsWithinSize (sym ((one (generated size seed) limit).one_repository r a.repository is a.is_repository)) a.within_size
+
+-- a refusal says that there are too many stanzas
+pub is-past : OneAnswerLaw → ArchiveLaw → (size seed limit : ℕ) (error : PackagesError) → size ≤ 2000 → IsRefused (raw_stanzas (generated size seed)) limit error → limit < size
+is-past one archive size seed limit error few refused = elim (cases_lt limit size) [
+  | inl past ↦ past
+  | inr within ↦ (
+      let a = archive size seed limit few within in
+      absurd ((one (generated size seed) limit).never_both a.repository error a.is_repository refused)
+      )
+]
+
+bad≢many : (fault : Fault) → Bad fault ≢ TooMany
+bad≢many fault e = cc
+
+pub no-fault : OneAnswerLaw → ArchiveLaw → TooManyLaw → (size seed limit : ℕ) (fault : Fault) → size ≤ 2000 → ¬ IsRefused (raw_stanzas (generated size seed)) limit (Bad fault)
+no-fault one archive many size seed limit fault few refused =
+    bad≢many fault
+    ((one (generated size seed) limit).one_error TooMany (Bad fault) (many size seed limit few (is-past one archive size seed limit (Bad fault) few refused)) refused)

@@ -1,0 +1,5 @@
+mod Marks
+mod Lines
+mod Archives
+mod Sweeps
+mod Exact

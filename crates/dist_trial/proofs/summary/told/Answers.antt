@@ -1,0 +1,12 @@
+use Rattle.std.proofs.Common.{◌∙◌, ◌++◌, List, ℕ, ap, codes}
+use Rattle.dist_trial.specs.Summary.{number_line}
+use Rattle.dist_trial.proofs.Lines.{summary-of}
+use Rattle.dist_trial.proofs.summary.told.Goals as goal
+
+pub returns-clause-summary : goal.returns-clause-summary
+returns-clause-summary c =
+    summary-of c.args.size c.args.claims.now c.total.result c.total-2.result c.total-marks.result c.add_line.new.text.items c.add_line-2.new.text.items c.add_line-3.new.text.items c.add_line-4.new.text.items
+    c.extend_from_slice.new.self.items c.total.ensures c.total-2.ensures c.total-marks.ensures
+    (c.in_ok-add_line.ensures ∙ ap (λ (n : ℕ). c.new-summary.result.items ++ number_line (codes "size ") n) c.from.ensures
+    ∙ ap (λ (xs : List ℕ). xs ++ number_line (codes "size ") c.args.size) c.new-summary.ensures.items) c.in_ok-add_line-2.ensures c.in_ok-add_line-3.ensures c.in_ok-add_line-4.ensures
+    c.in_ok-extend_from_slice.ensures.items

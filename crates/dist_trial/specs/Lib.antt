@@ -1,0 +1,4 @@
+pub mod Summary
+pub mod Figures
+pub mod Trial
+pub mod Claiming

@@ -1,0 +1,18 @@
+//! Trials: an archive of a size and a seed is made, swept and checked in memory, and what comes of it is told in a few lines.
+//!
+//! A trial takes what its sweep and its check take, apart from work linear in the bytes of the archive and of the certificate.
+#![tactic(auto)]
+
+mod archive;
+mod claiming;
+mod laws;
+mod summary;
+mod trials;
+mod trying;
+
+pub use laws::marks_are_counted;
+pub use trials::Trial;
+pub use trying::trial;
+
+#[cfg(test)]
+mod tests;
