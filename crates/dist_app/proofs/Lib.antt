@@ -1,10 +1,15 @@
+pub mod CommandLaws
 pub mod Due
+pub mod Endings
+pub mod Headlines
 pub mod HealthStages
 pub mod KindText
 pub mod Lists
 pub mod Marks
 pub mod NewestLemmas
 pub mod PartLemmas
+pub mod Refused
+pub mod Runs
 pub mod StageLaws
 pub mod Sweeping
 pub mod Writing

@@ -26,6 +26,8 @@ pub use status::Status;
 pub use top_call::{run, run_with};
 
 #[cfg(test)]
+mod check_tests;
+#[cfg(test)]
 mod classes_tests;
 #[cfg(test)]
 mod tests;

@@ -47,12 +47,12 @@ fn write_cert_fault<E: Sink>(err: &mut E, fault: CertFault) -> Result<(), WorkEr
     ensures { Writes (reason_text (Refusal.CertificateRefused fault)) result (E.view err.old) (E.view err.new) }
 {
     let mut buffer = Buffer::new();
-    let line = buffer.format(fault.line).as_bytes();
+    let place = buffer.format(fault.line).as_bytes();
     write_pieces(
         err,
         &[
             b"certificate refused at line ",
-            line,
+            place,
             b": ",
             cause_text(fault.cause),
         ],

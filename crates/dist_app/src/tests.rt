@@ -269,8 +269,12 @@ fn faults_are_told(rt: HostRuntime) -> Result<(), Fail> {
 #[test]
 fn other_words_are_refused(rt: HostRuntime) -> Result<(), Fail> {
     let alloc = rt.alloc();
-    let commands: [&[&str]; 5] = [
+    let commands: [&[&str]; 9] = [
         &[],
+        &["strong", "f"],
+        &["health", "f", "g", "--limit", "3"],
+        &["try", "--size", "3"],
+        &["check", "f", "g", "--essential"],
         &["health", "packages"],
         &["heal", "packages", "list"],
         &["classes"],

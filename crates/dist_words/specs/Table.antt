@@ -70,7 +70,7 @@ accepted t = in_table (unwrap_or t.command []) t.files t.options
 
 -- The command of the words: what `clap` states that it matches, accepted by the table. There is none where `clap` states
 -- that it refuses the words, or the table has none.
-abbrev pub command_of : List Text → Option CommandLine
+unfoldable pub command_of : List Text → Option CommandLine
 command_of words = if is_empty (fault_of simple_command words) then accepted (taken words) else None
 
 -- the words are of no command

@@ -20,6 +20,7 @@ use std::alloc::Global;
 const DEFAULT_LIMIT: u32 = 10_000;
 
 /// The command of the words, which stand after the program's name.
+#[tactic(auto, unfolding(crate::specs::Table::command_of))]
 pub fn command_of<'a>(alloc: Global, words: &'a [String]) -> Result<Command<'a>, WordsError>
     ensures command { IfOk result (λ command. command_of (map string_bytes words.now) ≡ Some (line_of command)) }
     ensures bad { result ≡ Err BadWords → IsBadWords (map string_bytes words.now) }

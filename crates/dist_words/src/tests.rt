@@ -1,61 +1,95 @@
-//! Words and their commands.
+//! The words of each command, and words that are of none.
 use crate::{Command, WordsError, command_of};
 use std::alloc::{AllocError, Global};
 use std::test::Fail;
 
-fn words_of(alloc: Global, words: &[&str]) -> Result<Vec<String>, AllocError> {
-    let mut all = Vec::new(alloc);
+fn all(alloc: Global, words: &[&str]) -> Result<Vec<String>, AllocError> {
+    let mut strings = Vec::new(alloc);
     for word in words {
-        all.push(String::from_str(alloc, word)?)?;
+        strings.push(String::from_str(alloc, word)?)?;
     }
-    Ok(all)
+    Ok(strings)
 }
 
-/// Whether the words are of no command.
-fn are_bad(alloc: Global, words: &[&str]) -> Result<bool, AllocError> {
-    let words = words_of(alloc, words)?;
-    Ok(matches!(command_of(alloc, &words), Err(WordsError::BadWords)))
+/// The options of `strong f g`, where these are the words of it.
+fn strong_options(alloc: Global, words: &[&str]) -> Result<Option<(u32, bool)>, Fail> {
+    let words = all(alloc, words)?;
+    match command_of(alloc, &words) {
+        Ok(Command::Strong(read)) if read.packages == "f" && read.cert == "g" => {
+            Ok(Some((read.limit, read.essential)))
+        }
+        _ => Ok(None),
+    }
 }
 
 #[test]
-fn commands_are_taken(rt: HostRuntime) -> Result<(), Fail> {
+fn options_are_read(rt: HostRuntime) -> Result<(), Fail> {
     let alloc = rt.alloc();
-    let words = words_of(alloc, &["--essential", "strong", "f", "--limit=3", "g"])?;
-    match command_of(alloc, &words) {
-        Ok(Command::Strong(strong)) => {
-            assert_eq!(rt; strong.packages, "f");
-            assert_eq!(rt; strong.cert, "g");
-            assert_eq!(rt; strong.limit, 3);
-            assert!(rt; strong.essential);
-        }
-        _ => return Err(Fail::from("strong is not taken")),
-    }
-    let words = words_of(alloc, &["try", "--size", "2", "--seed", "0"])?;
-    match command_of(alloc, &words) {
-        Ok(Command::Try(sizes)) => {
-            assert_eq!(rt; sizes.size, 2);
-            assert_eq!(rt; sizes.seed, 0);
-        }
-        _ => return Err(Fail::from("try is not taken")),
-    }
+    let plain = strong_options(alloc, &["strong", "f", "g"])?;
+    assert_eq!(rt; plain, Some((10_000, false)));
+    let equals = strong_options(alloc, &["strong", "f", "g", "--limit=3"])?;
+    assert_eq!(rt; equals, Some((3, false)));
+    let before = strong_options(
+        alloc,
+        &[
+            "--essential",
+            "--limit",
+            "1000000",
+            "strong",
+            "f",
+            "--",
+            "g",
+        ],
+    )?;
+    assert_eq!(rt; before, Some((1_000_000, true)));
     Ok(())
 }
 
 #[test]
-fn other_words_are_bad(rt: HostRuntime) -> Result<(), Fail> {
+fn files_are_read(rt: HostRuntime) -> Result<(), Fail> {
     let alloc = rt.alloc();
-    let rows: [&[&str]; 8] = [
+    let words = all(alloc, &["health", "f", "g"])?;
+    assert!(rt;
+        matches!(command_of(alloc, &words), Ok(Command::Health(files)) if files.packages == "f" && files.list == "g")
+    );
+    let words = all(alloc, &["classes", "f"])?;
+    assert!(rt; matches!(command_of(alloc, &words), Ok(Command::Classes("f"))));
+    let words = all(alloc, &["check", "f", "g"])?;
+    assert!(rt;
+        matches!(command_of(alloc, &words), Ok(Command::Check(files)) if files.packages == "f" && files.cert == "g")
+    );
+    let words = all(alloc, &["try", "--seed", "0", "--size", "2"])?;
+    assert!(rt;
+        matches!(command_of(alloc, &words), Ok(Command::Try(sizes)) if sizes.size == 2 && sizes.seed == 0)
+    );
+    Ok(())
+}
+
+#[test]
+fn other_words_are_refused(rt: HostRuntime) -> Result<(), Fail> {
+    let alloc = rt.alloc();
+    let lists: [&[&str]; 17] = [
         &[],
         &["strong", "f"],
         &["health", "f", "g", "--limit", "3"],
         &["try", "--size", "3"],
-        &["strong", "f", "g", "--limit", "0"],
-        &["--help"],
-        &["outdated", "f", "g"],
+        &["classes", "f", "g"],
         &["check", "f", "g", "--essential"],
+        &["check", "f", "g", "--limit=3"],
+        &["strong", "f", "g", "--size", "3"],
+        &["strong", "f", "g", "--seed", "3"],
+        &["strong", "f", "g", "--limit", "0"],
+        &["strong", "f", "g", "--limit", "1000001"],
+        &["strong", "f", "g", "--limit", "ten"],
+        &["strong", "f", "g", "--limit", "1", "--limit", "2"],
+        &["strong", "f", "g", "--lim", "3"],
+        &["strong", "f", "g", "h"],
+        &["strongly", "f", "g"],
+        &["--help"],
     ];
-    for row in rows {
-        assert!(rt; are_bad(alloc, row)?);
+    for list in lists {
+        let words = all(alloc, list)?;
+        assert!(rt; matches!(command_of(alloc, &words), Err(WordsError::BadWords)));
     }
     Ok(())
 }

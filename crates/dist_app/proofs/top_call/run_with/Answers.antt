@@ -1,17 +1,41 @@
 use Rattle.std.proofs.Common.{map, string_bytes, subst, sym}
+use Rattle.dist_app.specs.Headline.{CheckIsProved, StrongIsProved}
 use Rattle.dist_app.specs.Run.{Runs}
 use Rattle.dist_app.specs.declared.status.Status.{Status}
+use Rattle.dist_app.proofs.Headlines.{check_proved, check_refused, strong_proved, strong_refused}
 use Rattle.dist_app.proofs.Runs.{answered_runs, refused_runs}
 use Rattle.dist_app.proofs.top_call.run_with.Goals as goal
 
 pub returns-in-Ok-clause-runs : goal.returns-in-Ok-clause-runs
 returns-in-Ok-clause-runs g c =
     answered_runs c.packages_are_exact.ensures _ c.args.limits.now c.in-Ok.status (g.D.Desk.view c.args.desk.now) (g.D.Desk.view c.carry_out.new.desk) (g.W.Sink.view c.args.out.now) (g.W.Sink.view c.carry_out.new.out)
-    (g.E.Sink.view c.args.err.now) c.in-Ok.ensures.ends c.in-Ok.ensures.only_reads (c.sink_grows.ensures.begin (g.E.Sink.view c.args.err.now))
+    (g.E.Sink.view c.args.err.now) c.in-Ok.ensures.ends c.in-Ok.ensures.leaves (c.sink_grows.ensures.begin (g.E.Sink.view c.args.err.now))
 
 pub returns-in-Err-clause-runs : goal.returns-in-Err-clause-runs
 returns-in-Err-clause-runs g c =
     subst (λ (s : Status). Runs (map string_bytes c.args.words.now) c.args.limits.now s (g.D.Desk.view c.args.desk.now) (g.D.Desk.view c.carry_out.new.desk) (g.W.Sink.view c.args.out.now) (g.W.Sink.view c.carry_out.new.out)
     (g.E.Sink.view c.args.err.now) (g.E.Sink.view c.write_refusal.new.err)) (sym c.status-status.ensures)
     (refused_runs c.packages_are_exact.ensures _ c.args.limits.now (g.D.Desk.view c.args.desk.now) (g.D.Desk.view c.carry_out.new.desk) (g.W.Sink.view c.args.out.now) (g.W.Sink.view c.carry_out.new.out)
-    c.in-Err.refusal c.in-Err.ensures.ends c.write_refusal.result (g.E.Sink.view c.args.err.now) (g.E.Sink.view c.write_refusal.new.err) c.in-Err.ensures.only_reads c.write_refusal.ensures)
+    c.in-Err.refusal c.in-Err.ensures.ends c.write_refusal.result (g.E.Sink.view c.args.err.now) (g.E.Sink.view c.write_refusal.new.err) c.in-Err.ensures.leaves c.write_refusal.ensures)
+
+pub returns-in-Ok-clause-strong : goal.returns-in-Ok-clause-strong
+returns-in-Ok-clause-strong g c =
+    strong_proved c.accepted_claims_hold.ensures _ c.args.limits.now c.in-Ok.status (g.D.Desk.view c.args.desk.now) (g.D.Desk.view c.carry_out.new.desk) (g.W.Sink.view c.args.out.now) (g.W.Sink.view c.carry_out.new.out)
+    c.in-Ok.ensures.ends
+
+pub returns-in-Ok-clause-check : goal.returns-in-Ok-clause-check
+returns-in-Ok-clause-check g c =
+    check_proved _ c.args.limits.now c.in-Ok.status (g.D.Desk.view c.args.desk.now) (g.D.Desk.view c.carry_out.new.desk) (g.W.Sink.view c.args.out.now) (g.W.Sink.view c.carry_out.new.out)
+    c.in-Ok.ensures.ends
+
+pub returns-in-Err-clause-strong : goal.returns-in-Err-clause-strong
+returns-in-Err-clause-strong g c =
+    subst (λ (s : Status). StrongIsProved (map string_bytes c.args.words.now) c.args.limits.now s (g.D.Desk.view c.args.desk.now) (g.D.Desk.view c.carry_out.new.desk) (g.W.Sink.view c.args.out.now) (g.W.Sink.view c.carry_out.new.out))
+    (sym c.status-status.ensures)
+    (strong_refused _ c.args.limits.now c.in-Err.refusal (g.D.Desk.view c.args.desk.now) (g.D.Desk.view c.carry_out.new.desk) (g.W.Sink.view c.args.out.now) (g.W.Sink.view c.carry_out.new.out))
+
+pub returns-in-Err-clause-check : goal.returns-in-Err-clause-check
+returns-in-Err-clause-check g c =
+    subst (λ (s : Status). CheckIsProved (map string_bytes c.args.words.now) c.args.limits.now s (g.D.Desk.view c.args.desk.now) (g.W.Sink.view c.args.out.now) (g.W.Sink.view c.carry_out.new.out))
+    (sym c.status-status.ensures)
+    (check_refused _ c.args.limits.now c.in-Err.refusal (g.D.Desk.view c.args.desk.now) (g.W.Sink.view c.args.out.now) (g.W.Sink.view c.carry_out.new.out))

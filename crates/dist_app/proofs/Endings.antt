@@ -1,0 +1,218 @@
+-- How a run ends, from how carrying out its command does.
+use Rattle.std.proofs.Common.{◌≡◌, ◌⊎◌, ◌≤◌, ℕ, List, [], length, take, inl, inr, Option, Some, None, Result, Ok, Err, MatchResult, refl, ap, sym, ◌∙◌, subst, arith}
+use Rattle.dist_base.specs.Front.{IsFrontOf}
+use Rattle.dist_outside.specs.Counts.{Rose}
+use Rattle.dist_outside.specs.Files.{Files, IsNotWriting}
+use Rattle.dist_outside.specs.DeskView.{DeskView, OnlyReads}
+use Rattle.dist_outside.specs.SinkView.{SinkView, Grew, GrewByFront, WriteCause}
+use Rattle.dist_outside.specs.declared.limits.Limits.{Limits}
+use Rattle.dist_outside.specs.declared.trouble.WorkError.{WorkError}
+use Rattle.dist_outside.specs.declared.trouble.WorkError.TheVariants as work
+use Rattle.dist_words.specs.CommandLine.{CommandLine}
+use Rattle.dist_words.specs.Table.{IsBadWords, command_of}
+use Rattle.dist_app.specs.Carried.{IsAnswered, IsRefused, Prints}
+use Rattle.dist_app.specs.Command.{CommandDecides, CommandIsGivenUp, OnlyReadsFiles}
+use Rattle.dist_app.specs.Due.{LeavesDesk, Stops}
+use Rattle.dist_app.specs.Refusal.{status_of, refusal_text, refusal_of}
+use Rattle.dist_app.specs.Run.{Decides, Leaves}
+use Rattle.dist_app.specs.Stages.{Ending, refused, answered}
+use Rattle.dist_app.specs.declared.refusal.Refusal.{Refusal}
+use Rattle.dist_app.specs.declared.refusal.Refusal.TheVariants as refusal
+use Rattle.dist_app.specs.declared.status.Status.{Status}
+use Rattle.dist_app.specs.declared.status.Status.TheVariants.{WriteFault, NoMemory}
+use Rattle.dist_app.proofs.Refused.{not_read_fault, not_write_fault}
+
+-- ---- the desk
+
+pub untouched : (words : List (List ℕ)) (desk : DeskView) → IsNotWriting desk.mode → Leaves words desk desk
+untouched words desk idle = record {
+  not_writing = idle;
+  read_faults_stand = omega arith;
+  write_faults_stand = omega arith;
+  only_reads = λ _. record { files_stay = refl; not_writing = idle; read_faults_stand = omega arith; write_faults_stay = refl };
+}
+
+pub command_leaves : (words : List (List ℕ)) (line : CommandLine) (desk desk' : DeskView) → command_of words ≡ Some line → LeavesDesk desk desk'
+    → (OnlyReadsFiles line → OnlyReads desk desk') → Leaves words desk desk'
+command_leaves words line desk desk' is leaves reads = record {
+  not_writing = leaves.not_writing;
+  read_faults_stand = leaves.read_faults_stand;
+  write_faults_stand = leaves.write_faults_stand;
+  only_reads = λ each. reads (each line is);
+}
+
+-- ---- the ends
+
+no_front : (text : List ℕ) → IsFrontOf text []
+no_front text = record { count = 0; within = omega arith; is = refl }
+
+good : (words : List (List ℕ)) (line : CommandLine) → command_of words ≡ Some line → ¬ IsBadWords words
+good words line is bad = apart (command_of words) is bad
+  where
+    apart : (o : Option CommandLine) → o ≡ Some line → o ≡ None → ⊥
+    apart o e f = cc
+
+-- what carrying out a command comes to, for each way that it goes
+module _ (words : List (List ℕ)) (limits : Limits) (desk : DeskView) (out out' : SinkView) where
+  pub refused_words : IsBadWords words → Grew [] out out' → IsRefused words limits desk desk out out' refusal.BadWords
+  refused_words bad grew = record {
+    ending = refused desk.files refusal.BadWords;
+    comes = inl (inl (bad, refl));
+    status = refl;
+    told = refl;
+    files = refl;
+    printed = grew;
+    of_words = λ _. inl refl;
+    read_fault = λ is. cc;
+    write_fault = λ is. cc;
+  }
+
+  -- there was no memory for the words
+  pub unread_words : Grew [] out out' → IsRefused words limits desk desk out out' refusal.NoMemory
+  unread_words grew = record {
+    ending = refused desk.files refusal.NoMemory;
+    comes = inr (inr (inl refl));
+    status = refl;
+    told = refl;
+    files = refl;
+    printed = grew;
+    of_words = λ _. inr refl;
+    read_fault = λ is. cc;
+    write_fault = λ is. cc;
+  }
+
+  -- of a command: its words are there, and it came to this end
+  module _ (desk' : DeskView) (line : CommandLine) (is_line : command_of words ≡ Some line) where
+    abbrev Refused : Refusal → Type 0
+    Refused = IsRefused words limits desk desk' out out'
+
+    decided_refusal : (r : Refusal) → CommandDecides line desk.files limits (refused desk'.files r) → Grew [] out out' → Refused r
+    decided_refusal r decides grew = record {
+      ending = refused desk'.files r;
+      comes = inl (inr (line, is_line, decides));
+      status = refl;
+      told = refl;
+      files = refl;
+      printed = grew;
+      of_words = λ bad. absurd (good words line is_line bad);
+      read_fault = λ is. absurd (not_read_fault words desk.files limits (refused desk'.files r) (inr (line, is_line, decides)) (ap status_of is));
+      write_fault = λ is. absurd (not_write_fault words desk.files limits (refused desk'.files r) (inr (line, is_line, decides)) (ap status_of is));
+    }
+
+    unread : desk'.files ≡ desk.files → Rose desk.read_faults desk'.read_faults → Grew [] out out' → Refused refusal.ReadFault
+    unread same rose grew = record {
+      ending = refused desk'.files refusal.ReadFault;
+      comes = inr (inl (ap (λ (f : Option Files). refused f refusal.ReadFault) same));
+      status = refl;
+      told = refl;
+      files = refl;
+      printed = grew;
+      of_words = λ bad. absurd (good words line is_line bad);
+      read_fault = λ _. rose;
+      write_fault = λ is. cc;
+    }
+
+    unwritten : Rose desk.write_faults desk'.write_faults → CommandIsGivenUp line desk.files limits refusal.WriteFault (refused desk'.files refusal.WriteFault) → Grew [] out out' → Refused refusal.WriteFault
+    unwritten rose given_up grew = record {
+      ending = refused desk'.files refusal.WriteFault;
+      comes = inr (inr (inr (inl (inl (line, is_line, given_up)))));
+      status = refl;
+      told = refl;
+      files = refl;
+      printed = grew;
+      of_words = λ bad. absurd (good words line is_line bad);
+      read_fault = λ is. cc;
+      write_fault = λ _. inr rose;
+    }
+
+    unstored : desk'.files ≡ desk.files → Grew [] out out' → Refused refusal.NoMemory
+    unstored same grew = record {
+      ending = refused desk'.files refusal.NoMemory;
+      comes = inr (inr (inl (ap (λ (f : Option Files). refused f refusal.NoMemory) same)));
+      status = refl;
+      told = refl;
+      files = refl;
+      printed = grew;
+      of_words = λ _. inr refl;
+      read_fault = λ is. cc;
+      write_fault = λ is. cc;
+    }
+
+    unfinished : CommandIsGivenUp line desk.files limits refusal.NoMemory (refused desk'.files refusal.NoMemory) → Grew [] out out' → Refused refusal.NoMemory
+    unfinished given_up grew = record {
+      ending = refused desk'.files refusal.NoMemory;
+      comes = inr (inr (inr (inl (inr (line, is_line, given_up)))));
+      status = refl;
+      told = refl;
+      files = refl;
+      printed = grew;
+      of_words = λ _. inr refl;
+      read_fault = λ is. cc;
+      write_fault = λ is. cc;
+    }
+
+    untold : (status : Status) (text : List ℕ) → CommandDecides line desk.files limits (answered desk'.files status text) → Grew [] out out' → Refused refusal.NoMemory
+    untold status text decides grew = record {
+      ending = refused desk'.files refusal.NoMemory;
+      comes = inr (inr (inr (inr (inr (record { decided = answered desk'.files status text; decides = inr (line, is_line, decides); answers = refl; front = no_front text; is = refl })))));
+      status = refl;
+      told = refl;
+      files = refl;
+      printed = grew;
+      of_words = λ _. inr refl;
+      read_fault = λ is. cc;
+      write_fault = λ is. cc;
+    }
+
+    pub refused_command : (r : Refusal) → Stops line limits desk desk' r → Grew [] out out' → Refused r
+    refused_command r (inl decides) grew = decided_refusal r decides grew
+    refused_command r (inr (inl (is, same, rose))) grew = subst Refused (sym is) (unread same rose grew)
+    refused_command r (inr (inr (inl (is, rose, given_up)))) grew = subst Refused (sym is) (unwritten rose given_up grew)
+    refused_command r (inr (inr (inr (is, inl same)))) grew = subst Refused (sym is) (unstored same grew)
+    refused_command r (inr (inr (inr (is, inr (inl given_up))))) grew = subst Refused (sym is) (unfinished given_up grew)
+    refused_command r (inr (inr (inr (is, inr (inr (status, text, decides)))))) grew = subst Refused (sym is) (untold status text decides grew)
+
+    answered_command : (status : Status) (text : List ℕ) → CommandDecides line desk.files limits (answered desk'.files status text) → Grew text out out' → IsAnswered words limits desk desk' out out' status
+    answered_command status text decides grew = record {
+      ending = answered desk'.files status text;
+      decides = inr (line, is_line, decides);
+      status_is = refl;
+      quiet = refl;
+      files = refl;
+      printed = grew;
+    }
+
+    cut_command : (status : Status) (text : List ℕ) (error : WorkError) → CommandDecides line desk.files limits (answered desk'.files status text) → GrewByFront text out out' → WriteCause error out out'
+        → Refused (refusal_of error)
+    cut_command status text work.ReadFault decides front cause = absurd cause
+    cut_command status text (work.TooLarge limit) decides front cause = absurd cause
+    cut_command status text work.WriteFault decides front cause = record {
+      ending = record { status = WriteFault; out = front.front; err = refusal_text refusal.WriteFault; files = desk'.files };
+      comes = inr (inr (inr (inr (inl (record { decided = answered desk'.files status text; decides = inr (line, is_line, decides); answers = refl; front = front.is_front; is = refl })))));
+      status = refl;
+      told = refl;
+      files = refl;
+      printed = front.grew;
+      of_words = λ bad. absurd (good words line is_line bad);
+      read_fault = λ is. cc;
+      write_fault = λ _. inl cause;
+    }
+    cut_command status text work.NoMemory decides front cause = record {
+      ending = record { status = NoMemory; out = front.front; err = refusal_text refusal.NoMemory; files = desk'.files };
+      comes = inr (inr (inr (inr (inr (record { decided = answered desk'.files status text; decides = inr (line, is_line, decides); answers = refl; front = front.is_front; is = refl })))));
+      status = refl;
+      told = refl;
+      files = refl;
+      printed = front.grew;
+      of_words = λ _. inr refl;
+      read_fault = λ is. cc;
+      write_fault = λ is. cc;
+    }
+
+    -- the text of an answer was written, or a front of it
+    pub printed_command : (status : Status) (text : List ℕ) (result : Result Status Refusal) → CommandDecides line desk.files limits (answered desk'.files status text) → Prints status text result out out'
+        → MatchResult result (IsAnswered words limits desk desk' out out') Refused
+    printed_command status text (Ok printed) decides (same, grew) =
+        subst (IsAnswered words limits desk desk' out out') (sym same) (answered_command status text decides grew)
+    printed_command status text (Err r) decides (error, is, front, cause) =
+        subst Refused (sym is) (cut_command status text error decides front cause)

@@ -1,0 +1,124 @@
+-- What a run of `strong` and one of `check` prove, from the end that they come to.
+use Rattle.std.proofs.Common.{◌≡◌, ◌⊎◌, ℕ, Bool, List, [], inl, inr, Option, Some, None, Result, Ok, Err, ap, sym, ◌∙◌, subst}
+use Rattle.dist_outside.specs.DeskView.{DeskView}
+use Rattle.dist_outside.specs.Files.{Files, file_bytes, with_file}
+use Rattle.dist_outside.specs.SinkView.{SinkView, Grew}
+use Rattle.dist_outside.specs.declared.limits.Limits.{Limits}
+use Rattle.dist_outside.specs.declared.trouble.WorkError.{WorkError}
+use Rattle.dist_outside.specs.declared.trouble.WorkError.TheVariants as work
+use Rattle.dist_repo.specs.PackageList.{PackageList}
+use Rattle.dist_cert.specs.declared.records.Claim.{Claim}
+use Rattle.dist_cert.specs.declared.records.Header.{Header}
+use Rattle.dist_strong.specs.Sweep.{header_of}
+use Rattle.dist_check.specs.Answers.{Answers, AcceptedMeans}
+use Rattle.dist_check.specs.Checking.{OfText}
+use Rattle.dist_check.specs.declared.verdict.Verdict.{Verdict}
+use Rattle.dist_check.specs.declared.verdict.Verdict.TheVariants as verdict
+use Rattle.dist_report.specs.StrongReport.{strong_lines}
+use Rattle.dist_words.specs.CommandLine.{CommandLine, Strong, Check}
+use Rattle.dist_words.specs.Table.{command_of}
+use Rattle.dist_app.specs.Carried.{IsAnswered}
+use Rattle.dist_app.specs.Check.{CheckStages, Checks, Concludes}
+use Rattle.dist_app.specs.Claims.{claims_status}
+use Rattle.dist_app.specs.Command.{CommandDecides}
+use Rattle.dist_app.specs.Headline.{CheckIsProved, IsCarriedOut, ProvesCheck, ProvesStrong, StrongIsProved}
+use Rattle.dist_app.specs.PackagesStage.{PackagesStage}
+use Rattle.dist_app.specs.Refusal.{status_of}
+use Rattle.dist_app.specs.Run.{Decides}
+use Rattle.dist_app.specs.Stages.{Ending, Goes, answered, refused}
+use Rattle.dist_app.specs.Strong.{IsStopped, IsSwept, StrongStages, Sweeps}
+use Rattle.dist_app.specs.declared.refusal.Refusal.{Refusal}
+use Rattle.dist_app.specs.declared.refusal.Refusal.TheVariants as refusal
+use Rattle.dist_app.specs.declared.status.Status.{Status}
+use Rattle.dist_app.proofs.Refused.{clauses_refuse, not_carried_out, packages_refuses, refusal_not_carried_out}
+use Rattle.dist_app.proofs.Sweeping.{ClaimsHold, sweep_means}
+
+-- words of a command decide by it
+of_line : (words : List (List ℕ)) (files : Option Files) (limits : Limits) (line : CommandLine) (ending : Ending) → command_of words ≡ Some line
+    → Decides words files limits ending → CommandDecides line files limits ending
+of_line words files limits line ending is (inl (bad, end)) = absurd (apart (command_of words) is bad)
+  where
+    apart : (o : Option CommandLine) → o ≡ Some line → o ≡ None → ⊥
+    apart o e f = cc
+of_line words files limits line ending is (inr (other, is_other, decides)) =
+    subst (λ (x : CommandLine). CommandDecides x files limits ending) (same (command_of words) is_other is) decides
+  where
+    same : (o : Option CommandLine) → o ≡ Some other → o ≡ Some line → other ≡ line
+    same o e f = cc
+
+-- ---- `strong`
+
+module _ (hold : ClaimsHold) (limits : Limits) (packages cert : List ℕ) (essential : Bool) (limit : ℕ) (result : Status) (desk desk' : DeskView) (out out' : SinkView) (ending : Ending)
+  (status_is : result ≡ ending.status) (carried : IsCarriedOut ending.status) (files : desk'.files ≡ ending.files) (printed : Grew ending.out out out') where
+  swept_proves : (r : PackageList) → PackagesStage desk.files limits packages (Goes r) → IsSwept desk.files limits cert essential limit r ending
+      → ProvesStrong limits packages cert essential limit result desk desk' out out'
+  swept_proves r (text, goes, has) swept = record {
+    repository = r;
+    read = (text, goes, has);
+    made = swept.made;
+    text = swept.text;
+    certificate = swept.certificate;
+    files = files ∙ ap (λ (e : Ending). e.files) swept.is;
+    means = sweep_means hold r essential limit limits swept.text swept.made has.in_order swept.certificate;
+    printed = subst (λ (e : Ending). Grew e.out out out') swept.is printed;
+    status = status_is ∙ ap (λ (e : Ending). e.status) swept.is;
+  }
+
+  pub strong_proves : StrongStages desk.files limits packages essential (Sweeps desk.files limits cert essential limit) ending
+      → ProvesStrong limits packages cert essential limit result desk desk' out out'
+  strong_proves (inl ends) = absurd (refusal_not_carried_out desk.files ending (packages_refuses desk.files limits packages ending ends) carried)
+  strong_proves (inr (r, goes, inl ends)) = absurd (refusal_not_carried_out desk.files ending (clauses_refuse desk.files limits essential r ending ends) carried)
+  strong_proves (inr (r, goes, inr (_, kept, inl swept))) = swept_proves r goes swept
+  strong_proves (inr (r, goes, inr (_, kept, inr stopped))) = absurd (subst (λ (e : Ending). IsCarriedOut e.status) stopped.is carried)
+
+-- ---- `check`
+
+module _ (limits : Limits) (packages cert : List ℕ) (result : Status) (desk : DeskView) (out out' : SinkView) (ending : Ending)
+  (status_is : result ≡ ending.status) (carried : IsCarriedOut ending.status) (printed : Grew ending.out out out') where
+  accepted_proves : (r : PackageList) (h : Header) (made : List Claim) → PackagesStage desk.files limits packages (Goes r)
+      → OfText (file_bytes desk.files cert) (λ text. Answers r limits text (Ok (verdict.Accepted h made))) → AcceptedMeans r h made
+      → ending ≡ answered desk.files (claims_status made) (strong_lines r.packages h made) → ProvesCheck limits packages cert result desk out out'
+  accepted_proves r h made goes answers means is = record {
+    repository = r;
+    read = goes;
+    header = h;
+    made = made;
+    accepted = answers;
+    means = means;
+    printed = subst (λ (e : Ending). Grew e.out out out') is printed;
+    status = status_is ∙ ap (λ (e : Ending). e.status) is;
+  }
+
+  concluded_proves : (r : PackageList) (answer : Result Verdict WorkError) → PackagesStage desk.files limits packages (Goes r)
+      → OfText (file_bytes desk.files cert) (λ text. Answers r limits text answer) → Concludes desk.files r answer ending → ProvesCheck limits packages cert result desk out out'
+  concluded_proves r (Ok (verdict.Accepted h made)) goes answers (means, is) = accepted_proves r h made goes answers means is
+  concluded_proves r (Ok (verdict.Refused fault)) goes answers is = absurd (subst (λ (e : Ending). IsCarriedOut e.status) is carried)
+  concluded_proves r (Err (work.TooLarge what)) goes answers is = absurd (subst (λ (e : Ending). IsCarriedOut e.status) is carried)
+  concluded_proves r (Err work.ReadFault) goes answers is = absurd is
+  concluded_proves r (Err work.WriteFault) goes answers is = absurd is
+  concluded_proves r (Err work.NoMemory) goes answers is = absurd is
+
+  pub check_proves : CheckStages desk.files limits packages (Checks desk.files limits cert) ending → ProvesCheck limits packages cert result desk out out'
+  check_proves (inl ends) = absurd (refusal_not_carried_out desk.files ending (packages_refuses desk.files limits packages ending ends) carried)
+  check_proves (inr (r, goes, checks)) = concluded_proves r checks.result goes checks.answers checks.concludes
+
+-- ---- runs
+
+pub strong_proved : ClaimsHold → (words : List (List ℕ)) (limits : Limits) (result : Status) (desk desk' : DeskView) (out out' : SinkView)
+    → IsAnswered words limits desk desk' out out' result → StrongIsProved words limits result desk desk' out out'
+strong_proved hold words limits result desk desk' out out' a packages cert essential limit is carried =
+    strong_proves hold limits packages cert essential limit result desk desk' out out' a.ending a.status_is (subst IsCarriedOut a.status_is carried) a.files a.printed
+    (of_line words desk.files limits (Strong packages cert essential limit) a.ending is a.decides)
+
+pub check_proved : (words : List (List ℕ)) (limits : Limits) (result : Status) (desk desk' : DeskView) (out out' : SinkView)
+    → IsAnswered words limits desk desk' out out' result → CheckIsProved words limits result desk out out'
+check_proved words limits result desk desk' out out' a packages cert is carried =
+    check_proves limits packages cert result desk out out' a.ending a.status_is (subst IsCarriedOut a.status_is carried) a.printed
+    (of_line words desk.files limits (Check packages cert) a.ending is a.decides)
+
+-- a refusal proves nothing of either
+pub strong_refused : (words : List (List ℕ)) (limits : Limits) (r : Refusal) (desk desk' : DeskView) (out out' : SinkView) → StrongIsProved words limits (status_of r) desk desk' out out'
+strong_refused words limits r desk desk' out out' packages cert essential limit is carried = absurd (not_carried_out r carried)
+
+pub check_refused : (words : List (List ℕ)) (limits : Limits) (r : Refusal) (desk : DeskView) (out out' : SinkView) → CheckIsProved words limits (status_of r) desk out out'
+check_refused words limits r desk out out' packages cert is carried = absurd (not_carried_out r carried)
