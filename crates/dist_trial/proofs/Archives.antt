@@ -1,14 +1,15 @@
 -- A generated text as an archive at a limit.
-use Rattle.std.proofs.Common.{◌≡◌, ◌≢◌, List, inl, inr, ℕ, ◌<◌, ◌≤◌, length, refl, sym, subst, arith}
+use Rattle.std.proofs.Common.{◌≡◌, ◌≢◌, ◌⊎◌, ◌∙◌, List, Result, Ok, Err, IsErrAnd, inl, inr, ℕ, ◌<◌, ◌≤◌, length, refl, sym, subst, arith}
 use Rattle.std.proofs.lemmas.Bool.{cases_lt}
 use Rattle.dist_control.specs.RawStanza.{raw_stanzas}
 use Rattle.dist_outside.specs.declared.limits.Limits.{Limits}
+use Rattle.dist_outside.specs.declared.trouble.WorkError.{WorkError}
 use Rattle.dist_package.specs.FirstFault.{IsRefused, IsTooMany}
 use Rattle.dist_package.specs.OneAnswer.{HasOneAnswer}
 use Rattle.dist_package.specs.RepositoryOf.{IsRepositoryOf}
 use Rattle.dist_package.specs.declared.error.Fault.{Fault}
 use Rattle.dist_package.specs.declared.error.PackagesError.{PackagesError}
-use Rattle.dist_package.specs.declared.error.PackagesError.TheVariants.{Bad, TooMany}
+use Rattle.dist_package.specs.declared.error.PackagesError.TheVariants.{Bad, TooMany, NoMemory}
 use Rattle.dist_repo.specs.PackageList.{PackageList}
 use Rattle.dist_repo.specs.Size.{IsWithinSize}
 use Rattle.dist_generate.specs.Archive.{IsArchive}
@@ -40,7 +41,7 @@ is-archive one many size seed limits r few bytes is =
 pub within-size : OneAnswerLaw → ArchiveLaw → TooManyLaw → (size seed limit : ℕ) (r : PackageList) → size ≤ 2000 → IsRepositoryOf (generated size seed) limit r → IsWithinSize r
 within-size one archive many size seed limit r few is =
     let a = archive size seed limit few (reaches one many size seed limit r few is) in
-    subst IsWithinSize (sym ((one (generated size seed) limit).one_repository r a.repository is a.is_repository)) a.within_size
+    subst IsWithinSize ((one (generated size seed) limit).one_repository r a.repository is a.is_repository) a.within_size
 
 -- a refusal says that there are too many stanzas
 pub is-past : OneAnswerLaw → ArchiveLaw → (size seed limit : ℕ) (error : PackagesError) → size ≤ 2000 → IsRefused (raw_stanzas (generated size seed)) limit error → limit < size
@@ -59,3 +60,30 @@ pub no-fault : OneAnswerLaw → ArchiveLaw → TooManyLaw → (size seed limit :
 no-fault one archive many size seed limit fault few refused =
     bad≢many fault
     ((one (generated size seed) limit).one_error TooMany (Bad fault) (many size seed limit few (is-past one archive size seed limit (Bad fault) few refused)) refused)
+
+-- ---- what the reader says of a text that is generated
+
+many≢memory : TooMany ≢ NoMemory
+many≢memory e = cc
+
+bad≢memory : (fault : Fault) → Bad fault ≢ NoMemory
+bad≢memory fault e = cc
+
+-- the reader refuses the text with this error
+abbrev pub IsToldOf : (text : List ℕ) (limit : ℕ) → PackagesError → Type 0
+IsToldOf text limit error = (error ≡ NoMemory) ⊎ IsRefused (raw_stanzas text) limit error
+
+pub told-past : OneAnswerLaw → ArchiveLaw → (size seed limit : ℕ) (text : List ℕ) (error : PackagesError) → size ≤ 2000 → text ≡ generated size seed → error ≡ TooMany → IsToldOf text limit error → limit < size
+told-past one archive size seed limit text error few same is (inl none) = absurd (many≢memory (sym is ∙ none))
+told-past one archive size seed limit text error few same is (inr refused) = is-past one archive size seed limit error few (subst (λ (t : List ℕ). IsRefused (raw_stanzas t) limit error) same refused)
+
+pub told-fault : OneAnswerLaw → ArchiveLaw → TooManyLaw → (size seed limit : ℕ) (text : List ℕ) (error : PackagesError) (fault : Fault) → size ≤ 2000 → text ≡ generated size seed → error ≡ Bad fault → IsToldOf text limit error → ⊥
+told-fault one archive many size seed limit text error fault few same is (inl none) = bad≢memory fault (sym is ∙ none)
+told-fault one archive many size seed limit text error fault few same is (inr refused) =
+    no-fault one archive many size seed limit fault few
+    (subst (λ (e : PackagesError). IsRefused (raw_stanzas (generated size seed)) limit e) is (subst (λ (t : List ℕ). IsRefused (raw_stanzas t) limit error) same refused))
+
+-- a clause at the error that a `?` hands on
+pub by-exit : {X : Type 0} (P : Result X WorkError → Type 0) (result : Result X WorkError) (error : WorkError) → IsErrAnd result (λ e. e ≡ error) → P (Err error) → P result
+by-exit P (Ok x) error is holds = absurd is
+by-exit P (Err e) error is holds = subst (λ (y : WorkError). P (Err y)) (sym is) holds

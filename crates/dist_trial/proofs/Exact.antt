@@ -62,8 +62,8 @@ module _ (size seed : ℕ) (limits : Limits) where
   -- an error against its cause, where there are two ways to have no repository
   archive-exact : {X : Type 0} (error other : WorkError) (P : Type 0) → ArchiveAnswers size seed limits (Err error) → (IsOver → TooLarge Bytes ≡ other → P) → (IsPast → TooLarge Stanzas ≡ other → P)
       → (IsOver → P → TooLarge Bytes ≡ other) → (IsPast → P → TooLarge Stanzas ≡ other) → ComesExactly {X = X} (Err error) other P
-  archive-exact (TooLarge Bytes) other P stops overs pasts over past = λ free. ((λ is. overs stops (same-error (TooLarge Bytes) other is)), λ p. ap Err (over stops p))
-  archive-exact (TooLarge Stanzas) other P stops overs pasts over past = λ free. ((λ is. pasts stops (same-error (TooLarge Stanzas) other is)), λ p. ap Err (past stops p))
+  archive-exact (TooLarge Bytes) other P stops overs pasts over past = λ free. ((λ is. overs stops (same-error (Err (TooLarge Bytes)) (TooLarge Bytes) other refl is)), λ p. ap Err (over stops p))
+  archive-exact (TooLarge Stanzas) other P stops overs pasts over past = λ free. ((λ is. pasts stops (same-error (Err (TooLarge Stanzas)) (TooLarge Stanzas) other refl is)), λ p. ap Err (past stops p))
   archive-exact NoMemory other P stops overs pasts over past = λ free. absurd (free refl)
   archive-exact ReadFault other P stops overs pasts over past = absurd stops
   archive-exact WriteFault other P stops overs pasts over past = absurd stops

@@ -27,8 +27,8 @@ use Rattle.dist_trial.specs.Trial.{AreSwept, SweptAnswers}
 pub no-error : {X : Type 0} (x : X) (error : WorkError) → Ok x ≢ Err error
 no-error x error e = cc
 
-pub same-error : {X : Type 0} (error other : WorkError) → Err {A = X} error ≡ Err other → error ≡ other
-same-error error other e = cc
+pub same-error : {X : Type 0} (result : Result X WorkError) (error other : WorkError) → result ≡ Err error → result ≡ Err other → error ≡ other
+same-error result error other is also = cc
 
 -- an error comes as exactly from a call that hands it on
 pub exact-ok : {X Y : Type 0} (x : X) (y : Y) (error : WorkError) (P : Type 0) → ComesExactly (Ok x) error P → ComesExactly (Ok y) error P
@@ -39,10 +39,12 @@ exact-ok x y error P exact = λ other. (
 
 pub exact-err : {X Y : Type 0} (error other : WorkError) (P : Type 0) → ComesExactly {X = X} (Err error) other P → ComesExactly {X = Y} (Err error) other P
 exact-err {X} {Y} error other P exact = λ free.
-    let both = exact (λ is. free (ap Err (same-error error NoMemory is))) in
-    ((λ is. both.0 (ap Err (same-error error other is))), λ p. ap Err (same-error error other (both.1 p)))
+    let x : Result X WorkError = Err error in
+    let y : Result Y WorkError = Err error in
+    let both = exact (λ is. free (ap Err (same-error x error NoMemory refl is))) in
+    ((λ is. both.0 (ap Err (same-error y error other refl is))), λ p. ap Err (same-error x error other refl (both.1 p)))
 
-exact-none : {Y : Type 0} (other : WorkError) (P : Type 0) → ComesExactly {X = Y} (Err NoMemory) other P
+pub exact-none : {Y : Type 0} (other : WorkError) (P : Type 0) → ComesExactly {X = Y} (Err NoMemory) other P
 exact-none other P = λ free. absurd (free refl)
 
 pub exact-memory : {X Y : Type 0} (error other : WorkError) (P : Type 0) → ComesExactly {X = X} (Err error) other P → ComesExactly {X = Y} (Err (in_memory error)) other P
