@@ -49,7 +49,7 @@ of_line words files limits line ending is (inr (other, is_other, decides)) =
 -- ---- `strong`
 
 module _ (hold : ClaimsHold) (limits : Limits) (packages cert : List ℕ) (essential : Bool) (limit : ℕ) (result : Status) (desk desk' : DeskView) (out out' : SinkView) (ending : Ending)
-  (status_is : result ≡ ending.status) (carried : IsCarriedOut ending.status) (files : desk'.files ≡ ending.files) (printed : Grew ending.out out out') where
+    (status_is : result ≡ ending.status) (carried : IsCarriedOut ending.status) (files : desk'.files ≡ ending.files) (printed : Grew ending.out out out') where
   swept_proves : (r : PackageList) → PackagesStage desk.files limits packages (Goes r) → IsSwept desk.files limits cert essential limit r ending
       → ProvesStrong limits packages cert essential limit result desk desk' out out'
   swept_proves r (text, goes, has) swept = record {
@@ -74,7 +74,7 @@ module _ (hold : ClaimsHold) (limits : Limits) (packages cert : List ℕ) (essen
 -- ---- `check`
 
 module _ (limits : Limits) (packages cert : List ℕ) (result : Status) (desk : DeskView) (out out' : SinkView) (ending : Ending)
-  (status_is : result ≡ ending.status) (carried : IsCarriedOut ending.status) (printed : Grew ending.out out out') where
+    (status_is : result ≡ ending.status) (carried : IsCarriedOut ending.status) (printed : Grew ending.out out out') where
   accepted_proves : (r : PackageList) (h : Header) (made : List Claim) → PackagesStage desk.files limits packages (Goes r)
       → OfText (file_bytes desk.files cert) (λ text. Answers r limits text (Ok (verdict.Accepted h made))) → AcceptedMeans r h made
       → ending ≡ answered desk.files (claims_status made) (strong_lines r.packages h made) → ProvesCheck limits packages cert result desk out out'

@@ -73,8 +73,15 @@ module _ (r : PackageList) (essential : Bool) (limit : ℕ) (limits : Limits) (n
 
   pub unreported : (made : List Claim) → Exact (Ok made) → SweepAnswers r essential limit limits name old new (Ok made) → SweepStops r essential limit limits name old new refusal.NoMemory
   unreported made exact answers =
-      inr (inr (inr (refl, inr (claims_status made, strong_lines r.packages (header_of r essential limit []) made,
-      kept (Ok made) exact (λ e. cc) (λ e. cc) (λ e. cc), swept made (claims_status made) (strong_lines r.packages (header_of r essential limit []) made) answers refl refl))))
+      inr (inr (inr (
+        refl,
+        inr (
+          claims_status made,
+          strong_lines r.packages (header_of r essential limit []) made,
+          kept (Ok made) exact (λ e. cc) (λ e. cc) (λ e. cc),
+          swept made (claims_status made) (strong_lines r.packages (header_of r essential limit []) made) answers refl refl,
+        ),
+      )))
 
   stopped : (limit_of : What) → Exact (Err (work.TooLarge limit_of)) → (work.TooLarge limit_of ≢ work.TooLarge what.Clauses) → (work.TooLarge limit_of ≢ work.TooLarge what.Literals)
       → IsStopped old.files limits name essential limit r (refused new.files (refusal.TooLarge limit_of)) → SweepStops r essential limit limits name old new (refusal.TooLarge limit_of)
@@ -104,7 +111,7 @@ module _ (r : PackageList) (essential : Bool) (limit : ℕ) (limits : Limits) (n
 -- ---- the command
 
 module _ (packages name : List ℕ) (essential : Bool) (limit : ℕ) (limits : Limits) (old mid new : DeskView) (r : PackageList) (reads : OnlyReads old mid)
-  (read : PackagesStage old.files limits packages (Goes r)) where
+    (read : PackagesStage old.files limits packages (Goes r)) where
   abbrev Line : Ending → Type 0
   Line = CommandDecides (Strong packages name essential limit) old.files limits
 
