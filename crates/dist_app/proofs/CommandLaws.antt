@@ -1,5 +1,5 @@
 -- Where the desk tells its files, a refusal that comes before anything is written is the only end of a command.
-use Rattle.std.proofs.Common.{◌≡◌, ◌≤◌, ◌<◌, ℕ, List, Bool, inl, inr, Option, Some, None, length, refl, ap, sym, ◌∙◌, subst, arith}
+use Rattle.std.proofs.Common.{◌≡◌, ◌≤◌, ◌<◌, ℕ, List, Bool, false, inl, inr, Option, Some, None, length, refl, ap, sym, ◌∙◌, subst, arith}
 use Rattle.dist_outside.specs.Files.{Files}
 use Rattle.dist_outside.specs.declared.limits.Limits.{Limits}
 use Rattle.dist_package.specs.OneAnswer.{HasOneAnswer}
@@ -7,7 +7,7 @@ use Rattle.dist_package.specs.declared.error.PackagesError.{PackagesError}
 use Rattle.dist_package.specs.declared.error.PackagesError.TheVariants as packages_error
 use Rattle.dist_repo.specs.PackageList.{PackageList}
 use Rattle.dist_repo.specs.declared.package.Package.{Package}
-use Rattle.dist_words.specs.CommandLine.{CommandLine, Health, Classes, Strong, Check}
+use Rattle.dist_words.specs.CommandLine.{CommandLine, Health, Classes, Strong, Check, Try}
 use Rattle.dist_words.specs.Table.{command_of}
 use Rattle.dist_app.specs.Check.{Checks}
 use Rattle.dist_app.specs.Classes.{TellsClasses}
@@ -19,6 +19,8 @@ use Rattle.dist_app.specs.Run.{Decides, Refuses, IsGivenUp}
 use Rattle.dist_app.specs.Stages.{Ending, Goes, Ends, IsDetermined, Excludes, Then, refused}
 use Rattle.dist_app.specs.Strong.{ClausesStage, StrongStages, Sweeps}
 use Rattle.dist_app.specs.TextStage.{TextStage}
+use Rattle.dist_app.specs.Try.{ArchiveStage, Tries}
+use Rattle.dist_generate.specs.Generator.{generated}
 use Rattle.dist_app.specs.declared.refusal.Refusal.TheVariants as refusal
 use Rattle.dist_app.proofs.Lists.{NamesSet-one, NamesSet-not_bad, IsBadAt-one}
 use Rattle.dist_app.proofs.StageLaws.{apart, nothing_excludes, same_end as same_ending, same_value, then_excludes}
@@ -96,6 +98,17 @@ strong_excludes exact files limits packages essential Last =
     then_excludes (ClausesStage (Some files) limits essential r) _ _ (clauses_determined (Some files) limits essential r) (λ _ kept.
     nothing_excludes (Last r)))
 
+archive_determined : AreExact → (files : Option Files) (limits : Limits) (size seed : ℕ) → IsDetermined (ArchiveStage files limits size seed)
+archive_determined exact files limits size seed (Goes a) (Goes b) f g = ap Goes ((exact (generated size seed) limits.stanzas).one_repository a b f.2 g.2)
+archive_determined exact files limits size seed (Goes a) (Ends e) f (inl (longer, is)) = absurd (omega (arith, f.0, longer))
+archive_determined exact files limits size seed (Goes a) (Ends e) f (inr (within, many, is)) = absurd (omega (arith, f.1, many))
+archive_determined exact files limits size seed (Ends e) (Goes b) (inl (longer, is)) g = absurd (omega (arith, g.0, longer))
+archive_determined exact files limits size seed (Ends e) (Goes b) (inr (within, many, is)) g = absurd (omega (arith, g.1, many))
+archive_determined exact files limits size seed (Ends e) (Ends o) (inl (longer, is)) (inl (longer', is')) = ap Ends (is' ∙ sym is)
+archive_determined exact files limits size seed (Ends e) (Ends o) (inl (longer, is)) (inr (within, many, is')) = absurd (omega (arith, longer, within))
+archive_determined exact files limits size seed (Ends e) (Ends o) (inr (within, many, is)) (inl (longer, is')) = absurd (omega (arith, longer, within))
+archive_determined exact files limits size seed (Ends e) (Ends o) (inr (within, many, is)) (inr (within', many', is')) = ap Ends (is' ∙ sym is)
+
 command_excludes : AreExact → (line : CommandLine) (files : Files) (limits : Limits) → Excludes (CommandRefuses line (Some files) limits) (CommandDecides line (Some files) limits)
 command_excludes exact (Health packages list) files limits =
     then_excludes (PackagesStage (Some files) limits packages) _ _ (packages_determined exact files limits packages) (λ r goes.
@@ -107,6 +120,10 @@ command_excludes exact (Classes packages) files limits =
 command_excludes exact (Strong packages cert essential limit) files limits = strong_excludes exact files limits packages essential (Sweeps (Some files) limits cert essential limit)
 command_excludes exact (Check packages cert) files limits =
     then_excludes (PackagesStage (Some files) limits packages) _ _ (packages_determined exact files limits packages) (λ r goes. nothing_excludes (Checks (Some files) limits cert r))
+command_excludes exact (Try size seed) files limits =
+    then_excludes (ArchiveStage (Some files) limits size seed) _ _ (archive_determined exact (Some files) limits size seed) (λ r goes.
+    then_excludes (ClausesStage (Some files) limits false r) _ _ (clauses_determined (Some files) limits false r) (λ _ kept.
+    nothing_excludes (Tries (Some files) limits size r)))
 
 -- nor is a fault of writing the end
 given_up_excludes : AreExact → (line : CommandLine) (files : Files) (limits : Limits)
@@ -116,6 +133,7 @@ given_up_excludes exact (Classes packages) files limits end ending refuses given
 given_up_excludes exact (Strong packages cert essential limit) files limits end ending refuses given_up =
     strong_excludes exact files limits packages essential (λ r e. Unit {0}) end ending refuses (inr (given_up.repository, given_up.read, inr (tt, given_up.kept refl, tt)))
 given_up_excludes exact (Check packages cert) files limits end ending refuses given_up = absurd given_up
+given_up_excludes exact (Try size seed) files limits end ending refuses given_up = absurd given_up
 
 one_line : (line other : CommandLine) (found : Option CommandLine) → found ≡ Some line → found ≡ Some other → other ≡ line
 one_line line other found is is' = cc

@@ -1,6 +1,6 @@
 -- Why a chain of stages was given up, from why its parts were.
-use Rattle.std.proofs.Common.{inl, inr, ℕ, List, Option, Result, Ok, Err, IfOk, IfErr, sym, subst}
-use Rattle.dist_outside.specs.Files.{Files}
+use Rattle.std.proofs.Common.{inl, inr, refl, arith, ℕ, List, Option, Result, Ok, Err, IfOk, IfErr, sym, subst}
+use Rattle.dist_outside.specs.Files.{Files, IsNotWriting}
 use Rattle.dist_outside.specs.DeskView.{DeskView, OnlyReads}
 use Rattle.dist_outside.specs.declared.limits.Limits.{Limits}
 use Rattle.dist_words.specs.CommandLine.{CommandLine}
@@ -52,3 +52,7 @@ pub read_answers : (line : CommandLine) (limits : Limits) (old new : DeskView) (
     → CommandDecides line old.files limits (answered old.files status text) → CommandDecides line old.files limits (answered new.files status text)
 read_answers line limits old new status text reads decides =
     subst (λ (files : Option Files). CommandDecides line old.files limits (answered files status text)) (sym reads.files_stay) decides
+
+-- a desk that nothing is done with
+pub untouched : (desk : DeskView) → IsNotWriting desk.mode → OnlyReads desk desk
+untouched desk not_writing = record { files_stay = refl; not_writing = not_writing; read_faults_stand = omega arith; write_faults_stay = refl }

@@ -13,3 +13,4 @@ pub mod Runs
 pub mod StageLaws
 pub mod Sweeping
 pub mod Writing
+mod Trying

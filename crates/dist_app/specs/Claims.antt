@@ -1,16 +1,14 @@
 -- The status of a run that reports claims.
-use Rattle.std.specs.Prelude.{◌||◌, ◌==◌, ℕ, Bool, not, List, length, if◌then◌else◌}
+use Rattle.std.specs.Prelude.{Bool, List, if◌then◌else◌}
 use Rattle.std.specs.List.{list_any}
 use Rattle.dist_cert.specs.declared.records.Claim.{Claim}
-use Rattle.dist_cert.specs.declared.records.Claim.TheVariants.{Challenged}
-use Rattle.dist_report.specs.StrongReport.{has_some, is_unknown, undecided_on}
+pub use Rattle.dist_trial.specs.Summary.{has_mark}
 use Rattle.dist_app.specs.declared.status.Status.{Status}
 use Rattle.dist_app.specs.declared.status.Status.TheVariants.{Done, DoneWithUndecided}
 
--- Something is left undecided: all that is asked of the package, or a package of the claim's second list.
-abbrev pub has_mark : Claim → Bool
-has_mark (Challenged by undecided) = not (length undecided == 0)
-has_mark claim = is_unknown claim || has_some (undecided_on claim)
+-- done, and something is left undecided or not
+abbrev pub marked_status : Bool → Status
+marked_status marked = if marked then DoneWithUndecided else Done
 
 abbrev pub claims_status : List Claim → Status
-claims_status made = if list_any has_mark made then DoneWithUndecided else Done
+claims_status made = marked_status (list_any has_mark made)

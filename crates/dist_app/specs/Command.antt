@@ -2,12 +2,13 @@
 use Rattle.std.specs.Prelude.{ℕ, Option}
 use Rattle.dist_outside.specs.Files.{Files}
 use Rattle.dist_outside.specs.declared.limits.Limits.{Limits}
-use Rattle.dist_words.specs.CommandLine.{CommandLine, Health, Classes, Strong, Check}
+use Rattle.dist_words.specs.CommandLine.{CommandLine, Health, Classes, Strong, Check, Try}
 use Rattle.dist_app.specs.Check.{CheckStages, Checks}
 use Rattle.dist_app.specs.Classes.{ClassesStages, TellsClasses}
 use Rattle.dist_app.specs.Health.{HealthStages, Judges}
 use Rattle.dist_app.specs.Stages.{Ending}
 use Rattle.dist_app.specs.Strong.{StrongStages, Sweeps, IsGivenUp}
+use Rattle.dist_app.specs.Try.{TryStages, Tries}
 use Rattle.dist_app.specs.declared.refusal.Refusal.{Refusal}
 
 -- the ends that the inputs decide
@@ -16,6 +17,7 @@ CommandDecides (Health packages list) files limits = HealthStages files limits p
 CommandDecides (Classes packages) files limits = ClassesStages files limits packages (TellsClasses files)
 CommandDecides (Strong packages cert essential limit) files limits = StrongStages files limits packages essential (Sweeps files limits cert essential limit)
 CommandDecides (Check packages cert) files limits = CheckStages files limits packages (Checks files limits cert)
+CommandDecides (Try size seed) files limits = TryStages files limits size seed (Tries files limits size)
 
 -- The refusals that come whatever happens later: the end of a stage before the last one.
 abbrev pub CommandRefuses : CommandLine → Option Files → Limits → Ending → Type 0
@@ -23,6 +25,7 @@ CommandRefuses (Health packages list) files limits = HealthStages files limits p
 CommandRefuses (Classes packages) files limits = ClassesStages files limits packages (λ repository ending. ⊥)
 CommandRefuses (Strong packages cert essential limit) files limits = StrongStages files limits packages essential (λ repository ending. ⊥)
 CommandRefuses (Check packages cert) files limits = CheckStages files limits packages (λ repository ending. ⊥)
+CommandRefuses (Try size seed) files limits = TryStages files limits size seed (λ repository ending. ⊥)
 
 -- the ends of a command that was given up while it wrote a file
 abbrev pub CommandIsGivenUp : CommandLine → Option Files → Limits → Refusal → Ending → Type 0

@@ -3,6 +3,7 @@ pub mod CauseText
 pub mod Check
 pub mod Claims
 pub mod Classes
+pub mod Try
 pub mod Command
 pub mod Due
 pub mod FaultText

@@ -14,6 +14,7 @@ use crate::classes_command::run_classes;
 use crate::health_command::run_health;
 use crate::refusal::Refusal;
 use crate::strong_command::run_strong;
+use crate::try_command::run_try;
 use dist_outside::{Desk, Limits};
 use dist_words::Command;
 use std::alloc::Global;
@@ -39,5 +40,6 @@ pub(crate) fn run_command<D: Desk>(
         Command::Classes(packages) => run_classes(alloc, desk, packages, limits),
         Command::Strong(words) => run_strong(alloc, desk, words, limits),
         Command::Check(files) => run_check(alloc, desk, files, limits),
+        Command::Try(words) => run_try(alloc, words, limits),
     }
 }

@@ -20,6 +20,7 @@ mod refusal_text;
 mod status;
 mod strong_command;
 mod top_call;
+mod try_command;
 
 pub use laws::archives_have_reports;
 pub use status::Status;

@@ -2,7 +2,7 @@
 use Rattle.std.specs.Prelude.{◌≤◌, ℕ, List, map}
 use Rattle.std.specs.Borrow.{Bor}
 use Rattle.dist_words.specs.Clap.{Options as Chosen}
-use Rattle.dist_words.specs.CommandLine.{CommandLine, Health, Classes, Strong, Check}
+use Rattle.dist_words.specs.CommandLine.{CommandLine, Health, Classes, Strong, Check, Try}
 use Rattle.dist_words.specs.declared.command.Command.{Command}
 use Rattle.dist_words.specs.declared.command.Command.TheVariants as command
 use Rattle.dist_words.specs.declared.taken.Options.{Options}
@@ -13,15 +13,22 @@ line_of (command.Health files) = Health files.packages.now files.list.now
 line_of (command.Classes packages) = Classes packages.now
 line_of (command.Strong words) = Strong words.packages.now words.cert.now words.essential words.limit
 line_of (command.Check files) = Check files.packages.now files.cert.now
+line_of (command.Try words) = Try words.size words.seed
 
 -- a limit of derived lines that may stand
 pub record IsLimit (limit : ℕ) : Type 0 where
   pub least : 1 ≤ limit
   pub greatest : limit ≤ 1000000
 
--- a command's limit may stand
+-- a size of an archive that may stand
+pub record IsSize (size : ℕ) : Type 0 where
+  pub least : 1 ≤ size
+  pub greatest : size ≤ 2000
+
+-- a command's limit, or its size, may stand
 abbrev pub HasLimit : Command → Type 0
 HasLimit (command.Strong words) = IsLimit words.limit
+HasLimit (command.Try words) = IsSize words.size
 HasLimit line = Unit {0}
 
 -- the names of files

@@ -5,12 +5,13 @@
 --   classes    PACKAGES          none
 --   strong     PACKAGES CERT     --limit, --essential
 --   check      PACKAGES CERT     none
-use Rattle.std.specs.Prelude.{◌≡◌, ◌&&◌, Bool, not, List, [], ◌∷◌, Option, Some, None, is_some, if◌then◌else◌, codes, unwrap_or}
+--   try        none              --size and --seed, both needed
+use Rattle.std.specs.Prelude.{◌≡◌, ℕ, ◌&&◌, Bool, not, List, [], ◌∷◌, Option, Some, None, is_some, if◌then◌else◌, codes, unwrap_or}
 use Rattle.std.specs.Str.{bytes_eq}
 use Rattle.clap.specs.Walk.{Text, is_empty}
 use Rattle.clap.specs.Faults.{fault_of}
 use Rattle.dist_words.specs.Clap.{Options, Taken, simple_command, taken}
-use Rattle.dist_words.specs.CommandLine.{CommandLine, Health, Classes, Strong, Check}
+use Rattle.dist_words.specs.CommandLine.{CommandLine, Health, Classes, Strong, Check, Try}
 
 -- ---- options
 
@@ -18,9 +19,13 @@ use Rattle.dist_words.specs.CommandLine.{CommandLine, Health, Classes, Strong, C
 abbrev pub has_no_seed : Options → Bool
 has_no_seed options = not (is_some options.size) && not (is_some options.seed)
 
+-- neither a limit nor the flag stands
+abbrev pub has_no_limit : Options → Bool
+has_no_limit options = not (is_some options.limit) && not options.essential
+
 -- no option stands
 abbrev pub has_no_option : Options → Bool
-has_no_option options = has_no_seed options && (not (is_some options.limit) && not options.essential)
+has_no_option options = has_no_seed options && has_no_limit options
 
 -- ---- files
 
@@ -32,6 +37,10 @@ abbrev pub with_two : (Text → Text → CommandLine) → List Text → Option C
 with_two command (first ∷ second ∷ []) = Some (command first second)
 with_two command files = None
 
+abbrev pub with_none : Option CommandLine → List Text → Option CommandLine
+with_none command [] = command
+with_none command files = None
+
 -- ---- the table
 
 -- a line of the table, where its options allow it
@@ -41,13 +50,19 @@ where_allowed allowed line = if allowed then line else None
 abbrev pub strong_with : Options → Text → Text → CommandLine
 strong_with options packages cert = Strong packages cert options.essential (unwrap_or options.limit 10000)
 
+-- with a size and a seed
+abbrev pub seeded : Option ℕ → Option ℕ → Option CommandLine
+seeded (Some size) (Some seed) = Some (Try size seed)
+seeded size seed = None
+
 abbrev pub in_table : Text → List Text → Options → Option CommandLine
 in_table word files options =
     if bytes_eq word (codes "health") then where_allowed (has_no_option options) (with_two Health files)
     else (if bytes_eq word (codes "classes") then where_allowed (has_no_option options) (with_one Classes files)
     else (if bytes_eq word (codes "strong") then where_allowed (has_no_seed options) (with_two (strong_with options) files)
     else (if bytes_eq word (codes "check") then where_allowed (has_no_option options) (with_two Check files)
-    else None)))
+    else (if bytes_eq word (codes "try") then where_allowed (has_no_limit options) (with_none (seeded options.size options.seed) files)
+    else None))))
 
 -- the command that the table has for what was taken
 abbrev pub accepted : Taken → Option CommandLine

@@ -1,6 +1,6 @@
 -- Worked examples of the table.
 use Rattle.std.specs.Prelude.{◌≡◌, true, false, [], ◌∷◌, Some, None, codes, refl}
-use Rattle.dist_words.specs.CommandLine.{Strong}
+use Rattle.dist_words.specs.CommandLine.{Strong, Try}
 use Rattle.dist_words.specs.Table.{in_table}
 
 -- `strong f g`, with no limit
@@ -16,3 +16,10 @@ check_takes_no_limit = refl
 -- `strong f`
 strong_takes_two_files : in_table (codes "strong") (codes "f" ∷ []) (record { limit = None; size = None; seed = None; essential = true }) ≡ None
 strong_takes_two_files = refl
+
+-- `try --size 2 --seed 0`, and without the seed
+try_is_seeded : in_table (codes "try") [] (record { limit = None; size = Some 2; seed = Some 0; essential = false }) ≡ Some (Try 2 0)
+try_is_seeded = refl
+
+try_needs_a_seed : in_table (codes "try") [] (record { limit = None; size = Some 3; seed = None; essential = false }) ≡ None
+try_needs_a_seed = refl

@@ -25,6 +25,14 @@ pub struct StrongWords<'a> {
     pub limit: u32,
 }
 
+/// The options of `try`.
+#[derive(Clone, Copy, Debug)]
+pub struct TryWords {
+    /// How many packages the archive has.
+    pub size: u32,
+    pub seed: u32,
+}
+
 /// A command with the names of its files and its options.
 #[derive(Clone, Copy, Debug)]
 pub enum Command<'a> {
@@ -32,4 +40,5 @@ pub enum Command<'a> {
     Classes(&'a str),
     Strong(StrongWords<'a>),
     Check(CertFiles<'a>),
+    Try(TryWords),
 }

@@ -7,7 +7,7 @@ mod error;
 mod table;
 mod taken;
 
-pub use command::{CertFiles, Command, HealthFiles, StrongWords};
+pub use command::{CertFiles, Command, HealthFiles, StrongWords, TryWords};
 pub use error::WordsError;
 pub use table::command_of;
 

@@ -5,12 +5,12 @@ ghost use Rattle.clap.specs.Walk.{rows_of};
 ghost use Rattle.dist_words.specs.Clap.{taken_of};
 ghost use Rattle.dist_words.specs.SimpleCommand.{IsMatched};
 ghost use Rattle.dist_words.specs.CommandLine.{Health, Classes, Check};
-ghost use Rattle.dist_words.specs.Lines.{HasLimit, IsLimit, line_of, names, seen};
-ghost use Rattle.dist_words.specs.Table.{IsBadWords, accepted, command_of, in_table, has_no_option, has_no_seed, strong_with, where_allowed, with_one, with_two};
+ghost use Rattle.dist_words.specs.Lines.{HasLimit, IsLimit, IsSize, line_of, names, seen};
+ghost use Rattle.dist_words.specs.Table.{IsBadWords, accepted, command_of, in_table, has_no_limit, has_no_option, has_no_seed, seeded, strong_with, where_allowed, with_none, with_one, with_two};
 ghost use Rattle.dist_words.specs.declared.error.WordsError.TheVariants.{BadWords};
 
 use crate::clap_command::matches_of;
-use crate::command::{CertFiles, Command, HealthFiles, StrongWords};
+use crate::command::{CertFiles, Command, HealthFiles, StrongWords, TryWords};
 use crate::error::WordsError;
 use crate::taken::{Options, options_of};
 use clap::ArgMatches;
@@ -49,7 +49,8 @@ fn accepted<'a>(matches: &ArgMatches<'a>) -> Option<Command<'a>>
 
 /// The command of a word.
 fn in_table<'a>(word: &str, files: &[&'a str], options: Options) -> Option<Command<'a>>
-    requires { IfSome options.limit IsLimit }
+    requires limit { IfSome options.limit IsLimit }
+    requires size { IfSome options.size IsSize }
     ensures command { option_map line_of result ≡ in_table word.now (names files.now) (seen options) }
     ensures limit { IfSome result HasLimit }
 {
@@ -61,6 +62,8 @@ fn in_table<'a>(word: &str, files: &[&'a str], options: Options) -> Option<Comma
         strong(files, options)
     } else if word == "check" {
         check(files, options)
+    } else if word == "try" {
+        seeded(files, options)
     } else {
         None
     }
@@ -73,11 +76,18 @@ fn has_no_seed(options: Options) -> bool
     options.size.is_none() && options.seed.is_none()
 }
 
+/// Neither a limit nor the flag stands.
+fn has_no_limit(options: Options) -> bool
+    ensures { result ≡ has_no_limit (seen options) }
+{
+    options.limit.is_none() && !options.essential
+}
+
 /// No option stands.
 fn has_no_option(options: Options) -> bool
     ensures { result ≡ has_no_option (seen options) }
 {
-    has_no_seed(options) && options.limit.is_none() && !options.essential
+    has_no_seed(options) && has_no_limit(options)
 }
 
 /// `health PACKAGES LIST`.
@@ -127,6 +137,21 @@ fn check<'a>(files: &[&'a str], options: Options) -> Option<Command<'a>>
     match files {
         [packages, cert] if has_no_option(options) => {
             Some(Command::Check(CertFiles { packages, cert }))
+        }
+        _ => None,
+    }
+}
+
+/// `try`, with a size and a seed.
+fn seeded<'a>(files: &[&'a str], options: Options) -> Option<Command<'a>>
+    requires { IfSome options.size IsSize }
+    ensures command { option_map line_of result
+        ≡ where_allowed (has_no_limit (seen options)) (with_none (seeded options.size options.seed) (names files.now)) }
+    ensures limit { IfSome result HasLimit }
+{
+    match (files, options.size, options.seed) {
+        ([], Some(size), Some(seed)) if has_no_limit(options) => {
+            Some(Command::Try(TryWords { size, seed }))
         }
         _ => None,
     }

@@ -3,7 +3,7 @@ ghost use Rattle.std.specs.Prelude.{◌≡◌, IfSome};
 ghost use Rattle.clap.specs.Matches.{found_of};
 ghost use Rattle.clap.specs.Walk.{rows_of};
 ghost use Rattle.dist_words.specs.Clap.{options_of};
-ghost use Rattle.dist_words.specs.Lines.{IsLimit, seen};
+ghost use Rattle.dist_words.specs.Lines.{IsLimit, IsSize, seen};
 ghost use Rattle.dist_words.specs.SimpleCommand.{IsMatched};
 
 use clap::ArgMatches;
@@ -22,6 +22,7 @@ pub(crate) fn options_of(matches: &ArgMatches<'_>) -> Options
     requires { IsMatched matches.now }
     ensures options { seen result ≡ options_of (rows_of (found_of matches.now)) }
     ensures limit { IfSome result.limit IsLimit }
+    ensures size { IfSome result.size IsSize }
 {
     Options {
         limit: matches.get_one::<u32>("limit"),

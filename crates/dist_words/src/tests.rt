@@ -58,6 +58,10 @@ fn files_are_read(rt: HostRuntime) -> Result<(), Fail> {
     assert!(rt;
         matches!(command_of(alloc, &words), Ok(Command::Check(files)) if files.packages == "f" && files.cert == "g")
     );
+    let words = all(alloc, &["try", "--seed", "0", "--size", "2"])?;
+    assert!(rt;
+        matches!(command_of(alloc, &words), Ok(Command::Try(sizes)) if sizes.size == 2 && sizes.seed == 0)
+    );
     Ok(())
 }
 

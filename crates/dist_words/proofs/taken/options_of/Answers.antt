@@ -2,7 +2,7 @@ use Rattle.std.proofs.Common.{refl, arith, codes}
 use Rattle.std.specs.Str.Parse.{ParsesUnsigned, ExplainsUnsignedError, HasUnsignedDigitsIfOk}
 use Rattle.dist_words.specs.Clap.{number_option, essential_rule}
 use Rattle.dist_words.proofs.Chain.{alone, no_rule}
-use Rattle.dist_words.proofs.Readings.{IsAt, number_read, flag_read, limit_of}
+use Rattle.dist_words.proofs.Readings.{IsAt, number_read, flag_read, limit_of, size_of}
 use Rattle.dist_words.proofs.taken.options_of.Goals as goal
 
 limit_at : IsAt 2 (number_option (codes "limit") 1 1000000)
@@ -35,3 +35,9 @@ returns-clause-limit c =
     let m = c.args.matches.now in
     let limit = number_read (λ bs r. ParsesUnsigned 32 10 bs r × ExplainsUnsignedError 10 bs r × HasUnsignedDigitsIfOk bs r) m c.requires 2 (number_option (codes "limit") 1 1000000) 1 1000000 limit_at refl (omega arith) (λ u x g. g.0) c.get_one.result c.get_one.ensures.none c.get_one.ensures.value in
     limit_of c.get_one.result limit.1
+
+pub returns-clause-size : goal.returns-clause-size
+returns-clause-size c =
+    let m = c.args.matches.now in
+    let size = number_read (λ bs r. ParsesUnsigned 32 10 bs r × ExplainsUnsignedError 10 bs r × HasUnsignedDigitsIfOk bs r) m c.requires 3 (number_option (codes "size") 1 2000) 1 2000 size_at refl (omega arith) (λ u x g. g.0) c.get_one-2.result c.get_one-2.ensures.none c.get_one-2.ensures.value in
+    size_of c.get_one-2.result size.1

@@ -1,0 +1,46 @@
+//! `try --size N --seed S`. It touches no file.
+ghost use Rattle.std.specs.Prelude.{◌≡◌, IfErr, IfOk, Option};
+ghost use Rattle.dist_outside.specs.Files.{Files};
+ghost use Rattle.dist_words.specs.Lines.{IsSize};
+ghost use Rattle.dist_app.specs.Claims.{marked_status};
+ghost use Rattle.dist_app.specs.Due.{IsGivenUp};
+ghost use Rattle.dist_app.specs.Run.{IsWithinStated};
+ghost use Rattle.dist_app.specs.Stages.{answered};
+ghost use Rattle.dist_app.specs.Try.{Tries, TryStages};
+
+use crate::answer::Answer;
+use crate::refusal::{Refusal, refusal_of};
+use crate::status::Status;
+use dist_outside::Limits;
+use dist_trial::trial;
+use dist_words::TryWords;
+use std::alloc::Global;
+
+/// What the command answers, or why it was given up.
+pub(crate) fn run_try(alloc: Global, words: &TryWords, limits: &Limits) -> Result<Answer, Refusal>
+    requires within { IsWithinStated limits.now }
+    requires size { IsSize words.now.size }
+    ensures answers { IfOk result (λ answer. (files : Option Files) → TryStages files limits.now words.now.size words.now.seed
+        (Tries files limits.now words.now.size) (answered files answer.status answer.text.items)) }
+    ensures stops { IfErr result (λ refusal. (files : Option Files) → IsGivenUp (TryStages files limits.now words.now.size words.now.seed
+        (Tries files limits.now words.now.size)) files refusal) }
+{
+    match trial(alloc, words.size, words.seed, limits) {
+        Ok(trial) => Ok(Answer {
+            status: status_of(trial.undecided),
+            text: trial.summary,
+        }),
+        Err(error) => Err(refusal_of(error)),
+    }
+}
+
+/// The status of a trial.
+fn status_of(undecided: bool) -> Status
+    ensures { result ≡ marked_status undecided }
+{
+    if undecided {
+        Status::DoneWithUndecided
+    } else {
+        Status::Done
+    }
+}
