@@ -15,7 +15,7 @@ use Rattle.dist_repo.specs.declared.package.Package.{Package}
 use Rattle.dist_cert.specs.declared.records.Claim.{Claim}
 use Rattle.dist_check.specs.declared.verdict.Verdict.{Verdict}
 use Rattle.dist_check.specs.declared.verdict.Verdict.TheVariants as verdict
-use Rattle.dist_words.specs.CommandLine.{CommandLine, Health, Classes, Strong, Check}
+use Rattle.dist_words.specs.CommandLine.{CommandLine, Health, Classes, Strong, Check, Try}
 use Rattle.dist_app.specs.Check.{Concludes}
 use Rattle.dist_app.specs.Claims.{claims_status, has_mark}
 use Rattle.dist_app.specs.Command.{CommandDecides, CommandRefuses, CommandIsGivenUp}
@@ -28,6 +28,7 @@ use Rattle.dist_app.specs.Run.{Decides, Refuses}
 use Rattle.dist_app.specs.Stages.{Ending, Ends, answered, refused}
 use Rattle.dist_app.specs.Strong.{ClausesStage}
 use Rattle.dist_app.specs.TextStage.{TextStage}
+use Rattle.dist_app.specs.Try.{ArchiveStage}
 use Rattle.dist_app.specs.declared.refusal.Refusal.{Refusal}
 use Rattle.dist_app.specs.declared.refusal.Refusal.TheVariants as refusal
 use Rattle.dist_app.specs.declared.status.Status.{Status}
@@ -92,6 +93,10 @@ pub clauses_refuse : (files : Option Files) (limits : Limits) (essential : Bool)
 clauses_refuse files limits essential r ending (inl (passes, is)) = record { why = refusal.TooLarge what.Clauses; of_files = tt; is = is }
 clauses_refuse files limits essential r ending (inr (not, passes, is)) = record { why = refusal.TooLarge what.Literals; of_files = tt; is = is }
 
+archive_refuses : (files : Option Files) (limits : Limits) (size seed : ℕ) (ending : Ending) → ArchiveStage files limits size seed (Ends ending) → IsRefusal files ending
+archive_refuses files limits size seed ending (inl (longer, is)) = record { why = refusal.TooLarge what.Bytes; of_files = tt; is = is }
+archive_refuses files limits size seed ending (inr (within, many, is)) = record { why = refusal.TooLarge what.Stanzas; of_files = tt; is = is }
+
 -- ---- commands
 
 command_refuses : (line : CommandLine) (files : Option Files) (limits : Limits) (ending : Ending) → CommandRefuses line files limits ending → IsRefusal files ending
@@ -106,6 +111,9 @@ command_refuses (Strong packages cert essential limit) files limits ending (inr 
 command_refuses (Strong packages cert essential limit) files limits ending (inr (r, goes, inr (_, kept, none))) = absurd none
 command_refuses (Check packages cert) files limits ending (inl p) = packages_refuses files limits packages ending p
 command_refuses (Check packages cert) files limits ending (inr (r, goes, none)) = absurd none
+command_refuses (Try size seed) files limits ending (inl a) = archive_refuses files limits size seed ending a
+command_refuses (Try size seed) files limits ending (inr (r, goes, inl c)) = clauses_refuse files limits false r ending c
+command_refuses (Try size seed) files limits ending (inr (r, goes, inr (_, kept, none))) = absurd none
 
 pub refuses_told : (words : List (List ℕ)) (files : Option Files) (limits : Limits) (ending : Ending) → Refuses words files limits ending → ¬ (ending.err ≡ [])
 refuses_told words files limits ending (inl (bad, is)) empty = told_not_empty refusal.BadWords (sym (ap (λ (e : Ending). e.err) is) ∙ empty)
@@ -152,6 +160,10 @@ command_status (Strong packages cert essential limit) files limits ending (inr (
 command_status (Strong packages cert essential limit) files limits ending (inr (r, goes, inr (_, kept, inr stopped))) = subst (λ (e : Ending). IsOfFiles e.status) (sym stopped.is) tt
 command_status (Check packages cert) files limits ending (inl p) = refusal_status files ending (packages_refuses files limits packages ending p)
 command_status (Check packages cert) files limits ending (inr (r, goes, checks)) = concluded_status files r checks.result ending checks.concludes
+command_status (Try size seed) files limits ending (inl a) = refusal_status files ending (archive_refuses files limits size seed ending a)
+command_status (Try size seed) files limits ending (inr (r, goes, inl c)) = refusal_status files ending (clauses_refuse files limits false r ending c)
+command_status (Try size seed) files limits ending (inr (r, goes, inr (_, kept, inl tried))) = subst (λ (e : Ending). IsOfFiles e.status) (sym tried.is) (claims_of_files tried.made)
+command_status (Try size seed) files limits ending (inr (r, goes, inr (_, kept, inr stopped))) = subst (λ (e : Ending). IsOfFiles e.status) (sym stopped.is) tt
 
 -- a command that was given up while it wrote ends with the status of why
 pub given_up_status : (line : CommandLine) (files : Option Files) (limits : Limits) (why : Refusal) (ending : Ending) → CommandIsGivenUp line files limits why ending → ending.status ≡ status_of why
@@ -159,6 +171,7 @@ given_up_status (Health packages list) files limits why ending given_up = absurd
 given_up_status (Classes packages) files limits why ending given_up = absurd given_up
 given_up_status (Strong packages cert essential limit) files limits why ending given_up = ap (λ (e : Ending). e.status) given_up.is
 given_up_status (Check packages cert) files limits why ending given_up = absurd given_up
+given_up_status (Try size seed) files limits why ending given_up = absurd given_up
 
 not_of_files : (status other : Status) → IsOfFiles status → status ≡ other → IsOfFiles other
 not_of_files status other of is = subst IsOfFiles is of

@@ -34,3 +34,5 @@ mod classes_tests;
 mod strong_tests;
 #[cfg(test)]
 mod tests;
+#[cfg(test)]
+mod try_tests;
