@@ -1,5 +1,5 @@
 #!/bin/sh
-# Runs the built program once for each status that `health` can be made to end with, and compares its exit status, what it
+# Runs the built program at least once for each status that it can be made to end with, and compares its exit status, what it
 # prints and its line on standard error with what is wanted. Outside the gate, since the gate runs a program once.
 # Usage: statuses.sh    the program is crates/distfuture/out/distfuture, or $DISTFUTURE
 set -eu
@@ -13,6 +13,11 @@ printf 'Package: a\nVersion: 1\nDescription\n' >bad
 printf 'a 1\nb 1\n' >both
 printf 'a 1\n' >alone
 printf 'd 1\n' >unknown
+# Four groups of five packages of which each two of a group exclude each other, and one that needs one of each number.
+for group in a b c d; do
+    for number in 1 2 3 4 5; do printf 'Package: %s%s\nVersion: 1\nProvides: %s\nConflicts: %s\n\n' $group $number $group $group; done
+done >hard
+printf 'Package: p\nVersion: 1\nDepends: a1 | b1 | c1 | d1, a2 | b2 | c2 | d2, a3 | b3 | c3 | d3, a4 | b4 | c4 | d4, a5 | b5 | c5 | d5\n' >>hard
 # A file of one byte more than is read, without its bytes on the disk.
 truncate -s 268435457 long
 failed=0
@@ -30,6 +35,40 @@ wants() {
 }
 
 wants 0 'healthy' '' health packages both
+report='report: "strong"
+limit: 10000
+packages: 3
+uninstallable: []
+strong:
+  - package: "a=1"
+    on:
+      - "b=1"
+impact:
+  - package: "b=1"
+    of:
+      - "a=1"
+undecided: []
+undecided_pairs: []'
+wants 0 "$report" '' strong packages cert
+wants 0 "$report" '' check packages cert
+wants 0 'size 2
+strong 1
+uninstallable 0
+undecided 0
+accepted 1' '' try --size 2 --seed 0
+wants 1 'report: "strong"
+limit: 1
+packages: 21
+uninstallable: []
+strong: []
+impact: []
+undecided:
+  - "p=1"
+undecided_pairs: []' '' strong hard hard-cert --limit 1
+sed '$d' cert >cut
+wants 4 '' "distfuture: certificate refused at line $(($(wc -l <cert))): Truncated" check packages cut
+wants 6 '' 'distfuture: write fault' strong packages missing/cert
+wants 2 '' 'distfuture: bad command line' check packages cert --essential
 wants 2 '' 'distfuture: bad command line' health packages
 wants 2 '' 'distfuture: bad command line'
 wants 3 '' 'distfuture: bad packages at line 3: NoColon' health bad both
