@@ -99,7 +99,7 @@ with tempfile.TemporaryDirectory() as folder:
         for mode in ([], ["--essential"]):
             told = subprocess.run([program, "strong", path, cert, *mode], capture_output=True)
             again = subprocess.run([program, "check", path, cert], capture_output=True)
-            report = yaml.load(told.stdout, Loader=yaml.BaseLoader) if told.returncode == 0 else {}
+            report = (yaml.load(told.stdout, Loader=yaml.BaseLoader) or {}) if told.returncode == 0 else {}
             if again.stdout != told.stdout or (report.get("uninstallable"), report.get("strong")) != wanted(packages, bool(mode)):
                 print(f"archive {number} {mode}: status {told.returncode}, check {again.returncode}\n{open(path).read()}\n{told.stdout.decode()}\n{wanted(packages, bool(mode))}")
                 sys.exit(1)
