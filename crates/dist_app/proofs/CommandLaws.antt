@@ -1,5 +1,6 @@
 -- Where the desk tells its files, a refusal that comes before anything is written is the only end of a command.
-use Rattle.std.proofs.Common.{◌≡◌, ◌≤◌, ◌<◌, ℕ, List, Bool, false, inl, inr, Option, Some, None, length, refl, ap, sym, ◌∙◌, subst, arith}
+use Rattle.std.proofs.Common.{◌≡◌, ◌≤◌, ◌<◌, ℕ, List, Bool, false, inl, inr, Option, Some, None, Result, Ok, Err, length, refl, ap, sym, ◌∙◌, subst, arith}
+use Rattle.std.specs.Prelude.{IsSome, get}
 use Rattle.dist_outside.specs.Files.{Files}
 use Rattle.dist_outside.specs.declared.limits.Limits.{Limits}
 use Rattle.dist_package.specs.OneAnswer.{HasOneAnswer}
@@ -9,7 +10,16 @@ use Rattle.dist_repo.specs.PackageList.{PackageList}
 use Rattle.dist_repo.specs.declared.package.Package.{Package}
 use Rattle.dist_words.specs.CommandLine.{CommandLine, Health, Classes, Strong, Check, Try}
 use Rattle.dist_words.specs.Table.{command_of}
-use Rattle.dist_app.specs.Check.{Checks}
+use Rattle.dist_outside.specs.declared.trouble.WorkError.{WorkError}
+use Rattle.dist_outside.specs.declared.trouble.WorkError.TheVariants as work
+use Rattle.dist_repo.specs.Order.{IsInOrder}
+use Rattle.dist_cert.specs.declared.records.Claim.{Claim}
+use Rattle.dist_cert.specs.declared.records.Header.{Header}
+use Rattle.dist_check.specs.Answers.{Answers, IsOfText}
+use Rattle.dist_check.specs.Checking.{OfText}
+use Rattle.dist_check.specs.declared.verdict.Verdict.{Verdict}
+use Rattle.dist_check.specs.declared.verdict.Verdict.TheVariants.{Accepted, Refused}
+use Rattle.dist_app.specs.Check.{CertificateStage, IsEndOfCertificate, IsJudged, Reports}
 use Rattle.dist_app.specs.Classes.{TellsClasses}
 use Rattle.dist_app.specs.Command.{CommandDecides, CommandRefuses, CommandIsGivenUp}
 use Rattle.dist_app.specs.Health.{ListStage, Judges}
@@ -31,7 +41,7 @@ same_text a b whole first second = cc
 not_longer : (a b : List ℕ) (limit : ℕ) → a ≡ b → length b ≤ limit → ¬ (limit < length a)
 not_longer a b limit same within longer = omega (arith, ap length same, within, longer)
 
-text_determined : (files : Files) (name : List ℕ) (limit : ℕ) → IsDetermined (TextStage (Some files) name limit)
+pub text_determined : (files : Files) (name : List ℕ) (limit : ℕ) → IsDetermined (TextStage (Some files) name limit)
 text_determined files name limit (Goes a) (Goes b) f g = ap Goes (same_text a b _ f.bytes g.bytes)
 text_determined files name limit (Goes a) (Ends e) f (longer, is) = absurd (not_longer longer.0 a limit (same_text a longer.0 _ f.bytes longer.1) f.within longer.2)
 text_determined files name limit (Ends e) (Goes b) (longer, is) g = absurd (not_longer longer.0 b limit (same_text b longer.0 _ g.bytes longer.1) g.within longer.2)
@@ -46,6 +56,16 @@ same_end files packages_error.NoMemory e other is is' = absurd is
 abbrev pub AreExact : Type 0
 AreExact = (text : List ℕ) (limit : ℕ) → HasOneAnswer text limit
 
+-- each text of a certificate has one answer
+abbrev pub HaveOneAnswer : Type 0
+HaveOneAnswer = (r : PackageList) (limits : Limits) (text : List ℕ) (result other : Result Verdict WorkError) → IsInOrder r.packages
+    → Answers r limits text result → Answers r limits text other → IsOfText result → IsOfText other → other ≡ result
+
+-- what the bytes of both files decide, they decide in one way
+pub record TextsDecide : Type 0 where
+  pub packages : AreExact
+  pub certificates : HaveOneAnswer
+
 repository_determined : AreExact → (files : Option Files) (stanzas : ℕ) (text : List ℕ) → IsDetermined (RepositoryStage files stanzas text)
 repository_determined exact files stanzas text (Goes a) (Goes b) f g = ap Goes ((exact text stanzas).one_repository a b f g)
 repository_determined exact files stanzas text (Goes a) (Ends e) f (error, refuses, is) = absurd ((exact text stanzas).never_both a error f refuses)
@@ -54,14 +74,14 @@ repository_determined exact files stanzas text (Ends e) (Ends other) (error, ref
     let same = (exact text stanzas).one_error error error' refuses refuses' in
     ap Ends (same_end files error e other is (subst (λ (x : PackagesError). IsEndOf files x other) same is'))
 
-list_determined : (files : Option Files) (packages : List Package) (text : List ℕ) → IsDetermined (ListStage files packages text)
+pub list_determined : (files : Option Files) (packages : List Package) (text : List ℕ) → IsDetermined (ListStage files packages text)
 list_determined files packages text (Goes a) (Goes b) f g = ap Goes (NamesSet-one packages text a b f g)
 list_determined files packages text (Goes a) (Ends e) f (line, bad, is) = absurd (NamesSet-not_bad packages text a line f bad)
 list_determined files packages text (Ends e) (Goes b) (line, bad, is) g = absurd (NamesSet-not_bad packages text b line g bad)
 list_determined files packages text (Ends e) (Ends other) (line, bad, is) (line', bad', is') =
     ap Ends (is' ∙ ap (λ (n : ℕ). refused files (refusal.BadList n)) (IsBadAt-one packages text line line' bad bad') ∙ sym is)
 
-packages_determined : AreExact → (files : Files) (limits : Limits) (name : List ℕ) → IsDetermined (PackagesStage (Some files) limits name)
+pub packages_determined : AreExact → (files : Files) (limits : Limits) (name : List ℕ) → IsDetermined (PackagesStage (Some files) limits name)
 packages_determined exact files limits name (Goes a) (Goes b) (t, f, g) (u, h, k) =
     let same : u ≡ t = same_value u t (text_determined files name limits.bytes (Goes t) (Goes u) f h) in
     repository_determined exact (Some files) limits.stanzas t (Goes a) (Goes b) g (subst (λ (x : List ℕ). RepositoryStage (Some files) limits.stanzas x (Goes b)) same k)
@@ -80,7 +100,7 @@ packages_determined exact files limits name (Ends e) (Ends o) (inr (t, f, g)) (i
     let same : u ≡ t = same_value u t (text_determined files name limits.bytes (Goes t) (Goes u) f h) in
     repository_determined exact (Some files) limits.stanzas t (Ends e) (Ends o) g (subst (λ (x : List ℕ). RepositoryStage (Some files) limits.stanzas x (Ends o)) same k)
 
-clauses_determined : (files : Option Files) (limits : Limits) (essential : Bool) (r : PackageList) → IsDetermined (ClausesStage files limits essential r)
+pub clauses_determined : (files : Option Files) (limits : Limits) (essential : Bool) (r : PackageList) → IsDetermined (ClausesStage files limits essential r)
 clauses_determined files limits essential r (Goes a) (Goes b) f g = refl
 clauses_determined files limits essential r (Goes a) (Ends e) (clauses, literals) (inl (passes, is)) = absurd (clauses passes)
 clauses_determined files limits essential r (Goes a) (Ends e) (clauses, literals) (inr (not, passes, is)) = absurd (literals passes)
@@ -98,7 +118,7 @@ strong_excludes exact files limits packages essential Last =
     then_excludes (ClausesStage (Some files) limits essential r) _ _ (clauses_determined (Some files) limits essential r) (λ _ kept.
     nothing_excludes (Last r)))
 
-archive_determined : AreExact → (files : Option Files) (limits : Limits) (size seed : ℕ) → IsDetermined (ArchiveStage files limits size seed)
+pub archive_determined : AreExact → (files : Option Files) (limits : Limits) (size seed : ℕ) → IsDetermined (ArchiveStage files limits size seed)
 archive_determined exact files limits size seed (Goes a) (Goes b) f g = ap Goes ((exact (generated size seed) limits.stanzas).one_repository a b f.2 g.2)
 archive_determined exact files limits size seed (Goes a) (Ends e) f (inl (longer, is)) = absurd (omega (arith, f.0, longer))
 archive_determined exact files limits size seed (Goes a) (Ends e) f (inr (within, many, is)) = absurd (omega (arith, f.1, many))
@@ -109,19 +129,71 @@ archive_determined exact files limits size seed (Ends e) (Ends o) (inl (longer, 
 archive_determined exact files limits size seed (Ends e) (Ends o) (inr (within, many, is)) (inl (longer, is')) = absurd (omega (arith, longer, within))
 archive_determined exact files limits size seed (Ends e) (Ends o) (inr (within, many, is)) (inr (within', many', is')) = ap Ends (is' ∙ sym is)
 
-command_excludes : AreExact → (line : CommandLine) (files : Files) (limits : Limits) → Excludes (CommandRefuses line (Some files) limits) (CommandDecides line (Some files) limits)
-command_excludes exact (Health packages list) files limits =
-    then_excludes (PackagesStage (Some files) limits packages) _ _ (packages_determined exact files limits packages) (λ r goes.
+-- ---- CERT
+
+in_text : {P Q X : List ℕ → Type 0} (found : Option (List ℕ)) (Result : Type 0) → IsSome found → OfText found P → OfText found Q → ((text : List ℕ) → P text → Q text → Result) → Result
+in_text None Result present first second both = absurd present
+in_text (Some text) Result present first second both = both text first second
+
+pub one_judgement : HaveOneAnswer → (files : Files) (limits : Limits) (cert : List ℕ) (r : PackageList) (result other : Result Verdict WorkError) → IsInOrder r.packages
+    → IsJudged (Some files) limits cert r result → IsJudged (Some files) limits cert r other → IsOfText result → IsOfText other → other ≡ result
+one_judgement one files limits cert r result other order a b of_a of_b =
+    in_text (get files cert) (other ≡ result) a.present a.answers b.answers (λ text first second. one r limits text result other order first second of_a of_b)
+
+pub end_of_text : (files : Option Files) (result : Result Verdict WorkError) (ending : Ending) → IsEndOfCertificate files result ending → IsOfText result
+end_of_text files (Ok (Accepted h made)) ending end = absurd end
+end_of_text files (Ok (Refused fault)) ending end = tt
+end_of_text files (Err (work.TooLarge what)) ending end = tt
+end_of_text files (Err work.ReadFault) ending end = absurd end
+end_of_text files (Err work.WriteFault) ending end = absurd end
+end_of_text files (Err work.NoMemory) ending end = absurd end
+
+one_end : (files : Option Files) (result : Result Verdict WorkError) (e other : Ending) → IsEndOfCertificate files result e → IsEndOfCertificate files result other → other ≡ e
+one_end files (Ok (Accepted h made)) e other is is' = absurd is
+one_end files (Ok (Refused fault)) e other is is' = is' ∙ sym is
+one_end files (Err (work.TooLarge what)) e other is is' = is' ∙ sym is
+one_end files (Err work.ReadFault) e other is is' = absurd is
+one_end files (Err work.WriteFault) e other is is' = absurd is
+one_end files (Err work.NoMemory) e other is is' = absurd is
+
+same_accepted : (a b : Header × List Claim) → Ok {E = WorkError} (Accepted b.0 b.1) ≡ Ok (Accepted a.0 a.1) → b ≡ a
+same_accepted (h, made) (h', made') is = cc
+
+not_accepted : (files : Option Files) (result : Result Verdict WorkError) (a : Header × List Claim) (e : Ending) → IsEndOfCertificate files result e → result ≡ Ok (Accepted a.0 a.1) → ⊥
+not_accepted files result a e end is = subst (λ (x : Result Verdict WorkError). IsEndOfCertificate files x e) is end
+
+pub certificate_determined : HaveOneAnswer → (files : Files) (limits : Limits) (cert : List ℕ) (r : PackageList) → IsInOrder r.packages → IsDetermined (CertificateStage (Some files) limits cert r)
+certificate_determined one files limits cert r order (Goes a) (Goes b) f g =
+    ap Goes (same_accepted a b (one_judgement one files limits cert r (Ok (Accepted a.0 a.1)) (Ok (Accepted b.0 b.1)) order f g tt tt))
+certificate_determined one files limits cert r order (Goes a) (Ends e) f (result, judged, end) =
+    absurd (not_accepted (Some files) result a e end (one_judgement one files limits cert r (Ok (Accepted a.0 a.1)) result order f judged tt (end_of_text (Some files) result e end)))
+certificate_determined one files limits cert r order (Ends e) (Goes b) (result, judged, end) g =
+    absurd (not_accepted (Some files) result b e end (one_judgement one files limits cert r (Ok (Accepted b.0 b.1)) result order g judged tt (end_of_text (Some files) result e end)))
+certificate_determined one files limits cert r order (Ends e) (Ends o) (result, judged, end) (result', judged', end') =
+    let same = one_judgement one files limits cert r result result' order judged judged' (end_of_text (Some files) result e end) (end_of_text (Some files) result' o end') in
+    ap Ends (one_end (Some files) result e o end (subst (λ (x : Result Verdict WorkError). IsEndOfCertificate (Some files) x o) same end'))
+
+-- a repository of packages is in order
+pub in_order : (files : Option Files) (limits : Limits) (name : List ℕ) (r : PackageList) → PackagesStage files limits name (Goes r) → IsInOrder r.packages
+in_order files limits name r (text, goes, has) = has.in_order
+
+-- ---- commands
+
+command_excludes : TextsDecide → (line : CommandLine) (files : Files) (limits : Limits) → Excludes (CommandRefuses line (Some files) limits) (CommandDecides line (Some files) limits)
+command_excludes decide (Health packages list) files limits =
+    then_excludes (PackagesStage (Some files) limits packages) _ _ (packages_determined decide.packages files limits packages) (λ r goes.
     then_excludes (TextStage (Some files) list limits.bytes) _ _ (text_determined files list limits.bytes) (λ names whole.
     then_excludes (ListStage (Some files) r.packages names) _ _ (list_determined (Some files) r.packages names) (λ members has.
     nothing_excludes (Judges (Some files) r members))))
-command_excludes exact (Classes packages) files limits =
-    then_excludes (PackagesStage (Some files) limits packages) _ _ (packages_determined exact files limits packages) (λ r goes. nothing_excludes (TellsClasses (Some files) r))
-command_excludes exact (Strong packages cert essential limit) files limits = strong_excludes exact files limits packages essential (Sweeps (Some files) limits cert essential limit)
-command_excludes exact (Check packages cert) files limits =
-    then_excludes (PackagesStage (Some files) limits packages) _ _ (packages_determined exact files limits packages) (λ r goes. nothing_excludes (Checks (Some files) limits cert r))
-command_excludes exact (Try size seed) files limits =
-    then_excludes (ArchiveStage (Some files) limits size seed) _ _ (archive_determined exact (Some files) limits size seed) (λ r goes.
+command_excludes decide (Classes packages) files limits =
+    then_excludes (PackagesStage (Some files) limits packages) _ _ (packages_determined decide.packages files limits packages) (λ r goes. nothing_excludes (TellsClasses (Some files) r))
+command_excludes decide (Strong packages cert essential limit) files limits = strong_excludes decide.packages files limits packages essential (Sweeps (Some files) limits cert essential limit)
+command_excludes decide (Check packages cert) files limits =
+    then_excludes (PackagesStage (Some files) limits packages) _ _ (packages_determined decide.packages files limits packages) (λ r goes.
+    then_excludes (CertificateStage (Some files) limits cert r) _ _
+    (certificate_determined decide.certificates files limits cert r (in_order (Some files) limits packages r goes)) (λ accepted judged. nothing_excludes (Reports (Some files) r accepted)))
+command_excludes decide (Try size seed) files limits =
+    then_excludes (ArchiveStage (Some files) limits size seed) _ _ (archive_determined decide.packages (Some files) limits size seed) (λ r goes.
     then_excludes (ClausesStage (Some files) limits false r) _ _ (clauses_determined (Some files) limits false r) (λ _ kept.
     nothing_excludes (Tries (Some files) limits size r)))
 
@@ -141,12 +213,12 @@ one_line line other found is is' = cc
 no_line : (line : CommandLine) (found : Option CommandLine) → found ≡ None → found ≡ Some line → ⊥
 no_line line found none is = cc
 
-pub decides_excludes : AreExact → (words : List (List ℕ)) (files : Files) (limits : Limits) → Excludes (Refuses words (Some files) limits) (Decides words (Some files) limits)
-decides_excludes exact words files limits end ending (inl (bad, is)) (inl (bad', is')) = is' ∙ sym is
-decides_excludes exact words files limits end ending (inl (bad, is)) (inr (line, is_line, decides)) = absurd (no_line line (command_of words) bad is_line)
-decides_excludes exact words files limits end ending (inr (line, is_line, refuses)) (inl (bad, is)) = absurd (no_line line (command_of words) bad is_line)
-decides_excludes exact words files limits end ending (inr (line, is_line, refuses)) (inr (other, is_other, decides)) =
-    command_excludes exact line files limits end ending refuses
+pub decides_excludes : TextsDecide → (words : List (List ℕ)) (files : Files) (limits : Limits) → Excludes (Refuses words (Some files) limits) (Decides words (Some files) limits)
+decides_excludes decide words files limits end ending (inl (bad, is)) (inl (bad', is')) = is' ∙ sym is
+decides_excludes decide words files limits end ending (inl (bad, is)) (inr (line, is_line, decides)) = absurd (no_line line (command_of words) bad is_line)
+decides_excludes decide words files limits end ending (inr (line, is_line, refuses)) (inl (bad, is)) = absurd (no_line line (command_of words) bad is_line)
+decides_excludes decide words files limits end ending (inr (line, is_line, refuses)) (inr (other, is_other, decides)) =
+    command_excludes decide line files limits end ending refuses
     (subst (λ (x : CommandLine). CommandDecides x (Some files) limits ending) (one_line line other (command_of words) is_line is_other) decides)
 
 pub fault_excludes : AreExact → (words : List (List ℕ)) (files : Files) (limits : Limits) → Excludes (Refuses words (Some files) limits) (IsGivenUp words (Some files) limits refusal.WriteFault)

@@ -14,7 +14,7 @@ use Rattle.dist_app.specs.Carried.{IsAnswered, IsRefused, Prints}
 use Rattle.dist_app.specs.Command.{CommandDecides, CommandIsGivenUp, OnlyReadsFiles}
 use Rattle.dist_app.specs.Due.{LeavesDesk, Stops}
 use Rattle.dist_app.specs.Refusal.{status_of, refusal_text, refusal_of}
-use Rattle.dist_app.specs.Run.{Decides, Leaves}
+use Rattle.dist_app.specs.Run.{Comes, Decides, Leaves}
 use Rattle.dist_app.specs.Stages.{Ending, refused, answered}
 use Rattle.dist_app.specs.declared.refusal.Refusal.{Refusal}
 use Rattle.dist_app.specs.declared.refusal.Refusal.TheVariants as refusal
@@ -67,11 +67,11 @@ module _ (words : List (List ℕ)) (limits : Limits) (desk : DeskView) (out out'
     write_fault = λ is. cc;
   }
 
-  -- there was no memory for the words
-  pub unread_words : Grew [] out out' → IsRefused words limits desk desk out out' refusal.NoMemory
-  unread_words grew = record {
-    ending = refused desk.files refusal.NoMemory;
-    comes = inr (inr (inl refl));
+  -- memory was wanted, and this end may come
+  wanted : (desk' : DeskView) → Comes words desk.files limits (refused desk'.files refusal.NoMemory) → Grew [] out out' → IsRefused words limits desk desk' out out' refusal.NoMemory
+  wanted desk' comes grew = record {
+    ending = refused desk'.files refusal.NoMemory;
+    comes = comes;
     status = refl;
     told = refl;
     files = refl;
@@ -80,6 +80,10 @@ module _ (words : List (List ℕ)) (limits : Limits) (desk : DeskView) (out out'
     read_fault = λ is. cc;
     write_fault = λ is. cc;
   }
+
+  -- there was no memory for the words
+  pub unread_words : Grew [] out out' → IsRefused words limits desk desk out out' refusal.NoMemory
+  unread_words grew = wanted desk (inr (inr (inl refl))) grew
 
   -- of a command: its words are there, and it came to this end
   module _ (desk' : DeskView) (line : CommandLine) (is_line : command_of words ≡ Some line) where
@@ -126,43 +130,16 @@ module _ (words : List (List ℕ)) (limits : Limits) (desk : DeskView) (out out'
     }
 
     unstored : desk'.files ≡ desk.files → Grew [] out out' → Refused refusal.NoMemory
-    unstored same grew = record {
-      ending = refused desk'.files refusal.NoMemory;
-      comes = inr (inr (inl (ap (λ (f : Option Files). refused f refusal.NoMemory) same)));
-      status = refl;
-      told = refl;
-      files = refl;
-      printed = grew;
-      of_words = λ _. inr refl;
-      read_fault = λ is. cc;
-      write_fault = λ is. cc;
-    }
+    unstored same grew = wanted desk' (inr (inr (inl (ap (λ (f : Option Files). refused f refusal.NoMemory) same)))) grew
 
     unfinished : CommandIsGivenUp line desk.files limits refusal.NoMemory (refused desk'.files refusal.NoMemory) → Grew [] out out' → Refused refusal.NoMemory
-    unfinished given_up grew = record {
-      ending = refused desk'.files refusal.NoMemory;
-      comes = inr (inr (inr (inl (inr (line, is_line, given_up)))));
-      status = refl;
-      told = refl;
-      files = refl;
-      printed = grew;
-      of_words = λ _. inr refl;
-      read_fault = λ is. cc;
-      write_fault = λ is. cc;
-    }
+    unfinished given_up grew = wanted desk' (inr (inr (inr (inl (inr (line, is_line, given_up)))))) grew
 
     untold : (status : Status) (text : List ℕ) → CommandDecides line desk.files limits (answered desk'.files status text) → Grew [] out out' → Refused refusal.NoMemory
-    untold status text decides grew = record {
-      ending = refused desk'.files refusal.NoMemory;
-      comes = inr (inr (inr (inr (inr (record { decided = answered desk'.files status text; decides = inr (line, is_line, decides); answers = refl; front = no_front text; is = refl })))));
-      status = refl;
-      told = refl;
-      files = refl;
-      printed = grew;
-      of_words = λ _. inr refl;
-      read_fault = λ is. cc;
-      write_fault = λ is. cc;
-    }
+    untold status text decides grew =
+        wanted desk'
+        (inr (inr (inr (inr (inr (record { decided = answered desk'.files status text; decides = inr (line, is_line, decides); answers = refl; front = no_front text; is = refl }))))))
+        grew
 
     pub refused_command : (r : Refusal) → Stops line limits desk desk' r → Grew [] out out' → Refused r
     refused_command r (inl decides) grew = decided_refusal r decides grew

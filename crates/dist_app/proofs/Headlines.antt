@@ -18,7 +18,7 @@ use Rattle.dist_report.specs.StrongReport.{strong_lines}
 use Rattle.dist_words.specs.CommandLine.{CommandLine, Strong, Check}
 use Rattle.dist_words.specs.Table.{command_of}
 use Rattle.dist_app.specs.Carried.{IsAnswered}
-use Rattle.dist_app.specs.Check.{CheckStages, Checks, Concludes}
+use Rattle.dist_app.specs.Check.{CheckStages, Reports}
 use Rattle.dist_app.specs.Claims.{claims_status}
 use Rattle.dist_app.specs.Command.{CommandDecides}
 use Rattle.dist_app.specs.Headline.{CheckIsProved, IsCarriedOut, ProvesCheck, ProvesStrong, StrongIsProved}
@@ -30,11 +30,11 @@ use Rattle.dist_app.specs.Strong.{IsStopped, IsSwept, StrongStages, Sweeps}
 use Rattle.dist_app.specs.declared.refusal.Refusal.{Refusal}
 use Rattle.dist_app.specs.declared.refusal.Refusal.TheVariants as refusal
 use Rattle.dist_app.specs.declared.status.Status.{Status}
-use Rattle.dist_app.proofs.Refused.{clauses_refuse, not_carried_out, packages_refuses, refusal_not_carried_out}
+use Rattle.dist_app.proofs.Refused.{certificate_refuses, clauses_refuse, not_carried_out, packages_refuses, refusal_not_carried_out}
 use Rattle.dist_app.proofs.Sweeping.{ClaimsHold, sweep_means}
 
 -- words of a command decide by it
-of_line : (words : List (List ℕ)) (files : Option Files) (limits : Limits) (line : CommandLine) (ending : Ending) → command_of words ≡ Some line
+pub of_line : (words : List (List ℕ)) (files : Option Files) (limits : Limits) (line : CommandLine) (ending : Ending) → command_of words ≡ Some line
     → Decides words files limits ending → CommandDecides line files limits ending
 of_line words files limits line ending is (inl (bad, end)) = absurd (apart (command_of words) is bad)
   where
@@ -89,18 +89,10 @@ module _ (limits : Limits) (packages cert : List ℕ) (result : Status) (desk : 
     status = status_is ∙ ap (λ (e : Ending). e.status) is;
   }
 
-  concluded_proves : (r : PackageList) (answer : Result Verdict WorkError) → PackagesStage desk.files limits packages (Goes r)
-      → OfText (file_bytes desk.files cert) (λ text. Answers r limits text answer) → Concludes desk.files r answer ending → ProvesCheck limits packages cert result desk out out'
-  concluded_proves r (Ok (verdict.Accepted h made)) goes answers (means, is) = accepted_proves r h made goes answers means is
-  concluded_proves r (Ok (verdict.Refused fault)) goes answers is = absurd (subst (λ (e : Ending). IsCarriedOut e.status) is carried)
-  concluded_proves r (Err (work.TooLarge what)) goes answers is = absurd (subst (λ (e : Ending). IsCarriedOut e.status) is carried)
-  concluded_proves r (Err work.ReadFault) goes answers is = absurd is
-  concluded_proves r (Err work.WriteFault) goes answers is = absurd is
-  concluded_proves r (Err work.NoMemory) goes answers is = absurd is
-
-  pub check_proves : CheckStages desk.files limits packages (Checks desk.files limits cert) ending → ProvesCheck limits packages cert result desk out out'
+  pub check_proves : CheckStages desk.files limits packages cert (Reports desk.files) ending → ProvesCheck limits packages cert result desk out out'
   check_proves (inl ends) = absurd (refusal_not_carried_out desk.files ending (packages_refuses desk.files limits packages ending ends) carried)
-  check_proves (inr (r, goes, checks)) = concluded_proves r checks.result goes checks.answers checks.concludes
+  check_proves (inr (r, goes, inl ends)) = absurd (refusal_not_carried_out desk.files ending (certificate_refuses desk.files limits cert r ending ends) carried)
+  check_proves (inr (r, goes, inr (accepted, judged, (means, is)))) = accepted_proves r accepted.0 accepted.1 goes judged.answers means is
 
 -- ---- runs
 

@@ -1,4 +1,5 @@
 pub mod CommandLaws
+pub mod Completes
 pub mod Due
 pub mod Endings
 pub mod Headlines

@@ -16,7 +16,7 @@ use Rattle.dist_cert.specs.declared.records.Claim.{Claim}
 use Rattle.dist_check.specs.declared.verdict.Verdict.{Verdict}
 use Rattle.dist_check.specs.declared.verdict.Verdict.TheVariants as verdict
 use Rattle.dist_words.specs.CommandLine.{CommandLine, Health, Classes, Strong, Check, Try}
-use Rattle.dist_app.specs.Check.{Concludes}
+use Rattle.dist_app.specs.Check.{CertificateStage, IsEndOfCertificate}
 use Rattle.dist_app.specs.Claims.{claims_status, has_mark}
 use Rattle.dist_app.specs.Command.{CommandDecides, CommandRefuses, CommandIsGivenUp}
 use Rattle.dist_app.specs.Headline.{IsCarriedOut}
@@ -93,6 +93,17 @@ pub clauses_refuse : (files : Option Files) (limits : Limits) (essential : Bool)
 clauses_refuse files limits essential r ending (inl (passes, is)) = record { why = refusal.TooLarge what.Clauses; of_files = tt; is = is }
 clauses_refuse files limits essential r ending (inr (not, passes, is)) = record { why = refusal.TooLarge what.Literals; of_files = tt; is = is }
 
+certificate_end_refuses : (files : Option Files) (result : Result Verdict WorkError) (ending : Ending) → IsEndOfCertificate files result ending → IsRefusal files ending
+certificate_end_refuses files (Ok (verdict.Accepted h made)) ending end = absurd end
+certificate_end_refuses files (Ok (verdict.Refused fault)) ending is = record { why = refusal.CertificateRefused fault; of_files = tt; is = is }
+certificate_end_refuses files (Err (work.TooLarge limit)) ending is = record { why = refusal.TooLarge limit; of_files = tt; is = is }
+certificate_end_refuses files (Err work.ReadFault) ending end = absurd end
+certificate_end_refuses files (Err work.WriteFault) ending end = absurd end
+certificate_end_refuses files (Err work.NoMemory) ending end = absurd end
+
+pub certificate_refuses : (files : Option Files) (limits : Limits) (cert : List ℕ) (r : PackageList) (ending : Ending) → CertificateStage files limits cert r (Ends ending) → IsRefusal files ending
+certificate_refuses files limits cert r ending (result, judged, end) = certificate_end_refuses files result ending end
+
 archive_refuses : (files : Option Files) (limits : Limits) (size seed : ℕ) (ending : Ending) → ArchiveStage files limits size seed (Ends ending) → IsRefusal files ending
 archive_refuses files limits size seed ending (inl (longer, is)) = record { why = refusal.TooLarge what.Bytes; of_files = tt; is = is }
 archive_refuses files limits size seed ending (inr (within, many, is)) = record { why = refusal.TooLarge what.Stanzas; of_files = tt; is = is }
@@ -110,7 +121,8 @@ command_refuses (Strong packages cert essential limit) files limits ending (inl 
 command_refuses (Strong packages cert essential limit) files limits ending (inr (r, goes, inl c)) = clauses_refuse files limits essential r ending c
 command_refuses (Strong packages cert essential limit) files limits ending (inr (r, goes, inr (_, kept, none))) = absurd none
 command_refuses (Check packages cert) files limits ending (inl p) = packages_refuses files limits packages ending p
-command_refuses (Check packages cert) files limits ending (inr (r, goes, none)) = absurd none
+command_refuses (Check packages cert) files limits ending (inr (r, goes, inl c)) = certificate_refuses files limits cert r ending c
+command_refuses (Check packages cert) files limits ending (inr (r, goes, inr (accepted, judged, none))) = absurd none
 command_refuses (Try size seed) files limits ending (inl a) = archive_refuses files limits size seed ending a
 command_refuses (Try size seed) files limits ending (inr (r, goes, inl c)) = clauses_refuse files limits false r ending c
 command_refuses (Try size seed) files limits ending (inr (r, goes, inr (_, kept, none))) = absurd none
@@ -135,16 +147,15 @@ claims_of_files made = go (list_any has_mark made) refl
     go true e = rw e tt
     go false e = rw e tt
 
+pub claims_carried_out : (made : List Claim) → IsCarriedOut (claims_status made)
+claims_carried_out made = go (list_any has_mark made) refl
+  where
+    go : (b : Bool) → list_any has_mark made ≡ b → IsCarriedOut (claims_status made)
+    go true e = rw e tt
+    go false e = rw e tt
+
 with_status : (ending other : Ending) → ending ≡ other → IsOfFiles other.status → IsOfFiles ending.status
 with_status ending other is of = subst (λ (e : Ending). IsOfFiles e.status) (sym is) of
-
-concluded_status : (files : Option Files) (r : PackageList) (result : Result Verdict WorkError) (ending : Ending) → Concludes files r result ending → IsOfFiles ending.status
-concluded_status files r (Ok (verdict.Accepted h made)) ending (means, is) = subst (λ (e : Ending). IsOfFiles e.status) (sym is) (claims_of_files made)
-concluded_status files r (Ok (verdict.Refused fault)) ending is = with_status ending (refused files (refusal.CertificateRefused fault)) is tt
-concluded_status files r (Err (work.TooLarge limit)) ending is = with_status ending (refused files (refusal.TooLarge limit)) is tt
-concluded_status files r (Err work.ReadFault) ending is = absurd is
-concluded_status files r (Err work.WriteFault) ending is = absurd is
-concluded_status files r (Err work.NoMemory) ending is = absurd is
 
 pub command_status : (line : CommandLine) (files : Option Files) (limits : Limits) (ending : Ending) → CommandDecides line files limits ending → IsOfFiles ending.status
 command_status (Health packages list) files limits ending (inl p) = refusal_status files ending (packages_refuses files limits packages ending p)
@@ -159,7 +170,9 @@ command_status (Strong packages cert essential limit) files limits ending (inr (
 command_status (Strong packages cert essential limit) files limits ending (inr (r, goes, inr (_, kept, inl swept))) = subst (λ (e : Ending). IsOfFiles e.status) (sym swept.is) (claims_of_files swept.made)
 command_status (Strong packages cert essential limit) files limits ending (inr (r, goes, inr (_, kept, inr stopped))) = subst (λ (e : Ending). IsOfFiles e.status) (sym stopped.is) tt
 command_status (Check packages cert) files limits ending (inl p) = refusal_status files ending (packages_refuses files limits packages ending p)
-command_status (Check packages cert) files limits ending (inr (r, goes, checks)) = concluded_status files r checks.result ending checks.concludes
+command_status (Check packages cert) files limits ending (inr (r, goes, inl c)) = refusal_status files ending (certificate_refuses files limits cert r ending c)
+command_status (Check packages cert) files limits ending (inr (r, goes, inr (accepted, judged, (means, is)))) =
+    subst (λ (e : Ending). IsOfFiles e.status) (sym is) (claims_of_files accepted.1)
 command_status (Try size seed) files limits ending (inl a) = refusal_status files ending (archive_refuses files limits size seed ending a)
 command_status (Try size seed) files limits ending (inr (r, goes, inl c)) = refusal_status files ending (clauses_refuse files limits false r ending c)
 command_status (Try size seed) files limits ending (inr (r, goes, inr (_, kept, inl tried))) = subst (λ (e : Ending). IsOfFiles e.status) (sym tried.is) (claims_of_files tried.made)

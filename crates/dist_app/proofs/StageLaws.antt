@@ -40,5 +40,12 @@ then_excludes {X} First Rest Other one rest end ending (inr (v, g, r)) (inr (w, 
     let same = same_value w v (one (Goes v) (Goes w) g h) in
     rest v g end ending r (subst (λ (x : X). Other x ending) same s)
 
+-- where a stage gives a value, the rest of the run is that value's
+pub then_goes : {X : Type 0} (First : Step X → Type 0) (Rest : X → Ending → Type 0) → IsDetermined First → (value : X) → First (Goes value) → (ending : Ending)
+    → Then First Rest ending → Rest value ending
+then_goes First Rest one value goes ending (inl ends) = absurd (apart ending value (one (Goes value) (Ends ending) goes ends))
+then_goes {X} First Rest one value goes ending (inr (other, goes', rest)) =
+    subst (λ (x : X). Rest x ending) (same_value other value (one (Goes value) (Goes other) goes goes')) rest
+
 pub nothing_excludes : (Decides : Ending → Type 0) → Excludes (λ ending. ⊥) Decides
 nothing_excludes Decides end ending none decides = absurd none

@@ -5,6 +5,8 @@ use Rattle.dist_outside.specs.declared.limits.Limits.{Limits}
 use Rattle.dist_outside.specs.declared.trouble.WorkError.{WorkError}
 use Rattle.dist_outside.specs.declared.trouble.WorkError.TheVariants as work
 use Rattle.dist_repo.specs.PackageList.{PackageList}
+use Rattle.dist_cert.specs.declared.records.Claim.{Claim}
+use Rattle.dist_cert.specs.declared.records.Header.{Header}
 use Rattle.dist_check.specs.Answers.{Answers, AcceptedMeans}
 use Rattle.dist_check.specs.Checking.{OfText}
 use Rattle.dist_check.specs.declared.verdict.Verdict.{Verdict}
@@ -12,23 +14,33 @@ use Rattle.dist_check.specs.declared.verdict.Verdict.TheVariants.{Accepted, Refu
 use Rattle.dist_report.specs.StrongReport.{strong_lines}
 use Rattle.dist_app.specs.Claims.{claims_status}
 use Rattle.dist_app.specs.PackagesStage.{PackagesStage}
-use Rattle.dist_app.specs.Stages.{Ending, Then, answered, refused}
+use Rattle.dist_app.specs.Stages.{Ending, Step, Goes, Ends, Then, answered, refused}
 use Rattle.dist_app.specs.declared.refusal.Refusal.TheVariants.{CertificateRefused, TooLarge}
 
--- The end of each answer: what is accepted is true, and is reported.
-abbrev pub Concludes : Option Files → PackageList → Result Verdict WorkError → Ending → Type 0
-Concludes files r (Ok (Accepted h made)) ending = AcceptedMeans r h made × (ending ≡ answered files (claims_status made) (strong_lines r.packages h made))
-Concludes files r (Ok (Refused fault)) ending = ending ≡ refused files (CertificateRefused fault)
-Concludes files r (Err (work.TooLarge what)) ending = ending ≡ refused files (TooLarge what)
-Concludes files r (Err error) ending = ⊥
-
--- the bytes of CERT are judged
-pub record Checks (files : Option Files) (limits : Limits) (cert : List ℕ) (r : PackageList) (ending : Ending) : Type 0 where
-  pub result : Result Verdict WorkError
+-- the file CERT is there, and this is the answer of its bytes
+pub record IsJudged (files : Option Files) (limits : Limits) (cert : List ℕ) (r : PackageList) (result : Result Verdict WorkError) : Type 0 where
   pub present : IsPresent files cert
   pub answers : OfText (file_bytes files cert) (λ text. Answers r limits text result)
-  pub concludes : Concludes files r result ending
 
--- PACKAGES is read and taken apart first.
-abbrev pub CheckStages : Option Files → Limits → (packages : List ℕ) → (PackageList → Ending → Type 0) → Ending → Type 0
-CheckStages files limits packages Last = Then (PackagesStage files limits packages) Last
+-- the end that a refused certificate gives, and one that passes a number
+abbrev pub IsEndOfCertificate : Option Files → Result Verdict WorkError → Ending → Type 0
+IsEndOfCertificate files (Ok (Accepted h made)) ending = ⊥
+IsEndOfCertificate files (Ok (Refused fault)) ending = ending ≡ refused files (CertificateRefused fault)
+IsEndOfCertificate files (Err (work.TooLarge what)) ending = ending ≡ refused files (TooLarge what)
+IsEndOfCertificate files (Err error) ending = ⊥
+
+-- the first line and the claims of CERT where it is accepted, or its first fault, or the number that it passes
+abbrev pub CertificateStage : Option Files → Limits → (cert : List ℕ) → PackageList → Step (Header × List Claim) → Type 0
+CertificateStage files limits cert r (Goes accepted) = IsJudged files limits cert r (Ok (Accepted accepted.0 accepted.1))
+CertificateStage files limits cert r (Ends ending) = (result : Result Verdict WorkError) × IsJudged files limits cert r result × IsEndOfCertificate files result ending
+
+-- what is accepted is true, and is reported
+abbrev pub Reports : Option Files → PackageList → (Header × List Claim) → Ending → Type 0
+Reports files r accepted ending =
+    AcceptedMeans r accepted.0 accepted.1 × (ending ≡ answered files (claims_status accepted.1) (strong_lines r.packages accepted.0 accepted.1))
+
+-- PACKAGES is read and taken apart first, then CERT is judged. The first stage that is refused decides.
+abbrev pub CheckStages : Option Files → Limits → (packages cert : List ℕ) → (PackageList → (Header × List Claim) → Ending → Type 0) → Ending → Type 0
+CheckStages files limits packages cert Last =
+    Then (PackagesStage files limits packages) (λ r.
+    Then (CertificateStage files limits cert r) (Last r))

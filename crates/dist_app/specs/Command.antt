@@ -3,7 +3,7 @@ use Rattle.std.specs.Prelude.{ℕ, Option}
 use Rattle.dist_outside.specs.Files.{Files}
 use Rattle.dist_outside.specs.declared.limits.Limits.{Limits}
 use Rattle.dist_words.specs.CommandLine.{CommandLine, Health, Classes, Strong, Check, Try}
-use Rattle.dist_app.specs.Check.{CheckStages, Checks}
+use Rattle.dist_app.specs.Check.{CheckStages, Reports}
 use Rattle.dist_app.specs.Classes.{ClassesStages, TellsClasses}
 use Rattle.dist_app.specs.Health.{HealthStages, Judges}
 use Rattle.dist_app.specs.Stages.{Ending}
@@ -16,7 +16,7 @@ abbrev pub CommandDecides : CommandLine → Option Files → Limits → Ending �
 CommandDecides (Health packages list) files limits = HealthStages files limits packages list (Judges files)
 CommandDecides (Classes packages) files limits = ClassesStages files limits packages (TellsClasses files)
 CommandDecides (Strong packages cert essential limit) files limits = StrongStages files limits packages essential (Sweeps files limits cert essential limit)
-CommandDecides (Check packages cert) files limits = CheckStages files limits packages (Checks files limits cert)
+CommandDecides (Check packages cert) files limits = CheckStages files limits packages cert (Reports files)
 CommandDecides (Try size seed) files limits = TryStages files limits size seed (Tries files limits size)
 
 -- The refusals that come whatever happens later: the end of a stage before the last one.
@@ -24,7 +24,7 @@ abbrev pub CommandRefuses : CommandLine → Option Files → Limits → Ending �
 CommandRefuses (Health packages list) files limits = HealthStages files limits packages list (λ repository members ending. ⊥)
 CommandRefuses (Classes packages) files limits = ClassesStages files limits packages (λ repository ending. ⊥)
 CommandRefuses (Strong packages cert essential limit) files limits = StrongStages files limits packages essential (λ repository ending. ⊥)
-CommandRefuses (Check packages cert) files limits = CheckStages files limits packages (λ repository ending. ⊥)
+CommandRefuses (Check packages cert) files limits = CheckStages files limits packages cert (λ repository accepted ending. ⊥)
 CommandRefuses (Try size seed) files limits = TryStages files limits size seed (λ repository ending. ⊥)
 
 -- the ends of a command that was given up while it wrote a file

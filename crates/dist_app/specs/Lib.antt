@@ -5,6 +5,7 @@ pub mod Claims
 pub mod Classes
 pub mod Try
 pub mod Command
+pub mod Complete
 pub mod Due
 pub mod FaultText
 pub mod Headline

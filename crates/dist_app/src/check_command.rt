@@ -3,10 +3,10 @@ ghost use Rattle.std.specs.Prelude.{IfOk, IfErr};
 ghost use Rattle.dist_outside.specs.DeskView.{OnlyReads};
 ghost use Rattle.dist_outside.specs.Files.{IsNotWriting};
 ghost use Rattle.dist_repo.specs.Size.{IsWithinSize};
-ghost use Rattle.dist_app.specs.Check.{CheckStages, Checks};
+ghost use Rattle.dist_app.specs.Check.{CertificateStage, CheckStages, Reports};
 ghost use Rattle.dist_app.specs.Due.{IsDue};
 ghost use Rattle.dist_app.specs.Run.{IsWithinStated};
-ghost use Rattle.dist_app.specs.Stages.{answered};
+ghost use Rattle.dist_app.specs.Stages.{Then, answered};
 
 use crate::answer::Answer;
 use crate::claims::tell_claims;
@@ -27,10 +27,10 @@ pub(crate) fn run_check<D: Desk>(
 ) -> Result<Answer, Refusal>
     requires not_writing { IsNotWriting (D.view desk.old).mode }
     requires within { IsWithinStated limits.now }
-    ensures answers { IfOk result (λ answer. CheckStages (D.view desk.old).files limits.now files.now.packages.now
-        (Checks (D.view desk.old).files limits.now files.now.cert.now) (answered (D.view desk.old).files answer.status answer.text.items)) }
-    ensures due { IfErr result (IsDue (CheckStages (D.view desk.old).files limits.now files.now.packages.now
-        (Checks (D.view desk.old).files limits.now files.now.cert.now)) (D.view desk.old) (D.view desk.new)) }
+    ensures answers { IfOk result (λ answer. CheckStages (D.view desk.old).files limits.now files.now.packages.now files.now.cert.now
+        (Reports (D.view desk.old).files) (answered (D.view desk.old).files answer.status answer.text.items)) }
+    ensures due { IfErr result (IsDue (CheckStages (D.view desk.old).files limits.now files.now.packages.now files.now.cert.now
+        (Reports (D.view desk.old).files)) (D.view desk.old) (D.view desk.new)) }
     ensures only_reads { OnlyReads (D.view desk.old) (D.view desk.new) }
 {
     match read_repository(alloc, desk, files.packages, limits) {
@@ -50,9 +50,10 @@ fn judge_certificate<D: Desk>(
     requires not_writing { IsNotWriting (D.view desk.old).mode }
     requires within { IsWithinStated limits.now }
     requires within_size { IsWithinSize repository.now }
-    ensures answers { IfOk result (λ answer. Checks (D.view desk.old).files limits.now cert.now repository.now
-        (answered (D.view desk.old).files answer.status answer.text.items)) }
-    ensures due { IfErr result (IsDue (Checks (D.view desk.old).files limits.now cert.now repository.now) (D.view desk.old) (D.view desk.new)) }
+    ensures answers { IfOk result (λ answer. Then (CertificateStage (D.view desk.old).files limits.now cert.now repository.now)
+        (Reports (D.view desk.old).files repository.now) (answered (D.view desk.old).files answer.status answer.text.items)) }
+    ensures due { IfErr result (IsDue (Then (CertificateStage (D.view desk.old).files limits.now cert.now repository.now)
+        (Reports (D.view desk.old).files repository.now)) (D.view desk.old) (D.view desk.new)) }
     ensures only_reads { OnlyReads (D.view desk.old) (D.view desk.new) }
 {
     match check(alloc, repository, desk, cert, limits) {

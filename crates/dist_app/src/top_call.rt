@@ -1,6 +1,7 @@
 //! The top call.
 ghost use Rattle.std.specs.Prelude.{◌≡◌, ℕ, List, map, string_bytes, MatchResult};
 ghost use Rattle.dist_outside.specs.Files.{IsNotWriting};
+ghost use Rattle.dist_app.specs.Complete.{IsComplete};
 ghost use Rattle.dist_app.specs.Headline.{CheckIsProved, StrongIsProved, UndecidedAreHard};
 ghost use Rattle.dist_app.specs.Run.{IsWithinStated, Leaves, Runs, stated_limits};
 ghost use Rattle.dist_app.specs.Carried.{IsAnswered, IsRefused, Prints};
@@ -10,9 +11,11 @@ use crate::command::run_command;
 use crate::refusal::{Refusal, refusal_of};
 use crate::refusal_text::write_refusal;
 use crate::status::Status;
-use dist_check::{accepted_claims_hold, undecided_questions_are_hard};
+use dist_check::{accepted_claims_hold, texts_have_one_answer, undecided_questions_are_hard};
+use dist_now::one_health;
 use dist_outside::{Desk, Limits, Sink, sink_grows, write_whole};
 use dist_package::packages_are_exact;
+use dist_strong::budgets_are_enough;
 use dist_words::{WordsError, command_of};
 use std::alloc::Global;
 
@@ -32,6 +35,8 @@ pub fn run<D: Desk, W: Sink, E: Sink>(
     ensures strong { StrongIsProved (map string_bytes words.now) stated_limits result (D.view desk.old) (D.view desk.new)
         (W.view out.old) (W.view out.new) }
     ensures check { CheckIsProved (map string_bytes words.now) stated_limits result (D.view desk.old) (W.view out.old) (W.view out.new) }
+    ensures complete { IsComplete (map string_bytes words.now) stated_limits result (D.view desk.old) (D.view desk.new)
+        (W.view out.old) (W.view out.new) }
     ensures hard { UndecidedAreHard stated_limits }
 {
     run_with(alloc, words, desk, out, err, &Limits::stated())
@@ -53,9 +58,14 @@ pub fn run_with<D: Desk, W: Sink, E: Sink>(
     ensures strong { StrongIsProved (map string_bytes words.now) limits.now result (D.view desk.old) (D.view desk.new)
         (W.view out.old) (W.view out.new) }
     ensures check { CheckIsProved (map string_bytes words.now) limits.now result (D.view desk.old) (W.view out.old) (W.view out.new) }
+    ensures complete { IsComplete (map string_bytes words.now) limits.now result (D.view desk.old) (D.view desk.new)
+        (W.view out.old) (W.view out.new) }
     ensures hard { UndecidedAreHard limits.now }
 {
     packages_are_exact();
+    one_health();
+    budgets_are_enough();
+    texts_have_one_answer();
     accepted_claims_hold();
     undecided_questions_are_hard();
     sink_grows();

@@ -1,0 +1,215 @@
+-- What an undisturbed run comes to, from the end that it promises.
+use Rattle.std.proofs.Common.{◌≡◌, ◌⊎◌, ℕ, Bool, false, List, inl, inr, Option, Some, None, Result, Ok, Err, length, refl, ap, sym, ◌∙◌, subst}
+use Rattle.dist_outside.specs.DeskView.{DeskView}
+use Rattle.dist_outside.specs.Files.{Files, with_file}
+use Rattle.dist_outside.specs.SinkView.{SinkView}
+use Rattle.dist_outside.specs.declared.limits.Limits.{Limits}
+use Rattle.dist_outside.specs.declared.trouble.What.{What}
+use Rattle.dist_outside.specs.declared.trouble.WorkError.{WorkError}
+use Rattle.dist_outside.specs.declared.trouble.WorkError.TheVariants as work
+use Rattle.dist_repo.specs.PackageList.{PackageList}
+use Rattle.dist_repo.specs.declared.package.Package.{Package}
+use Rattle.dist_now.specs.Health.{IsHealth}
+use Rattle.dist_now.specs.declared.kinds.Health.{Health as Judgement}
+use Rattle.dist_now.specs.declared.kinds.Health.TheVariants as health
+use Rattle.dist_cert.specs.declared.records.Claim.{Claim}
+use Rattle.dist_cert.specs.declared.records.Header.{Header}
+use Rattle.dist_strong.specs.Budget.{IsBelowBudget}
+use Rattle.dist_strong.specs.Sweep.{IsFull}
+use Rattle.dist_check.specs.Answers.{IsOfText}
+use Rattle.dist_check.specs.declared.verdict.Verdict.{Verdict}
+use Rattle.dist_check.specs.declared.verdict.Verdict.TheVariants as verdict
+use Rattle.dist_words.specs.CommandLine.{CommandLine, Health, Classes, Strong, Check, Try}
+use Rattle.dist_words.specs.Table.{command_of}
+use Rattle.dist_app.specs.Check.{CertificateStage, CheckStages, IsEndOfCertificate, IsJudged, Reports}
+use Rattle.dist_app.specs.Claims.{claims_status}
+use Rattle.dist_app.specs.Command.{CommandDecides}
+use Rattle.dist_app.specs.Complete.{CheckIsComplete, ClassesAreComplete, Completes, HealthIsComplete, IsComplete, IsStatusOfSet, IsUndisturbed, StopsBelowBudget, StrongIsComplete, TrialIsComplete, verdict_status}
+use Rattle.dist_app.specs.Headline.{IsCarriedOut}
+use Rattle.dist_app.specs.Health.{HealthStages, Judges, ListStage, Tells}
+use Rattle.dist_app.specs.PackagesStage.{PackagesStage}
+use Rattle.dist_app.specs.Run.{Decides, Runs}
+use Rattle.dist_app.specs.Stages.{Ending, Goes, Ends, Then, answered, refused}
+use Rattle.dist_app.specs.Strong.{ClausesStage, IsStopped, IsSwept, StrongStages, Sweeps}
+use Rattle.dist_app.specs.TextStage.{TextStage}
+use Rattle.dist_app.specs.Try.{ArchiveStage, IsTried, IsTrialStopped, Tries, TryStages}
+use Rattle.dist_app.specs.declared.status.Status.{Status}
+use Rattle.dist_app.specs.declared.status.Status.TheVariants.{Done, DoneWithUndecided, CertificateRefused, NoMemory, TooLarge, NotHealthy}
+use Rattle.dist_app.proofs.CommandLaws.{HaveOneAnswer, TextsDecide, archive_determined, certificate_determined, clauses_determined, end_of_text, in_order, list_determined, one_judgement, packages_determined, text_determined}
+use Rattle.dist_app.proofs.Headlines.{of_line}
+use Rattle.dist_app.proofs.Refused.{claims_carried_out}
+use Rattle.dist_app.proofs.StageLaws.{then_goes}
+
+-- a set has one health
+abbrev pub HaveOneHealth : Type 0
+HaveOneHealth = (r : PackageList) (essential : Bool) (flags : List Bool) (health other : Judgement) → IsHealth r essential flags health → IsHealth r essential flags other → other ≡ health
+
+-- a sweep is stopped by a number only where that is below its budget
+abbrev pub BudgetsSuffice : Type 0
+BudgetsSuffice = (r : PackageList) (essential : Bool) (limit : ℕ) (limits : Limits) (what : What) (text : List ℕ) → IsFull r essential limit limits what text
+    → IsBelowBudget limits (length r.packages) limit what
+
+-- what the ends of commands are told by
+pub record Laws : Type 0 where
+  pub texts : TextsDecide
+  pub health : HaveOneHealth
+  pub budgets : BudgetsSuffice
+
+-- the status of an end
+status_from : (e f : Ending) → e ≡ f → e.status ≡ f.status
+status_from e f is = ap (λ (x : Ending). x.status) is
+
+-- ---- each command, of files that are told
+
+-- kinds of health apart from a healthy set
+other_kind : (one : HaveOneHealth) (r : PackageList) (members : List Bool) (kind : Judgement) → IsHealth r false members kind → (health.Healthy ≡ kind → ⊥) → ¬ IsHealth r false members health.Healthy
+other_kind one r members kind is apart healthy = apart (one r false members kind health.Healthy is healthy)
+
+told_set : (one : HaveOneHealth) (r : PackageList) (members : List Bool) (kind : Judgement) (status : Status) (line : List ℕ) → IsHealth r false members kind
+    → Tells r.packages kind status line → IsStatusOfSet r members status
+told_set one r members health.Healthy status line is tells = inl (tells.0, is)
+told_set one r members (health.TwoVersions p q) status line is tells = inr (tells.0, other_kind one r members (health.TwoVersions p q) is (λ e. cc))
+told_set one r members (health.Unmet p place) status line is tells = inr (tells.0, other_kind one r members (health.Unmet p place) is (λ e. cc))
+told_set one r members (health.Conflict p q) status line is tells = inr (tells.0, other_kind one r members (health.Conflict p q) is (λ e. cc))
+told_set one r members (health.EssentialMissing p) status line is tells = absurd tells
+
+judged_set : (one : HaveOneHealth) (files : Option Files) (r : PackageList) (members : List Bool) (ending : Ending) → Judges files r members ending → IsStatusOfSet r members ending.status
+judged_set one files r members ending j =
+    subst (λ (s : Status). IsStatusOfSet r members s) (sym (status_from ending (answered files j.status j.line) j.is)) (told_set one r members j.health j.status j.line j.is_health j.tells)
+
+health_ends : Laws → (files : Files) (limits : Limits) (packages list : List ℕ) (r : PackageList) (text : List ℕ) (members : List Bool) (ending : Ending)
+    → PackagesStage (Some files) limits packages (Goes r) → TextStage (Some files) list limits.bytes (Goes text) → ListStage (Some files) r.packages text (Goes members)
+    → CommandDecides (Health packages list) (Some files) limits ending → IsStatusOfSet r members ending.status
+health_ends laws files limits packages list r text members ending read whole names decides =
+    judged_set laws.health (Some files) r members ending
+    (then_goes (ListStage (Some files) r.packages text) _ (list_determined (Some files) r.packages text) members names ending
+    (then_goes (TextStage (Some files) list limits.bytes) _ (text_determined files list limits.bytes) text whole ending
+    (then_goes (PackagesStage (Some files) limits packages) _ (packages_determined laws.texts.packages files limits packages) r read ending decides)))
+
+classes_end : Laws → (files : Files) (limits : Limits) (packages : List ℕ) (r : PackageList) (ending : Ending)
+    → PackagesStage (Some files) limits packages (Goes r) → CommandDecides (Classes packages) (Some files) limits ending → ending.status ≡ Done
+classes_end laws files limits packages r ending read decides =
+    let tells = then_goes (PackagesStage (Some files) limits packages) _ (packages_determined laws.texts.packages files limits packages) r read ending decides in
+    status_from ending (answered (Some files) Done tells.text) tells.is
+
+-- what a sweep leaves
+abbrev SweepComesTo : (files left : Option Files) → Limits → (cert : List ℕ) → Bool → ℕ → PackageList → Status → Type 0
+SweepComesTo files left limits cert essential limit r status =
+    IsCarriedOut status ⊎ ((text : List ℕ) × StopsBelowBudget r essential limit limits status text × (left ≡ with_file files cert text))
+
+carried_claims : (status : Status) (made : List Claim) → status ≡ claims_status made → IsCarriedOut status
+carried_claims status made is = subst IsCarriedOut (sym is) (claims_carried_out made)
+
+sweep_comes_to : Laws → (files : Option Files) (limits : Limits) (cert : List ℕ) (essential : Bool) (limit : ℕ) (r : PackageList) (ending : Ending)
+    → Sweeps files limits cert essential limit r ending → SweepComesTo files ending.files limits cert essential limit r ending.status
+sweep_comes_to laws files limits cert essential limit r ending (inl swept) =
+    inl (carried_claims ending.status swept.made (ap (λ (x : Ending). x.status) swept.is))
+sweep_comes_to laws files limits cert essential limit r ending (inr stopped) =
+    inr (stopped.text, record {
+      what = stopped.what;
+      stopped = ap (λ (x : Ending). x.status) stopped.is;
+      below = laws.budgets r essential limit limits stopped.what stopped.text stopped.full;
+      full = stopped.full;
+    }, ap (λ (x : Ending). x.files) stopped.is)
+
+strong_ends : Laws → (files : Files) (limits : Limits) (packages cert : List ℕ) (essential : Bool) (limit : ℕ) (r : PackageList) (ending : Ending)
+    → PackagesStage (Some files) limits packages (Goes r) → ClausesStage (Some files) limits essential r (Goes tt)
+    → CommandDecides (Strong packages cert essential limit) (Some files) limits ending → SweepComesTo (Some files) ending.files limits cert essential limit r ending.status
+strong_ends laws files limits packages cert essential limit r ending read kept decides =
+    sweep_comes_to laws (Some files) limits cert essential limit r ending
+    (then_goes (ClausesStage (Some files) limits essential r) _ (clauses_determined (Some files) limits essential r) tt kept ending
+    (then_goes (PackagesStage (Some files) limits packages) _ (packages_determined laws.texts.packages files limits packages) r read ending decides))
+
+abbrev TrialComesTo : Limits → PackageList → Status → Type 0
+TrialComesTo limits r status = IsCarriedOut status ⊎ ((text : List ℕ) × StopsBelowBudget r false 10000 limits status text)
+
+trial_comes_to : Laws → (files : Option Files) (limits : Limits) (size : ℕ) (r : PackageList) (ending : Ending) → Tries files limits size r ending → TrialComesTo limits r ending.status
+trial_comes_to laws files limits size r ending (inl tried) = inl (carried_claims ending.status tried.made (ap (λ (x : Ending). x.status) tried.is))
+trial_comes_to laws files limits size r ending (inr stopped) =
+    inr (stopped.text, record {
+      what = stopped.what;
+      stopped = ap (λ (x : Ending). x.status) stopped.is;
+      below = laws.budgets r false 10000 limits stopped.what stopped.text stopped.full;
+      full = stopped.full;
+    })
+
+trial_ends : Laws → (files : Files) (limits : Limits) (size seed : ℕ) (r : PackageList) (ending : Ending)
+    → ArchiveStage (Some files) limits size seed (Goes r) → ClausesStage (Some files) limits false r (Goes tt)
+    → CommandDecides (Try size seed) (Some files) limits ending → TrialComesTo limits r ending.status
+trial_ends laws files limits size seed r ending made kept decides =
+    trial_comes_to laws (Some files) limits size r ending
+    (then_goes (ClausesStage (Some files) limits false r) _ (clauses_determined (Some files) limits false r) tt kept ending
+    (then_goes (ArchiveStage (Some files) limits size seed) _ (archive_determined laws.texts.packages (Some files) limits size seed) r made ending decides))
+
+-- the one answer of CERT
+abbrev CheckComesTo : Option Files → Limits → (cert : List ℕ) → PackageList → Status → Type 0
+CheckComesTo files limits cert r status =
+    (answer : Result Verdict WorkError) × IsOfText answer × IsJudged files limits cert r answer × (status ≡ verdict_status answer)
+    × ((other : Result Verdict WorkError) → IsOfText other → IsJudged files limits cert r other → other ≡ answer)
+
+end_status : (files : Option Files) (answer : Result Verdict WorkError) (ending : Ending) → IsEndOfCertificate files answer ending → ending.status ≡ verdict_status answer
+end_status files (Ok (verdict.Accepted h made)) ending end = absurd end
+end_status files (Ok (verdict.Refused fault)) ending is = ap (λ (x : Ending). x.status) is
+end_status files (Err (work.TooLarge what)) ending is = ap (λ (x : Ending). x.status) is
+end_status files (Err work.ReadFault) ending end = absurd end
+end_status files (Err work.WriteFault) ending end = absurd end
+end_status files (Err work.NoMemory) ending end = absurd end
+
+check_comes_to : Laws → (files : Files) (limits : Limits) (packages cert : List ℕ) (r : PackageList) (ending : Ending) → PackagesStage (Some files) limits packages (Goes r)
+    → Then (CertificateStage (Some files) limits cert r) (Reports (Some files) r) ending → CheckComesTo (Some files) limits cert r ending.status
+check_comes_to laws files limits packages cert r ending read (inl (answer, judged, end)) =
+    (answer, end_of_text (Some files) answer ending end, judged, end_status (Some files) answer ending end,
+    λ other of_other judged'. one_judgement laws.texts.certificates files limits cert r answer other (in_order (Some files) limits packages r read) judged judged'
+    (end_of_text (Some files) answer ending end) of_other)
+check_comes_to laws files limits packages cert r ending read (inr (accepted, judged, (means, is))) =
+    (Ok (verdict.Accepted accepted.0 accepted.1), tt, judged, ap (λ (x : Ending). x.status) is,
+    λ other of_other judged'. one_judgement laws.texts.certificates files limits cert r (Ok (verdict.Accepted accepted.0 accepted.1)) other
+    (in_order (Some files) limits packages r read) judged judged' tt of_other)
+
+check_ends : Laws → (files : Files) (limits : Limits) (packages cert : List ℕ) (r : PackageList) (ending : Ending) → PackagesStage (Some files) limits packages (Goes r)
+    → CommandDecides (Check packages cert) (Some files) limits ending → CheckComesTo (Some files) limits cert r ending.status
+check_ends laws files limits packages cert r ending read decides =
+    check_comes_to laws files limits packages cert r ending read
+    (then_goes (PackagesStage (Some files) limits packages) _ (packages_determined laws.texts.packages files limits packages) r read ending decides)
+
+-- ---- all
+
+-- the end of an undisturbed run, of files that are told
+module _ (laws : Laws) (words : List (List ℕ)) (limits : Limits) (files : Files) (ending : Ending) (decides : Decides words (Some files) limits ending) where
+  pub decided_completes : Completes words limits ending.status (Some files) ending.files
+  decided_completes = record {
+    health = λ packages list r text members is read whole names. inr (health_ends laws files limits packages list r text members ending read whole names (of (Health packages list) is));
+    classes = λ packages r is read. inr (classes_end laws files limits packages r ending read (of (Classes packages) is));
+    strong = λ packages cert essential limit r is read kept.
+        inr (strong_ends laws files limits packages cert essential limit r ending read kept (of (Strong packages cert essential limit) is));
+    check = λ packages cert r is read. inr (check_ends laws files limits packages cert r ending read (of (Check packages cert) is));
+    trial = λ size seed r is made kept. inr (trial_ends laws files limits size seed r ending made kept (of (Try size seed) is));
+  }
+    where
+      of : (line : CommandLine) → command_of words ≡ Some line → CommandDecides line (Some files) limits ending
+      of line is = of_line words (Some files) limits line ending is decides
+
+-- want of memory leaves all open
+stored_out : (words : List (List ℕ)) (limits : Limits) (result : Status) (files left : Option Files) → result ≡ NoMemory → Completes words limits result files left
+stored_out words limits result files left memory = record {
+  health = λ packages list r text members is read whole names. inl memory;
+  classes = λ packages r is read. inl memory;
+  strong = λ packages cert essential limit r is read kept. inl memory;
+  check = λ packages cert r is read. inl memory;
+  trial = λ size seed r is made kept. inl memory;
+}
+
+pub run_completes : Laws → (words : List (List ℕ)) (limits : Limits) (result : Status) (desk desk' : DeskView) (out out' err err' : SinkView)
+    → Runs words limits result desk desk' out out' err err' → IsComplete words limits result desk desk' out out'
+run_completes laws words limits result desk desk' out out' err err' runs calm =
+    elim (runs.answer_comes calm.tells calm.none_of_reading calm.none_of_writing calm.none_of_printing) [
+      | inl decides ↦ decided calm.tells.0 desk.files calm.tells.1 decides
+      | inr memory ↦ stored_out words limits result desk.files desk'.files memory
+    ]
+  where
+    decided : (files : Files) (told : Option Files) → told ≡ Some files → Decides words told limits runs.ending → Completes words limits result told desk'.files
+    decided files told is decides =
+        subst (λ (t : Option Files). Completes words limits result t desk'.files) (sym is)
+        (subst (λ (left : Option Files). Completes words limits result (Some files) left) (sym runs.ends.files)
+        (subst (λ (s : Status). Completes words limits s (Some files) runs.ending.files) (sym runs.ends.status)
+        (decided_completes laws words limits files runs.ending (subst (λ (t : Option Files). Decides words t limits runs.ending) is decides))))

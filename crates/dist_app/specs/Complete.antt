@@ -1,0 +1,104 @@
+-- What a run of each command comes to where nothing is in its way. Want of memory may come in place of any answer.
+use Rattle.std.specs.Prelude.{◌≡◌, ◌⊎◌, ℕ, Bool, false, List, Option, Some, Result, Ok, Err, length}
+use Rattle.dist_outside.specs.Counts.{Rose}
+use Rattle.dist_outside.specs.DeskView.{DeskView}
+use Rattle.dist_outside.specs.Files.{Files, with_file}
+use Rattle.dist_outside.specs.SinkView.{SinkView}
+use Rattle.dist_outside.specs.declared.limits.Limits.{Limits}
+use Rattle.dist_outside.specs.declared.trouble.What.{What}
+use Rattle.dist_outside.specs.declared.trouble.WorkError.{WorkError}
+use Rattle.dist_repo.specs.PackageList.{PackageList}
+use Rattle.dist_now.specs.Health.{IsHealth}
+use Rattle.dist_now.specs.declared.kinds.Health.TheVariants.{Healthy}
+use Rattle.dist_strong.specs.Budget.{IsBelowBudget}
+use Rattle.dist_strong.specs.Sweep.{IsFull}
+use Rattle.dist_check.specs.Answers.{IsOfText}
+use Rattle.dist_check.specs.declared.verdict.Verdict.{Verdict}
+use Rattle.dist_check.specs.declared.verdict.Verdict.TheVariants.{Accepted, Refused}
+use Rattle.dist_words.specs.CommandLine.{CommandLine, Health, Classes, Strong, Check, Try}
+use Rattle.dist_words.specs.Table.{command_of}
+use Rattle.dist_app.specs.Check.{IsJudged}
+use Rattle.dist_app.specs.Claims.{claims_status}
+use Rattle.dist_app.specs.Headline.{IsCarriedOut}
+use Rattle.dist_app.specs.Health.{ListStage}
+use Rattle.dist_app.specs.PackagesStage.{PackagesStage}
+use Rattle.dist_app.specs.Run.{TellsFiles}
+use Rattle.dist_app.specs.Stages.{Goes}
+use Rattle.dist_app.specs.Strong.{ClausesStage}
+use Rattle.dist_app.specs.TextStage.{TextStage}
+use Rattle.dist_app.specs.Try.{ArchiveStage}
+use Rattle.dist_app.specs.declared.status.Status.{Status}
+use Rattle.dist_app.specs.declared.status.Status.TheVariants.{Done, CertificateRefused, NoMemory, TooLarge, NotHealthy}
+
+-- The desk tells its files, and no fault of the desk or of `out` was counted.
+pub record IsUndisturbed (desk desk' : DeskView) (out out' : SinkView) : Type 0 where
+  pub tells : TellsFiles desk
+  pub none_of_reading : ¬ Rose desk.read_faults desk'.read_faults
+  pub none_of_writing : ¬ Rose desk.write_faults desk'.write_faults
+  pub none_of_printing : ¬ Rose out.faults out'.faults
+
+-- ---- `health`
+
+-- what a set comes to: 0 exactly where it is healthy, else 9
+abbrev pub IsStatusOfSet : PackageList → List Bool → Status → Type 0
+IsStatusOfSet r members status = ((status ≡ Done) × IsHealth r false members Healthy) ⊎ ((status ≡ NotHealthy) × (¬ IsHealth r false members Healthy))
+
+-- LIST names a set of packages of PACKAGES.
+abbrev pub HealthIsComplete : List (List ℕ) → Limits → Status → Option Files → Type 0
+HealthIsComplete words limits result files = (packages list : List ℕ) (r : PackageList) (text : List ℕ) (members : List Bool) → command_of words ≡ Some (Health packages list)
+    → PackagesStage files limits packages (Goes r) → TextStage files list limits.bytes (Goes text) → ListStage files r.packages text (Goes members)
+    → (result ≡ NoMemory) ⊎ IsStatusOfSet r members result
+
+-- ---- `classes`
+
+abbrev pub ClassesAreComplete : List (List ℕ) → Limits → Status → Option Files → Type 0
+ClassesAreComplete words limits result files = (packages : List ℕ) (r : PackageList) → command_of words ≡ Some (Classes packages)
+    → PackagesStage files limits packages (Goes r) → (result ≡ NoMemory) ⊎ (result ≡ Done)
+
+-- ---- `strong` and `try`
+
+-- A sweep stopped at a number that is below its budget, with a full part of a certificate.
+pub record StopsBelowBudget (r : PackageList) (essential : Bool) (limit : ℕ) (limits : Limits) (status : Status) (text : List ℕ) : Type 0 where
+  pub what : What
+  pub stopped : status ≡ TooLarge
+  pub below : IsBelowBudget limits (length r.packages) limit what
+  pub full : IsFull r essential limit limits what text
+
+-- The input clauses of PACKAGES keep their numbers. The part that stopped stands in CERT.
+abbrev pub StrongIsComplete : List (List ℕ) → Limits → Status → (files left : Option Files) → Type 0
+StrongIsComplete words limits result files left = (packages cert : List ℕ) (essential : Bool) (limit : ℕ) (r : PackageList)
+    → command_of words ≡ Some (Strong packages cert essential limit) → PackagesStage files limits packages (Goes r) → ClausesStage files limits essential r (Goes tt)
+    → (result ≡ NoMemory) ⊎ (IsCarriedOut result ⊎ ((text : List ℕ) × StopsBelowBudget r essential limit limits result text × (left ≡ with_file files cert text)))
+
+-- The archive of the size and the seed, and its input clauses, keep their numbers.
+abbrev pub TrialIsComplete : List (List ℕ) → Limits → Status → Option Files → Type 0
+TrialIsComplete words limits result files = (size seed : ℕ) (r : PackageList)
+    → command_of words ≡ Some (Try size seed) → ArchiveStage files limits size seed (Goes r) → ClausesStage files limits false r (Goes tt)
+    → (result ≡ NoMemory) ⊎ (IsCarriedOut result ⊎ ((text : List ℕ) × StopsBelowBudget r false 10000 limits result text))
+
+-- ---- `check`
+
+-- the status that goes with an answer on a certificate
+abbrev pub verdict_status : Result Verdict WorkError → Status
+verdict_status (Ok (Accepted h made)) = claims_status made
+verdict_status (Ok (Refused fault)) = CertificateRefused
+verdict_status (Err error) = TooLarge
+
+-- The status is that of the one answer of CERT: it is accepted, or refused, or passes a number.
+abbrev pub CheckIsComplete : List (List ℕ) → Limits → Status → Option Files → Type 0
+CheckIsComplete words limits result files = (packages cert : List ℕ) (r : PackageList) → command_of words ≡ Some (Check packages cert)
+    → PackagesStage files limits packages (Goes r)
+    → (result ≡ NoMemory) ⊎ ((answer : Result Verdict WorkError) × IsOfText answer × IsJudged files limits cert r answer × (result ≡ verdict_status answer)
+    × ((other : Result Verdict WorkError) → IsOfText other → IsJudged files limits cert r other → other ≡ answer))
+
+-- ---- all
+
+pub record Completes (words : List (List ℕ)) (limits : Limits) (result : Status) (files left : Option Files) : Type 0 where
+  pub health : HealthIsComplete words limits result files
+  pub classes : ClassesAreComplete words limits result files
+  pub strong : StrongIsComplete words limits result files left
+  pub check : CheckIsComplete words limits result files
+  pub trial : TrialIsComplete words limits result files
+
+abbrev pub IsComplete : List (List ℕ) → Limits → Status → DeskView → DeskView → SinkView → SinkView → Type 0
+IsComplete words limits result desk desk' out out' = IsUndisturbed desk desk' out out' → Completes words limits result desk.files desk'.files
