@@ -2,6 +2,7 @@
 use Rattle.std.proofs.Common.{◌≡◌, ◌≤◌, ◌<◌, ℕ, List, Bool, false, inl, inr, Option, Some, None, length, refl, ap, sym, ◌∙◌, subst, arith}
 use Rattle.dist_outside.specs.Files.{Files}
 use Rattle.dist_outside.specs.declared.limits.Limits.{Limits}
+use Rattle.dist_list.specs.OneAnswer.{HasOneAnswer as ListHasOneAnswer}
 use Rattle.dist_package.specs.OneAnswer.{HasOneAnswer}
 use Rattle.dist_package.specs.declared.error.PackagesError.{PackagesError}
 use Rattle.dist_package.specs.declared.error.PackagesError.TheVariants as packages_error
@@ -22,7 +23,6 @@ use Rattle.dist_app.specs.TextStage.{TextStage}
 use Rattle.dist_app.specs.Try.{ArchiveStage, Tries}
 use Rattle.dist_generate.specs.Generator.{generated}
 use Rattle.dist_app.specs.declared.refusal.Refusal.TheVariants as refusal
-use Rattle.dist_app.proofs.Lists.{NamesSet-one, NamesSet-not_bad, IsBadAt-one}
 use Rattle.dist_app.proofs.StageLaws.{apart, nothing_excludes, same_end as same_ending, same_value, then_excludes}
 
 same_text : (a b : List ℕ) (whole : Option (List ℕ)) → whole ≡ Some a → whole ≡ Some b → b ≡ a
@@ -42,24 +42,25 @@ same_end files (packages_error.Bad fault) e other is is' = is' ∙ sym is
 same_end files packages_error.TooMany e other is is' = is' ∙ sym is
 same_end files packages_error.NoMemory e other is is' = absurd is
 
--- each Packages text has one repository or one error
-abbrev pub AreExact : Type 0
-AreExact = (text : List ℕ) (limit : ℕ) → HasOneAnswer text limit
+-- each Packages text has one repository or one error, and each LIST one set or one first bad line
+pub record AreExact : Type 0 where
+  pub packages : (text : List ℕ) (limit : ℕ) → HasOneAnswer text limit
+  pub lists : (packages : List Package) (text : List ℕ) → ListHasOneAnswer packages text
 
 repository_determined : AreExact → (files : Option Files) (stanzas : ℕ) (text : List ℕ) → IsDetermined (RepositoryStage files stanzas text)
-repository_determined exact files stanzas text (Goes a) (Goes b) f g = ap Goes ((exact text stanzas).one_repository a b f g)
-repository_determined exact files stanzas text (Goes a) (Ends e) f (error, refuses, is) = absurd ((exact text stanzas).never_both a error f refuses)
-repository_determined exact files stanzas text (Ends e) (Goes b) (error, refuses, is) g = absurd ((exact text stanzas).never_both b error g refuses)
+repository_determined exact files stanzas text (Goes a) (Goes b) f g = ap Goes ((exact.packages text stanzas).one_repository a b f g)
+repository_determined exact files stanzas text (Goes a) (Ends e) f (error, refuses, is) = absurd ((exact.packages text stanzas).never_both a error f refuses)
+repository_determined exact files stanzas text (Ends e) (Goes b) (error, refuses, is) g = absurd ((exact.packages text stanzas).never_both b error g refuses)
 repository_determined exact files stanzas text (Ends e) (Ends other) (error, refuses, is) (error', refuses', is') =
-    let same = (exact text stanzas).one_error error error' refuses refuses' in
+    let same = (exact.packages text stanzas).one_error error error' refuses refuses' in
     ap Ends (same_end files error e other is (subst (λ (x : PackagesError). IsEndOf files x other) same is'))
 
-list_determined : (files : Option Files) (packages : List Package) (text : List ℕ) → IsDetermined (ListStage files packages text)
-list_determined files packages text (Goes a) (Goes b) f g = ap Goes (NamesSet-one packages text a b f g)
-list_determined files packages text (Goes a) (Ends e) f (line, bad, is) = absurd (NamesSet-not_bad packages text a line f bad)
-list_determined files packages text (Ends e) (Goes b) (line, bad, is) g = absurd (NamesSet-not_bad packages text b line g bad)
-list_determined files packages text (Ends e) (Ends other) (line, bad, is) (line', bad', is') =
-    ap Ends (is' ∙ ap (λ (n : ℕ). refused files (refusal.BadList n)) (IsBadAt-one packages text line line' bad bad') ∙ sym is)
+list_determined : AreExact → (files : Option Files) (packages : List Package) (text : List ℕ) → IsDetermined (ListStage files packages text)
+list_determined exact files packages text (Goes a) (Goes b) f g = ap Goes ((exact.lists packages text).one_set a b f g)
+list_determined exact files packages text (Goes a) (Ends e) f (line, bad, is) = absurd ((exact.lists packages text).never_both a line f bad)
+list_determined exact files packages text (Ends e) (Goes b) (line, bad, is) g = absurd ((exact.lists packages text).never_both b line g bad)
+list_determined exact files packages text (Ends e) (Ends other) (line, bad, is) (line', bad', is') =
+    ap Ends (is' ∙ ap (λ (n : ℕ). refused files (refusal.BadList n)) ((exact.lists packages text).one_bad_line line line' bad bad') ∙ sym is)
 
 packages_determined : AreExact → (files : Files) (limits : Limits) (name : List ℕ) → IsDetermined (PackagesStage (Some files) limits name)
 packages_determined exact files limits name (Goes a) (Goes b) (t, f, g) (u, h, k) =
@@ -99,7 +100,7 @@ strong_excludes exact files limits packages essential Last =
     nothing_excludes (Last r)))
 
 archive_determined : AreExact → (files : Option Files) (limits : Limits) (size seed : ℕ) → IsDetermined (ArchiveStage files limits size seed)
-archive_determined exact files limits size seed (Goes a) (Goes b) f g = ap Goes ((exact (generated size seed) limits.stanzas).one_repository a b f.2 g.2)
+archive_determined exact files limits size seed (Goes a) (Goes b) f g = ap Goes ((exact.packages (generated size seed) limits.stanzas).one_repository a b f.2 g.2)
 archive_determined exact files limits size seed (Goes a) (Ends e) f (inl (longer, is)) = absurd (omega (arith, f.0, longer))
 archive_determined exact files limits size seed (Goes a) (Ends e) f (inr (within, many, is)) = absurd (omega (arith, f.1, many))
 archive_determined exact files limits size seed (Ends e) (Goes b) (inl (longer, is)) g = absurd (omega (arith, g.0, longer))
@@ -113,7 +114,7 @@ command_excludes : AreExact → (line : CommandLine) (files : Files) (limits : L
 command_excludes exact (Health packages list) files limits =
     then_excludes (PackagesStage (Some files) limits packages) _ _ (packages_determined exact files limits packages) (λ r goes.
     then_excludes (TextStage (Some files) list limits.bytes) _ _ (text_determined files list limits.bytes) (λ names whole.
-    then_excludes (ListStage (Some files) r.packages names) _ _ (list_determined (Some files) r.packages names) (λ members has.
+    then_excludes (ListStage (Some files) r.packages names) _ _ (list_determined exact (Some files) r.packages names) (λ members has.
     nothing_excludes (Judges (Some files) r members))))
 command_excludes exact (Classes packages) files limits =
     then_excludes (PackagesStage (Some files) limits packages) _ _ (packages_determined exact files limits packages) (λ r goes. nothing_excludes (TellsClasses (Some files) r))

@@ -11,6 +11,7 @@ use crate::refusal::{Refusal, refusal_of};
 use crate::refusal_text::write_refusal;
 use crate::status::Status;
 use dist_check::{accepted_claims_hold, undecided_questions_are_hard};
+use dist_list::lists_are_exact;
 use dist_outside::{Desk, Limits, Sink, sink_grows, write_whole};
 use dist_package::packages_are_exact;
 use dist_words::{WordsError, command_of};
@@ -56,6 +57,7 @@ pub fn run_with<D: Desk, W: Sink, E: Sink>(
     ensures hard { UndecidedAreHard limits.now }
 {
     packages_are_exact();
+    lists_are_exact();
     accepted_claims_hold();
     undecided_questions_are_hard();
     sink_grows();
