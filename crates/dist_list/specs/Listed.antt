@@ -1,15 +1,13 @@
--- What reading one line of LIST, and the lines so far, comes to.
+-- What reading one line of LIST, and the lines so far, comes to. No public clause cites it.
 use Rattle.std.specs.Prelude.{◌≡◌, ◌≢◌, ◌⊎◌, ◌<◌, true, false, slice_set, ℕ, ◌+◌, List, [], ◌∷◌, ◌++◌, length, Bool}
 use Rattle.dist_control.specs.Lines.{lines}
 use Rattle.dist_repo.specs.declared.package.Package.{Package}
 use Rattle.dist_list.specs.LineParts.{parts_of}
-use Rattle.dist_list.specs.PackageSet.{Names, IsListLine, NameSet, IsBadAt}
+use Rattle.dist_list.specs.PackageSet.{Names, IsListLine, NameSet}
 use Rattle.dist_list.specs.declared.list.Line.{Line}
 use Rattle.dist_list.specs.declared.list.Line.TheVariants as line
 use Rattle.dist_list.specs.declared.list.Shape.{Shape}
 use Rattle.dist_list.specs.declared.list.Shape.TheVariants as shape
-use Rattle.dist_list.specs.declared.list.ListError.{ListError}
-use Rattle.dist_list.specs.declared.list.ListError.TheVariants.{Bad, NoMemory}
 
 -- the parts of a line are none, two, or of another number
 abbrev pub IsShape : List ℕ → Shape → Type 0
@@ -42,8 +40,3 @@ pub record ReadSoFar (packages : List Package) (text rest : List ℕ) (number : 
   pub pieces : lines text ≡ done ++ lines rest
   pub named : NameSet packages done members
   pub place : number ≡ length done + 1
-
--- why a text names no set
-abbrev pub IsBadList : List Package → (text : List ℕ) → ListError → Type 0
-IsBadList packages text (Bad number) = IsBadAt packages text number
-IsBadList packages text NoMemory = ⊥

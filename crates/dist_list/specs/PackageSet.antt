@@ -5,6 +5,8 @@ use Rattle.dist_version.specs.Spelling.{IsVersion}
 use Rattle.dist_repo.specs.Providers.{IsPackageAt}
 use Rattle.dist_repo.specs.declared.package.Package.{Package}
 use Rattle.dist_list.specs.LineParts.{parts_of}
+use Rattle.dist_list.specs.declared.list.ListError.{ListError}
+use Rattle.dist_list.specs.declared.list.ListError.TheVariants.{Bad, NoMemory}
 
 -- The line is a name and a version, with spaces or tabs between them and perhaps at both ends. The package of this
 -- number has that name and an equal version.
@@ -41,3 +43,8 @@ pub record IsBadAt (packages : List Package) (text : List ℕ) (number : ℕ) : 
   pub each_before : All (IsListLine packages) before
   pub bad : ¬ IsListLine packages line
   pub place : number ≡ length before + 1
+
+-- why a text names no set
+abbrev pub IsBadList : List Package → (text : List ℕ) → ListError → Type 0
+IsBadList packages text (Bad number) = IsBadAt packages text number
+IsBadList packages text NoMemory = ⊥
