@@ -3,6 +3,7 @@ use Rattle.std.proofs.Common.{◌≡◌, ◌≤◌, ◌<◌, ℕ, List, Bool, fa
 use Rattle.std.specs.Prelude.{IsSome, get}
 use Rattle.dist_outside.specs.Files.{Files}
 use Rattle.dist_outside.specs.declared.limits.Limits.{Limits}
+use Rattle.dist_list.specs.OneAnswer.{HasOneAnswer as ListHasOneAnswer}
 use Rattle.dist_package.specs.OneAnswer.{HasOneAnswer}
 use Rattle.dist_package.specs.declared.error.PackagesError.{PackagesError}
 use Rattle.dist_package.specs.declared.error.PackagesError.TheVariants as packages_error
@@ -32,7 +33,6 @@ use Rattle.dist_app.specs.TextStage.{TextStage}
 use Rattle.dist_app.specs.Try.{ArchiveStage, Tries}
 use Rattle.dist_generate.specs.Generator.{generated}
 use Rattle.dist_app.specs.declared.refusal.Refusal.TheVariants as refusal
-use Rattle.dist_app.proofs.Lists.{NamesSet-one, NamesSet-not_bad, IsBadAt-one}
 use Rattle.dist_app.proofs.StageLaws.{apart, nothing_excludes, same_end as same_ending, same_value, then_excludes}
 
 same_text : (a b : List ℕ) (whole : Option (List ℕ)) → whole ≡ Some a → whole ≡ Some b → b ≡ a
@@ -52,34 +52,31 @@ same_end files (packages_error.Bad fault) e other is is' = is' ∙ sym is
 same_end files packages_error.TooMany e other is is' = is' ∙ sym is
 same_end files packages_error.NoMemory e other is is' = absurd is
 
--- each Packages text has one repository or one error
-abbrev pub AreExact : Type 0
-AreExact = (text : List ℕ) (limit : ℕ) → HasOneAnswer text limit
-
 -- each text of a certificate has one answer
 abbrev pub HaveOneAnswer : Type 0
 HaveOneAnswer = (r : PackageList) (limits : Limits) (text : List ℕ) (result other : Result Verdict WorkError) → IsInOrder r.packages
     → Answers r limits text result → Answers r limits text other → IsOfText result → IsOfText other → other ≡ result
 
--- what the bytes of both files decide, they decide in one way
-pub record TextsDecide : Type 0 where
-  pub packages : AreExact
+-- each Packages text has one repository or one error, each LIST one set or one first bad line, and each CERT one answer
+pub record AreExact : Type 0 where
+  pub packages : (text : List ℕ) (limit : ℕ) → HasOneAnswer text limit
+  pub lists : (packages : List Package) (text : List ℕ) → ListHasOneAnswer packages text
   pub certificates : HaveOneAnswer
 
 repository_determined : AreExact → (files : Option Files) (stanzas : ℕ) (text : List ℕ) → IsDetermined (RepositoryStage files stanzas text)
-repository_determined exact files stanzas text (Goes a) (Goes b) f g = ap Goes ((exact text stanzas).one_repository a b f g)
-repository_determined exact files stanzas text (Goes a) (Ends e) f (error, refuses, is) = absurd ((exact text stanzas).never_both a error f refuses)
-repository_determined exact files stanzas text (Ends e) (Goes b) (error, refuses, is) g = absurd ((exact text stanzas).never_both b error g refuses)
+repository_determined exact files stanzas text (Goes a) (Goes b) f g = ap Goes ((exact.packages text stanzas).one_repository a b f g)
+repository_determined exact files stanzas text (Goes a) (Ends e) f (error, refuses, is) = absurd ((exact.packages text stanzas).never_both a error f refuses)
+repository_determined exact files stanzas text (Ends e) (Goes b) (error, refuses, is) g = absurd ((exact.packages text stanzas).never_both b error g refuses)
 repository_determined exact files stanzas text (Ends e) (Ends other) (error, refuses, is) (error', refuses', is') =
-    let same = (exact text stanzas).one_error error error' refuses refuses' in
+    let same = (exact.packages text stanzas).one_error error error' refuses refuses' in
     ap Ends (same_end files error e other is (subst (λ (x : PackagesError). IsEndOf files x other) same is'))
 
-pub list_determined : (files : Option Files) (packages : List Package) (text : List ℕ) → IsDetermined (ListStage files packages text)
-list_determined files packages text (Goes a) (Goes b) f g = ap Goes (NamesSet-one packages text a b f g)
-list_determined files packages text (Goes a) (Ends e) f (line, bad, is) = absurd (NamesSet-not_bad packages text a line f bad)
-list_determined files packages text (Ends e) (Goes b) (line, bad, is) g = absurd (NamesSet-not_bad packages text b line g bad)
-list_determined files packages text (Ends e) (Ends other) (line, bad, is) (line', bad', is') =
-    ap Ends (is' ∙ ap (λ (n : ℕ). refused files (refusal.BadList n)) (IsBadAt-one packages text line line' bad bad') ∙ sym is)
+pub list_determined : AreExact → (files : Option Files) (packages : List Package) (text : List ℕ) → IsDetermined (ListStage files packages text)
+list_determined exact files packages text (Goes a) (Goes b) f g = ap Goes ((exact.lists packages text).one_set a b f g)
+list_determined exact files packages text (Goes a) (Ends e) f (line, bad, is) = absurd ((exact.lists packages text).never_both a line f bad)
+list_determined exact files packages text (Ends e) (Goes b) (line, bad, is) g = absurd ((exact.lists packages text).never_both b line g bad)
+list_determined exact files packages text (Ends e) (Ends other) (line, bad, is) (line', bad', is') =
+    ap Ends (is' ∙ ap (λ (n : ℕ). refused files (refusal.BadList n)) ((exact.lists packages text).one_bad_line line line' bad bad') ∙ sym is)
 
 pub packages_determined : AreExact → (files : Files) (limits : Limits) (name : List ℕ) → IsDetermined (PackagesStage (Some files) limits name)
 packages_determined exact files limits name (Goes a) (Goes b) (t, f, g) (u, h, k) =
@@ -119,7 +116,7 @@ strong_excludes exact files limits packages essential Last =
     nothing_excludes (Last r)))
 
 pub archive_determined : AreExact → (files : Option Files) (limits : Limits) (size seed : ℕ) → IsDetermined (ArchiveStage files limits size seed)
-archive_determined exact files limits size seed (Goes a) (Goes b) f g = ap Goes ((exact (generated size seed) limits.stanzas).one_repository a b f.2 g.2)
+archive_determined exact files limits size seed (Goes a) (Goes b) f g = ap Goes ((exact.packages (generated size seed) limits.stanzas).one_repository a b f.2 g.2)
 archive_determined exact files limits size seed (Goes a) (Ends e) f (inl (longer, is)) = absurd (omega (arith, f.0, longer))
 archive_determined exact files limits size seed (Goes a) (Ends e) f (inr (within, many, is)) = absurd (omega (arith, f.1, many))
 archive_determined exact files limits size seed (Ends e) (Goes b) (inl (longer, is)) g = absurd (omega (arith, g.0, longer))
@@ -179,21 +176,21 @@ in_order files limits name r (text, goes, has) = has.in_order
 
 -- ---- commands
 
-command_excludes : TextsDecide → (line : CommandLine) (files : Files) (limits : Limits) → Excludes (CommandRefuses line (Some files) limits) (CommandDecides line (Some files) limits)
-command_excludes decide (Health packages list) files limits =
-    then_excludes (PackagesStage (Some files) limits packages) _ _ (packages_determined decide.packages files limits packages) (λ r goes.
+command_excludes : AreExact → (line : CommandLine) (files : Files) (limits : Limits) → Excludes (CommandRefuses line (Some files) limits) (CommandDecides line (Some files) limits)
+command_excludes exact (Health packages list) files limits =
+    then_excludes (PackagesStage (Some files) limits packages) _ _ (packages_determined exact files limits packages) (λ r goes.
     then_excludes (TextStage (Some files) list limits.bytes) _ _ (text_determined files list limits.bytes) (λ names whole.
-    then_excludes (ListStage (Some files) r.packages names) _ _ (list_determined (Some files) r.packages names) (λ members has.
+    then_excludes (ListStage (Some files) r.packages names) _ _ (list_determined exact (Some files) r.packages names) (λ members has.
     nothing_excludes (Judges (Some files) r members))))
-command_excludes decide (Classes packages) files limits =
-    then_excludes (PackagesStage (Some files) limits packages) _ _ (packages_determined decide.packages files limits packages) (λ r goes. nothing_excludes (TellsClasses (Some files) r))
-command_excludes decide (Strong packages cert essential limit) files limits = strong_excludes decide.packages files limits packages essential (Sweeps (Some files) limits cert essential limit)
-command_excludes decide (Check packages cert) files limits =
-    then_excludes (PackagesStage (Some files) limits packages) _ _ (packages_determined decide.packages files limits packages) (λ r goes.
+command_excludes exact (Classes packages) files limits =
+    then_excludes (PackagesStage (Some files) limits packages) _ _ (packages_determined exact files limits packages) (λ r goes. nothing_excludes (TellsClasses (Some files) r))
+command_excludes exact (Strong packages cert essential limit) files limits = strong_excludes exact files limits packages essential (Sweeps (Some files) limits cert essential limit)
+command_excludes exact (Check packages cert) files limits =
+    then_excludes (PackagesStage (Some files) limits packages) _ _ (packages_determined exact files limits packages) (λ r goes.
     then_excludes (CertificateStage (Some files) limits cert r) _ _
-    (certificate_determined decide.certificates files limits cert r (in_order (Some files) limits packages r goes)) (λ accepted judged. nothing_excludes (Reports (Some files) r accepted)))
-command_excludes decide (Try size seed) files limits =
-    then_excludes (ArchiveStage (Some files) limits size seed) _ _ (archive_determined decide.packages (Some files) limits size seed) (λ r goes.
+    (certificate_determined exact.certificates files limits cert r (in_order (Some files) limits packages r goes)) (λ accepted judged. nothing_excludes (Reports (Some files) r accepted)))
+command_excludes exact (Try size seed) files limits =
+    then_excludes (ArchiveStage (Some files) limits size seed) _ _ (archive_determined exact (Some files) limits size seed) (λ r goes.
     then_excludes (ClausesStage (Some files) limits false r) _ _ (clauses_determined (Some files) limits false r) (λ _ kept.
     nothing_excludes (Tries (Some files) limits size r)))
 
@@ -213,12 +210,12 @@ one_line line other found is is' = cc
 no_line : (line : CommandLine) (found : Option CommandLine) → found ≡ None → found ≡ Some line → ⊥
 no_line line found none is = cc
 
-pub decides_excludes : TextsDecide → (words : List (List ℕ)) (files : Files) (limits : Limits) → Excludes (Refuses words (Some files) limits) (Decides words (Some files) limits)
-decides_excludes decide words files limits end ending (inl (bad, is)) (inl (bad', is')) = is' ∙ sym is
-decides_excludes decide words files limits end ending (inl (bad, is)) (inr (line, is_line, decides)) = absurd (no_line line (command_of words) bad is_line)
-decides_excludes decide words files limits end ending (inr (line, is_line, refuses)) (inl (bad, is)) = absurd (no_line line (command_of words) bad is_line)
-decides_excludes decide words files limits end ending (inr (line, is_line, refuses)) (inr (other, is_other, decides)) =
-    command_excludes decide line files limits end ending refuses
+pub decides_excludes : AreExact → (words : List (List ℕ)) (files : Files) (limits : Limits) → Excludes (Refuses words (Some files) limits) (Decides words (Some files) limits)
+decides_excludes exact words files limits end ending (inl (bad, is)) (inl (bad', is')) = is' ∙ sym is
+decides_excludes exact words files limits end ending (inl (bad, is)) (inr (line, is_line, decides)) = absurd (no_line line (command_of words) bad is_line)
+decides_excludes exact words files limits end ending (inr (line, is_line, refuses)) (inl (bad, is)) = absurd (no_line line (command_of words) bad is_line)
+decides_excludes exact words files limits end ending (inr (line, is_line, refuses)) (inr (other, is_other, decides)) =
+    command_excludes exact line files limits end ending refuses
     (subst (λ (x : CommandLine). CommandDecides x (Some files) limits ending) (one_line line other (command_of words) is_line is_other) decides)
 
 pub fault_excludes : AreExact → (words : List (List ℕ)) (files : Files) (limits : Limits) → Excludes (Refuses words (Some files) limits) (IsGivenUp words (Some files) limits refusal.WriteFault)

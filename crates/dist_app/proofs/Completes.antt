@@ -35,7 +35,7 @@ use Rattle.dist_app.specs.TextStage.{TextStage}
 use Rattle.dist_app.specs.Try.{ArchiveStage, IsTried, IsTrialStopped, Tries, TryStages}
 use Rattle.dist_app.specs.declared.status.Status.{Status}
 use Rattle.dist_app.specs.declared.status.Status.TheVariants.{Done, DoneWithUndecided, CertificateRefused, NoMemory, TooLarge, NotHealthy}
-use Rattle.dist_app.proofs.CommandLaws.{HaveOneAnswer, TextsDecide, archive_determined, certificate_determined, clauses_determined, end_of_text, in_order, list_determined, one_judgement, packages_determined, text_determined}
+use Rattle.dist_app.proofs.CommandLaws.{HaveOneAnswer, AreExact, archive_determined, certificate_determined, clauses_determined, end_of_text, in_order, list_determined, one_judgement, packages_determined, text_determined}
 use Rattle.dist_app.proofs.Headlines.{of_line}
 use Rattle.dist_app.proofs.Refused.{claims_carried_out}
 use Rattle.dist_app.proofs.StageLaws.{then_goes}
@@ -51,7 +51,7 @@ BudgetsSuffice = (r : PackageList) (essential : Bool) (limit : ℕ) (limits : Li
 
 -- what the ends of commands are told by
 pub record Laws : Type 0 where
-  pub texts : TextsDecide
+  pub texts : AreExact
   pub health : HaveOneHealth
   pub budgets : BudgetsSuffice
 
@@ -82,14 +82,14 @@ health_ends : Laws → (files : Files) (limits : Limits) (packages list : List �
     → CommandDecides (Health packages list) (Some files) limits ending → IsStatusOfSet r members ending.status
 health_ends laws files limits packages list r text members ending read whole names decides =
     judged_set laws.health (Some files) r members ending
-    (then_goes (ListStage (Some files) r.packages text) _ (list_determined (Some files) r.packages text) members names ending
+    (then_goes (ListStage (Some files) r.packages text) _ (list_determined laws.texts (Some files) r.packages text) members names ending
     (then_goes (TextStage (Some files) list limits.bytes) _ (text_determined files list limits.bytes) text whole ending
-    (then_goes (PackagesStage (Some files) limits packages) _ (packages_determined laws.texts.packages files limits packages) r read ending decides)))
+    (then_goes (PackagesStage (Some files) limits packages) _ (packages_determined laws.texts files limits packages) r read ending decides)))
 
 classes_end : Laws → (files : Files) (limits : Limits) (packages : List ℕ) (r : PackageList) (ending : Ending)
     → PackagesStage (Some files) limits packages (Goes r) → CommandDecides (Classes packages) (Some files) limits ending → ending.status ≡ Done
 classes_end laws files limits packages r ending read decides =
-    let tells = then_goes (PackagesStage (Some files) limits packages) _ (packages_determined laws.texts.packages files limits packages) r read ending decides in
+    let tells = then_goes (PackagesStage (Some files) limits packages) _ (packages_determined laws.texts files limits packages) r read ending decides in
     status_from ending (answered (Some files) Done tells.text) tells.is
 
 -- what a sweep leaves
@@ -118,7 +118,7 @@ strong_ends : Laws → (files : Files) (limits : Limits) (packages cert : List �
 strong_ends laws files limits packages cert essential limit r ending read kept decides =
     sweep_comes_to laws (Some files) limits cert essential limit r ending
     (then_goes (ClausesStage (Some files) limits essential r) _ (clauses_determined (Some files) limits essential r) tt kept ending
-    (then_goes (PackagesStage (Some files) limits packages) _ (packages_determined laws.texts.packages files limits packages) r read ending decides))
+    (then_goes (PackagesStage (Some files) limits packages) _ (packages_determined laws.texts files limits packages) r read ending decides))
 
 abbrev TrialComesTo : Limits → PackageList → Status → Type 0
 TrialComesTo limits r status = IsCarriedOut status ⊎ ((text : List ℕ) × StopsBelowBudget r false 10000 limits status text)
@@ -139,7 +139,7 @@ trial_ends : Laws → (files : Files) (limits : Limits) (size seed : ℕ) (r : P
 trial_ends laws files limits size seed r ending made kept decides =
     trial_comes_to laws (Some files) limits size r ending
     (then_goes (ClausesStage (Some files) limits false r) _ (clauses_determined (Some files) limits false r) tt kept ending
-    (then_goes (ArchiveStage (Some files) limits size seed) _ (archive_determined laws.texts.packages (Some files) limits size seed) r made ending decides))
+    (then_goes (ArchiveStage (Some files) limits size seed) _ (archive_determined laws.texts (Some files) limits size seed) r made ending decides))
 
 -- the one answer of CERT
 abbrev CheckComesTo : Option Files → Limits → (cert : List ℕ) → PackageList → Status → Type 0
@@ -170,7 +170,7 @@ check_ends : Laws → (files : Files) (limits : Limits) (packages cert : List �
     → CommandDecides (Check packages cert) (Some files) limits ending → CheckComesTo (Some files) limits cert r ending.status
 check_ends laws files limits packages cert r ending read decides =
     check_comes_to laws files limits packages cert r ending read
-    (then_goes (PackagesStage (Some files) limits packages) _ (packages_determined laws.texts.packages files limits packages) r read ending decides)
+    (then_goes (PackagesStage (Some files) limits packages) _ (packages_determined laws.texts files limits packages) r read ending decides)
 
 -- ---- all
 

@@ -4,11 +4,9 @@ pub mod Due
 pub mod Endings
 pub mod Headlines
 pub mod HealthStages
+pub mod HealthTexts
 pub mod KindText
-pub mod Lists
-pub mod Marks
 pub mod NewestLemmas
-pub mod PartLemmas
 pub mod Refused
 pub mod Runs
 pub mod StageLaws

@@ -138,7 +138,7 @@ told_status packages health.Healthy status line tells = subst IsOfFiles (sym tel
 told_status packages (health.TwoVersions p q) status line tells = subst IsOfFiles (sym tells.0) tt
 told_status packages (health.Unmet p place) status line tells = subst IsOfFiles (sym tells.0) tt
 told_status packages (health.Conflict p q) status line tells = subst IsOfFiles (sym tells.0) tt
-told_status packages (health.EssentialMissing p) status line tells = absurd tells
+told_status packages (health.EssentialMissing p) status line tells = absurd tells.1
 
 pub claims_of_files : (made : List Claim) → IsOfFiles (claims_status made)
 claims_of_files made = go (list_any has_mark made) refl

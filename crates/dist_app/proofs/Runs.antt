@@ -18,10 +18,10 @@ use Rattle.dist_app.specs.declared.refusal.Refusal.{Refusal}
 use Rattle.dist_app.specs.declared.refusal.Refusal.TheVariants as refusal
 use Rattle.dist_app.specs.declared.status.Status.{Status}
 use Rattle.dist_app.specs.declared.status.Status.TheVariants.{BadWords, ReadFault, WriteFault, NoMemory}
-use Rattle.dist_app.proofs.CommandLaws.{TextsDecide, decides_excludes, fault_excludes}
+use Rattle.dist_app.proofs.CommandLaws.{AreExact, decides_excludes, fault_excludes}
 use Rattle.dist_app.proofs.Refused.{IsOfFiles, command_status, given_up_status, not_read_fault, not_write_fault, refuses_told}
 
--- bad words alone decide their status
+-- bad words alone exact their status
 words_of_status : (words : List (List ℕ)) (files : Option Files) (limits : Limits) (ending : Ending) → Decides words files limits ending → ending.status ≡ BadWords → IsBadWords words
 words_of_status words files limits ending (inl (bad, is)) status = bad
 words_of_status words files limits ending (inr (line, is_line, decides)) status = absurd (subst IsOfFiles status (command_status line files limits ending decides))
@@ -38,17 +38,17 @@ told_excludes : (Refuses Decides : Option Files → Ending → Type 0) (desk : D
     → Excludes (Refuses desk.files) (Decides desk.files)
 told_excludes Refuses Decides desk (files, told) excludes = subst (λ (f : Option Files). Excludes (Refuses f) (Decides f)) (sym told) (excludes files)
 
-alone : TextsDecide → (words : List (List ℕ)) (desk : DeskView) (limits : Limits) → TellsFiles desk → Excludes (Refuses words desk.files limits) (Decides words desk.files limits)
-alone decide words desk limits tells = told_excludes (λ f. Refuses words f limits) (λ f. Decides words f limits) desk tells (λ files. decides_excludes decide words files limits)
+alone : AreExact → (words : List (List ℕ)) (desk : DeskView) (limits : Limits) → TellsFiles desk → Excludes (Refuses words desk.files limits) (Decides words desk.files limits)
+alone exact words desk limits tells = told_excludes (λ f. Refuses words f limits) (λ f. Decides words f limits) desk tells (λ files. decides_excludes exact words files limits)
 
-alone_of_faults : TextsDecide → (words : List (List ℕ)) (desk : DeskView) (limits : Limits) → TellsFiles desk → Excludes (Refuses words desk.files limits) (IsGivenUp words desk.files limits refusal.WriteFault)
-alone_of_faults decide words desk limits tells =
-    told_excludes (λ f. Refuses words f limits) (λ f. IsGivenUp words f limits refusal.WriteFault) desk tells (λ files. fault_excludes decide.packages words files limits)
+alone_of_faults : AreExact → (words : List (List ℕ)) (desk : DeskView) (limits : Limits) → TellsFiles desk → Excludes (Refuses words desk.files limits) (IsGivenUp words desk.files limits refusal.WriteFault)
+alone_of_faults exact words desk limits tells =
+    told_excludes (λ f. Refuses words f limits) (λ f. IsGivenUp words f limits refusal.WriteFault) desk tells (λ files. fault_excludes exact words files limits)
 
 -- an answer, after which nothing is told on `err`
-pub answered_runs : TextsDecide → (words : List (List ℕ)) (limits : Limits) (status : Status) (desk desk' : DeskView) (out out' err : SinkView)
+pub answered_runs : AreExact → (words : List (List ℕ)) (limits : Limits) (status : Status) (desk desk' : DeskView) (out out' err : SinkView)
     → IsAnswered words limits desk desk' out out' status → Leaves words desk desk' → Grew [] err err → Runs words limits status desk desk' out out' err err
-answered_runs decide words limits status desk desk' out out' err a leaves nothing = record {
+answered_runs exact words limits status desk desk' out out' err a leaves nothing = record {
   ending = a.ending;
   comes = inl a.decides;
   ends = record { status = a.status_is; printed = a.printed; files = a.files };
@@ -58,7 +58,7 @@ answered_runs decide words limits status desk desk' out out' err a leaves nothin
   words_told = λ bad. inl (a.status_is ∙ status_of_words words desk.files limits a.ending a.decides bad);
   read_fault = λ is. absurd (not_read_fault words desk.files limits a.ending a.decides (sym a.status_is ∙ is));
   write_fault = λ is. absurd (not_write_fault words desk.files limits a.ending a.decides (sym a.status_is ∙ is));
-  refusal_comes = λ tells read end refuses. inl (alone decide words desk limits tells end a.ending refuses a.decides);
+  refusal_comes = λ tells read end refuses. inl (alone exact words desk limits tells end a.ending refuses a.decides);
   answer_comes = λ tells read written printed. inl a.decides;
 }
 
@@ -100,7 +100,7 @@ interrupted_status words files limits ending (inr (inr (inr (inl cut)))) = inr (
 interrupted_status words files limits ending (inr (inr (inr (inr cut)))) = inr (inr (ap (λ (e : Ending). e.status) cut.is))
 
 -- A refusal, whose line is told on `err`.
-module _ (decide : TextsDecide) (words : List (List ℕ)) (limits : Limits) (desk desk' : DeskView) (out out' : SinkView) (r : Refusal) (b : IsRefused words limits desk desk' out out' r) where
+module _ (exact : AreExact) (words : List (List ℕ)) (limits : Limits) (desk desk' : DeskView) (out out' : SinkView) (r : Refusal) (b : IsRefused words limits desk desk' out out' r) where
   -- where nothing was counted, want of memory is the only end that may come at any time
   unstored_alone : ¬ Rose desk.read_faults desk'.read_faults → ¬ Rose desk.write_faults desk'.write_faults → ¬ Rose out.faults out'.faults → IsInterrupted words desk.files limits b.ending → status_of r ≡ NoMemory
   unstored_alone read written printed interrupted =
@@ -113,7 +113,7 @@ module _ (decide : TextsDecide) (words : List (List ℕ)) (limits : Limits) (des
   -- where a refusal comes, no answer is cut short
   no_cut : TellsFiles desk → (end : Ending) → Refuses words desk.files limits end → ¬ IsCutShort words desk.files limits refusal.WriteFault b.ending
   no_cut tells end refuses cut =
-      let same : cut.decided ≡ end = alone decide words desk limits tells end cut.decided refuses cut.decides in
+      let same : cut.decided ≡ end = alone exact words desk limits tells end cut.decided refuses cut.decides in
       refuses_told words desk.files limits end refuses (sym (ap (λ (e : Ending). e.err) same) ∙ cut.answers)
 
   refused_words : Comes words desk.files limits b.ending → status_of r ≡ BadWords → IsBadWords words
@@ -127,10 +127,10 @@ module _ (decide : TextsDecide) (words : List (List ℕ)) (limits : Limits) (des
 
   refusal_comes : Comes words desk.files limits b.ending → TellsFiles desk → ¬ Rose desk.read_faults desk'.read_faults → (end : Ending)
       → Refuses words desk.files limits end → (b.ending ≡ end) ⊎ (status_of r ≡ NoMemory)
-  refusal_comes (inl decides) tells read end refuses = inl (alone decide words desk limits tells end b.ending refuses decides)
+  refusal_comes (inl decides) tells read end refuses = inl (alone exact words desk limits tells end b.ending refuses decides)
   refusal_comes (inr (inl is)) tells read end refuses = absurd (read (b.read_fault (read_fault_of r (sym b.status ∙ ap (λ (e : Ending). e.status) is))))
   refusal_comes (inr (inr (inl is))) tells read end refuses = inr (sym b.status ∙ ap (λ (e : Ending). e.status) is)
-  refusal_comes (inr (inr (inr (inl (inl given_up))))) tells read end refuses = inl (alone_of_faults decide words desk limits tells end b.ending refuses given_up)
+  refusal_comes (inr (inr (inr (inl (inl given_up))))) tells read end refuses = inl (alone_of_faults exact words desk limits tells end b.ending refuses given_up)
   refusal_comes (inr (inr (inr (inl (inr (line, is, given_up)))))) tells read end refuses = inr (sym b.status ∙ given_up_status line desk.files limits refusal.NoMemory b.ending given_up)
   refusal_comes (inr (inr (inr (inr (inl cut))))) tells read end refuses = absurd (no_cut tells end refuses cut)
   refusal_comes (inr (inr (inr (inr (inr cut))))) tells read end refuses = inr (sym b.status ∙ ap (λ (e : Ending). e.status) cut.is)

@@ -2,7 +2,7 @@
 use Rattle.std.specs.Prelude.{Bool, List, if◌then◌else◌}
 use Rattle.std.specs.List.{list_any}
 use Rattle.dist_cert.specs.declared.records.Claim.{Claim}
-pub use Rattle.dist_trial.specs.Summary.{has_mark}
+pub use Rattle.dist_report.specs.Marks.{has_mark}
 use Rattle.dist_app.specs.declared.status.Status.{Status}
 use Rattle.dist_app.specs.declared.status.Status.TheVariants.{Done, DoneWithUndecided}
 

@@ -1,19 +1,17 @@
 -- What `health PACKAGES LIST` comes to.
-use Rattle.std.specs.Prelude.{◌≡◌, ℕ, ◌<◌, length, false, Bool, List, ◌++◌, Option, Some, slice_get, codes}
-use Rattle.dist_relation.specs.Canonical.{alternatives_text}
-use Rattle.dist_relation.specs.declared.atom.Atom.{Atom}
+use Rattle.std.specs.Prelude.{◌≡◌, ℕ, false, Bool, List, Option}
 use Rattle.dist_outside.specs.Files.{Files}
 use Rattle.dist_outside.specs.declared.limits.Limits.{Limits}
 use Rattle.dist_repo.specs.PackageList.{PackageList}
 use Rattle.dist_repo.specs.declared.package.Package.{Package}
 use Rattle.dist_now.specs.Health.{IsHealth}
 use Rattle.dist_now.specs.declared.kinds.Health.{Health}
-use Rattle.dist_now.specs.declared.kinds.Health.TheVariants.{Healthy, TwoVersions, Unmet, Conflict, EssentialMissing}
-use Rattle.dist_report.specs.PackageText.{label}
+use Rattle.dist_now.specs.declared.kinds.Health.TheVariants.{Healthy}
+use Rattle.dist_list.specs.PackageSet.{NamesSet, IsBadAt}
+use Rattle.dist_report.specs.HealthText.{IsHealthText}
 use Rattle.dist_app.specs.Stages.{Ending, Step, Ends, Goes, Then, answered, refused}
 use Rattle.dist_app.specs.TextStage.{TextStage}
 use Rattle.dist_app.specs.PackagesStage.{PackagesStage}
-use Rattle.dist_app.specs.PackageSet.{NamesSet, IsBadAt}
 use Rattle.dist_app.specs.declared.status.Status.{Status}
 use Rattle.dist_app.specs.declared.status.Status.TheVariants.{Done, NotHealthy}
 use Rattle.dist_app.specs.declared.refusal.Refusal.TheVariants.{BadList}
@@ -23,35 +21,14 @@ abbrev pub ListStage : Option Files → List Package → (text : List ℕ) → S
 ListStage files packages text (Goes members) = NamesSet packages text members
 ListStage files packages text (Ends ending) = (line : ℕ) × IsBadAt packages text line × (ending ≡ refused files (BadList line))
 
--- the packages of two numbers, and a line with their labels behind some words
-pub record IsPairLine (packages : List Package) (words : List ℕ) (first second : ℕ) (line : List ℕ) : Type 0 where
-  pub p : Package
-  pub q : Package
-  pub first_is : slice_get packages first ≡ Some p
-  pub second_is : slice_get packages second ≡ Some q
-  pub text : line ≡ words ++ (label p ++ (codes " " ++ (label q ++ codes "\n")))
-
--- the package of this number has an item at this place
-pub record HasItem (packages : List Package) (number place : ℕ) : Type 0 where
-  pub p : Package
-  pub is : slice_get packages number ≡ Some p
-  pub within : place < length p.depends
-
--- `unmet P: ITEM`, with the item in its canonical text
-pub record IsUnmetLine (packages : List Package) (number place : ℕ) (line : List ℕ) : Type 0 where
-  pub p : Package
-  pub is : slice_get packages number ≡ Some p
-  pub item : List Atom
-  pub item_is : slice_get p.depends place ≡ Some item
-  pub text : line ≡ codes "unmet " ++ (label p ++ (codes ": " ++ (alternatives_text item ++ codes "\n")))
+-- the status that goes with a health
+abbrev pub health_status : Health → Status
+health_status Healthy = Done
+health_status health = NotHealthy
 
 -- the line that tells the health of a set, and the status that goes with it
 abbrev pub Tells : List Package → Health → Status → List ℕ → Type 0
-Tells packages Healthy status line = (status ≡ Done) × (line ≡ codes "healthy\n")
-Tells packages (TwoVersions p q) status line = (status ≡ NotHealthy) × IsPairLine packages (codes "two versions ") p q line
-Tells packages (Unmet p place) status line = (status ≡ NotHealthy) × IsUnmetLine packages p place line
-Tells packages (Conflict p q) status line = (status ≡ NotHealthy) × IsPairLine packages (codes "conflict ") p q line
-Tells packages (EssentialMissing p) status line = ⊥
+Tells packages health status line = (status ≡ health_status health) × IsHealthText packages health line
 
 -- the health of a set at mode plain, told in one line
 pub record Judges (files : Option Files) (repository : PackageList) (members : List Bool) (ending : Ending) : Type 0 where

@@ -10,9 +10,6 @@ pub mod Due
 pub mod FaultText
 pub mod Headline
 pub mod Health
-pub mod LineParts
-pub mod Listed
-pub mod PackageSet
 pub mod PackagesStage
 pub mod Refusal
 pub mod RepositoryStage

@@ -24,7 +24,8 @@ ClausesStage files limits essential r (Ends ending) =
     ⊎ ((¬ PassesClauses r essential limits.clauses limits.literals) × PassesLiterals r essential limits.clauses limits.literals
     × (ending ≡ refused files (TooLarge Literals)))
 
--- The sweep came to its end: CERT holds its certificate, and its claims are reported.
+-- The sweep came to its end: CERT holds its certificate, and its claims are reported. The last argument of `header_of` is the
+-- input clauses, which the first line counts. A report tells only the limit of that line, so here they are left empty.
 pub record IsSwept (files : Option Files) (limits : Limits) (cert : List ℕ) (essential : Bool) (limit : ℕ) (r : PackageList) (ending : Ending) : Type 0 where
   pub made : List Claim
   pub text : List ℕ

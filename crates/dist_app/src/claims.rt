@@ -3,38 +3,24 @@ ghost use Rattle.std.specs.Prelude.{◌≡◌, IfOk, length};
 ghost use Rattle.dist_cert.specs.declared.records.CertKind.TheVariants.{Strong};
 ghost use Rattle.dist_subject.specs.Claims.{AreClaimsOf};
 ghost use Rattle.dist_report.specs.StrongReport.{strong_lines};
-ghost use Rattle.dist_app.specs.Claims.{claims_status, has_mark};
+ghost use Rattle.dist_app.specs.Claims.{claims_status, marked_status};
 
 use crate::answer::Answer;
 use crate::status::Status;
-use dist_cert::{Claim, Claims, Header};
+use dist_cert::{Claims, Header};
 use dist_repo::Repository;
-use dist_report::text;
+use dist_report::{some_has_mark, text};
 use std::alloc::{AllocError, Global};
 
-/// Whether a claim leaves something undecided.
-fn has_mark(claim: &Claim) -> bool
-    ensures { result ≡ has_mark claim.now }
+/// The status of a run that reports claims, by whether something is left undecided.
+pub(crate) fn marked_status(undecided: bool) -> Status
+    ensures { result ≡ marked_status undecided }
 {
-    match claim {
-        Claim::Unknown => true,
-        Claim::Strong(_, undecided) => !undecided.as_slice().is_empty(),
-        Claim::Challenged(_, undecided) => !undecided.as_slice().is_empty(),
-        Claim::Uninstallable | Claim::Outdated | Claim::Alive => false,
+    if undecided {
+        Status::DoneWithUndecided
+    } else {
+        Status::Done
     }
-}
-
-/// The status of a run that reports claims.
-#[tactic(auto, using(crate::proofs::Marks::marked, crate::proofs::Marks::none_more, crate::proofs::Marks::unmarked))]
-fn claims_status(claims: &Claims) -> Status
-    ensures { result ≡ claims_status claims.now }
-{
-    for place in 0..claims.len() {
-        if has_mark(claims.get(place)) {
-            return Status::DoneWithUndecided;
-        }
-    }
-    Status::Done
 }
 
 /// The report of claims, with its status.
@@ -51,7 +37,7 @@ pub(crate) fn tell_claims(
 {
     let text = text(alloc, repository, header, claims)?;
     Ok(Answer {
-        status: claims_status(claims),
+        status: marked_status(some_has_mark(claims)),
         text,
     })
 }

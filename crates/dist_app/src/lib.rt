@@ -12,8 +12,6 @@ mod files;
 mod health;
 mod health_command;
 mod laws;
-mod line_parts;
-mod list;
 mod pieces;
 mod refusal;
 mod refusal_text;

@@ -12,6 +12,7 @@ use crate::refusal::{Refusal, refusal_of};
 use crate::refusal_text::write_refusal;
 use crate::status::Status;
 use dist_check::{accepted_claims_hold, texts_have_one_answer, undecided_questions_are_hard};
+use dist_list::lists_are_exact;
 use dist_now::one_health;
 use dist_outside::{Desk, Limits, Sink, sink_grows, write_whole};
 use dist_package::packages_are_exact;
@@ -66,6 +67,7 @@ pub fn run_with<D: Desk, W: Sink, E: Sink>(
     one_health();
     budgets_are_enough();
     texts_have_one_answer();
+    lists_are_exact();
     accepted_claims_hold();
     undecided_questions_are_hard();
     sink_grows();

@@ -1,16 +1,15 @@
 //! `try --size N --seed S`. It touches no file.
-ghost use Rattle.std.specs.Prelude.{◌≡◌, IfErr, IfOk, Option};
+ghost use Rattle.std.specs.Prelude.{IfErr, IfOk, Option};
 ghost use Rattle.dist_outside.specs.Files.{Files};
 ghost use Rattle.dist_words.specs.Lines.{IsSize};
-ghost use Rattle.dist_app.specs.Claims.{marked_status};
 ghost use Rattle.dist_app.specs.Due.{IsGivenUp};
 ghost use Rattle.dist_app.specs.Run.{IsWithinStated};
 ghost use Rattle.dist_app.specs.Stages.{answered};
 ghost use Rattle.dist_app.specs.Try.{Tries, TryStages};
 
 use crate::answer::Answer;
+use crate::claims::marked_status;
 use crate::refusal::{Refusal, refusal_of};
-use crate::status::Status;
 use dist_outside::Limits;
 use dist_trial::trial;
 use dist_words::TryWords;
@@ -27,20 +26,9 @@ pub(crate) fn run_try(alloc: Global, words: &TryWords, limits: &Limits) -> Resul
 {
     match trial(alloc, words.size, words.seed, limits) {
         Ok(trial) => Ok(Answer {
-            status: status_of(trial.undecided),
+            status: marked_status(trial.undecided),
             text: trial.summary,
         }),
         Err(error) => Err(refusal_of(error)),
-    }
-}
-
-/// The status of a trial.
-fn status_of(undecided: bool) -> Status
-    ensures { result ≡ marked_status undecided }
-{
-    if undecided {
-        Status::DoneWithUndecided
-    } else {
-        Status::Done
     }
 }

@@ -1,4 +1,5 @@
 pub mod LineLemmas
+pub mod MarkLemmas
 pub mod PlainLemmas
 pub mod ToldLemmas
 pub mod PickedLemmas

@@ -2,6 +2,8 @@ pub mod Lines
 pub mod PackageText
 pub mod ClassesReport
 pub mod StrongReport
+pub mod HealthText
+pub mod Marks
 pub mod ClaimParts
 pub mod Plain
 pub mod Written

@@ -3,14 +3,18 @@
 
 mod claim_parts;
 mod classes_report;
+mod health_line;
 mod impact;
 mod laws;
 mod lines;
+mod marks;
 mod strong_report;
 
 pub use classes_report::classes_text;
+pub use health_line::health_text;
 pub use laws::{classes_texts_are_one, strings_are_plain};
 pub use lines::print_label;
+pub use marks::some_has_mark;
 pub use strong_report::text;
 
 #[cfg(test)]

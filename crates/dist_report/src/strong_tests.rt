@@ -3,7 +3,7 @@ ghost use Rattle.std.specs.Prelude.{◌≡◌, IfOk};
 ghost use Rattle.dist_cert.specs.declared.records.CertKind.TheVariants.{Strong};
 
 use crate::tests::{Row, add};
-use crate::text;
+use crate::{some_has_mark, text};
 use dist_cert::{CertKind, Claim, Claims, Header, Items, Numbers};
 use dist_repo::{Builder, Repository};
 use std::alloc::Global;
@@ -84,6 +84,7 @@ fn a_diamond_is_told(rt: HostRuntime) -> Result<(), Fail> {
     claims.push(Claim::Strong(numbers(alloc, &[])?, numbers(alloc, &[])?))?;
     let told = text(alloc, &repo, &header(4, 3), &claims)?;
     assert_eq!(rt; told.as_slice(), DIAMOND.as_bytes());
+    assert_eq!(rt; some_has_mark(&claims), false);
     Ok(())
 }
 
@@ -122,6 +123,7 @@ fn marks_are_told_apart(rt: HostRuntime) -> Result<(), Fail> {
     claims.push(Claim::Strong(numbers(alloc, &[])?, numbers(alloc, &[])?))?;
     let told = text(alloc, &repo, &header(4, 2), &claims)?;
     assert_eq!(rt; told.as_slice(), MARKED.as_bytes());
+    assert_eq!(rt; some_has_mark(&claims), true);
     Ok(())
 }
 

@@ -2,6 +2,7 @@
 ghost use Rattle.std.specs.Prelude.{◌≡◌, ◌+◌, ◌<◌, ◌≤◌, IfOk, length};
 
 use super::*;
+use dist_now::Health;
 use dist_relation::{Name, read_atoms, read_depends, read_provides};
 use dist_repo::{Added, Builder, Package, Repository};
 use dist_version::Version;
@@ -96,6 +97,22 @@ fn a_label_is_printed(rt: HostRuntime) -> Result<(), Fail> {
     let mut out = Vec::new(alloc);
     print_label(&package(alloc, &("a", "1", "a", ""))?, &mut out)?;
     assert_eq!(rt; out.as_slice(), b"a=1".as_slice());
+    Ok(())
+}
+
+#[test]
+fn a_health_is_told(rt: HostRuntime) -> Result<(), Fail> {
+    let alloc = rt.alloc();
+    let repo = repository(alloc, &("a", "1", "s", ""), &("a", "2", "s", ""))?;
+    if repo.len() != 2 {
+        return Err(Fail::from("not two packages"));
+    }
+    let healthy = health_text(alloc, &repo, &Health::Healthy)?;
+    assert_eq!(rt; healthy.as_slice(), b"healthy\n".as_slice());
+    let two = health_text(alloc, &repo, &Health::TwoVersions(0, 1))?;
+    assert_eq!(rt; two.as_slice(), b"two versions a=1 a=2\n".as_slice());
+    let conflict = health_text(alloc, &repo, &Health::Conflict(0, 1))?;
+    assert_eq!(rt; conflict.as_slice(), b"conflict a=1 a=2\n".as_slice());
     Ok(())
 }
 

@@ -5,7 +5,8 @@ use Rattle.std.proofs.lemmas.Bool.{true≢false, eq-eqb, eqb-true, or_parts}
 use Rattle.std.proofs.lemmas.List.Sums.{sum_by-cons}
 use Rattle.dist_cert.specs.declared.records.Claim.{Claim}
 use Rattle.dist_cert.specs.declared.records.Claim.TheVariants.{Uninstallable, Unknown, Strong, Outdated, Alive, Challenged}
-use Rattle.dist_trial.specs.Summary.{has_mark, mark_count, marks_of}
+use Rattle.dist_report.specs.Marks.{has_mark}
+use Rattle.dist_trial.specs.Summary.{mark_count, marks_of}
 
 not-false : (b : Bool) → not b ≡ false → b ≡ true
 not-false true e = refl

@@ -6,15 +6,17 @@ use Rattle.std.specs.FinMap.{get, insert, get-insert}
 use Rattle.dist_outside.specs.DeskView.{DeskView, Holds}
 use Rattle.dist_outside.specs.Files.{Files, Mode, Idle, file_bytes, with_file}
 use Rattle.dist_outside.specs.declared.limits.Limits.{Limits}
+use Rattle.dist_outside.specs.declared.trouble.What.{What}
 use Rattle.dist_outside.specs.declared.trouble.What.TheVariants.{Bytes, Stanzas, Variables, Clauses, Literals, Lines, LineLiterals, Certificate, RecordLine}
 use Rattle.dist_outside.specs.declared.trouble.WorkError.{WorkError}
 use Rattle.dist_outside.specs.declared.trouble.WorkError.TheVariants.{ReadFault, WriteFault, TooLarge, NoMemory}
+use Rattle.dist_repo.specs.Order.{IsInOrder}
 use Rattle.dist_repo.specs.PackageList.{PackageList}
 use Rattle.dist_cert.specs.declared.faults.CertFault.{CertFault}
 use Rattle.dist_cert.specs.declared.records.Claim.{Claim}
 use Rattle.dist_cert.specs.declared.records.Header.{Header}
 use Rattle.dist_strong.specs.Sweep.{ComesExactly, SweepAnswers, header_of}
-use Rattle.dist_check.specs.Answers.{Answers, IsVerdict}
+use Rattle.dist_check.specs.Answers.{Answers, IsOfText, IsVerdict}
 use Rattle.dist_check.specs.Checking.{OfText}
 use Rattle.dist_check.specs.declared.verdict.Verdict.{Verdict}
 use Rattle.dist_check.specs.declared.verdict.Verdict.TheVariants.{Accepted, Refused}
@@ -128,3 +130,18 @@ pub not-refused : RightLaw → OneVerdictLaw → (r : PackageList) (limits : Lim
     → IsWritten r limits name files old new made → ¬ OfText (file_bytes new.files name) (λ text. Answers r limits text (Ok (Refused fault)))
 not-refused right one r limits name files old new made fault w of =
     accepted≢refused (header_of r false 10000 (w.1.2.0 false)) made fault (verdict-same right one r limits name files old new made (Refused fault) w of)
+
+abbrev pub OneAnswerLaw : Type 0
+OneAnswerLaw = (r : PackageList) (limits : Limits) (text : List ℕ) (result other : Result Verdict WorkError) → IsInOrder r.packages → Answers r limits text result → Answers r limits text other
+    → IsOfText result → IsOfText other → other ≡ result
+
+large≢verdict : (what : What) (verdict : Verdict) → Err (TooLarge what) ≢ Ok verdict
+large≢verdict what verdict e = cc
+
+pub not-large : OneAnswerLaw → (r : PackageList) (limits : Limits) (name : List ℕ) (files : Files) (old new : DeskView) (made : List Claim) (what : What) → IsInOrder r.packages
+    → IsWritten r limits name files old new made → ¬ OfText (file_bytes new.files name) (λ text. Answers r limits text (Err (TooLarge what)))
+not-large one r limits name files old new made what ordered w of =
+    let text : List ℕ = w.1.0 in
+    let answers : Answers r limits text (Err (TooLarge what)) = of-file (λ t. Answers r limits t (Err (TooLarge what))) files name text Idle old new w.0 w.1.1 of in
+    let first : Verdict = Accepted (header_of r false 10000 (w.1.2.0 false)) made in
+    large≢verdict what first (one r limits text (Ok first) (Err (TooLarge what)) ordered w.1.2.2.0 answers tt tt)

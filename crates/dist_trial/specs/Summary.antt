@@ -1,10 +1,10 @@
 -- The summary of a trial: how many packages there are, and how much is claimed of them.
-use Rattle.std.specs.Prelude.{◌≡◌, ◌==◌, ◌||◌, ℕ, Bool, not, List, [], ◌∷◌, ◌++◌, codes, decimal, length, sum_by, refl}
+use Rattle.std.specs.Prelude.{◌≡◌, ℕ, List, [], ◌∷◌, ◌++◌, codes, decimal, length, sum_by, refl}
 use Rattle.std.specs.Fmt.{digits}
 use Rattle.std.specs.List.{count_by}
 use Rattle.dist_cert.specs.declared.records.Claim.{Claim}
 use Rattle.dist_cert.specs.declared.records.Claim.TheVariants.{Unknown, Strong, Challenged}
-use Rattle.dist_report.specs.StrongReport.{has_some, is_uninstallable, is_unknown, strong_on, undecided_on}
+use Rattle.dist_report.specs.StrongReport.{is_uninstallable, strong_on}
 
 -- ---- what is counted
 
@@ -24,11 +24,6 @@ marks_of claim = 0
 
 abbrev pub mark_count : List Claim → ℕ
 mark_count made = sum_by marks_of made
-
--- Something is left undecided: all that is asked of the package, or an entry of the claim's second list.
-abbrev pub has_mark : Claim → Bool
-has_mark (Challenged by undecided) = not (length undecided == 0)
-has_mark claim = is_unknown claim || has_some (undecided_on claim)
 
 -- ---- the text
 

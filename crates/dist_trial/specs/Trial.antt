@@ -10,8 +10,9 @@ use Rattle.dist_repo.specs.PackageList.{PackageList}
 use Rattle.dist_package.specs.RepositoryOf.{IsRepositoryOf}
 use Rattle.dist_now.specs.PresentSet.{PassesClauses, PassesLiterals}
 use Rattle.dist_strong.specs.Sweep.{IsFull, IsSweep}
+use Rattle.dist_report.specs.Marks.{has_mark}
 use Rattle.dist_generate.specs.Generator.{generated}
-use Rattle.dist_trial.specs.Summary.{has_mark, summary_text}
+use Rattle.dist_trial.specs.Summary.{summary_text}
 use Rattle.dist_trial.specs.declared.trials.Trial.{Trial}
 
 -- The text of a size and a seed is within the limits of bytes and of stanzas, and its repository has a property.

@@ -10,7 +10,7 @@ ghost use Rattle.dist_trial.specs.Claiming.{in_memory};
 ghost use Rattle.dist_trial.specs.Trial.{AreSwept, SweptAnswers};
 
 use dist_cert::Claims;
-use dist_check::{Verdict, check, texts_have_one_verdict};
+use dist_check::{Verdict, check, texts_have_one_answer, texts_have_one_verdict};
 use dist_outside::{Limits, MemoryDesk, WorkError};
 use dist_repo::Repository;
 use dist_strong::strong;
@@ -46,6 +46,9 @@ pub(crate) fn claims_of(
     ensures too_many_literals { ComesExactly result (TooLarge what.Literals) (PassesLiterals repo.now false limits.now.clauses limits.now.literals) }
 {
     texts_have_one_verdict();
+    texts_have_one_answer();
+    // The packages of a repository are in order.
+    let _ = repo.len();
     let mut desk = MemoryDesk::new(alloc, usize::MAX, &[])?;
     match strong(alloc, repo, false, &mut desk, CERTIFICATE, LIMIT, limits) {
         Ok(_) => {}
@@ -55,6 +58,11 @@ pub(crate) fn claims_of(
         Ok(Verdict::Accepted(_, claims)) => Ok(claims),
         // What a sweep wrote is accepted.
         Ok(Verdict::Refused(_)) => unreachable!(),
-        Err(_) => Err(WorkError::NoMemory),
+        // A text that is accepted passes no number.
+        Err(WorkError::TooLarge(_)) => unreachable!(),
+        // A check writes nothing.
+        Err(WorkError::WriteFault) => unreachable!(),
+        // No call of the desk is made to fail, so what the check lacks is memory.
+        Err(WorkError::ReadFault | WorkError::NoMemory) => Err(WorkError::NoMemory),
     }
 }

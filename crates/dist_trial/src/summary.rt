@@ -1,12 +1,13 @@
 //! The lines of a summary.
 ghost use Rattle.std.specs.Prelude.{◌≡◌, ◌++◌, IfOk, OnOk, codes, length, sum_by};
 ghost use Rattle.std.specs.List.{list_any};
+ghost use Rattle.dist_report.specs.Marks.{has_mark};
 ghost use Rattle.dist_trial.specs.Figures.{figure_in};
-ghost use Rattle.dist_trial.specs.Summary.{has_mark, number_line, summary_text};
+ghost use Rattle.dist_trial.specs.Summary.{number_line, summary_text};
 
-use crate::laws::marks_are_counted;
 use crate::trials::Trial;
 use dist_cert::{Claim, Claims};
+use dist_report::some_has_mark;
 use itoa::Buffer;
 use std::alloc::{AllocError, Global};
 
@@ -59,8 +60,6 @@ pub(crate) fn told(alloc: Global, size: u32, claims: &Claims) -> Result<Trial, A
     ensures summary { IfOk result (λ done. done.summary.items ≡ summary_text size claims.now) }
     ensures undecided { IfOk result (λ done. done.undecided ≡ list_any has_mark claims.now) }
 {
-    marks_are_counted();
-    let marks = total(claims, Figure::Marks);
     let mut summary = Vec::new(alloc);
     add_line(&mut summary, b"size ", u128::from(size))?;
     add_line(&mut summary, b"strong ", total(claims, Figure::Pairs))?;
@@ -69,10 +68,10 @@ pub(crate) fn told(alloc: Global, size: u32, claims: &Claims) -> Result<Trial, A
         b"uninstallable ",
         total(claims, Figure::NotInstallable),
     )?;
-    add_line(&mut summary, b"undecided ", marks)?;
+    add_line(&mut summary, b"undecided ", total(claims, Figure::Marks))?;
     summary.extend_from_slice(b"accepted 1\n")?;
     Ok(Trial {
         summary,
-        undecided: marks != 0,
+        undecided: some_has_mark(claims),
     })
 }

@@ -9,14 +9,16 @@ use Rattle.dist_app.proofs.top_call.run_with.Goals as goal
 
 pub returns-in-Ok-clause-runs : goal.returns-in-Ok-clause-runs
 returns-in-Ok-clause-runs g c =
-    answered_runs (record { packages = c.packages_are_exact.ensures; certificates = c.texts_have_one_answer.ensures }) _ c.args.limits.now c.in-Ok.status (g.D.Desk.view c.args.desk.now) (g.D.Desk.view c.carry_out.new.desk) (g.W.Sink.view c.args.out.now) (g.W.Sink.view c.carry_out.new.out)
+    answered_runs (record { packages = c.packages_are_exact.ensures; lists = c.lists_are_exact.ensures; certificates = c.texts_have_one_answer.ensures }) _
+    c.args.limits.now c.in-Ok.status (g.D.Desk.view c.args.desk.now) (g.D.Desk.view c.carry_out.new.desk) (g.W.Sink.view c.args.out.now) (g.W.Sink.view c.carry_out.new.out)
     (g.E.Sink.view c.args.err.now) c.in-Ok.ensures.ends c.in-Ok.ensures.leaves (c.sink_grows.ensures.begin (g.E.Sink.view c.args.err.now))
 
 pub returns-in-Err-clause-runs : goal.returns-in-Err-clause-runs
 returns-in-Err-clause-runs g c =
     subst (λ (s : Status). Runs (map string_bytes c.args.words.now) c.args.limits.now s (g.D.Desk.view c.args.desk.now) (g.D.Desk.view c.carry_out.new.desk) (g.W.Sink.view c.args.out.now) (g.W.Sink.view c.carry_out.new.out)
     (g.E.Sink.view c.args.err.now) (g.E.Sink.view c.write_refusal.new.err)) (sym c.status-status.ensures)
-    (refused_runs (record { packages = c.packages_are_exact.ensures; certificates = c.texts_have_one_answer.ensures }) _ c.args.limits.now (g.D.Desk.view c.args.desk.now) (g.D.Desk.view c.carry_out.new.desk) (g.W.Sink.view c.args.out.now) (g.W.Sink.view c.carry_out.new.out)
+    (refused_runs (record { packages = c.packages_are_exact.ensures; lists = c.lists_are_exact.ensures; certificates = c.texts_have_one_answer.ensures }) _
+    c.args.limits.now (g.D.Desk.view c.args.desk.now) (g.D.Desk.view c.carry_out.new.desk) (g.W.Sink.view c.args.out.now) (g.W.Sink.view c.carry_out.new.out)
     c.in-Err.refusal c.in-Err.ensures.ends c.write_refusal.result (g.E.Sink.view c.args.err.now) (g.E.Sink.view c.write_refusal.new.err) c.in-Err.ensures.leaves c.write_refusal.ensures)
 
 pub returns-in-Ok-clause-strong : goal.returns-in-Ok-clause-strong
@@ -51,7 +53,7 @@ pub returns-in-Ok-clause-complete : goal.returns-in-Ok-clause-complete
 returns-in-Ok-clause-complete g c =
     run_completes
     (record {
-      texts = record { packages = c.packages_are_exact.ensures; certificates = c.texts_have_one_answer.ensures };
+      texts = record { packages = c.packages_are_exact.ensures; lists = c.lists_are_exact.ensures; certificates = c.texts_have_one_answer.ensures };
       health = c.one_health.ensures;
       budgets = c.budgets_are_enough.ensures;
     })
@@ -62,7 +64,7 @@ pub returns-in-Err-clause-complete : goal.returns-in-Err-clause-complete
 returns-in-Err-clause-complete g c =
     run_completes
     (record {
-      texts = record { packages = c.packages_are_exact.ensures; certificates = c.texts_have_one_answer.ensures };
+      texts = record { packages = c.packages_are_exact.ensures; lists = c.lists_are_exact.ensures; certificates = c.texts_have_one_answer.ensures };
       health = c.one_health.ensures;
       budgets = c.budgets_are_enough.ensures;
     })

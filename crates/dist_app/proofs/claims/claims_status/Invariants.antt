@@ -1,7 +1,0 @@
-use Rattle.std.proofs.Common.{◌≡◌, ◌≤◌, false, length, take}
-use Rattle.std.specs.List.{list_any}
-use Rattle.dist_app.specs.Claims.{has_mark}
-use Rattle.dist_app.proofs.claims.claims_status.Given as goal
-
-abbrev pub invariant-loop-place : goal.invariant-loop-place
-invariant-loop-place l = list_any has_mark (take l.place l.claims) ≡ false

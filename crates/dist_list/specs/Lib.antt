@@ -1,0 +1,4 @@
+pub mod LineParts
+pub mod Listed
+pub mod OneAnswer
+pub mod PackageSet
