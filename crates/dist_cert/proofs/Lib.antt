@@ -11,3 +11,8 @@ pub mod HeaderForms
 pub mod Answering
 pub mod ReadBack
 pub mod ExactReader
+pub mod ExampleTests
+pub mod ExampleLines
+pub mod ExampleTenLines
+pub mod ExampleEmpty
+pub mod ExampleChallenged

@@ -16,6 +16,7 @@ pub mod Accepted
 pub mod ClearForms
 pub mod OneVerdict
 pub mod SomeVerdict
+pub mod GroupLaws
 pub mod ReadBack
 pub mod FaultsRead
 pub mod ExactReader
@@ -25,4 +26,8 @@ pub mod PartByRecords
 pub mod PartExamples
 pub mod ReadingExamples
 pub mod Examples
+pub mod ExampleText
+pub mod ExampleTenLines
+pub mod ExampleEmpty
+pub mod ExampleChallenged
 pub mod AcceptedExamples
