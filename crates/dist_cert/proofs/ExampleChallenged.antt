@@ -1,17 +1,17 @@
 -- No line of the certificate of kind challenged has a fault.
-use Rattle.std.proofs.Common.{◌≡◌, ◌≢◌, ⊎_elim, inl, inr, ℕ, zero, suc, ◌<◌, ◌≤◌, true, false, List, [], ◌∷◌, ◌++◌, codes, length, get_or, refl, sym, subst, arith, lit<, lit≤}
+use Rattle.std.proofs.Common.{◌≡◌, inl, inr, ℕ, zero, suc, ◌<◌, ◌≤◌, true, false, List, [], ◌∷◌, ◌++◌, codes, length, refl, sym, subst, arith, lit<, lit≤}
 use Rattle.std.specs.Fmt.{digits}
 use Rattle.std.specs.List.{Contains, list_all, list_any}
 use Rattle.std.proofs.lemmas.List.Elements.{All-from_recursion}
 use Rattle.std.proofs.lemmas.List.Kept.{AllPairs-cons}
-use Rattle.dist_clause.specs.Formula.{literal, negation}
-use Rattle.dist_derive.specs.Follows.{Follows, Step}
+use Rattle.dist_clause.specs.Formula.{literal}
+use Rattle.dist_derive.specs.Follows.{Follows}
 use Rattle.dist_outside.specs.declared.limits.Limits.{Limits}
 use Rattle.dist_cert.specs.declared.records.CertRecord.{CertRecord}
 use Rattle.dist_cert.specs.declared.records.CertRecord.TheVariants.{Question, Refuted, Installation, Challenged, End}
 use Rattle.dist_cert.specs.Form.{record_text, header_text, is_end}
 use Rattle.dist_cert.specs.Subject.{cluster_at}
-use Rattle.dist_cert.specs.Groups.{numbered, group, installation_at, IsRefutedIn}
+use Rattle.dist_cert.specs.Groups.{numbered, group, IsRefutedIn}
 use Rattle.dist_cert.specs.ClaimRules.{yes, IsNamed, IsPairFor, IsPairBelow, HasNone, IsCovered, challenge_question, HoldsChallenged, OmitsPair}
 use Rattle.dist_cert.specs.Refusal.{certificate_text}
 use Rattle.dist_cert.specs.Accepted.{Accepted}
@@ -82,10 +82,15 @@ libx-holds = record {
 
 -- neither p as it is nor p at its class is installed
 no-p : HasNone space (cluster_at space 2) (1 ∷ 2 ∷ [])
-no-p = All-from_recursion (λ r. (¬ Contains (1 ∷ 2 ∷ []) (space.present r)) × ((class : ℕ) → 1 ≤ class → class ≤ 1 → ¬ Contains (1 ∷ 2 ∷ []) (space.new r class))) (2 ∷ [])
-    ((lacks (1 ∷ 2 ∷ []) 3 refl, λ class least most there.
-    let is : class ≡ 1 = omega (arith, least, most) in
-    lacks (1 ∷ 2 ∷ []) 11 refl (subst (λ k. Contains (1 ∷ 2 ∷ []) (space.new 2 k)) is there)), tt)
+no-p = All-from_recursion (λ r. (¬ Contains (1 ∷ 2 ∷ []) (space.present r)) × ((class : ℕ) → 1 ≤ class → class ≤ 1 → ¬ Contains (1 ∷ 2 ∷ []) (space.new r class))) (2 ∷ []) (
+  (
+    lacks (1 ∷ 2 ∷ []) 3 refl,
+    λ class least most there.
+        let is : class ≡ 1 = omega (arith, least, most) in
+        lacks (1 ∷ 2 ∷ []) 11 refl (subst (λ k. Contains (1 ∷ 2 ∷ []) (space.new 2 k)) is there),
+  ),
+  tt,
+)
 
 -- the other cluster is p's
 libx-omits-none : ¬ OmitsPair space on_libx 1 (1 ∷ []) []
@@ -101,14 +106,17 @@ p-holds : HoldsChallenged space on_p 2 (2 ∷ 3 ∷ []) ((1, 2) ∷ (1, 3) ∷ [
 p-holds = record {
   names = All-from_recursion (IsNamed on_p 3) (2 ∷ 3 ∷ []) (((lit≤ tt, lit≤ tt, lit< tt), has (1 ∷ 2 ∷ 3 ∷ []) 3 refl), (((lit≤ tt, lit≤ tt, lit< tt), has (3 ∷ 4 ∷ 5 ∷ []) 3 refl), tt));
   today = inl (0, 2, lit< tt, refl, has (1 ∷ 2 ∷ 3 ∷ []) 1 refl);
-  rising = (AllPairs-cons IsPairBelow (1, 2) ((1, 3) ∷ []) (All-from_recursion (IsPairBelow (1, 2)) ((1, 3) ∷ []) (inr (refl, lit< tt), tt))
-      (AllPairs-cons IsPairBelow (1, 3) [] (λ k d within. absurd (none-of k within)) (λ i j d before within. absurd (none-of j within))),
-      λ i j d before within. absurd (none-of j within));
+  rising = (
+    AllPairs-cons IsPairBelow (1, 2) ((1, 3) ∷ []) (All-from_recursion (IsPairBelow (1, 2)) ((1, 3) ∷ []) (inr (refl, lit< tt), tt))
+        (AllPairs-cons IsPairBelow (1, 3) [] (λ k d within. absurd (none-of k within)) (λ i j d before within. absurd (none-of j within))),
+    λ i j d before within. absurd (none-of j within),
+  );
   apart = λ k d within there. none-of there.0 there.1;
   pairs = All-from_recursion (IsPairFor space 2) ((1, 2) ∷ (1, 3) ∷ []) ((lit≤ tt, lit≤ tt, lit≤ tt, lit≤ tt, lacks (1 ∷ []) 2 refl), ((lit≤ tt, lit≤ tt, lit≤ tt, lit≤ tt, lacks (1 ∷ []) 2 refl), tt));
-  refuted = All-from_recursion (λ pair. IsRefutedIn (group on_p) (challenge_question space 2 pair)) ((1, 2) ∷ (1, 3) ∷ [])
-      ((6 ∷ 12 ∷ 5 ∷ 1 ∷ [], (at_first, [], at_third, refl, λ k d within. absurd (none-of k within))),
-      ((8 ∷ 12 ∷ 5 ∷ 2 ∷ [], (at_first ++ at_second, [], [], refl, λ k d within. absurd (none-of k within))), tt));
+  refuted = All-from_recursion (λ pair. IsRefutedIn (group on_p) (challenge_question space 2 pair)) ((1, 2) ∷ (1, 3) ∷ []) (
+    (6 ∷ 12 ∷ 5 ∷ 1 ∷ [], (at_first, [], at_third, refl, λ k d within. absurd (none-of k within))),
+    ((8 ∷ 12 ∷ 5 ∷ 2 ∷ [], (at_first ++ at_second, [], [], refl, λ k d within. absurd (none-of k within))), tt),
+  );
   open_still = λ k d within. absurd (none-of k within);
 }
 
@@ -148,24 +156,53 @@ lines-sound : (limits : Limits) → 56 ≤ limits.record_line → AreSound limit
 unfolding digits
 lines-sound limits room = (
   question-line limits space header _ (yes 1 ∷ yes 2 ∷ []) (codes "q 1 2") refl refl (omega (arith, room)) refl,
-  (installed limits room _ (1 ∷ 2 ∷ []) (codes "m 1 2") refl (lit< tt) refl refl refl refl,
-  (sound limits space header _ claim_on_libx (codes "c 1 1 0 0") refl (lit≤ tt, lit< tt, from-one (1 ∷ []) refl, (λ k d within. absurd (none-of k within)), (λ k d within. absurd (none-of k within))) refl
-  (omega (arith, room)) refl (claims-challenged space header on_libx 1 (1 ∷ []) [] [] refl (lit≤ tt) libx-holds libx-omits-none),
-  (question-line limits space header _ (yes 1 ∷ yes 3 ∷ []) (codes "q 1 3") refl refl (omega (arith, room)) refl,
-  (installed limits room _ (1 ∷ 2 ∷ 3 ∷ []) (codes "m 1 2 3") refl (lit< tt) refl refl refl refl,
-  (question-line limits space header _ (yes 3 ∷ yes 4 ∷ []) (codes "q 3 4") refl refl (omega (arith, room)) refl,
-  (installed limits room _ (3 ∷ 4 ∷ 5 ∷ []) (codes "m 3 4 5") refl (lit< tt) refl refl refl refl,
-  (question-line limits space header _ (yes 3 ∷ yes 6 ∷ []) (codes "q 3 6") refl refl (omega (arith, room)) refl,
-  (refuted-line limits space header _ (on_libx ++ claim_on_libx ∷ at_first) (yes 3 ∷ yes 6 ∷ []) [] (6 ∷ 12 ∷ 5 ∷ 1 ∷ []) (codes "f 6 12 5 1") refl
-  (record { ends = refl; left_open = λ k d within. absurd (none-of k within) }) refl not-second (omega (arith, room)) refl,
-  (question-line limits space header _ (yes 3 ∷ yes 8 ∷ []) (codes "q 3 8") refl refl (omega (arith, room)) refl,
-  (refuted-line limits space header _ (on_libx ++ claim_on_libx ∷ (at_first ++ at_second)) (yes 3 ∷ yes 8 ∷ []) [] (8 ∷ 12 ∷ 5 ∷ 2 ∷ []) (codes "f 8 12 5 2") refl
-  (record { ends = refl; left_open = λ k d within. absurd (none-of k within) }) refl not-third (omega (arith, room)) refl,
-  (sound limits space header _ claim_on_p (codes "c 2 2 3 0 1 2 1 3 0") refl (lit≤ tt, lit< tt, from-one (2 ∷ 3 ∷ []) refl,
-  All-from_recursion (λ (pair : ℕ × ℕ). (1 ≤ pair.0) × (1 ≤ pair.1)) ((1, 2) ∷ (1, 3) ∷ []) ((lit≤ tt, lit≤ tt), ((lit≤ tt, lit≤ tt), tt)), (λ k d within. absurd (none-of k within))) refl
-  (omega (arith, room)) refl (claims-challenged space header on_p 2 (2 ∷ 3 ∷ []) ((1, 2) ∷ (1, 3) ∷ []) [] refl (lit≤ tt) p-holds p-omits-none),
-  (end-line limits space header _ refl (lit≤ tt) (omega (arith, room)) refl,
-  tt)))))))))))),
+  (
+    installed limits room _ (1 ∷ 2 ∷ []) (codes "m 1 2") refl (lit< tt) refl refl refl refl,
+    (
+      sound limits space header _ claim_on_libx (codes "c 1 1 0 0") refl (lit≤ tt, lit< tt, from-one (1 ∷ []) refl, (λ k d within. absurd (none-of k within)), (λ k d within. absurd (none-of k within))) refl
+          (omega (arith, room)) refl (claims-challenged space header on_libx 1 (1 ∷ []) [] [] refl (lit≤ tt) libx-holds libx-omits-none),
+      (
+        question-line limits space header _ (yes 1 ∷ yes 3 ∷ []) (codes "q 1 3") refl refl (omega (arith, room)) refl,
+        (
+          installed limits room _ (1 ∷ 2 ∷ 3 ∷ []) (codes "m 1 2 3") refl (lit< tt) refl refl refl refl,
+          (
+            question-line limits space header _ (yes 3 ∷ yes 4 ∷ []) (codes "q 3 4") refl refl (omega (arith, room)) refl,
+            (
+              installed limits room _ (3 ∷ 4 ∷ 5 ∷ []) (codes "m 3 4 5") refl (lit< tt) refl refl refl refl,
+              (
+                question-line limits space header _ (yes 3 ∷ yes 6 ∷ []) (codes "q 3 6") refl refl (omega (arith, room)) refl,
+                (
+                  refuted-line limits space header _ (on_libx ++ claim_on_libx ∷ at_first) (yes 3 ∷ yes 6 ∷ []) [] (6 ∷ 12 ∷ 5 ∷ 1 ∷ []) (codes "f 6 12 5 1") refl
+                      (record { ends = refl; left_open = λ k d within. absurd (none-of k within) }) refl not-second (omega (arith, room)) refl,
+                  (
+                    question-line limits space header _ (yes 3 ∷ yes 8 ∷ []) (codes "q 3 8") refl refl (omega (arith, room)) refl,
+                    (
+                      refuted-line limits space header _ (on_libx ++ claim_on_libx ∷ (at_first ++ at_second)) (yes 3 ∷ yes 8 ∷ []) [] (8 ∷ 12 ∷ 5 ∷ 2 ∷ []) (codes "f 8 12 5 2") refl
+                          (record { ends = refl; left_open = λ k d within. absurd (none-of k within) }) refl not-third (omega (arith, room)) refl,
+                      (
+                        sound limits space header _ claim_on_p (codes "c 2 2 3 0 1 2 1 3 0") refl (
+                          lit≤ tt,
+                          lit< tt,
+                          from-one (2 ∷ 3 ∷ []) refl,
+                          All-from_recursion (λ (pair : ℕ × ℕ). (1 ≤ pair.0) × (1 ≤ pair.1)) ((1, 2) ∷ (1, 3) ∷ []) ((lit≤ tt, lit≤ tt), ((lit≤ tt, lit≤ tt), tt)),
+                          (λ k d within. absurd (none-of k within)),
+                        ) refl
+                            (omega (arith, room)) refl (claims-challenged space header on_p 2 (2 ∷ 3 ∷ []) ((1, 2) ∷ (1, 3) ∷ []) [] refl (lit≤ tt) p-holds p-omits-none),
+                        (
+                          end-line limits space header _ refl (lit≤ tt) (omega (arith, room)) refl,
+                          tt,
+                        ),
+                      ),
+                    ),
+                  ),
+                ),
+              ),
+            ),
+          ),
+        ),
+      ),
+    ),
+  ),
 )
 
 pub challenged : ChallengedIsAccepted

@@ -1,13 +1,12 @@
 -- The certificate of the empty archive has no fault.
-use Rattle.std.proofs.Common.{◌≡◌, ℕ, ◌<◌, ◌≤◌, false, List, [], ◌∷◌, ◌++◌, codes, length, refl, sym, subst, arith, lit<, lit≤}
+use Rattle.std.proofs.Common.{◌≡◌, ℕ, ◌<◌, ◌≤◌, List, [], ◌∷◌, ◌++◌, codes, length, refl, sym, subst, arith, lit<, lit≤}
 use Rattle.std.specs.Fmt.{digits}
 use Rattle.dist_outside.specs.declared.limits.Limits.{Limits}
-use Rattle.dist_cert.specs.declared.records.CertRecord.{CertRecord}
 use Rattle.dist_cert.specs.declared.records.CertRecord.TheVariants.{End}
 use Rattle.dist_cert.specs.Form.{record_text, header_text}
 use Rattle.dist_cert.specs.Refusal.{certificate_text}
 use Rattle.dist_cert.specs.Accepted.{Accepted}
-use Rattle.dist_cert.specs.ByRecords.{IsSound, IsSoundHeader, accepted_by_records}
+use Rattle.dist_cert.specs.ByRecords.{IsSoundHeader, accepted_by_records}
 use Rattle.dist_cert.specs.ExampleEmpty.{nothing, empty_archive, header, two_lines, EmptyIsAccepted}
 use Rattle.dist_cert.proofs.ExampleLines.{end-line}
 use Rattle.dist_cert.proofs.OneLine.{clear}

@@ -1,5 +1,5 @@
 -- What a line of a worked example needs to have no fault, for each letter that stands in one.
-use Rattle.std.proofs.Common.{◌≡◌, ◌≢◌, ◌⊎◌, ⊎_elim, ℕ, zero, suc, ◌+◌, ◌<◌, ◌≤◌, ◌^◌, ◌&&◌, Bool, true, false, not, List, [], ◌∷◌, ◌++◌, codes, length, get_or, map, eqb, leb, ltb, refl, sym, ap, ◌∙◌, subst, arith}
+use Rattle.std.proofs.Common.{◌≡◌, ◌≢◌, ◌⊎◌, ⊎_elim, inl, inr, ℕ, zero, suc, ◌+◌, ◌<◌, ◌≤◌, ◌^◌, ◌&&◌, Bool, true, false, not, List, [], ◌∷◌, ◌++◌, codes, length, get_or, map, eqb, leb, ltb, refl, sym, ap, ◌∙◌, subst, append_assoc, append-nil, arith}
 use Rattle.std.specs.List.{All, Any, list_all, list_any}
 use Rattle.std.proofs.lemmas.Bool.{true≢false, false≢true, and_parts, ltb-true, leb-true, eq-eqb}
 use Rattle.std.proofs.lemmas.List.Elements.{All-map}
@@ -18,8 +18,9 @@ use Rattle.dist_cert.specs.Subject.{Matter}
 use Rattle.dist_cert.specs.Groups.{clause_of, numbered, claim_count, IsOpen}
 use Rattle.dist_cert.specs.GroupLaws.{one-open}
 use Rattle.dist_cert.specs.ClaimRules.{HoldsClaim, OmitsPackage, OmitsPair}
+use Rattle.dist_cert.specs.Refusal.{in_order, IsFirstOf}
 use Rattle.dist_cert.specs.LineRules.{variables_of, IsNoFuture, HasRecordFault}
-use Rattle.dist_cert.specs.ByRecords.{IsSound}
+use Rattle.dist_cert.specs.ByRecords.{IsSound, AreSound}
 use Rattle.dist_cert.proofs.ExampleTests.{all-by, all_pairs, pairs-by}
 
 -- ---- lists of numbers
@@ -173,10 +174,13 @@ question-line limits matter h before literals line is keeps short not_ended =
     let b = and_parts (list_all (λ (l : Word). leb l.0 matter.variables) literals) _ a.1 in
     let c = and_parts (list_all (λ (l : Word). leb 1 l.0) literals) _ b.1 in
     let d = and_parts (all_pairs (λ (l m : Word). not (eqb l.0 m.0)) literals) _ c.1 in
-    sound limits matter h before (Question literals) line is
-    (ltb-true 0 (length literals) a.0,
-    (all-by (λ (l : Word). leb 1 l.0) (λ (l : Word). 1 ≤ l.0) (λ l t. leb-true 1 l.0 t) literals c.0,
-    pairs-by (λ (l m : Word). not (eqb l.0 m.0)) (λ (l m : Word). l.0 ≢ m.0) other-variable literals d.0))
+    sound limits matter h before (Question literals) line is (
+      ltb-true 0 (length literals) a.0,
+      (
+        all-by (λ (l : Word). leb 1 l.0) (λ (l : Word). 1 ≤ l.0) (λ l t. leb-true 1 l.0 t) literals c.0,
+        pairs-by (λ (l m : Word). not (eqb l.0 m.0)) (λ (l m : Word). l.0 ≢ m.0) other-variable literals d.0,
+      ),
+    )
     d.1 short not_ended
     (asks matter h before literals (All-map (λ k. k ≤ matter.variables) (λ (l : Word). l.0) literals
     (all-by (λ (l : Word). leb l.0 matter.variables) (λ (l : Word). l.0 ≤ matter.variables) (λ l t. leb-true l.0 matter.variables t) literals b.0)))
@@ -211,3 +215,68 @@ installation-line limits matter h before variables line is keeps future healthy 
 pub end-line : (limits : Limits) (matter : Matter) (h : Header) (before : List CertRecord) → record_text End ≡ codes "e" → matter.packages ≤ claim_count before → 1 < limits.record_line
     → list_any is_end before ≡ false → IsSound limits matter h before End
 end-line limits matter h before is all short not_ended = sound limits matter h before End (codes "e") is tt refl short not_ended (is-the-end matter h before all)
+
+-- ---- lines behind others
+
+pub sound-more : (limits : Limits) (matter : Matter) (h : Header) (before lines more : List CertRecord) → AreSound limits matter h before lines → AreSound limits matter h (before ++ lines) more
+    → AreSound limits matter h before (lines ++ more)
+sound-more limits matter h before [] more all later = subst (λ (ls : List CertRecord). AreSound limits matter h ls more) (append-nil before) later
+sound-more limits matter h before (step ∷ lines) more all later = (
+  all.0,
+  sound-more limits matter h (before ++ step ∷ []) lines more all.1
+      (subst (λ (ls : List CertRecord). AreSound limits matter h ls more) (sym (append_assoc before (step ∷ []) lines)) later),
+)
+
+-- ---- refusals
+
+-- a refutation without hints
+pub no-hints : (matter : Matter) (h : Header) (before earlier : List CertRecord) (question : List Word) (since : List CertRecord) → IsOpen before earlier question since
+    → IsFirstOf in_order (HasRecordFault matter h before (Refuted [])) causes.BadLine
+no-hints matter h before earlier question since asked =
+    inr (
+      λ f. f,
+      inr (
+        λ f. f,
+        inr (
+          λ f. f,
+          inr (
+            λ f. f,
+            inr (
+              none-in (λ variable. matter.variables < variable),
+              inr (
+                λ f. f (earlier, question, since, asked),
+                inr (none-in (λ hint. length (numbered matter before) < hint), inl ((earlier, question, since, asked, λ follows. follows), refl)),
+              ),
+            ),
+          ),
+        ),
+      ),
+    )
+
+-- an end before each package has its claim
+pub ends-early : (matter : Matter) (h : Header) (before : List CertRecord) → claim_count before < matter.packages → IsFirstOf in_order (HasRecordFault matter h before End) causes.Incomplete
+ends-early matter h before few =
+    inr (
+      λ f. f,
+      inr (
+        λ f. f,
+        inr (
+          λ f. f,
+          inr (
+            λ f. f,
+            inr (
+              none-in (λ variable. matter.variables < variable),
+              inr (
+                none-in (λ p. (p ≡ claim_count before + 1 → ⊥) ⊎ (matter.packages < p)),
+                inr (none-in (λ hint. length (numbered matter before) < hint), inr (λ f. f, inr (no-future h.kind, inr (λ f. f, inr (λ f. f, inr (λ f. f, inr (λ f. false≢true f.0, inl (few, refl)))))))),
+              ),
+            ),
+          ),
+        ),
+      ),
+    )
+  where
+    no-future : (kind : CertKind) → ¬ IsNoFuture matter kind End
+    no-future kinds.Strong g = g
+    no-future kinds.Outdated g = g
+    no-future kinds.Challenged g = g

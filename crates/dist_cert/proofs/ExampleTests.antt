@@ -1,14 +1,14 @@
 -- Tests that compute, and what they show of the conditions of a worked example.
-use Rattle.std.proofs.Common.{◌≡◌, ◌⊎◌, inl, inr, ℕ, ◌<◌, ◌≤◌, ◌&&◌, ◌||◌, Bool, true, false, not, List, [], ◌∷◌, ◌++◌, length, get_or, map, refl, ap, sym, subst, ◌∙◌, eqb, leb, ltb, arith}
-use Rattle.std.specs.List.{All, AllPairs, Any, Contains, list_all, list_any}
+use Rattle.std.proofs.Common.{◌≡◌, inl, inr, ℕ, ◌&&◌, ◌||◌, Bool, true, false, not, List, [], ◌∷◌, ◌++◌, length, get_or, map, refl, ap, sym, subst, ◌∙◌, eqb, leb, arith}
+use Rattle.std.specs.List.{All, AllPairs, Contains, list_all, list_any}
 use Rattle.std.proofs.lemmas.Bool.{true≢false, and_parts, eqb-true, eq-eqb, leb-true}
 use Rattle.std.proofs.lemmas.List.Sums.{AllPass-from_list_all}
 use Rattle.std.proofs.lemmas.List.Folds.{Any-from_list_any, list_any_at}
 use Rattle.std.proofs.lemmas.List.Kept.{AllPairs-cons}
 use Rattle.dist_clause.specs.ClauseList.{clause_at}
-use Rattle.dist_clause.specs.Formula.{Literal, literal, negation, IsTrueLiteral, MakesTrue, IsModel}
+use Rattle.dist_clause.specs.Formula.{Literal, literal, negation, MakesTrue, IsModel}
 use Rattle.dist_derive.specs.Follows.{IsNumberOf, EndsFalse, Step}
-use Rattle.dist_derive.specs.Propagation.{IsFalse, IsUnset, AllFalse, OthersFalse, IsUnit}
+use Rattle.dist_derive.specs.Propagation.{IsFalse, IsUnit}
 use Rattle.dist_cert.specs.Rising.{is_among}
 
 -- ---- lists

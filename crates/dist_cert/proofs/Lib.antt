@@ -14,5 +14,6 @@ pub mod ExactReader
 pub mod ExampleTests
 pub mod ExampleLines
 pub mod ExampleTenLines
+pub mod ExampleRefused
 pub mod ExampleEmpty
 pub mod ExampleChallenged

@@ -68,22 +68,22 @@ header = record { kind = kinds.Challenged; limit = 10000; packages = 2; variable
 
 abbrev pub fourteen_lines : List ℕ
 fourteen_lines = ended_lines (
-  codes "distfuture-certificate 1 challenged plain 10000 2 11 16"
-  ∷ codes "q 1 2"
-  ∷ codes "m 1 2"
-  ∷ codes "c 1 1 0 0"
-  ∷ codes "q 1 3"
-  ∷ codes "m 1 2 3"
-  ∷ codes "q 3 4"
-  ∷ codes "m 3 4 5"
-  ∷ codes "q 3 6"
-  ∷ codes "f 6 12 5 1"
-  ∷ codes "q 3 8"
-  ∷ codes "f 8 12 5 2"
-  ∷ codes "c 2 2 3 0 1 2 1 3 0"
-  ∷ codes "e"
-  ∷ []
-)
+    codes "distfuture-certificate 1 challenged plain 10000 2 11 16"
+    ∷ codes "q 1 2"
+    ∷ codes "m 1 2"
+    ∷ codes "c 1 1 0 0"
+    ∷ codes "q 1 3"
+    ∷ codes "m 1 2 3"
+    ∷ codes "q 3 4"
+    ∷ codes "m 3 4 5"
+    ∷ codes "q 3 6"
+    ∷ codes "f 6 12 5 1"
+    ∷ codes "q 3 8"
+    ∷ codes "f 8 12 5 2"
+    ∷ codes "c 2 2 3 0 1 2 1 3 0"
+    ∷ codes "e"
+    ∷ []
+    )
 
 -- libx is challenged by nothing, and p by libx at its second and third class: `= 2` and `>> 2`
 abbrev pub by_two_classes : List Claim

@@ -34,18 +34,18 @@ header = record { kind = kinds.Strong; limit = 10000; packages = 2; variables = 
 -- the certificate
 abbrev pub ten_lines : List ℕ
 ten_lines = ended_lines (
-  codes "distfuture-certificate 1 strong plain 10000 2 2 1"
-  ∷ codes "q 1"
-  ∷ codes "m 1 2"
-  ∷ codes "q 1 -2"
-  ∷ codes "f 1"
-  ∷ codes "s 1 1 0 2 0"
-  ∷ codes "q 2"
-  ∷ codes "m 2"
-  ∷ codes "s 2 2 0 0"
-  ∷ codes "e"
-  ∷ []
-)
+    codes "distfuture-certificate 1 strong plain 10000 2 2 1"
+    ∷ codes "q 1"
+    ∷ codes "m 1 2"
+    ∷ codes "q 1 -2"
+    ∷ codes "f 1"
+    ∷ codes "s 1 1 0 2 0"
+    ∷ codes "q 2"
+    ∷ codes "m 2"
+    ∷ codes "s 2 2 0 0"
+    ∷ codes "e"
+    ∷ []
+    )
 
 -- a depends strongly on b, and b on nothing
 abbrev pub on_b_and_on_nothing : List Claim

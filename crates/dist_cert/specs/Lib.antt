@@ -28,6 +28,7 @@ pub mod ReadingExamples
 pub mod Examples
 pub mod ExampleText
 pub mod ExampleTenLines
+pub mod LineExamples
+pub mod ExampleRefused
 pub mod ExampleEmpty
 pub mod ExampleChallenged
-pub mod AcceptedExamples
