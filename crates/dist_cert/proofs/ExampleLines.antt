@@ -1,6 +1,6 @@
 -- What a line of a worked example needs to have no fault, for each letter that stands in one.
-use Rattle.std.proofs.Common.{◌≡◌, ◌≢◌, ◌⊎◌, ⊎_elim, inl, inr, ℕ, zero, suc, ◌+◌, ◌<◌, ◌≤◌, ◌^◌, ◌&&◌, Bool, true, false, not, List, [], ◌∷◌, ◌++◌, codes, length, get_or, map, eqb, leb, ltb, refl, sym, ap, ◌∙◌, subst, append_assoc, append-nil, arith}
-use Rattle.std.specs.List.{All, Any, list_all, list_any}
+use Rattle.std.proofs.Common.{◌≡◌, ◌≢◌, ◌⊎◌, ⊎_elim, inl, inr, ℕ, zero, suc, ◌+◌, ◌<◌, ◌≤◌, ◌^◌, ◌&&◌, Bool, true, false, not, List, [], ◌∷◌, ◌++◌, codes, length, get_or, map, eqb, leb, ltb, refl, sym, ap, ◌∙◌, subst, append_assoc, append-nil, arith, lit<}
+use Rattle.std.specs.List.{All, Any, Contains, list_all, list_any}
 use Rattle.std.proofs.lemmas.Bool.{true≢false, false≢true, and_parts, ltb-true, leb-true, eq-eqb}
 use Rattle.std.proofs.lemmas.List.Elements.{All-map}
 use Rattle.dist_outside.specs.declared.limits.Limits.{Limits}
@@ -57,14 +57,15 @@ asks matter h before literals all causes.NotAFuture f = at h.kind f
 asks matter h before literals all causes.WrongClaim f = false≢true f.0
 asks matter h before literals all cause f = f
 
-pub refutes-asked : (matter : Matter) (h : Header) (before earlier : List CertRecord) (question : List Word) (since : List CertRecord) (hints : List ℕ) → IsOpen before earlier question since
-    → UpTo (length (numbered matter before)) hints → Follows (numbered matter before) (map negation (clause_of question)) hints
+pub refutes-asked : (matter : Matter) (h : Header) (before earlier : List CertRecord) (question : List Word) (since : List CertRecord) (hints : List ℕ)
+    → IsOpen before earlier question since → UpTo (length (numbered matter before)) hints → Follows (numbered matter before) (map negation (clause_of question)) hints
     → (cause : CertCause) → ¬ HasRecordFault matter h before (Refuted hints) cause
 refutes-asked matter h before earlier question since hints asked all follows causes.OutOfRange f = none-in (λ variable. matter.variables < variable) f
 refutes-asked matter h before earlier question since hints asked all follows causes.OutOfOrder f = f (earlier, question, since, asked)
 refutes-asked matter h before earlier question since hints asked all follows causes.UnknownLine f = none-above (length (numbered matter before)) hints all f
 refutes-asked matter h before earlier question since hints asked all follows causes.BadLine f =
-    f.4 (subst (λ (words : List Word). Follows (numbered matter before) (map negation (clause_of words)) hints) (one-open before earlier f.0 question f.1 since f.2 asked f.3).1 follows)
+    let same = (one-open before earlier f.0 question f.1 since f.2 asked f.3).1 in
+    f.4 (subst (λ (words : List Word). Follows (numbered matter before) (map negation (clause_of words)) hints) same follows)
 refutes-asked matter h before earlier question since hints asked all follows causes.NotAFuture f = at h.kind f
   where
     at : (kind : CertKind) → ¬ IsNoFuture matter kind (Refuted hints)
@@ -74,8 +75,8 @@ refutes-asked matter h before earlier question since hints asked all follows cau
 refutes-asked matter h before earlier question since hints asked all follows causes.WrongClaim f = false≢true f.0
 refutes-asked matter h before earlier question since hints asked all follows cause f = f
 
-pub installs : (matter : Matter) (h : Header) (before : List CertRecord) (variables : List ℕ) → UpTo matter.variables variables → matter.IsFuture variables → matter.IsHealthy variables
-    → (cause : CertCause) → ¬ HasRecordFault matter h before (Installation variables) cause
+pub installs : (matter : Matter) (h : Header) (before : List CertRecord) (variables : List ℕ) → UpTo matter.variables variables → matter.IsFuture variables
+    → matter.IsHealthy variables → (cause : CertCause) → ¬ HasRecordFault matter h before (Installation variables) cause
 installs matter h before variables all future healthy causes.OutOfRange f = none-above matter.variables variables all f
 installs matter h before variables all future healthy causes.OutOfOrder f = none-in (λ p. (p ≡ claim_count before + 1 → ⊥) ⊎ (matter.packages < p)) f
 installs matter h before variables all future healthy causes.UnknownLine f = none-in (λ hint. length (numbered matter before) < hint) f
@@ -105,8 +106,8 @@ claims-strong matter h before p named on undecided is within holds whole causes.
 claims-strong matter h before p named on undecided is within holds whole causes.Incomplete f = whole f
 claims-strong matter h before p named on undecided is within holds whole cause f = f
 
-pub claims-challenged : (matter : Matter) (h : Header) (before : List CertRecord) (p : ℕ) (named : List ℕ) (by undecided : List (ℕ × ℕ)) → p ≡ claim_count before + 1 → p ≤ matter.packages
-    → HoldsClaim matter h.kind before (Challenged p named by undecided) → ¬ OmitsPair matter before p named (by ++ undecided)
+pub claims-challenged : (matter : Matter) (h : Header) (before : List CertRecord) (p : ℕ) (named : List ℕ) (by undecided : List (ℕ × ℕ)) → p ≡ claim_count before + 1
+    → p ≤ matter.packages → HoldsClaim matter h.kind before (Challenged p named by undecided) → ¬ OmitsPair matter before p named (by ++ undecided)
     → (cause : CertCause) → ¬ HasRecordFault matter h before (Challenged p named by undecided) cause
 claims-challenged matter h before p named by undecided is within holds whole causes.OutOfRange f = none-in (λ variable. matter.variables < variable) f
 claims-challenged matter h before p named by undecided is within holds whole causes.OutOfOrder f = next-one (claim_count before) matter.packages p is within f
@@ -186,11 +187,11 @@ question-line limits matter h before literals line is keeps short not_ended =
     (all-by (λ (l : Word). leb l.0 matter.variables) (λ (l : Word). l.0 ≤ matter.variables) (λ l t. leb-true l.0 matter.variables t) literals b.0)))
 
 -- no hint above the last clause, and none is zero
-abbrev keeps_hints : ℕ → List ℕ → Bool
+abbrev pub keeps_hints : ℕ → List ℕ → Bool
 keeps_hints last hints = list_all (leb 1) hints && (list_all (λ k. leb k last) hints && list_all small (plains hints))
 
-pub refuted-line : (limits : Limits) (matter : Matter) (h : Header) (before earlier : List CertRecord) (question : List Word) (since : List CertRecord) (hints line : List ℕ) → record_text (Refuted hints) ≡ line
-    → IsOpen before earlier question since → keeps_hints (length (numbered matter before)) hints ≡ true → Follows (numbered matter before) (map negation (clause_of question)) hints
+pub refuted-line : (limits : Limits) (matter : Matter) (h : Header) (before earlier : List CertRecord) (question : List Word) (since : List CertRecord) (hints line : List ℕ)
+    → record_text (Refuted hints) ≡ line → IsOpen before earlier question since → keeps_hints (length (numbered matter before)) hints ≡ true → Follows (numbered matter before) (map negation (clause_of question)) hints
     → length line < limits.record_line → list_any is_end before ≡ false → IsSound limits matter h before (Refuted hints)
 refuted-line limits matter h before earlier question since hints line is asked keeps follows short not_ended =
     let a = and_parts (list_all (leb 1) hints) _ keeps in
@@ -203,8 +204,8 @@ abbrev pub keeps_installation : ℕ → List ℕ → Bool
 keeps_installation last variables = list_all (leb 1) variables && (list_all (λ k. leb k last) variables && (all_pairs ltb variables && list_all small (plains variables)))
 
 pub installation-line : (limits : Limits) (matter : Matter) (h : Header) (before : List CertRecord) (variables line : List ℕ) → record_text (Installation variables) ≡ line
-    → keeps_installation matter.variables variables ≡ true → matter.IsFuture variables → matter.IsHealthy variables → length line < limits.record_line → list_any is_end before ≡ false
-    → IsSound limits matter h before (Installation variables)
+    → keeps_installation matter.variables variables ≡ true → matter.IsFuture variables → matter.IsHealthy variables → length line < limits.record_line
+    → list_any is_end before ≡ false → IsSound limits matter h before (Installation variables)
 installation-line limits matter h before variables line is keeps future healthy short not_ended =
     let a = and_parts (list_all (leb 1) variables) _ keeps in
     let b = and_parts (list_all (λ k. leb k matter.variables) variables) _ a.1 in
@@ -212,14 +213,14 @@ installation-line limits matter h before variables line is keeps future healthy 
     sound limits matter h before (Installation variables) line is (from-one variables a.0, pairs-by ltb (λ v w. v < w) ltb-true variables c.0) c.1 short not_ended
     (installs matter h before variables (up-to matter.variables variables b.0) future healthy)
 
-pub end-line : (limits : Limits) (matter : Matter) (h : Header) (before : List CertRecord) → record_text End ≡ codes "e" → matter.packages ≤ claim_count before → 1 < limits.record_line
-    → list_any is_end before ≡ false → IsSound limits matter h before End
+pub end-line : (limits : Limits) (matter : Matter) (h : Header) (before : List CertRecord) → record_text End ≡ codes "e" → matter.packages ≤ claim_count before
+    → 1 < limits.record_line → list_any is_end before ≡ false → IsSound limits matter h before End
 end-line limits matter h before is all short not_ended = sound limits matter h before End (codes "e") is tt refl short not_ended (is-the-end matter h before all)
 
 -- ---- lines behind others
 
-pub sound-more : (limits : Limits) (matter : Matter) (h : Header) (before lines more : List CertRecord) → AreSound limits matter h before lines → AreSound limits matter h (before ++ lines) more
-    → AreSound limits matter h before (lines ++ more)
+pub sound-more : (limits : Limits) (matter : Matter) (h : Header) (before lines more : List CertRecord) → AreSound limits matter h before lines
+    → AreSound limits matter h (before ++ lines) more → AreSound limits matter h before (lines ++ more)
 sound-more limits matter h before [] more all later = subst (λ (ls : List CertRecord). AreSound limits matter h ls more) (append-nil before) later
 sound-more limits matter h before (step ∷ lines) more all later = (
   all.0,
@@ -229,54 +230,52 @@ sound-more limits matter h before (step ∷ lines) more all later = (
 
 -- ---- refusals
 
+-- the one fault is the first one
+lone-first : (Has : CertCause → Type 0) (cause : CertCause) → Has cause → ((other : CertCause) → (¬ Has other) ⊎ (cause ≡ other)) → (list : List CertCause) → Contains list cause
+    → IsFirstOf list Has cause
+lone-first Has cause has alone [] there = omega (arith, there.1)
+lone-first Has cause has alone (next ∷ later) there =
+    ⊎_elim (λ none. inr (none, lone-first Has cause has alone later (behind none there.0 there.1 there.2))) (λ is. inl (subst Has is has, is)) (alone next)
+  where
+    behind : ¬ Has next → (k : ℕ) → k < length (next ∷ later) → get_or (next ∷ later) k cause ≡ cause → Contains later cause
+    behind none zero within is = absurd (none (subst Has (sym is) has))
+    behind none (suc k) within is = (k, omega (arith, within), is)
+
 -- a refutation without hints
 pub no-hints : (matter : Matter) (h : Header) (before earlier : List CertRecord) (question : List Word) (since : List CertRecord) → IsOpen before earlier question since
     → IsFirstOf in_order (HasRecordFault matter h before (Refuted [])) causes.BadLine
 no-hints matter h before earlier question since asked =
-    inr (
-      λ f. f,
-      inr (
-        λ f. f,
-        inr (
-          λ f. f,
-          inr (
-            λ f. f,
-            inr (
-              none-in (λ variable. matter.variables < variable),
-              inr (
-                λ f. f (earlier, question, since, asked),
-                inr (none-in (λ hint. length (numbered matter before) < hint), inl ((earlier, question, since, asked, λ follows. follows), refl)),
-              ),
-            ),
-          ),
-        ),
-      ),
-    )
+    lone-first (HasRecordFault matter h before (Refuted [])) causes.BadLine (earlier, question, since, asked, λ follows. follows) alone in_order (7, lit< tt, refl)
+  where
+    none-new : (kind : CertKind) → ¬ IsNoFuture matter kind (Refuted [])
+    none-new kinds.Strong g = g
+    none-new kinds.Outdated g = g
+    none-new kinds.Challenged g = g
+
+    alone : (other : CertCause) → (¬ HasRecordFault matter h before (Refuted []) other) ⊎ (causes.BadLine ≡ other)
+    alone causes.OutOfRange = inl (none-in (λ variable. matter.variables < variable))
+    alone causes.OutOfOrder = inl (λ f. f (earlier, question, since, asked))
+    alone causes.UnknownLine = inl (none-in (λ hint. length (numbered matter before) < hint))
+    alone causes.BadLine = inr refl
+    alone causes.NotAFuture = inl (none-new h.kind)
+    alone causes.WrongClaim = inl (λ f. false≢true f.0)
+    alone other = inl (λ f. f)
 
 -- an end before each package has its claim
-pub ends-early : (matter : Matter) (h : Header) (before : List CertRecord) → claim_count before < matter.packages → IsFirstOf in_order (HasRecordFault matter h before End) causes.Incomplete
-ends-early matter h before few =
-    inr (
-      λ f. f,
-      inr (
-        λ f. f,
-        inr (
-          λ f. f,
-          inr (
-            λ f. f,
-            inr (
-              none-in (λ variable. matter.variables < variable),
-              inr (
-                none-in (λ p. (p ≡ claim_count before + 1 → ⊥) ⊎ (matter.packages < p)),
-                inr (none-in (λ hint. length (numbered matter before) < hint), inr (λ f. f, inr (no-future h.kind, inr (λ f. f, inr (λ f. f, inr (λ f. f, inr (λ f. false≢true f.0, inl (few, refl)))))))),
-              ),
-            ),
-          ),
-        ),
-      ),
-    )
+pub ends-early : (matter : Matter) (h : Header) (before : List CertRecord) → claim_count before < matter.packages
+    → IsFirstOf in_order (HasRecordFault matter h before End) causes.Incomplete
+ends-early matter h before few = lone-first (HasRecordFault matter h before End) causes.Incomplete few alone in_order (13, lit< tt, refl)
   where
-    no-future : (kind : CertKind) → ¬ IsNoFuture matter kind End
-    no-future kinds.Strong g = g
-    no-future kinds.Outdated g = g
-    no-future kinds.Challenged g = g
+    none-new : (kind : CertKind) → ¬ IsNoFuture matter kind End
+    none-new kinds.Strong g = g
+    none-new kinds.Outdated g = g
+    none-new kinds.Challenged g = g
+
+    alone : (other : CertCause) → (¬ HasRecordFault matter h before End other) ⊎ (causes.Incomplete ≡ other)
+    alone causes.OutOfRange = inl (none-in (λ variable. matter.variables < variable))
+    alone causes.OutOfOrder = inl (none-in (λ p. (p ≡ claim_count before + 1 → ⊥) ⊎ (matter.packages < p)))
+    alone causes.UnknownLine = inl (none-in (λ hint. length (numbered matter before) < hint))
+    alone causes.NotAFuture = inl (none-new h.kind)
+    alone causes.WrongClaim = inl (λ f. false≢true f.0)
+    alone causes.Incomplete = inr refl
+    alone other = inl (λ f. f)

@@ -7,6 +7,7 @@ use Rattle.std.proofs.lemmas.List.Elements.{All-from_recursion}
 use Rattle.dist_clause.specs.Formula.{literal}
 use Rattle.dist_derive.specs.Follows.{Follows}
 use Rattle.dist_outside.specs.declared.limits.Limits.{Limits}
+use Rattle.dist_cert.specs.declared.records.CertRecord.{CertRecord}
 use Rattle.dist_cert.specs.declared.records.CertRecord.TheVariants.{Question, Refuted, Installation, End}
 use Rattle.dist_cert.specs.Form.{header_text}
 use Rattle.dist_cert.specs.Groups.{numbered, group, IsRefutedIn}
@@ -90,12 +91,18 @@ asking-sound limits room = (
   ),
 )
 
-claiming-sound : (limits : Limits) → 50 ≤ limits.record_line → AreSound limits two header asking (Refuted (1 ∷ []) ∷ claim_on_a ∷ Question (yes 2 ∷ []) ∷ Installation (2 ∷ []) ∷ [])
+-- the lines from line 5 up to the claim on b
+abbrev claiming : List CertRecord
+claiming = Refuted (1 ∷ []) ∷ claim_on_a ∷ Question (yes 2 ∷ []) ∷ Installation (2 ∷ []) ∷ []
+
+claiming-sound : (limits : Limits) → 50 ≤ limits.record_line → AreSound limits two header asking claiming
 unfolding digits
 claiming-sound limits room = (
-  refuted-line limits two header asking (Question (yes 1 ∷ []) ∷ Installation (1 ∷ 2 ∷ []) ∷ []) (yes 1 ∷ no 2 ∷ []) [] (1 ∷ []) (codes "f 1") refl asked refl by-clause-one (omega (arith, room)) refl,
+  refuted-line limits two header asking (Question (yes 1 ∷ []) ∷ Installation (1 ∷ 2 ∷ []) ∷ []) (yes 1 ∷ no 2 ∷ []) [] (1 ∷ []) (codes "f 1") refl
+      asked refl by-clause-one (omega (arith, room)) refl,
   (
-    sound limits two header _ claim_on_a (codes "s 1 1 0 2 0") refl (lit≤ tt, lit< tt, from-one (1 ∷ []) refl, from-one (2 ∷ []) refl, from-one [] refl) refl (omega (arith, room)) refl
+    sound limits two header _ claim_on_a (codes "s 1 1 0 2 0") refl
+        (lit≤ tt, lit< tt, from-one (1 ∷ []) refl, from-one (2 ∷ []) refl, from-one [] refl) refl (omega (arith, room)) refl
         (claims-strong two header on_a 1 (1 ∷ []) (2 ∷ []) [] refl (lit≤ tt) a-holds a-omits-none),
     (
       question-line limits two header _ (yes 2 ∷ []) (codes "q 2") refl refl (omega (arith, room)) refl,
@@ -109,7 +116,7 @@ claiming-sound limits room = (
 
 pub on-b-sound : (limits : Limits) → 50 ≤ limits.record_line → AreSound limits two header [] on_b
 on-b-sound limits room =
-    sound-more limits two header [] asking (Refuted (1 ∷ []) ∷ claim_on_a ∷ Question (yes 2 ∷ []) ∷ Installation (2 ∷ []) ∷ []) (asking-sound limits room) (claiming-sound limits room)
+    sound-more limits two header [] asking claiming (asking-sound limits room) (claiming-sound limits room)
 
 ending-sound : (limits : Limits) → 50 ≤ limits.record_line → AreSound limits two header on_b (claim_on_b ∷ End ∷ [])
 unfolding digits

@@ -72,7 +72,8 @@ same-true l m e =
 
 same-itself : (l m : Literal) → l ≡ m → same l m ≡ true
 same-itself l m e =
-    ap (λ b. b && same_sign l.positive m.positive) (eq-eqb l.variable m.variable (ap (λ (x : Literal). x.variable) e)) ∙ sign-itself l.positive m.positive (ap (λ (x : Literal). x.positive) e)
+    ap (λ b. b && same_sign l.positive m.positive) (eq-eqb l.variable m.variable (ap (λ (x : Literal). x.variable) e))
+    ∙ sign-itself l.positive m.positive (ap (λ (x : Literal). x.positive) e)
 
 -- ---- hints
 
@@ -127,7 +128,8 @@ ends-false clauses trues [] last e =
 ends-false clauses trues (step ∷ steps) last e =
     let a = and_parts (is_number clauses step.number) _ e in
     let b = and_parts (is_unit trues (clause_at clauses step.number) step.made_true) _ a.1 in
-    (number-so clauses step.number a.0, inr (step.made_true, unit-so trues (clause_at clauses step.number) step.made_true b.0, ends-false clauses (trues ++ step.made_true ∷ []) steps last b.1))
+    let later = ends-false clauses (trues ++ step.made_true ∷ []) steps last b.1 in
+    (number-so clauses step.number a.0, inr (step.made_true, unit-so trues (clause_at clauses step.number) step.made_true b.0, later))
 
 -- ---- models
 
