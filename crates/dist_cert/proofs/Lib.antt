@@ -11,3 +11,9 @@ pub mod HeaderForms
 pub mod Answering
 pub mod ReadBack
 pub mod ExactReader
+pub mod ExampleTests
+pub mod ExampleLines
+pub mod ExampleTenLines
+pub mod ExampleRefused
+pub mod ExampleEmpty
+pub mod ExampleChallenged

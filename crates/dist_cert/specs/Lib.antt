@@ -16,6 +16,7 @@ pub mod Accepted
 pub mod ClearForms
 pub mod OneVerdict
 pub mod SomeVerdict
+pub mod GroupLaws
 pub mod ReadBack
 pub mod FaultsRead
 pub mod ExactReader
@@ -25,4 +26,9 @@ pub mod PartByRecords
 pub mod PartExamples
 pub mod ReadingExamples
 pub mod Examples
-pub mod AcceptedExamples
+pub mod ExampleText
+pub mod ExampleTenLines
+pub mod LineExamples
+pub mod ExampleRefused
+pub mod ExampleEmpty
+pub mod ExampleChallenged

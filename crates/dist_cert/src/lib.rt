@@ -3,6 +3,7 @@
 
 mod clear_forms;
 mod decoding;
+mod examples;
 mod faults;
 mod forms;
 mod laws;
@@ -21,6 +22,7 @@ mod tests;
 mod writing;
 
 pub use clear_forms::forms_are_clear;
+pub use examples::{edits_are_refused, examples_are_accepted};
 pub use faults::{CertCause, CertFault, ReadCertError};
 pub use laws::{one_form, reader_is_exact, written_is_read};
 pub use lists::{Claims, Items, Literals, Numbers, Pairs};
