@@ -204,7 +204,7 @@ given_up_excludes exact (Strong packages cert essential limit) files limits end 
 given_up_excludes exact (Check packages cert) files limits end ending refuses given_up = absurd given_up
 given_up_excludes exact (Try size seed) files limits end ending refuses given_up = absurd given_up
 
-one_line : (line other : CommandLine) (found : Option CommandLine) → found ≡ Some line → found ≡ Some other → other ≡ line
+pub one_line : (line other : CommandLine) (found : Option CommandLine) → found ≡ Some line → found ≡ Some other → other ≡ line
 one_line line other found is is' = cc
 
 no_line : (line : CommandLine) (found : Option CommandLine) → found ≡ None → found ≡ Some line → ⊥

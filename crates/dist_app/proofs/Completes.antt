@@ -1,5 +1,6 @@
 -- What an undisturbed run comes to, from the end that it promises.
 use Rattle.std.proofs.Common.{◌≡◌, ◌⊎◌, ℕ, Bool, false, List, inl, inr, Option, Some, None, Result, Ok, Err, length, refl, ap, sym, ◌∙◌, subst}
+use Rattle.dist_outside.specs.Counts.{Rose}
 use Rattle.dist_outside.specs.DeskView.{DeskView}
 use Rattle.dist_outside.specs.Files.{Files, with_file}
 use Rattle.dist_outside.specs.SinkView.{SinkView}
@@ -23,19 +24,21 @@ use Rattle.dist_words.specs.CommandLine.{CommandLine, Health, Classes, Strong, C
 use Rattle.dist_words.specs.Table.{command_of}
 use Rattle.dist_app.specs.Check.{CertificateStage, CheckStages, IsEndOfCertificate, IsJudged, Reports}
 use Rattle.dist_app.specs.Claims.{claims_status}
-use Rattle.dist_app.specs.Command.{CommandDecides}
+use Rattle.dist_app.specs.Command.{CommandDecides, CommandIsGivenUp, IsApart}
 use Rattle.dist_app.specs.Complete.{CheckIsComplete, ClassesAreComplete, Completes, HealthIsComplete, IsComplete, IsStatusOfSet, IsUndisturbed, StopsBelowBudget, StrongIsComplete, TrialIsComplete, verdict_status}
 use Rattle.dist_app.specs.Headline.{IsCarriedOut}
 use Rattle.dist_app.specs.Health.{HealthStages, Judges, ListStage, Tells}
 use Rattle.dist_app.specs.PackagesStage.{PackagesStage}
-use Rattle.dist_app.specs.Run.{Decides, Runs}
+use Rattle.dist_app.specs.Run.{Comes, Decides, IsCutShort, IsGivenUp, Runs}
 use Rattle.dist_app.specs.Stages.{Ending, Goes, Ends, Then, answered, refused}
 use Rattle.dist_app.specs.Strong.{ClausesStage, IsStopped, IsSwept, StrongStages, Sweeps}
 use Rattle.dist_app.specs.TextStage.{TextStage}
 use Rattle.dist_app.specs.Try.{ArchiveStage, IsTried, IsTrialStopped, Tries, TryStages}
+use Rattle.dist_app.specs.declared.refusal.Refusal.{Refusal}
+use Rattle.dist_app.specs.declared.refusal.Refusal.TheVariants as refusal
 use Rattle.dist_app.specs.declared.status.Status.{Status}
-use Rattle.dist_app.specs.declared.status.Status.TheVariants.{Done, DoneWithUndecided, CertificateRefused, NoMemory, TooLarge, NotHealthy}
-use Rattle.dist_app.proofs.CommandLaws.{HaveOneAnswer, AreExact, archive_determined, certificate_determined, clauses_determined, end_of_text, in_order, list_determined, one_judgement, packages_determined, text_determined}
+use Rattle.dist_app.specs.declared.status.Status.TheVariants.{Done, DoneWithUndecided, CertificateRefused, WriteFault, NoMemory, TooLarge, NotHealthy}
+use Rattle.dist_app.proofs.CommandLaws.{AreExact, HaveOneAnswer, one_line, archive_determined, certificate_determined, clauses_determined, end_of_text, in_order, list_determined, one_judgement, packages_determined, text_determined}
 use Rattle.dist_app.proofs.Headlines.{of_line}
 use Rattle.dist_app.proofs.Refused.{claims_carried_out}
 use Rattle.dist_app.proofs.StageLaws.{then_goes}
@@ -133,13 +136,13 @@ trial_comes_to laws files limits size r ending (inr stopped) =
       full = stopped.full;
     })
 
-trial_ends : Laws → (files : Files) (limits : Limits) (size seed : ℕ) (r : PackageList) (ending : Ending)
-    → ArchiveStage (Some files) limits size seed (Goes r) → ClausesStage (Some files) limits false r (Goes tt)
-    → CommandDecides (Try size seed) (Some files) limits ending → TrialComesTo limits r ending.status
+trial_ends : Laws → (files : Option Files) (limits : Limits) (size seed : ℕ) (r : PackageList) (ending : Ending)
+    → ArchiveStage files limits size seed (Goes r) → ClausesStage files limits false r (Goes tt)
+    → CommandDecides (Try size seed) files limits ending → TrialComesTo limits r ending.status
 trial_ends laws files limits size seed r ending made kept decides =
-    trial_comes_to laws (Some files) limits size r ending
-    (then_goes (ClausesStage (Some files) limits false r) _ (clauses_determined (Some files) limits false r) tt kept ending
-    (then_goes (ArchiveStage (Some files) limits size seed) _ (archive_determined laws.texts (Some files) limits size seed) r made ending decides))
+    trial_comes_to laws files limits size r ending
+    (then_goes (ClausesStage files limits false r) _ (clauses_determined files limits false r) tt kept ending
+    (then_goes (ArchiveStage files limits size seed) _ (archive_determined laws.texts files limits size seed) r made ending decides))
 
 -- the one answer of CERT
 abbrev CheckComesTo : Option Files → Limits → (cert : List ℕ) → PackageList → Status → Type 0
@@ -183,7 +186,6 @@ module _ (laws : Laws) (words : List (List ℕ)) (limits : Limits) (files : File
     strong = λ packages cert essential limit r is read kept.
         inr (strong_ends laws files limits packages cert essential limit r ending read kept (of (Strong packages cert essential limit) is));
     check = λ packages cert r is read. inr (check_ends laws files limits packages cert r ending read (of (Check packages cert) is));
-    trial = λ size seed r is made kept. inr (trial_ends laws files limits size seed r ending made kept (of (Try size seed) is));
   }
     where
       of : (line : CommandLine) → command_of words ≡ Some line → CommandDecides line (Some files) limits ending
@@ -196,20 +198,47 @@ stored_out words limits result files left memory = record {
   classes = λ packages r is read. inl memory;
   strong = λ packages cert essential limit r is read kept. inl memory;
   check = λ packages cert r is read. inl memory;
-  trial = λ size seed r is made kept. inl memory;
 }
 
-pub run_completes : Laws → (words : List (List ℕ)) (limits : Limits) (result : Status) (desk desk' : DeskView) (out out' err err' : SinkView)
-    → Runs words limits result desk desk' out out' err err' → IsComplete words limits result desk desk' out out'
-run_completes laws words limits result desk desk' out out' err err' runs calm =
-    elim (runs.answer_comes calm.tells calm.none_of_reading calm.none_of_writing calm.none_of_printing) [
-      | inl decides ↦ decided calm.tells.0 desk.files calm.tells.1 decides
-      | inr memory ↦ stored_out words limits result desk.files desk'.files memory
-    ]
-  where
-    decided : (files : Files) (told : Option Files) → told ≡ Some files → Decides words told limits runs.ending → Completes words limits result told desk'.files
-    decided files told is decides =
-        subst (λ (t : Option Files). Completes words limits result t desk'.files) (sym is)
-        (subst (λ (left : Option Files). Completes words limits result (Some files) left) (sym runs.ends.files)
-        (subst (λ (s : Status). Completes words limits s (Some files) runs.ending.files) (sym runs.ends.status)
-        (decided_completes laws words limits files runs.ending (subst (λ (t : Option Files). Decides words t limits runs.ending) is decides))))
+module _ (laws : Laws) (words : List (List ℕ)) (limits : Limits) (result : Status) (desk desk' : DeskView) (out out' err err' : SinkView)
+    (runs : Runs words limits result desk desk' out out' err err') where
+  of_files : IsUndisturbed desk desk' out out' → Completes words limits result desk.files desk'.files
+  of_files calm =
+      elim (runs.answer_comes calm.none_of_reading calm.none_of_writing calm.none_of_printing) [
+        | inl decides ↦ decided calm.tells.0 desk.files calm.tells.1 decides
+        | inr memory ↦ stored_out words limits result desk.files desk'.files memory
+      ]
+    where
+      decided : (files : Files) (told : Option Files) → told ≡ Some files → Decides words told limits runs.ending → Completes words limits result told desk'.files
+      decided files told is decides =
+          subst (λ (t : Option Files). Completes words limits result t desk'.files) (sym is)
+          (subst (λ (left : Option Files). Completes words limits result (Some files) left) (sym runs.ends.files)
+          (subst (λ (s : Status). Completes words limits s (Some files) runs.ending.files) (sym runs.ends.status)
+          (decided_completes laws words limits files runs.ending (subst (λ (t : Option Files). Decides words t limits runs.ending) is decides))))
+
+  module _ (none : ¬ Rose out.faults out'.faults) (size seed : ℕ) (r : PackageList) (is_line : command_of words ≡ Some (Try size seed))
+      (made : ArchiveStage desk.files limits size seed (Goes r)) (kept : ClausesStage desk.files limits false r (Goes tt)) where
+    is_try : (line : CommandLine) → command_of words ≡ Some line → line ≡ Try size seed
+    is_try line is = one_line (Try size seed) line (command_of words) is_line is
+
+    not_given_up : (why : Refusal) (ending : Ending) → ¬ IsGivenUp words desk.files limits why ending
+    not_given_up why ending (line, is, given_up) = subst (λ (l : CommandLine). CommandIsGivenUp l desk.files limits why ending) (is_try line is) given_up
+
+    uncut : (result ≡ WriteFault) → ⊥
+    uncut is = elim (runs.write_fault is) [ inl given_up ↦ not_given_up refusal.WriteFault runs.ending given_up.0 | inr cut ↦ none cut.1 ]
+
+    trial_status : Comes words desk.files limits runs.ending → (result ≡ NoMemory) ⊎ TrialComesTo limits r result
+    trial_status (inl decides) =
+        inr (subst (TrialComesTo limits r) (sym runs.ends.status) (trial_ends laws desk.files limits size seed r runs.ending made kept (of_line words desk.files limits (Try size seed) runs.ending is_line decides)))
+    trial_status (inr (inl (line, is, of_files, end))) = absurd (of_files (subst IsApart (sym (is_try line is)) tt))
+    trial_status (inr (inr (inl end))) = inl (runs.ends.status ∙ ap (λ (e : Ending). e.status) end)
+    trial_status (inr (inr (inr (inl (inl given_up))))) = absurd (not_given_up refusal.WriteFault runs.ending given_up)
+    trial_status (inr (inr (inr (inl (inr given_up))))) = absurd (not_given_up refusal.NoMemory runs.ending given_up)
+    trial_status (inr (inr (inr (inr (inl cut))))) = absurd (uncut (runs.ends.status ∙ ap (λ (e : Ending). e.status) cut.is))
+    trial_status (inr (inr (inr (inr (inr cut))))) = inl (runs.ends.status ∙ ap (λ (e : Ending). e.status) cut.is)
+
+  of_trials : TrialIsComplete words limits result desk.files out out'
+  of_trials none size seed r is made kept = trial_status none size seed r is made kept runs.comes
+
+  pub run_completes : IsComplete words limits result desk desk' out out'
+  run_completes = record { of_files = of_files; of_trials = of_trials }

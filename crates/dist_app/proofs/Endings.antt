@@ -11,10 +11,10 @@ use Rattle.dist_outside.specs.declared.trouble.WorkError.TheVariants as work
 use Rattle.dist_words.specs.CommandLine.{CommandLine}
 use Rattle.dist_words.specs.Table.{IsBadWords, command_of}
 use Rattle.dist_app.specs.Carried.{IsAnswered, IsRefused, Prints}
-use Rattle.dist_app.specs.Command.{CommandDecides, CommandIsGivenUp, OnlyReadsFiles}
+use Rattle.dist_app.specs.Command.{CommandDecides, CommandIsGivenUp, IsApart, OnlyReadsFiles}
 use Rattle.dist_app.specs.Due.{LeavesDesk, Stops}
 use Rattle.dist_app.specs.Refusal.{status_of, refusal_text, refusal_of}
-use Rattle.dist_app.specs.Run.{Comes, Decides, Leaves}
+use Rattle.dist_app.specs.Run.{Comes, Decides, IsCutShort, Leaves}
 use Rattle.dist_app.specs.Stages.{Ending, refused, answered}
 use Rattle.dist_app.specs.declared.refusal.Refusal.{Refusal}
 use Rattle.dist_app.specs.declared.refusal.Refusal.TheVariants as refusal
@@ -30,15 +30,17 @@ untouched words desk idle = record {
   read_faults_stand = omega arith;
   write_faults_stand = omega arith;
   only_reads = λ _. record { files_stay = refl; not_writing = idle; read_faults_stand = omega arith; write_faults_stay = refl };
+  untouched = λ _. refl;
 }
 
 pub command_leaves : (words : List (List ℕ)) (line : CommandLine) (desk desk' : DeskView) → command_of words ≡ Some line → LeavesDesk desk desk'
-    → (OnlyReadsFiles line → OnlyReads desk desk') → Leaves words desk desk'
-command_leaves words line desk desk' is leaves reads = record {
+    → (OnlyReadsFiles line → OnlyReads desk desk') → (IsApart line → desk' ≡ desk) → Leaves words desk desk'
+command_leaves words line desk desk' is leaves reads apart = record {
   not_writing = leaves.not_writing;
   read_faults_stand = leaves.read_faults_stand;
   write_faults_stand = leaves.write_faults_stand;
   only_reads = λ each. reads (each line is);
+  untouched = λ each. apart (each line is);
 }
 
 -- ---- the ends
@@ -103,10 +105,10 @@ module _ (words : List (List ℕ)) (limits : Limits) (desk : DeskView) (out out'
       write_fault = λ is. absurd (not_write_fault words desk.files limits (refused desk'.files r) (inr (line, is_line, decides)) (ap status_of is));
     }
 
-    unread : desk'.files ≡ desk.files → Rose desk.read_faults desk'.read_faults → Grew [] out out' → Refused refusal.ReadFault
-    unread same rose grew = record {
+    unread : ¬ IsApart line → desk'.files ≡ desk.files → Rose desk.read_faults desk'.read_faults → Grew [] out out' → Refused refusal.ReadFault
+    unread of_files same rose grew = record {
       ending = refused desk'.files refusal.ReadFault;
-      comes = inr (inl (ap (λ (f : Option Files). refused f refusal.ReadFault) same));
+      comes = inr (inl (line, is_line, of_files, ap (λ (f : Option Files). refused f refusal.ReadFault) same));
       status = refl;
       told = refl;
       files = refl;
@@ -126,7 +128,7 @@ module _ (words : List (List ℕ)) (limits : Limits) (desk : DeskView) (out out'
       printed = grew;
       of_words = λ bad. absurd (good words line is_line bad);
       read_fault = λ is. cc;
-      write_fault = λ _. inr rose;
+      write_fault = λ _. inl ((line, is_line, given_up), rose);
     }
 
     unstored : desk'.files ≡ desk.files → Grew [] out out' → Refused refusal.NoMemory
@@ -143,7 +145,7 @@ module _ (words : List (List ℕ)) (limits : Limits) (desk : DeskView) (out out'
 
     pub refused_command : (r : Refusal) → Stops line limits desk desk' r → Grew [] out out' → Refused r
     refused_command r (inl decides) grew = decided_refusal r decides grew
-    refused_command r (inr (inl (is, same, rose))) grew = subst Refused (sym is) (unread same rose grew)
+    refused_command r (inr (inl (is, of_files, same, rose))) grew = subst Refused (sym is) (unread of_files same rose grew)
     refused_command r (inr (inr (inl (is, rose, given_up)))) grew = subst Refused (sym is) (unwritten rose given_up grew)
     refused_command r (inr (inr (inr (is, inl same)))) grew = subst Refused (sym is) (unstored same grew)
     refused_command r (inr (inr (inr (is, inr (inl given_up))))) grew = subst Refused (sym is) (unfinished given_up grew)
@@ -159,24 +161,35 @@ module _ (words : List (List ℕ)) (limits : Limits) (desk : DeskView) (out out'
       printed = grew;
     }
 
+    -- a front of the text of an answer was printed
+    cut_short : (why : Refusal) (status : Status) (text : List ℕ) → CommandDecides line desk.files limits (answered desk'.files status text) → (front : GrewByFront text out out')
+        → IsCutShort words desk.files limits why (record { status = status_of why; out = front.front; err = refusal_text why; files = desk'.files })
+    cut_short why status text decides front = record {
+      decided = answered desk'.files status text;
+      decides = inr (line, is_line, decides);
+      answers = refl;
+      front = front.is_front;
+      is = refl;
+    }
+
     cut_command : (status : Status) (text : List ℕ) (error : WorkError) → CommandDecides line desk.files limits (answered desk'.files status text) → GrewByFront text out out' → WriteCause error out out'
         → Refused (refusal_of error)
     cut_command status text work.ReadFault decides front cause = absurd cause
     cut_command status text (work.TooLarge limit) decides front cause = absurd cause
     cut_command status text work.WriteFault decides front cause = record {
       ending = record { status = WriteFault; out = front.front; err = refusal_text refusal.WriteFault; files = desk'.files };
-      comes = inr (inr (inr (inr (inl (record { decided = answered desk'.files status text; decides = inr (line, is_line, decides); answers = refl; front = front.is_front; is = refl })))));
+      comes = inr (inr (inr (inr (inl (cut_short refusal.WriteFault status text decides front)))));
       status = refl;
       told = refl;
       files = refl;
       printed = front.grew;
       of_words = λ bad. absurd (good words line is_line bad);
       read_fault = λ is. cc;
-      write_fault = λ _. inl cause;
+      write_fault = λ _. inr (cut_short refusal.WriteFault status text decides front, cause);
     }
     cut_command status text work.NoMemory decides front cause = record {
       ending = record { status = NoMemory; out = front.front; err = refusal_text refusal.NoMemory; files = desk'.files };
-      comes = inr (inr (inr (inr (inr (record { decided = answered desk'.files status text; decides = inr (line, is_line, decides); answers = refl; front = front.is_front; is = refl })))));
+      comes = inr (inr (inr (inr (inr (cut_short refusal.NoMemory status text decides front)))));
       status = refl;
       told = refl;
       files = refl;

@@ -18,7 +18,7 @@ use Rattle.dist_report.specs.StrongReport.{strong_lines}
 use Rattle.dist_words.specs.CommandLine.{CommandLine, Strong, Check}
 use Rattle.dist_words.specs.Table.{command_of}
 use Rattle.dist_app.specs.Carried.{IsAnswered}
-use Rattle.dist_app.specs.Check.{CheckStages, Reports}
+use Rattle.dist_app.specs.Check.{CertificateStage, CheckStages, Reports}
 use Rattle.dist_app.specs.Claims.{claims_status}
 use Rattle.dist_app.specs.Command.{CommandDecides}
 use Rattle.dist_app.specs.Headline.{CheckIsProved, IsCarriedOut, ProvesCheck, ProvesStrong, StrongIsProved}
@@ -73,26 +73,27 @@ module _ (hold : ClaimsHold) (limits : Limits) (packages cert : List ℕ) (essen
 
 -- ---- `check`
 
-module _ (limits : Limits) (packages cert : List ℕ) (result : Status) (desk : DeskView) (out out' : SinkView) (ending : Ending)
-    (status_is : result ≡ ending.status) (carried : IsCarriedOut ending.status) (printed : Grew ending.out out out') where
-  accepted_proves : (r : PackageList) (h : Header) (made : List Claim) → PackagesStage desk.files limits packages (Goes r)
-      → OfText (file_bytes desk.files cert) (λ text. Answers r limits text (Ok (verdict.Accepted h made))) → AcceptedMeans r h made
-      → ending ≡ answered desk.files (claims_status made) (strong_lines r.packages h made) → ProvesCheck limits packages cert result desk out out'
-  accepted_proves r h made goes answers means is = record {
+module _ (limits : Limits) (packages cert : List ℕ) (result : Status) (desk desk' : DeskView) (out out' : SinkView) (ending : Ending)
+    (status_is : result ≡ ending.status) (carried : IsCarriedOut ending.status) (files : desk'.files ≡ ending.files) (printed : Grew ending.out out out') where
+  accepted_proves : (r : PackageList) (accepted : Header × List Claim) → PackagesStage desk.files limits packages (Goes r)
+      → CertificateStage desk.files limits cert r (Goes accepted) → Reports desk.files r accepted ending → ProvesCheck limits packages cert result desk desk' out out'
+  accepted_proves r accepted goes judged (means, is) = record {
     repository = r;
     read = goes;
-    header = h;
-    made = made;
-    accepted = answers;
+    header = accepted.0;
+    made = accepted.1;
+    present = judged.present;
+    accepted = judged.answers;
+    files = files ∙ ap (λ (e : Ending). e.files) is;
     means = means;
     printed = subst (λ (e : Ending). Grew e.out out out') is printed;
     status = status_is ∙ ap (λ (e : Ending). e.status) is;
   }
 
-  pub check_proves : CheckStages desk.files limits packages cert (Reports desk.files) ending → ProvesCheck limits packages cert result desk out out'
+  pub check_proves : CheckStages desk.files limits packages cert (Reports desk.files) ending → ProvesCheck limits packages cert result desk desk' out out'
   check_proves (inl ends) = absurd (refusal_not_carried_out desk.files ending (packages_refuses desk.files limits packages ending ends) carried)
   check_proves (inr (r, goes, inl ends)) = absurd (refusal_not_carried_out desk.files ending (certificate_refuses desk.files limits cert r ending ends) carried)
-  check_proves (inr (r, goes, inr (accepted, judged, (means, is)))) = accepted_proves r accepted.0 accepted.1 goes judged.answers means is
+  check_proves (inr (r, goes, inr (accepted, judged, reports))) = accepted_proves r accepted goes judged reports
 
 -- ---- runs
 
@@ -103,14 +104,14 @@ strong_proved hold words limits result desk desk' out out' a packages cert essen
     (of_line words desk.files limits (Strong packages cert essential limit) a.ending is a.decides)
 
 pub check_proved : (words : List (List ℕ)) (limits : Limits) (result : Status) (desk desk' : DeskView) (out out' : SinkView)
-    → IsAnswered words limits desk desk' out out' result → CheckIsProved words limits result desk out out'
+    → IsAnswered words limits desk desk' out out' result → CheckIsProved words limits result desk desk' out out'
 check_proved words limits result desk desk' out out' a packages cert is carried =
-    check_proves limits packages cert result desk out out' a.ending a.status_is (subst IsCarriedOut a.status_is carried) a.printed
+    check_proves limits packages cert result desk desk' out out' a.ending a.status_is (subst IsCarriedOut a.status_is carried) a.files a.printed
     (of_line words desk.files limits (Check packages cert) a.ending is a.decides)
 
 -- a refusal proves nothing of either
 pub strong_refused : (words : List (List ℕ)) (limits : Limits) (r : Refusal) (desk desk' : DeskView) (out out' : SinkView) → StrongIsProved words limits (status_of r) desk desk' out out'
 strong_refused words limits r desk desk' out out' packages cert essential limit is carried = absurd (not_carried_out r carried)
 
-pub check_refused : (words : List (List ℕ)) (limits : Limits) (r : Refusal) (desk : DeskView) (out out' : SinkView) → CheckIsProved words limits (status_of r) desk out out'
-check_refused words limits r desk out out' packages cert is carried = absurd (not_carried_out r carried)
+pub check_refused : (words : List (List ℕ)) (limits : Limits) (r : Refusal) (desk desk' : DeskView) (out out' : SinkView) → CheckIsProved words limits (status_of r) desk desk' out out'
+check_refused words limits r desk desk' out out' packages cert is carried = absurd (not_carried_out r carried)

@@ -59,7 +59,7 @@ answered_runs exact words limits status desk desk' out out' err a leaves nothing
   read_fault = λ is. absurd (not_read_fault words desk.files limits a.ending a.decides (sym a.status_is ∙ is));
   write_fault = λ is. absurd (not_write_fault words desk.files limits a.ending a.decides (sym a.status_is ∙ is));
   refusal_comes = λ tells read end refuses. inl (alone exact words desk limits tells end a.ending refuses a.decides);
-  answer_comes = λ tells read written printed. inl a.decides;
+  answer_comes = λ read written printed. inl a.decides;
 }
 
 read_fault_of : (r : Refusal) → status_of r ≡ ReadFault → r ≡ refusal.ReadFault
@@ -92,7 +92,7 @@ told_of text (Err (work.TooLarge limit)) old new (front, cause) = absurd cause
 -- the status of an end that may come at any time
 interrupted_status : (words : List (List ℕ)) (files : Option Files) (limits : Limits) (ending : Ending) → IsInterrupted words files limits ending
     → (ending.status ≡ ReadFault) ⊎ ((ending.status ≡ WriteFault) ⊎ (ending.status ≡ NoMemory))
-interrupted_status words files limits ending (inl is) = inl (ap (λ (e : Ending). e.status) is)
+interrupted_status words files limits ending (inl (line, is_line, of_files, is)) = inl (ap (λ (e : Ending). e.status) is)
 interrupted_status words files limits ending (inr (inl is)) = inr (inr (ap (λ (e : Ending). e.status) is))
 interrupted_status words files limits ending (inr (inr (inl (inl (line, is, given_up))))) = inr (inl (given_up_status line files limits refusal.WriteFault ending given_up))
 interrupted_status words files limits ending (inr (inr (inl (inr (line, is, given_up))))) = inr (inr (given_up_status line files limits refusal.NoMemory ending given_up))
@@ -106,7 +106,7 @@ module _ (exact : AreExact) (words : List (List ℕ)) (limits : Limits) (desk de
   unstored_alone read written printed interrupted =
       elim (interrupted_status words desk.files limits b.ending interrupted) [
         | inl is ↦ absurd (read (b.read_fault (read_fault_of r (sym b.status ∙ is))))
-        | inr (inl is) ↦ absurd (elim (b.write_fault (write_fault_of r (sym b.status ∙ is))) [ inl rose ↦ printed rose | inr rose ↦ written rose ])
+        | inr (inl is) ↦ absurd (elim (b.write_fault (write_fault_of r (sym b.status ∙ is))) [ inl given_up ↦ written given_up.1 | inr cut ↦ printed cut.1 ])
         | inr (inr is) ↦ sym b.status ∙ is
       ]
 
@@ -128,17 +128,17 @@ module _ (exact : AreExact) (words : List (List ℕ)) (limits : Limits) (desk de
   refusal_comes : Comes words desk.files limits b.ending → TellsFiles desk → ¬ Rose desk.read_faults desk'.read_faults → (end : Ending)
       → Refuses words desk.files limits end → (b.ending ≡ end) ⊎ (status_of r ≡ NoMemory)
   refusal_comes (inl decides) tells read end refuses = inl (alone exact words desk limits tells end b.ending refuses decides)
-  refusal_comes (inr (inl is)) tells read end refuses = absurd (read (b.read_fault (read_fault_of r (sym b.status ∙ ap (λ (e : Ending). e.status) is))))
+  refusal_comes (inr (inl (line, is_line, of_files, is))) tells read end refuses = absurd (read (b.read_fault (read_fault_of r (sym b.status ∙ ap (λ (e : Ending). e.status) is))))
   refusal_comes (inr (inr (inl is))) tells read end refuses = inr (sym b.status ∙ ap (λ (e : Ending). e.status) is)
   refusal_comes (inr (inr (inr (inl (inl given_up))))) tells read end refuses = inl (alone_of_faults exact words desk limits tells end b.ending refuses given_up)
   refusal_comes (inr (inr (inr (inl (inr (line, is, given_up)))))) tells read end refuses = inr (sym b.status ∙ given_up_status line desk.files limits refusal.NoMemory b.ending given_up)
   refusal_comes (inr (inr (inr (inr (inl cut))))) tells read end refuses = absurd (no_cut tells end refuses cut)
   refusal_comes (inr (inr (inr (inr (inr cut))))) tells read end refuses = inr (sym b.status ∙ ap (λ (e : Ending). e.status) cut.is)
 
-  answer_comes : Comes words desk.files limits b.ending → TellsFiles desk → ¬ Rose desk.read_faults desk'.read_faults → ¬ Rose desk.write_faults desk'.write_faults → ¬ Rose out.faults out'.faults
+  answer_comes : Comes words desk.files limits b.ending → ¬ Rose desk.read_faults desk'.read_faults → ¬ Rose desk.write_faults desk'.write_faults → ¬ Rose out.faults out'.faults
       → Decides words desk.files limits b.ending ⊎ (status_of r ≡ NoMemory)
-  answer_comes (inl decides) tells read written printed = inl decides
-  answer_comes (inr interrupted) tells read written printed = inr (unstored_alone read written printed interrupted)
+  answer_comes (inl decides) read written printed = inl decides
+  answer_comes (inr interrupted) read written printed = inr (unstored_alone read written printed interrupted)
 
   words_told : IsBadWords words → (status_of r ≡ BadWords) ⊎ (status_of r ≡ NoMemory)
   words_told bad = elim (b.of_words bad) [ inl is ↦ inl (ap status_of is) | inr is ↦ inr (ap status_of is) ]

@@ -6,7 +6,7 @@ use Rattle.dist_outside.specs.SinkView.{SinkView, Grew, GrewByFront, WriteCause}
 use Rattle.dist_outside.specs.declared.trouble.WorkError.{WorkError}
 use Rattle.dist_outside.specs.declared.limits.Limits.{Limits}
 use Rattle.dist_app.specs.Refusal.{status_of, refusal_text, refusal_of}
-use Rattle.dist_app.specs.Run.{Decides, Comes}
+use Rattle.dist_app.specs.Run.{Decides, Comes, IsWriteFault}
 use Rattle.dist_words.specs.Table.{IsBadWords}
 use Rattle.dist_app.specs.Stages.{Ending}
 use Rattle.dist_app.specs.declared.status.Status.{Status}
@@ -32,7 +32,7 @@ pub record IsRefused (words : List (List ℕ)) (limits : Limits) (desk desk' : D
   pub printed : Grew ending.out out out'
   pub of_words : IsBadWords words → (refusal ≡ BadWords) ⊎ (refusal ≡ NoMemory)
   pub read_fault : refusal ≡ ReadFault → Rose desk.read_faults desk'.read_faults
-  pub write_fault : refusal ≡ WriteFault → Rose out.faults out'.faults ⊎ Rose desk.write_faults desk'.write_faults
+  pub write_fault : refusal ≡ WriteFault → IsWriteFault words desk.files limits ending desk desk' out out'
 
 -- what writing the text of an answer comes to
 abbrev pub Prints : Status → (text : List ℕ) → Result Status Refusal → SinkView → SinkView → Type 0

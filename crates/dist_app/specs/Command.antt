@@ -32,6 +32,11 @@ abbrev pub CommandIsGivenUp : CommandLine → Option Files → Limits → Refusa
 CommandIsGivenUp (Strong packages cert essential limit) files limits = IsGivenUp files limits packages cert essential limit
 CommandIsGivenUp line files limits = λ refusal ending. ⊥
 
+-- the command does nothing with the desk
+abbrev pub IsApart : CommandLine → Type 0
+IsApart (Try size seed) = Unit {0}
+IsApart line = ⊥
+
 -- the command leaves all files as they are
 abbrev pub OnlyReadsFiles : CommandLine → Type 0
 OnlyReadsFiles (Strong packages cert essential limit) = ⊥

@@ -70,9 +70,9 @@ StrongIsComplete words limits result files left = (packages cert : List ℕ) (es
     → command_of words ≡ Some (Strong packages cert essential limit) → PackagesStage files limits packages (Goes r) → ClausesStage files limits essential r (Goes tt)
     → (result ≡ NoMemory) ⊎ (IsCarriedOut result ⊎ ((text : List ℕ) × StopsBelowBudget r essential limit limits result text × (left ≡ with_file files cert text)))
 
--- The archive of the size and the seed, and its input clauses, keep their numbers.
-abbrev pub TrialIsComplete : List (List ℕ) → Limits → Status → Option Files → Type 0
-TrialIsComplete words limits result files = (size seed : ℕ) (r : PackageList)
+-- The archive of the size and the seed, and its input clauses, keep their numbers. The desk has no part in it.
+abbrev pub TrialIsComplete : List (List ℕ) → Limits → Status → Option Files → SinkView → SinkView → Type 0
+TrialIsComplete words limits result files out out' = ¬ Rose out.faults out'.faults → (size seed : ℕ) (r : PackageList)
     → command_of words ≡ Some (Try size seed) → ArchiveStage files limits size seed (Goes r) → ClausesStage files limits false r (Goes tt)
     → (result ≡ NoMemory) ⊎ (IsCarriedOut result ⊎ ((text : List ℕ) × StopsBelowBudget r false 10000 limits result text))
 
@@ -93,12 +93,13 @@ CheckIsComplete words limits result files = (packages cert : List ℕ) (r : Pack
 
 -- ---- all
 
+-- the commands that read files
 pub record Completes (words : List (List ℕ)) (limits : Limits) (result : Status) (files left : Option Files) : Type 0 where
   pub health : HealthIsComplete words limits result files
   pub classes : ClassesAreComplete words limits result files
   pub strong : StrongIsComplete words limits result files left
   pub check : CheckIsComplete words limits result files
-  pub trial : TrialIsComplete words limits result files
 
-abbrev pub IsComplete : List (List ℕ) → Limits → Status → DeskView → DeskView → SinkView → SinkView → Type 0
-IsComplete words limits result desk desk' out out' = IsUndisturbed desk desk' out out' → Completes words limits result desk.files desk'.files
+pub record IsComplete (words : List (List ℕ)) (limits : Limits) (result : Status) (desk desk' : DeskView) (out out' : SinkView) : Type 0 where
+  pub of_files : IsUndisturbed desk desk' out out' → Completes words limits result desk.files desk'.files
+  pub of_trials : TrialIsComplete words limits result desk.files out out'

@@ -7,7 +7,7 @@ use Rattle.dist_outside.specs.declared.limits.Limits.{Limits}
 use Rattle.dist_repo.specs.PackageList.{PackageList}
 use Rattle.dist_strong.specs.Sweep.{IsCutSweep}
 use Rattle.dist_words.specs.CommandLine.{CommandLine}
-use Rattle.dist_app.specs.Command.{CommandDecides, CommandIsGivenUp}
+use Rattle.dist_app.specs.Command.{CommandDecides, CommandIsGivenUp, IsApart}
 use Rattle.dist_app.specs.Stages.{Ending, Ends, Goes, answered, refused}
 use Rattle.dist_app.specs.Strong.{ClausesStage, IsStopped, IsSwept}
 use Rattle.dist_app.specs.declared.refusal.Refusal.{Refusal}
@@ -55,7 +55,7 @@ IsUnfinished line limits old new =
 abbrev pub Stops : CommandLine → Limits → DeskView → DeskView → Refusal → Type 0
 Stops line limits old new refusal =
     CommandDecides line old.files limits (refused new.files refusal)
-    ⊎ ((refusal ≡ ReadFault) × (new.files ≡ old.files) × Rose old.read_faults new.read_faults)
+    ⊎ ((refusal ≡ ReadFault) × (¬ IsApart line) × (new.files ≡ old.files) × Rose old.read_faults new.read_faults)
     ⊎ ((refusal ≡ WriteFault) × Rose old.write_faults new.write_faults × CommandIsGivenUp line old.files limits WriteFault (refused new.files WriteFault))
     ⊎ ((refusal ≡ NoMemory) × IsUnfinished line limits old new)
 

@@ -1,7 +1,7 @@
 -- What a run of `strong` and one of `check` prove.
 use Rattle.std.specs.Prelude.{◌≡◌, ◌↔◌, ◌≤◌, ◌^◌, ℕ, Bool, List, [], Option, Some, Contains, length}
 use Rattle.dist_outside.specs.DeskView.{DeskView}
-use Rattle.dist_outside.specs.Files.{Files, file_bytes, with_file}
+use Rattle.dist_outside.specs.Files.{Files, IsPresent, file_bytes, with_file}
 use Rattle.dist_outside.specs.SinkView.{SinkView, Grew}
 use Rattle.dist_outside.specs.declared.limits.Limits.{Limits}
 use Rattle.dist_clause.specs.Formula.{Literal}
@@ -48,13 +48,16 @@ pub record ProvesStrong (limits : Limits) (packages cert : List ℕ) (essential 
   pub status : result ≡ claims_status made
 
 -- PACKAGES has a repository, and the file CERT was accepted over it, whoever wrote it, with a first line and claims. The line
--- is of kind strong and has the repository's numbers, what is claimed is true at its mode, and the report was printed.
-pub record ProvesCheck (limits : Limits) (packages cert : List ℕ) (result : Status) (desk : DeskView) (out out' : SinkView) : Type 0 where
+-- is of kind strong and has the repository's numbers, what is claimed is true at its mode, and the report was printed. All
+-- files are as before.
+pub record ProvesCheck (limits : Limits) (packages cert : List ℕ) (result : Status) (desk desk' : DeskView) (out out' : SinkView) : Type 0 where
   pub repository : PackageList
   pub read : PackagesStage desk.files limits packages (Goes repository)
   pub header : Header
   pub made : List Claim
+  pub present : IsPresent desk.files cert
   pub accepted : OfText (file_bytes desk.files cert) (λ text. IsCompleted repository limits text header made)
+  pub files : desk'.files ≡ desk.files
   pub means : AcceptedMeans repository header made
   pub printed : Grew (strong_lines repository.packages header made) out out'
   pub status : result ≡ claims_status made
@@ -64,9 +67,9 @@ abbrev pub StrongIsProved : List (List ℕ) → Limits → Status → DeskView �
 StrongIsProved words limits result desk desk' out out' = (packages cert : List ℕ) (essential : Bool) (limit : ℕ)
     → command_of words ≡ Some (Strong packages cert essential limit) → IsCarriedOut result → ProvesStrong limits packages cert essential limit result desk desk' out out'
 
-abbrev pub CheckIsProved : List (List ℕ) → Limits → Status → DeskView → SinkView → SinkView → Type 0
-CheckIsProved words limits result desk out out' = (packages cert : List ℕ)
-    → command_of words ≡ Some (Check packages cert) → IsCarriedOut result → ProvesCheck limits packages cert result desk out out'
+abbrev pub CheckIsProved : List (List ℕ) → Limits → Status → DeskView → DeskView → SinkView → SinkView → Type 0
+CheckIsProved words limits result desk desk' out out' = (packages cert : List ℕ)
+    → command_of words ≡ Some (Check packages cert) → IsCarriedOut result → ProvesCheck limits packages cert result desk desk' out out'
 
 -- A question that an accepted text leaves undecided is hard: its limit is at most 3 to the power of the number of variables
 -- that it reaches.

@@ -11,7 +11,7 @@ use Rattle.dist_app.specs.Refusal.{status_of, refusal_text}
 use Rattle.dist_app.specs.Stages.{Ending, refused}
 use Rattle.dist_words.specs.CommandLine.{CommandLine}
 use Rattle.dist_words.specs.Table.{IsBadWords, command_of}
-use Rattle.dist_app.specs.Command.{CommandDecides, CommandRefuses, CommandIsGivenUp, OnlyReadsFiles}
+use Rattle.dist_app.specs.Command.{CommandDecides, CommandRefuses, CommandIsGivenUp, IsApart, OnlyReadsFiles}
 use Rattle.dist_app.specs.declared.status.Status.{Status}
 use Rattle.dist_app.specs.declared.status.Status.TheVariants as status
 use Rattle.dist_app.specs.declared.refusal.Refusal.{Refusal}
@@ -41,11 +41,15 @@ pub record IsCutShort (words : List (List ℕ)) (files : Option Files) (limits :
 abbrev pub IsGivenUp : List (List ℕ) → Option Files → Limits → Refusal → Ending → Type 0
 IsGivenUp words files limits refusal ending = (line : CommandLine) × (command_of words ≡ Some line) × CommandIsGivenUp line files limits refusal ending
 
+-- A file could not be read, by a command that reads any.
+abbrev pub IsUnread : List (List ℕ) → Option Files → Ending → Type 0
+IsUnread words files ending = (line : CommandLine) × (command_of words ≡ Some line) × (¬ IsApart line) × (ending ≡ refused files ReadFault)
+
 -- The ends that may come at any time: a fault of reading, and want of memory, with nothing printed and all files as before;
 -- and a fault of writing, and want of memory, in the midst of a file or with a front of a decided text printed.
 abbrev pub IsInterrupted : List (List ℕ) → Option Files → Limits → Ending → Type 0
 IsInterrupted words files limits ending =
-    (ending ≡ refused files ReadFault)
+    IsUnread words files ending
     ⊎ (ending ≡ refused files NoMemory)
     ⊎ (IsGivenUp words files limits WriteFault ending ⊎ IsGivenUp words files limits NoMemory ending)
     ⊎ (IsCutShort words files limits WriteFault ending ⊎ IsCutShort words files limits NoMemory ending)
@@ -68,12 +72,20 @@ IsTold text old new = Grew text old new ⊎ (GrewByFront text old new × (Rose o
 abbrev pub TellsFiles : DeskView → Type 0
 TellsFiles desk = (files : Files) × (desk.files ≡ Some files)
 
--- The desk writes no longer, and no count of it fell. It was only read, but by a command that writes a file.
+-- The desk writes no longer, and no count of it fell. It was only read, but by a command that writes a file; bad words, and a
+-- command that is apart from it, leave it as it is.
 pub record Leaves (words : List (List ℕ)) (old new : DeskView) : Type 0 where
   pub not_writing : IsNotWriting new.mode
   pub read_faults_stand : old.read_faults ≤ new.read_faults
   pub write_faults_stand : old.write_faults ≤ new.write_faults
   pub only_reads : ((line : CommandLine) → command_of words ≡ Some line → OnlyReadsFiles line) → OnlyReads old new
+  pub untouched : ((line : CommandLine) → command_of words ≡ Some line → IsApart line) → new ≡ old
+
+-- the end that a fault of writing gave, and the fault
+abbrev pub IsWriteFault : List (List ℕ) → Option Files → Limits → Ending → DeskView → DeskView → SinkView → SinkView → Type 0
+IsWriteFault words files limits ending desk desk' out out' =
+    (IsGivenUp words files limits WriteFault ending × Rose desk.write_faults desk'.write_faults)
+    ⊎ (IsCutShort words files limits WriteFault ending × Rose out.faults out'.faults)
 
 -- What a run promises of its end.
 pub record Runs (words : List (List ℕ)) (limits : Limits) (result : Status) (desk desk' : DeskView) (out out' err err' : SinkView) : Type 0 where
@@ -86,15 +98,16 @@ pub record Runs (words : List (List ℕ)) (limits : Limits) (result : Status) (d
   -- Bad words are told exactly where the words are of no command, but for want of memory.
   pub words_refused : (result ≡ status.BadWords) → IsBadWords words
   pub words_told : IsBadWords words → (result ≡ status.BadWords) ⊎ (result ≡ status.NoMemory)
-  -- Faults are told only where they were counted.
+  -- Faults are told only where they were counted: of the desk where the command was given up while it wrote, and of `out` where
+  -- the text of an answer is cut short.
   pub read_fault : result ≡ status.ReadFault → Rose desk.read_faults desk'.read_faults
-  pub write_fault : result ≡ status.WriteFault → Rose out.faults out'.faults ⊎ Rose desk.write_faults desk'.write_faults
+  pub write_fault : result ≡ status.WriteFault → IsWriteFault words desk.files limits ending desk desk' out out'
   -- Where the desk tells its files and no fault of reading is counted, a refusal that the inputs decide before anything is
-  -- written is the end, but for want of memory. Where no fault of writing is counted either, the end is one that the inputs
-  -- decide, but for want of memory.
+  -- written is the end, but for want of memory. Where no fault is counted, the end is one that the inputs decide, but for want
+  -- of memory.
   pub refusal_comes : TellsFiles desk → ¬ Rose desk.read_faults desk'.read_faults → (end : Ending) → Refuses words desk.files limits end
       → (ending ≡ end) ⊎ (result ≡ status.NoMemory)
-  pub answer_comes : TellsFiles desk → ¬ Rose desk.read_faults desk'.read_faults → ¬ Rose desk.write_faults desk'.write_faults
+  pub answer_comes : ¬ Rose desk.read_faults desk'.read_faults → ¬ Rose desk.write_faults desk'.write_faults
       → ¬ Rose out.faults out'.faults → Decides words desk.files limits ending ⊎ (result ≡ status.NoMemory)
 
 -- the stated limits

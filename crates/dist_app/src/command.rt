@@ -1,9 +1,9 @@
 //! The way from a command to its answer.
-ghost use Rattle.std.specs.Prelude.{IfOk, IfErr};
+ghost use Rattle.std.specs.Prelude.{◌≡◌, IfOk, IfErr};
 ghost use Rattle.dist_outside.specs.Files.{IsNotWriting};
 ghost use Rattle.dist_outside.specs.DeskView.{OnlyReads};
 ghost use Rattle.dist_words.specs.Lines.{HasLimit, line_of};
-ghost use Rattle.dist_app.specs.Command.{CommandDecides, OnlyReadsFiles};
+ghost use Rattle.dist_app.specs.Command.{CommandDecides, IsApart, OnlyReadsFiles};
 ghost use Rattle.dist_app.specs.Due.{LeavesDesk, Stops};
 ghost use Rattle.dist_app.specs.Run.{IsWithinStated};
 ghost use Rattle.dist_app.specs.Stages.{answered};
@@ -34,6 +34,7 @@ pub(crate) fn run_command<D: Desk>(
     ensures stops { IfErr result (Stops (line_of command.now) limits.now (D.view desk.old) (D.view desk.new)) }
     ensures leaves { LeavesDesk (D.view desk.old) (D.view desk.new) }
     ensures only_reads { OnlyReadsFiles (line_of command.now) → OnlyReads (D.view desk.old) (D.view desk.new) }
+    ensures apart { IsApart (line_of command.now) → D.view desk.new ≡ D.view desk.old }
 {
     match command {
         Command::Health(files) => run_health(alloc, desk, files, limits),

@@ -35,7 +35,8 @@ pub fn run<D: Desk, W: Sink, E: Sink>(
         (W.view out.old) (W.view out.new) (E.view err.old) (E.view err.new) }
     ensures strong { StrongIsProved (map string_bytes words.now) stated_limits result (D.view desk.old) (D.view desk.new)
         (W.view out.old) (W.view out.new) }
-    ensures check { CheckIsProved (map string_bytes words.now) stated_limits result (D.view desk.old) (W.view out.old) (W.view out.new) }
+    ensures check { CheckIsProved (map string_bytes words.now) stated_limits result (D.view desk.old) (D.view desk.new)
+        (W.view out.old) (W.view out.new) }
     ensures complete { IsComplete (map string_bytes words.now) stated_limits result (D.view desk.old) (D.view desk.new)
         (W.view out.old) (W.view out.new) }
     ensures hard { UndecidedAreHard stated_limits }
@@ -58,7 +59,8 @@ pub fn run_with<D: Desk, W: Sink, E: Sink>(
         (W.view out.old) (W.view out.new) (E.view err.old) (E.view err.new) }
     ensures strong { StrongIsProved (map string_bytes words.now) limits.now result (D.view desk.old) (D.view desk.new)
         (W.view out.old) (W.view out.new) }
-    ensures check { CheckIsProved (map string_bytes words.now) limits.now result (D.view desk.old) (W.view out.old) (W.view out.new) }
+    ensures check { CheckIsProved (map string_bytes words.now) limits.now result (D.view desk.old) (D.view desk.new)
+        (W.view out.old) (W.view out.new) }
     ensures complete { IsComplete (map string_bytes words.now) limits.now result (D.view desk.old) (D.view desk.new)
         (W.view out.old) (W.view out.new) }
     ensures hard { UndecidedAreHard limits.now }

@@ -2,7 +2,7 @@ use Rattle.dist_app.specs.Health.{HealthStages, Judges}
 use Rattle.dist_app.specs.Try.{Tries, TryStages}
 use Rattle.dist_words.specs.CommandLine.{Health, Try}
 use Rattle.dist_outside.specs.DeskView.{DeskView}
-use Rattle.dist_app.proofs.Due.{ok_more, err_more, read_answers, due_given_up, due_stops, untouched}
+use Rattle.dist_app.proofs.Due.{apart_stops, ok_more, err_more, read_answers, due_stops}
 use Rattle.dist_app.proofs.command.run_command.Goals as goal
 
 pub returns-in-Health-clause-answers : goal.returns-in-Health-clause-answers
@@ -14,7 +14,7 @@ pub returns-in-Health-clause-stops : goal.returns-in-Health-clause-stops
 returns-in-Health-clause-stops g c =
     rw c.in-Health.is (err_more c.run_health.result _ _ (λ why. due_stops (Health c.in-Health.files.packages.now c.in-Health.files.list.now) c.args.limits.now
     (HealthStages (g.D.Desk.view c.args.desk.now).files c.args.limits.now c.in-Health.files.packages.now c.in-Health.files.list.now (Judges (g.D.Desk.view c.args.desk.now).files))
-    (g.D.Desk.view c.args.desk.now) (g.D.Desk.view c.run_health.new.desk) why (λ ending decides. decides) c.run_health.ensures.only_reads) c.run_health.ensures.due)
+    (g.D.Desk.view c.args.desk.now) (g.D.Desk.view c.run_health.new.desk) why (λ ending decides. decides) (λ apart. apart) c.run_health.ensures.only_reads) c.run_health.ensures.due)
 
 pub returns-in-Try-clause-answers : goal.returns-in-Try-clause-answers
 returns-in-Try-clause-answers g c =
@@ -23,6 +23,6 @@ returns-in-Try-clause-answers g c =
 pub returns-in-Try-clause-stops : goal.returns-in-Try-clause-stops
 returns-in-Try-clause-stops g c =
     let desk : DeskView = g.D.Desk.view c.args.desk.now in
-    rw c.in-Try.is (err_more c.run_try.result _ _ (λ why given. due_stops (Try c.in-Try.words.size c.in-Try.words.seed) c.args.limits.now
-    (TryStages desk.files c.args.limits.now c.in-Try.words.size c.in-Try.words.seed (Tries desk.files c.args.limits.now c.in-Try.words.size)) desk desk why (λ ending decides. decides)
-    (untouched desk c.requires.not_writing) (due_given_up (TryStages desk.files c.args.limits.now c.in-Try.words.size c.in-Try.words.seed (Tries desk.files c.args.limits.now c.in-Try.words.size)) desk desk why (given desk.files))) c.run_try.ensures.stops)
+    rw c.in-Try.is (err_more c.run_try.result _ _ (λ why given. apart_stops (Try c.in-Try.words.size c.in-Try.words.seed) c.args.limits.now
+    (TryStages desk.files c.args.limits.now c.in-Try.words.size c.in-Try.words.seed (Tries desk.files c.args.limits.now c.in-Try.words.size)) desk why (λ ending decides. decides)
+    (given desk.files)) c.run_try.ensures.stops)

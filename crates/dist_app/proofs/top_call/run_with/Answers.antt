@@ -39,9 +39,9 @@ returns-in-Err-clause-strong g c =
 
 pub returns-in-Err-clause-check : goal.returns-in-Err-clause-check
 returns-in-Err-clause-check g c =
-    subst (λ (s : Status). CheckIsProved (map string_bytes c.args.words.now) c.args.limits.now s (g.D.Desk.view c.args.desk.now) (g.W.Sink.view c.args.out.now) (g.W.Sink.view c.carry_out.new.out))
+    subst (λ (s : Status). CheckIsProved (map string_bytes c.args.words.now) c.args.limits.now s (g.D.Desk.view c.args.desk.now) (g.D.Desk.view c.carry_out.new.desk) (g.W.Sink.view c.args.out.now) (g.W.Sink.view c.carry_out.new.out))
     (sym c.status-status.ensures)
-    (check_refused _ c.args.limits.now c.in-Err.refusal (g.D.Desk.view c.args.desk.now) (g.W.Sink.view c.args.out.now) (g.W.Sink.view c.carry_out.new.out))
+    (check_refused _ c.args.limits.now c.in-Err.refusal (g.D.Desk.view c.args.desk.now) (g.D.Desk.view c.carry_out.new.desk) (g.W.Sink.view c.args.out.now) (g.W.Sink.view c.carry_out.new.out))
 
 pub returns-in-Ok-clause-hard : goal.returns-in-Ok-clause-hard
 returns-in-Ok-clause-hard g c = λ r inputs. c.undecided_questions_are_hard.ensures r inputs c.args.limits.now
