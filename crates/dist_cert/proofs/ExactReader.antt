@@ -1,5 +1,5 @@
 -- What the text is decides what a reader answers.
-use Rattle.std.proofs.Common.{◌≡◌, ⊎_elim, ℕ, List, Option, Some, None, Result, Ok, Err, refl, ap, sym, subst, ◌∙◌}
+use Rattle.std.proofs.Common.{◌≡◌, ◌⊎◌, ⊎_elim, inl, inr, ℕ, List, Option, Some, None, Result, Ok, Err, refl, ap, sym, subst, ◌∙◌}
 use Rattle.std.proofs.lemmas.Bool.{false≢true}
 use Rattle.dist_outside.specs.declared.trouble.What.TheVariants.{Certificate}
 use Rattle.dist_outside.specs.declared.trouble.WorkError.TheVariants.{TooLarge}
@@ -22,6 +22,30 @@ use Rattle.dist_cert.proofs.OneLine.{clear}
 one_begin : (rest line more other behind : List ℕ) → BeginsWith rest line more → BeginsWith rest other behind → (line ≡ other) × (more ≡ behind)
 one_begin rest line more other behind a b = one_line line other more behind a.one_line b.one_line (sym a.ended ∙ b.ended)
 
+-- ---- the faults of a line on its own
+
+-- Three faults, the last of which is `bad`, are all that there are, and exclude one another.
+record AreExclusive (Has : CertCause → Type 0) (bad : CertCause) : Type 0 where
+  long_cut : Has causes.LineTooLong → ¬ Has causes.Truncated
+  long_bad : Has causes.LineTooLong → ¬ Has bad
+  cut_bad : Has causes.Truncated → ¬ Has bad
+  only : (cause : CertCause) → Has cause → (cause ≡ causes.LineTooLong) ⊎ ((cause ≡ causes.Truncated) ⊎ (cause ≡ bad))
+
+-- a line has one of them at most
+one_fault : (Has : CertCause → Type 0) (bad : CertCause) → AreExclusive Has bad → (cause other : CertCause) → Has cause → Has other → other ≡ cause
+one_fault Has bad x cause other f g = at (x.only cause f) (x.only other g)
+  where
+    at : (cause ≡ causes.LineTooLong) ⊎ ((cause ≡ causes.Truncated) ⊎ (cause ≡ bad)) → (other ≡ causes.LineTooLong) ⊎ ((other ≡ causes.Truncated) ⊎ (other ≡ bad)) → other ≡ cause
+    at (inl a) (inl b) = b ∙ sym a
+    at (inl a) (inr (inl b)) = absurd (x.long_cut (subst Has a f) (subst Has b g))
+    at (inl a) (inr (inr b)) = absurd (x.long_bad (subst Has a f) (subst Has b g))
+    at (inr (inl a)) (inl b) = absurd (x.long_cut (subst Has b g) (subst Has a f))
+    at (inr (inl a)) (inr (inl b)) = b ∙ sym a
+    at (inr (inl a)) (inr (inr b)) = absurd (x.cut_bad (subst Has a f) (subst Has b g))
+    at (inr (inr a)) (inl b) = absurd (x.long_bad (subst Has b g) (subst Has a f))
+    at (inr (inr a)) (inr (inl b)) = absurd (x.cut_bad (subst Has b g) (subst Has a f))
+    at (inr (inr a)) (inr (inr b)) = b ∙ sym a
+
 -- ---- the first line
 
 -- a line with a header has no fault
@@ -31,29 +55,19 @@ header_no_fault r rest behind h causes.Truncated next f = not_cut rest next.line
 header_no_fault r rest behind h causes.BadHeader next f = f.1.3 h (subst (λ l. HasHeaderForm l h) (one_begin rest next.line behind f.1.0 f.1.1 next.begins f.1.2).0 next.form)
 header_no_fault r rest behind h cause next f = f
 
-header_long : (r : ReaderView) (rest : List ℕ) → HeaderFault r rest causes.LineTooLong → (other : CertCause) → HeaderFault r rest other → other ≡ causes.LineTooLong
-header_long r rest f causes.LineTooLong g = refl
-header_long r rest f causes.Truncated g = absurd (g.0.line f.1)
-header_long r rest f causes.BadHeader g = absurd (g.0.line f.1)
-header_long r rest f other g = absurd g
-
-header_cut : (r : ReaderView) (rest : List ℕ) → HeaderFault r rest causes.Truncated → (other : CertCause) → HeaderFault r rest other → other ≡ causes.Truncated
-header_cut r rest f causes.LineTooLong g = absurd (f.0.line g.1)
-header_cut r rest f causes.Truncated g = refl
-header_cut r rest f causes.BadHeader g = absurd (not_cut rest g.1.0 g.1.1 g.1.2 f.1)
-header_cut r rest f other g = absurd g
-
-header_bad : (r : ReaderView) (rest : List ℕ) → HeaderFault r rest causes.BadHeader → (other : CertCause) → HeaderFault r rest other → other ≡ causes.BadHeader
-header_bad r rest f causes.LineTooLong g = absurd (f.0.line g.1)
-header_bad r rest f causes.Truncated g = absurd (not_cut rest f.1.0 f.1.1 f.1.2 g.1)
-header_bad r rest f causes.BadHeader g = refl
-header_bad r rest f other g = absurd g
-
-header_one : (r : ReaderView) (rest : List ℕ) (cause other : CertCause) → HeaderFault r rest cause → HeaderFault r rest other → other ≡ cause
-header_one r rest causes.LineTooLong other f g = header_long r rest f other g
-header_one r rest causes.Truncated other f g = header_cut r rest f other g
-header_one r rest causes.BadHeader other f g = header_bad r rest f other g
-header_one r rest cause other f g = absurd f
+header_exclusive : (r : ReaderView) (rest : List ℕ) → AreExclusive (HeaderFault r rest) causes.BadHeader
+header_exclusive r rest = record {
+  long_cut = λ f g. g.0.line f.1;
+  long_bad = λ f g. g.0.line f.1;
+  cut_bad = λ f g. not_cut rest g.1.0 g.1.1 g.1.2 f.1;
+  only = only;
+}
+  where
+    only : (cause : CertCause) → HeaderFault r rest cause → (cause ≡ causes.LineTooLong) ⊎ ((cause ≡ causes.Truncated) ⊎ (cause ≡ causes.BadHeader))
+    only causes.LineTooLong f = inl refl
+    only causes.Truncated f = inr (inl refl)
+    only causes.BadHeader f = inr (inr refl)
+    only cause f = absurd f
 
 header_passes : (r : ReaderView) (rest : List ℕ) (cause : CertCause) → PassesWhole r.limits r.given rest → ¬ HeaderFault r rest cause
 header_passes r rest causes.LineTooLong p f = f.0 p
@@ -73,7 +87,7 @@ header_given r rest behind more h (Err error) next a = tt
 header_refused : (r : ReaderView) (rest more : List ℕ) (cause : CertCause) (answer : Result Header ReadCertError)
     → HeaderFault r rest cause → HeaderAnswers r rest more answer → IsRefusedFor answer cause
 header_refused r rest more cause (Ok h) f a = header_no_fault r rest more h cause a f
-header_refused r rest more cause (Err (Bad fault)) f a = header_one r rest cause fault.cause f a.0
+header_refused r rest more cause (Err (Bad fault)) f a = one_fault (HeaderFault r rest) causes.BadHeader (header_exclusive r rest) cause fault.cause f a.0
 header_refused r rest more cause (Err (Work (TooLarge Certificate))) f a = header_passes r rest cause a.0 f
 header_refused r rest more cause (Err error) f a = tt
 
@@ -100,29 +114,19 @@ end_no_fault r rest causes.Truncated done f = ⊎_elim (λ left. left done.nothi
 end_no_fault r rest causes.BadRecord done f = not_nothing rest f.1.0 f.1.1 f.1.2 done.nothing
 end_no_fault r rest cause done f = f
 
-record_long : (r : ReaderView) (rest : List ℕ) → RecordFault r rest causes.LineTooLong → (other : CertCause) → RecordFault r rest other → other ≡ causes.LineTooLong
-record_long r rest f causes.LineTooLong g = refl
-record_long r rest f causes.Truncated g = absurd (g.0.line f.1)
-record_long r rest f causes.BadRecord g = absurd (g.0.line f.1)
-record_long r rest f other g = absurd g
-
-record_cut : (r : ReaderView) (rest : List ℕ) → RecordFault r rest causes.Truncated → (other : CertCause) → RecordFault r rest other → other ≡ causes.Truncated
-record_cut r rest f causes.LineTooLong g = absurd (f.0.line g.1)
-record_cut r rest f causes.Truncated g = refl
-record_cut r rest f causes.BadRecord g = absurd (not_cut rest g.1.0 g.1.1 g.1.2 f.1.0)
-record_cut r rest f other g = absurd g
-
-record_bad : (r : ReaderView) (rest : List ℕ) → RecordFault r rest causes.BadRecord → (other : CertCause) → RecordFault r rest other → other ≡ causes.BadRecord
-record_bad r rest f causes.LineTooLong g = absurd (f.0.line g.1)
-record_bad r rest f causes.Truncated g = absurd (not_cut rest f.1.0 f.1.1 f.1.2 g.1.0)
-record_bad r rest f causes.BadRecord g = refl
-record_bad r rest f other g = absurd g
-
-record_one : (r : ReaderView) (rest : List ℕ) (cause other : CertCause) → RecordFault r rest cause → RecordFault r rest other → other ≡ cause
-record_one r rest causes.LineTooLong other f g = record_long r rest f other g
-record_one r rest causes.Truncated other f g = record_cut r rest f other g
-record_one r rest causes.BadRecord other f g = record_bad r rest f other g
-record_one r rest cause other f g = absurd f
+record_exclusive : (r : ReaderView) (rest : List ℕ) → AreExclusive (RecordFault r rest) causes.BadRecord
+record_exclusive r rest = record {
+  long_cut = λ f g. g.0.line f.1;
+  long_bad = λ f g. g.0.line f.1;
+  cut_bad = λ f g. not_cut rest g.1.0 g.1.1 g.1.2 f.1.0;
+  only = only;
+}
+  where
+    only : (cause : CertCause) → RecordFault r rest cause → (cause ≡ causes.LineTooLong) ⊎ ((cause ≡ causes.Truncated) ⊎ (cause ≡ causes.BadRecord))
+    only causes.LineTooLong f = inl refl
+    only causes.Truncated f = inr (inl refl)
+    only causes.BadRecord f = inr (inr refl)
+    only cause f = absurd f
 
 record_passes : (r : ReaderView) (rest : List ℕ) (cause : CertCause) → PassesWhole r.limits r.given rest → ¬ RecordFault r rest cause
 record_passes r rest causes.LineTooLong p f = f.0 p
@@ -152,7 +156,7 @@ record_refused : (r : ReaderView) (rest more : List ℕ) (cause : CertCause) (an
     → RecordFault r rest cause → RecordAnswers r rest more answer → IsRefusedFor answer cause
 record_refused r rest more cause (Ok (Some step)) f a = record_no_fault r rest more step cause a f
 record_refused r rest more cause (Ok None) f a = end_no_fault r rest cause a.0 f
-record_refused r rest more cause (Err (Bad fault)) f a = record_one r rest cause fault.cause f a.0
+record_refused r rest more cause (Err (Bad fault)) f a = one_fault (RecordFault r rest) causes.BadRecord (record_exclusive r rest) cause fault.cause f a.0
 record_refused r rest more cause (Err (Work (TooLarge Certificate))) f a = record_passes r rest cause a.0 f
 record_refused r rest more cause (Err error) f a = tt
 

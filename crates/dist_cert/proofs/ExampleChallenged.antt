@@ -187,11 +187,13 @@ first-sound limits room = (
 )
 
 -- a question that was just asked is refuted
-answered : (limits : Limits) → 56 ≤ limits.record_line → (before : List CertRecord) (question : List Word) (hints line : List ℕ) → record_text (Refuted hints) ≡ line → length line < 20
-    → keeps_hints (length (numbered space (before ++ Question question ∷ []))) hints ≡ true → Follows (numbered space (before ++ Question question ∷ [])) (map negation (clause_of question)) hints
+answered : (limits : Limits) → 56 ≤ limits.record_line → (before : List CertRecord) (question : List Word) (hints line : List ℕ)
+    → record_text (Refuted hints) ≡ line → length line < 20 → keeps_hints (length (numbered space (before ++ Question question ∷ []))) hints ≡ true
+    → Follows (numbered space (before ++ Question question ∷ [])) (map negation (clause_of question)) hints
     → list_any is_end (before ++ Question question ∷ []) ≡ false → IsSound limits space header (before ++ Question question ∷ []) (Refuted hints)
 answered limits room before question hints line is short keeps follows not_ended =
-    refuted-line limits space header (before ++ Question question ∷ []) before question [] hints line is (opened before question) keeps follows (omega (arith, short, room)) not_ended
+    refuted-line limits space header (before ++ Question question ∷ []) before question [] hints line is
+    (opened before question) keeps follows (omega (arith, short, room)) not_ended
 
 others-sound : (limits : Limits) → 56 ≤ limits.record_line → AreSound limits space header (on_libx ++ claim_on_libx ∷ at_first) (at_second ++ at_third)
 unfolding digits
@@ -201,7 +203,11 @@ others-sound limits room = (
     answered limits room (on_libx ++ claim_on_libx ∷ at_first) (yes 3 ∷ yes 6 ∷ []) (6 ∷ 12 ∷ 5 ∷ 1 ∷ []) (codes "f 6 12 5 1") refl (lit< tt) refl not-second refl,
     (
       question-line limits space header _ (yes 3 ∷ yes 8 ∷ []) (codes "q 3 8") refl refl (omega (arith, room)) refl,
-      (answered limits room (on_libx ++ claim_on_libx ∷ (at_first ++ at_second)) (yes 3 ∷ yes 8 ∷ []) (8 ∷ 12 ∷ 5 ∷ 2 ∷ []) (codes "f 8 12 5 2") refl (lit< tt) refl not-third refl, tt),
+      (
+        answered limits room (on_libx ++ claim_on_libx ∷ (at_first ++ at_second)) (yes 3 ∷ yes 8 ∷ []) (8 ∷ 12 ∷ 5 ∷ 2 ∷ []) (codes "f 8 12 5 2") refl
+            (lit< tt) refl not-third refl,
+        tt,
+      ),
     ),
   ),
 )
@@ -211,8 +217,9 @@ p-sound : (limits : Limits) → 56 ≤ limits.record_line → AreSound limits sp
 unfolding digits
 p-sound limits room =
     let by = All-from_recursion (λ (pair : ℕ × ℕ). (1 ≤ pair.0) × (1 ≤ pair.1)) ((1, 2) ∷ (1, 3) ∷ []) ((lit≤ tt, lit≤ tt), ((lit≤ tt, lit≤ tt), tt)) in (
-      sound limits space header on_p claim_on_p (codes "c 2 2 3 0 1 2 1 3 0") refl (lit≤ tt, lit< tt, from-one (2 ∷ 3 ∷ []) refl, by, (λ k d within. absurd (none-of k within))) refl
-          (omega (arith, room)) refl (claims-challenged space header on_p 2 (2 ∷ 3 ∷ []) ((1, 2) ∷ (1, 3) ∷ []) [] refl (lit≤ tt) p-holds p-omits-none),
+      sound limits space header on_p claim_on_p (codes "c 2 2 3 0 1 2 1 3 0") refl
+          (lit≤ tt, lit< tt, from-one (2 ∷ 3 ∷ []) refl, by, (λ k d within. absurd (none-of k within))) refl (omega (arith, room)) refl
+          (claims-challenged space header on_p 2 (2 ∷ 3 ∷ []) ((1, 2) ∷ (1, 3) ∷ []) [] refl (lit≤ tt) p-holds p-omits-none),
       (end-line limits space header _ refl (lit≤ tt) (omega (arith, room)) refl, tt),
     )
 
@@ -220,7 +227,8 @@ lines-sound : (limits : Limits) → 56 ≤ limits.record_line → AreSound limit
 lines-sound limits room =
     sound-more limits space header [] on_p (claim_on_p ∷ End ∷ [])
     (sound-more limits space header [] (on_libx ++ claim_on_libx ∷ at_first) (at_second ++ at_third)
-    (sound-more limits space header [] (on_libx ++ claim_on_libx ∷ []) at_first (libx-sound limits room) (first-sound limits room)) (others-sound limits room)) (p-sound limits room)
+    (sound-more limits space header [] (on_libx ++ claim_on_libx ∷ []) at_first (libx-sound limits room) (first-sound limits room)) (others-sound limits room))
+    (p-sound limits room)
 
 pub challenged : ChallengedIsAccepted
 challenged limits room = subst (λ (text : List ℕ). Accepted archive_of_libx limits text header by_two_classes) its-text

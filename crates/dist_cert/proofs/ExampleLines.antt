@@ -191,8 +191,9 @@ abbrev pub keeps_hints : ℕ → List ℕ → Bool
 keeps_hints last hints = list_all (leb 1) hints && (list_all (λ k. leb k last) hints && list_all small (plains hints))
 
 pub refuted-line : (limits : Limits) (matter : Matter) (h : Header) (before earlier : List CertRecord) (question : List Word) (since : List CertRecord) (hints line : List ℕ)
-    → record_text (Refuted hints) ≡ line → IsOpen before earlier question since → keeps_hints (length (numbered matter before)) hints ≡ true → Follows (numbered matter before) (map negation (clause_of question)) hints
-    → length line < limits.record_line → list_any is_end before ≡ false → IsSound limits matter h before (Refuted hints)
+    → record_text (Refuted hints) ≡ line → IsOpen before earlier question since → keeps_hints (length (numbered matter before)) hints ≡ true
+    → Follows (numbered matter before) (map negation (clause_of question)) hints → length line < limits.record_line
+    → list_any is_end before ≡ false → IsSound limits matter h before (Refuted hints)
 refuted-line limits matter h before earlier question since hints line is asked keeps follows short not_ended =
     let a = and_parts (list_all (leb 1) hints) _ keeps in
     let b = and_parts (list_all (λ k. leb k (length (numbered matter before))) hints) _ a.1 in

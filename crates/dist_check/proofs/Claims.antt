@@ -19,13 +19,14 @@ use Rattle.dist_cert.specs.declared.records.Claim.TheVariants as claims
 use Rattle.dist_cert.specs.declared.records.Header.{Header}
 use Rattle.dist_cert.specs.Form.{Word, KeepsRules, record_text, HasForm, AreFromOne}
 use Rattle.dist_cert.specs.Groups.{clause_of, installations, installation_at, is_claim, claim_count, group, IsRefutedIn}
+use Rattle.dist_cert.specs.GroupLaws.{all-at}
 use Rattle.dist_cert.specs.ClaimRules.{yes, no, IsNamed, IsInEach, HoldsStrong, HoldsClaim}
 use Rattle.dist_cert.specs.Accepted.{from_zero, claim_in}
 use Rattle.dist_subject.specs.Present.{matter_of, packages_of}
 use Rattle.dist_subject.specs.Claims.{NamesOthers}
 use Rattle.dist_check.specs.Means.{Says}
 use Rattle.dist_check.proofs.Told.{IsTold, stable, most-told, less-told, bool-told, number-told, any-cases, any-head}
-use Rattle.dist_check.proofs.Places.{all-at, all-from, contains-map, image-of}
+use Rattle.dist_check.proofs.Places.{all-from, contains-map, image-of}
 use Rattle.dist_check.specs.Checked.{AreRight, HaveForms}
 use Rattle.dist_check.proofs.LineLemmas.{IsSoundRule, refuted-true}
 use Rattle.dist_check.proofs.GroupLemmas.{group-behind, installation-healthy, recent-there}

@@ -21,7 +21,7 @@ use Rattle.dist_state.specs.Since.{AreNewFrom}
 use Rattle.dist_state.specs.State.{QuestionView, StateView, is_next, TellsUndecided, TellsClaim, TellsEnd}
 use Rattle.dist_check.specs.At.{IsQuestionOf, IsAt}
 use Rattle.dist_check.proofs.Profile.{rank, may_have, faultless-from, first-from}
-use Rattle.dist_check.proofs.Questions.{one-open}
+use Rattle.dist_cert.specs.GroupLaws.{one-open}
 use Rattle.dist_check.proofs.Told.{any-head, any-cases}
 use Rattle.dist_check.proofs.Verdicts.{IsVerdict, each-new, new-from-each}
 

@@ -9,7 +9,6 @@ mod Whole
 mod Hard
 mod Among
 mod Above
-mod Questions
 mod Profile
 mod TestLemmas
 mod Verdicts

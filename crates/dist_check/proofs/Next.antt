@@ -21,7 +21,7 @@ use Rattle.dist_group.specs.Group.{GroupView}
 use Rattle.dist_state.specs.State.{QuestionView, StateView, Tells, Becomes, empty_group, after_claim, TellsRefuted, TellsUndecided}
 use Rattle.dist_check.specs.At.{IsQuestionOf, IsGroupOf, IsAt}
 use Rattle.dist_check.proofs.ClosingVerdicts.{undecided-verdict, end-verdict, installable-verdict, unknown-verdict, outdated-verdict, alive-verdict, challenged-verdict}
-use Rattle.dist_check.proofs.Questions.{IsOpening, opened, none-open, none-first}
+use Rattle.dist_cert.specs.GroupLaws.{IsOpening, opened, none-open, none-first}
 use Rattle.dist_check.specs.Checked.{AreInputsOf, AreRight, HaveForms}
 use Rattle.dist_check.proofs.Steps.{derived-push, derived-same, installed-push, installed-same, latest-push, question-stays, group-first, group-same, group-installed, group-refuted, group-undecided, group-after_claim}
 use Rattle.dist_check.proofs.StrongVerdicts.{strong-verdict}

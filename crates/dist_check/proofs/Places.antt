@@ -4,11 +4,6 @@ use Rattle.std.specs.List.{All, Contains}
 use Rattle.std.proofs.lemmas.List.{get_or_at, get_or-map, length-map}
 use Rattle.std.proofs.lemmas.List.Elements.{Contains-get_or}
 
-pub all-at : {X : Type 0} (P : X → Type 0) (xs front : List X) (b : X) (cs : List X) → xs ≡ front ++ b ∷ cs → All P xs → P b
-all-at P xs front b cs e all =
-    subst P (ap (λ ys. get_or ys (length front) b) e ∙ get_or_at front b cs b (length front) refl)
-    (all (length front) b (omega (arith, ap length e, length-append front (b ∷ cs))))
-
 pub all-from : {X : Type 0} (P : X → Type 0) (xs : List X) → ((x : X) → Contains xs x → P x) → All P xs
 all-from P xs each k d within = each (get_or xs k d) (Contains-get_or xs k d within)
 

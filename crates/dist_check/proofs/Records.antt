@@ -16,9 +16,9 @@ use Rattle.dist_cert.specs.Refusal.{line_feed, lines_text, Fits, HasLineFault}
 use Rattle.dist_cert.specs.Accepted.{IsAcceptedAs}
 use Rattle.dist_cert.specs.ClearForms.{FormsAreClear}
 use Rattle.dist_cert.specs.OneVerdict.{first_line_of}
+use Rattle.dist_cert.specs.GroupLaws.{all-at}
 use Rattle.dist_check.specs.Checked.{AreRight}
 use Rattle.dist_check.proofs.Told.{IsTold, stable, contains-told}
-use Rattle.dist_check.proofs.Places.{all-at}
 
 to-line : FormsAreClear → (subject : Subject) (limits : Limits) (h : Header) (before : List CertRecord) (step : CertRecord) (more : List ℕ) → HasForm (record_text step) step
     → (cause : CertCause) → HasRecordFault (subject.matter h.kind h.essential) h before step cause → HasLineFault subject limits h before (record_text step ++ line_feed ∷ more) cause

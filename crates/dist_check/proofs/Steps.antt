@@ -19,7 +19,7 @@ use Rattle.dist_group.specs.Group.{GroupView, narrowed, common_with}
 use Rattle.dist_state.specs.State.{QuestionView, empty_group}
 use Rattle.dist_check.specs.At.{IsQuestionOf, AreClosed, IsCommonOf, IsGroupOf}
 use Rattle.dist_check.proofs.Places.{contains-cases, contains-later}
-use Rattle.dist_check.proofs.Questions.{IsOpening, IsAsked, one-open, still-open, none-still, closed-push, closed-before, closed-here, none-closed, group-push, group-claim, asked-in-group}
+use Rattle.dist_cert.specs.GroupLaws.{IsOpening, IsAsked, one-open, still-open, none-still, closed-push, closed-more, closed-here, none-closed, group-push, group-claim, asked-in-group}
 use Rattle.dist_check.proofs.Among.{any-from, from-any}
 
 -- ---- lists that grow with the lines
@@ -60,7 +60,7 @@ question-stays inputs before step leaves never (Some q) here = (here.0, here.1 +
 -- a line that closes nothing in that way
 pub refuted-same : (before : List CertRecord) (step : CertRecord) (question : List Word) → ((hints : List ℕ) → step ≢ lines.Refuted hints) → IsRefutedIn before question ↔ IsRefutedIn (before ++ step ∷ []) question
 refuted-same before step question never = (
-  (λ closed. (closed.0, closed-before before step question (lines.Refuted closed.0) closed.1)),
+  (λ closed. (closed.0, closed-more before (step ∷ []) question (lines.Refuted closed.0) closed.1)),
   λ closed. elim (closed-push before step question (lines.Refuted closed.0) closed.1) [
     | inl earlier ↦ (closed.0, earlier)
     | inr here ↦ absurd (never closed.0 here.0)
@@ -69,7 +69,7 @@ refuted-same before step question never = (
 
 pub undecided-same : (before : List CertRecord) (step : CertRecord) (question : List Word) → step ≢ lines.Undecided → IsUndecidedIn before question ↔ IsUndecidedIn (before ++ step ∷ []) question
 undecided-same before step question never = (
-  (λ closed. closed-before before step question lines.Undecided closed),
+  (λ closed. closed-more before (step ∷ []) question lines.Undecided closed),
   λ closed. elim (closed-push before step question lines.Undecided closed) [
     | inl earlier ↦ earlier
     | inr here ↦ absurd (never here.0)
@@ -85,7 +85,7 @@ refuted-more before hints asked is question = (
   ]),
   λ either. elim either [
     | inl same ↦ (hints, closed-here before question (lines.Refuted hints) (subst (IsAsked before) same is))
-    | inr earlier ↦ (earlier.0, closed-before before (lines.Refuted hints) question (lines.Refuted earlier.0) earlier.1)
+    | inr earlier ↦ (earlier.0, closed-more before (lines.Refuted hints ∷ []) question (lines.Refuted earlier.0) earlier.1)
   ],
 )
 
@@ -97,7 +97,7 @@ undecided-more before asked is question = (
   ]),
   λ either. elim either [
     | inl same ↦ closed-here before question lines.Undecided (subst (IsAsked before) same is)
-    | inr earlier ↦ closed-before before lines.Undecided question lines.Undecided earlier
+    | inr earlier ↦ closed-more before (lines.Undecided ∷ []) question lines.Undecided earlier
   ],
 )
 

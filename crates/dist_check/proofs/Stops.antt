@@ -22,13 +22,13 @@ use Rattle.dist_cert.specs.ByRecords.{whole_line, within}
 use Rattle.dist_cert.specs.ClearForms.{FormsAreClear}
 use Rattle.dist_cert.specs.Form.{Word, record_text, header_text, HasForm}
 use Rattle.dist_cert.specs.Groups.{clause_of, derived, derived_in}
+use Rattle.dist_cert.specs.GroupLaws.{all-at}
 use Rattle.dist_cert.specs.OneVerdict.{has_first, one_first, one_line, first_line_of, not_faulty, nothing_more, readings, IsShorter}
 use Rattle.dist_cert.specs.Reading.{PassesWhole, KeepsLimits}
 use Rattle.dist_cert.specs.Refusal.{line_feed, IsOneLine, BeginsWith, lines_text, certificate_text, HasLineFault, in_order, IsFirstOf, AreFaultless}
 use Rattle.dist_cert.specs.SomeVerdict.{split_push}
 use Rattle.dist_cert.specs.Subject.{Subject}
 use Rattle.dist_subject.specs.Completed.{KeepsNumbers}
-use Rattle.dist_check.proofs.Places.{all-at}
 use Rattle.dist_check.specs.declared.verdict.Verdict.{Verdict}
 use Rattle.dist_check.specs.declared.verdict.Verdict.TheVariants.{Accepted, Refused}
 

@@ -15,6 +15,7 @@ use Rattle.dist_cert.specs.declared.records.CertRecord.TheVariants as lines
 use Rattle.dist_cert.specs.declared.records.Header.{Header}
 use Rattle.dist_cert.specs.Form.{AreFromOne, record_text, HasForm, KeepsRules}
 use Rattle.dist_cert.specs.Groups.{installations, installation_at, IsRecent, group, IsRefutedIn, IsUndecidedIn}
+use Rattle.dist_cert.specs.GroupLaws.{all-at}
 use Rattle.dist_cert.specs.ClaimRules.{yes, no, IsNamed, IsInEach, HoldsStrong, OmitsPackage}
 use Rattle.dist_subject.specs.Present.{matter_of}
 use Rattle.dist_cert.specs.Rising.{is_among}
@@ -24,7 +25,7 @@ use Rattle.dist_state.specs.State.{StateView, is_next, TellsStrong}
 use Rattle.dist_check.specs.At.{IsCommonOf, IsAt}
 use Rattle.dist_check.proofs.ClosingVerdicts.{on-strong, number-verdict, wrong-verdict, right-verdict, incomplete-verdict}
 use Rattle.dist_check.proofs.GroupLemmas.{line-of, recent-there}
-use Rattle.dist_check.proofs.Places.{all-at, all-from}
+use Rattle.dist_check.proofs.Places.{all-from}
 use Rattle.dist_check.specs.Checked.{AreRight, HaveForms}
 use Rattle.dist_check.proofs.Among.{any-from, from-any}
 use Rattle.dist_check.proofs.TestLemmas.{Tests, all-tested, any-tested, none-tested, among-tests, other-tests}

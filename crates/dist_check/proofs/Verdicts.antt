@@ -28,7 +28,7 @@ use Rattle.dist_check.specs.At.{IsQuestionOf, IsAt}
 use Rattle.dist_check.proofs.Above.{none-above, some-above, words-above}
 use Rattle.dist_check.proofs.MemberLemmas.{model-installed, installed-model}
 use Rattle.dist_check.proofs.Profile.{rank, may_have, IsFaultless, HasFirst, faultless-from, first-from}
-use Rattle.dist_check.proofs.Questions.{one-open}
+use Rattle.dist_cert.specs.GroupLaws.{one-open}
 
 -- the first fault of a record, or none
 abbrev pub IsVerdict : PackageList → List (List Literal) → Header → List CertRecord → CertRecord → Option CertCause → Type 0

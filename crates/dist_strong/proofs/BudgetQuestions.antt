@@ -14,12 +14,12 @@ use Rattle.dist_cert.specs.declared.records.Header.{Header}
 use Rattle.dist_cert.specs.ClaimRules.{yes, no}
 use Rattle.dist_cert.specs.Form.{Word, AreLiterals}
 use Rattle.dist_cert.specs.Groups.{claimed, claim_count, group, is_claim}
+use Rattle.dist_cert.specs.GroupLaws.{group-append, group-claim}
 use Rattle.dist_cert.specs.Part.{IsNextQuestion, IsQuestionOn}
 use Rattle.dist_cert.specs.Subject.{Matter}
 use Rattle.dist_strong.proofs.BudgetCounts.{asked, asked_in, count-push, flat-push, few-claims}
 use Rattle.dist_strong.proofs.FewNumbers.{few-within}
 use Rattle.dist_strong.proofs.Fronts.{GoesOn, by-fronts}
-use Rattle.dist_strong.proofs.GroupLines.{group-append, group-claim}
 use Rattle.dist_strong.proofs.KeptLines.{IsKept, AreKept}
 
 -- ---- the questions of one package

@@ -11,6 +11,7 @@ use Rattle.dist_cert.specs.declared.records.Claim.{Claim}
 use Rattle.dist_cert.specs.Accepted.{claim_in, claims_in}
 use Rattle.dist_cert.specs.Form.{record_text, is_end}
 use Rattle.dist_cert.specs.Groups.{claim_count, claimed, derived, derived_in, installations, installed_in, is_claim}
+use Rattle.dist_cert.specs.GroupLaws.{group-claim, installations-append}
 use Rattle.dist_cert.specs.PartByRecords.{IsLine}
 use Rattle.dist_cert.specs.Writing.{ended}
 use Rattle.dist_strong.specs.Asking.{AskerView, IsAt}
@@ -21,7 +22,7 @@ use Rattle.dist_strong.specs.Settling.{Fits, IsSettling, SettleStops}
 use Rattle.dist_strong.specs.Window.{WindowView, IsWindowAt}
 use Rattle.dist_strong.proofs.Answered.{derived-append, none-ended}
 use Rattle.dist_strong.proofs.Keeping.{keeps-same}
-use Rattle.dist_strong.proofs.GroupLines.{claims-push, group-claim, installations-append}
+use Rattle.dist_strong.proofs.GroupLines.{claims-push}
 use Rattle.dist_strong.proofs.OneLine.{one-line}
 use Rattle.dist_strong.proofs.StrongLine.{strong-line}
 

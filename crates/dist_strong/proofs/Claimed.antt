@@ -19,6 +19,7 @@ use Rattle.dist_cert.specs.Accepted.{claims_in}
 use Rattle.dist_cert.specs.ClaimRules.{yes}
 use Rattle.dist_cert.specs.Form.{Word, record_text}
 use Rattle.dist_cert.specs.Groups.{claim_count, group, installations, installed_in, is_claim, IsClosedBy}
+use Rattle.dist_cert.specs.GroupLaws.{count-append}
 use Rattle.dist_cert.specs.Part.{IsNextQuestion, IsQuestionOn}
 use Rattle.dist_cert.specs.PartByRecords.{IsLine}
 use Rattle.dist_cert.specs.Refusal.{lines_text}
@@ -35,7 +36,7 @@ use Rattle.dist_strong.specs.declared.asker.Reply.TheVariants as replies
 use Rattle.dist_strong.proofs.Asked.{AskStops}
 use Rattle.dist_strong.proofs.ClaimLines.{uninstallable-line, unknown-line}
 use Rattle.dist_strong.proofs.ClaimSteps.{IsClaimLine, put-claimed}
-use Rattle.dist_strong.proofs.GroupLines.{claims-append, count-append, question-claims, reply-line}
+use Rattle.dist_strong.proofs.GroupLines.{claims-append, question-claims, reply-line}
 use Rattle.dist_strong.proofs.GroupSteps.{AreAsked, closed-here, count-after, in-group-after, question-after, window-more, window-same}
 use Rattle.dist_strong.proofs.OneLine.{BeginsLaw, TwiceLaw, lines-more, stops-after, stops-for-memory}
 use Rattle.dist_strong.proofs.SettleSteps.{AskMore, added-some}

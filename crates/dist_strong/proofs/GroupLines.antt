@@ -1,7 +1,7 @@
 -- The group of the lines of a question, behind those before.
-use Rattle.std.proofs.Common.{◌≡◌, ◌≢◌, ◌⊎◌, ⊎_elim, inl, inr, ℕ, zero, suc, ◌<◌, ◌||◌, Bool, true, false, List, [], ◌∷◌, ◌++◌, length, get_or, refl, ap, sym, ◌∙◌, append_assoc, append-nil, arith, if◌then◌else◌}
-use Rattle.std.specs.List.{AllPass, Contains, flat_map, list_any}
-use Rattle.std.proofs.lemmas.Bool.{or_right, or_parts, true≢false, false≢true}
+use Rattle.std.proofs.Common.{◌≡◌, ◌≢◌, ◌⊎◌, ⊎_elim, inl, inr, ℕ, zero, suc, ◌<◌, ◌||◌, Bool, true, false, List, [], ◌∷◌, ◌++◌, length, get_or, refl, ap, sym, ◌∙◌, append_assoc, append-nil, arith}
+use Rattle.std.specs.List.{AllPass, Contains, list_any}
+use Rattle.std.proofs.lemmas.Bool.{or_parts, true≢false, false≢true}
 use Rattle.std.proofs.lemmas.Grind.{flat_map-append}
 use Rattle.std.proofs.lemmas.List.Elements.{All-head, All-tail}
 use Rattle.dist_cert.specs.declared.records.CertRecord.{CertRecord}
@@ -9,74 +9,12 @@ use Rattle.dist_cert.specs.declared.records.CertRecord.TheVariants.{Question, De
 use Rattle.dist_cert.specs.declared.records.Claim.{Claim}
 use Rattle.dist_cert.specs.Accepted.{claim_in, claims_in}
 use Rattle.dist_cert.specs.Form.{Word}
-use Rattle.dist_cert.specs.Groups.{claim_count, claimed, group, installations, installed_in, is_claim, is_some_number, leaves_open, IsClosedBy}
+use Rattle.dist_cert.specs.Groups.{installations, installed_in, is_claim, leaves_open, IsClosedBy}
+use Rattle.dist_cert.specs.GroupLaws.{installations-append}
 use Rattle.dist_strong.specs.Asking.{IsReplyLine, is_derived, question_lines}
 use Rattle.dist_strong.specs.Words.{true_variables}
 use Rattle.dist_strong.specs.declared.asker.Reply.{Reply}
 use Rattle.dist_strong.specs.declared.asker.Reply.TheVariants as replies
-
--- ---- lines that are no claims
-
-any-push : (lines : List CertRecord) (step : CertRecord) → list_any is_claim (lines ++ step ∷ []) ≡ (list_any is_claim lines || is_claim step)
-any-push [] step = or-false (is_claim step)
-  where
-    or-false : (b : Bool) → (b || false) ≡ b
-    or-false true = refl
-    or-false false = refl
-any-push (s ∷ lines) step = ap (λ (b : Bool). is_claim s || b) (any-push lines step) ∙ sym (or-assoc (is_claim s) (list_any is_claim lines) (is_claim step))
-  where
-    or-assoc : (a b c : Bool) → ((a || b) || c) ≡ (a || (b || c))
-    or-assoc true b c = refl
-    or-assoc false b c = refl
-
--- a line that is no claim is in the group of the lines before it
-group-push : (lines : List CertRecord) (step : CertRecord) → is_claim step ≡ false → group (lines ++ step ∷ []) ≡ group lines ++ step ∷ []
-group-push [] step no_claim = by (is_claim step) no_claim
-  where
-    by : (b : Bool) → b ≡ false → (if (b || false) then [] else step ∷ []) ≡ step ∷ []
-    by true e = absurd (true≢false e)
-    by false e = refl
-group-push (s ∷ lines) step no_claim =
-    let same : list_any is_claim (s ∷ (lines ++ step ∷ [])) ≡ list_any is_claim (s ∷ lines)
-    = any-push (s ∷ lines) step ∙ ap (λ (b : Bool). list_any is_claim (s ∷ lines) || b) no_claim ∙ or-false (list_any is_claim (s ∷ lines)) in
-    ap (λ (b : Bool). if b then group (lines ++ step ∷ []) else s ∷ (lines ++ step ∷ [])) same
-    ∙ by (list_any is_claim (s ∷ lines)) (group-push lines step no_claim)
-  where
-    or-false : (b : Bool) → (b || false) ≡ b
-    or-false true = refl
-    or-false false = refl
-
-    by : (b : Bool) → group (lines ++ step ∷ []) ≡ group lines ++ step ∷ []
-        → (if b then group (lines ++ step ∷ []) else s ∷ (lines ++ step ∷ [])) ≡ (if b then group lines else s ∷ lines) ++ step ∷ []
-    by true e = e
-    by false e = refl
-
-pub group-append : (lines more : List CertRecord) → list_any is_claim more ≡ false → group (lines ++ more) ≡ group lines ++ more
-group-append lines [] none = ap group (append-nil lines) ∙ sym (append-nil (group lines))
-group-append lines (x ∷ more) none =
-    let parts = or_parts (is_claim x) (list_any is_claim more) none in
-    ap group (sym (append_assoc lines (x ∷ []) more)) ∙ group-append (lines ++ x ∷ []) more parts.1
-    ∙ ap (λ (ls : List CertRecord). ls ++ more) (group-push lines x parts.0) ∙ append_assoc (group lines) (x ∷ []) more
-
-none-claimed : (step : CertRecord) → is_claim step ≡ false → claimed step ≡ []
-none-claimed step none = by (claimed step) none
-  where
-    by : (ps : List ℕ) → is_some_number ps ≡ false → ps ≡ []
-    by [] e = refl
-    by (p ∷ ps) e = absurd (true≢false e)
-
-no-claims-count : (lines : List CertRecord) → list_any is_claim lines ≡ false → flat_map claimed lines ≡ []
-no-claims-count [] none = refl
-no-claims-count (x ∷ lines) none =
-    let parts = or_parts (is_claim x) (list_any is_claim lines) none in
-    ap (λ (ps : List ℕ). ps ++ flat_map claimed lines) (none-claimed x parts.0) ∙ no-claims-count lines parts.1
-
-pub count-append : (lines more : List CertRecord) → list_any is_claim more ≡ false → claim_count (lines ++ more) ≡ claim_count lines
-count-append lines more none =
-    ap length (flat_map-append claimed lines more ∙ ap (λ (ps : List ℕ). flat_map claimed lines ++ ps) (no-claims-count more none) ∙ append-nil (flat_map claimed lines))
-
-pub installations-append : (lines more : List CertRecord) → installations (lines ++ more) ≡ installations lines ++ installations more
-installations-append lines more = flat_map-append installed_in lines more
 
 -- ---- derived lines
 
@@ -171,29 +109,10 @@ questions-of lines between question other answer all line there =
 
 -- ---- closed questions
 
-pub closed-more : (lines more : List CertRecord) (question : List Word) (answer : CertRecord) → IsClosedBy lines question answer → IsClosedBy (lines ++ more) question answer
-closed-more lines more question answer closed = (
-  closed.0,
-  closed.1,
-  closed.2 ++ more,
-  ap (λ (ls : List CertRecord). ls ++ more) closed.3 ∙ append_assoc (closed.0 ++ Question question ∷ closed.1) (answer ∷ closed.2) more,
-  closed.4,
-)
-
 pub closed-now : (lines between : List CertRecord) (question : List Word) (answer : CertRecord) → AllPass is_derived between → IsClosedBy (lines ++ question_lines question between answer) question answer
 closed-now lines between question answer all = (lines, between, [], sym (append_assoc lines (Question question ∷ between) (answer ∷ [])), all-open between all)
 
--- ---- a claim ends the group
-
-pub group-claim : (lines : List CertRecord) (step : CertRecord) → is_claim step ≡ true → group (lines ++ step ∷ []) ≡ []
-group-claim [] step claim = by (is_claim step) claim
-  where
-    by : (b : Bool) → b ≡ true → (if (b || false) then [] else step ∷ []) ≡ []
-    by true e = refl
-    by false e = absurd (false≢true e)
-group-claim (s ∷ lines) step claim =
-    let some : list_any is_claim (s ∷ (lines ++ step ∷ [])) ≡ true = any-push (s ∷ lines) step ∙ or_right (list_any is_claim (s ∷ lines)) (is_claim step) claim in
-    ap (λ (b : Bool). if b then group (lines ++ step ∷ []) else s ∷ (lines ++ step ∷ [])) some ∙ group-claim lines step claim
+-- ---- what is claimed
 
 none-claim-in : (step : CertRecord) → is_claim step ≡ false → claim_in step ≡ []
 none-claim-in (Question literals) none = refl

@@ -12,6 +12,7 @@ use Rattle.dist_cert.specs.declared.records.CertRecord.TheVariants.{Question, Re
 use Rattle.dist_cert.specs.ClaimRules.{yes, no}
 use Rattle.dist_cert.specs.Form.{Word}
 use Rattle.dist_cert.specs.Groups.{claim_count, group, installations, installed_in, IsClosedBy, IsRefutedIn, IsUndecidedIn}
+use Rattle.dist_cert.specs.GroupLaws.{closed-more, count-append, group-append, installations-append}
 use Rattle.dist_cert.specs.Part.{IsNextQuestion, IsQuestionOn}
 use Rattle.dist_strong.specs.Asking.{AskerView, is_derived, question_lines}
 use Rattle.dist_strong.specs.Group.{GroupView, IsCandidate, IsNarrowed, is_open}
@@ -19,7 +20,7 @@ use Rattle.dist_strong.specs.Script.{Setting, matter_in}
 use Rattle.dist_strong.specs.Settling.{AreNoted, IsGroupAt, IsSettling, without}
 use Rattle.dist_strong.specs.Window.{WindowView, IsWindowAt}
 use Rattle.dist_strong.specs.Words.{true_variables}
-use Rattle.dist_strong.proofs.GroupLines.{IsAnswerLine, closed-more, closed-now, count-append, group-append, installations-append, question-claims, question-installs, questions-of}
+use Rattle.dist_strong.proofs.GroupLines.{IsAnswerLine, closed-now, question-claims, question-installs, questions-of}
 use Rattle.dist_strong.proofs.TrueOnes.{true-ones}
 
 -- ---- values that are set

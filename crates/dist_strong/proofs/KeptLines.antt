@@ -14,7 +14,7 @@ use Rattle.dist_cert.specs.LineRules.{HasRecordFault}
 use Rattle.dist_cert.specs.Part.{IsNextLine, IsPartOf}
 use Rattle.dist_cert.specs.Refusal.{line_feed, lines_text, HasLineFault}
 use Rattle.dist_cert.specs.Subject.{Matter, Subject}
-use Rattle.dist_strong.proofs.Lists.{all-at}
+use Rattle.dist_cert.specs.GroupLaws.{all-at}
 
 -- The line has a form and no fault but its length, does not stand behind the end, and is one that a part may have next.
 pub record IsKept (matter : Matter) (h : Header) (before : List CertRecord) (step : CertRecord) : Type 0 where

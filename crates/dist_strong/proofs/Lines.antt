@@ -17,11 +17,11 @@ use Rattle.dist_cert.specs.Groups.{clause_of, derived, numbered}
 use Rattle.dist_cert.specs.LineRules.{HasRecordFault, IsNoFuture}
 use Rattle.dist_cert.specs.Part.{AsksSome, IsAsking, IsNextQuestion}
 use Rattle.dist_cert.specs.PartByRecords.{IsLine}
+use Rattle.dist_cert.specs.GroupLaws.{one-open}
 use Rattle.dist_strong.specs.Asking.{IsOver}
 use Rattle.dist_strong.specs.Script.{Setting, matter_in}
 use Rattle.dist_strong.specs.Words.{words_of}
 use Rattle.dist_strong.proofs.Lists.{none-past, none-in, pairs-map}
-use Rattle.dist_strong.proofs.Opened.{one-open}
 
 -- ---- numbers are small
 

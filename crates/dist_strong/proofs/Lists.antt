@@ -5,11 +5,6 @@ use Rattle.std.proofs.lemmas.List.{get_or_at, get_or_append_left, get_or-map, le
 use Rattle.std.proofs.lemmas.Bool.{cases_lt}
 use Rattle.std.proofs.lemmas.List.Elements.{filter-append}
 
-pub all-at : {X : Type 0} (P : X → Type 0) (xs front : List X) (b : X) (cs : List X) → xs ≡ front ++ b ∷ cs → All P xs → P b
-all-at P xs front b cs e all =
-    subst P (ap (λ ys. get_or ys (length front) b) e ∙ get_or_at front b cs b (length front) refl)
-    (all (length front) b (omega (arith, ap length e, length-append front (b ∷ cs))))
-
 pub pairs-map : {X Y : Type 0} (R : Y → Y → Type 0) (f : X → Y) (xs : List X) → AllPairs (λ a b. R (f a) (f b)) xs → AllPairs R (map f xs)
 pairs-map {X} {Y} R f xs pairs i j d before within = at xs pairs (shorter xs (omega (arith, within, length-map xs f)))
   where

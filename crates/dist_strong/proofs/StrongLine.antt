@@ -14,6 +14,7 @@ use Rattle.dist_cert.specs.declared.records.CertRecord.TheVariants.{Strong}
 use Rattle.dist_cert.specs.ClaimRules.{HoldsClaim, HoldsStrong, IsInEach, OmitsPackage}
 use Rattle.dist_cert.specs.Form.{IsSmall, is_end, plain, plains, separator}
 use Rattle.dist_cert.specs.Groups.{claim_count, group, installations, installation_at, is_claim, IsRefutedIn, IsUndecidedIn}
+use Rattle.dist_cert.specs.GroupLaws.{installations-append}
 use Rattle.dist_cert.specs.LineRules.{HasRecordFault, IsNoFuture}
 use Rattle.dist_cert.specs.PartByRecords.{IsLine}
 use Rattle.dist_strong.specs.Group.{AreLeft, GroupView, HasEach, HasNoCandidate, IsLeft}
@@ -22,7 +23,6 @@ use Rattle.dist_strong.specs.Settling.{IsGroupAt, without}
 use Rattle.dist_strong.specs.Window.{WindowView, IsWindowAt, numbers_of}
 use Rattle.dist_strong.specs.Words.{true_variables}
 use Rattle.dist_strong.proofs.ClaimLines.{each-named, latest-named, named-each, next-claim, numbers-named, numbers-rising}
-use Rattle.dist_strong.proofs.GroupLines.{installations-append}
 use Rattle.dist_strong.proofs.GroupSteps.{open-from}
 use Rattle.dist_strong.proofs.Lines.{plains-small}
 use Rattle.dist_strong.proofs.Lists.{none-in}
