@@ -27,7 +27,7 @@ use Rattle.dist_app.specs.Health.{ListStage, Judges}
 use Rattle.dist_app.specs.PackagesStage.{PackagesStage}
 use Rattle.dist_app.specs.RepositoryStage.{IsEndOf, RepositoryStage}
 use Rattle.dist_app.specs.Run.{Decides, Refuses, IsGivenUp}
-use Rattle.dist_app.specs.Stages.{Ending, Goes, Ends, IsDetermined, Excludes, Then, refused}
+use Rattle.dist_app.specs.Stages.{Ending, Goes, Ends, IsDetermined, Excludes, refused}
 use Rattle.dist_app.specs.Strong.{ClausesStage, StrongStages, Sweeps}
 use Rattle.dist_app.specs.TextStage.{TextStage}
 use Rattle.dist_app.specs.Try.{ArchiveStage, Tries}

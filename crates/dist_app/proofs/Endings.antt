@@ -1,5 +1,5 @@
 -- How a run ends, from how carrying out its command does.
-use Rattle.std.proofs.Common.{◌≡◌, ◌⊎◌, ◌≤◌, ℕ, List, [], length, take, inl, inr, Option, Some, None, Result, Ok, Err, MatchResult, refl, ap, sym, ◌∙◌, subst, arith}
+use Rattle.std.proofs.Common.{◌≡◌, ℕ, List, [], inl, inr, Option, Some, None, Result, Ok, Err, MatchResult, refl, ap, sym, subst, arith}
 use Rattle.dist_base.specs.Front.{IsFrontOf}
 use Rattle.dist_outside.specs.Counts.{Rose}
 use Rattle.dist_outside.specs.Files.{Files, IsNotWriting}
@@ -14,8 +14,8 @@ use Rattle.dist_app.specs.Carried.{IsAnswered, IsRefused, Prints}
 use Rattle.dist_app.specs.Command.{CommandDecides, CommandIsGivenUp, IsApart, OnlyReadsFiles}
 use Rattle.dist_app.specs.Due.{LeavesDesk, Stops}
 use Rattle.dist_app.specs.Refusal.{status_of, refusal_text, refusal_of}
-use Rattle.dist_app.specs.Run.{Comes, Decides, IsCutShort, Leaves}
-use Rattle.dist_app.specs.Stages.{Ending, refused, answered}
+use Rattle.dist_app.specs.Run.{Comes, IsCutShort, Leaves}
+use Rattle.dist_app.specs.Stages.{refused, answered}
 use Rattle.dist_app.specs.declared.refusal.Refusal.{Refusal}
 use Rattle.dist_app.specs.declared.refusal.Refusal.TheVariants as refusal
 use Rattle.dist_app.specs.declared.status.Status.{Status}

@@ -1,7 +1,7 @@
 -- What a run of `strong` and one of `check` prove, from the end that they come to.
-use Rattle.std.proofs.Common.{◌≡◌, ◌⊎◌, ℕ, Bool, List, [], inl, inr, Option, Some, None, Result, Ok, Err, ap, sym, ◌∙◌, subst}
+use Rattle.std.proofs.Common.{◌≡◌, ℕ, Bool, List, inl, inr, Option, Some, None, Result, Ok, Err, ap, ◌∙◌, subst}
 use Rattle.dist_outside.specs.DeskView.{DeskView}
-use Rattle.dist_outside.specs.Files.{Files, file_bytes, with_file}
+use Rattle.dist_outside.specs.Files.{Files, file_bytes}
 use Rattle.dist_outside.specs.SinkView.{SinkView, Grew}
 use Rattle.dist_outside.specs.declared.limits.Limits.{Limits}
 use Rattle.dist_outside.specs.declared.trouble.WorkError.{WorkError}
@@ -9,7 +9,6 @@ use Rattle.dist_outside.specs.declared.trouble.WorkError.TheVariants as work
 use Rattle.dist_repo.specs.PackageList.{PackageList}
 use Rattle.dist_cert.specs.declared.records.Claim.{Claim}
 use Rattle.dist_cert.specs.declared.records.Header.{Header}
-use Rattle.dist_strong.specs.Sweep.{header_of}
 use Rattle.dist_check.specs.Answers.{Answers, AcceptedMeans}
 use Rattle.dist_check.specs.Checking.{OfText}
 use Rattle.dist_check.specs.declared.verdict.Verdict.{Verdict}
@@ -25,10 +24,9 @@ use Rattle.dist_app.specs.Headline.{CheckIsProved, IsCarriedOut, ProvesCheck, Pr
 use Rattle.dist_app.specs.PackagesStage.{PackagesStage}
 use Rattle.dist_app.specs.Refusal.{status_of}
 use Rattle.dist_app.specs.Run.{Decides}
-use Rattle.dist_app.specs.Stages.{Ending, Goes, answered, refused}
-use Rattle.dist_app.specs.Strong.{IsStopped, IsSwept, StrongStages, Sweeps}
+use Rattle.dist_app.specs.Stages.{Ending, Goes, answered}
+use Rattle.dist_app.specs.Strong.{IsSwept, StrongStages, Sweeps}
 use Rattle.dist_app.specs.declared.refusal.Refusal.{Refusal}
-use Rattle.dist_app.specs.declared.refusal.Refusal.TheVariants as refusal
 use Rattle.dist_app.specs.declared.status.Status.{Status}
 use Rattle.dist_app.proofs.Refused.{certificate_refuses, clauses_refuse, not_carried_out, packages_refuses, refusal_not_carried_out}
 use Rattle.dist_app.proofs.Sweeping.{ClaimsHold, sweep_means}

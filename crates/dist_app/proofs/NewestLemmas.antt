@@ -1,16 +1,14 @@
 -- The newest versions of a file are spelled with versions, as all of the file are.
-use Rattle.std.proofs.Common.{◌≡◌, ℕ, List, ◌<◌, Option, None, Some, length, get_or, inl, inr, refl, subst, sym, arith}
+use Rattle.std.proofs.Common.{◌≡◌, ℕ, List, Option, None, Some, get_or, inl, inr, subst}
 use Rattle.std.specs.Prelude.{All, Any, Contains, IfSome, IsSomeAnd}
 use Rattle.std.proofs.lemmas.List.Elements.{All-contains, Contains-get_or}
 use Rattle.dist_version.specs.Spelling.{IsVersion}
-use Rattle.dist_relation.specs.declared.atom.Atom.{Atom}
 use Rattle.dist_relation.specs.declared.atom.Bound.{Bound}
 use Rattle.dist_repo.specs.Order.{IsLatestOf}
 use Rattle.dist_repo.specs.PackageList.{PackageList}
-use Rattle.dist_repo.specs.declared.package.Package.{Package}
 use Rattle.dist_package.specs.RepositoryOf.{IsRepositoryOf}
 use Rattle.dist_package.specs.Spelled.{IsSpelled, IsSpelledAtom}
-use Rattle.dist_classes.specs.Atoms.{AreBoundsVersions, IsBoundOn}
+use Rattle.dist_classes.specs.Atoms.{AreBoundsVersions}
 use Rattle.dist_report.specs.ClassesReport.{IsClassesText}
 
 newest-spelled : (r newest : PackageList) → IsLatestOf r newest → All IsSpelled r.packages → All IsSpelled newest.packages

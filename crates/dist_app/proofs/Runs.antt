@@ -12,7 +12,7 @@ use Rattle.dist_words.specs.Table.{IsBadWords, command_of}
 use Rattle.dist_app.specs.Carried.{IsAnswered, IsRefused}
 use Rattle.dist_app.specs.Refusal.{status_of, refusal_text}
 use Rattle.dist_app.specs.Run.{Decides, Refuses, Comes, IsCutShort, IsGivenUp, IsInterrupted, IsTold, Leaves, TellsFiles, Runs}
-use Rattle.dist_app.specs.Stages.{Ending, Excludes, refused}
+use Rattle.dist_app.specs.Stages.{Ending, Excludes}
 use Rattle.dist_app.specs.Writes.{Writes}
 use Rattle.dist_app.specs.declared.refusal.Refusal.{Refusal}
 use Rattle.dist_app.specs.declared.refusal.Refusal.TheVariants as refusal

@@ -1,5 +1,5 @@
 -- What a sweep comes to, as the command tells it.
-use Rattle.std.proofs.Common.{◌≡◌, ◌≢◌, ℕ, Bool, List, [], inl, inr, Option, Result, Ok, Err, length, refl, ap, sym, subst}
+use Rattle.std.proofs.Common.{◌≡◌, ◌≢◌, ℕ, Bool, List, [], inl, inr, Option, Result, Ok, Err, length, refl, ap, subst}
 use Rattle.dist_outside.specs.Files.{Files}
 use Rattle.dist_outside.specs.DeskView.{DeskView, OnlyReads}
 use Rattle.dist_outside.specs.Counts.{Rose}
@@ -22,7 +22,7 @@ use Rattle.dist_report.specs.StrongReport.{strong_lines}
 use Rattle.dist_words.specs.CommandLine.{Strong}
 use Rattle.dist_app.specs.Claims.{claims_status}
 use Rattle.dist_app.specs.Command.{CommandDecides}
-use Rattle.dist_app.specs.Due.{LeavesCut, LeavesDesk, Stops, SweepStops}
+use Rattle.dist_app.specs.Due.{LeavesCut, Stops, SweepStops}
 use Rattle.dist_app.specs.PackagesStage.{PackagesStage}
 use Rattle.dist_app.specs.Refusal.{refusal_of}
 use Rattle.dist_app.specs.Stages.{Ending, Goes, Ends, answered, refused}

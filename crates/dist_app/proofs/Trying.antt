@@ -1,8 +1,7 @@
 -- What a trial comes to, as an end of a run.
-use Rattle.std.proofs.Common.{◌≡◌, ◌≢◌, inl, inr, ℕ, Bool, false, List, Option, Result, Ok, Err, refl, ap, sym, ◌∙◌}
+use Rattle.std.proofs.Common.{◌≡◌, ◌≢◌, inl, inr, ℕ, false, List, Option, Result, Ok, Err, refl, ap, ◌∙◌}
 use Rattle.dist_outside.specs.Files.{Files}
 use Rattle.dist_outside.specs.declared.limits.Limits.{Limits}
-use Rattle.dist_outside.specs.declared.trouble.What.{What}
 use Rattle.dist_outside.specs.declared.trouble.What.TheVariants.{Bytes, Stanzas, Clauses, Literals}
 use Rattle.dist_outside.specs.declared.trouble.WorkError.{WorkError}
 use Rattle.dist_outside.specs.declared.trouble.WorkError.TheVariants as work
@@ -14,7 +13,7 @@ use Rattle.dist_trial.specs.declared.trials.Trial.{Trial}
 use Rattle.dist_app.specs.Claims.{claims_status, marked_status}
 use Rattle.dist_app.specs.Due.{IsGivenUp}
 use Rattle.dist_app.specs.Refusal.{refusal_of}
-use Rattle.dist_app.specs.Stages.{Ending, Goes, answered}
+use Rattle.dist_app.specs.Stages.{Goes, answered}
 use Rattle.dist_app.specs.Strong.{ClausesStage}
 use Rattle.dist_app.specs.Try.{ArchiveStage, Tries, TryStages}
 use Rattle.dist_app.specs.declared.status.Status.{Status}

@@ -1,7 +1,7 @@
 -- What a run of `strong` and one of `check` prove.
-use Rattle.std.specs.Prelude.{◌≡◌, ◌↔◌, ◌≤◌, ◌^◌, ℕ, Bool, List, [], Option, Some, Contains, length}
+use Rattle.std.specs.Prelude.{◌≡◌, ◌↔◌, ◌≤◌, ◌^◌, ℕ, Bool, List, [], Some, Contains, length}
 use Rattle.dist_outside.specs.DeskView.{DeskView}
-use Rattle.dist_outside.specs.Files.{Files, IsPresent, file_bytes, with_file}
+use Rattle.dist_outside.specs.Files.{IsPresent, file_bytes, with_file}
 use Rattle.dist_outside.specs.SinkView.{SinkView, Grew}
 use Rattle.dist_outside.specs.declared.limits.Limits.{Limits}
 use Rattle.dist_clause.specs.Formula.{Literal}

@@ -1,5 +1,4 @@
-use Rattle.std.proofs.Common.{Option, sym, subst}
-use Rattle.dist_outside.specs.Files.{Files}
+use Rattle.std.proofs.Common.{sym, subst}
 use Rattle.dist_app.specs.Due.{IsGivenUp}
 use Rattle.dist_app.specs.Try.{Tries, TryStages}
 use Rattle.dist_app.specs.declared.refusal.Refusal.{Refusal}

@@ -1,4 +1,4 @@
-use Rattle.std.proofs.Common.{◌≡◌, ◌≤◌, false, length, take}
+use Rattle.std.proofs.Common.{◌≡◌, false, take}
 use Rattle.std.specs.List.{list_any}
 use Rattle.dist_report.specs.Marks.{has_mark}
 use Rattle.dist_report.proofs.marks.some_has_mark.Given as goal

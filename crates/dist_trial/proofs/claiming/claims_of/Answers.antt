@@ -1,4 +1,5 @@
 use Rattle.std.proofs.Common.{false, List, Result, Ok, Err, arith, codes, refl, sym, subst}
+use Rattle.dist_cert.specs.declared.faults.ReadCertError.TheVariants.{Work}
 use Rattle.dist_cert.specs.declared.records.Claim.{Claim}
 use Rattle.dist_now.specs.PresentSet.{PassesClauses, PassesLiterals}
 use Rattle.dist_outside.specs.DeskView.{DeskView}
@@ -8,12 +9,12 @@ use Rattle.dist_outside.specs.declared.trouble.What.TheVariants.{Clauses, Litera
 use Rattle.dist_outside.specs.declared.trouble.WorkError.{WorkError}
 use Rattle.dist_outside.specs.declared.trouble.WorkError.TheVariants.{NoMemory, TooLarge}
 use Rattle.dist_check.specs.Answers.{Answers}
-use Rattle.dist_check.specs.Checking.{OfText}
+use Rattle.dist_check.specs.Checking.{OfText, TextCause}
 use Rattle.dist_check.specs.declared.verdict.Verdict.{Verdict}
 use Rattle.dist_strong.specs.Sweep.{ComesExactly}
 use Rattle.dist_trial.specs.Trial.{AreSwept, SweptAnswers}
 use Rattle.dist_trial.proofs.Archives.{by-exit}
-use Rattle.dist_trial.proofs.Sweeps.{accepted, exact-memory, exact-none, exact-ok, not-refused, sweep-stops}
+use Rattle.dist_trial.proofs.Sweeps.{accepted, exact-memory, exact-none, exact-ok, not-large, not-refused, sweep-stops}
 use Rattle.dist_trial.proofs.claiming.claims_of.Goals as goal
 
 pub strong-requires-clause-idle : goal.strong-requires-clause-idle
@@ -109,3 +110,14 @@ returns-clause-too_many_clauses c = exact-none (TooLarge Clauses) (PassesClauses
 
 pub returns-clause-too_many_literals : goal.returns-clause-too_many_literals
 returns-clause-too_many_literals c = exact-none (TooLarge Literals) (PassesLiterals c.args.repo.now false c.args.limits.now.clauses c.args.limits.now.literals)
+
+pub unreachable-2-requires : goal.unreachable-2-requires
+unreachable-2-requires c =
+    let new : DeskView = desk_view c.strong.new.desk in
+    not-large c.texts_have_one_answer.ensures c.args.repo.now c.args.limits.now (codes "certificate") c.in_ok-desk.desk.files (desk_view c.in_ok-desk.desk) new
+    c.in-Ok.field-0 c.in-Err-TooLarge.field-0-0 c.len.ensures.in_order (refl, c.in-Ok.ensures.answers)
+    (subst (λ (e : WorkError). OfText (file_bytes new.files (codes "certificate")) (λ text. Answers c.args.repo.now c.args.limits.now text (Err e))) c.in-Err-TooLarge.field-0-is c.in-Err-TooLarge.ensures.text)
+
+pub unreachable-3-requires : goal.unreachable-3-requires
+unreachable-3-requires c =
+    subst (λ (e : WorkError). TextCause (desk_view c.strong.new.desk) (desk_view c.check.new.desk) (Work e)) c.in-Err-WriteFault.field-0-is c.in-Err-WriteFault.ensures.cause
