@@ -74,7 +74,7 @@ told_set one r members health.Healthy status line is tells = inl (tells.0, is)
 told_set one r members (health.TwoVersions p q) status line is tells = inr (tells.0, other_kind one r members (health.TwoVersions p q) is (λ e. cc))
 told_set one r members (health.Unmet p place) status line is tells = inr (tells.0, other_kind one r members (health.Unmet p place) is (λ e. cc))
 told_set one r members (health.Conflict p q) status line is tells = inr (tells.0, other_kind one r members (health.Conflict p q) is (λ e. cc))
-told_set one r members (health.EssentialMissing p) status line is tells = absurd tells
+told_set one r members (health.EssentialMissing p) status line is tells = absurd tells.1
 
 judged_set : (one : HaveOneHealth) (files : Option Files) (r : PackageList) (members : List Bool) (ending : Ending) → Judges files r members ending → IsStatusOfSet r members ending.status
 judged_set one files r members ending j =

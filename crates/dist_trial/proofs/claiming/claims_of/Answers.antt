@@ -111,13 +111,24 @@ returns-clause-too_many_clauses c = exact-none (TooLarge Clauses) (PassesClauses
 pub returns-clause-too_many_literals : goal.returns-clause-too_many_literals
 returns-clause-too_many_literals c = exact-none (TooLarge Literals) (PassesLiterals c.args.repo.now false c.args.limits.now.clauses c.args.limits.now.literals)
 
-pub unreachable-2-requires : goal.unreachable-2-requires
-unreachable-2-requires c =
+pub unreachable-requires-in-Err-TooLarge : goal.unreachable-requires-in-Err-TooLarge
+unreachable-requires-in-Err-TooLarge c =
     let new : DeskView = desk_view c.strong.new.desk in
     not-large c.texts_have_one_answer.ensures c.args.repo.now c.args.limits.now (codes "certificate") c.in_ok-desk.desk.files (desk_view c.in_ok-desk.desk) new
     c.in-Ok.field-0 c.in-Err-TooLarge.field-0-0 c.len.ensures.in_order (refl, c.in-Ok.ensures.answers)
     (subst (λ (e : WorkError). OfText (file_bytes new.files (codes "certificate")) (λ text. Answers c.args.repo.now c.args.limits.now text (Err e))) c.in-Err-TooLarge.field-0-is c.in-Err-TooLarge.ensures.text)
 
-pub unreachable-3-requires : goal.unreachable-3-requires
-unreachable-3-requires c =
+pub unreachable-unreachable-in-Err-TooLarge : goal.unreachable-unreachable-in-Err-TooLarge
+unreachable-unreachable-in-Err-TooLarge c =
+    let new : DeskView = desk_view c.strong.new.desk in
+    not-large c.texts_have_one_answer.ensures c.args.repo.now c.args.limits.now (codes "certificate") c.in_ok-desk.desk.files (desk_view c.in_ok-desk.desk) new
+    c.in-Ok.field-0 c.in-Err-TooLarge.field-0-0 c.len.ensures.in_order (refl, c.in-Ok.ensures.answers)
+    (subst (λ (e : WorkError). OfText (file_bytes new.files (codes "certificate")) (λ text. Answers c.args.repo.now c.args.limits.now text (Err e))) c.in-Err-TooLarge.field-0-is c.in-Err-TooLarge.ensures.text)
+
+pub unreachable-requires-in-Err-WriteFault : goal.unreachable-requires-in-Err-WriteFault
+unreachable-requires-in-Err-WriteFault c =
+    subst (λ (e : WorkError). TextCause (desk_view c.strong.new.desk) (desk_view c.check.new.desk) (Work e)) c.in-Err-WriteFault.field-0-is c.in-Err-WriteFault.ensures.cause
+
+pub unreachable-unreachable-in-Err-WriteFault : goal.unreachable-unreachable-in-Err-WriteFault
+unreachable-unreachable-in-Err-WriteFault c =
     subst (λ (e : WorkError). TextCause (desk_view c.strong.new.desk) (desk_view c.check.new.desk) (Work e)) c.in-Err-WriteFault.field-0-is c.in-Err-WriteFault.ensures.cause
