@@ -23,14 +23,3 @@ mod try_command;
 pub use laws::archives_have_reports;
 pub use status::Status;
 pub use top_call::{run, run_with};
-
-#[cfg(test)]
-mod check_tests;
-#[cfg(test)]
-mod classes_tests;
-#[cfg(test)]
-mod strong_tests;
-#[cfg(test)]
-mod tests;
-#[cfg(test)]
-mod try_tests;

@@ -1,0 +1,25 @@
+//! The top call, tried on memory desks: tests alone, a file of rows for each command.
+#![tactic(auto)]
+
+#[cfg(test)]
+mod check_rows;
+#[cfg(test)]
+mod classes_reports;
+#[cfg(test)]
+mod classes_rows;
+#[cfg(test)]
+mod each_call;
+#[cfg(test)]
+mod essential_rows;
+#[cfg(test)]
+mod health_rows;
+#[cfg(test)]
+mod running;
+#[cfg(test)]
+mod status_rows;
+#[cfg(test)]
+mod strong_rows;
+#[cfg(test)]
+mod trial_rows;
+#[cfg(test)]
+mod words_rows;

@@ -1,0 +1,16 @@
+//! A trial.
+use crate::running::{EMPTY, Failing, NOTHING, Row, hold};
+use std::test::Fail;
+
+// Any call of the desk would fail.
+const TRIAL: Row = Row {
+    words: &["try", "--size", "2", "--seed", "0"],
+    failing: Failing { desk: 1, ..NOTHING },
+    out: "size 2\nstrong 1\nuninstallable 0\nundecided 0\naccepted 1\n",
+    ..EMPTY
+};
+
+#[test]
+fn a_trial_is_told(rt: HostRuntime) -> Result<(), Fail> {
+    Ok(hold(&rt, &[TRIAL])?)
+}
