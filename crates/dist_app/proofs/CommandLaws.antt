@@ -1,7 +1,8 @@
 -- Where the desk tells its files, a refusal that comes before anything is written is the only end of a command.
 use Rattle.std.proofs.Common.{◌≡◌, ◌≤◌, ◌<◌, ℕ, List, Bool, false, inl, inr, Option, Some, None, Result, Ok, Err, length, refl, ap, sym, ◌∙◌, subst, arith}
-use Rattle.std.specs.Prelude.{IsSome, get}
-use Rattle.dist_outside.specs.Files.{Files}
+use Rattle.std.specs.Prelude.{IsSome}
+use Rattle.std.proofs.lemmas.Bool.{false≢true}
+use Rattle.dist_outside.specs.Files.{Files, file_bytes}
 use Rattle.dist_outside.specs.declared.limits.Limits.{Limits}
 use Rattle.dist_list.specs.OneAnswer.{HasOneAnswer as ListHasOneAnswer}
 use Rattle.dist_package.specs.OneAnswer.{HasOneAnswer}
@@ -128,14 +129,15 @@ archive_determined exact files limits size seed (Ends e) (Ends o) (inr (within, 
 
 -- ---- CERT
 
-in_text : {P Q X : List ℕ → Type 0} (found : Option (List ℕ)) (Result : Type 0) → IsSome found → OfText found P → OfText found Q → ((text : List ℕ) → P text → Q text → Result) → Result
-in_text None Result present first second both = absurd present
-in_text (Some text) Result present first second both = both text first second
+in_text : (P Q : List ℕ → Type 0) (found : Option (List ℕ)) (Goal : Type 0) → IsSome found → OfText found P → OfText found Q → ((text : List ℕ) → P text → Q text → Goal) → Goal
+in_text P Q None Goal present first second both = absurd (false≢true present)
+in_text P Q (Some text) Goal present first second both = both text first second
 
 pub one_judgement : HaveOneAnswer → (files : Files) (limits : Limits) (cert : List ℕ) (r : PackageList) (result other : Result Verdict WorkError) → IsInOrder r.packages
     → IsJudged (Some files) limits cert r result → IsJudged (Some files) limits cert r other → IsOfText result → IsOfText other → other ≡ result
 one_judgement one files limits cert r result other order a b of_a of_b =
-    in_text (get files cert) (other ≡ result) a.present a.answers b.answers (λ text first second. one r limits text result other order first second of_a of_b)
+    in_text (λ text. Answers r limits text result) (λ text. Answers r limits text other) (file_bytes (Some files) cert) (other ≡ result) a.present a.answers b.answers
+    (λ text first second. one r limits text result other order first second of_a of_b)
 
 pub end_of_text : (files : Option Files) (result : Result Verdict WorkError) (ending : Ending) → IsEndOfCertificate files result ending → IsOfText result
 end_of_text files (Ok (Accepted h made)) ending end = absurd end
@@ -153,10 +155,14 @@ one_end files (Err work.ReadFault) e other is is' = absurd is
 one_end files (Err work.WriteFault) e other is is' = absurd is
 one_end files (Err work.NoMemory) e other is is' = absurd is
 
-same_accepted : (a b : Header × List Claim) → Ok {E = WorkError} (Accepted b.0 b.1) ≡ Ok (Accepted a.0 a.1) → b ≡ a
+-- an accepted first line with its claims, as an answer
+abbrev accepting : Header × List Claim → Result Verdict WorkError
+accepting a = Ok (Accepted a.0 a.1)
+
+same_accepted : (a b : Header × List Claim) → accepting b ≡ accepting a → b ≡ a
 same_accepted (h, made) (h', made') is = cc
 
-not_accepted : (files : Option Files) (result : Result Verdict WorkError) (a : Header × List Claim) (e : Ending) → IsEndOfCertificate files result e → result ≡ Ok (Accepted a.0 a.1) → ⊥
+not_accepted : (files : Option Files) (result : Result Verdict WorkError) (a : Header × List Claim) (e : Ending) → IsEndOfCertificate files result e → result ≡ accepting a → ⊥
 not_accepted files result a e end is = subst (λ (x : Result Verdict WorkError). IsEndOfCertificate files x e) is end
 
 pub certificate_determined : HaveOneAnswer → (files : Files) (limits : Limits) (cert : List ℕ) (r : PackageList) → IsInOrder r.packages → IsDetermined (CertificateStage (Some files) limits cert r)

@@ -24,10 +24,11 @@ use Rattle.dist_words.specs.CommandLine.{CommandLine, Health, Classes, Strong, C
 use Rattle.dist_words.specs.Table.{command_of}
 use Rattle.dist_app.specs.Check.{CertificateStage, CheckStages, IsEndOfCertificate, IsJudged, Reports}
 use Rattle.dist_app.specs.Claims.{claims_status}
+use Rattle.dist_app.specs.Classes.{TellsClasses}
 use Rattle.dist_app.specs.Command.{CommandDecides, CommandIsGivenUp, IsApart}
 use Rattle.dist_app.specs.Complete.{CheckIsComplete, ClassesAreComplete, Completes, HealthIsComplete, IsComplete, IsStatusOfSet, IsUndisturbed, StopsBelowBudget, StrongIsComplete, TrialIsComplete, verdict_status}
 use Rattle.dist_app.specs.Headline.{IsCarriedOut}
-use Rattle.dist_app.specs.Health.{HealthStages, Judges, ListStage, Tells}
+use Rattle.dist_app.specs.Health.{Judges, ListStage, ListStages, Tells}
 use Rattle.dist_app.specs.PackagesStage.{PackagesStage}
 use Rattle.dist_app.specs.Run.{Comes, Decides, IsCutShort, IsGivenUp, Runs}
 use Rattle.dist_app.specs.Stages.{Ending, Goes, Ends, Then, answered, refused}
@@ -85,14 +86,15 @@ health_ends : Laws → (files : Files) (limits : Limits) (packages list : List �
     → CommandDecides (Health packages list) (Some files) limits ending → IsStatusOfSet r members ending.status
 health_ends laws files limits packages list r text members ending read whole names decides =
     judged_set laws.health (Some files) r members ending
-    (then_goes (ListStage (Some files) r.packages text) _ (list_determined laws.texts (Some files) r.packages text) members names ending
-    (then_goes (TextStage (Some files) list limits.bytes) _ (text_determined files list limits.bytes) text whole ending
-    (then_goes (PackagesStage (Some files) limits packages) _ (packages_determined laws.texts files limits packages) r read ending decides)))
+    (then_goes (ListStage (Some files) r.packages text) (Judges (Some files) r) (list_determined laws.texts (Some files) r.packages text) members names ending
+    (then_goes (TextStage (Some files) list limits.bytes) (λ names. Then (ListStage (Some files) r.packages names) (Judges (Some files) r)) (text_determined files list limits.bytes) text whole ending
+    (then_goes (PackagesStage (Some files) limits packages) (λ x. ListStages (Some files) limits x list (Judges (Some files) x)) (packages_determined laws.texts files limits packages)
+    r read ending decides)))
 
 classes_end : Laws → (files : Files) (limits : Limits) (packages : List ℕ) (r : PackageList) (ending : Ending)
     → PackagesStage (Some files) limits packages (Goes r) → CommandDecides (Classes packages) (Some files) limits ending → ending.status ≡ Done
 classes_end laws files limits packages r ending read decides =
-    let tells = then_goes (PackagesStage (Some files) limits packages) _ (packages_determined laws.texts files limits packages) r read ending decides in
+    let tells = then_goes (PackagesStage (Some files) limits packages) (TellsClasses (Some files)) (packages_determined laws.texts files limits packages) r read ending decides in
     status_from ending (answered (Some files) Done tells.text) tells.is
 
 -- what a sweep leaves
@@ -108,20 +110,25 @@ sweep_comes_to : Laws → (files : Option Files) (limits : Limits) (cert : List 
 sweep_comes_to laws files limits cert essential limit r ending (inl swept) =
     inl (carried_claims ending.status swept.made (ap (λ (x : Ending). x.status) swept.is))
 sweep_comes_to laws files limits cert essential limit r ending (inr stopped) =
-    inr (stopped.text, record {
-      what = stopped.what;
-      stopped = ap (λ (x : Ending). x.status) stopped.is;
-      below = laws.budgets r essential limit limits stopped.what stopped.text stopped.full;
-      full = stopped.full;
-    }, ap (λ (x : Ending). x.files) stopped.is)
+    inr (
+      stopped.text,
+      record {
+        what = stopped.what;
+        stopped = ap (λ (x : Ending). x.status) stopped.is;
+        below = laws.budgets r essential limit limits stopped.what stopped.text stopped.full;
+        full = stopped.full;
+      },
+      ap (λ (x : Ending). x.files) stopped.is,
+    )
 
 strong_ends : Laws → (files : Files) (limits : Limits) (packages cert : List ℕ) (essential : Bool) (limit : ℕ) (r : PackageList) (ending : Ending)
     → PackagesStage (Some files) limits packages (Goes r) → ClausesStage (Some files) limits essential r (Goes tt)
     → CommandDecides (Strong packages cert essential limit) (Some files) limits ending → SweepComesTo (Some files) ending.files limits cert essential limit r ending.status
 strong_ends laws files limits packages cert essential limit r ending read kept decides =
     sweep_comes_to laws (Some files) limits cert essential limit r ending
-    (then_goes (ClausesStage (Some files) limits essential r) _ (clauses_determined (Some files) limits essential r) tt kept ending
-    (then_goes (PackagesStage (Some files) limits packages) _ (packages_determined laws.texts files limits packages) r read ending decides))
+    (then_goes (ClausesStage (Some files) limits essential r) (λ _. Sweeps (Some files) limits cert essential limit r) (clauses_determined (Some files) limits essential r) tt kept ending
+    (then_goes (PackagesStage (Some files) limits packages) (λ x. Then (ClausesStage (Some files) limits essential x) (λ _. Sweeps (Some files) limits cert essential limit x))
+    (packages_determined laws.texts files limits packages) r read ending decides))
 
 abbrev TrialComesTo : Limits → PackageList → Status → Type 0
 TrialComesTo limits r status = IsCarriedOut status ⊎ ((text : List ℕ) × StopsBelowBudget r false 10000 limits status text)
@@ -129,20 +136,23 @@ TrialComesTo limits r status = IsCarriedOut status ⊎ ((text : List ℕ) × Sto
 trial_comes_to : Laws → (files : Option Files) (limits : Limits) (size : ℕ) (r : PackageList) (ending : Ending) → Tries files limits size r ending → TrialComesTo limits r ending.status
 trial_comes_to laws files limits size r ending (inl tried) = inl (carried_claims ending.status tried.made (ap (λ (x : Ending). x.status) tried.is))
 trial_comes_to laws files limits size r ending (inr stopped) =
-    inr (stopped.text, record {
-      what = stopped.what;
-      stopped = ap (λ (x : Ending). x.status) stopped.is;
-      below = laws.budgets r false 10000 limits stopped.what stopped.text stopped.full;
-      full = stopped.full;
-    })
+    inr (
+      stopped.text,
+      record {
+        what = stopped.what;
+        stopped = ap (λ (x : Ending). x.status) stopped.is;
+        below = laws.budgets r false 10000 limits stopped.what stopped.text stopped.full;
+        full = stopped.full;
+      },
+    )
 
 trial_ends : Laws → (files : Option Files) (limits : Limits) (size seed : ℕ) (r : PackageList) (ending : Ending)
     → ArchiveStage files limits size seed (Goes r) → ClausesStage files limits false r (Goes tt)
     → CommandDecides (Try size seed) files limits ending → TrialComesTo limits r ending.status
 trial_ends laws files limits size seed r ending made kept decides =
     trial_comes_to laws files limits size r ending
-    (then_goes (ClausesStage files limits false r) _ (clauses_determined files limits false r) tt kept ending
-    (then_goes (ArchiveStage files limits size seed) _ (archive_determined laws.texts files limits size seed) r made ending decides))
+    (then_goes (ClausesStage files limits false r) (λ _. Tries files limits size r) (clauses_determined files limits false r) tt kept ending
+    (then_goes (ArchiveStage files limits size seed) (λ x. Then (ClausesStage files limits false x) (λ _. Tries files limits size x)) (archive_determined laws.texts files limits size seed) r made ending decides))
 
 -- the one answer of CERT
 abbrev CheckComesTo : Option Files → Limits → (cert : List ℕ) → PackageList → Status → Type 0
@@ -160,20 +170,29 @@ end_status files (Err work.NoMemory) ending end = absurd end
 
 check_comes_to : Laws → (files : Files) (limits : Limits) (packages cert : List ℕ) (r : PackageList) (ending : Ending) → PackagesStage (Some files) limits packages (Goes r)
     → Then (CertificateStage (Some files) limits cert r) (Reports (Some files) r) ending → CheckComesTo (Some files) limits cert r ending.status
-check_comes_to laws files limits packages cert r ending read (inl (answer, judged, end)) =
-    (answer, end_of_text (Some files) answer ending end, judged, end_status (Some files) answer ending end,
-    λ other of_other judged'. one_judgement laws.texts.certificates files limits cert r answer other (in_order (Some files) limits packages r read) judged judged'
-    (end_of_text (Some files) answer ending end) of_other)
-check_comes_to laws files limits packages cert r ending read (inr (accepted, judged, (means, is))) =
-    (Ok (verdict.Accepted accepted.0 accepted.1), tt, judged, ap (λ (x : Ending). x.status) is,
-    λ other of_other judged'. one_judgement laws.texts.certificates files limits cert r (Ok (verdict.Accepted accepted.0 accepted.1)) other
-    (in_order (Some files) limits packages r read) judged judged' tt of_other)
+check_comes_to laws files limits packages cert r ending read (inl (answer, judged, end)) = (
+  answer,
+  end_of_text (Some files) answer ending end,
+  judged,
+  end_status (Some files) answer ending end,
+  λ other of_other judged'. one_judgement laws.texts.certificates files limits cert r answer other (in_order (Some files) limits packages r read) judged judged'
+      (end_of_text (Some files) answer ending end) of_other,
+)
+check_comes_to laws files limits packages cert r ending read (inr (accepted, judged, (means, is))) = (
+  Ok (verdict.Accepted accepted.0 accepted.1),
+  tt,
+  judged,
+  ap (λ (x : Ending). x.status) is,
+  λ other of_other judged'. one_judgement laws.texts.certificates files limits cert r (Ok (verdict.Accepted accepted.0 accepted.1)) other
+      (in_order (Some files) limits packages r read) judged judged' tt of_other,
+)
 
 check_ends : Laws → (files : Files) (limits : Limits) (packages cert : List ℕ) (r : PackageList) (ending : Ending) → PackagesStage (Some files) limits packages (Goes r)
     → CommandDecides (Check packages cert) (Some files) limits ending → CheckComesTo (Some files) limits cert r ending.status
 check_ends laws files limits packages cert r ending read decides =
     check_comes_to laws files limits packages cert r ending read
-    (then_goes (PackagesStage (Some files) limits packages) _ (packages_determined laws.texts files limits packages) r read ending decides)
+    (then_goes (PackagesStage (Some files) limits packages) (λ x. Then (CertificateStage (Some files) limits cert x) (Reports (Some files) x)) (packages_determined laws.texts files limits packages)
+    r read ending decides)
 
 -- ---- all
 

@@ -1,3 +1,4 @@
+pub mod CertificateStages
 pub mod CommandLaws
 pub mod Completes
 pub mod Due

@@ -159,8 +159,19 @@ pub(crate) const MISSING: Row = Row {
     ..TEN
 };
 
-const FAULTS: [Row; 2] = [
+// PACKAGES is taken apart before CERT is looked for.
+const BAD_BEFORE_MISSING: Row = Row {
+    words: &["check", "packages", "missing"],
+    packages: "Package: a\n",
+    status: Status::BadPackages,
+    out: "",
+    err: "distfuture: bad packages at line 1: NoVersion\n",
+    ..TEN
+};
+
+const FAULTS: [Row; 3] = [
     MISSING,
+    BAD_BEFORE_MISSING,
     Row {
         failing: Failing { out: 2, ..NOTHING },
         status: Status::WriteFault,

@@ -158,7 +158,15 @@ pub(crate) const NOT_MADE: Row = Row {
 
 // The calls of the desk: a start and a read that comes to the end, then the file is made (3); eight writes are the first line
 // (4 to 11), one is the last line (12); then the file is closed (13).
-const FAULTS: [Row; 8] = [
+const FAULTS: [Row; 9] = [
+    Row {
+        words: &["strong", "missing", "cert"],
+        status: Status::ReadFault,
+        out: "",
+        err: "distfuture: read fault\n",
+        after: After::AsBefore,
+        ..NONE
+    },
     Row {
         failing: Failing { out: 2, ..NOTHING },
         out: "report: \"s",

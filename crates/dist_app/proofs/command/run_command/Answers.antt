@@ -1,6 +1,7 @@
+use Rattle.dist_app.specs.Check.{CheckStages, Reports}
 use Rattle.dist_app.specs.Health.{HealthStages, Judges}
 use Rattle.dist_app.specs.Try.{Tries, TryStages}
-use Rattle.dist_words.specs.CommandLine.{Health, Try}
+use Rattle.dist_words.specs.CommandLine.{Check, Health, Try}
 use Rattle.dist_outside.specs.DeskView.{DeskView}
 use Rattle.dist_app.proofs.Due.{apart_stops, ok_more, err_more, read_answers, due_stops}
 use Rattle.dist_app.proofs.command.run_command.Goals as goal
@@ -15,6 +16,13 @@ returns-in-Health-clause-stops g c =
     rw c.in-Health.is (err_more c.run_health.result _ _ (λ why. due_stops (Health c.in-Health.files.packages.now c.in-Health.files.list.now) c.args.limits.now
     (HealthStages (g.D.Desk.view c.args.desk.now).files c.args.limits.now c.in-Health.files.packages.now c.in-Health.files.list.now (Judges (g.D.Desk.view c.args.desk.now).files))
     (g.D.Desk.view c.args.desk.now) (g.D.Desk.view c.run_health.new.desk) why (λ ending decides. decides) (λ apart. apart) c.run_health.ensures.only_reads) c.run_health.ensures.due)
+
+pub returns-in-Check-clause-stops : goal.returns-in-Check-clause-stops
+returns-in-Check-clause-stops g c =
+    let desk : DeskView = g.D.Desk.view c.args.desk.now in
+    rw c.in-Check.is (err_more c.run_check.result _ _ (λ why. due_stops (Check c.in-Check.files.packages.now c.in-Check.files.cert.now) c.args.limits.now
+    (CheckStages desk.files c.args.limits.now c.in-Check.files.packages.now c.in-Check.files.cert.now (Reports desk.files))
+    desk (g.D.Desk.view c.run_check.new.desk) why (λ ending decides. decides) (λ apart. apart) c.run_check.ensures.only_reads) c.run_check.ensures.due)
 
 pub returns-in-Try-clause-answers : goal.returns-in-Try-clause-answers
 returns-in-Try-clause-answers g c =
