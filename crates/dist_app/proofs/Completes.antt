@@ -1,5 +1,5 @@
 -- What an undisturbed run comes to, from the end that it promises.
-use Rattle.std.proofs.Common.{◌≡◌, ◌⊎◌, ℕ, Bool, false, List, inl, inr, Option, Some, None, Result, Ok, Err, length, refl, ap, sym, ◌∙◌, subst}
+use Rattle.std.proofs.Common.{◌≡◌, ◌⊎◌, ℕ, Bool, false, List, inl, inr, Option, Some, Result, Ok, Err, length, ap, sym, ◌∙◌, subst}
 use Rattle.dist_outside.specs.Counts.{Rose}
 use Rattle.dist_outside.specs.DeskView.{DeskView}
 use Rattle.dist_outside.specs.Files.{Files, with_file}
@@ -9,12 +9,10 @@ use Rattle.dist_outside.specs.declared.trouble.What.{What}
 use Rattle.dist_outside.specs.declared.trouble.WorkError.{WorkError}
 use Rattle.dist_outside.specs.declared.trouble.WorkError.TheVariants as work
 use Rattle.dist_repo.specs.PackageList.{PackageList}
-use Rattle.dist_repo.specs.declared.package.Package.{Package}
 use Rattle.dist_now.specs.Health.{IsHealth}
 use Rattle.dist_now.specs.declared.kinds.Health.{Health as Judgement}
 use Rattle.dist_now.specs.declared.kinds.Health.TheVariants as health
 use Rattle.dist_cert.specs.declared.records.Claim.{Claim}
-use Rattle.dist_cert.specs.declared.records.Header.{Header}
 use Rattle.dist_strong.specs.Budget.{IsBelowBudget}
 use Rattle.dist_strong.specs.Sweep.{IsFull}
 use Rattle.dist_check.specs.Answers.{IsOfText}
@@ -22,24 +20,24 @@ use Rattle.dist_check.specs.declared.verdict.Verdict.{Verdict}
 use Rattle.dist_check.specs.declared.verdict.Verdict.TheVariants as verdict
 use Rattle.dist_words.specs.CommandLine.{CommandLine, Health, Classes, Strong, Check, Try}
 use Rattle.dist_words.specs.Table.{command_of}
-use Rattle.dist_app.specs.Check.{CertificateStage, CheckStages, IsEndOfCertificate, IsJudged, Reports}
+use Rattle.dist_app.specs.Check.{CertificateStage, IsEndOfCertificate, IsJudged, Reports}
 use Rattle.dist_app.specs.Claims.{claims_status}
 use Rattle.dist_app.specs.Classes.{TellsClasses}
 use Rattle.dist_app.specs.Command.{CommandDecides, CommandIsGivenUp, IsApart}
-use Rattle.dist_app.specs.Complete.{CheckIsComplete, ClassesAreComplete, Completes, HealthIsComplete, IsComplete, IsStatusOfSet, IsUndisturbed, StopsBelowBudget, StrongIsComplete, TrialIsComplete, verdict_status}
+use Rattle.dist_app.specs.Complete.{Completes, IsComplete, IsStatusOfSet, IsUndisturbed, StopsBelowBudget, TrialIsComplete, verdict_status}
 use Rattle.dist_app.specs.Headline.{IsCarriedOut}
 use Rattle.dist_app.specs.Health.{Judges, ListStage, ListStages, Tells}
 use Rattle.dist_app.specs.PackagesStage.{PackagesStage}
-use Rattle.dist_app.specs.Run.{Comes, Decides, IsCutShort, IsGivenUp, Runs}
-use Rattle.dist_app.specs.Stages.{Ending, Goes, Ends, Then, answered, refused}
-use Rattle.dist_app.specs.Strong.{ClausesStage, IsStopped, IsSwept, StrongStages, Sweeps}
+use Rattle.dist_app.specs.Run.{Comes, Decides, IsGivenUp, Runs}
+use Rattle.dist_app.specs.Stages.{Ending, Goes, Then, answered}
+use Rattle.dist_app.specs.Strong.{ClausesStage, Sweeps}
 use Rattle.dist_app.specs.TextStage.{TextStage}
-use Rattle.dist_app.specs.Try.{ArchiveStage, IsTried, IsTrialStopped, Tries, TryStages}
+use Rattle.dist_app.specs.Try.{ArchiveStage, Tries}
 use Rattle.dist_app.specs.declared.refusal.Refusal.{Refusal}
 use Rattle.dist_app.specs.declared.refusal.Refusal.TheVariants as refusal
 use Rattle.dist_app.specs.declared.status.Status.{Status}
-use Rattle.dist_app.specs.declared.status.Status.TheVariants.{Done, DoneWithUndecided, CertificateRefused, WriteFault, NoMemory, TooLarge, NotHealthy}
-use Rattle.dist_app.proofs.CommandLaws.{AreExact, HaveOneAnswer, one_line, archive_determined, certificate_determined, clauses_determined, end_of_text, in_order, list_determined, one_judgement, packages_determined, text_determined}
+use Rattle.dist_app.specs.declared.status.Status.TheVariants.{Done, WriteFault, NoMemory, TooLarge}
+use Rattle.dist_app.proofs.CommandLaws.{AreExact, one_line, archive_determined, clauses_determined, end_of_text, in_order, list_determined, one_judgement, packages_determined, text_determined}
 use Rattle.dist_app.proofs.Headlines.{of_line}
 use Rattle.dist_app.proofs.Refused.{claims_carried_out}
 use Rattle.dist_app.proofs.StageLaws.{then_goes}

@@ -1,6 +1,6 @@
 -- Why a chain of stages was given up, from why its parts were.
-use Rattle.std.proofs.Common.{inl, inr, refl, arith, ℕ, List, Option, Result, Ok, Err, IfOk, IfErr, sym, subst}
-use Rattle.dist_outside.specs.Files.{Files, IsNotWriting}
+use Rattle.std.proofs.Common.{inl, inr, refl, ℕ, List, Option, Result, Ok, Err, IfOk, IfErr, sym, subst}
+use Rattle.dist_outside.specs.Files.{Files}
 use Rattle.dist_outside.specs.DeskView.{DeskView, OnlyReads}
 use Rattle.dist_outside.specs.declared.limits.Limits.{Limits}
 use Rattle.dist_words.specs.CommandLine.{CommandLine}
@@ -26,10 +26,6 @@ due_later Decided old mid new refusal before after (inl (is, rose)) =
 due_later Decided old mid new refusal before after (inr (inl memory)) = inr (inl memory)
 due_later Decided old mid new refusal before after (inr (inr decided)) =
     inr (inr (subst (λ (files : Option Files). Decided (refused files refusal)) before.files_stay decided))
-
--- a part that reads nothing
-pub due_given_up : (Decided : Ending → Type 0) (old new : DeskView) (refusal : Refusal) → IsGivenUp Decided old.files refusal → IsDue Decided old new refusal
-due_given_up Decided old new refusal given_up = inr given_up
 
 pub ok_more : {X E : Type 0} (result : Result X E) (P Q : X → Type 0) → ((value : X) → P value → Q value) → IfOk result P → IfOk result Q
 ok_more (Ok value) P Q more has = more value has
@@ -58,7 +54,3 @@ pub read_answers : (line : CommandLine) (limits : Limits) (old new : DeskView) (
     → CommandDecides line old.files limits (answered old.files status text) → CommandDecides line old.files limits (answered new.files status text)
 read_answers line limits old new status text reads decides =
     subst (λ (files : Option Files). CommandDecides line old.files limits (answered files status text)) (sym reads.files_stay) decides
-
--- a desk that nothing is done with
-pub untouched : (desk : DeskView) → IsNotWriting desk.mode → OnlyReads desk desk
-untouched desk not_writing = record { files_stay = refl; not_writing = not_writing; read_faults_stand = omega arith; write_faults_stay = refl }

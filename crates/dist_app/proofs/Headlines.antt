@@ -1,30 +1,22 @@
 -- What a run of `strong` and one of `check` prove, from the end that they come to.
-use Rattle.std.proofs.Common.{◌≡◌, ℕ, Bool, List, inl, inr, Option, Some, None, Result, Ok, Err, ap, ◌∙◌, subst}
+use Rattle.std.proofs.Common.{◌≡◌, ℕ, Bool, List, inl, inr, Option, Some, None, ap, ◌∙◌, subst}
 use Rattle.dist_outside.specs.DeskView.{DeskView}
-use Rattle.dist_outside.specs.Files.{Files, file_bytes}
+use Rattle.dist_outside.specs.Files.{Files}
 use Rattle.dist_outside.specs.SinkView.{SinkView, Grew}
 use Rattle.dist_outside.specs.declared.limits.Limits.{Limits}
-use Rattle.dist_outside.specs.declared.trouble.WorkError.{WorkError}
-use Rattle.dist_outside.specs.declared.trouble.WorkError.TheVariants as work
 use Rattle.dist_repo.specs.PackageList.{PackageList}
 use Rattle.dist_cert.specs.declared.records.Claim.{Claim}
 use Rattle.dist_cert.specs.declared.records.Header.{Header}
-use Rattle.dist_check.specs.Answers.{Answers, AcceptedMeans}
-use Rattle.dist_check.specs.Checking.{OfText}
-use Rattle.dist_check.specs.declared.verdict.Verdict.{Verdict}
-use Rattle.dist_check.specs.declared.verdict.Verdict.TheVariants as verdict
-use Rattle.dist_report.specs.StrongReport.{strong_lines}
 use Rattle.dist_words.specs.CommandLine.{CommandLine, Strong, Check}
 use Rattle.dist_words.specs.Table.{command_of}
 use Rattle.dist_app.specs.Carried.{IsAnswered}
 use Rattle.dist_app.specs.Check.{CertificateStage, CheckStages, Reports}
-use Rattle.dist_app.specs.Claims.{claims_status}
 use Rattle.dist_app.specs.Command.{CommandDecides}
 use Rattle.dist_app.specs.Headline.{CheckIsProved, IsCarriedOut, ProvesCheck, ProvesStrong, StrongIsProved}
 use Rattle.dist_app.specs.PackagesStage.{PackagesStage}
 use Rattle.dist_app.specs.Refusal.{status_of}
 use Rattle.dist_app.specs.Run.{Decides}
-use Rattle.dist_app.specs.Stages.{Ending, Goes, answered}
+use Rattle.dist_app.specs.Stages.{Ending, Goes}
 use Rattle.dist_app.specs.Strong.{IsSwept, StrongStages, Sweeps}
 use Rattle.dist_app.specs.declared.refusal.Refusal.{Refusal}
 use Rattle.dist_app.specs.declared.status.Status.{Status}

@@ -15,7 +15,7 @@ use Rattle.dist_strong.specs.Sweep.{IsFull}
 use Rattle.dist_check.specs.Answers.{IsOfText}
 use Rattle.dist_check.specs.declared.verdict.Verdict.{Verdict}
 use Rattle.dist_check.specs.declared.verdict.Verdict.TheVariants.{Accepted, Refused}
-use Rattle.dist_words.specs.CommandLine.{CommandLine, Health, Classes, Strong, Check, Try}
+use Rattle.dist_words.specs.CommandLine.{Health, Classes, Strong, Check, Try}
 use Rattle.dist_words.specs.Table.{command_of}
 use Rattle.dist_app.specs.Check.{IsJudged}
 use Rattle.dist_app.specs.Claims.{claims_status}

@@ -1,5 +1,5 @@
 -- Where the check of a text stops in its first line.
-use Rattle.std.proofs.Common.{◌≡◌, ◌≢◌, ◌⊎◌, ⊎_elim, inl, inr, ℕ, zero, suc, ◌+◌, ◌<◌, ◌≤◌, Bool, List, [], ◌∷◌, ◌++◌, Ok, Err, length, refl, ap, sym, subst, ◌∙◌, append_assoc, arith, length-append}
+use Rattle.std.proofs.Common.{◌≡◌, ℕ, ◌+◌, ◌<◌, Bool, List, [], ◌∷◌, ◌++◌, Ok, Err, length, refl, ap, sym, subst, ◌∙◌, append_assoc, arith, length-append}
 use Rattle.std.proofs.lemmas.List.Sums.{sum_by-append, sum_by-cons}
 use Rattle.dist_outside.specs.declared.limits.Limits.{Limits}
 use Rattle.dist_outside.specs.declared.trouble.What.TheVariants.{Bytes, Stanzas, Variables, Clauses, Literals, Lines, LineLiterals, Certificate, RecordLine}
@@ -13,7 +13,6 @@ use Rattle.dist_repo.specs.PackageList.{PackageList}
 use Rattle.dist_cert.specs.declared.faults.CertCause.{CertCause}
 use Rattle.dist_cert.specs.declared.faults.CertCause.TheVariants as causes
 use Rattle.dist_cert.specs.declared.faults.CertFault.{CertFault}
-use Rattle.dist_cert.specs.declared.records.CertKind.TheVariants as kinds
 use Rattle.dist_cert.specs.declared.records.CertRecord.{CertRecord}
 use Rattle.dist_cert.specs.declared.records.Header.{Header}
 use Rattle.dist_cert.specs.ByRecords.{whole_line}
@@ -21,12 +20,12 @@ use Rattle.dist_cert.specs.ClearForms.{FormsAreClear}
 use Rattle.dist_cert.specs.Form.{header_text, HasHeaderForm}
 use Rattle.dist_cert.specs.OneVerdict.{has_first, one_first, one_line}
 use Rattle.dist_cert.specs.Reading.{PassesWhole}
-use Rattle.dist_cert.specs.Refusal.{line_feed, IsOneLine, BeginsWith, lines_text, certificate_text, HasFirstFault, in_order, IsFirstOf}
+use Rattle.dist_cert.specs.Refusal.{line_feed, IsOneLine, BeginsWith, lines_text, HasFirstFault, in_order, IsFirstOf}
 use Rattle.dist_check.specs.Checking.{HasInputsWithin, HasLargeInputs}
 use Rattle.dist_check.specs.Limited.{AreInputsWithin}
 use Rattle.dist_check.specs.declared.verdict.Verdict.TheVariants.{Accepted, Refused}
 use Rattle.dist_subject.specs.Present.{AreInputs, subject_of}
-use Rattle.dist_check.proofs.Stops.{Answer, Reason, IsAtPoint, passed-bytes, same-fault}
+use Rattle.dist_check.proofs.Stops.{Answer, IsAtPoint, passed-bytes, same-fault}
 
 -- The first line has this fault first.
 pub record IsFirstFaulty (r : PackageList) (inputs : Bool → List (List Literal)) (limits : Limits) (text : List ℕ) (fault : CertFault) : Type 0 where

@@ -1,6 +1,5 @@
 -- A text has one answer.
 use Rattle.std.proofs.Common.{◌≡◌, ◌⊎◌, ⊎_elim, inl, inr, ℕ, Bool, List, [], Ok, Err, refl, sym, subst}
-use Rattle.std.proofs.Math.Path.{fun_ext}
 use Rattle.dist_outside.specs.declared.limits.Limits.{Limits}
 use Rattle.dist_outside.specs.declared.trouble.What.TheVariants.{Clauses, Literals, Lines, LineLiterals, Certificate}
 use Rattle.dist_outside.specs.declared.trouble.WorkError.TheVariants.{ReadFault, NoMemory, TooLarge}

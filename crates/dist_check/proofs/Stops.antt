@@ -1,16 +1,14 @@
 -- Where the check of a text stops, and why. Two reasons at one place are the same, and none stands before another one.
-use Rattle.std.proofs.Common.{◌≡◌, ◌≢◌, ◌⊎◌, ⊎_elim, inl, inr, ℕ, zero, suc, ◌+◌, ◌-◌, ◌<◌, ◌≤◌, Bool, List, [], ◌∷◌, ◌++◌, Option, Ok, Err, Result, length, take, refl, ap, sym, subst, ◌∙◌, append_assoc, append-nil, arith, length-append}
-use Rattle.std.specs.List.{All, flat_map}
+use Rattle.std.proofs.Common.{◌≡◌, ◌⊎◌, ⊎_elim, ℕ, ◌+◌, ◌-◌, ◌<◌, ◌≤◌, Bool, List, [], ◌∷◌, ◌++◌, Ok, Err, Result, length, take, refl, ap, sym, subst, ◌∙◌, arith, length-append}
+use Rattle.std.specs.List.{All}
 use Rattle.std.proofs.lemmas.Grind.{flat_map-append}
 use Rattle.std.proofs.lemmas.List.Sums.{sum_by-append, sum_by-cons}
 use Rattle.dist_outside.specs.declared.limits.Limits.{Limits}
-use Rattle.dist_outside.specs.declared.trouble.What.{What}
 use Rattle.dist_outside.specs.declared.trouble.What.TheVariants.{Bytes, Stanzas, Variables, Clauses, Literals, Lines, LineLiterals, Certificate, RecordLine}
 use Rattle.dist_outside.specs.declared.trouble.WorkError.{WorkError}
 use Rattle.dist_outside.specs.declared.trouble.WorkError.TheVariants.{ReadFault, WriteFault, TooLarge, NoMemory}
 use Rattle.dist_clause.specs.ClauseList.{literal_count}
 use Rattle.dist_clause.specs.Formula.{Literal}
-use Rattle.dist_repo.specs.PackageList.{PackageList}
 use Rattle.dist_cert.specs.declared.faults.CertCause.{CertCause}
 use Rattle.dist_cert.specs.declared.faults.CertFault.{CertFault}
 use Rattle.dist_cert.specs.declared.records.CertRecord.{CertRecord}
@@ -18,7 +16,7 @@ use Rattle.dist_cert.specs.declared.records.CertRecord.TheVariants.{Derived}
 use Rattle.dist_cert.specs.declared.records.Claim.{Claim}
 use Rattle.dist_cert.specs.declared.records.Header.{Header}
 use Rattle.dist_cert.specs.Accepted.{claims_in}
-use Rattle.dist_cert.specs.ByRecords.{whole_line, within}
+use Rattle.dist_cert.specs.ByRecords.{within}
 use Rattle.dist_cert.specs.ClearForms.{FormsAreClear}
 use Rattle.dist_cert.specs.Form.{Word, record_text, header_text, HasForm}
 use Rattle.dist_cert.specs.Groups.{clause_of, derived, derived_in}
@@ -26,7 +24,6 @@ use Rattle.dist_cert.specs.GroupLaws.{all-at}
 use Rattle.dist_cert.specs.OneVerdict.{has_first, one_first, one_line, first_line_of, not_faulty, nothing_more, readings, IsShorter}
 use Rattle.dist_cert.specs.Reading.{PassesWhole, KeepsLimits}
 use Rattle.dist_cert.specs.Refusal.{line_feed, IsOneLine, BeginsWith, lines_text, certificate_text, HasLineFault, in_order, IsFirstOf, AreFaultless}
-use Rattle.dist_cert.specs.SomeVerdict.{split_push}
 use Rattle.dist_cert.specs.Subject.{Subject}
 use Rattle.dist_subject.specs.Completed.{KeepsNumbers}
 use Rattle.dist_check.specs.declared.verdict.Verdict.{Verdict}

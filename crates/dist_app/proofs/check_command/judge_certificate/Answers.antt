@@ -1,4 +1,4 @@
-use Rattle.std.proofs.Common.{inr, Ok, subst}
+use Rattle.std.proofs.Common.{Ok, subst}
 use Rattle.dist_outside.specs.DeskView.{DeskView}
 use Rattle.dist_outside.specs.Files.{file_bytes}
 use Rattle.dist_check.specs.Answers.{Answers, VerdictMeans}
