@@ -24,7 +24,7 @@ ListStage files packages text (Ends ending) = (line : ℕ) × IsBadAt packages t
 -- the status that goes with a health
 abbrev pub health_status : Health → Status
 health_status Healthy = Done
-health_status health = NotHealthy
+health_status _ = NotHealthy
 
 -- the line that tells the health of a set, and the status that goes with it
 abbrev pub Tells : List Package → Health → Status → List ℕ → Type 0
