@@ -209,10 +209,15 @@ const WALKS: [Walk; 12] = [
     },
 ];
 
-#[test]
-fn each_fault_is_told(rt: HostRuntime) -> Result<(), Fail> {
-    for walk in &WALKS {
-        each_call(&rt, walk)?;
+/// Lets each call of each row fail in turn.
+fn each_walk(rt: &(impl Abort + AllocGlobal), walks: &[Walk]) -> Result<(), AllocError> {
+    for walk in walks {
+        each_call(rt, walk)?;
     }
     Ok(())
+}
+
+#[test]
+fn each_fault_is_told(rt: HostRuntime) -> Result<(), Fail> {
+    Ok(each_walk(&rt, &WALKS)?)
 }
