@@ -1,6 +1,6 @@
 -- What is counted of a repository, one after another.
-use Rattle.std.proofs.Common.{◌≡◌, ◌≢◌, ◌∙◌, ℕ, ◌+◌, ◌<◌, List, [], ◌∷◌, ◌++◌, inl, inr, length, refl, sym, ap, subst, arith, length-append}
-use Rattle.std.specs.Prelude.{◌⊎◌, slice_index_or, sum_by}
+use Rattle.std.proofs.Common.{◌≡◌, ◌∙◌, ℕ, ◌+◌, List, [], ◌∷◌, ◌++◌, inl, inr, length, refl, sym, ap, subst, arith, length-append}
+use Rattle.std.specs.Prelude.{◌⊎◌, slice_index_or}
 use Rattle.std.proofs.lemmas.Bool.{cases_lt}
 use Rattle.std.proofs.lemmas.List.{get_or_append_left, get_or_push}
 use Rattle.std.proofs.lemmas.List.Sums.{sum_by_push}
@@ -15,7 +15,8 @@ use Rattle.dist_package.specs.OneAnswer.{HasOneAnswer}
 use Rattle.dist_package.specs.declared.error.Fault.{Fault}
 use Rattle.dist_package.specs.declared.error.PackagesError.{PackagesError}
 use Rattle.dist_package.specs.declared.error.PackagesError.TheVariants.{Bad, TooMany, NoMemory}
-use Rattle.dist_bench.specs.Packages.{HasNoPackages, HaveClasses, IsFileOf}
+use Rattle.dist_bench.specs.Counted.{counted}
+use Rattle.dist_bench.specs.Packages.{HasNoPackages, HaveClasses}
 use Rattle.dist_bench.specs.declared.error.JobError.TheVariants.{NoPackages}
 
 -- a file that is refused has no repository
@@ -53,3 +54,12 @@ have-more r clusters first number list before here = record {
   ];
   is = ap (λ (n : ℕ). n + length list) before.is ∙ sym (sum_by_push (λ (l : List Class). length l) before.lists list);
 }
+
+-- three counts, one behind the other
+pub three-counts : (first second third : List ℕ) (a b d a-told d-told : ℕ) (one two three : List ℕ) → one ≡ counted a-told first → a-told ≡ a →
+    two ≡ one ++ counted b second → three ≡ two ++ counted d-told third → d-told ≡ d →
+    three ≡ (counted a first ++ counted b second) ++ counted d third
+three-counts first second third a b d a-told d-told one two three is-one is-a is-two is-three is-d =
+    is-three
+    ∙ ap (λ (text : List ℕ). text ++ counted d-told third) (is-two ∙ ap (λ (text : List ℕ). text ++ counted b second) (is-one ∙ ap (λ (n : ℕ). counted n first) is-a))
+    ∙ ap (λ (n : ℕ). (counted a first ++ counted b second) ++ counted n third) is-d

@@ -1,7 +1,6 @@
 -- The space of the futures of a Packages file, at mode plain, and its number of variables.
 use Rattle.std.specs.Prelude.{◌≡◌, ◌⊎◌, ℕ, false, List, codes, length}
 use Rattle.dist_base.specs.declared.TheConstants.{MAX_VARIABLES}
-use Rattle.dist_repo.specs.PackageList.{PackageList}
 use Rattle.dist_space.specs.Space.{SpaceView}
 use Rattle.dist_space.specs.SpaceOf.{IsSpaceOf, HasMoreVariables}
 use Rattle.dist_bench.specs.Counted.{counted}

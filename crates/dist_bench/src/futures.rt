@@ -1,5 +1,5 @@
 //! Makes the space of the futures of a Packages file, and counts its variables.
-ghost use Rattle.std.specs.Prelude.{◌≡◌};
+ghost use Rattle.std.specs.Prelude.{◌≡◌, length};
 ghost use Rattle.dist_base.specs.Answers.{Answers};
 ghost use Rattle.dist_bench.specs.Futures.{HasNoSpace, IsVariablesText, OfSpace};
 
@@ -22,11 +22,17 @@ pub(crate) fn space_of_file(alloc: Global, text: &[u8]) -> Result<Space, JobErro
     }
 }
 
+/// How many variables the space has.
+fn variable_count(alloc: Global, text: &[u8]) -> Result<u32, JobError>
+    ensures { Answers (λ count. OfSpace text.now (λ space. count ≡ length space.meanings)) (HasNoSpace text.now) JobError.NoMemory result }
+{
+    Ok(space_of_file(alloc, text)?.variables())
+}
+
 /// How many variables the space of the newest packages of the file has.
 pub fn variables_text(alloc: Global, text: &[u8]) -> Result<Vec<u8>, JobError>
     ensures { Answers (λ answer. IsVariablesText text.now answer.items) (HasNoSpace text.now) JobError.NoMemory result }
 {
-    let space = space_of_file(alloc, text)?;
-    let variables = space.variables();
+    let variables = variable_count(alloc, text)?;
     Ok(counted(alloc, u128::from(variables), b" variables\n")?)
 }

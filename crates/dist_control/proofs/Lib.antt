@@ -1,6 +1,7 @@
 pub mod LineLemmas
 pub mod TrimLemmas
 pub mod NameLemmas
+pub mod MarkLemmas
 pub mod FieldLemmas
 pub mod StanzaLemmas
 pub mod Exactness

@@ -83,7 +83,7 @@ pub field-named : (name : List ℕ) (fields : List Field) (r : Option (Bor Field
     option_map field_text (option_copied r) ≡ find (λ field. is_same_name name field.name) (map field_text fields)
 field-named name fields r is = ap (option_map field_text) is ∙ sym (found-text name fields)
 
-some-found : (name : List ℕ) (fields : List FieldText) →
+pub some-found : (name : List ℕ) (fields : List FieldText) →
     is_some (find (λ field. is_same_name name field.name) fields) ≡ list_any (λ field. is_same_name name field.name) fields
 some-found name [] = refl
 some-found name (field ∷ fields) =

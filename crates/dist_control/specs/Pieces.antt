@@ -1,5 +1,5 @@
 -- What the private functions of the reader say: how a text is cut into lines, fields and stanzas.
-use Rattle.std.specs.Prelude.{◌≡◌, ℕ, ◌+◌, ◌^◌, ◌<◌, ◌⊎◌, true, false, List, [], ◌∷◌, ◌++◌, Some, length, map, take, drop}
+use Rattle.std.specs.Prelude.{◌≡◌, ℕ, ◌+◌, ◌-◌, ◌*◌, ◌%◌, ◌^◌, ◌<◌, ◌⊎◌, Bool, true, false, List, [], ◌∷◌, ◌++◌, Some, length, map, take, drop, get_or}
 use Rattle.std.specs.List.{list_any, flat_map, after_first}
 use Rattle.std.specs.Str.{bytes_eq}
 use Rattle.dist_control.specs.Bytes.{line_feed, is_colon, is_blank, is_continuation, is_field_name}
@@ -127,3 +127,17 @@ folded_names fields = map (λ field. folded field.name) fields
 abbrev pub AreLateNames : List FieldText → List (List ℕ) → Type 0
 AreLateNames fields names =
     (name : List ℕ) → list_any (bytes_eq name) names ≡ list_any (bytes_eq name) (drop early_fields (folded_names fields))
+
+-- the mark of a name in lower case: of its first byte, its last and its length
+abbrev pub mark_of : List ℕ → ℕ
+mark_of name = (3 * get_or name 0 0 + 5 * get_or name (length name - 1) 0 + length name % 64) % 64
+
+-- the marks of the names of these fields are all set
+abbrev pub AreSet : List Bool → List FieldText → Type 0
+AreSet marks [] = Unit {0}
+AreSet marks (field ∷ fields) = (get_or marks (mark_of (folded field.name)) false ≡ true) × AreSet marks fields
+
+-- a table of marks in which those of the names of these fields are set
+pub record AreMarked (marks : List Bool) (fields : List FieldText) : Type 0 where
+  pub size : length marks ≡ 64
+  pub set : AreSet marks fields

@@ -5,6 +5,7 @@ ghost use Rattle.std.specs.Option.{option_map};
 ghost use Rattle.std.specs.List.{list_any};
 ghost use Rattle.dist_control.specs.Fields.{is_same_name};
 
+use crate::marks::{MARKS, mark_of};
 use crate::names::NameSet;
 use smallvec::SmallVec;
 use std::alloc::{AllocError, Global};
@@ -26,6 +27,8 @@ pub struct Field<'a> {
 #[derive(Drop)]
 pub struct Fields<'a> {
     items: SmallVec<Field<'a>, 24>,
+    /// The marks of their names: a name whose mark is not here is none of theirs, and they are not looked through for it.
+    marks: [bool; MARKS],
 }
 
 impl<'a> Model for Fields<'a> {
@@ -35,6 +38,10 @@ impl<'a> Model for Fields<'a> {
     ghost Value = { List FieldText };
 
     ghost view = { λ fields. map field_text fields.items.items };
+
+    ghost use Rattle.dist_control.specs.Pieces.{AreMarked};
+
+    ghost invariant = { λ fields. AreMarked fields.marks (map field_text fields.items.items) };
 }
 
 /// One stanza, and the number of its first line.
@@ -70,6 +77,7 @@ fn early<'f, 'a>(fields: &'f [Field<'a>]) -> &'f [Field<'a>]
 }
 
 impl<'a> Fields<'a> {
+    ghost use Rattle.std.specs.Prelude.{false};
     ghost use Rattle.dist_control.specs.FieldText.{field_text};
     ghost use Rattle.dist_control.specs.Pieces.{early_fields};
 
@@ -78,21 +86,42 @@ impl<'a> Fields<'a> {
     {
         Fields {
             items: SmallVec::new(alloc),
+            marks: [false; MARKS],
         }
     }
 
     pub(crate) fn push(&mut self, field: Field<'a>) -> Result<(), AllocError>
         ensures ok { OnOk result (self.new ≡ self.old ++ field_text field.entry ∷ []) }
     {
+        let mark = mark_of(field.name);
         self.items.push(field)?;
+        self.marks[mark] = true;
         Ok(())
+    }
+
+    /// Whether a field may have this name.
+    fn may_have(&self, name: &[u8]) -> bool
+        ensures { result ≡ false → list_any (λ field. is_same_name name.now field.name) self.now ≡ false }
+    {
+        self.marks[mark_of(name)]
     }
 
     /// Whether one of the early fields has this name.
     fn has_early_name(&self, name: &[u8]) -> bool
         ensures { result ≡ list_any (λ field. is_same_name name.now field.name) (take early_fields self.now) }
     {
-        field_named(early(self.items.as_slice()), name).is_some()
+        self.may_have(name) && field_named(early(self.items.as_slice()), name).is_some()
+    }
+
+    /// The first field of this name.
+    fn named(&self, name: &[u8]) -> Option<&Field<'a>>
+        ensures { option_map field_text (option_copied result)
+            ≡ find (λ field. is_same_name name.now field.name) self.now }
+    {
+        if !self.may_have(name) {
+            return None;
+        }
+        field_named(self.items.as_slice(), name)
     }
 
     /// How many fields there are.
@@ -119,7 +148,7 @@ impl<'a> Stanza<'a> {
         ensures { option_map field_text (option_copied result)
             ≡ find (λ field. is_same_name name.now field.name) self.now.fields }
     {
-        field_named(self.fields.items.as_slice(), name)
+        self.fields.named(name)
     }
 }
 

@@ -9,6 +9,7 @@ mod field;
 mod field_list;
 mod laws;
 mod line;
+mod marks;
 mod names;
 mod reader;
 

@@ -1,5 +1,5 @@
 //! Worked rows of `check`: certificates that are accepted, refused, too large, or not read.
-use crate::running::{EMPTY, Failing, NOTHING, Row, hold};
+use crate::running::{EMPTY, Failing, NOTHING, Row, Table, hold};
 use dist_app::Status;
 use dist_outside::What;
 use std::test::Fail;
@@ -57,11 +57,6 @@ undecided_pairs: []
     ..TEN
 };
 
-#[test]
-fn certificates_are_accepted(rt: HostRuntime) -> Result<(), Fail> {
-    Ok(hold(&rt, &[TEN, UNDECIDED])?)
-}
-
 const REFUSED: Row = Row {
     status: Status::CertificateRefused,
     out: "",
@@ -114,11 +109,6 @@ const REFUSALS: [Row; 6] = [
     },
 ];
 
-#[test]
-fn faults_of_certificates_are_told(rt: HostRuntime) -> Result<(), Fail> {
-    Ok(hold(&rt, &REFUSALS)?)
-}
-
 const STOPPED: Row = Row {
     status: Status::TooLarge,
     out: "",
@@ -144,11 +134,6 @@ const LIMITS: [Row; 3] = [
         ..UNDECIDED
     },
 ];
-
-#[test]
-fn limits_are_kept(rt: HostRuntime) -> Result<(), Fail> {
-    Ok(hold(&rt, &LIMITS)?)
-}
 
 /// No certificate of that name.
 pub(crate) const MISSING: Row = Row {
@@ -181,7 +166,14 @@ const FAULTS: [Row; 3] = [
     },
 ];
 
+const TABLES: [Table; 4] = [
+    ("certificates are accepted", &[TEN, UNDECIDED]),
+    ("faults of certificates are told", &REFUSALS),
+    ("limits are kept", &LIMITS),
+    ("faults are told", &FAULTS),
+];
+
 #[test]
-fn faults_are_told(rt: HostRuntime) -> Result<(), Fail> {
-    Ok(hold(&rt, &FAULTS)?)
+fn certificates_are_judged(rt: HostRuntime) -> Result<(), Fail> {
+    Ok(hold(&rt, &TABLES)?)
 }

@@ -3,7 +3,7 @@ use crate::classes_reports::{
     ALONE_REPORT, ANY_REPORT, BOUNDS_REPORT, CUT_REPORT, NEAR_REPORT, NEW_NAME_REPORT,
     NO_NAMES_REPORT, PYTHON_REPORT, TOGETHER_REPORT,
 };
-use crate::running::{EMPTY, Failing, NOTHING, Row, hold};
+use crate::running::{EMPTY, Failing, NOTHING, Row, Table, hold};
 use dist_app::Status;
 use dist_outside::What;
 use std::test::Fail;
@@ -41,11 +41,6 @@ Package: b\nSource: a (1)\nVersion: 1+b1\nArchitecture: all\n",
     },
 ];
 
-#[test]
-fn bounds_cut_classes(rt: HostRuntime) -> Result<(), Fail> {
-    Ok(hold(&rt, &CUTS)?)
-}
-
 const NAMES: [Row; 3] = [
     Row {
         packages: "Package: p\nVersion: 1\nArchitecture: all\nDepends: foo (<< 1)\n",
@@ -65,11 +60,6 @@ const NAMES: [Row; 3] = [
     },
 ];
 
-#[test]
-fn new_names_are_told(rt: HostRuntime) -> Result<(), Fail> {
-    Ok(hold(&rt, &NAMES)?)
-}
-
 const PYTHON: &str = "Package: python3
 Source: python3-defaults (3.11.2-1)
 Version: 3.11.2-1+b1
@@ -82,15 +72,11 @@ Pre-Depends: python3-minimal (= 3.11.2-1+b1)
 Tag: devel::interpreter,
  implemented-in::c";
 
-#[test]
-fn an_archive_stanza_is_told(rt: HostRuntime) -> Result<(), Fail> {
-    let row = Row {
-        packages: PYTHON,
-        out: PYTHON_REPORT,
-        ..NONE
-    };
-    Ok(hold(&rt, &[row])?)
-}
+const ARCHIVE_STANZA: Row = Row {
+    packages: PYTHON,
+    out: PYTHON_REPORT,
+    ..NONE
+};
 
 const DEPENDENCIES: [Row; 4] = [
     // Names come from dependencies, and bounds from conflicts too.
@@ -116,11 +102,6 @@ const DEPENDENCIES: [Row; 4] = [
         ..NONE
     },
 ];
-
-#[test]
-fn names_come_from_dependencies(rt: HostRuntime) -> Result<(), Fail> {
-    Ok(hold(&rt, &DEPENDENCIES)?)
-}
 
 const STOPPED: Row = Row {
     status: Status::TooLarge,
@@ -163,7 +144,15 @@ const STOPS: [Row; 5] = [
     },
 ];
 
+const TABLES: [Table; 5] = [
+    ("bounds cut classes", &CUTS),
+    ("new names are told", &NAMES),
+    ("an archive stanza is told", &[ARCHIVE_STANZA]),
+    ("names come from dependencies", &DEPENDENCIES),
+    ("stops are told", &STOPS),
+];
+
 #[test]
-fn stops_are_told(rt: HostRuntime) -> Result<(), Fail> {
-    Ok(hold(&rt, &STOPS)?)
+fn classes_are_reported(rt: HostRuntime) -> Result<(), Fail> {
+    Ok(hold(&rt, &TABLES)?)
 }

@@ -1,126 +1,218 @@
-//! Runs of which each call of the desk, then each write to `out` and to `err`, fails in turn, until a run meets no fault.
-use crate::running::{
-    After, Failing, NOTHING, Row, SINK_STEP, are_files_after, carried_out, judge,
-};
+//! Runs of which each call of the desk, or each write to `out` or to `err`, fails in turn, until a run meets no fault.
+use crate::running::{After, Ended, Failing, NOTHING, Place, Row, SINK_STEP, carried_out, judge};
 use crate::{check_rows, classes_rows, health_rows, strong_rows};
 use dist_app::Status;
 use std::alloc::AllocError;
 use std::process::Abort;
 use std::test::Fail;
 
-/// What a row comes to where this call of the desk fails. The first ones, of this number, read; then the file is made, and
-/// written.
-fn stopped(row: &Row, call: u64, reads: u64) -> Row {
-    let unread = Row {
+/// What fails in turn: the calls of the desk, of which the first ones, of this number, read; or the writes to a sink.
+#[derive(Clone, Copy)]
+enum Device {
+    Desk(u32),
+    Out,
+    Err,
+}
+
+/// The call of the device after so many fails.
+fn failing(device: Device, done: u32) -> Failing {
+    let call = u64::from(done) + 1;
+    match device {
+        Device::Desk(_) => Failing {
+            desk: call,
+            ..NOTHING
+        },
+        Device::Out => Failing {
+            out: call,
+            ..NOTHING
+        },
+        Device::Err => Failing {
+            err: call,
+            ..NOTHING
+        },
+    }
+}
+
+/// Whether a call of the device failed.
+fn has_failed(device: Device, ended: &Ended) -> bool {
+    match device {
+        Device::Desk(_) => ended.desk.faults() > 0,
+        Device::Out => ended.out.faults() > 0,
+        Device::Err => ended.err.faults() > 0,
+    }
+}
+
+/// What a row comes to where a file cannot be read.
+fn unread(row: &Row) -> Row {
+    Row {
         status: Status::ReadFault,
         out: "",
         err: "distfuture: read fault\n",
         after: After::AsBefore,
         ..*row
-    };
-    if call <= reads {
-        return unread;
     }
-    let unwritten = Row {
+}
+
+/// What a row comes to where the file is not made, or else is not written whole.
+fn unwritten(row: &Row, made: bool) -> Row {
+    let after = match row.after {
+        After::Is(text) if made => After::FrontOf(text),
+        _ => After::AsBefore,
+    };
+    Row {
         status: Status::WriteFault,
+        out: "",
         err: "distfuture: write fault\n",
-        ..unread
-    };
-    match row.after {
-        After::Is(text) if call - reads > 1 => Row {
-            after: After::FrontOf(text),
-            ..unwritten
+        after,
+        ..*row
+    }
+}
+
+/// The front of so many bytes of a text that has more, or else nothing.
+fn front(text: &'static str, count: usize) -> &'static str {
+    if count < text.len() {
+        text.get(..count).unwrap_or("")
+    } else {
+        ""
+    }
+}
+
+/// What a row comes to where the call of the device after so many fails. What the writes before it printed is there, and of
+/// the line on `err` a front is.
+fn stopped(row: &Row, device: Device, done: u32, ended: &Ended) -> Row {
+    match device {
+        Device::Desk(reads) if done < reads => unread(row),
+        Device::Desk(reads) => unwritten(row, done > reads),
+        Device::Out => Row {
+            status: Status::WriteFault,
+            out: front(row.out, done as usize * SINK_STEP),
+            err: "distfuture: write fault\n",
+            ..*row
         },
-        _ => unwritten,
+        Device::Err => Row {
+            err: front(row.err, ended.err.bytes().len()),
+            ..*row
+        },
     }
 }
 
-/// Lets each call of the desk fail in turn.
-fn each_call_of_the_desk(
-    rt: &(impl Abort + AllocGlobal),
-    row: &Row,
-    reads: u64,
-) -> Result<(), AllocError> {
-    for call in 1..1000 {
-        let desk = call as u64;
-        let failing = Failing { desk, ..NOTHING };
-        let ended = carried_out(rt.alloc(), &Row { failing, ..*row })?;
-        if ended.desk.faults() == 0 {
-            judge(rt, row, &ended, call);
+/// A row of which the calls of a device fail in turn.
+#[derive(Clone, Copy)]
+struct Walk {
+    name: &'static str,
+    device: Device,
+    row: Row,
+}
+
+/// Lets the call after so many fail. Whether there was one.
+fn fails(rt: &(impl Abort + AllocGlobal), walk: &Walk, done: u32) -> Result<bool, AllocError> {
+    let at = Place {
+        table: walk.name,
+        row: done as usize,
+    };
+    let failing = failing(walk.device, done);
+    let ended = carried_out(
+        rt.alloc(),
+        &Row {
+            failing,
+            ..walk.row
+        },
+    )?;
+    let failed = has_failed(walk.device, &ended);
+    if failed {
+        judge(
+            rt,
+            &stopped(&walk.row, walk.device, done, &ended),
+            &ended,
+            at,
+        );
+    } else {
+        judge(rt, &walk.row, &ended, at);
+    }
+    Ok(failed)
+}
+
+/// Lets each call fail in turn.
+fn each_call(rt: &(impl Abort + AllocGlobal), walk: &Walk) -> Result<(), AllocError> {
+    for done in 0..1000 {
+        if !fails(rt, walk, done)? {
             return Ok(());
         }
-        judge(rt, &stopped(row, desk, reads), &ended, call);
     }
-    assert!(rt; false, "each run has a fault");
+    assert!(rt; false, "each run of {} has a fault", walk.name);
     Ok(())
 }
 
-/// Lets each write to `out` fail in turn: what was printed until then is a front of the answer.
-fn each_write_to_out(rt: &(impl Abort + AllocGlobal), row: &Row) -> Result<(), AllocError> {
-    for call in 1..1000 {
-        let out = call as u64;
-        let failing = Failing { out, ..NOTHING };
-        let ended = carried_out(rt.alloc(), &Row { failing, ..*row })?;
-        if ended.out.faults() == 0 {
-            judge(rt, row, &ended, call);
-            return Ok(());
-        }
-        assert_eq!(rt; ended.status, Status::WriteFault, "call {call}");
-        assert_eq!(rt; ended.out.bytes().len(), (call - 1) * SINK_STEP);
-        assert!(rt; row.out.as_bytes().starts_with(ended.out.bytes()));
-        assert_eq!(rt; ended.err.bytes(), b"distfuture: write fault\n".as_slice());
-        assert!(rt; are_files_after(row, &ended.desk), "call {call}");
-    }
-    assert!(rt; false, "each run has a fault");
-    Ok(())
-}
-
-/// Lets each write to `err` fail in turn: the status stays, and what was told until then is a front of the line.
-fn each_write_to_err(rt: &(impl Abort + AllocGlobal), row: &Row) -> Result<(), AllocError> {
-    for call in 1..1000 {
-        let err = call as u64;
-        let failing = Failing { err, ..NOTHING };
-        let ended = carried_out(rt.alloc(), &Row { failing, ..*row })?;
-        if ended.err.faults() == 0 {
-            judge(rt, row, &ended, call);
-            return Ok(());
-        }
-        assert_eq!(rt; ended.status, row.status, "call {call}");
-        assert!(rt; ended.err.bytes().len() < row.err.len(), "call {call}");
-        assert!(rt; row.err.as_bytes().starts_with(ended.err.bytes()));
-        assert_eq!(rt; ended.out.bytes(), row.out.as_bytes());
-        assert!(rt; are_files_after(row, &ended.desk), "call {call}");
-    }
-    assert!(rt; false, "each run has a fault");
-    Ok(())
-}
-
-#[test]
-fn strong_tells_each_fault(rt: HostRuntime) -> Result<(), Fail> {
+const WALKS: [Walk; 12] = [
     // A start, eight reads of 56 bytes, and one that comes to the end.
-    each_call_of_the_desk(&rt, &strong_rows::TWO, 10)?;
-    each_write_to_out(&rt, &strong_rows::TWO)?;
-    Ok(())
-}
+    Walk {
+        name: "strong, its desk",
+        device: Device::Desk(10),
+        row: strong_rows::TWO,
+    },
+    Walk {
+        name: "strong, out",
+        device: Device::Out,
+        row: strong_rows::TWO,
+    },
+    // Commands that only read.
+    Walk {
+        name: "check, its desk",
+        device: Device::Desk(u32::MAX),
+        row: check_rows::TEN,
+    },
+    Walk {
+        name: "check, out",
+        device: Device::Out,
+        row: check_rows::TEN,
+    },
+    Walk {
+        name: "health, its desk",
+        device: Device::Desk(u32::MAX),
+        row: health_rows::UNMET,
+    },
+    Walk {
+        name: "health, out",
+        device: Device::Out,
+        row: health_rows::UNMET,
+    },
+    Walk {
+        name: "classes, its desk",
+        device: Device::Desk(u32::MAX),
+        row: classes_rows::CUT,
+    },
+    Walk {
+        name: "classes, out",
+        device: Device::Out,
+        row: classes_rows::CUT,
+    },
+    // A line that is cut changes no status.
+    Walk {
+        name: "strong, err",
+        device: Device::Err,
+        row: strong_rows::CUT_SHORT,
+    },
+    Walk {
+        name: "check, err",
+        device: Device::Err,
+        row: check_rows::BAD_LINE,
+    },
+    Walk {
+        name: "health, err",
+        device: Device::Err,
+        row: health_rows::BAD_DEPENDS,
+    },
+    Walk {
+        name: "classes, err",
+        device: Device::Err,
+        row: classes_rows::BAD_STANZA,
+    },
+];
 
 #[test]
-fn commands_that_only_read_tell_each_fault(rt: HostRuntime) -> Result<(), Fail> {
-    for row in [check_rows::TEN, health_rows::UNMET, classes_rows::CUT] {
-        each_call_of_the_desk(&rt, &row, u64::MAX)?;
-        each_write_to_out(&rt, &row)?;
-    }
-    Ok(())
-}
-
-#[test]
-fn a_line_that_is_cut_changes_no_status(rt: HostRuntime) -> Result<(), Fail> {
-    for row in [
-        strong_rows::CUT_SHORT,
-        check_rows::BAD_LINE,
-        health_rows::BAD_DEPENDS,
-        classes_rows::BAD_STANZA,
-    ] {
-        each_write_to_err(&rt, &row)?;
+fn each_fault_is_told(rt: HostRuntime) -> Result<(), Fail> {
+    for walk in &WALKS {
+        each_call(&rt, walk)?;
     }
     Ok(())
 }

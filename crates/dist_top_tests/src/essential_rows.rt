@@ -1,5 +1,5 @@
 //! Worked rows of essential packages, whose names every healthy installation has where the flag stands.
-use crate::running::{After, EMPTY, Row, hold};
+use crate::running::{After, EMPTY, Row, Table, hold};
 use crate::strong_rows;
 use dist_app::Status;
 use std::test::Fail;
@@ -61,11 +61,6 @@ undecided_pairs: []
         ..ESSENTIAL
     },
 ];
-
-#[test]
-fn the_flag_reaches_the_certificate(rt: HostRuntime) -> Result<(), Fail> {
-    Ok(hold(&rt, &FLAG)?)
-}
 
 // A name is met by any version, one that is not essential too.
 const VERSIONS: [Row; 3] = [
@@ -138,11 +133,6 @@ undecided_pairs: []
     },
 ];
 
-#[test]
-fn any_version_meets_an_essential_name(rt: HostRuntime) -> Result<(), Fail> {
-    Ok(hold(&rt, &VERSIONS)?)
-}
-
 const ACCEPTED: Row = Row {
     words: &["check", "packages", "cert"],
     cert: Some(
@@ -172,7 +162,13 @@ const OTHERS: [Row; 3] = [
     },
 ];
 
+const TABLES: [Table; 3] = [
+    ("the flag reaches the certificate", &FLAG),
+    ("any version meets an essential name", &VERSIONS),
+    ("the flag is of strong alone", &OTHERS),
+];
+
 #[test]
-fn the_flag_is_of_strong_alone(rt: HostRuntime) -> Result<(), Fail> {
-    Ok(hold(&rt, &OTHERS)?)
+fn essential_names_are_kept(rt: HostRuntime) -> Result<(), Fail> {
+    Ok(hold(&rt, &TABLES)?)
 }

@@ -1,5 +1,5 @@
 //! Worked rows of `health`.
-use crate::running::{EMPTY, Failing, NOTHING, Row, hold};
+use crate::running::{EMPTY, Failing, NOTHING, Row, Table, hold};
 use dist_app::Status;
 use dist_outside::What;
 use std::test::Fail;
@@ -68,11 +68,6 @@ const SETS: [Row; 6] = [
     },
 ];
 
-#[test]
-fn sets_are_judged(rt: HostRuntime) -> Result<(), Fail> {
-    Ok(hold(&rt, &SETS)?)
-}
-
 const BAD_PACKAGES: Row = Row {
     status: Status::BadPackages,
     out: "",
@@ -131,11 +126,6 @@ const BAD_FILES: [Row; 7] = [
     BAD_THIRD_LINE,
 ];
 
-#[test]
-fn bad_files_are_told(rt: HostRuntime) -> Result<(), Fail> {
-    Ok(hold(&rt, &BAD_FILES)?)
-}
-
 // The list is no list, and is not come to.
 const STOPPED: Row = Row {
     list: "?",
@@ -165,11 +155,6 @@ const LIMITS: [Row; 3] = [
         ..STOPPED
     },
 ];
-
-#[test]
-fn limits_are_kept(rt: HostRuntime) -> Result<(), Fail> {
-    Ok(hold(&rt, &LIMITS)?)
-}
 
 const FAULTS: [Row; 4] = [
     Row {
@@ -202,7 +187,14 @@ const FAULTS: [Row; 4] = [
     },
 ];
 
+const TABLES: [Table; 4] = [
+    ("sets are judged", &SETS),
+    ("bad files are told", &BAD_FILES),
+    ("limits are kept", &LIMITS),
+    ("faults are told", &FAULTS),
+];
+
 #[test]
-fn faults_are_told(rt: HostRuntime) -> Result<(), Fail> {
-    Ok(hold(&rt, &FAULTS)?)
+fn health_is_told(rt: HostRuntime) -> Result<(), Fail> {
+    Ok(hold(&rt, &TABLES)?)
 }

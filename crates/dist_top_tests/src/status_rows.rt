@@ -1,21 +1,14 @@
 //! Each status with its number and its line, but for want of memory, which no desk or sink of a test has.
-use crate::running::{Row, hold};
-use crate::{check_rows, classes_rows, health_rows, strong_rows};
-use dist_app::Status;
+use crate::running::{Place, Row, holds};
+use crate::{check_rows, classes_rows, health_rows, strong_rows, words_rows};
+use std::alloc::AllocError;
+use std::process::Abort;
 use std::test::Fail;
-
-const NO_COMMAND: Row = Row {
-    words: &["strong", "packages"],
-    status: Status::BadWords,
-    out: "",
-    err: "distfuture: bad command line\n",
-    ..check_rows::TEN
-};
 
 const NUMBERED: [(u8, Row); 10] = [
     (0, check_rows::TEN),
     (1, strong_rows::UNDECIDED),
-    (2, NO_COMMAND),
+    (2, words_rows::NO_COMMAND),
     (3, classes_rows::BAD_STANZA),
     (4, check_rows::BAD_LINE),
     (5, check_rows::MISSING),
@@ -25,11 +18,20 @@ const NUMBERED: [(u8, Row); 10] = [
     (10, health_rows::BAD_THIRD_LINE),
 ];
 
+/// A row must come to what it says, and its status have this number.
+fn has_number(rt: &(impl Abort + AllocGlobal), number: u8, row: &Row) -> Result<(), AllocError> {
+    assert_eq!(rt; row.status.number(), number);
+    let at = Place {
+        table: "each status",
+        row: usize::from(number),
+    };
+    holds(rt, row, at)
+}
+
 #[test]
 fn each_status_has_its_line(rt: HostRuntime) -> Result<(), Fail> {
-    for (number, row) in NUMBERED {
-        assert_eq!(rt; row.status.number(), number);
-        hold(&rt, &[row])?;
+    for (number, row) in &NUMBERED {
+        has_number(&rt, *number, row)?;
     }
     Ok(())
 }

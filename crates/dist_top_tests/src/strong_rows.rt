@@ -1,5 +1,5 @@
 //! Worked rows of `strong`: reports, certificates, and what is left of one where the work stops.
-use crate::running::{After, EMPTY, Failing, NOTHING, Row, hold};
+use crate::running::{After, EMPTY, Failing, NOTHING, Row, Table, hold};
 use dist_app::Status;
 use dist_outside::What;
 use std::test::Fail;
@@ -137,11 +137,6 @@ undecided_pairs: []
     },
 ];
 
-#[test]
-fn dependencies_are_reported(rt: HostRuntime) -> Result<(), Fail> {
-    Ok(hold(&rt, &REPORTS)?)
-}
-
 const UNWRITTEN: Row = Row {
     status: Status::WriteFault,
     out: "",
@@ -212,11 +207,6 @@ const FAULTS: [Row; 9] = [
     },
 ];
 
-#[test]
-fn faults_are_told(rt: HostRuntime) -> Result<(), Fail> {
-    Ok(hold(&rt, &FAULTS)?)
-}
-
 const STOPPED: Row = Row {
     status: Status::TooLarge,
     out: "",
@@ -241,11 +231,6 @@ const LIMITS: [Row; 2] = [
         ..STOPPED
     },
 ];
-
-#[test]
-fn limits_are_kept(rt: HostRuntime) -> Result<(), Fail> {
-    Ok(hold(&rt, &LIMITS)?)
-}
 
 // Five packages in each of four groups, of which a set may have one, and a package that wants five of them.
 const GROUPS: &str = "Package: a1\nVersion: 1\nProvides: a\nConflicts: a\n
@@ -307,7 +292,14 @@ undecided_pairs: []
     ..UNDECIDED
 };
 
+const TABLES: [Table; 4] = [
+    ("dependencies are reported", &REPORTS),
+    ("faults are told", &FAULTS),
+    ("limits are kept", &LIMITS),
+    ("a question is left undecided", &[UNDECIDED, DECIDED]),
+];
+
 #[test]
-fn a_question_is_left_undecided(rt: HostRuntime) -> Result<(), Fail> {
-    Ok(hold(&rt, &[UNDECIDED, DECIDED])?)
+fn strong_dependencies_are_reported(rt: HostRuntime) -> Result<(), Fail> {
+    Ok(hold(&rt, &TABLES)?)
 }

@@ -1,5 +1,5 @@
 //! A trial.
-use crate::running::{EMPTY, Failing, NOTHING, Row, hold};
+use crate::running::{EMPTY, Failing, NOTHING, Row, Table, hold};
 use std::test::Fail;
 
 // Any call of the desk would fail.
@@ -10,7 +10,9 @@ const TRIAL: Row = Row {
     ..EMPTY
 };
 
+const TABLES: [Table; 1] = [("a trial is told", &[TRIAL])];
+
 #[test]
 fn a_trial_is_told(rt: HostRuntime) -> Result<(), Fail> {
-    Ok(hold(&rt, &[TRIAL])?)
+    Ok(hold(&rt, &TABLES)?)
 }

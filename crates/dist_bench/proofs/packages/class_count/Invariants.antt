@@ -1,4 +1,4 @@
-use Rattle.std.proofs.Common.{◌≡◌, ◌*◌, ◌≤◌}
+use Rattle.std.proofs.Common.{◌*◌, ◌≤◌}
 use Rattle.dist_bench.specs.Packages.{HaveClasses}
 use Rattle.dist_bench.proofs.packages.class_count.Given as goal
 

@@ -10,8 +10,8 @@ loop-rest-preserved c =
     let line : List ℕ = c.split_line.result.0.now in
     let shorter = c.split_line.ensures.shorter in
     let first = before.fits.0 in
-    let second = before.fits.1.0 in
-    let third = before.fits.1.1 in
+    let second = before.fits.1 in
+    let third = before.fits.2 in
     record {
       done = before.done ++ line ∷ [];
       are = done-more _ _ line _ IsRead before.done before.are c.split_line.ensures.lines (reads line _ _ _ c.in_ok-dependencies.ensures c.in_ok-conflicts.ensures c.in_ok-provided.ensures);

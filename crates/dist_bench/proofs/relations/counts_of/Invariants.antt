@@ -1,4 +1,4 @@
-use Rattle.std.proofs.Common.{length, ◌+◌, ◌*◌, ◌≤◌, ◌^◌, ℕ, List}
+use Rattle.std.proofs.Common.{length, ◌+◌, ◌*◌, ◌≤◌, ℕ, List}
 use Rattle.dist_bench.proofs.LinesRead.{AreDone}
 use Rattle.dist_bench.specs.Relations.{CountsLines, IsRead}
 use Rattle.dist_bench.specs.declared.relations.Kind.TheVariants.{Depends, Conflicts, Provides}
@@ -13,8 +13,8 @@ invariant-loop-rest l = record {
   conflicts : CountsLines Conflicts done l.conflicts;
   provided : CountsLines Provides done l.provided;
   fits : (l.dependencies + length l.rest * 18446744073709551616 ≤ length l.text * 18446744073709551616)
-    × (l.conflicts + length l.rest * 18446744073709551616 ≤ length l.text * 18446744073709551616)
-    × (l.provided + length l.rest * 18446744073709551616 ≤ length l.text * 18446744073709551616);
+      × (l.conflicts + length l.rest * 18446744073709551616 ≤ length l.text * 18446744073709551616)
+      × (l.provided + length l.rest * 18446744073709551616 ≤ length l.text * 18446744073709551616);
 }
 
 abbrev pub decreases-loop-rest : goal.decreases-loop-rest

@@ -1,4 +1,4 @@
-use Rattle.std.proofs.Common.{◌≡◌, List, [], ℕ, arith, subst, sym}
+use Rattle.std.proofs.Common.{◌≡◌, List, [], ℕ, subst, sym}
 use Rattle.std.proofs.lemmas.Bool.{eqb-true}
 use Rattle.std.proofs.lemmas.List.{nil_from_length}
 use Rattle.dist_bench.proofs.LinesRead.{VersionsSoFar, versions-none, versions-more, versions-all}
