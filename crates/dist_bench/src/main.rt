@@ -1,28 +1,31 @@
 // Does one job of a library over standard input, for the measurements of bench/. The first word says which.
 #![tactic(auto)]
 
-mod clauses;
-mod present;
+mod counted;
+mod error;
+mod filled;
+mod future_clauses;
+mod futures;
+mod job;
+mod packages;
 mod relations;
-mod space;
 mod versions;
 
 use anyhow::{Result, bail};
-use std::{env, io};
+use job::{Job, answer};
+use std::env;
+use std::io::{self, Write};
 
 fn main(rt: HostRuntime) -> Result<()> {
-    let job = env::args(&rt)?.nth(1);
+    let word = env::args(&rt)?.nth(1);
+    let Some(job) = Job::of(word.as_ref().map_or("", |word| word.as_str())) else {
+        bail!("the first word is no job");
+    };
     let text = io::read_to_string(rt.alloc(), rt.reader())?;
-    match job.as_ref().map(|word| word.as_str()) {
-        Some("count-lines") => relations::print_lines(&rt, text.as_bytes()),
-        Some("count-classes") => present::print_classes(&rt, text.as_bytes()),
-        Some("count-clauses") => present::print_clauses(&rt, text.as_bytes()),
-        Some("count-future-clauses") => space::print_clauses(&rt, text.as_bytes()),
-        Some("count-future-variables") => space::print_variables(&rt, text.as_bytes()),
-        Some("count-packages") => present::print_packages(&rt, text.as_bytes()),
-        Some("fill-clauses") => clauses::print_filled(&rt, text.as_str()),
-        Some("read-relations") => relations::print_counts(&rt, text.as_bytes()),
-        Some("sort-versions") => versions::print_sorted(&rt, text.as_bytes()),
-        _ => bail!("the first word is no job"),
-    }
+    let answer = answer(rt.alloc(), job, text.as_str())?;
+    io::writer(&rt).write_all(&answer)?;
+    Ok(())
 }
+
+#[cfg(test)]
+mod tests;

@@ -1,6 +1,6 @@
 use Rattle.std.proofs.Common.{◌≡◌, ℕ, zero, suc, ◌+◌, ◌<◌, [], ◌∷◌, length, get_or, ap, sym, subst, arith}
 use Rattle.dist_clause.specs.Formula.{Literal, IsClauseOver}
-use Rattle.dist_bench.proofs.clauses.filled.Goals as goal
+use Rattle.dist_bench.proofs.filled.filled.Goals as goal
 
 -- four literals of the variables 1 to 4
 four : (a b c d : Literal) → a.variable ≡ 1 → b.variable ≡ 2 → c.variable ≡ 3 → d.variable ≡ 4 → IsClauseOver 4 (a ∷ b ∷ c ∷ d ∷ [])
@@ -22,5 +22,5 @@ four a b c d first second third fourth = record {
 pub push-requires : goal.push-requires
 push-requires c =
     let variable : Literal → ℕ = λ l. l.variable in
-    subst (λ n. IsClauseOver n (c.new.result ∷ c.new-2.result ∷ c.new-3.result ∷ c.new-4.result ∷ [])) (sym c.loop.invariant.0)
+    subst (λ n. IsClauseOver n (c.new.result ∷ c.new-2.result ∷ c.new-3.result ∷ c.new-4.result ∷ [])) (sym c.loop.invariant.variables)
     (four c.new.result c.new-2.result c.new-3.result c.new-4.result (ap variable c.new.ensures) (ap variable c.new-2.ensures) (ap variable c.new-3.ensures) (ap variable c.new-4.ensures))

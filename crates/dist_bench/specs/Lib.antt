@@ -1,0 +1,9 @@
+pub mod Counted
+pub mod Filled
+pub mod FirstLine
+pub mod FutureClauses
+pub mod Futures
+pub mod Jobs
+pub mod Packages
+pub mod Relations
+pub mod Versions

@@ -1,0 +1,117 @@
+//! Reads a Packages file, and counts what is made of it: packages, clauses of the present, classes of later versions.
+ghost use Rattle.std.specs.Prelude.{◌≡◌, ◌⊎◌, ◌++◌, ◌<◌, false, IfOk, codes, length};
+ghost use Rattle.dist_base.specs.Answers.{Answers};
+ghost use Rattle.dist_classes.specs.Answers.{AreClustersOf};
+ghost use Rattle.dist_now.specs.PresentClauses.{ArePresentClauses};
+ghost use Rattle.dist_repo.specs.Size.{IsWithinSize};
+ghost use Rattle.dist_bench.specs.Packages.{HasNoClauses, HasNoPackages, HaveClasses, IsClassesText, IsClausesText, IsFileOf, IsNewestOf, IsPackagesText, OfNewest, PassesLimits};
+
+use crate::counted::{add_counted, counted};
+use crate::error::JobError;
+use dist_base::{MAX_BYTES, MAX_CLAUSES, MAX_LITERALS, MAX_STANZAS};
+use dist_classes::{CutFinder, new_names, repository_clusters};
+use dist_clause::{ClauseSet, PushError};
+use dist_cluster::Clusters;
+use dist_now::clauses_of;
+use dist_package::{PackagesError, packages_are_exact, read_packages};
+use dist_repo::{Repository, latest_is_one};
+use std::alloc::{AllocError, Global};
+
+/// The repository of a file within the stated limits.
+fn repository_of(alloc: Global, text: &[u8]) -> Result<Repository, JobError>
+    ensures answers { Answers (IsFileOf text.now) (HasNoPackages text.now) JobError.NoMemory result }
+    ensures within_size { IfOk result IsWithinSize }
+{
+    packages_are_exact();
+    if text.len() as u64 > MAX_BYTES {
+        return Err(JobError::NoPackages);
+    }
+    match read_packages(alloc, text, MAX_STANZAS) {
+        Ok(repository) => Ok(repository),
+        Err(PackagesError::Bad(_)) => Err(JobError::NoPackages),
+        Err(PackagesError::TooMany) => Err(JobError::NoPackages),
+        Err(PackagesError::NoMemory) => Err(JobError::NoMemory),
+    }
+}
+
+/// The repository of its newest packages, which is no larger.
+pub(crate) fn newest_of(alloc: Global, text: &[u8]) -> Result<Repository, JobError>
+    ensures answers { Answers (IsNewestOf text.now) (HasNoPackages text.now) JobError.NoMemory result }
+    ensures within_size { IfOk result IsWithinSize }
+{
+    latest_is_one();
+    let repository = repository_of(alloc, text)?;
+    Ok(repository.latest()?)
+}
+
+/// How many packages the file has.
+pub fn packages_text(alloc: Global, text: &[u8]) -> Result<Vec<u8>, JobError>
+    ensures { Answers (λ answer. IsPackagesText text.now answer.items) (HasNoPackages text.now) JobError.NoMemory result }
+{
+    let repository = repository_of(alloc, text)?;
+    Ok(counted(alloc, u128::from(repository.len()), b" packages\n")?)
+}
+
+/// The clauses of the present, at mode plain.
+fn present_clauses(alloc: Global, repository: &Repository) -> Result<ClauseSet, JobError>
+    requires { IsWithinSize repository.now }
+    ensures { Answers (λ set. ArePresentClauses repository.now false set.clauses) (λ error. (error ≡ JobError.TooManyClauses) × PassesLimits repository.now)
+        JobError.NoMemory result }
+{
+    match clauses_of(alloc, repository, false, MAX_CLAUSES, MAX_LITERALS) {
+        Ok(set) => Ok(set),
+        Err(PushError::TooManyClauses) => Err(JobError::TooManyClauses),
+        Err(PushError::TooManyLiterals) => Err(JobError::TooManyClauses),
+        Err(PushError::NoMemory) => Err(JobError::NoMemory),
+    }
+}
+
+/// How many clauses of the present the packages of the file have.
+pub fn clauses_text(alloc: Global, text: &[u8]) -> Result<Vec<u8>, JobError>
+    ensures { Answers (λ answer. IsClausesText text.now answer.items) (HasNoClauses text.now) JobError.NoMemory result }
+{
+    let repository = repository_of(alloc, text)?;
+    let set = present_clauses(alloc, &repository)?;
+    Ok(counted(alloc, u128::from(set.len()), b" clauses\n")?)
+}
+
+/// How many classes the clusters of a repository have. There are not so many clusters that the number passes 128 bits.
+fn class_count(
+    alloc: Global,
+    repository: &Repository,
+    clusters: &Clusters,
+) -> Result<u128, AllocError>
+    requires { AreClustersOf repository.now clusters.now }
+    ensures { IfOk result (HaveClasses repository.now clusters.now (length clusters.now.members)) }
+{
+    let finder = CutFinder::new(alloc, repository)?;
+    let mut classes = 0u128;
+    for cluster in 0..clusters.len() {
+        let found = finder.classes_of_cluster(clusters, cluster)?;
+        let count = found.len();
+        classes += count as u128;
+    }
+    Ok(classes)
+}
+
+/// How many clusters, classes and new names a repository has.
+fn repository_classes(alloc: Global, repository: &Repository) -> Result<Vec<u8>, AllocError>
+    requires { IsWithinSize repository.now }
+    ensures { IfOk result (λ answer. IsClassesText repository.now answer.items) }
+{
+    let clusters = repository_clusters(alloc, repository)?;
+    let classes = class_count(alloc, repository, &clusters)?;
+    let names = new_names(alloc, repository)?;
+    let mut text = counted(alloc, u128::from(clusters.len()), b" clusters, ")?;
+    add_counted(&mut text, classes, b" classes, ")?;
+    add_counted(&mut text, names.len() as u128, b" new names\n")?;
+    Ok(text)
+}
+
+/// How many clusters, classes and new names the newest packages of the file have.
+pub fn classes_text(alloc: Global, text: &[u8]) -> Result<Vec<u8>, JobError>
+    ensures { Answers (λ answer. OfNewest text.now (λ r. IsClassesText r answer.items)) (HasNoPackages text.now) JobError.NoMemory result }
+{
+    let newest = newest_of(alloc, text)?;
+    Ok(repository_classes(alloc, &newest)?)
+}
