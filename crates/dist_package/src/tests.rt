@@ -4,14 +4,8 @@ mod repositories;
 
 use crate::{Fault, Kind, PackagesError, RelationField, read_packages};
 use dist_relation::RelationError;
-use dist_repo::{Package, Repository};
 use dist_version::VersionError;
 use std::alloc::Global;
-
-/// The repository of a file of few stanzas.
-fn read(alloc: Global, text: &str) -> Option<Repository> {
-    read_packages(alloc, text.as_bytes(), 10).ok()
-}
 
 /// A file, and its first fault.
 #[derive(Clone, Copy)]
@@ -158,20 +152,21 @@ const FAULTY: [Faulty; 26] = [
     },
 ];
 
-/// The first fault of a file.
-fn first_fault(alloc: Global, text: &str) -> Option<Fault> {
-    match read_packages(alloc, text.as_bytes(), 200_000) {
-        Err(PackagesError::Bad(fault)) => Some(fault),
-        _ => None,
+/// How many packages a file has, or why it is refused.
+fn packages(alloc: Global, text: &str, stanzas: u32) -> Result<u32, PackagesError> {
+    match read_packages(alloc, text.as_bytes(), stanzas) {
+        Ok(repository) => Ok(repository.len()),
+        Err(error) => Err(error),
     }
 }
 
 /// Whether a file has the fault of its row.
 fn has_fault(alloc: Global, row: &Faulty) -> bool {
-    match first_fault(alloc, row.text) {
-        Some(fault) => fault.line == row.line && fault.kind == row.kind,
-        None => false,
-    }
+    let fault = Fault {
+        line: row.line,
+        kind: row.kind,
+    };
+    packages(alloc, row.text, 200_000) == Err(PackagesError::Bad(fault))
 }
 
 /// The place of the first row whose file has another fault, or none.
@@ -224,14 +219,6 @@ const COUNTED: [Counted; 4] = [
     },
 ];
 
-/// How many packages a file has, or why it is refused.
-fn packages(alloc: Global, text: &str, stanzas: u32) -> Result<u32, PackagesError> {
-    match read_packages(alloc, text.as_bytes(), stanzas) {
-        Ok(repository) => Ok(repository.len()),
-        Err(error) => Err(error),
-    }
-}
-
 /// The place of the first row that counts otherwise, or none.
 fn first_miscounted(alloc: Global, rows: &[Counted]) -> Option<usize> {
     for place in 0..rows.len() {
@@ -246,43 +233,4 @@ fn first_miscounted(alloc: Global, rows: &[Counted]) -> Option<usize> {
 #[test]
 fn stanzas_are_counted(rt: HostRuntime) {
     assert_eq!(rt; first_miscounted(rt.alloc(), &COUNTED), None);
-}
-
-/// A stanza of Debian 12.
-const PYTHON: &str =
-    "Package: python3\nSource: python3-defaults (3.11.2-1)\nVersion: 3.11.2-1+b1\nArchitecture: amd64\nReplaces: python3-minimal (<< 3.1.2-2)\nProvides: python3-profiler\nDepends: python3.11:any (>= 3.11.2-1~),\n libpython3-stdlib (= 3.11.2-1+b1)\nPre-Depends: python3-minimal (= 3.11.2-1+b1)\nTag: devel::interpreter,\n implemented-in::c";
-
-/// Whether a package is that of the stanza.
-fn is_python(package: &Package) -> bool {
-    package.source.bytes() == b"python3-defaults".as_slice()
-        && package.source_version.text() == b"3.11.2-1".as_slice()
-        && package.depends.len() == 3
-        && package.provides.len() == 1
-        && !package.essential
-}
-
-/// Whether a repository is for amd64.
-fn is_for_amd64(repository: &Repository) -> bool {
-    match repository.architecture() {
-        Some(architecture) => architecture.bytes() == b"amd64".as_slice(),
-        None => false,
-    }
-}
-
-/// Whether the package of the stanza is the only one of a repository.
-fn has_python_alone(repository: &Repository) -> bool {
-    repository.len() == 1 && is_python(repository.package(0)) && is_for_amd64(repository)
-}
-
-/// Whether a file is read to the package of the stanza.
-fn reads_python(alloc: Global, text: &str) -> bool {
-    match read_packages(alloc, text.as_bytes(), 1) {
-        Ok(repository) => has_python_alone(&repository),
-        Err(_) => false,
-    }
-}
-
-#[test]
-fn fields_of_a_package(rt: HostRuntime) {
-    assert!(rt; reads_python(rt.alloc(), PYTHON));
 }

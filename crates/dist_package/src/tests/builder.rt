@@ -1,8 +1,8 @@
 //! Packages come to the builder of a repository one after another: some are new, some are known, and some clash.
 ghost use Rattle.std.specs.Prelude.{◌+◌, ◌<◌, ◌≤◌, length};
 
-use super::read;
-use dist_repo::{AddError, Added, Builder, Package};
+use crate::read_packages;
+use dist_repo::{AddError, Added, Builder, Package, Repository};
 use std::alloc::Global;
 
 /// The stanza of a package that comes with a line, and what the builder answers. A refusal has the line of the package that
@@ -43,13 +43,28 @@ const COMING: [Coming; 5] = [
     },
 ];
 
-/// The package of a stanza.
-fn package(alloc: Global, stanza: &str) -> Option<Package> {
-    let repository = read(alloc, stanza)?;
+/// The first package of a repository, with memory of its own.
+fn first_package(repository: &Repository) -> Option<Package> {
     if repository.len() == 0 {
         return None;
     }
     repository.package(0).try_clone().ok()
+}
+
+/// The package of a stanza.
+fn package(alloc: Global, stanza: &str) -> Option<Package> {
+    match read_packages(alloc, stanza.as_bytes(), 1) {
+        Ok(repository) => first_package(&repository),
+        Err(_) => None,
+    }
+}
+
+/// The line of the package that another clashes with, or 0 for want of memory.
+fn line_of(error: &AddError) -> u64 {
+    match error {
+        AddError::Clash(kept, _) => *kept,
+        AddError::NoMemory(_) => 0,
+    }
 }
 
 /// What a builder answers to a package.
@@ -59,8 +74,7 @@ fn added(builder: &mut Builder, package: Package, line: u64) -> Result<Added, u6
 {
     match builder.add(package, line) {
         Ok(added) => Ok(added),
-        Err(AddError::Clash(kept, _)) => Err(kept),
-        Err(AddError::NoMemory(_)) => Err(0),
+        Err(error) => Err(line_of(&error)),
     }
 }
 

@@ -1,9 +1,9 @@
 //! What the repository of a file answers: worked rows, and cases of Debian Policy 7.1 to 7.5.
-use super::read;
+use crate::read_packages;
 use dist_relation::Atom;
 use dist_repo::{Package, Repository};
 use dist_version::Version;
-use std::alloc::Global;
+use std::alloc::{AllocError, Global};
 
 /// Two versions of a, and b.
 const THREE: &str =
@@ -13,101 +13,41 @@ const THREE: &str =
 const LINKED: &str =
     "Package: a\nVersion: 1\nDepends: z, c | x (>= 1)\nConflicts: y, b\n\nPackage: b\nVersion: 1\nProvides: x\n\nPackage: c\nVersion: 1\nProvides: x:i386\n";
 
-/// A name and a version, and the number of the package that has them.
+/// A stanza of Debian 12.
+const PYTHON: &str =
+    "Package: python3\nSource: python3-defaults (3.11.2-1)\nVersion: 3.11.2-1+b1\nArchitecture: amd64\nReplaces: python3-minimal (<< 3.1.2-2)\nProvides: python3-profiler\nDepends: python3.11:any (>= 3.11.2-1~),\n libpython3-stdlib (= 3.11.2-1+b1)\nPre-Depends: python3-minimal (= 3.11.2-1+b1)\nTag: devel::interpreter,\n implemented-in::c";
+
+/// What is to hold of a repository.
 #[derive(Clone, Copy)]
-struct Found {
-    name: &'static str,
-    version: &'static str,
-    number: Option<u32>,
+enum Fact {
+    /// The package of a name and a version has this number, or there is none.
+    Number(&'static str, &'static str, Option<u32>),
+    /// A name has these providers.
+    Providers(&'static str, &'static [u32]),
+    /// The alternative of the first package at a place of an item has these providers.
+    OfAlternative(usize, usize, &'static [u32]),
+    /// The conflict atom of the first package at a place has these providers.
+    OfConflict(usize, &'static [u32]),
+    /// It is within the stated size and for no architecture, and has so many packages. Each name has one version, or not.
+    Shape(u32, bool),
+    /// There are so many newest versions, and the first of them is the package of this number.
+    Newest(u32, u32),
+    /// The package of the stanza of Debian 12 is the only one.
+    Python,
+    /// A question has this answer.
+    Answer(Question, bool),
 }
 
-const FOUND: [Found; 2] = [
-    Found {
-        name: "a",
-        version: "1.0-0",
-        number: Some(0),
-    },
-    Found {
-        name: "b",
-        version: "2",
-        number: None,
-    },
-];
-
-/// Whether a repository finds the package of a row, and no other.
-fn is_found(alloc: Global, repository: &Repository, row: &Found) -> bool {
-    match Version::read(alloc, row.version.as_bytes()) {
-        Ok(version) => repository.find(row.name.as_bytes(), &version) == row.number,
-        Err(_) => false,
-    }
-}
-
-/// Whether a repository finds the packages of all rows.
-fn are_found(alloc: Global, repository: &Repository, rows: &[Found]) -> bool {
-    for row in rows {
-        if !is_found(alloc, repository, row) {
-            return false;
-        }
-    }
-    true
-}
-
-/// Whether the repository of a file finds the packages of all rows.
-fn finds(alloc: Global, text: &str, rows: &[Found]) -> bool {
-    match read(alloc, text) {
-        Some(repository) => are_found(alloc, &repository, rows),
-        None => false,
-    }
-}
-
-#[test]
-fn versions_of_a_name(rt: HostRuntime) {
-    assert!(rt; finds(rt.alloc(), THREE, &FOUND));
-}
-
-/// What the providers are asked for: a name, or an atom of the first package by its place.
+/// A question to the repository of a, which provides x, and of y, both of version 1.
 #[derive(Clone, Copy)]
-enum Asked {
-    Name(&'static str),
-    Alternative(usize, usize),
-    Conflict(usize),
+enum Question {
+    /// Whether the first atom of a's Depends matches y, on amd64.
+    Matches,
+    /// Whether the qualifier of the first atom of a's Depends is usable, on amd64.
+    Usable,
+    /// Whether a and y are in conflict, for no architecture.
+    Conflict,
 }
-
-/// A file, what its repository is asked, and the numbers of the providers.
-#[derive(Clone, Copy)]
-struct Provided {
-    text: &'static str,
-    asked: Asked,
-    providers: &'static [u32],
-}
-
-const PROVIDED: [Provided; 5] = [
-    Provided {
-        text: THREE,
-        asked: Asked::Name("a"),
-        providers: &[0, 1],
-    },
-    Provided {
-        text: LINKED,
-        asked: Asked::Alternative(1, 0),
-        providers: &[2],
-    },
-    Provided {
-        text: LINKED,
-        asked: Asked::Alternative(1, 1),
-        providers: &[1],
-    },
-    Provided {
-        text: LINKED,
-        asked: Asked::Conflict(0),
-        providers: &[],
-    },
-    Provided {
-        text: LINKED,
-        asked: Asked::Conflict(1),
-        providers: &[1],
-    },
-];
 
 /// The providers of an alternative of the first package, where it is there.
 fn of_alternative<'r>(repository: &'r Repository, item: usize, place: usize) -> Option<&'r [u32]> {
@@ -131,102 +71,25 @@ fn of_conflict<'r>(repository: &'r Repository, place: usize) -> Option<&'r [u32]
     Some(repository.conflict_providers(0, place))
 }
 
-/// The providers of what is asked.
-fn providers<'r>(repository: &'r Repository, asked: Asked) -> Option<&'r [u32]> {
-    match asked {
-        Asked::Name(name) => Some(repository.providers(name.as_bytes())),
-        Asked::Alternative(item, place) => of_alternative(repository, item, place),
-        Asked::Conflict(place) => of_conflict(repository, place),
+/// Whether a repository finds a package by this number.
+fn is_found(
+    repository: &Repository,
+    alloc: Global,
+    key: (&str, &str),
+    number: Option<u32>,
+) -> bool {
+    match Version::read(alloc, key.1.as_bytes()) {
+        Ok(version) => repository.find(key.0.as_bytes(), &version) == number,
+        Err(_) => false,
     }
 }
 
-/// Whether the repository of a file has the providers of its row.
-fn is_provided(alloc: Global, row: &Provided) -> bool {
-    match read(alloc, row.text) {
-        Some(repository) => providers(&repository, row.asked) == Some(row.providers),
-        None => false,
-    }
-}
-
-/// The place of the first row with other providers, or none.
-fn first_provided_otherwise(alloc: Global, rows: &[Provided]) -> Option<usize> {
-    for place in 0..rows.len() {
-        if !is_provided(alloc, &rows[place]) {
-            return Some(place);
-        }
-    }
-    None
-}
-
-#[test]
-fn providers_of_names_and_atoms(rt: HostRuntime) {
-    assert_eq!(rt; first_provided_otherwise(rt.alloc(), &PROVIDED), None);
-}
-
-/// A file, and what is seen of its repository as a whole or of the newest versions of that.
-#[derive(Clone, Copy)]
-struct Shaped {
-    text: &'static str,
-    newest: bool,
-    packages: u32,
-    flat: bool,
-}
-
-const SHAPED: [Shaped; 3] = [
-    Shaped {
-        text: THREE,
-        newest: false,
-        packages: 3,
-        flat: false,
-    },
-    Shaped {
-        text: THREE,
-        newest: true,
-        packages: 2,
-        flat: true,
-    },
-    Shaped {
-        text: LINKED,
-        newest: false,
-        packages: 3,
-        flat: true,
-    },
-];
-
-/// The repository of a row.
-fn repository_of(alloc: Global, row: &Shaped) -> Option<Repository> {
-    let repository = read(alloc, row.text)?;
-    if row.newest {
-        repository.latest().ok()
-    } else {
-        Some(repository)
-    }
-}
-
-/// Whether a repository is within the stated size and for no architecture, and has as many packages as its row says, each
-/// name once or not.
-fn has_shape(repository: &Repository, row: &Shaped) -> bool {
+/// Whether a repository is within the stated size and for no architecture, with so many packages, of each name one or not.
+fn has_shape(repository: &Repository, packages: u32, flat: bool) -> bool {
     repository.is_within_size()
         && repository.architecture().is_none()
-        && repository.len() == row.packages
-        && repository.is_flat() == row.flat
-}
-
-/// The place of the first row whose repository looks otherwise, or none.
-fn first_misshaped(alloc: Global, rows: &[Shaped]) -> Option<usize> {
-    for place in 0..rows.len() {
-        let row = &rows[place];
-        match repository_of(alloc, row) {
-            Some(repository) if has_shape(&repository, row) => {}
-            _ => return Some(place),
-        }
-    }
-    None
-}
-
-#[test]
-fn whole_repositories(rt: HostRuntime) {
-    assert_eq!(rt; first_misshaped(rt.alloc(), &SHAPED), None);
+        && repository.len() == packages
+        && repository.is_flat() == flat
 }
 
 /// Whether a package and the copy of another are equal.
@@ -237,32 +100,149 @@ fn is_copy(package: &Package, other: &Package) -> bool {
     }
 }
 
-/// Whether the first package of the newest versions is the second one of all.
-fn begins_with_second(newest: &Repository, all: &Repository) -> bool {
-    newest.len() > 0 && all.len() > 1 && is_copy(all.package(1), newest.package(0))
+/// Whether a repository has so many packages, of each name one, and begins with the package of a number of another.
+fn begins_with(newest: &Repository, packages: u32, all: &Repository, number: u32) -> bool {
+    has_shape(newest, packages, true)
+        && newest.len() > 0
+        && number < all.len()
+        && is_copy(all.package(number), newest.package(0))
 }
 
-/// Whether the newest versions of a file begin with the second package of the file.
-fn newest_begin_with_second(alloc: Global, text: &str) -> Option<bool> {
-    let all = read(alloc, text)?;
-    let newest = all.latest().ok()?;
-    Some(begins_with_second(&newest, &all))
+/// Whether there are so many newest versions, and the first of them is the package of a number.
+fn has_newest(repository: &Repository, packages: u32, number: u32) -> bool {
+    match repository.latest() {
+        Ok(newest) => begins_with(&newest, packages, repository, number),
+        Err(_) => false,
+    }
+}
+
+/// Whether a package is that of the stanza.
+fn is_python(package: &Package) -> bool {
+    package.source.bytes() == b"python3-defaults".as_slice()
+        && package.source_version.text() == b"3.11.2-1".as_slice()
+        && package.depends.len() == 3
+        && package.provides.len() == 1
+        && !package.essential
+}
+
+/// Whether a repository is for amd64.
+fn is_for_amd64(repository: &Repository) -> bool {
+    match repository.architecture() {
+        Some(architecture) => architecture.bytes() == b"amd64".as_slice(),
+        None => false,
+    }
+}
+
+/// Whether the package of the stanza is the only one of a repository.
+fn has_python_alone(repository: &Repository) -> bool {
+    repository.len() == 1 && is_python(repository.package(0)) && is_for_amd64(repository)
+}
+
+/// The first atom of what a package depends on.
+fn first_atom<'p>(package: &'p Package) -> Option<&'p Atom> {
+    if package.depends.len() == 0 {
+        return None;
+    }
+    let alternatives = package.depends.get(0);
+    if alternatives.len() == 0 {
+        return None;
+    }
+    Some(alternatives.get(0))
+}
+
+/// Whether two packages are in conflict, if each of them says so of the other, and a package isn't with itself.
+fn conflict(repository: &Repository, first: &Package, second: &Package) -> Option<bool> {
+    let answer = repository.conflict(first, second);
+    if repository.conflict(second, first) != answer || repository.conflict(first, first) {
+        return None;
+    }
+    Some(answer)
+}
+
+/// The answer of a repository.
+fn answer(repository: &Repository, question: Question) -> Option<bool> {
+    if repository.len() < 2 {
+        return None;
+    }
+    let (a, y) = (repository.package(0), repository.package(1));
+    match question {
+        Question::Matches => Some(repository.matches(first_atom(a)?, y)),
+        Question::Usable => Some(repository.usable(&first_atom(a)?.qualifier)),
+        Question::Conflict => conflict(repository, a, y),
+    }
+}
+
+/// Whether a fact holds of a repository.
+fn holds(alloc: Global, repository: &Repository, fact: Fact) -> bool {
+    match fact {
+        Fact::Number(name, version, number) => is_found(repository, alloc, (name, version), number),
+        Fact::Providers(name, numbers) => repository.providers(name.as_bytes()) == numbers,
+        Fact::OfAlternative(item, place, numbers) => {
+            of_alternative(repository, item, place) == Some(numbers)
+        }
+        Fact::OfConflict(place, numbers) => of_conflict(repository, place) == Some(numbers),
+        Fact::Shape(packages, flat) => has_shape(repository, packages, flat),
+        Fact::Newest(packages, number) => has_newest(repository, packages, number),
+        Fact::Python => has_python_alone(repository),
+        Fact::Answer(question, expected) => answer(repository, question) == Some(expected),
+    }
+}
+
+/// Whether a fact holds of the repository of a file.
+fn holds_of(alloc: Global, text: &str, fact: Fact) -> bool {
+    match read_packages(alloc, text.as_bytes(), 10) {
+        Ok(repository) => holds(alloc, &repository, fact),
+        Err(_) => false,
+    }
+}
+
+/// A file, and what is to hold of its repository.
+type Stated = (&'static str, Fact);
+
+/// The place of the first row whose fact does not hold, or none.
+fn first_wrong(alloc: Global, rows: &[Stated]) -> Option<usize> {
+    for place in 0..rows.len() {
+        let (text, fact) = rows[place];
+        if !holds_of(alloc, text, fact) {
+            return Some(place);
+        }
+    }
+    None
+}
+
+const NUMBERS: [Stated; 2] = [
+    (THREE, Fact::Number("a", "1.0-0", Some(0))),
+    (THREE, Fact::Number("b", "2", None)),
+];
+
+const PROVIDERS: [Stated; 5] = [
+    (THREE, Fact::Providers("a", &[0, 1])),
+    (LINKED, Fact::OfAlternative(1, 0, &[2])),
+    (LINKED, Fact::OfAlternative(1, 1, &[1])),
+    (LINKED, Fact::OfConflict(0, &[])),
+    (LINKED, Fact::OfConflict(1, &[1])),
+];
+
+const WHOLES: [Stated; 4] = [
+    (THREE, Fact::Shape(3, false)),
+    (THREE, Fact::Newest(2, 1)),
+    (LINKED, Fact::Shape(3, true)),
+    (PYTHON, Fact::Python),
+];
+
+#[test]
+fn versions_of_a_name(rt: HostRuntime) {
+    assert_eq!(rt; first_wrong(rt.alloc(), &NUMBERS), None);
 }
 
 #[test]
-fn newest_versions(rt: HostRuntime) {
-    assert_eq!(rt; newest_begin_with_second(rt.alloc(), THREE), Some(true));
+fn providers_of_names_and_atoms(rt: HostRuntime) {
+    assert_eq!(rt; first_wrong(rt.alloc(), &PROVIDERS), None);
 }
 
-/// A question to the repository of a, which provides x, and of y, both of version 1.
-#[derive(Clone, Copy)]
-enum Question {
-    /// Whether the first atom of a's Depends matches y, on amd64.
-    Matches,
-    /// Whether the qualifier of the first atom of a's Depends is usable, on amd64.
-    Usable,
-    /// Whether a and y are in conflict, for no architecture.
-    Conflict,
+#[test]
+fn newest_versions_and_whole_repositories(rt: HostRuntime) {
+    assert_eq!(rt; first_wrong(rt.alloc(), &WHOLES), None);
 }
 
 /// An atom that a depends on or conflicts with, what y provides, and the answer.
@@ -304,58 +284,23 @@ const CONFLICTS: [Row; 7] = [
     ("x (>= 1)", "x (= 2)", true),
 ];
 
-/// The repository of a row.
-fn repository_asked(alloc: Global, question: Question, row: &Row) -> Option<Repository> {
+/// The file of a row: a and y, for amd64 or for no architecture.
+fn text_of(alloc: Global, question: Question, row: &Row) -> Result<String, AllocError> {
     let (architecture, field) = match question {
         Question::Conflict => ("all", "Conflicts"),
         _ => ("amd64", "Depends"),
     };
     let (atom, provides, _) = *row;
-    let text = format!(in alloc;
+    format!(in alloc;
         "Package: a\nVersion: 1\nArchitecture: {architecture}\nProvides: x\n{field}: {atom}\n\nPackage: y\nVersion: 1\nProvides: {provides}\n"
-    ).ok()?;
-    read(alloc, text.as_str())
-}
-
-/// The first atom of what a package depends on.
-fn first_atom<'p>(package: &'p Package) -> Option<&'p Atom> {
-    if package.depends.len() == 0 {
-        return None;
-    }
-    let alternatives = package.depends.get(0);
-    if alternatives.len() == 0 {
-        return None;
-    }
-    Some(alternatives.get(0))
-}
-
-/// Whether two packages are in conflict, if each of them says so of the other, and a package isn't with itself.
-fn conflict(repository: &Repository, first: &Package, second: &Package) -> Option<bool> {
-    let answer = repository.conflict(first, second);
-    if repository.conflict(second, first) != answer || repository.conflict(first, first) {
-        return None;
-    }
-    Some(answer)
-}
-
-/// The answer of a repository.
-fn answer(repository: &Repository, question: Question) -> Option<bool> {
-    if repository.len() < 2 {
-        return None;
-    }
-    let (a, y) = (repository.package(0), repository.package(1));
-    match question {
-        Question::Matches => Some(repository.matches(first_atom(a)?, y)),
-        Question::Usable => Some(repository.usable(&first_atom(a)?.qualifier)),
-        Question::Conflict => conflict(repository, a, y),
-    }
+    )
 }
 
 /// Whether a row is answered as it says.
 fn is_answered(alloc: Global, question: Question, row: &Row) -> bool {
-    match repository_asked(alloc, question, row) {
-        Some(repository) => answer(&repository, question) == Some(row.2),
-        None => false,
+    match text_of(alloc, question, row) {
+        Ok(text) => holds_of(alloc, text.as_str(), Fact::Answer(question, row.2)),
+        Err(_) => false,
     }
 }
 
