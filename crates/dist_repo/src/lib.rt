@@ -15,6 +15,3 @@ pub use builder::{AddError, Added, Builder};
 pub use laws::{each_stands_once, latest_is_one};
 pub use package::Package;
 pub use repository::Repository;
-
-#[cfg(test)]
-mod tests;

@@ -1,4 +1,4 @@
-use Rattle.dist_repo.proofs.tests.of_alternative.Goals as goal
+use Rattle.dist_package.proofs.tests.repositories.of_alternative.Goals as goal
 
 pub alternative_providers-requires : goal.alternative_providers-requires
 alternative_providers-requires c = (

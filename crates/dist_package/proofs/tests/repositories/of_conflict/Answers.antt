@@ -1,4 +1,4 @@
-use Rattle.dist_repo.proofs.tests.of_conflict.Goals as goal
+use Rattle.dist_package.proofs.tests.repositories.of_conflict.Goals as goal
 
 pub conflict_providers-requires : goal.conflict_providers-requires
 conflict_providers-requires c = (
