@@ -1,30 +1,14 @@
 //! Reports of strong dependencies, whole.
-ghost use Rattle.std.specs.Prelude.{◌≡◌, IfOk};
+ghost use Rattle.std.specs.Prelude.{◌≡◌, ◌++◌, ◌∷◌, [], IfSome, IsTrue, length};
+ghost use Rattle.dist_cert.specs.declared.records.Claim.{Claim};
 ghost use Rattle.dist_cert.specs.declared.records.CertKind.TheVariants.{Strong};
+ghost use Rattle.dist_subject.specs.Claims.{AreClaimsOf};
 
-use crate::tests::{Row, add};
+use crate::tests::{Row, four};
 use crate::{some_has_mark, text};
 use dist_cert::{CertKind, Claim, Claims, Header, Items, Numbers};
 use dist_repo::{Builder, Repository};
 use std::alloc::Global;
-use std::test::Fail;
-
-/// The repository of four packages.
-fn four(alloc: Global, rows: &[Row; 4]) -> Result<Repository, Fail> {
-    let mut builder = Builder::new(alloc);
-    add(alloc, &mut builder, &rows[0])?;
-    add(alloc, &mut builder, &rows[1])?;
-    add(alloc, &mut builder, &rows[2])?;
-    add(alloc, &mut builder, &rows[3])?;
-    Ok(builder.finish(None)?)
-}
-
-/// The list of some numbers.
-fn numbers(alloc: Global, list: &[u32]) -> Result<Numbers, Fail>
-    ensures { IfOk result (λ numbers. numbers ≡ list.now) }
-{
-    Ok(Items::from_vec(list.to_vec(alloc)?))
-}
 
 /// A first line of kind strong.
 fn header(packages: u32, clauses: u32) -> Header
@@ -39,6 +23,107 @@ fn header(packages: u32, clauses: u32) -> Header
         essential: false,
     }
 }
+
+/// The list of some numbers.
+fn numbers(alloc: Global, list: &[u32]) -> Option<Numbers>
+    ensures { IfSome result (λ numbers. numbers ≡ list.now) }
+{
+    match list.to_vec(alloc) {
+        Ok(list) => Some(Items::from_vec(list)),
+        Err(_) => None,
+    }
+}
+
+/// What a package depends on strongly, and the undecided ones.
+fn strong(alloc: Global, on: &[u32], undecided: &[u32]) -> Option<Claim>
+    ensures { IfSome result (λ claim. claim ≡ Claim.Strong on.now undecided.now) }
+{
+    let on = numbers(alloc, on)?;
+    let undecided = numbers(alloc, undecided)?;
+    Some(Claim::Strong(on, undecided))
+}
+
+/// Adds what a package depends on strongly, and the undecided ones.
+fn push_strong(alloc: Global, claims: &mut Claims, on: &[u32], undecided: &[u32]) -> bool
+    ensures { IsTrue result → claims.new ≡ claims.old ++ (Claim.Strong on.now undecided.now ∷ []) }
+{
+    match strong(alloc, on, undecided) {
+        Some(claim) => claims.push(claim).is_ok(),
+        None => false,
+    }
+}
+
+/// The claims of the diamond.
+fn diamond_claims(alloc: Global) -> Option<Claims>
+    ensures { IfSome result (λ claims. AreClaimsOf 4 claims) }
+{
+    let mut claims = Claims::new(alloc);
+    if push_strong(alloc, &mut claims, &[3], &[])
+        && push_strong(alloc, &mut claims, &[3], &[])
+        && push_strong(alloc, &mut claims, &[3], &[])
+        && push_strong(alloc, &mut claims, &[], &[])
+    {
+        return Some(claims);
+    }
+    None
+}
+
+/// Claims of each kind.
+fn marked_claims(alloc: Global) -> Option<Claims>
+    ensures { IfSome result (λ claims. AreClaimsOf 4 claims) }
+{
+    let mut claims = Claims::new(alloc);
+    if claims.push(Claim::Uninstallable).is_ok()
+        && claims.push(Claim::Unknown).is_ok()
+        && push_strong(alloc, &mut claims, &[], &[3])
+        && push_strong(alloc, &mut claims, &[], &[])
+    {
+        return Some(claims);
+    }
+    None
+}
+
+/// Whether the report of four packages is this text.
+fn text_is(
+    alloc: Global,
+    repo: &Repository,
+    header: &Header,
+    claims: &Claims,
+    expected: &str,
+) -> bool
+    requires kind { header.now.kind ≡ Strong }
+    requires claims { AreClaimsOf 4 claims.now }
+{
+    if repo.len() != 4 {
+        return false;
+    }
+    match text(alloc, repo, header, claims) {
+        Ok(text) => text.as_slice() == expected.as_bytes(),
+        Err(_) => false,
+    }
+}
+
+/// Whether the report of four packages is this text.
+fn told(
+    alloc: Global,
+    rows: &[[Row; 2]; 2],
+    header: &Header,
+    claims: &Claims,
+    expected: &str,
+) -> bool
+    requires kind { header.now.kind ≡ Strong }
+    requires claims { AreClaimsOf 4 claims.now }
+{
+    match four(alloc, rows) {
+        Some(repo) => text_is(alloc, &repo, header, claims, expected),
+        None => false,
+    }
+}
+
+const DIAMOND_ROWS: [[Row; 2]; 2] = [
+    [("a", "1", "a", "b | c"), ("b", "1", "b", "d")],
+    [("c", "1", "c", "d"), ("d", "1", "d", "")],
+];
 
 const DIAMOND: &str = "report: \"strong\"
 limit: 10000
@@ -64,29 +149,25 @@ undecided: []
 undecided_pairs: []
 ";
 
-#[test]
-fn a_diamond_is_told(rt: HostRuntime) -> Result<(), Fail> {
-    let alloc = rt.alloc();
-    let rows = [
-        ("a", "1", "a", "b | c"),
-        ("b", "1", "b", "d"),
-        ("c", "1", "c", "d"),
-        ("d", "1", "d", ""),
-    ];
-    let repo = four(alloc, &rows)?;
-    if repo.len() != 4 {
-        return Err(Fail::from("not four packages"));
+/// Whether the diamond is told, with no mark.
+fn diamond_is_told(alloc: Global) -> bool {
+    match diamond_claims(alloc) {
+        Some(claims) => {
+            told(alloc, &DIAMOND_ROWS, &header(4, 3), &claims, DIAMOND) && !some_has_mark(&claims)
+        }
+        None => false,
     }
-    let mut claims = Claims::new(alloc);
-    claims.push(Claim::Strong(numbers(alloc, &[3])?, numbers(alloc, &[])?))?;
-    claims.push(Claim::Strong(numbers(alloc, &[3])?, numbers(alloc, &[])?))?;
-    claims.push(Claim::Strong(numbers(alloc, &[3])?, numbers(alloc, &[])?))?;
-    claims.push(Claim::Strong(numbers(alloc, &[])?, numbers(alloc, &[])?))?;
-    let told = text(alloc, &repo, &header(4, 3), &claims)?;
-    assert_eq!(rt; told.as_slice(), DIAMOND.as_bytes());
-    assert_eq!(rt; some_has_mark(&claims), false);
-    Ok(())
 }
+
+#[test]
+fn a_diamond_is_told(rt: HostRuntime) {
+    assert!(rt; diamond_is_told(rt.alloc()));
+}
+
+const MARKED_ROWS: [[Row; 2]; 2] = [
+    [("a", "1", "a", "e"), ("b", "1", "b", "")],
+    [("c", "1", "c", "d"), ("d", "1", "d", "")],
+];
 
 const MARKED: &str = "report: \"strong\"
 limit: 10000
@@ -103,28 +184,19 @@ undecided_pairs:
       - \"d=1\"
 ";
 
-#[test]
-fn marks_are_told_apart(rt: HostRuntime) -> Result<(), Fail> {
-    let alloc = rt.alloc();
-    let rows = [
-        ("a", "1", "a", "e"),
-        ("b", "1", "b", ""),
-        ("c", "1", "c", "d"),
-        ("d", "1", "d", ""),
-    ];
-    let repo = four(alloc, &rows)?;
-    if repo.len() != 4 {
-        return Err(Fail::from("not four packages"));
+/// Whether claims of each kind are told, with a mark.
+fn marks_are_told(alloc: Global) -> bool {
+    match marked_claims(alloc) {
+        Some(claims) => {
+            told(alloc, &MARKED_ROWS, &header(4, 2), &claims, MARKED) && some_has_mark(&claims)
+        }
+        None => false,
     }
-    let mut claims = Claims::new(alloc);
-    claims.push(Claim::Uninstallable)?;
-    claims.push(Claim::Unknown)?;
-    claims.push(Claim::Strong(numbers(alloc, &[])?, numbers(alloc, &[3])?))?;
-    claims.push(Claim::Strong(numbers(alloc, &[])?, numbers(alloc, &[])?))?;
-    let told = text(alloc, &repo, &header(4, 2), &claims)?;
-    assert_eq!(rt; told.as_slice(), MARKED.as_bytes());
-    assert_eq!(rt; some_has_mark(&claims), true);
-    Ok(())
+}
+
+#[test]
+fn marks_are_told_apart(rt: HostRuntime) {
+    assert!(rt; marks_are_told(rt.alloc()));
 }
 
 const NOTHING: &str = "report: \"strong\"
@@ -137,14 +209,26 @@ undecided: []
 undecided_pairs: []
 ";
 
-#[test]
-fn no_packages_are_told(rt: HostRuntime) -> Result<(), Fail> {
-    let alloc = rt.alloc();
-    let repo = Builder::new(alloc).finish(None)?;
+/// Whether the report of no packages is this text.
+fn none_are_told(alloc: Global, repo: &Repository, expected: &str) -> bool {
     if repo.len() != 0 {
-        return Err(Fail::from("some packages"));
+        return false;
     }
-    let told = text(alloc, &repo, &header(0, 0), &Claims::new(alloc))?;
-    assert_eq!(rt; told.as_slice(), NOTHING.as_bytes());
-    Ok(())
+    match text(alloc, repo, &header(0, 0), &Claims::new(alloc)) {
+        Ok(text) => text.as_slice() == expected.as_bytes(),
+        Err(_) => false,
+    }
+}
+
+/// Whether the report of an empty builder is this text.
+fn empty_is_told(alloc: Global, expected: &str) -> bool {
+    match Builder::new(alloc).finish(None) {
+        Ok(repo) => none_are_told(alloc, &repo, expected),
+        Err(_) => false,
+    }
+}
+
+#[test]
+fn no_packages_are_told(rt: HostRuntime) {
+    assert!(rt; empty_is_told(rt.alloc(), NOTHING));
 }
