@@ -16,11 +16,19 @@ pub(crate) type Stanza = (
     bool,
 );
 
+/// The name that a text spells.
+fn name_of(alloc: Global, text: &str) -> Option<Name> {
+    Name::read(alloc, text.as_bytes()).ok()
+}
+
+/// The version that a text spells.
+fn version_of(alloc: Global, text: &str) -> Option<Version> {
+    Version::read(alloc, text.as_bytes()).ok()
+}
+
 /// The name and the version that two texts spell.
 fn key(alloc: Global, name: &str, version: &str) -> Option<(Name, Version)> {
-    let name = Name::read(alloc, name.as_bytes()).ok()?;
-    let version = Version::read(alloc, version.as_bytes()).ok()?;
-    Some((name, version))
+    name_of(alloc, name).zip(version_of(alloc, version))
 }
 
 /// The relations that three values spell.
