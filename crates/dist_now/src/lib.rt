@@ -25,4 +25,6 @@ pub use present_laws::{
 #[cfg(test)]
 mod present_tests;
 #[cfg(test)]
+mod test_repositories;
+#[cfg(test)]
 mod tests;

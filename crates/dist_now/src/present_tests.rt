@@ -1,61 +1,29 @@
 //! Repositories and their clauses of the present, as lists of numbers in the DIMACS format.
-ghost use Rattle.std.specs.Prelude.{◌≡◌, ◌+◌, ◌<◌, ◌≤◌, length};
-ghost use Rattle.dist_base.specs.declared.TheConstants.{MAX_CLAUSES, MAX_LITERALS};
-
 use super::*;
+use crate::test_repositories::{Stanza, repository};
 use dist_base::{MAX_CLAUSES, MAX_LITERALS, MAX_PACKAGES};
-use dist_clause::{ClauseSet, PushError};
-use dist_relation::{Name, read_atoms, read_depends, read_provides};
-use dist_repo::{Builder, Package, Repository};
-use dist_version::Version;
+use dist_clause::{ClauseSet, Lit, PushError};
+use dist_repo::Repository;
 use std::alloc::Global;
+use std::process::Abort;
 use std::test::Fail;
 
-/// A stanza's name, version, and values of Depends, Conflicts and Provides; and whether it is essential.
-type Stanza = (
-    &'static str,
-    &'static str,
-    &'static str,
-    &'static str,
-    &'static str,
-    bool,
-);
-
-/// The package of a stanza.
-fn package(alloc: Global, stanza: &Stanza) -> Result<Package, Fail> {
-    let (name, version, depends, conflicts, provides, essential) = *stanza;
-    Ok(Package {
-        name: Name::read(alloc, name.as_bytes())?,
-        version: Version::read(alloc, version.as_bytes())?,
-        source: Name::read(alloc, name.as_bytes())?,
-        source_version: Version::read(alloc, version.as_bytes())?,
-        depends: read_depends(alloc, depends.as_bytes())?,
-        conflicts: read_atoms(alloc, conflicts.as_bytes())?,
-        provides: read_provides(alloc, provides.as_bytes())?,
-        essential,
-    })
+/// Whether a literal has this number.
+fn is_literal(literal: Lit, number: i32) -> bool {
+    literal.variable() == number.unsigned_abs() && literal.positive() == (number > 0)
 }
 
-/// Adds a package.
-fn add(builder: &mut Builder, package: Package) -> Result<(), Fail>
-    requires { length builder.old < 100 }
-    ensures { length builder.new ≤ length builder.old + 1 }
-{
-    match builder.add(package, 1) {
-        Ok(_) => Ok(()),
-        Err(_) => Err("not added")?,
+/// Whether a clause has exactly these literals.
+fn is_clause(clause: &[Lit], numbers: &[i32]) -> bool {
+    if clause.len() != numbers.len() {
+        return false;
     }
-}
-
-/// The repository of some stanzas.
-fn repository(alloc: Global, stanzas: &[Stanza]) -> Result<Repository, Fail>
-    requires { length stanzas.now < 100 }
-{
-    let mut builder = Builder::new(alloc);
-    for stanza in stanzas {
-        add(&mut builder, package(alloc, stanza)?)?;
+    for place in 0..clause.len() {
+        if !is_literal(clause[place], numbers[place]) {
+            return false;
+        }
     }
-    Ok(builder.finish(None)?)
+    true
 }
 
 /// Whether the set has exactly these clauses.
@@ -64,40 +32,11 @@ fn has(set: &ClauseSet, clauses: &[&[i32]]) -> bool {
         return false;
     }
     for number in 1..=set.len() {
-        let clause = set.clause(number);
-        let expected = clauses[number as usize - 1];
-        if clause.len() != expected.len() {
+        if !is_clause(set.clause(number), clauses[number as usize - 1]) {
             return false;
-        }
-        for place in 0..clause.len() {
-            let literal = clause[place];
-            if literal.variable() != expected[place].unsigned_abs()
-                || literal.positive() != (expected[place] > 0)
-            {
-                return false;
-            }
         }
     }
     true
-}
-
-/// The clauses of a repository, where they are few.
-fn made(
-    alloc: Global,
-    stanzas: &[Stanza],
-    essential: bool,
-    clauses: u32,
-    literals: u32,
-) -> Result<Result<ClauseSet, PushError>, Fail>
-    requires stanzas { length stanzas.now < 100 }
-    requires clauses { clauses ≤ MAX_CLAUSES }
-    requires literals { literals ≤ MAX_LITERALS }
-{
-    let repository = repository(alloc, stanzas)?;
-    if repository.len() > MAX_PACKAGES {
-        Err("too many packages")?;
-    }
-    Ok(clauses_of(alloc, &repository, essential, clauses, literals))
 }
 
 const NEEDS_ENEMY: [Stanza; 2] = [
@@ -138,47 +77,88 @@ const BASE: [Stanza; 4] = [
     ("base", "2", "", "", "", true),
 ];
 
-#[test]
-fn the_clauses_of_small_repositories(rt: HostRuntime) -> Result<(), Fail> {
-    let alloc = rt.alloc();
-    let cases: [(&[Stanza], bool, &[&[i32]]); 6] = [
-        (&NEEDS_ENEMY, false, &[&[-1, 2], &[-1, -2]]),
-        (&VERSIONS, false, &[&[-3, 2], &[-1, -2], &[-1, -3]]),
-        (&AGENTS, false, &[&[-2, 1, 3], &[-2, 1], &[-1, -3]]),
-        (&BASE, false, &[&[-2, -3], &[-2, -4], &[-3, -4]]),
-        (&BASE, true, &[&[-2, -3], &[-2, -4], &[-3, -4], &[3, 4]]),
-        (&[], true, &[]),
-    ];
-    for (number, (stanzas, essential, clauses)) in cases.iter().enumerate() {
-        if stanzas.len() < 100 {
-            match made(alloc, stanzas, *essential, MAX_CLAUSES, MAX_LITERALS)? {
-                Ok(set) => {
-                    assert!(rt; set.variables() as usize == stanzas.len(), "case {number}");
-                    assert!(rt; has(&set, clauses), "case {number}");
-                }
-                Err(error) => assert!(rt; false, "case {number}: {error:?}"),
-            }
-        }
+/// Stanzas, a mode, and their clauses.
+type Clauses = (&'static [Stanza], bool, &'static [&'static [i32]]);
+
+const CLAUSES: [Clauses; 6] = [
+    (&NEEDS_ENEMY, false, &[&[-1, 2], &[-1, -2]]),
+    (&VERSIONS, false, &[&[-3, 2], &[-1, -2], &[-1, -3]]),
+    (&AGENTS, false, &[&[-2, 1, 3], &[-2, 1], &[-1, -3]]),
+    (&BASE, false, &[&[-2, -3], &[-2, -4], &[-3, -4]]),
+    (&BASE, true, &[&[-2, -3], &[-2, -4], &[-3, -4], &[3, 4]]),
+    (&[], true, &[]),
+];
+
+/// Whether a repository has exactly these clauses, over its packages.
+fn has_clauses(
+    alloc: Global,
+    repository: &Repository,
+    essential: bool,
+    clauses: &[&[i32]],
+) -> bool {
+    if repository.len() > MAX_PACKAGES {
+        return false;
     }
-    Ok(())
+    match clauses_of(alloc, repository, essential, MAX_CLAUSES, MAX_LITERALS) {
+        Ok(set) => set.variables() == repository.len() && has(&set, clauses),
+        Err(_) => false,
+    }
+}
+
+/// Whether a row's stanzas are so many packages, and have exactly its clauses.
+fn is_made(alloc: Global, row: &Clauses) -> Option<bool> {
+    let (stanzas, essential, clauses) = *row;
+    let repository = repository(alloc, stanzas)?;
+    Some(
+        repository.len() as usize == stanzas.len()
+            && has_clauses(alloc, &repository, essential, clauses),
+    )
+}
+
+fn hold_clauses(rt: &(impl Abort + AllocGlobal), rows: &[Clauses]) {
+    for (number, row) in rows.iter().enumerate() {
+        assert_eq!(rt; is_made(rt.alloc(), row), Some(true), "row {number}");
+    }
+}
+
+#[test]
+fn the_clauses_of_small_repositories(rt: HostRuntime) {
+    hold_clauses(&rt, &CLAUSES);
+}
+
+/// The most clauses and literals, and why they are too few, if they are.
+type Limits = (u32, u32, Option<PushError>);
+
+const LIMITS: [Limits; 6] = [
+    (1, 4, Some(PushError::TooManyClauses)),
+    (2, 3, Some(PushError::TooManyLiterals)),
+    (1, 3, Some(PushError::TooManyClauses)),
+    (0, 0, Some(PushError::TooManyClauses)),
+    (1, 1, Some(PushError::TooManyLiterals)),
+    (2, 4, None),
+];
+
+/// Whether a repository has clauses within a row's limits, or is refused as it says.
+fn is_limited(alloc: Global, repository: &Repository, row: &Limits) -> bool {
+    let (clauses, literals, refusal) = *row;
+    if repository.len() > MAX_PACKAGES || clauses > MAX_CLAUSES || literals > MAX_LITERALS {
+        return false;
+    }
+    clauses_of(alloc, repository, false, clauses, literals).err() == refusal
+}
+
+fn hold_limits(rt: &(impl Abort + AllocGlobal), repository: &Repository, rows: &[Limits]) {
+    for row in rows {
+        let holds = is_limited(rt.alloc(), repository, row);
+        assert!(rt; holds, "{} clauses, {} literals", row.0, row.1);
+    }
 }
 
 #[test]
 fn the_limits_of_clauses(rt: HostRuntime) -> Result<(), Fail> {
-    let alloc = rt.alloc();
-    for (clauses, literals, error) in [
-        (1, 4, Some(PushError::TooManyClauses)),
-        (2, 3, Some(PushError::TooManyLiterals)),
-        (1, 3, Some(PushError::TooManyClauses)),
-        (0, 0, Some(PushError::TooManyClauses)),
-        (1, 1, Some(PushError::TooManyLiterals)),
-        (2, 4, None),
-    ] {
-        let answer = made(alloc, &NEEDS_ENEMY, false, clauses, literals)?;
-        assert!(rt;
-            answer.err() == error,
-            "{clauses} clauses, {literals} literals"
-        );
+    match repository(rt.alloc(), &NEEDS_ENEMY) {
+        Some(repository) => hold_limits(&rt, &repository, &LIMITS),
+        None => Err("no repository")?,
     }
     Ok(())
 }

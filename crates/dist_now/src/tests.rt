@@ -1,70 +1,55 @@
-//! Values from outside: repositories of two packages.
-ghost use Rattle.std.specs.Prelude.{◌≡◌, ◌+◌, ◌<◌, ◌≤◌, length};
-
+//! Values from outside: the health of a alone, in repositories of a and b, which is essential.
 use super::*;
+use crate::test_repositories::{Stanza, repository};
 use dist_clause::Assignment;
-use dist_relation::{Name, read_atoms, read_depends, read_provides};
-use dist_repo::{Added, Builder, Package, Repository};
-use dist_version::Version;
+use dist_repo::Repository;
 use std::alloc::Global;
-use std::test::Fail;
+use std::process::Abort;
 
-/// A package of version 1 with dependencies, that conflicts with nothing.
-fn package(alloc: Global, name: &str, depends: &str, essential: bool) -> Result<Package, Fail> {
-    Ok(Package {
-        name: Name::read(alloc, name.as_bytes())?,
-        version: Version::read(alloc, b"1")?,
-        source: Name::read(alloc, name.as_bytes())?,
-        source_version: Version::read(alloc, b"1")?,
-        depends: read_depends(alloc, depends.as_bytes())?,
-        conflicts: read_atoms(alloc, b"")?,
-        provides: read_provides(alloc, b"")?,
-        essential,
-    })
-}
+const LONE: [Stanza; 2] = [("a", "1", "", "", "", false), ("b", "1", "", "", "", true)];
 
-/// Whether a package is new.
-fn add(builder: &mut Builder, package: Package) -> bool
-    requires { length builder.old < 100 }
-    ensures { length builder.new ≤ length builder.old + 1 }
-{
-    builder
-        .add(package, 1)
-        .is_ok_and(|added| added == Added::New)
-}
+const NEEDS_BOTH: [Stanza; 2] = [
+    ("a", "1", "a, b", "", "", false),
+    ("b", "1", "", "", "", true),
+];
 
-/// Package a, with dependencies, and b, which is essential.
-fn two(alloc: Global, depends: &str) -> Result<Repository, Fail> {
-    let mut builder = Builder::new(alloc);
-    let first = add(&mut builder, package(alloc, "a", depends, false)?);
-    let second = add(&mut builder, package(alloc, "b", "", true)?);
-    if !first || !second {
-        Err("not added")?;
-    }
-    Ok(builder.finish(None)?)
-}
+/// Stanzas, a mode, and the health of the first package alone.
+type Row = (&'static [Stanza], bool, Health);
 
-/// The health of a alone, at a mode.
-fn health_of_first(alloc: Global, depends: &str, essential: bool) -> Result<Health, Fail> {
-    let repository = two(alloc, depends)?;
-    let mut members = Assignment::new(alloc, repository.len())?;
+const ONE_MEMBER: [Row; 2] = [
+    (&LONE, false, Health::Healthy),
+    (&NEEDS_BOTH, true, Health::Unmet(0, 1)),
+];
+
+const ESSENTIAL_NAME: [Row; 1] = [(&LONE, true, Health::EssentialMissing(1))];
+
+/// The health of the first package alone, at a mode.
+fn health_of_first(alloc: Global, repository: &Repository, essential: bool) -> Option<Health> {
     if repository.len() == 0 || !repository.is_within_size() {
-        Err("no package, or too many")?;
+        return None;
     }
+    let mut members = Assignment::new(alloc, repository.len()).ok()?;
     members.set(1, true);
-    Ok(health(&repository, essential, &members))
+    Some(health(repository, essential, &members))
+}
+
+/// The health of the first package of some stanzas alone, at a mode.
+fn health_of(alloc: Global, stanzas: &[Stanza], essential: bool) -> Option<Health> {
+    health_of_first(alloc, &repository(alloc, stanzas)?, essential)
+}
+
+fn hold(rt: &(impl Abort + AllocGlobal), rows: &[Row]) {
+    for (stanzas, essential, comes) in rows {
+        assert_eq!(rt; health_of(rt.alloc(), stanzas, *essential), Some(*comes));
+    }
 }
 
 #[test]
-fn one_member(rt: HostRuntime) -> Result<(), Fail> {
-    let alloc = rt.alloc();
-    assert!(rt; health_of_first(alloc, "", false)? == Health::Healthy);
-    assert!(rt; health_of_first(alloc, "a, b", true)? == Health::Unmet(0, 1));
-    Ok(())
+fn one_member(rt: HostRuntime) {
+    hold(&rt, &ONE_MEMBER);
 }
 
 #[test]
-fn essential_name(rt: HostRuntime) -> Result<(), Fail> {
-    assert!(rt; health_of_first(rt.alloc(), "", true)? == Health::EssentialMissing(1));
-    Ok(())
+fn essential_name(rt: HostRuntime) {
+    hold(&rt, &ESSENTIAL_NAME);
 }

@@ -1,5 +1,5 @@
 use Rattle.std.proofs.Common.{◌≤◌, length}
-use Rattle.dist_now.proofs.present_tests.repository.Given as goal
+use Rattle.dist_now.proofs.test_repositories.repository.Given as goal
 
 -- at most one package for each stanza
 abbrev pub invariant-loop-stanza : goal.invariant-loop-stanza
