@@ -2,19 +2,9 @@
 #![tactic(auto)]
 
 mod checking;
-#[cfg(test)]
-mod fault_tests;
 mod file;
 mod laws;
-#[cfg(test)]
-mod limit_tests;
-#[cfg(test)]
-mod mode_tests;
 mod start;
-#[cfg(test)]
-mod tests;
-#[cfg(test)]
-mod texts;
 mod verdict;
 
 pub use file::check;

@@ -19,6 +19,3 @@ pub use laws::{
     classes_are_there, cuts_are_one, new_names_are_one, new_names_match_alike,
     new_versions_match_alike, no_class_is_empty, versions_are_in_one_class,
 };
-
-#[cfg(test)]
-mod tests;

@@ -4,8 +4,6 @@
 mod assignment;
 mod clause_set;
 mod literal;
-#[cfg(test)]
-mod tests;
 
 pub use assignment::Assignment;
 pub use clause_set::{ClauseSet, PushError};

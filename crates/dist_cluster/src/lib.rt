@@ -11,6 +11,3 @@ pub use cluster_list::Clusters;
 pub use finding::clusters_of;
 pub use key_list::Keys;
 pub use laws::{clustered_is_an_equivalence, partitions_are_one, tops_are_one};
-
-#[cfg(test)]
-mod tests;

@@ -19,6 +19,3 @@ pub use field_list::{Field, Fields, Stanza};
 pub use laws::{one_reading_or_fault, values_take_bytes};
 pub use line::split_line;
 pub use reader::Stanzas;
-
-#[cfg(test)]
-mod tests;

@@ -9,8 +9,6 @@ mod log;
 mod newness;
 mod propagation;
 mod scratch;
-#[cfg(test)]
-mod tests;
 mod true_literals;
 mod variable_set;
 

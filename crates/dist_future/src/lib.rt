@@ -17,14 +17,3 @@ pub use health::health_in;
 pub use health_kind::FutureHealth;
 pub use health_laws::{healthy_are_models, healthy_stand_for_futures, one_future_health};
 pub use laws::{each_model_is_a_future, models_stand_for_futures};
-
-#[cfg(test)]
-mod assignments;
-#[cfg(test)]
-mod clause_tests;
-#[cfg(test)]
-mod health_tests;
-#[cfg(test)]
-mod test_spaces;
-#[cfg(test)]
-mod tests;

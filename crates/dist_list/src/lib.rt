@@ -9,6 +9,3 @@ mod list;
 
 pub use laws::lists_are_exact;
 pub use list::{ListError, read_list};
-
-#[cfg(test)]
-mod tests;

@@ -21,10 +21,3 @@ pub use present_laws::{
     health_is_of_sets, models_are_installations, present_clauses_are_one,
     present_clauses_are_there, present_clauses_go_on,
 };
-
-#[cfg(test)]
-mod present_tests;
-#[cfg(test)]
-mod test_repositories;
-#[cfg(test)]
-mod tests;

@@ -14,6 +14,3 @@ pub use laws::{
     kinds_carry_no_memory, packages_are_exact, packages_are_spelled, relations_take_bytes,
 };
 pub use reader::read_packages;
-
-#[cfg(test)]
-mod tests;

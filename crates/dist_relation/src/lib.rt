@@ -18,6 +18,3 @@ pub use lists::{Alternatives, Atoms, Items, Provides};
 pub use name::Name;
 pub use printing::print_alternatives;
 pub use values::{read_atoms, read_depends, read_provides};
-
-#[cfg(test)]
-mod tests;

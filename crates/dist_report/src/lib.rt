@@ -16,8 +16,3 @@ pub use laws::{classes_texts_are_one, strings_are_plain};
 pub use lines::print_label;
 pub use marks::some_has_mark;
 pub use strong_report::text;
-
-#[cfg(test)]
-mod strong_tests;
-#[cfg(test)]
-mod tests;

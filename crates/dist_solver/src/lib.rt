@@ -10,8 +10,6 @@ mod descent;
 mod lines;
 mod propagation;
 mod search;
-#[cfg(test)]
-mod tests;
 mod trail;
 
 pub use answers::{Answer, AskError, Hints};

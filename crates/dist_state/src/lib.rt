@@ -10,8 +10,6 @@ mod literals;
 mod newness;
 mod question;
 mod state;
-#[cfg(test)]
-mod tests;
 mod tools;
 
 pub use lines::take_line;

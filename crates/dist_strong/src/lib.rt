@@ -8,8 +8,6 @@ mod group;
 mod putting;
 mod settling;
 mod sweep;
-#[cfg(test)]
-mod tests;
 mod window;
 mod words;
 

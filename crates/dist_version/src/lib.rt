@@ -155,6 +155,3 @@ impl Eq for Version {
 
     ghost laws = { nat_list_eq_equiv };
 }
-
-#[cfg(test)]
-mod tests;

@@ -1,0 +1,255 @@
+//! Certificates that are refused, each at the line and for the cause of its first fault.
+use crate::texts::{TEN, TWO, answer, at, edited, fault_of};
+use dist_cert::CertCause::{
+    self, BadHeader, BadLine, BadRecord, Incomplete, LimitNotReached, NotAnInstallation, NotNew,
+    OutOfOrder, OutOfRange, Truncated, UnknownLine, WrongClaim,
+};
+use dist_cert::CertFault;
+use dist_check::Verdict;
+use dist_outside::Limits;
+use std::alloc::Global;
+use std::process::Abort;
+
+/// The first and the last of some lines of the certificate of a and b, what takes their place, and the line and the cause of
+/// the refusal.
+type Edit = (u64, u64, &'static str, u64, CertCause);
+
+const EDITS: [Edit; 29] = [
+    // First lines of other kinds.
+    (
+        1,
+        1,
+        "distfuture-certificate 1 outdated plain 10000 2 2 1\n",
+        1,
+        BadHeader,
+    ),
+    (
+        1,
+        1,
+        "distfuture-certificate 1 challenged plain 10000 2 2 1\n",
+        1,
+        BadHeader,
+    ),
+    (
+        1,
+        1,
+        "distfuture-certificate 1 outdated essential 10000 2 2 1\n",
+        1,
+        BadHeader,
+    ),
+    (
+        1,
+        1,
+        "distfuture-certificate 1 strong plain 0 2 2 1\n",
+        1,
+        BadHeader,
+    ),
+    (
+        1,
+        1,
+        "distfuture-certificate 1 strong plain 10000 2 2 2\n",
+        1,
+        BadHeader,
+    ),
+    // Lines of a wrong form.
+    (2, 2, "q 4294967296\n", 2, BadRecord),
+    (2, 2, "q 1 1\n", 2, BadRecord),
+    (2, 2, "q 1\r\n", 2, BadRecord),
+    (3, 3, "m 2 1\n", 3, BadRecord),
+    (11, 11, "e\n", 11, BadRecord),
+    // Variables above the last.
+    (2, 2, "q 3\n", 2, OutOfRange),
+    (3, 3, "m 1 3\n", 3, OutOfRange),
+    (4, 4, "d 3 0 1\n", 4, OutOfRange),
+    // Wrong steps.
+    (3, 3, "m 1\n", 3, NotAnInstallation),
+    (4, 4, "d 2 0 1\n", 4, BadLine),
+    (4, 4, "d 2 0 2\n", 4, UnknownLine),
+    (4, 4, "", 4, BadLine),
+    (5, 5, "f\n", 5, BadLine),
+    (5, 5, "f 2\n", 5, UnknownLine),
+    // Answers without a question.
+    (2, 2, "f 1\n", 2, OutOfOrder),
+    (2, 2, "u\n", 2, OutOfOrder),
+    (5, 5, "f 1\nf 1\n", 6, OutOfOrder),
+    (5, 5, "u\n", 5, LimitNotReached),
+    // Wrong claims.
+    (6, 6, "s 2 1 0 2 0\n", 6, OutOfOrder),
+    (10, 10, "x 3\ne\n", 10, OutOfOrder),
+    (6, 6, "c 1 1 0 0\n", 6, WrongClaim),
+    (6, 6, "s 1 2 0 2 0\n", 6, WrongClaim),
+    (6, 6, "s 1 1 0 0\n", 6, Incomplete),
+    (7, 9, "", 7, Incomplete),
+];
+
+/// The fault of an edit.
+fn fault_of_edit(alloc: Global, edit: &Edit) -> Option<CertFault> {
+    let text = edited(alloc, edit.0, edit.1, edit.2)?;
+    fault_of(alloc, TWO, &text, &Limits::stated())
+}
+
+fn hold_edits(rt: &(impl Abort + AllocGlobal), edits: &[Edit]) {
+    for edit in edits {
+        let fault = fault_of_edit(rt.alloc(), edit);
+        assert_eq!(rt;
+            fault,
+            at(edit.3, edit.4),
+            "{:?} at line {}",
+            edit.2,
+            edit.0
+        );
+    }
+}
+
+#[test]
+fn edits_are_refused(rt: HostRuntime) {
+    hold_edits(&rt, &EDITS);
+}
+
+/// Stanzas, a text, and the line and the cause of its refusal.
+type Text = (&'static str, &'static str, u64, CertCause);
+
+/// Package a, and b, which is essential.
+const PAIR: &str = "Package: a\nVersion: 1\n\nPackage: b\nVersion: 1\nEssential: yes\n";
+
+const TEXTS: [Text; 5] = [
+    // An undecided question needs new lines.
+    (
+        TWO,
+        "distfuture-certificate 1 strong plain 1 2 2 1\nq 1\nd -1 2 0 1\nu\ns 1 1 0 2 0\nq 2\nm 2\ns 2 2 0 0\ne\n",
+        4,
+        NotNew,
+    ),
+    // A certificate of no packages is not one of a package.
+    (
+        "Package: a\nVersion: 1\n",
+        "distfuture-certificate 1 strong plain 10000 0 0 0\ne\n",
+        1,
+        BadHeader,
+    ),
+    // The mode decides what an installation needs, and how many clauses there are.
+    (
+        PAIR,
+        "distfuture-certificate 1 strong essential 10000 2 2 1\nm 1\n",
+        2,
+        NotAnInstallation,
+    ),
+    (
+        PAIR,
+        "distfuture-certificate 1 strong plain 10000 2 2 1\n",
+        1,
+        BadHeader,
+    ),
+    (
+        PAIR,
+        "distfuture-certificate 1 strong essential 10000 2 2 0\n",
+        1,
+        BadHeader,
+    ),
+];
+
+fn hold_texts(rt: &(impl Abort + AllocGlobal), rows: &[Text]) {
+    for (stanzas, text, line, cause) in rows {
+        let fault = fault_of(rt.alloc(), stanzas, text.as_bytes(), &Limits::stated());
+        assert_eq!(rt; fault, at(*line, *cause), "{text}");
+    }
+}
+
+#[test]
+fn texts_are_refused(rt: HostRuntime) {
+    hold_texts(&rt, &TEXTS);
+}
+
+/// Whether a front of the certificate of a and b is truncated at the line that it ends in.
+fn is_truncated(alloc: Global, front: &[u8]) -> bool {
+    let mut line = 1u64;
+    for byte in front {
+        if *byte == b'\n' {
+            line = line.saturating_add(1);
+        }
+    }
+    fault_of(alloc, TWO, front, &Limits::stated()) == at(line, Truncated)
+}
+
+fn hold_fronts(rt: &(impl Abort + AllocGlobal), text: &[u8]) {
+    for length in 0..text.len() {
+        assert!(rt; is_truncated(rt.alloc(), &text[..length]), "{length} bytes");
+    }
+}
+
+#[test]
+fn fronts_are_truncated(rt: HostRuntime) {
+    hold_fronts(&rt, TEN.as_bytes());
+}
+
+/// How many installations stand in place of the first question, the two claims, and the line and the cause of the refusal,
+/// where there is one.
+type Many = (usize, &'static str, &'static str, Option<(u64, CertCause)>);
+
+/// Installations may be named for 1,024 lines.
+const MANY: [Many; 4] = [
+    (1024, "s 1 1 0 2 0\n", "s 2 1025 0 0\n", None),
+    (
+        1025,
+        "s 1 1 0 2 0\n",
+        "s 2 1026 0 0\n",
+        Some((1029, WrongClaim)),
+    ),
+    (1100, "s 1 77 0 2 0\n", "s 2 1101 0 0\n", None),
+    (
+        1100,
+        "s 1 76 0 2 0\n",
+        "s 2 1101 0 0\n",
+        Some((1104, WrongClaim)),
+    ),
+];
+
+/// The text of a row of many installations.
+fn text_of(alloc: Global, row: &Many) -> Option<Vec<u8>> {
+    let mut text = Vec::new(alloc);
+    text.extend_from_slice(b"distfuture-certificate 1 strong plain 10000 2 2 1\n")
+        .ok()?;
+    for _ in 0..row.0 {
+        text.extend_from_slice(b"m 1 2\n").ok()?;
+    }
+    text.extend_from_slice(b"q 1 -2\nf 1\n").ok()?;
+    text.extend_from_slice(row.1.as_bytes()).ok()?;
+    text.extend_from_slice(b"q 2\nm 2\n").ok()?;
+    text.extend_from_slice(row.2.as_bytes()).ok()?;
+    text.extend_from_slice(b"e\n").ok()?;
+    Some(text)
+}
+
+/// Whether a row is refused as it says, or is accepted where it says so.
+fn is_judged(alloc: Global, row: &Many) -> Option<bool> {
+    let text = text_of(alloc, row)?;
+    Some(match row.3 {
+        Some((line, cause)) => fault_of(alloc, TWO, &text, &Limits::stated()) == at(line, cause),
+        None => is_accepted(alloc, &text),
+    })
+}
+
+/// Whether a text over a and b is accepted.
+fn is_accepted(alloc: Global, text: &[u8]) -> bool {
+    matches!(
+        answer(alloc, TWO, text, &Limits::stated()),
+        Some(Ok(Verdict::Accepted(_, _)))
+    )
+}
+
+fn hold_many(rt: &(impl Abort + AllocGlobal), rows: &[Many]) {
+    for row in rows {
+        assert_eq!(rt;
+            is_judged(rt.alloc(), row),
+            Some(true),
+            "{}, {}",
+            row.0,
+            row.1
+        );
+    }
+}
+
+#[test]
+fn installations_stay_for_1024_lines(rt: HostRuntime) {
+    hold_many(&rt, &MANY);
+}

@@ -1,0 +1,19 @@
+//! Sweeps, their certificates, the checks of these and their reports, over repositories of a few stanzas. Tests alone.
+#![tactic(auto)]
+
+#[cfg(test)]
+mod accepted;
+#[cfg(test)]
+mod faults;
+#[cfg(test)]
+mod limits;
+#[cfg(test)]
+mod stanzas;
+#[cfg(test)]
+mod states;
+#[cfg(test)]
+mod strong_reports;
+#[cfg(test)]
+mod sweeps;
+#[cfg(test)]
+mod texts;

@@ -1,0 +1,111 @@
+//! Texts that pass a number, and files that are not read.
+use crate::stanzas::repository;
+use crate::texts::{TEN, TWO, answer, at, edited, fault_of, limited};
+use dist_cert::CertCause::LineTooLong;
+use dist_check::check;
+use dist_outside::{Limits, MemoryDesk, What, WorkError};
+use dist_repo::Repository;
+use std::alloc::Global;
+use std::process::Abort;
+
+/// A line of the certificate of a and b, what takes its place, and a number that this passes.
+type Passed = (u64, &'static str, What, u32);
+
+const PASSED: [Passed; 5] = [
+    (99, "", What::Certificate, 102),
+    // The clauses are counted before the numbers of the first line are looked at.
+    (
+        1,
+        "distfuture-certificate 1 strong plain 10000 3 3 1\n",
+        What::Clauses,
+        0,
+    ),
+    (
+        1,
+        "distfuture-certificate 1 strong plain 10000 3 3 1\n",
+        What::Literals,
+        1,
+    ),
+    (3, "d -1 2 0 1\n", What::Lines, 0),
+    (3, "d -1 2 0 1\n", What::LineLiterals, 1),
+];
+
+/// Whether a row passes its number.
+fn is_passed(alloc: Global, row: &Passed) -> Option<bool> {
+    let (line, with, what, number) = *row;
+    let text = edited(alloc, line, line, with)?;
+    let answer = answer(alloc, TWO, &text, &limited(what, number))?;
+    Some(answer.err() == Some(WorkError::TooLarge(what)))
+}
+
+fn hold_passed(rt: &(impl Abort + AllocGlobal), rows: &[Passed]) {
+    for row in rows {
+        assert_eq!(rt;
+            is_passed(rt.alloc(), row),
+            Some(true),
+            "{}, {}",
+            row.1,
+            row.3
+        );
+    }
+}
+
+#[test]
+fn numbers_are_counted(rt: HostRuntime) {
+    hold_passed(&rt, &PASSED);
+}
+
+#[test]
+fn a_line_may_be_too_long(rt: HostRuntime) {
+    let fault = fault_of(
+        rt.alloc(),
+        TWO,
+        TEN.as_bytes(),
+        &limited(What::RecordLine, 10),
+    );
+    assert_eq!(rt; fault, at(1, LineTooLong));
+}
+
+/// The desk's call that fails, the name that is asked for, and the error of work.
+type Failing = (u64, &'static str, Option<WorkError>);
+
+const FAILING: [Failing; 4] = [
+    (1, "c", Some(WorkError::ReadFault)),
+    (5, "c", Some(WorkError::ReadFault)),
+    (99, "d", Some(WorkError::ReadFault)),
+    (99, "c", None),
+];
+
+/// The error of work on the certificate of a repository, where a call of the desk fails.
+fn error_over(alloc: Global, repository: &Repository, row: &Failing) -> Option<Option<WorkError>> {
+    if !repository.is_within_size() {
+        return None;
+    }
+    let mut desk = MemoryDesk::new(alloc, 7, &[row.0]).ok()?;
+    desk.put("c", TEN.as_bytes()).ok()?;
+    let answer = check(alloc, repository, &mut desk, row.1, &Limits::stated());
+    Some(answer.err())
+}
+
+/// Whether the certificate of a and b is answered as the row says.
+fn is_told(alloc: Global, row: &Failing) -> Option<bool> {
+    let repository = repository(alloc, TWO)?;
+    Some(error_over(alloc, &repository, row)? == row.2)
+}
+
+fn hold_failing(rt: &(impl Abort + AllocGlobal), rows: &[Failing]) {
+    for row in rows {
+        assert_eq!(rt;
+            is_told(rt.alloc(), row),
+            Some(true),
+            "{}, {}",
+            row.0,
+            row.1
+        );
+    }
+}
+
+#[test]
+fn faults_of_the_desk_are_told(rt: HostRuntime) {
+    hold_failing(&rt, &FAILING);
+}

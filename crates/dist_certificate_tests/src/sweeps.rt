@@ -1,0 +1,304 @@
+//! Sweeps over small repositories, with the claims that a reader of the rules expects.
+ghost use Rattle.dist_outside.specs.Files.{IsNotWriting};
+ghost use Rattle.dist_subject.specs.Limited.{AreStated};
+
+use crate::stanzas::repository;
+use crate::texts::{TWO, limited};
+use dist_cert::{Claim, Claims};
+use dist_outside::{Limits, MemoryDesk, What, WorkError};
+use dist_repo::Repository;
+use dist_strong::strong;
+use std::alloc::Global;
+use std::process::Abort;
+
+/// The letter of a claim, and its lists of packages, numbered from 0.
+type Expected = (char, &'static [u32], &'static [u32]);
+
+/// No strong dependency.
+const NONE: Expected = ('s', &[], &[]);
+
+/// The first line over no packages.
+const FIRST: &str = "distfuture-certificate 1 strong plain 10000 0 0 0\n";
+
+/// Package a without relations.
+const ONE: &str = "Package: a\nVersion: 1\n";
+
+/// Package a depends on b or c, and both depend on d.
+const DIAMOND: &str =
+    "Package: a\nVersion: 1\nDepends: b | c\n\nPackage: b\nVersion: 1\nDepends: d\n\nPackage: c\nVersion: 1\nDepends: d\n\nPackage: d\nVersion: 1\n";
+
+/// Package a depends on b, which conflicts with it.
+const APART: &str = "Package: a\nVersion: 1\nDepends: b\n\nPackage: b\nVersion: 1\nConflicts: a\n";
+
+/// Two versions of a, either of which b takes.
+const VERSIONS: &str =
+    "Package: a\nVersion: 1\n\nPackage: a\nVersion: 2\n\nPackage: b\nVersion: 1\nDepends: a\n";
+
+/// Package p needs one of a and b, and one of c and d, and each of the first two conflicts with the other two.
+const CROSSED: &str =
+    "Package: a\nVersion: 1\nConflicts: c, d\n\nPackage: b\nVersion: 1\nConflicts: c, d\n\nPackage: c\nVersion: 1\n\nPackage: d\nVersion: 1\n\nPackage: p\nVersion: 1\nDepends: a | b, c | d\n";
+
+/// Packages of four names, of each of which there is one at most, and p, which needs five of them.
+const PIGEONS: &str =
+    "Package: a1\nVersion: 1\nConflicts: a\nProvides: a\n\nPackage: a2\nVersion: 1\nConflicts: a\nProvides: a\n\nPackage: a3\nVersion: 1\nConflicts: a\nProvides: a\n\nPackage: a4\nVersion: 1\nConflicts: a\nProvides: a\n\nPackage: a5\nVersion: 1\nConflicts: a\nProvides: a\n\nPackage: b1\nVersion: 1\nConflicts: b\nProvides: b\n\nPackage: b2\nVersion: 1\nConflicts: b\nProvides: b\n\nPackage: b3\nVersion: 1\nConflicts: b\nProvides: b\n\nPackage: b4\nVersion: 1\nConflicts: b\nProvides: b\n\nPackage: b5\nVersion: 1\nConflicts: b\nProvides: b\n\nPackage: c1\nVersion: 1\nConflicts: c\nProvides: c\n\nPackage: c2\nVersion: 1\nConflicts: c\nProvides: c\n\nPackage: c3\nVersion: 1\nConflicts: c\nProvides: c\n\nPackage: c4\nVersion: 1\nConflicts: c\nProvides: c\n\nPackage: c5\nVersion: 1\nConflicts: c\nProvides: c\n\nPackage: d1\nVersion: 1\nConflicts: d\nProvides: d\n\nPackage: d2\nVersion: 1\nConflicts: d\nProvides: d\n\nPackage: d3\nVersion: 1\nConflicts: d\nProvides: d\n\nPackage: d4\nVersion: 1\nConflicts: d\nProvides: d\n\nPackage: d5\nVersion: 1\nConflicts: d\nProvides: d\n\nPackage: p\nVersion: 1\nDepends: a1|b1|c1|d1, a2|b2|c2|d2, a3|b3|c3|d3, a4|b4|c4|d4, a5|b5|c5|d5\n";
+
+/// Package b conflicts with base, which is essential.
+const BASE: &str =
+    "Package: a\nVersion: 1\n\nPackage: b\nVersion: 1\nConflicts: base\n\nPackage: base\nVersion: 1\nEssential: yes\n";
+
+/// A second version of base besides, which is not essential.
+const BASES: &str =
+    "Package: a\nVersion: 1\n\nPackage: b\nVersion: 1\nConflicts: base\n\nPackage: base\nVersion: 1\nEssential: yes\n\nPackage: base\nVersion: 2\n";
+
+/// Stanzas, a mode, a limit, and the claims of a sweep.
+type Claimed = (&'static str, bool, u32, &'static [Expected]);
+
+/// A claim on the last package of the diamond alone.
+const ON_LAST: Expected = ('s', &[3], &[]);
+
+/// An uninstallable package.
+const LOST: Expected = ('x', &[], &[]);
+
+const CLAIMED: [Claimed; 9] = [
+    ("", false, 10000, &[]),
+    (ONE, false, 10000, &[NONE]),
+    (DIAMOND, false, 10000, &[ON_LAST, ON_LAST, ON_LAST, NONE]),
+    (APART, false, 10000, &[LOST, NONE]),
+    (VERSIONS, false, 10000, &[NONE, NONE, NONE]),
+    // After one line the question of the last package is undecided.
+    (
+        PIGEONS,
+        false,
+        1,
+        &[
+            NONE,
+            NONE,
+            NONE,
+            NONE,
+            NONE,
+            NONE,
+            NONE,
+            NONE,
+            NONE,
+            NONE,
+            NONE,
+            NONE,
+            NONE,
+            NONE,
+            NONE,
+            NONE,
+            NONE,
+            NONE,
+            NONE,
+            NONE,
+            ('y', &[], &[]),
+        ],
+    ),
+    // Essential names are installed at mode essential.
+    (BASE, true, 10000, &[('s', &[2], &[]), LOST, NONE]),
+    (BASE, false, 10000, &[NONE, NONE, NONE]),
+    (BASES, true, 10000, &[NONE, LOST, NONE, NONE]),
+];
+
+/// A sweep over a repository, to the file c.
+fn swept_over(
+    alloc: Global,
+    repository: &Repository,
+    mode: (bool, u32),
+    limits: &Limits,
+    desk: &mut MemoryDesk,
+) -> Option<Result<Claims, WorkError>>
+    requires limits { AreStated limits.now }
+    requires idle { IsNotWriting desk.old.mode }
+{
+    let (essential, limit) = mode;
+    if !repository.is_within_size() || limit < 1 || limit > 1_000_000 {
+        return None;
+    }
+    Some(strong(alloc, repository, essential, desk, "c", limit, limits))
+}
+
+/// A sweep over some stanzas, to the file c, at a mode and with a limit.
+fn swept(
+    alloc: Global,
+    stanzas: &str,
+    mode: (bool, u32),
+    limits: &Limits,
+    desk: &mut MemoryDesk,
+) -> Option<Result<Claims, WorkError>>
+    requires limits { AreStated limits.now }
+    requires idle { IsNotWriting desk.old.mode }
+{
+    swept_over(alloc, &repository(alloc, stanzas)?, mode, limits, desk)
+}
+
+/// Whether a claim is the expected one.
+fn is_expected(claim: &Claim, expected: &Expected) -> bool {
+    let (letter, on, undecided) = *expected;
+    match claim {
+        Claim::Uninstallable => letter == 'x',
+        Claim::Unknown => letter == 'y',
+        Claim::Strong(more, left) => {
+            letter == 's' && more.as_slice() == on && left.as_slice() == undecided
+        }
+        _ => false,
+    }
+}
+
+/// Whether the claims are the expected ones.
+fn are_expected(claims: &Claims, expected: &[Expected]) -> bool {
+    if claims.len() != expected.len() {
+        return false;
+    }
+    for place in 0..expected.len() {
+        if !is_expected(claims.get(place), &expected[place]) {
+            return false;
+        }
+    }
+    true
+}
+
+/// Whether the sweep of a row ends with its claims, within the stated limits.
+fn are_claimed(alloc: Global, row: &Claimed) -> Option<bool> {
+    let mut desk = MemoryDesk::new(alloc, 4096, &[]).ok()?;
+    let answer = swept(alloc, row.0, (row.1, row.2), &Limits::stated(), &mut desk)?;
+    Some(are_expected(&answer.ok()?, row.3))
+}
+
+fn hold_claimed(rt: &(impl Abort + AllocGlobal), rows: &[Claimed]) {
+    for row in rows {
+        let holds = are_claimed(rt.alloc(), row);
+        assert_eq!(rt; holds, Some(true), "{}, essential: {}", row.0, row.1);
+    }
+}
+
+#[test]
+fn strong_dependencies_are_those_of_all_installations(rt: HostRuntime) {
+    hold_claimed(&rt, &CLAIMED);
+}
+
+/// Stanzas, a mode, and the certificate of a sweep, or its front where it is not whole.
+type Written = (&'static str, bool, &'static str, bool);
+
+const WRITTEN: [Written; 3] = [
+    (
+        "",
+        false,
+        "distfuture-certificate 1 strong plain 10000 0 0 0\ne\n",
+        true,
+    ),
+    (
+        TWO,
+        false,
+        "distfuture-certificate 1 strong plain 10000 2 2 1\nq 1\nm 1 2\nq 1 -2\nf 1\ns 1 1 0 2 0\nq 2\nm 2\ns 2 1 2 0 0\ne\n",
+        true,
+    ),
+    (
+        BASE,
+        true,
+        "distfuture-certificate 1 strong essential 10000 3 3 2\n",
+        false,
+    ),
+];
+
+/// Whether the certificate of a row begins with its text.
+fn is_written(alloc: Global, row: &Written) -> Option<bool> {
+    let mut desk = MemoryDesk::new(alloc, 7, &[]).ok()?;
+    let answer = swept(alloc, row.0, (row.1, 10000), &Limits::stated(), &mut desk)?;
+    let file = desk.get("c")?;
+    let whole = file.len() == row.2.len() || !row.3;
+    Some(answer.is_ok() && whole && file.starts_with(row.2.as_bytes()))
+}
+
+fn hold_written(rt: &(impl Abort + AllocGlobal), rows: &[Written]) {
+    for row in rows {
+        assert_eq!(rt; is_written(rt.alloc(), row), Some(true), "{}", row.2);
+    }
+}
+
+#[test]
+fn certificates_have_these_lines(rt: HostRuntime) {
+    hold_written(&rt, &WRITTEN);
+}
+
+/// Whether the file c has these bytes, or is not there where none are given.
+fn is_left(desk: &MemoryDesk, file: Option<&str>) -> bool {
+    match (desk.get("c"), file) {
+        (Some(bytes), Some(text)) => bytes == text.as_bytes(),
+        (None, None) => true,
+        _ => false,
+    }
+}
+
+/// The most that a call of the desk moves, the call that fails, and the file that a sweep over no packages leaves.
+type Leaving = (usize, u64, Option<&'static str>);
+
+const LEAVING: [Leaving; 5] = [
+    (100, 1, None),
+    (100, 2, Some("")),
+    (10, 3, Some("distfuture")),
+    (100, 3, Some(FIRST)),
+    (
+        100,
+        4,
+        Some("distfuture-certificate 1 strong plain 10000 0 0 0\ne\n"),
+    ),
+];
+
+/// Whether a sweep over no packages is told as a fault of writing, and leaves the file of a row.
+fn leaves(alloc: Global, row: &Leaving) -> Option<bool> {
+    if row.0 == 0 {
+        return None;
+    }
+    let mut desk = MemoryDesk::new(alloc, row.0, &[row.1]).ok()?;
+    let answer = swept(alloc, "", (false, 10000), &Limits::stated(), &mut desk)?;
+    Some(answer.err() == Some(WorkError::WriteFault) && is_left(&desk, row.2))
+}
+
+fn hold_leaving(rt: &(impl Abort + AllocGlobal), rows: &[Leaving]) {
+    for row in rows {
+        assert_eq!(rt; leaves(rt.alloc(), row), Some(true), "{}, {}", row.0, row.1);
+    }
+}
+
+#[test]
+fn a_fault_of_the_desk_leaves_what_was_written(rt: HostRuntime) {
+    hold_leaving(&rt, &LEAVING);
+}
+
+/// Stanzas, a number that their sweep passes, and the file that is left.
+type Stopping = (&'static str, What, u32, Option<&'static str>);
+
+/// The lines before the question that needs a derived line.
+const BEFORE: &str =
+    "distfuture-certificate 1 strong plain 10000 5 5 6\nq 1\nm 1\ns 1 1 0 0\nq 2\nm 2\ns 2 2 0 0\nq 3\nm 3\ns 3 3 0 0\nq 4\nm 4\ns 4 4 0 0\nq 5\n";
+
+const STOPPING: [Stopping; 7] = [
+    (APART, What::Clauses, 1, None),
+    (APART, What::Literals, 3, None),
+    ("", What::RecordLine, 49, Some("")),
+    ("", What::Certificate, 49, Some("")),
+    ("", What::Certificate, 51, Some(FIRST)),
+    (CROSSED, What::Lines, 0, Some(BEFORE)),
+    (CROSSED, What::LineLiterals, 0, Some(BEFORE)),
+];
+
+/// Whether a sweep stops at a row's number, and leaves its file.
+fn stops(alloc: Global, row: &Stopping) -> Option<bool> {
+    let (stanzas, what, number, file) = *row;
+    let mut desk = MemoryDesk::new(alloc, 4096, &[]).ok()?;
+    let limits = limited(what, number);
+    let answer = swept(alloc, stanzas, (false, 10000), &limits, &mut desk)?;
+    Some(answer.err() == Some(WorkError::TooLarge(what)) && is_left(&desk, file))
+}
+
+fn hold_stopping(rt: &(impl Abort + AllocGlobal), rows: &[Stopping]) {
+    for row in rows {
+        assert_eq!(rt; stops(rt.alloc(), row), Some(true), "{}, {}", row.0, row.2);
+    }
+}
+
+#[test]
+fn a_limit_stops_before_the_line_that_passes_it(rt: HostRuntime) {
+    hold_stopping(&rt, &STOPPING);
+}

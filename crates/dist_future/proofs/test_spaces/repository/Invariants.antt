@@ -1,6 +1,0 @@
-use Rattle.std.proofs.Common.{◌≤◌, length}
-use Rattle.dist_future.proofs.test_spaces.repository.Given as goal
-
--- at most one package for each stanza
-abbrev pub invariant-loop-stanza : goal.invariant-loop-stanza
-invariant-loop-stanza l = length l.builder ≤ l.stanza-index

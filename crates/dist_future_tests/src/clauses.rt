@@ -1,0 +1,290 @@
+//! Worked rows: the clauses of small spaces, as lists of numbers in the DIMACS format.
+use crate::spaces::{ESSENTIAL, LIBRARY, MOVING, NEW_NAME, ONE_SOURCE, VIRTUAL, small_space};
+use dist_base::{MAX_CLAUSES, MAX_LITERALS};
+use dist_clause::{ClauseSet, Lit, PushError};
+use dist_future::{Space, clauses_of};
+use std::alloc::Global;
+use std::process::Abort;
+use std::test::Fail;
+
+/// Whether a clause has these literals.
+fn is_clause(clause: &[Lit], expected: &[i32]) -> bool {
+    if clause.len() != expected.len() {
+        return false;
+    }
+    for place in 0..clause.len() {
+        let literal = clause[place];
+        if literal.variable() != expected[place].unsigned_abs()
+            || literal.positive() != (expected[place] > 0)
+        {
+            return false;
+        }
+    }
+    true
+}
+
+/// Whether the set has exactly these clauses.
+fn has(set: &ClauseSet, clauses: &[&[i32]]) -> bool {
+    if set.len() as usize != clauses.len() {
+        return false;
+    }
+    for number in 1..=set.len() {
+        if !is_clause(set.clause(number), clauses[number as usize - 1]) {
+            return false;
+        }
+    }
+    true
+}
+
+/// What a row shows, stanzas, a mode, and the clauses of their space.
+type Clauses = (&'static str, &'static str, bool, &'static [&'static [i32]]);
+
+const CLAUSES: [Clauses; 9] = [
+    ("a future of nothing", "", true, &[]),
+    // Members move together, so a depends on its present version and b on a later one never hold together.
+    (
+        "members of one source",
+        ONE_SOURCE,
+        false,
+        &[
+            &[-5, -8],
+            &[-5, -11],
+            &[-8, -11],
+            &[-2, -5],
+            &[-6, 5],
+            &[-3, -5],
+            &[-7, 5],
+            &[-2, -8],
+            &[-9, 8],
+            &[-3, -8],
+            &[-10, 8],
+            &[-2, -11],
+            &[-12, 11],
+            &[-3, -11],
+            &[-13, 11],
+            &[-4, -14],
+            &[-15, 14],
+            &[-4, 2],
+            &[-4, 10, 13],
+            &[-1, -5],
+            &[-1, -8],
+            &[-1, -11],
+            &[-1, -14],
+        ],
+    ),
+    (
+        "a version too late",
+        LIBRARY,
+        false,
+        &[
+            &[-4, -6],
+            &[-4, -8],
+            &[-6, -8],
+            &[-2, -4],
+            &[-5, 4],
+            &[-2, -6],
+            &[-7, 6],
+            &[-2, -8],
+            &[-9, 8],
+            &[-3, -10],
+            &[-11, 10],
+            &[-3, 2, 5],
+            &[-1, -4],
+            &[-1, -6],
+            &[-1, -8],
+            &[-1, -10],
+        ],
+    ),
+    (
+        "an entry is dropped",
+        VIRTUAL,
+        false,
+        &[
+            &[-2, -4],
+            &[-5, 4],
+            &[-3, -6],
+            &[-7, 6],
+            &[-8, 7],
+            &[-2, 3, 7],
+            &[-2, -3],
+            &[-2, -8],
+            &[-1, -4],
+            &[-1, -6],
+        ],
+    ),
+    (
+        "a moving entry",
+        MOVING,
+        false,
+        &[
+            &[-4, -7],
+            &[-4, -10],
+            &[-7, -10],
+            &[-2, -4],
+            &[-5, 4],
+            &[-6, 5],
+            &[-2, -7],
+            &[-8, 7],
+            &[-9, 8],
+            &[-2, -10],
+            &[-11, 10],
+            &[-12, 11],
+            &[-3, -13],
+            &[-14, 13],
+            &[-3, 2, 5, 8, 11],
+            &[-3, -9],
+            &[-3, -12],
+            &[-1, -4],
+            &[-1, -7],
+            &[-1, -10],
+            &[-1, -13],
+        ],
+    ),
+    (
+        "an essential name",
+        ESSENTIAL,
+        true,
+        &[
+            &[-4, -6],
+            &[-4, -8],
+            &[-6, -8],
+            &[-2, -4],
+            &[-5, 4],
+            &[-2, -6],
+            &[-7, 6],
+            &[-2, -8],
+            &[-9, 8],
+            &[-3, -10],
+            &[-11, 10],
+            &[-3, -7],
+            &[-3, -9],
+            &[-1, -4],
+            &[-1, -6],
+            &[-1, -8],
+            &[-1, -10],
+            &[2, 5, 7, 9],
+        ],
+    ),
+    (
+        "no name at mode plain",
+        ESSENTIAL,
+        false,
+        &[
+            &[-4, -6],
+            &[-4, -8],
+            &[-6, -8],
+            &[-2, -4],
+            &[-5, 4],
+            &[-2, -6],
+            &[-7, 6],
+            &[-2, -8],
+            &[-9, 8],
+            &[-3, -10],
+            &[-11, 10],
+            &[-3, -7],
+            &[-3, -9],
+            &[-1, -4],
+            &[-1, -6],
+            &[-1, -8],
+            &[-1, -10],
+        ],
+    ),
+    (
+        "a new name",
+        NEW_NAME,
+        false,
+        &[
+            &[-2, -3],
+            &[-4, 3],
+            &[-5, -6],
+            &[-5, -7],
+            &[-6, -7],
+            &[-2, 5],
+            &[-1, -3],
+            &[-1, -5],
+            &[-1, -6],
+            &[-1, -7],
+        ],
+    ),
+    // The first two are in conflict by what they provide, and never with themselves; the last one rejects the second by its name,
+    // and a package of a new name.
+    (
+        "conflicts of all kinds",
+        "Package: e\nVersion: 1\nDepends: m\nConflicts: m\nProvides: m\n\nPackage: f\nVersion: 1\nConflicts: m\nProvides: m\n\nPackage: g\nVersion: 1\nDepends: z | e\nConflicts: z, f\n",
+        false,
+        &[
+            &[-2, -5],
+            &[-6, 5],
+            &[-7, 6],
+            &[-3, -8],
+            &[-9, 8],
+            &[-10, 9],
+            &[-4, -11],
+            &[-12, 11],
+            &[-4, 2, 6, 13],
+            &[-2, -3],
+            &[-2, -10],
+            &[-3, -4],
+            &[-3, -7],
+            &[-4, -9],
+            &[-4, -13],
+            &[-1, -5],
+            &[-1, -8],
+            &[-1, -11],
+            &[-1, -13],
+        ],
+    ),
+];
+
+/// Whether the space of a row's stanzas has exactly its clauses.
+fn is_made(alloc: Global, row: &Clauses) -> Option<bool> {
+    let space = small_space(alloc, row.1, row.2)?;
+    let set = clauses_of(alloc, &space, MAX_CLAUSES, MAX_LITERALS).ok()?;
+    Some(has(&set, row.3) && set.variables() == space.variables())
+}
+
+fn hold_clauses(rt: &(impl Abort + AllocGlobal), rows: &[Clauses]) {
+    for row in rows {
+        assert_eq!(rt; is_made(rt.alloc(), row), Some(true), "{}", row.0);
+    }
+}
+
+#[test]
+fn the_clauses_of_small_spaces(rt: HostRuntime) {
+    hold_clauses(&rt, &CLAUSES);
+}
+
+/// The most clauses and literals, and why they are too few, if they are.
+type Limits = (u32, u32, Option<PushError>);
+
+const LIMITS: [Limits; 5] = [
+    (15, 33, Some(PushError::TooManyClauses)),
+    (16, 32, Some(PushError::TooManyLiterals)),
+    (11, 22, Some(PushError::TooManyClauses)),
+    (0, 0, Some(PushError::TooManyClauses)),
+    (16, 33, None),
+];
+
+/// Whether a space has clauses within a row's limits, or is refused as it says.
+fn is_limited(alloc: Global, space: &Space, row: &Limits) -> bool {
+    let (clauses, literals, refusal) = *row;
+    clauses <= MAX_CLAUSES
+        && literals <= MAX_LITERALS
+        && clauses_of(alloc, space, clauses, literals).err() == refusal
+}
+
+fn hold_limits(rt: &(impl Abort + AllocGlobal), space: &Space, rows: &[Limits]) {
+    for row in rows {
+        let holds = is_limited(rt.alloc(), space, row);
+        assert!(rt; holds, "{} clauses, {} literals", row.0, row.1);
+    }
+}
+
+#[test]
+fn the_limits_of_clauses(rt: HostRuntime) -> Result<(), Fail> {
+    match small_space(rt.alloc(), LIBRARY, false) {
+        Some(space) => hold_limits(&rt, &space, &LIMITS),
+        None => Err("no space")?,
+    }
+    Ok(())
+}
