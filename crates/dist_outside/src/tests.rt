@@ -122,8 +122,14 @@ fn a_file_of_the_system_is_written_and_read(rt: HostRuntime) -> Result<(), Fail>
 
 #[test]
 fn a_writer_of_std_takes_a_text(rt: HostRuntime) -> Result<(), Fail> {
-    let mut sink = StdSink::new(Vec::new(rt.alloc()));
+    let alloc = rt.alloc();
+    let path = "dist_outside_std_sink.txt";
+    let mut sink = StdSink::new(fs::File::create(&rt, path)?);
     write_whole(&mut sink, b"text")?;
+    drop(sink);
+    let bytes = read_whole(alloc, &mut RealDesk::new(alloc, &rt), path, 10);
+    fs::remove_file(&rt, path)?;
+    assert_eq!(rt; bytes?.as_slice(), b"text".as_slice());
     Ok(())
 }
 

@@ -60,7 +60,8 @@ const NAMES: [Row; 3] = [
     },
 ];
 
-const PYTHON: &str = "Package: python3
+/// A stanza of Debian 12.
+pub(crate) const PYTHON: &str = "Package: python3
 Source: python3-defaults (3.11.2-1)
 Version: 3.11.2-1+b1
 Architecture: amd64

@@ -61,7 +61,7 @@ const SETS: [Row; 6] = [
         ..EMPTY
     },
     Row {
-        packages: "Package: a\nVersion: 1\n\nPackage: a\nVersion: 2\n",
+        packages: "Package: a\nVersion: 1\n\nPackage: a\nVersion: 2\n\nPackage: b\nVersion: 1\nDepends: a\n",
         list: "a 2\na 1\n",
         out: "two versions a=1 a=2\n",
         ..NOT_HEALTHY
@@ -95,7 +95,7 @@ pub(crate) const BAD_THIRD_LINE: Row = Row {
     ..BAD_LIST
 };
 
-const BAD_FILES: [Row; 7] = [
+const BAD_FILES: [Row; 8] = [
     Row {
         packages: "Package: a\nVersion: 1.0\n\nPackage: a\nVersion: 1.0-0\n",
         err: "distfuture: bad packages at line 4: Clash with line 1\n",
@@ -110,6 +110,12 @@ const BAD_FILES: [Row; 7] = [
         packages: "Package: a\nVersion: 1\nDescription\n",
         list: "?",
         err: "distfuture: bad packages at line 3: NoColon\n",
+        ..BAD_PACKAGES
+    },
+    Row {
+        packages: "Package: a\nVersion: 1\nArchitecture: a b\n",
+        list: "?",
+        err: "distfuture: bad packages at line 3: BadArchitecture\n",
         ..BAD_PACKAGES
     },
     Row {
@@ -134,7 +140,13 @@ const STOPPED: Row = Row {
     ..EMPTY
 };
 
-const LIMITS: [Row; 3] = [
+const LIMITS: [Row; 4] = [
+    Row {
+        packages: "Package: ab",
+        at_most: Some((What::Bytes, 10)),
+        err: "distfuture: too large: Bytes\n",
+        ..STOPPED
+    },
     Row {
         packages: "Package: a\nVersion: 10\n",
         at_most: Some((What::Bytes, 22)),

@@ -14,6 +14,8 @@ mod essential_rows;
 #[cfg(test)]
 mod health_rows;
 #[cfg(test)]
+mod memory_rows;
+#[cfg(test)]
 mod running;
 #[cfg(test)]
 mod status_rows;

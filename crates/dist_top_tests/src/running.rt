@@ -106,7 +106,7 @@ fn limited(what: What, number: u32) -> Limits
 }
 
 /// Words as the top call takes them.
-fn words_of(alloc: Global, words: &[&str]) -> Result<Vec<String>, AllocError> {
+pub(crate) fn words_of(alloc: Global, words: &[&str]) -> Result<Vec<String>, AllocError> {
     let mut all = Vec::new(alloc);
     for word in words {
         all.push(String::from_str(alloc, word)?)?;
@@ -115,7 +115,7 @@ fn words_of(alloc: Global, words: &[&str]) -> Result<Vec<String>, AllocError> {
 }
 
 /// The desk of a row, with its files.
-fn desk_of(alloc: Global, row: &Row) -> Result<MemoryDesk, AllocError>
+pub(crate) fn desk_of(alloc: Global, row: &Row) -> Result<MemoryDesk, AllocError>
     ensures { IfOk result (λ desk. IsNotWriting desk.mode) }
 {
     let mut desk = MemoryDesk::new(alloc, DESK_STEP, &[row.failing.desk])?;

@@ -1,4 +1,4 @@
-//! Each status with its number and its line, but for want of memory, which no desk or sink of a test has.
+//! Each status with its number and its line, but for want of memory, which has a file of its own.
 use crate::running::{Place, Row, holds};
 use crate::{check_rows, classes_rows, health_rows, strong_rows, words_rows};
 use std::alloc::AllocError;

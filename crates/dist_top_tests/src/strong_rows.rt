@@ -1,4 +1,5 @@
 //! Worked rows of `strong`: reports, certificates, and what is left of one where the work stops.
+use crate::classes_rows::PYTHON;
 use crate::running::{After, EMPTY, Failing, NOTHING, Row, Table, hold};
 use dist_app::Status;
 use dist_outside::What;
@@ -47,7 +48,7 @@ undecided_pairs: []
 
 const APART: &str = "Package: a\nVersion: 1\nDepends: b\n\nPackage: b\nVersion: 1\nConflicts: a\n";
 
-const REPORTS: [Row; 6] = [
+const REPORTS: [Row; 7] = [
     NONE,
     Row { cert: None, ..NONE },
     Row {
@@ -133,6 +134,22 @@ undecided: []
 undecided_pairs: []
 ",
         after: After::Begins("distfuture-certificate 1 strong plain 10000 3 3 2\n"),
+        ..NONE
+    },
+    // A stanza of Debian 12 alone, the needs of which nothing meets.
+    Row {
+        packages: PYTHON,
+        out: "report: \"strong\"
+limit: 10000
+packages: 1
+uninstallable:
+  - \"python3=3.11.2-1+b1\"
+strong: []
+impact: []
+undecided: []
+undecided_pairs: []
+",
+        after: After::Begins("distfuture-certificate 1 strong plain 10000 1 1 3\n"),
         ..NONE
     },
 ];
@@ -221,14 +238,21 @@ pub(crate) const CUT_SHORT: Row = Row {
     ..STOPPED
 };
 
-const LIMITS: [Row; 2] = [
+/// A file at the certificate's name stays as it is where the clauses are too many.
+const MANY_CLAUSES: Row = Row {
+    packages: APART,
+    at_most: Some((What::Clauses, 1)),
+    err: "distfuture: too large: Clauses\n",
+    after: After::AsBefore,
+    ..STOPPED
+};
+
+const LIMITS: [Row; 3] = [
     CUT_SHORT,
+    MANY_CLAUSES,
     Row {
-        packages: APART,
-        at_most: Some((What::Clauses, 1)),
-        err: "distfuture: too large: Clauses\n",
-        after: After::AsBefore,
-        ..STOPPED
+        cert: None,
+        ..MANY_CLAUSES
     },
 ];
 

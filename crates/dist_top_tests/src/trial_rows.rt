@@ -1,4 +1,4 @@
-//! A trial.
+//! Trials.
 use crate::running::{EMPTY, Failing, NOTHING, Row, Table, hold};
 use std::test::Fail;
 
@@ -10,7 +10,14 @@ const TRIAL: Row = Row {
     ..EMPTY
 };
 
-const TABLES: [Table; 1] = [("a trial is told", &[TRIAL])];
+// A larger one, which comes to the same each time.
+const LARGER: Row = Row {
+    words: &["try", "--size", "60", "--seed", "1"],
+    out: "size 60\nstrong 41\nuninstallable 13\nundecided 0\naccepted 1\n",
+    ..TRIAL
+};
+
+const TABLES: [Table; 1] = [("a trial is told", &[TRIAL, LARGER, LARGER])];
 
 #[test]
 fn a_trial_is_told(rt: HostRuntime) -> Result<(), Fail> {
