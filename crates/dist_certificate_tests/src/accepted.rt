@@ -1,29 +1,21 @@
 //! The laws, and certificates that are accepted.
-use crate::texts::{TEN, TWO, answer};
-use dist_cert::{Claim, Claims};
+use crate::texts::{Expected, PAIR, TEN, TWO, answer, is_expected};
+use dist_cert::Claims;
 use dist_check::{
-    Verdict, accepted_claims_hold, texts_have_one_verdict, undecided_questions_are_hard,
+    Verdict, accepted_claims_hold, each_text_has_a_verdict, texts_have_one_answer,
+    texts_have_one_verdict, undecided_questions_are_hard,
 };
 use dist_outside::Limits;
 use std::alloc::Global;
 use std::process::Abort;
 
-/// Stanzas, an accepted certificate, whether it is of mode essential, how many claims it has, and the lists of the first
-/// claim, numbered from 0, behind its letter.
-type Accepted = (
-    &'static str,
-    &'static str,
-    bool,
-    usize,
-    (char, &'static [u32], &'static [u32]),
-);
+/// Stanzas, an accepted certificate, whether it is of mode essential, how many claims it has, and the first one, where there
+/// is one.
+type Accepted = (&'static str, &'static str, bool, usize, Expected);
 
 /// Package a, which depends on b or c, and b, which depends on c, and c and d.
 const FOUR: &str =
     "Package: a\nVersion: 1\nDepends: b | c\n\nPackage: b\nVersion: 1\nDepends: c\n\nPackage: c\nVersion: 1\n\nPackage: d\nVersion: 1\n";
-
-/// Package a, and b, which is essential.
-const PAIR: &str = "Package: a\nVersion: 1\n\nPackage: b\nVersion: 1\nEssential: yes\n";
 
 const ACCEPTED: [Accepted; 8] = [
     (TWO, TEN, false, 2, ('s', &[1], &[])),
@@ -84,21 +76,9 @@ const ACCEPTED: [Accepted; 8] = [
     ),
 ];
 
-/// Whether a claim has this letter and these lists.
-fn is_claim(claim: &Claim, expected: &(char, &[u32], &[u32])) -> bool {
-    match claim {
-        Claim::Uninstallable => expected.0 == 'x',
-        Claim::Unknown => expected.0 == 'y',
-        Claim::Strong(on, undecided) => {
-            expected.0 == 's' && on.as_slice() == expected.1 && undecided.as_slice() == expected.2
-        }
-        _ => false,
-    }
-}
-
 /// Whether there are so many claims, and the first has this letter and these lists.
-fn are_claims(claims: &Claims, count: usize, first: &(char, &[u32], &[u32])) -> bool {
-    claims.len() == count && (claims.len() == 0 || is_claim(claims.get(0), first))
+fn are_claims(claims: &Claims, count: usize, first: &Expected) -> bool {
+    claims.len() == count && (claims.len() == 0 || is_expected(claims.get(0), first))
 }
 
 /// Whether a row's text is accepted, at its mode and with its claims.
@@ -126,6 +106,8 @@ fn certificates_are_accepted(rt: HostRuntime) {
 #[test]
 fn the_laws_hold() {
     accepted_claims_hold();
+    each_text_has_a_verdict();
+    texts_have_one_answer();
     texts_have_one_verdict();
     undecided_questions_are_hard();
 }

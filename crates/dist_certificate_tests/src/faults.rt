@@ -1,11 +1,10 @@
 //! Certificates that are refused, each at the line and for the cause of its first fault.
-use crate::texts::{TEN, TWO, answer, at, edited, fault_of};
+use crate::texts::{PAIR, TEN, TWO, at, edited, fault_of, is_accepted};
 use dist_cert::CertCause::{
     self, BadHeader, BadLine, BadRecord, Incomplete, LimitNotReached, NotAnInstallation, NotNew,
     OutOfOrder, OutOfRange, Truncated, UnknownLine, WrongClaim,
 };
 use dist_cert::CertFault;
-use dist_check::Verdict;
 use dist_outside::Limits;
 use std::alloc::Global;
 use std::process::Abort;
@@ -109,9 +108,6 @@ fn edits_are_refused(rt: HostRuntime) {
 /// Stanzas, a text, and the line and the cause of its refusal.
 type Text = (&'static str, &'static str, u64, CertCause);
 
-/// Package a, and b, which is essential.
-const PAIR: &str = "Package: a\nVersion: 1\n\nPackage: b\nVersion: 1\nEssential: yes\n";
-
 const TEXTS: [Text; 5] = [
     // An undecided question needs new lines.
     (
@@ -186,7 +182,7 @@ fn fronts_are_truncated(rt: HostRuntime) {
 /// where there is one.
 type Many = (usize, &'static str, &'static str, Option<(u64, CertCause)>);
 
-/// Installations may be named for 1,024 lines.
+/// The latest 1,024 installations may be named.
 const MANY: [Many; 4] = [
     (1024, "s 1 1 0 2 0\n", "s 2 1025 0 0\n", None),
     (
@@ -225,16 +221,8 @@ fn is_judged(alloc: Global, row: &Many) -> Option<bool> {
     let text = text_of(alloc, row)?;
     Some(match row.3 {
         Some((line, cause)) => fault_of(alloc, TWO, &text, &Limits::stated()) == at(line, cause),
-        None => is_accepted(alloc, &text),
+        None => is_accepted(alloc, TWO, &text),
     })
-}
-
-/// Whether a text over a and b is accepted.
-fn is_accepted(alloc: Global, text: &[u8]) -> bool {
-    matches!(
-        answer(alloc, TWO, text, &Limits::stated()),
-        Some(Ok(Verdict::Accepted(_, _)))
-    )
 }
 
 fn hold_many(rt: &(impl Abort + AllocGlobal), rows: &[Many]) {
@@ -250,6 +238,6 @@ fn hold_many(rt: &(impl Abort + AllocGlobal), rows: &[Many]) {
 }
 
 #[test]
-fn installations_stay_for_1024_lines(rt: HostRuntime) {
+fn the_latest_1024_installations_may_be_named(rt: HostRuntime) {
     hold_many(&rt, &MANY);
 }

@@ -1,4 +1,4 @@
-//! Sweeps, their certificates, the checks of these and their reports, over repositories of a few stanzas. Tests alone.
+//! Sweeps, certificates and their checks, and the reports of claims, over repositories of a few stanzas. Tests alone.
 #![tactic(auto)]
 
 #[cfg(test)]

@@ -1,14 +1,12 @@
 //! Texts that pass a number, and files that are not read.
-use crate::stanzas::repository;
-use crate::texts::{TEN, TWO, answer, at, edited, fault_of, limited};
+use crate::texts::{TEN, TWO, answer, answer_at, at, edited, fault_of, limited};
 use dist_cert::CertCause::LineTooLong;
-use dist_check::check;
-use dist_outside::{Limits, MemoryDesk, What, WorkError};
-use dist_repo::Repository;
+use dist_check::Verdict;
+use dist_outside::{Limits, What, WorkError};
 use std::alloc::Global;
 use std::process::Abort;
 
-/// A line of the certificate of a and b, what takes its place, and a number that this passes.
+/// A line of the certificate of a and b, or one that it hasn't, what takes its place, and a number that the text passes.
 type Passed = (u64, &'static str, What, u32);
 
 const PASSED: [Passed; 5] = [
@@ -76,21 +74,19 @@ const FAILING: [Failing; 4] = [
     (99, "c", None),
 ];
 
-/// The error of work on the certificate of a repository, where a call of the desk fails.
-fn error_over(alloc: Global, repository: &Repository, row: &Failing) -> Option<Option<WorkError>> {
-    if !repository.is_within_size() {
-        return None;
-    }
-    let mut desk = MemoryDesk::new(alloc, 7, &[row.0]).ok()?;
-    desk.put("c", TEN.as_bytes()).ok()?;
-    let answer = check(alloc, repository, &mut desk, row.1, &Limits::stated());
-    Some(answer.err())
-}
-
-/// Whether the certificate of a and b is answered as the row says.
+/// Whether the certificate of a and b is answered as the row says: accepted where there is no error.
 fn is_told(alloc: Global, row: &Failing) -> Option<bool> {
-    let repository = repository(alloc, TWO)?;
-    Some(error_over(alloc, &repository, row)? == row.2)
+    let answer = answer_at(
+        alloc,
+        TWO,
+        TEN.as_bytes(),
+        &Limits::stated(),
+        (row.0, row.1),
+    )?;
+    Some(match answer {
+        Ok(verdict) => row.2.is_none() && matches!(verdict, Verdict::Accepted(_, _)),
+        Err(error) => row.2 == Some(error),
+    })
 }
 
 fn hold_failing(rt: &(impl Abort + AllocGlobal), rows: &[Failing]) {

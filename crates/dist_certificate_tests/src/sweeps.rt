@@ -3,16 +3,13 @@ ghost use Rattle.dist_outside.specs.Files.{IsNotWriting};
 ghost use Rattle.dist_subject.specs.Limited.{AreStated};
 
 use crate::stanzas::repository;
-use crate::texts::{TWO, limited};
-use dist_cert::{Claim, Claims};
+use crate::texts::{Expected, TWO, is_accepted, is_expected, limited};
+use dist_cert::Claims;
 use dist_outside::{Limits, MemoryDesk, What, WorkError};
 use dist_repo::Repository;
-use dist_strong::strong;
+use dist_strong::{budgets_are_enough, strong};
 use std::alloc::Global;
 use std::process::Abort;
-
-/// The letter of a claim, and its lists of packages, numbered from 0.
-type Expected = (char, &'static [u32], &'static [u32]);
 
 /// No strong dependency.
 const NONE: Expected = ('s', &[], &[]);
@@ -59,7 +56,7 @@ const ON_LAST: Expected = ('s', &[3], &[]);
 /// An uninstallable package.
 const LOST: Expected = ('x', &[], &[]);
 
-const CLAIMED: [Claimed; 9] = [
+const CLAIMED: [Claimed; 10] = [
     ("", false, 10000, &[]),
     (ONE, false, 10000, &[NONE]),
     (DIAMOND, false, 10000, &[ON_LAST, ON_LAST, ON_LAST, NONE]),
@@ -94,6 +91,16 @@ const CLAIMED: [Claimed; 9] = [
             ('y', &[], &[]),
         ],
     ),
+    // With lines enough it is uninstallable.
+    (
+        PIGEONS,
+        false,
+        10000,
+        &[
+            NONE, NONE, NONE, NONE, NONE, NONE, NONE, NONE, NONE, NONE, NONE, NONE, NONE, NONE,
+            NONE, NONE, NONE, NONE, NONE, NONE, LOST,
+        ],
+    ),
     // Essential names are installed at mode essential.
     (BASE, true, 10000, &[('s', &[2], &[]), LOST, NONE]),
     (BASE, false, 10000, &[NONE, NONE, NONE]),
@@ -104,14 +111,14 @@ const CLAIMED: [Claimed; 9] = [
 fn swept_over(
     alloc: Global,
     repository: &Repository,
-    mode: (bool, u32),
+    asked: (bool, u32),
     limits: &Limits,
     desk: &mut MemoryDesk,
 ) -> Option<Result<Claims, WorkError>>
     requires limits { AreStated limits.now }
     requires idle { IsNotWriting desk.old.mode }
 {
-    let (essential, limit) = mode;
+    let (essential, limit) = asked;
     if !repository.is_within_size() || limit < 1 || limit > 1_000_000 {
         return None;
     }
@@ -122,27 +129,14 @@ fn swept_over(
 fn swept(
     alloc: Global,
     stanzas: &str,
-    mode: (bool, u32),
+    asked: (bool, u32),
     limits: &Limits,
     desk: &mut MemoryDesk,
 ) -> Option<Result<Claims, WorkError>>
     requires limits { AreStated limits.now }
     requires idle { IsNotWriting desk.old.mode }
 {
-    swept_over(alloc, &repository(alloc, stanzas)?, mode, limits, desk)
-}
-
-/// Whether a claim is the expected one.
-fn is_expected(claim: &Claim, expected: &Expected) -> bool {
-    let (letter, on, undecided) = *expected;
-    match claim {
-        Claim::Uninstallable => letter == 'x',
-        Claim::Unknown => letter == 'y',
-        Claim::Strong(more, left) => {
-            letter == 's' && more.as_slice() == on && left.as_slice() == undecided
-        }
-        _ => false,
-    }
+    swept_over(alloc, &repository(alloc, stanzas)?, asked, limits, desk)
 }
 
 /// Whether the claims are the expected ones.
@@ -158,11 +152,11 @@ fn are_expected(claims: &Claims, expected: &[Expected]) -> bool {
     true
 }
 
-/// Whether the sweep of a row ends with its claims, within the stated limits.
+/// Whether the sweep of a row ends with its claims, within the stated limits, and its certificate is accepted.
 fn are_claimed(alloc: Global, row: &Claimed) -> Option<bool> {
     let mut desk = MemoryDesk::new(alloc, 4096, &[]).ok()?;
     let answer = swept(alloc, row.0, (row.1, row.2), &Limits::stated(), &mut desk)?;
-    Some(are_expected(&answer.ok()?, row.3))
+    Some(are_expected(&answer.ok()?, row.3) && is_accepted(alloc, row.0, desk.get("c")?))
 }
 
 fn hold_claimed(rt: &(impl Abort + AllocGlobal), rows: &[Claimed]) {
@@ -177,7 +171,7 @@ fn strong_dependencies_are_those_of_all_installations(rt: HostRuntime) {
     hold_claimed(&rt, &CLAIMED);
 }
 
-/// Stanzas, a mode, and the certificate of a sweep, or its front where it is not whole.
+/// Stanzas, a mode, the certificate of a sweep or its front, and whether it is whole.
 type Written = (&'static str, bool, &'static str, bool);
 
 const WRITTEN: [Written; 3] = [
@@ -201,7 +195,7 @@ const WRITTEN: [Written; 3] = [
     ),
 ];
 
-/// Whether the certificate of a row begins with its text.
+/// Whether the certificate of a row is its text, or begins with it where that is not whole.
 fn is_written(alloc: Global, row: &Written) -> Option<bool> {
     let mut desk = MemoryDesk::new(alloc, 7, &[]).ok()?;
     let answer = swept(alloc, row.0, (row.1, 10000), &Limits::stated(), &mut desk)?;
@@ -301,4 +295,9 @@ fn hold_stopping(rt: &(impl Abort + AllocGlobal), rows: &[Stopping]) {
 #[test]
 fn a_limit_stops_before_the_line_that_passes_it(rt: HostRuntime) {
     hold_stopping(&rt, &STOPPING);
+}
+
+#[test]
+fn the_law_holds() {
+    budgets_are_enough();
 }

@@ -32,19 +32,19 @@ fn assignment(alloc: Global, space: &Space, variables: &[u32]) -> Option<Assignm
 }
 
 /// Whether the assignment that makes some variables true has this health.
-fn has_fault(alloc: Global, space: &Space, fault: &(&[u32], FutureHealth)) -> Option<bool> {
-    let members = assignment(alloc, space, fault.0)?;
-    Some(health_in(space, &members) == fault.1)
+fn is_of_health(alloc: Global, space: &Space, row: &(&[u32], FutureHealth)) -> Option<bool> {
+    let members = assignment(alloc, space, row.0)?;
+    Some(health_in(space, &members) == row.1)
 }
 
 /// Whether the assignments that make some variables true have this health.
-pub(crate) fn have_faults(
+pub(crate) fn have_health(
     alloc: Global,
     space: &Space,
-    faults: &[(&[u32], FutureHealth)],
+    rows: &[(&[u32], FutureHealth)],
 ) -> Option<bool> {
-    for fault in faults {
-        if !has_fault(alloc, space, fault)? {
+    for row in rows {
+        if !is_of_health(alloc, space, row)? {
             return Some(false);
         }
     }
@@ -99,7 +99,7 @@ fn are_there(space: &Space, wanted: &[Meaning]) -> bool {
     true
 }
 
-/// Whether some healthy assignment makes these meanings true: all are tried, of at most twenty variables.
+/// Whether some healthy assignment makes these meanings true: all are tried, of fewer than twenty variables.
 fn has_model(alloc: Global, space: &Space, wanted: &[Meaning]) -> Option<bool> {
     let mut members = Assignment::new(alloc, space.variables()).ok()?;
     for _round in 0..1_000_000u32 {

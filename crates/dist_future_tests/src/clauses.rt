@@ -2,7 +2,10 @@
 use crate::spaces::{ESSENTIAL, LIBRARY, MOVING, NEW_NAME, ONE_SOURCE, VIRTUAL, small_space};
 use dist_base::{MAX_CLAUSES, MAX_LITERALS};
 use dist_clause::{ClauseSet, Lit, PushError};
-use dist_future::{Space, clauses_of};
+use dist_future::{
+    Space, clauses_of, one_limit_is_passed, space_clauses_are_one, space_clauses_are_there,
+    space_clauses_go_on,
+};
 use std::alloc::Global;
 use std::process::Abort;
 use std::test::Fail;
@@ -36,10 +39,32 @@ fn has(set: &ClauseSet, clauses: &[&[i32]]) -> bool {
     true
 }
 
+/// The clauses of mode plain over an essential name, and then the one of mode essential.
+const OF_BASE: &[&[i32]] = &[
+    &[-4, -6],
+    &[-4, -8],
+    &[-6, -8],
+    &[-2, -4],
+    &[-5, 4],
+    &[-2, -6],
+    &[-7, 6],
+    &[-2, -8],
+    &[-9, 8],
+    &[-3, -10],
+    &[-11, 10],
+    &[-3, -7],
+    &[-3, -9],
+    &[-1, -4],
+    &[-1, -6],
+    &[-1, -8],
+    &[-1, -10],
+    &[2, 5, 7, 9],
+];
+
 /// What a row shows, stanzas, a mode, and the clauses of their space.
 type Clauses = (&'static str, &'static str, bool, &'static [&'static [i32]]);
 
-const CLAUSES: [Clauses; 9] = [
+const CLAUSES: [Clauses; 8] = [
     ("a future of nothing", "", true, &[]),
     // Members move together, so a depends on its present version and b on a later one never hold together.
     (
@@ -140,55 +165,7 @@ const CLAUSES: [Clauses; 9] = [
             &[-1, -13],
         ],
     ),
-    (
-        "an essential name",
-        ESSENTIAL,
-        true,
-        &[
-            &[-4, -6],
-            &[-4, -8],
-            &[-6, -8],
-            &[-2, -4],
-            &[-5, 4],
-            &[-2, -6],
-            &[-7, 6],
-            &[-2, -8],
-            &[-9, 8],
-            &[-3, -10],
-            &[-11, 10],
-            &[-3, -7],
-            &[-3, -9],
-            &[-1, -4],
-            &[-1, -6],
-            &[-1, -8],
-            &[-1, -10],
-            &[2, 5, 7, 9],
-        ],
-    ),
-    (
-        "no name at mode plain",
-        ESSENTIAL,
-        false,
-        &[
-            &[-4, -6],
-            &[-4, -8],
-            &[-6, -8],
-            &[-2, -4],
-            &[-5, 4],
-            &[-2, -6],
-            &[-7, 6],
-            &[-2, -8],
-            &[-9, 8],
-            &[-3, -10],
-            &[-11, 10],
-            &[-3, -7],
-            &[-3, -9],
-            &[-1, -4],
-            &[-1, -6],
-            &[-1, -8],
-            &[-1, -10],
-        ],
-    ),
+    ("an essential name", ESSENTIAL, true, OF_BASE),
     (
         "a new name",
         NEW_NAME,
@@ -236,17 +213,24 @@ const CLAUSES: [Clauses; 9] = [
     ),
 ];
 
-/// Whether the space of a row's stanzas has exactly its clauses.
-fn is_made(alloc: Global, row: &Clauses) -> Option<bool> {
-    let space = small_space(alloc, row.1, row.2)?;
+/// Whether the space of some stanzas has exactly these clauses.
+fn is_made(alloc: Global, stanzas: &str, essential: bool, clauses: &[&[i32]]) -> Option<bool> {
+    let space = small_space(alloc, stanzas, essential)?;
     let set = clauses_of(alloc, &space, MAX_CLAUSES, MAX_LITERALS).ok()?;
-    Some(has(&set, row.3) && set.variables() == space.variables())
+    Some(has(&set, clauses) && set.variables() == space.variables())
 }
 
 fn hold_clauses(rt: &(impl Abort + AllocGlobal), rows: &[Clauses]) {
-    for row in rows {
-        assert_eq!(rt; is_made(rt.alloc(), row), Some(true), "{}", row.0);
+    for (shows, stanzas, essential, clauses) in rows {
+        let made = is_made(rt.alloc(), stanzas, *essential, clauses);
+        assert_eq!(rt; made, Some(true), "{shows}");
     }
+}
+
+#[test]
+fn an_essential_name_has_no_clause_at_mode_plain(rt: HostRuntime) {
+    let made = is_made(rt.alloc(), ESSENTIAL, false, &OF_BASE[..17]);
+    assert_eq!(rt; made, Some(true));
 }
 
 #[test]
@@ -287,4 +271,12 @@ fn the_limits_of_clauses(rt: HostRuntime) -> Result<(), Fail> {
         None => Err("no space")?,
     }
     Ok(())
+}
+
+#[test]
+fn the_laws_hold() {
+    one_limit_is_passed();
+    space_clauses_are_one();
+    space_clauses_are_there();
+    space_clauses_go_on();
 }

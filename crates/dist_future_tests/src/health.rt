@@ -1,20 +1,23 @@
 //! Worked rows: the faults of assignments, and which packages have a model under which classes, with all assignments tried.
-use crate::assignments::{are_models, have_faults};
+use crate::assignments::{are_models, have_health};
 use crate::spaces::{ESSENTIAL, LIBRARY, MOVING, NEW_NAME, ONE_SOURCE, VIRTUAL, small_space};
-use dist_future::FutureHealth;
 use dist_future::Meaning::{self, At, Fresh, Now, Present};
+use dist_future::{
+    FutureHealth, each_model_is_a_future, healthy_are_models, healthy_stand_for_futures,
+    models_stand_for_futures, one_future_health,
+};
 use std::alloc::Global;
 use std::process::Abort;
 
 /// What a row shows, stanzas, a mode, and the health of assignments, each given by its true variables.
-type Faults = (
+type Assignments = (
     &'static str,
     &'static str,
     bool,
     &'static [(&'static [u32], FutureHealth)],
 );
 
-const FAULTS: [Faults; 5] = [
+const ASSIGNMENTS: [Assignments; 5] = [
     (
         "nothing installed is healthy",
         "Package: a\nVersion: 1\nDepends: b\n",
@@ -74,20 +77,20 @@ const FAULTS: [Faults; 5] = [
 ];
 
 /// Whether the assignments of a row have their health.
-fn has_faults(alloc: Global, row: &Faults) -> Option<bool> {
+fn has_health(alloc: Global, row: &Assignments) -> Option<bool> {
     let space = small_space(alloc, row.1, row.2)?;
-    have_faults(alloc, &space, row.3)
+    have_health(alloc, &space, row.3)
 }
 
-fn hold_faults(rt: &(impl Abort + AllocGlobal), rows: &[Faults]) {
+fn hold_assignments(rt: &(impl Abort + AllocGlobal), rows: &[Assignments]) {
     for row in rows {
-        assert_eq!(rt; has_faults(rt.alloc(), row), Some(true), "{}", row.0);
+        assert_eq!(rt; has_health(rt.alloc(), row), Some(true), "{}", row.0);
     }
 }
 
 #[test]
 fn assignments_have_their_health(rt: HostRuntime) {
-    hold_faults(&rt, &FAULTS);
+    hold_assignments(&rt, &ASSIGNMENTS);
 }
 
 /// What a row shows, stanzas, a mode, and meanings, each time with whether some healthy assignment makes them true.
@@ -243,4 +246,13 @@ fn hold_models(rt: &(impl Abort + AllocGlobal), rows: &[Models]) {
 #[test]
 fn packages_have_models(rt: HostRuntime) {
     hold_models(&rt, &MODELS);
+}
+
+#[test]
+fn the_laws_hold() {
+    each_model_is_a_future();
+    healthy_are_models();
+    healthy_stand_for_futures();
+    models_stand_for_futures();
+    one_future_health();
 }

@@ -2,7 +2,7 @@
 ghost use Rattle.std.specs.Prelude.{◌≤◌};
 
 use crate::spaces::{LIBRARY, ONE_SOURCE, space_within};
-use dist_future::{Meaning, Space, SpaceError};
+use dist_future::{Meaning, Space, SpaceError, spaces_are_one};
 use std::alloc::Global;
 use std::process::Abort;
 
@@ -120,4 +120,9 @@ fn hold(rt: &(impl Abort + AllocGlobal), rows: &[Variables]) {
 #[test]
 fn variables_have_their_meanings(rt: HostRuntime) {
     hold(&rt, &VARIABLES);
+}
+
+#[test]
+fn the_law_holds() {
+    spaces_are_one();
 }

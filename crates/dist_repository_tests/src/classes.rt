@@ -5,10 +5,10 @@ ghost use Rattle.dist_classes.specs.ClassList.{HasVersions};
 
 use crate::stanzas::repository;
 use dist_classes::{
-    Class, Classes, CutFinder, class_has_example, class_of, classes_of, classes_of_new_name,
-    cuts_are_one, example, new_names, new_names_are_one, new_names_match_alike,
-    new_versions_match_alike, no_class_is_empty, print_class, repository_clusters,
-    versions_are_in_one_class,
+    Class, Classes, CutFinder, class_has_example, class_of, classes_are_there, classes_of,
+    classes_of_new_name, cuts_are_one, example, new_names, new_names_are_one,
+    new_names_match_alike, new_versions_match_alike, no_class_is_empty, print_class,
+    repository_clusters, versions_are_in_one_class,
 };
 use dist_cluster::Clusters;
 use dist_relation::Name;
@@ -204,6 +204,7 @@ fn versions_are_of_one_class(rt: HostRuntime) {
 #[test]
 fn laws_hold(_rt: HostRuntime) {
     versions_are_in_one_class();
+    classes_are_there();
     cuts_are_one();
     no_class_is_empty();
     new_names_are_one();

@@ -1,5 +1,8 @@
 //! Files, and their repository or their first fault.
-use dist_package::{Fault, Kind, PackagesError, RelationField, read_packages};
+use dist_package::{
+    Fault, Kind, PackagesError, RelationField, kinds_carry_no_memory, packages_are_exact,
+    packages_are_spelled, read_packages, relations_take_bytes,
+};
 use dist_relation::RelationError;
 use dist_version::VersionError;
 use std::alloc::Global;
@@ -230,4 +233,12 @@ fn first_miscounted(alloc: Global, rows: &[Counted]) -> Option<usize> {
 #[test]
 fn stanzas_are_counted(rt: HostRuntime) {
     assert_eq!(rt; first_miscounted(rt.alloc(), &COUNTED), None);
+}
+
+#[test]
+fn the_laws_hold() {
+    kinds_carry_no_memory();
+    packages_are_exact();
+    packages_are_spelled();
+    relations_take_bytes();
 }

@@ -1,7 +1,7 @@
 //! Values from outside: the health of a alone, in repositories of a and b, which is essential.
 use crate::stanzas::repository;
 use dist_clause::Assignment;
-use dist_now::{Health, health};
+use dist_now::{Health, health, one_health};
 use dist_repo::Repository;
 use std::alloc::Global;
 use std::process::Abort;
@@ -50,4 +50,9 @@ fn one_member(rt: HostRuntime) {
 #[test]
 fn essential_name(rt: HostRuntime) {
     hold(&rt, &ESSENTIAL_NAME);
+}
+
+#[test]
+fn the_law_holds() {
+    one_health();
 }

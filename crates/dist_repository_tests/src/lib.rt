@@ -1,4 +1,5 @@
-//! Repositories of a few stanzas: the files that they are read from, and what is answered and told of them. Tests alone.
+//! Repositories of a few stanzas: the files that they are read from, their clusters, and what is answered and told of them.
+//! Tests alone.
 #![tactic(auto)]
 
 #[cfg(test)]

@@ -2,7 +2,10 @@
 use crate::stanzas::repository;
 use dist_base::{MAX_CLAUSES, MAX_LITERALS, MAX_PACKAGES};
 use dist_clause::{ClauseSet, Lit, PushError};
-use dist_now::clauses_of;
+use dist_now::{
+    clauses_of, health_is_of_sets, models_are_installations, present_clauses_are_one,
+    present_clauses_are_there, present_clauses_go_on,
+};
 use dist_repo::Repository;
 use std::alloc::Global;
 use std::process::Abort;
@@ -132,4 +135,13 @@ fn the_limits_of_clauses(rt: HostRuntime) -> Result<(), Fail> {
         None => Err("no repository")?,
     }
     Ok(())
+}
+
+#[test]
+fn the_laws_hold() {
+    present_clauses_are_there();
+    present_clauses_are_one();
+    present_clauses_go_on();
+    models_are_installations();
+    health_is_of_sets();
 }

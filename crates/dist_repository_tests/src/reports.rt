@@ -4,7 +4,9 @@ ghost use Rattle.dist_report.specs.HealthText.{HasText};
 use crate::stanzas::repository;
 use dist_now::Health;
 use dist_repo::Repository;
-use dist_report::{classes_text, classes_texts_are_one, health_text, print_label};
+use dist_report::{
+    classes_text, classes_texts_are_one, health_text, print_label, strings_are_plain,
+};
 use std::alloc::Global;
 
 const MEMBERS: &str =
@@ -69,7 +71,7 @@ fn nothing_is_told_of_no_packages(rt: HostRuntime) {
 }
 
 /// Two versions of one package.
-const VERSIONS: &str = "Package: a\nVersion: 1\n\nPackage: a\nVersion: 2\n";
+const VERSIONS: &str = "Package: a\nVersion: 1\nSource: s\n\nPackage: a\nVersion: 2\nSource: s\n";
 
 /// Whether the label of the first package is this text.
 fn label_is(alloc: Global, repo: &Repository, expected: &str) -> bool {
@@ -131,4 +133,5 @@ fn a_health_is_told(rt: HostRuntime) {
 #[test]
 fn laws_hold(_rt: HostRuntime) {
     classes_texts_are_one();
+    strings_are_plain();
 }

@@ -1,7 +1,7 @@
 //! What the repository of a file answers: worked rows, and cases of Debian Policy 7.1 to 7.5.
 use dist_package::read_packages;
 use dist_relation::Atom;
-use dist_repo::{Package, Repository};
+use dist_repo::{Package, Repository, each_stands_once, latest_is_one};
 use dist_version::Version;
 use std::alloc::{AllocError, Global};
 
@@ -336,4 +336,10 @@ fn conflicts(rt: HostRuntime) {
         first_answered_otherwise(rt.alloc(), Question::Conflict, &CONFLICTS),
         None
     );
+}
+
+#[test]
+fn the_laws_hold() {
+    each_stands_once();
+    latest_is_one();
 }

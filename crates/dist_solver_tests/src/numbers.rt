@@ -1,42 +1,35 @@
-//! Clauses of a few numbers, as the DIMACS format has them.
-ghost use Rattle.std.specs.Prelude.{◌≢◌, ◌≤◌, All, IfOk, OnOk, IsTrue};
+//! Clauses of a few numbers.
+ghost use Rattle.std.specs.Prelude.{◌≢◌, ◌≤◌, All, IfSome, IsTrue};
 ghost use Rattle.dist_clause.specs.Formula.{IsClauseOver};
 
 use dist_clause::Lit;
 use std::alloc::Global;
-use std::test::Fail;
 
-/// The clause of some numbers over so many variables, a negative number for a negated variable; 0 stands for no literal.
-pub(crate) fn clause(alloc: Global, variables: u32, numbers: &[i32]) -> Result<Vec<Lit>, Fail>
+/// The clause of some numbers over so many variables, a negative number for a negated variable, as in the DIMACS format. A 0 is
+/// passed over.
+pub(crate) fn clause(alloc: Global, variables: u32, numbers: &[i32]) -> Option<Vec<Lit>>
     requires { variables ≤ 100 }
-    ensures { IfOk result (λ c. IsClauseOver variables c.items) }
+    ensures { IfSome result (λ c. IsClauseOver variables c.items) }
 {
     let mut literals = Vec::new(alloc);
     for number in numbers {
-        if *number != 0 {
-            add(&mut literals, variables, number.unsigned_abs(), *number > 0)?;
+        if *number != 0 && !add(&mut literals, variables, number.unsigned_abs(), *number > 0) {
+            return None;
         }
     }
-    Ok(literals)
+    Some(literals)
 }
 
-/// Puts a literal of a variable that is not there yet behind the others.
-pub(crate) fn add(
-    clause: &mut Vec<Lit>,
-    variables: u32,
-    variable: u32,
-    positive: bool,
-) -> Result<(), Fail>
+/// Puts a literal of a variable that is not there yet behind the others, and says whether it did.
+pub(crate) fn add(clause: &mut Vec<Lit>, variables: u32, variable: u32, positive: bool) -> bool
     requires few { variables ≤ 100 }
     requires clause { IsClauseOver variables clause.old.items }
-    ensures { OnOk result (IsClauseOver variables clause.new.items) }
+    ensures { IsClauseOver variables clause.new.items }
 {
-    if variable < 1 || variable > variables || !is_fresh(clause, variable) {
-        Err("no variable, or one that stands twice")?
-    } else {
-        clause.push(Lit::new(variable, positive))?;
-        Ok(())
-    }
+    variable >= 1
+        && variable <= variables
+        && is_fresh(clause, variable)
+        && clause.push(Lit::new(variable, positive)).is_ok()
 }
 
 /// Whether no literal of the clause has the variable.

@@ -1,7 +1,7 @@
 //! Values from outside: rows worked by hand from the grammar, and values of Debian 12's Packages file.
 use dist_relation::{
-    Atom, Name, RelationError, print_alternatives, read_atoms, read_depends, read_provides,
-    satisfies,
+    Atoms, Name, RelationError, faults_come, items_take_bytes, print_alternatives, read_atoms,
+    read_depends, read_provides, satisfies, values_are_exact,
 };
 use dist_version::{Version, VersionError};
 use std::alloc::Global;
@@ -244,4 +244,11 @@ fn values_are_equal_by_their_texts(rt: HostRuntime) -> Result<(), Fail> {
     let atoms = read_atoms(rt.alloc(), b"a (<< 1)")?;
     assert!(rt; atoms == atoms.try_clone()?);
     Ok(())
+}
+
+#[test]
+fn the_laws_hold() {
+    values_are_exact();
+    faults_come();
+    items_take_bytes();
 }

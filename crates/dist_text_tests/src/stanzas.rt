@@ -1,5 +1,8 @@
 //! Texts, and what is read of them.
-use dist_control::{ControlError, Field, Stanza, Stanzas, split_line};
+use dist_control::{
+    ControlError, Field, Stanza, Stanzas, one_reading_or_fault, split_line, trimmed,
+    values_take_bytes,
+};
 use std::alloc::{AllocError, Global};
 use std::process::Abort;
 
@@ -237,4 +240,29 @@ fn long_lines_and_many_fields(rt: HostRuntime) {
     assert_eq!(rt; count_many(alloc, ""), Some(Ok(1)));
     let double = Some(Err(ControlError::DoubleField(2001)));
     assert_eq!(rt; count_many(alloc, "n1999: w\n"), double);
+}
+
+/// Values, and what is left of them without white space at both ends.
+const TRIMMED: [(&str, &str); 4] = [
+    (" a b\n", "a b"),
+    ("\t a\n b \n", "a\n b"),
+    (" \t\n", ""),
+    ("a", "a"),
+];
+
+fn hold_trimmed(rt: &impl Abort, rows: &[(&str, &str)]) {
+    for (text, value) in rows {
+        assert!(rt; trimmed(text.as_bytes()) == value.as_bytes(), "{text:?}");
+    }
+}
+
+#[test]
+fn values_are_trimmed(rt: HostRuntime) {
+    hold_trimmed(&rt, &TRIMMED);
+}
+
+#[test]
+fn the_laws_hold() {
+    one_reading_or_fault();
+    values_take_bytes();
 }

@@ -1,5 +1,8 @@
 //! Values from outside: the order as `dpkg --compare-versions` answers it (1.21.22), and refusals by the grammar.
-use dist_version::{Version, VersionError};
+use dist_version::{
+    Version, VersionError, equal_is_neither_below, order_is_total, rebuilds_are_taken_off,
+    texts_are_exact, versions_are_dense, weights_decide,
+};
 use std::alloc::Global;
 use std::cmp::Ordering;
 use std::process::Abort;
@@ -318,4 +321,14 @@ fn finds_versions_in_between(rt: HostRuntime) {
 #[test]
 fn takes_rebuilds_off(rt: HostRuntime) {
     hold_made(&rt, &REBUILDS);
+}
+
+#[test]
+fn the_laws_hold() {
+    texts_are_exact();
+    weights_decide();
+    order_is_total();
+    equal_is_neither_below();
+    versions_are_dense();
+    rebuilds_are_taken_off();
 }
