@@ -74,6 +74,19 @@ module _ {X : Type 0} (between : ℕ) (one : List ℕ → Result (X × List ℕ)
   unfolding joined_at
   rest_fails text fault e = ap (after_one (length text)) e
 
+  -- ---- the first, and those behind it
+
+  pub first_fails : (e : ReadError) (text : List ℕ) → Fails e (one text) → Fails e (rest_of text)
+  first_fails stops.NoMemory text h = tt
+  first_fails (stops.Fault f) text h = rest_fails text f h
+
+  pub others_fail : (e : ReadError) (text : List ℕ) (x : X) (tail : List ℕ) → one text ≡ Ok (x, between ∷ tail) → Fails e (rest_of tail) → Fails e (rest_of text)
+  others_fail stops.NoMemory text x tail read h = tt
+  others_fail (stops.Fault f) text x tail read h = rest_more text x tail read ∙ ap (onto x) h
+
+  pub with_others : (text : List ℕ) (x : X) (tail : List ℕ) (others : List X × List ℕ) → one text ≡ Ok (x, between ∷ tail) → rest_of tail ≡ Ok others → rest_of text ≡ Ok (x ∷ others.0, others.1)
+  with_others text x tail others read h = rest_more text x tail read ∙ ap (onto x) h
+
   -- ---- a list of them
 
   abbrev done : List X → List ℕ → Result (List X × List ℕ) Fault

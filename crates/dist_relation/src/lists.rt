@@ -1,5 +1,5 @@
 //! Lists of what relations have, each over a `Vec`.
-ghost use Rattle.std.specs.Prelude.{◌≡◌, ◌↔◌, ◌<◌, ◌++◌, ℕ, List, IsTrue, length, slice_get, IfOk, OnOk, OnErr};
+ghost use Rattle.std.specs.Prelude.{◌≡◌, ◌↔◌, ◌<◌, ◌++◌, ◌∷◌, ℕ, List, Some, IsTrue, length, slice_get, IfOk, OnOk, OnErr};
 ghost use Rattle.std.specs.Cmp.Lexicographic.{pointwise};
 ghost use Rattle.dist_relation.specs.Equality.{atom_eq, provide_eq};
 
@@ -7,38 +7,35 @@ use crate::atom::{Atom, Provide};
 use std::alloc::AllocError;
 use std::marker::Model;
 
-/// The alternatives of one dependency, at least one.
+/// The alternatives of one dependency, at least one. Most have no other, and so take no memory for a list.
 #[derive(Debug, Drop)]
 pub struct Alternatives {
-    atoms: Vec<Atom>,
+    first: Atom,
+    others: Vec<Atom>,
 }
 
 impl Model for Alternatives {
-    ghost use Rattle.std.specs.Prelude.{ℕ, List, ◌<◌, length};
+    ghost use Rattle.std.specs.Prelude.{List, ◌∷◌};
     ghost use Rattle.dist_relation.specs.declared.atom.Atom.{Atom};
 
     ghost Value = { List Atom };
 
-    ghost view = { λ list. list.atoms.items };
-
-    ghost invariant = { λ list. 0 < length list.atoms.items };
+    ghost view = { λ list. list.first ∷ list.others.items };
 }
 
 impl Alternatives {
     /// The item of these atoms.
-    pub(crate) fn from_atoms(atoms: Vec<Atom>) -> Alternatives
-        requires { 0 < length atoms.items }
-        ensures { result ≡ atoms.items }
+    pub(crate) fn from_atoms(first: Atom, others: Vec<Atom>) -> Alternatives
+        ensures { result ≡ first ∷ others.items }
     {
-        Alternatives { atoms }
+        Alternatives { first, others }
     }
 
-    /// All of them.
-    pub(crate) fn atoms(&self) -> &[Atom]
-        ensures value { result.now ≡ self.now }
-        ensures some { 0 < length self.now }
+    /// The first, and those behind it.
+    pub(crate) fn parts(&self) -> (&Atom, &[Atom])
+        ensures { self.now ≡ result.0.now ∷ result.1.now }
     {
-        self.atoms.as_slice()
+        (&self.first, self.others.as_slice())
     }
 
     /// At least one.
@@ -46,7 +43,7 @@ impl Alternatives {
         ensures value { result ≡ length self.now }
         ensures some { 0 < length self.now }
     {
-        self.atoms.len()
+        self.others.len() + 1
     }
 
     /// The one at a place, from 0.
@@ -54,7 +51,10 @@ impl Alternatives {
         requires { place < length self.now }
         ensures { slice_get self.now place ≡ Some result.now }
     {
-        &self.atoms[place]
+        if place == 0 {
+            return &self.first;
+        }
+        &self.others[place - 1]
     }
 
     /// The same alternatives, with memory of their own.
@@ -62,7 +62,8 @@ impl Alternatives {
         ensures { IfOk result (λ list. list ≡ self.now) }
     {
         Ok(Alternatives {
-            atoms: clone_atoms(&self.atoms)?,
+            first: self.first.copy()?,
+            others: clone_atoms(&self.others)?,
         })
     }
 }
@@ -259,7 +260,7 @@ impl PartialEq for Alternatives {
         ensures value { result ≡ pointwise atom_eq self.now other.now }
         ensures same { IsTrue result ↔ (self.now ≡ other.now) }
     {
-        self.atoms == other.atoms
+        self.first == other.first && self.others == other.others
     }
 }
 

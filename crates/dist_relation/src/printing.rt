@@ -1,5 +1,5 @@
 //! The canonical text of an item.
-ghost use Rattle.std.specs.Prelude.{◌≡◌, ◌++◌, ◌∷◌, [], ℕ, List, length, OnOk, OnErr};
+ghost use Rattle.std.specs.Prelude.{◌≡◌, ◌<◌, ◌++◌, ◌∷◌, [], ℕ, List, length, OnOk, OnErr};
 ghost use Rattle.std.specs.List.{flat_map};
 ghost use Rattle.dist_version.specs.Spelling.{IsVersion};
 ghost use Rattle.dist_relation.specs.Grammar.{operator_text, qualifier_text, IsQualifier, ReadsDepends};
@@ -88,15 +88,14 @@ fn print_more(atoms: &[Atom], out: &mut Vec<u8>) -> Result<(), AllocError>
 }
 
 /// Adds atoms with bars between them.
-fn print_atoms(atoms: &[Atom], out: &mut Vec<u8>) -> Result<(), AllocError>
-    ensures text { OnOk result (out.new.items ≡ out.old.items ++ alternatives_text atoms.now) }
-    ensures valid { OnOk result (AreAtoms atoms.now) }
+fn print_atoms(item: &Alternatives, out: &mut Vec<u8>) -> Result<(), AllocError>
+    ensures text { OnOk result (out.new.items ≡ out.old.items ++ alternatives_text item.now) }
+    ensures valid { OnOk result ((0 < length item.now) × AreAtoms item.now) }
     ensures err { OnErr result (Extends out.old.items out.new.items) }
 {
-    if let [first, more @ ..] = atoms {
-        print_atom(first, out)?;
-        print_more(more, out)?;
-    }
+    let (first, others) = item.parts();
+    print_atom(first, out)?;
+    print_more(others, out)?;
     Ok(())
 }
 
@@ -109,7 +108,7 @@ pub fn print_alternatives(item: &Alternatives, out: &mut Vec<u8>) -> Result<(), 
     ensures err { OnErr result (out.new.items ≡ out.old.items) }
 {
     let length = out.len();
-    let printed = print_atoms(item.atoms(), out);
+    let printed = print_atoms(item, out);
     if printed.is_err() {
         out.truncate(length);
     }

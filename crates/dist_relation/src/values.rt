@@ -1,5 +1,5 @@
 //! Whole values: entries with commas between them.
-ghost use Rattle.std.specs.Prelude.{◌≡◌, ◌++◌, ℕ, List, Result, OnOk};
+ghost use Rattle.std.specs.Prelude.{◌≡◌, ◌≤◌, ◌++◌, ℕ, List, Result, OnOk};
 ghost use Rattle.std.specs.Option.{option_to_list};
 ghost use Rattle.dist_base.specs.Answers.{Answers};
 ghost use Rattle.dist_relation.specs.declared.error.Fault.{Fault};
@@ -47,12 +47,20 @@ fn push_piece<T: Drop>(entries: &mut Vec<T>, piece: Option<T>) -> Result<(), All
     Ok(())
 }
 
+/// Room for as many entries as a value's commas part, so that it is taken once; for 64 at most, since commas are cheap.
+fn room_for(value: &[u8]) -> usize
+    ensures { result ≤ 64 }
+{
+    let commas = value.iter().filter(|byte| **byte == b',').count();
+    commas.min(63) + 1
+}
+
 /// The entries of a value.
 pub(crate) fn entries_of<T: Entry>(alloc: Global, value: &[u8]) -> Result<Vec<T>, ReadError>
     requires { Shortens T.reading }
     ensures { Gives (λ v. v.items) result (items_of T.reading value.now) }
 {
-    let mut entries = Vec::new(alloc);
+    let mut entries = Vec::with_capacity(alloc, room_for(value))?;
     let mut text = value;
     loop {
         let (piece, rest) = piece_of::<T>(alloc, text)?;
@@ -64,9 +72,9 @@ pub(crate) fn entries_of<T: Entry>(alloc: Global, value: &[u8]) -> Result<Vec<T>
     }
 }
 
-/// Alternatives: atoms with bars between them.
-fn alternatives_of(alloc: Global, text: &[u8]) -> Result<(Alternatives, &[u8]), ReadError>
-    ensures { Gives (λ x. (x.0, x.1.now)) result (alternatives_at text.now) }
+/// Atoms with bars between them, at least one.
+fn atoms_of(alloc: Global, text: &[u8]) -> Result<(Vec<Atom>, &[u8]), ReadError>
+    ensures { Gives (λ x. (x.0.items, x.1.now)) result (alternatives_at text.now) }
 {
     let mut atoms = Vec::with_capacity(alloc, 1)?;
     let mut text = text;
@@ -75,7 +83,21 @@ fn alternatives_of(alloc: Global, text: &[u8]) -> Result<(Alternatives, &[u8]), 
         atoms.push(atom)?;
         match after_byte(rest, b'|') {
             Some(tail) => text = tail,
-            None => return Ok((Alternatives::from_atoms(atoms), rest)),
+            None => return Ok((atoms, rest)),
+        }
+    }
+}
+
+/// Alternatives: one atom, and others behind bars.
+fn alternatives_of(alloc: Global, text: &[u8]) -> Result<(Alternatives, &[u8]), ReadError>
+    ensures { Gives (λ x. (x.0, x.1.now)) result (alternatives_at text.now) }
+{
+    let (first, rest) = atom_of(alloc, Kind::Depends, text)?;
+    match after_byte(rest, b'|') {
+        None => Ok((Alternatives::from_atoms(first, Vec::new(alloc)), rest)),
+        Some(tail) => {
+            let (others, rest) = atoms_of(alloc, tail)?;
+            Ok((Alternatives::from_atoms(first, others), rest))
         }
     }
 }

@@ -9,13 +9,13 @@ pub loop-entries-init : goal.loop-entries-init
 loop-entries-init g c =
     let reading = g.T.Entry.reading in
     let shorter = piece_shorter reading c.requires in
-    rw c.new-entries.ensures.items (entries_start reading shorter c.args.value.now)
+    rw c.in_ok-entries.ensures.items (entries_start reading shorter c.args.value.now)
 
 pub returns-in_err-piece : goal.returns-in_err-piece
 returns-in_err-piece g c =
     let reading = g.T.Entry.reading in
     let shorter = piece_shorter reading c.requires in
-    let p = err_from_is_err_and c.from_residual.result c.from_residual.ensures.1 in
+    let p = err_from_is_err_and c.from_residual-in_err-piece.result c.from_residual-in_err-piece.ensures.1 in
     rw (p.1, p.2) (entries_fail reading shorter c.in_err-piece.field-0.0 c.loop-entries.entries.items c.loop-entries.text.now (items_of reading c.args.value.now) c.in_err-piece.ensures c.loop-entries.invariant)
 
 pub loop-entries-smaller : goal.loop-entries-smaller

@@ -3,7 +3,7 @@ use Rattle.dist_relation.specs.declared.atom.Kind.TheVariants.{Depends}
 use Rattle.dist_relation.specs.Bytes.{bar}
 use Rattle.dist_relation.specs.Reading.{joined_at, atom_at, alternatives_at}
 use Rattle.dist_relation.proofs.Loops.{with_front}
-use Rattle.dist_relation.proofs.values.alternatives_of.Given as goal
+use Rattle.dist_relation.proofs.values.atoms_of.Given as goal
 
 -- the atoms so far and those of what is left are the alternatives of the text
 abbrev pub invariant-loop-atoms : goal.invariant-loop-atoms
