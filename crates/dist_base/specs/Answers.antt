@@ -1,5 +1,5 @@
 -- What a reader of texts answers, in one word: the value that the text reads as, or its first fault.
-use Rattle.std.specs.Prelude.{◌≡◌, ◌⊎◌, Result, Ok, Err}
+use Rattle.std.specs.Prelude.{◌≡◌, ◌≢◌, ◌⊎◌, ◌↔◌, Result, Ok, Err}
 
 -- A reader answers with what the text reads as, or with a fault of it. Want of memory may come in place of either.
 abbrev pub Answers : {X E : Type 0} → (X → Type 0) → (E → Type 0) → E → Result X E → Type 0
@@ -12,3 +12,7 @@ pub record IsExact {X E : Type 0} (Reads : X → Type 0) (HasFault : E → Type 
   pub one_reading : (value other : X) → Reads value → Reads other → value ≡ other
   pub one_fault : (error other : E) → HasFault error → HasFault other → error ≡ other
   pub never_both : (value : X) (error : E) → Reads value → ¬ HasFault error
+
+-- Want of memory apart, this error is the answer exactly where its cause holds.
+abbrev pub IsExactly : {X E : Type 0} → E → Result X E → E → Type 0 → Type 0
+IsExactly no_memory result error cause = result ≢ Err no_memory → ((result ≡ Err error) ↔ cause)

@@ -1,3 +1,6 @@
 pub mod Answers
 pub mod Front
+pub mod Least
+pub mod ListLaws
 pub mod Pieces
+pub mod RowLaws

@@ -1,5 +1,5 @@
-//! What all layers share: the stated limits, lists kept flat, and the words for what a reader answers and for a front of a
-//! text.
+//! What all layers share: the stated limits, lists kept flat, the words for what a reader answers, for a front of a text and
+//! for the least with a property, and the laws of lists and of rows.
 #![tactic(auto)]
 
 mod pieces;
@@ -38,6 +38,15 @@ pub const MAX_CERTIFICATE: u64 = 68_719_476_736;
 
 /// Bytes of one line of a certificate, its line feed included.
 pub const MAX_RECORD_LINE: u64 = 1_073_741_824;
+
+/// New lines of a question, where no limit is given.
+pub const DEFAULT_LIMIT: u32 = 10_000;
+
+/// The most new lines of a question that can be given.
+pub const MAX_LIMIT: u32 = 1_000_000;
+
+/// Packages of a made archive.
+pub const MAX_SIZE: u32 = 2_000;
 
 #[cfg(test)]
 mod tests;

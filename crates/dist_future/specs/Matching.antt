@@ -15,12 +15,6 @@ IsLesserOf None second least = least ≡ second
 IsLesserOf (Some a) None least = least ≡ Some a
 IsLesserOf (Some a) (Some b) least = IsSomeAnd least (λ n. (n ≤ a) × (n ≤ b) × ((n ≡ a) ⊎ (n ≡ b)))
 
--- one of two pairs, the first of which may be missing, and at most each of them
-pub record IsLesserPair (least : Option (ℕ × ℕ)) (first second : ℕ) (pair : ℕ × ℕ) : Type 0 where
-  pub one : (least ≡ Some pair) ⊎ ((pair.0 ≡ first) × (pair.1 ≡ second))
-  pub at_most_other : IsAtMost pair.0 pair.1 first second
-  pub at_most_least : (n k : ℕ) → least ≡ Some (n, k) → IsAtMost pair.0 pair.1 n k
-
 -- the variable of a meaning of some kind that holds, and that an atom matches
 pub record IsFound (s : SpaceView) (values : List Bool) (atom : Atom) (P : Meaning → Type 0) (variable : ℕ) : Type 0 where
   pub meaning : Meaning

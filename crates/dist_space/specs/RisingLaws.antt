@@ -76,12 +76,6 @@ pairs-cons R x xs each pairs = at
     at (suc i) zero d less short = absurd (omega (arith, less))
     at (suc i) (suc j) d less short = pairs i j d (omega (arith, less)) (omega (arith, short))
 
-pub pairs-head : {X : Type 0} (R : X → X → Type 0) (x : X) (xs : List X) → AllPairs R (x ∷ xs) → (y : X) → Contains xs y → R x y
-pairs-head R x xs pairs y there = subst (λ z. R x z) there.2 (pairs 0 (suc there.0) y (omega arith) (omega (arith, there.1)))
-
-pub pairs-tail : {X : Type 0} (R : X → X → Type 0) (x : X) (xs : List X) → AllPairs R (x ∷ xs) → AllPairs R xs
-pairs-tail R x xs pairs i j d less short = pairs (suc i) (suc j) d (omega (arith, less)) (omega (arith, short))
-
 pub pairs-append : {X : Type 0} (R : X → X → Type 0) (xs ys : List X) → AllPairs R xs → AllPairs R ys → ((x y : X) → Contains xs x → Contains ys y → R x y) → AllPairs R (xs ++ ys)
 pairs-append R [] ys first second cross = second
 pairs-append R (x ∷ xs) ys first second cross =

@@ -1,13 +1,12 @@
 -- Laws of rows whose keys rise: rows of the same keys are the same rows, and rows of the keys before one are a front of the rows
--- of all. No public clause cites them; proofs do, those of the crates above too.
+-- of all. No public clause cites them; proofs of the crates above do.
 use Rattle.std.proofs.Common.{◌≡◌, ℕ, ◌<◌, List, [], ◌∷◌, ◌++◌, map, map-id, refl, sym, ap, ap₂, subst, ◌∙◌, arith, inl, inr}
 use Rattle.std.specs.Prelude.{All, AllPairs, Any, Contains}
 use Rattle.std.proofs.lemmas.List.{get_or_default}
 use Rattle.std.specs.List.Sorted.{IsStrictlyIncreasing}
 use Rattle.std.proofs.lemmas.List.Elements.{All-tail}
 use Rattle.std.proofs.lemmas.List.Kept.{AllPairs-from_increasing}
-use Rattle.dist_space.specs.RisingLaws.{pairs-head, pairs-tail}
-use Rattle.dist_space.specs.ListLaws.{all-contained, any-cases, any-head, any-later}
+use Rattle.dist_base.specs.ListLaws.{all-contained, any-cases, any-head, any-later, pairs-head, pairs-tail}
 
 -- a row has the key
 abbrev pub Has : {X K : Type 0} → (X → K) → List X → K → Type 0

@@ -1,5 +1,5 @@
 -- The least of numbers, or of pairs of numbers in the order of their first and then of their second.
-use Rattle.std.specs.Prelude.{◌≡◌, ◌⊎◌, ℕ, ◌<◌, ◌≤◌, Option, MatchOption}
+use Rattle.std.specs.Prelude.{◌≡◌, ◌⊎◌, ℕ, ◌<◌, ◌≤◌, Option, Some, MatchOption}
 
 abbrev pub IsAtMost : (first second n k : ℕ) → Type 0
 IsAtMost first second n k = (first < n) ⊎ ((first ≡ n) × (second ≤ k))
@@ -23,3 +23,9 @@ IsLeastIfAny P found = MatchOption found ((n : ℕ) → ¬ P n) (IsLeast P)
 
 abbrev pub IsLeastPairIfAny : (ℕ → ℕ → Type 0) → Option (ℕ × ℕ) → Type 0
 IsLeastPairIfAny P found = MatchOption found (IsNoPair P) (λ pair. IsLeastPair P pair.0 pair.1)
+
+-- one of two pairs, the first of which may be missing, and at most each of them
+pub record IsLesserPair (least : Option (ℕ × ℕ)) (first second : ℕ) (pair : ℕ × ℕ) : Type 0 where
+  pub one : (least ≡ Some pair) ⊎ ((pair.0 ≡ first) × (pair.1 ≡ second))
+  pub at_most_other : IsAtMost pair.0 pair.1 first second
+  pub at_most_least : (n k : ℕ) → least ≡ Some (n, k) → IsAtMost pair.0 pair.1 n k

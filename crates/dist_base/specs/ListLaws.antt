@@ -1,5 +1,4 @@
--- Laws of lists: places, what holds of some element, and pairs. No public clause cites them; proofs do, those of the crates above
--- too.
+-- Laws of lists: places, what holds of some element, and pairs. No public clause cites them; proofs of the crates above do.
 use Rattle.std.proofs.Common.{◌≡◌, ◌≢◌, ◌⊎◌, ℕ, zero, suc, ◌<◌, inl, inr, ◌∙◌, List, [], ◌∷◌, length, get_or, Some, Option, refl, sym, ap, subst, arith, slice_get}
 use Rattle.std.proofs.lemmas.Bool.{cases_lt}
 use Rattle.std.proofs.lemmas.List.{get_or_default}
@@ -135,3 +134,11 @@ pair-from {X} R symmetric xs x y pairs first second apart =
             absurd (apart (sym first.2 ∙ ap (λ (n : ℕ). get_or xs n x) same ∙ b))
       ]
     ]
+
+-- ---- pairs
+
+pub pairs-head : {X : Type 0} (R : X → X → Type 0) (x : X) (xs : List X) → AllPairs R (x ∷ xs) → (y : X) → Contains xs y → R x y
+pairs-head R x xs pairs y there = subst (λ z. R x z) there.2 (pairs 0 (suc there.0) y (omega arith) (omega (arith, there.1)))
+
+pub pairs-tail : {X : Type 0} (R : X → X → Type 0) (x : X) (xs : List X) → AllPairs R (x ∷ xs) → AllPairs R xs
+pairs-tail R x xs pairs i j d less short = pairs (suc i) (suc j) d (omega (arith, less)) (omega (arith, short))
