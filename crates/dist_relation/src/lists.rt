@@ -111,6 +111,11 @@ impl Items {
         ensures ok { OnOk result (self.new ≡ self.old ++ more) }
         ensures err { OnErr result (self.new ≡ self.old) }
     {
+        // Most packages have one of the two fields alone.
+        if self.items.is_empty() {
+            *self = more;
+            return Ok(());
+        }
         let mut more = more.items;
         self.items.append(&mut more)
     }
@@ -170,6 +175,11 @@ impl Atoms {
         ensures ok { OnOk result (self.new ≡ self.old ++ more) }
         ensures err { OnErr result (self.new ≡ self.old) }
     {
+        // Most packages have one of the two fields alone.
+        if self.atoms.is_empty() {
+            *self = more;
+            return Ok(());
+        }
         let mut more = more.atoms;
         self.atoms.append(&mut more)
     }

@@ -12,6 +12,7 @@ use crate::bytes::{after_byte, skip_space};
 use crate::error::{ReadError, RelationError};
 use crate::lists::{Alternatives, Atoms, Items, Provides};
 use crate::reading::atom_of;
+use memchr::memchr_iter;
 use std::alloc::{AllocError, Global};
 
 /// What stands between the commas of a value.
@@ -47,11 +48,15 @@ fn push_piece<T: Drop>(entries: &mut Vec<T>, piece: Option<T>) -> Result<(), All
     Ok(())
 }
 
-/// Room for as many entries as a value's commas part, so that it is taken once; for 64 at most, since commas are cheap.
+/// Room for as many entries as a value's commas part, so that it is taken once; for 64 at most, since commas are cheap, and
+/// for none where there is no text.
 fn room_for(value: &[u8]) -> usize
     ensures { result ≤ 64 }
 {
-    let commas = value.iter().filter(|byte| **byte == b',').count();
+    if value.is_empty() {
+        return 0;
+    }
+    let commas = memchr_iter(b',', value).count();
     commas.min(63) + 1
 }
 

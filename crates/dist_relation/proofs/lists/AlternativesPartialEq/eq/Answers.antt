@@ -1,4 +1,4 @@
-use Rattle.std.proofs.Common.{◌≡◌, Bool, ◌&&◌, sym, ap, ◌∙◌}
+use Rattle.std.proofs.Common.{Bool, ◌&&◌, sym, ap, ◌∙◌}
 use Rattle.std.specs.Cmp.Lexicographic.{pointwise}
 use Rattle.dist_relation.specs.Equality.{answers_equality, atom_eq, atoms_decide}
 use Rattle.dist_relation.proofs.lists.AlternativesPartialEq.eq.Goals as goal
