@@ -1,6 +1,6 @@
 -- What a builder holds: the held package of a name and an equal version, and what a new package adds.
-use Rattle.std.proofs.Common.{◌≡◌, ◌≢◌, ◌↔◌, ℕ, suc, ◌<◌, Bool, true, false, cond, List, [], ◌∷◌, length, get_or, Some, None, Ordering, Less, Equal, Greater, refl, sym, ap, subst, ◌∙◌, arith, nat_cmp, is_eq, is_lt}
-use Rattle.std.specs.Prelude.{All, Contains, IfOk, IsPermutation, Result, Ok, Err}
+use Rattle.std.proofs.Common.{◌≡◌, ◌≢◌, ◌↔◌, ℕ, suc, ◌<◌, Bool, true, false, cond, List, [], ◌∷◌, length, get_or, Some, None, Ordering, Less, Equal, Greater, refl, sym, ap, subst, ◌∙◌, arith, nat_cmp, is_eq}
+use Rattle.std.specs.Prelude.{Contains, IfOk, IsPermutation, Result, Ok, Err}
 use Rattle.std.specs.BTreeMap.{insert_entry, is_at}
 use Rattle.std.specs.Cmp.Lexicographic.{slice_cmp}
 use Rattle.std.specs.List.Sorted.{IsStrictlySortedBy}
@@ -8,8 +8,8 @@ use Rattle.std.specs.Ordering.{match_ordering, ordering_then}
 use Rattle.std.specs.Map.{lookup, lookup_key}
 use Rattle.std.proofs.lemmas.Bool.{false≢true}
 use Rattle.std.proofs.lemmas.List.{length-map, get_or-map, get_or_default}
-use Rattle.std.proofs.lemmas.Cmp.{alike_right, nat_list_cmp_total, tied_back, tied_itself}
-use Rattle.std.proofs.lemmas.List.Elements.{All-contains, All-from_recursion}
+use Rattle.std.proofs.lemmas.Cmp.{nat_list_cmp_total, tied_back, tied_itself}
+use Rattle.std.proofs.lemmas.List.Elements.{All-from_recursion}
 use Rattle.std.proofs.lemmas.List.Sorted.{IsPermutation-refl, IsPermutation-cons, IsPermutation-middle, IsPermutation-trans}
 use Rattle.std.proofs.lemmas.Map.{none_passes_from_lookup}
 use Rattle.std.proofs.lemmas.Map.Keys.{Less-from_sorted}
@@ -91,17 +91,6 @@ free-from_missing held p missing there =
 
 abbrev pub IsSorted : List Held → Type 0
 IsSorted held = IsStrictlySortedBy package_cmp (packages_of held)
-
--- a package behind the last one is behind all, and none of its name and with an equal version is held
-pub free-from_behind : (held : List Held) (last p : Package) → All (λ q. is_lt (package_cmp last q) ≡ false) (packages_of held) → is_lt (package_cmp last p) ≡ true → IsFree held p
-free-from_behind held last p up_to below any =
-    let tied : package_cmp any.1.0 p ≡ Equal = tied-from_same any.1.0 p any.4 in
-    let before : is_lt (package_cmp last any.1.0) ≡ true = ap is_lt (alike_right package_total any.1.0 p last tied) ∙ below in
-    let short : any.0 < length (packages_of held) = omega (arith, any.2, length-map held (λ (h : Held). h.0)) in
-    let at : get_or (packages_of held) any.0 any.1.0 ≡ any.1.0 = get_or-map (λ (h : Held). h.0) held any.0 any.1 any.1.0 any.2 ∙ ap (λ (h : Held). h.0) any.3 in
-    let there : Contains (packages_of held) any.1.0 = (any.0, short, at) in
-    let not_below = All-contains (λ q. is_lt (package_cmp last q) ≡ false) (packages_of held) any.1.0 up_to there in
-    false≢true (sym not_below ∙ before)
 
 pub in-order : (held : List Held) → IsSorted held → IsInOrder (packages_of held)
 in-order held sorted i j d before within = Less-from_sorted package_cmp (packages_of held) i j d sorted before within

@@ -1,3 +1,4 @@
+pub mod FrontLemmas
 pub mod Search
 pub mod HeldLemmas
 pub mod NameSearch

@@ -1,5 +1,6 @@
 pub mod Conflict
 pub mod Examples
+pub mod Front
 pub mod Healthy
 pub mod Held
 pub mod Match

@@ -1,5 +1,5 @@
 //! A repository in the making: packages come in any order, and each is held once.
-ghost use Rattle.std.specs.Prelude.{◌≡◌, ◌≢◌, ◌+◌, ◌<◌, ◌≤◌, ◌↔◌, ℕ, [], ◌∷◌, length, Ok, Err, IfOk, IfErr, OnErr, IsPermutation, IsTrue, MatchOption, Contains};
+ghost use Rattle.std.specs.Prelude.{◌≡◌, ◌≢◌, ◌+◌, ◌<◌, ◌≤◌, ◌↔◌, ℕ, [], ◌∷◌, length, Ok, Err, IfOk, IfErr, OnErr, IsPermutation, MatchOption, Contains};
 ghost use Rattle.dist_repo.specs.Held.{IsClashAt, IsFree, IsHeld, packages_of, returned_package};
 ghost use Rattle.dist_repo.specs.Order.{IsInOrder, IsSamePackage};
 
@@ -58,26 +58,12 @@ impl Builder {
         }
     }
 
-    /// Whether a package comes behind all that are held: in a file in order each does, and none of them is searched for.
-    fn is_behind(&self, key: &Key) -> bool
-        ensures behind { IsTrue result → IsFree self.now key.now }
-        ensures in_order { IsInOrder (packages_of self.now) }
-    {
-        match self.packages.last_key_value() {
-            Some((last, _)) => last < key,
-            None => true,
-        }
-    }
-
     /// The package of the same name and an equal version that is held, with its line.
     fn held(&self, key: &Key) -> Option<(&Package, u64)>
         ensures found { MatchOption result (IsFree self.now key.now)
             (λ h. Contains self.now (h.0.now, h.1) × IsSamePackage h.0.now key.now) }
         ensures in_order { IsInOrder (packages_of self.now) }
     {
-        if self.is_behind(key) {
-            return None;
-        }
         match self.packages.get_key_value(key) {
             Some((held, line)) => Some((held.package(), *line)),
             None => None,

@@ -2,6 +2,7 @@
 ghost use Rattle.std.specs.Prelude.{◌≡◌};
 ghost use Rattle.dist_repo.specs.Order.{key_cmp};
 
+use crate::front::front_of;
 use crate::package::Package;
 use dist_version::Version;
 use std::cmp::Ordering;
@@ -21,22 +22,30 @@ pub(crate) fn compare(package: &Package, name: &[u8], version: &Version) -> Orde
 /// A package, compared by its name and its version alone.
 #[derive(Drop)]
 pub(crate) struct Key {
+    /// The front of the package's name, so that packages of different fronts are compared without their names.
+    front: u128,
     package: Package,
 }
 
 impl Model for Key {
     ghost use Rattle.dist_repo.specs.declared.package.Package.{Package};
+    ghost use Rattle.dist_repo.specs.Front.{IsFrontOf};
 
     ghost Value = { Package };
 
     ghost view = { λ key. key.«package» };
+
+    ghost invariant = { λ key. IsFrontOf key.front key.«package».name };
 }
 
 impl Key {
     pub(crate) fn new(package: Package) -> Key
         ensures { result ≡ «package» }
     {
-        Key { package }
+        Key {
+            front: front_of(package.name.bytes()),
+            package,
+        }
     }
 
     pub(crate) fn package(&self) -> &Package
@@ -48,7 +57,7 @@ impl Key {
     pub(crate) fn into_package(self) -> Package
         ensures { result ≡ self }
     {
-        let Key { package } = self;
+        let Key { package, .. } = self;
         package
     }
 }
@@ -67,6 +76,10 @@ impl Ord for Key {
     ghost matches_eq = { λ _ _. refl };
 
     fn cmp(&self, other: &Key) -> Ordering {
+        let by_front = self.front.cmp(&other.front);
+        if by_front.is_ne() {
+            return by_front;
+        }
         let other = &other.package;
         compare(&self.package, other.name.bytes(), &other.version)
     }

@@ -2,6 +2,7 @@
 #![tactic(auto)]
 
 mod builder;
+mod front;
 mod key;
 mod laws;
 mod matching;

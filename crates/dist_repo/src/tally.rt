@@ -7,6 +7,7 @@ ghost use Rattle.std.specs.Ordering.{nat_cmp};
 ghost use Rattle.dist_repo.specs.Providers.{IsProvider};
 ghost use Rattle.dist_repo.specs.Tally.{numbers_at, EndsWith, IsTallyOf, Notes, NotesEach, NotesNumber};
 
+use crate::front::front_of;
 use crate::matching::is_usable;
 use crate::names::NameIndex;
 use crate::package::Package;
@@ -20,18 +21,32 @@ use std::marker::Model;
 /// A name as a key, by its bytes.
 #[derive(Drop)]
 struct NameKey<'a> {
+    /// The front of the name, so that names of different fronts are compared without their bytes.
+    front: u128,
     bytes: &'a [u8],
 }
 
 impl<'a> Model for NameKey<'a> {
     ghost use Rattle.std.specs.Prelude.{ℕ, List};
+    ghost use Rattle.dist_repo.specs.Front.{IsFrontOf};
 
     ghost Value = { List ℕ };
 
     ghost view = { λ key. key.bytes.now };
+
+    ghost invariant = { λ key. IsFrontOf key.front key.bytes.now };
 }
 
 impl<'a> NameKey<'a> {
+    fn new(bytes: &'a [u8]) -> NameKey<'a>
+        ensures { result ≡ bytes.now }
+    {
+        NameKey {
+            front: front_of(bytes),
+            bytes,
+        }
+    }
+
     fn bytes(&self) -> &'a [u8]
         ensures { result.now ≡ self.now }
     {
@@ -54,6 +69,10 @@ impl Ord for NameKey<'_> {
     ghost matches_eq = { λ _ _. refl };
 
     fn cmp(&self, other: &Self) -> Ordering {
+        let by_front = self.front.cmp(&other.front);
+        if by_front.is_ne() {
+            return by_front;
+        }
         self.bytes.cmp(other.bytes)
     }
 }
@@ -183,7 +202,7 @@ impl<'a> Tally<'a> {
         ensures { OnOk result (Notes self.old self.new name.now number) }
     {
         let none = Numbers::new(self.alloc);
-        let key = NameKey { bytes: name };
+        let key = NameKey::new(name);
         self.providers.entry(key)?.or_insert(none).note(number)
     }
 
