@@ -1,4 +1,4 @@
-pub mod FrontLemmas
+pub mod PrefixLemmas
 pub mod Search
 pub mod HeldLemmas
 pub mod NameSearch

@@ -1,6 +1,6 @@
 pub mod Conflict
 pub mod Examples
-pub mod Front
+pub mod Prefix
 pub mod Healthy
 pub mod Held
 pub mod Match

@@ -2,7 +2,7 @@
 ghost use Rattle.std.specs.Prelude.{◌≡◌};
 ghost use Rattle.dist_repo.specs.Order.{key_cmp};
 
-use crate::front::front_of;
+use crate::prefix::prefix_of;
 use crate::package::Package;
 use dist_version::Version;
 use std::cmp::Ordering;
@@ -22,20 +22,20 @@ pub(crate) fn compare(package: &Package, name: &[u8], version: &Version) -> Orde
 /// A package, compared by its name and its version alone.
 #[derive(Drop)]
 pub(crate) struct Key {
-    /// The front of the package's name, so that packages of different fronts are compared without their names.
-    front: u128,
+    /// The prefix of the package's name, so that packages of different prefixes are compared without their names.
+    prefix: u128,
     package: Package,
 }
 
 impl Model for Key {
     ghost use Rattle.dist_repo.specs.declared.package.Package.{Package};
-    ghost use Rattle.dist_repo.specs.Front.{IsFrontOf};
+    ghost use Rattle.dist_repo.specs.Prefix.{IsPrefixOf};
 
     ghost Value = { Package };
 
     ghost view = { λ key. key.«package» };
 
-    ghost invariant = { λ key. IsFrontOf key.front key.«package».name };
+    ghost invariant = { λ key. IsPrefixOf key.prefix key.«package».name };
 }
 
 impl Key {
@@ -43,7 +43,7 @@ impl Key {
         ensures { result ≡ «package» }
     {
         Key {
-            front: front_of(package.name.bytes()),
+            prefix: prefix_of(package.name.bytes()),
             package,
         }
     }
@@ -76,9 +76,9 @@ impl Ord for Key {
     ghost matches_eq = { λ _ _. refl };
 
     fn cmp(&self, other: &Key) -> Ordering {
-        let by_front = self.front.cmp(&other.front);
-        if by_front.is_ne() {
-            return by_front;
+        let by_prefix = self.prefix.cmp(&other.prefix);
+        if by_prefix.is_ne() {
+            return by_prefix;
         }
         let other = &other.package;
         compare(&self.package, other.name.bytes(), &other.version)

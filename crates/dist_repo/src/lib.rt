@@ -2,12 +2,12 @@
 #![tactic(auto)]
 
 mod builder;
-mod front;
 mod key;
 mod laws;
 mod matching;
 mod names;
 mod package;
+mod prefix;
 mod repository;
 mod size;
 mod tally;

@@ -7,12 +7,13 @@ ghost use Rattle.std.specs.Ordering.{nat_cmp};
 ghost use Rattle.dist_repo.specs.Providers.{IsProvider};
 ghost use Rattle.dist_repo.specs.Tally.{numbers_at, EndsWith, IsTallyOf, Notes, NotesEach, NotesNumber};
 
-use crate::front::front_of;
+use crate::prefix::prefix_of;
 use crate::matching::is_usable;
 use crate::names::NameIndex;
 use crate::package::Package;
 use dist_base::Flat;
 use dist_relation::Name;
+use smallvec::SmallVec;
 use std::alloc::{AllocError, Global};
 use std::cmp::Ordering;
 use std::collections::BTreeMap;
@@ -21,20 +22,20 @@ use std::marker::Model;
 /// A name as a key, by its bytes.
 #[derive(Drop)]
 struct NameKey<'a> {
-    /// The front of the name, so that names of different fronts are compared without their bytes.
-    front: u128,
+    /// The prefix of the name, so that names of different prefixes are compared without their bytes.
+    prefix: u128,
     bytes: &'a [u8],
 }
 
 impl<'a> Model for NameKey<'a> {
     ghost use Rattle.std.specs.Prelude.{ℕ, List};
-    ghost use Rattle.dist_repo.specs.Front.{IsFrontOf};
+    ghost use Rattle.dist_repo.specs.Prefix.{IsPrefixOf};
 
     ghost Value = { List ℕ };
 
     ghost view = { λ key. key.bytes.now };
 
-    ghost invariant = { λ key. IsFrontOf key.front key.bytes.now };
+    ghost invariant = { λ key. IsPrefixOf key.prefix key.bytes.now };
 }
 
 impl<'a> NameKey<'a> {
@@ -42,7 +43,7 @@ impl<'a> NameKey<'a> {
         ensures { result ≡ bytes.now }
     {
         NameKey {
-            front: front_of(bytes),
+            prefix: prefix_of(bytes),
             bytes,
         }
     }
@@ -69,9 +70,9 @@ impl Ord for NameKey<'_> {
     ghost matches_eq = { λ _ _. refl };
 
     fn cmp(&self, other: &Self) -> Ordering {
-        let by_front = self.front.cmp(&other.front);
-        if by_front.is_ne() {
-            return by_front;
+        let by_prefix = self.prefix.cmp(&other.prefix);
+        if by_prefix.is_ne() {
+            return by_prefix;
         }
         self.bytes.cmp(other.bytes)
     }
@@ -117,7 +118,8 @@ impl Eq for NameKey<'_> {
 /// Numbers that rise.
 #[derive(Drop)]
 struct Numbers {
-    numbers: Vec<u32>,
+    /// Most names have few providers, whose numbers take no memory of their own.
+    numbers: SmallVec<u32, 4>,
 }
 
 impl Model for Numbers {
@@ -136,7 +138,7 @@ impl Numbers {
         ensures { result ≡ [] }
     {
         Numbers {
-            numbers: Vec::new(alloc),
+            numbers: SmallVec::new(alloc),
         }
     }
 
@@ -153,7 +155,7 @@ impl Numbers {
         ensures ok { OnOk result (NotesNumber self.old self.new number) }
         ensures err { OnErr result (self.new ≡ self.old) }
     {
-        if ends_with(&self.numbers, number) {
+        if ends_with(self.numbers.as_slice(), number) {
             return Ok(());
         }
         self.numbers.push(number)?;

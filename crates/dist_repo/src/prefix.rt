@@ -1,16 +1,16 @@
 //! The first bytes of a name as one number: most comparisons of names are decided by it, and read no name.
 ghost use Rattle.std.specs.Prelude.{◌≡◌, slice_index};
-ghost use Rattle.dist_repo.specs.Front.{IsFrontOf};
+ghost use Rattle.dist_repo.specs.Prefix.{IsPrefixOf};
 
 /// The first sixteen bytes of a name as one number. The first byte is the highest, and behind a shorter name stand zeros.
-pub(crate) fn front_of(name: &[u8]) -> u128
-    ensures { IsFrontOf result name.now }
+pub(crate) fn prefix_of(name: &[u8]) -> u128
+    ensures { IsPrefixOf result name.now }
 {
-    let mut front: u128 = 0;
+    let mut prefix: u128 = 0;
     for place in 0..16 {
-        front = front * 256 + u128::from(byte_at(name, place));
+        prefix = prefix * 256 + u128::from(byte_at(name, place));
     }
-    front
+    prefix
 }
 
 /// The byte at a place, or zero behind the end.

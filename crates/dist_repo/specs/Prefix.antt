@@ -8,6 +8,6 @@ digits (suc places) [] = 0
 digits (suc places) (b ∷ bytes) = b * 256 ^ places + digits places bytes
 
 -- a number is that of the first sixteen bytes of a name
-pub record IsFrontOf (front : ℕ) (name : List ℕ) : Type 0 where
-  pub number : front ≡ digits 16 name
+pub record IsPrefixOf (prefix : ℕ) (name : List ℕ) : Type 0 where
+  pub number : prefix ≡ digits 16 name
   pub bytes : All (λ b. b < 256) name

@@ -1,4 +1,4 @@
--- Fronts of names: what they are while they are made, and that two that differ decide which name is lower.
+-- Prefixes of names: what they are while they are made, and that two that differ decide which name is lower.
 use Rattle.std.proofs.Common.{◌≡◌, ◌≢◌, ℕ, zero, suc, ◌+◌, ◌*◌, ◌^◌, ◌<◌, ◌≤◌, List, [], ◌∷◌, get_or, Ordering, Less, Equal, Greater, true, Fits, w8, nat_cmp, refl, sym, ap, ◌∙◌, arith, inl, inr}
 use Rattle.std.specs.Prelude.{All}
 use Rattle.std.specs.Cmp.{nat_cmp_is}
@@ -7,7 +7,7 @@ use Rattle.std.specs.Ordering.{ordering_then, is_ne}
 use Rattle.std.proofs.lemmas.Bool.{cases_lt, false≢true}
 use Rattle.std.proofs.lemmas.List.Elements.{All-head, All-tail, All-from_get_or}
 use Rattle.std.proofs.Math.Nat.{one-le-pow, pow-suc, mul-le-mul_left, pow-le-pow_right}
-use Rattle.dist_repo.specs.Front.{digits, IsFrontOf}
+use Rattle.dist_repo.specs.Prefix.{digits, IsPrefixOf}
 
 abbrev IsByte : ℕ → Type 0
 IsByte b = b < 256
@@ -87,9 +87,9 @@ digits-decide (suc places) (x ∷ a) (y ∷ b) first second apart =
     let second' = All-tail IsByte y b second in
     by-first x y (256 ^ places) (digits places a) (digits places b) (slice_cmp nat_cmp a b) (digits-below places a first') (digits-below places b second') (digits-decide places a b first' second') apart
 
--- an order of two fronts that is no tie is that of the names
-pub fronts-decide : (m n : ℕ) (a b : List ℕ) (o : Ordering) → IsFrontOf m a → IsFrontOf n b → o ≡ nat_cmp m n → is_ne o ≡ true → o ≡ slice_cmp nat_cmp a b
-fronts-decide m n a b o first second order decided =
+-- an order of two prefixes that is no tie is that of the names
+pub prefixes-decide : (m n : ℕ) (a b : List ℕ) (o : Ordering) → IsPrefixOf m a → IsPrefixOf n b → o ≡ nat_cmp m n → is_ne o ≡ true → o ≡ slice_cmp nat_cmp a b
+prefixes-decide m n a b o first second order decided =
     let differ : m ≢ n = λ same. false≢true (ap is_ne (nat_cmp_is m n Equal same ∙ sym order) ∙ decided) in
     let apart : digits 16 a ≢ digits 16 b = λ same. differ (first.number ∙ same ∙ sym second.number) in
     order ∙ ap (λ k. nat_cmp k n) first.number ∙ ap (nat_cmp (digits 16 a)) second.number ∙ sym (digits-decide 16 a b first.bytes second.bytes apart)

@@ -1,19 +1,19 @@
 use Rattle.std.proofs.Common.{◌≡◌, ℕ, suc, ◌+◌, ◌*◌, List, arith, ap, refl, sym, ◌∙◌}
-use Rattle.dist_repo.specs.Front.{digits}
-use Rattle.dist_repo.proofs.FrontLemmas.{bytes-fit, digits-fit, digits-more}
-use Rattle.dist_repo.proofs.front.front_of.Goals as goal
+use Rattle.dist_repo.specs.Prefix.{digits}
+use Rattle.dist_repo.proofs.PrefixLemmas.{bytes-fit, digits-fit, digits-more}
+use Rattle.dist_repo.proofs.prefix.prefix_of.Goals as goal
 
 pub loop-place-init : goal.loop-place-init
 unfolding digits
 loop-place-init c = refl
 
-pub overflow_mul-front : goal.overflow_mul-front
-overflow_mul-front c =
+pub overflow_mul-prefix : goal.overflow_mul-prefix
+overflow_mul-prefix c =
     let fit = digits-fit c.loop-place.place c.args.name.now (bytes-fit c.args.name.now c.type_inv.name) c.loop-place-test.true in
     omega (arith, fit, c.loop-place.invariant)
 
-pub overflow_add-front : goal.overflow_add-front
-overflow_add-front c =
+pub overflow_add-prefix : goal.overflow_add-prefix
+overflow_add-prefix c =
     let fit = digits-fit c.loop-place.place c.args.name.now (bytes-fit c.args.name.now c.type_inv.name) c.loop-place-test.true in
     omega (arith, fit, c.loop-place.invariant, c.from.ensures, c.byte_at.ensures, c.type_inv.name c.loop-place.place)
 
