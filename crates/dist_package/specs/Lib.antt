@@ -1,4 +1,5 @@
 pub mod Named
+pub mod Examples
 pub mod Source
 pub mod PackageOf
 pub mod FirstFault

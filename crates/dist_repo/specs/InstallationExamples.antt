@@ -1,14 +1,17 @@
--- Worked examples: a package that depends on another one, its installations and its strong dependency.
+-- Worked examples: a package that depends on another one, its installations and its strong dependency; and the newest of two
+-- versions.
 use Rattle.std.specs.Prelude.{◌≡◌, ◌≢◌, ℕ, zero, suc, ◌<◌, false, List, [], ◌∷◌, None, All, AllPairs, Any, Contains, length, slice_index_or, codes, refl}
 use Rattle.std.proofs.Common.{inl, inr, lit<, sym, subst, ap, arith}
 use Rattle.std.proofs.lemmas.List.Elements.{All-cons, All-contains}
 use Rattle.std.proofs.lemmas.List.Kept.{AllPairs-cons}
+use Rattle.std.specs.declared.cmp.Ordering.TheVariants.{Less}
 use Rattle.dist_relation.specs.declared.atom.Atom.{Atom}
 use Rattle.dist_relation.specs.declared.atom.Qualifier.TheVariants.{Plain}
 use Rattle.dist_repo.specs.Conflict.{AreInConflict}
 use Rattle.dist_repo.specs.Healthy.{IsMet}
 use Rattle.dist_repo.specs.Match.{Matches, MatchesByEntry}
-use Rattle.dist_repo.specs.Order.{IsFlat}
+use Rattle.dist_version.specs.Order.{version_cmp}
+use Rattle.dist_repo.specs.Order.{IsFlat, IsNewest}
 use Rattle.dist_repo.specs.PackageList.{PackageList}
 use Rattle.dist_repo.specs.Strong.{IsInstallation, StronglyDepends}
 use Rattle.dist_repo.specs.declared.package.Package.{Package}
@@ -124,6 +127,35 @@ a_strongly_depends_on_b = record {
     is_b q matches zero within e = absurd (a-matches_not (subst (Matches None on_b) (sym e) matches))
     is_b q matches (suc k) within e = of_one b q (k, omega (arith, within), e)
 
--- Both are the newest of their names, since there is one version of each.
+-- There is one version of each name.
 archive_is_flat : IsFlat archive.packages
 archive_is_flat = both_are_healthy.one_of_a_name
+
+-- Of two versions of a name the greater one is the newest, 1.10 and not 1.9, wherever it stands.
+abbrev version_of_b : List ℕ → Package
+version_of_b version = record {
+  name = codes "b";
+  version = version;
+  source = codes "b";
+  source_version = version;
+  depends = [];
+  conflicts = [];
+  provides = [];
+  essential = false;
+}
+
+abbrev two_versions : List Package
+two_versions = version_of_b (codes "1.10") ∷ version_of_b (codes "1.9") ∷ []
+
+greater_is_newest : IsNewest two_versions (version_of_b (codes "1.10"))
+greater_is_newest = record {
+  there = (0, lit< tt, refl);
+  newest = All-cons IsBelow (version_of_b (codes "1.10")) (version_of_b (codes "1.9") ∷ []) (λ _ less. cc)
+      (All-cons IsBelow (version_of_b (codes "1.9")) [] (λ _ less. cc) (all_of_none IsBelow));
+}
+  where
+    IsBelow : Package → Type 0
+    IsBelow q = q.name ≡ codes "b" → version_cmp (codes "1.10") q.version ≢ Less
+
+lesser_is_not : ¬ IsNewest two_versions (version_of_b (codes "1.9"))
+lesser_is_not newest = newest.newest 0 (version_of_b (codes "1.10")) (lit< tt) refl refl

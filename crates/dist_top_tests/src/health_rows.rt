@@ -140,10 +140,16 @@ const STOPPED: Row = Row {
     ..EMPTY
 };
 
-const LIMITS: [Row; 4] = [
+const LIMITS: [Row; 5] = [
     Row {
         packages: "Package: ab",
         at_most: Some((What::Bytes, 10)),
+        err: "distfuture: too large: Bytes\n",
+        ..STOPPED
+    },
+    Row {
+        list: "a 1\n",
+        at_most: Some((What::Bytes, 3)),
         err: "distfuture: too large: Bytes\n",
         ..STOPPED
     },
