@@ -29,7 +29,7 @@ use Rattle.dist_app.specs.Complete.{Completes, IsComplete, IsStatusOfSet, IsUndi
 use Rattle.dist_app.specs.Headline.{IsCarriedOut}
 use Rattle.dist_app.specs.Health.{Judges, ListStage, ListStages, Tells}
 use Rattle.dist_app.specs.PackagesStage.{PackagesStage}
-use Rattle.dist_app.specs.Run.{Comes, Decides, IsGivenUp, Runs}
+use Rattle.dist_app.specs.Run.{Comes, Decides, IsRunGivenUp, Runs}
 use Rattle.dist_app.specs.Stages.{Ending, Goes, Then, answered}
 use Rattle.dist_app.specs.Strong.{ClausesStage, Sweeps}
 use Rattle.dist_app.specs.TextStage.{TextStage}
@@ -239,7 +239,7 @@ module _ (laws : Laws) (words : List (List ℕ)) (limits : Limits) (result : Sta
     is_try : (line : CommandLine) → command_of words ≡ Some line → line ≡ Try size seed
     is_try line is = one_line (Try size seed) line (command_of words) is_line is
 
-    not_given_up : (why : Refusal) (ending : Ending) → ¬ IsGivenUp words desk.files limits why ending
+    not_given_up : (why : Refusal) (ending : Ending) → ¬ IsRunGivenUp words desk.files limits why ending
     not_given_up why ending (line, is, given_up) = subst (λ (l : CommandLine). CommandIsGivenUp l desk.files limits why ending) (is_try line is) given_up
 
     uncut : (result ≡ WriteFault) → ⊥

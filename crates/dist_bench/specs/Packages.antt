@@ -45,11 +45,11 @@ IsPackagesText text answer = OfFile text (λ r. answer ≡ counted (length r.pac
 abbrev pub IsClausesText : (text answer : List ℕ) → Type 0
 IsClausesText text answer = OfFile text (λ r. (clauses : List (List Literal)) × ArePresentClauses r false clauses × (answer ≡ counted (length clauses) (codes " clauses\n")))
 
-abbrev pub PassesLimits : PackageList → Type 0
-PassesLimits r = PassesClauses r false MAX_CLAUSES MAX_LITERALS ⊎ PassesLiterals r false MAX_CLAUSES MAX_LITERALS
+abbrev pub PassesPresentLimits : PackageList → Type 0
+PassesPresentLimits r = PassesClauses r false MAX_CLAUSES MAX_LITERALS ⊎ PassesLiterals r false MAX_CLAUSES MAX_LITERALS
 
 abbrev pub HasNoClauses : (text : List ℕ) → JobError → Type 0
-HasNoClauses text error = HasNoPackages text error ⊎ ((error ≡ TooManyClauses) × OfFile text PassesLimits)
+HasNoClauses text error = HasNoPackages text error ⊎ ((error ≡ TooManyClauses) × OfFile text PassesPresentLimits)
 
 -- ---- the answer of `count-classes`
 
