@@ -27,7 +27,7 @@ use Rattle.dist_app.specs.Command.{CommandDecides, CommandRefuses, CommandIsGive
 use Rattle.dist_app.specs.Health.{ListStage, Judges}
 use Rattle.dist_app.specs.PackagesStage.{PackagesStage}
 use Rattle.dist_app.specs.RepositoryStage.{IsEndOf, RepositoryStage}
-use Rattle.dist_app.specs.Run.{Decides, Refuses, IsGivenUp}
+use Rattle.dist_app.specs.Run.{Decides, Refuses, IsRunGivenUp}
 use Rattle.dist_app.specs.Stages.{Ending, Goes, Ends, IsDetermined, Excludes, refused}
 use Rattle.dist_app.specs.Strong.{ClausesStage, StrongStages, Sweeps}
 use Rattle.dist_app.specs.TextStage.{TextStage}
@@ -224,7 +224,7 @@ decides_excludes exact words files limits end ending (inr (line, is_line, refuse
     command_excludes exact line files limits end ending refuses
     (subst (λ (x : CommandLine). CommandDecides x (Some files) limits ending) (one_line line other (command_of words) is_line is_other) decides)
 
-pub fault_excludes : AreExact → (words : List (List ℕ)) (files : Files) (limits : Limits) → Excludes (Refuses words (Some files) limits) (IsGivenUp words (Some files) limits refusal.WriteFault)
+pub fault_excludes : AreExact → (words : List (List ℕ)) (files : Files) (limits : Limits) → Excludes (Refuses words (Some files) limits) (IsRunGivenUp words (Some files) limits refusal.WriteFault)
 fault_excludes exact words files limits end ending (inl (bad, is)) (line, is_line, given_up) = absurd (no_line line (command_of words) bad is_line)
 fault_excludes exact words files limits end ending (inr (line, is_line, refuses)) (other, is_other, given_up) =
     given_up_excludes exact line files limits end ending refuses

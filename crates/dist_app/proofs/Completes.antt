@@ -1,5 +1,6 @@
 -- What an undisturbed run comes to, from the end that it promises.
 use Rattle.std.proofs.Common.{◌≡◌, ◌⊎◌, ℕ, Bool, false, List, inl, inr, Option, Some, Result, Ok, Err, length, ap, sym, ◌∙◌, subst}
+use Rattle.dist_base.specs.declared.TheConstants.{DEFAULT_LIMIT}
 use Rattle.dist_outside.specs.Counts.{Rose}
 use Rattle.dist_outside.specs.DeskView.{DeskView}
 use Rattle.dist_outside.specs.Files.{Files, with_file}
@@ -28,7 +29,7 @@ use Rattle.dist_app.specs.Complete.{Completes, IsComplete, IsStatusOfSet, IsUndi
 use Rattle.dist_app.specs.Headline.{IsCarriedOut}
 use Rattle.dist_app.specs.Health.{Judges, ListStage, ListStages, Tells}
 use Rattle.dist_app.specs.PackagesStage.{PackagesStage}
-use Rattle.dist_app.specs.Run.{Comes, Decides, IsGivenUp, Runs}
+use Rattle.dist_app.specs.Run.{Comes, Decides, IsRunGivenUp, Runs}
 use Rattle.dist_app.specs.Stages.{Ending, Goes, Then, answered}
 use Rattle.dist_app.specs.Strong.{ClausesStage, Sweeps}
 use Rattle.dist_app.specs.TextStage.{TextStage}
@@ -129,7 +130,7 @@ strong_ends laws files limits packages cert essential limit r ending read kept d
     (packages_determined laws.texts files limits packages) r read ending decides))
 
 abbrev TrialComesTo : Limits → PackageList → Status → Type 0
-TrialComesTo limits r status = IsCarriedOut status ⊎ ((text : List ℕ) × StopsBelowBudget r false 10000 limits status text)
+TrialComesTo limits r status = IsCarriedOut status ⊎ ((text : List ℕ) × StopsBelowBudget r false DEFAULT_LIMIT limits status text)
 
 trial_comes_to : Laws → (files : Option Files) (limits : Limits) (size : ℕ) (r : PackageList) (ending : Ending) → Tries files limits size r ending → TrialComesTo limits r ending.status
 trial_comes_to laws files limits size r ending (inl tried) = inl (carried_claims ending.status tried.made (ap (λ (x : Ending). x.status) tried.is))
@@ -139,7 +140,7 @@ trial_comes_to laws files limits size r ending (inr stopped) =
       record {
         what = stopped.what;
         stopped = ap (λ (x : Ending). x.status) stopped.is;
-        below = laws.budgets r false 10000 limits stopped.what stopped.text stopped.full;
+        below = laws.budgets r false DEFAULT_LIMIT limits stopped.what stopped.text stopped.full;
         full = stopped.full;
       },
     )
@@ -238,7 +239,7 @@ module _ (laws : Laws) (words : List (List ℕ)) (limits : Limits) (result : Sta
     is_try : (line : CommandLine) → command_of words ≡ Some line → line ≡ Try size seed
     is_try line is = one_line (Try size seed) line (command_of words) is_line is
 
-    not_given_up : (why : Refusal) (ending : Ending) → ¬ IsGivenUp words desk.files limits why ending
+    not_given_up : (why : Refusal) (ending : Ending) → ¬ IsRunGivenUp words desk.files limits why ending
     not_given_up why ending (line, is, given_up) = subst (λ (l : CommandLine). CommandIsGivenUp l desk.files limits why ending) (is_try line is) given_up
 
     uncut : (result ≡ WriteFault) → ⊥

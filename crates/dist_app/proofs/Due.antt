@@ -5,7 +5,7 @@ use Rattle.dist_outside.specs.DeskView.{DeskView, OnlyReads}
 use Rattle.dist_outside.specs.declared.limits.Limits.{Limits}
 use Rattle.dist_words.specs.CommandLine.{CommandLine}
 use Rattle.dist_app.specs.Command.{CommandDecides, IsApart}
-use Rattle.dist_app.specs.Due.{IsDue, IsGivenUp, Stops}
+use Rattle.dist_app.specs.Due.{IsDue, IsPartGivenUp, Stops}
 use Rattle.dist_app.specs.Stages.{Ending, answered, refused}
 use Rattle.dist_app.specs.declared.refusal.Refusal.{Refusal}
 use Rattle.dist_app.specs.declared.status.Status.{Status}
@@ -45,7 +45,7 @@ due_stops line limits Part old new why more of_files reads (inr (inr decided)) =
 
 -- and where it does nothing with the desk
 pub apart_stops : (line : CommandLine) (limits : Limits) (Part : Ending → Type 0) (desk : DeskView) (why : Refusal) → ((ending : Ending) → Part ending → CommandDecides line desk.files limits ending)
-    → IsGivenUp Part desk.files why → Stops line limits desk desk why
+    → IsPartGivenUp Part desk.files why → Stops line limits desk desk why
 apart_stops line limits Part desk why more (inl memory) = inr (inr (inr (memory, inl refl)))
 apart_stops line limits Part desk why more (inr decided) = inl (more (refused desk.files why) decided)
 

@@ -4,7 +4,7 @@ use Rattle.dist_outside.specs.Files.{Files}
 use Rattle.dist_outside.specs.DeskView.{DeskView, OnlyReads}
 use Rattle.dist_outside.specs.declared.limits.Limits.{Limits}
 use Rattle.dist_repo.specs.PackageList.{PackageList}
-use Rattle.dist_app.specs.Due.{IsDue, IsGivenUp}
+use Rattle.dist_app.specs.Due.{IsDue, IsPartGivenUp}
 use Rattle.dist_app.specs.Health.{ListStage, Judges, ListStages}
 use Rattle.dist_app.specs.PackagesStage.{PackagesStage}
 use Rattle.dist_app.specs.Stages.{Ending, Step, Goes, Ends, Then, answered}
@@ -23,7 +23,7 @@ after_text_goes Stage (Err error) files name limit text read same goes has = tt
 
 pub after_text_due : {X : Type 0} (Stage : Option Files → List ℕ → Step X → Type 0) (result : Result X Refusal) (old new : DeskView) (name : List ℕ) (limit : ℕ)
     (text read : List ℕ) → read ≡ text → TextStage old.files name limit (Goes text)
-    → IfErr result (λ refusal. (told : Option Files) → IsGivenUp (λ ending. Stage told read (Ends ending)) told refusal)
+    → IfErr result (λ refusal. (told : Option Files) → IsPartGivenUp (λ ending. Stage told read (Ends ending)) told refusal)
     → IfErr result (IsDue (Then (TextStage old.files name limit) (λ t ending. Stage old.files t (Ends ending))) old new)
 after_text_due Stage (Ok value) old new name limit text read same goes has = tt
 after_text_due Stage (Err refusal) old new name limit text read same goes has =

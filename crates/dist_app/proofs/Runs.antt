@@ -11,7 +11,7 @@ use Rattle.dist_words.specs.CommandLine.{CommandLine}
 use Rattle.dist_words.specs.Table.{IsBadWords, command_of}
 use Rattle.dist_app.specs.Carried.{IsAnswered, IsRefused}
 use Rattle.dist_app.specs.Refusal.{status_of, refusal_text}
-use Rattle.dist_app.specs.Run.{Decides, Refuses, Comes, IsCutShort, IsGivenUp, IsInterrupted, IsTold, Leaves, TellsFiles, Runs}
+use Rattle.dist_app.specs.Run.{Decides, Refuses, Comes, IsCutShort, IsRunGivenUp, IsInterrupted, IsTold, Leaves, TellsFiles, Runs}
 use Rattle.dist_app.specs.Stages.{Ending, Excludes}
 use Rattle.dist_app.specs.Writes.{Writes}
 use Rattle.dist_app.specs.declared.refusal.Refusal.{Refusal}
@@ -41,9 +41,9 @@ told_excludes Refuses Decides desk (files, told) excludes = subst (λ (f : Optio
 alone : AreExact → (words : List (List ℕ)) (desk : DeskView) (limits : Limits) → TellsFiles desk → Excludes (Refuses words desk.files limits) (Decides words desk.files limits)
 alone exact words desk limits tells = told_excludes (λ f. Refuses words f limits) (λ f. Decides words f limits) desk tells (λ files. decides_excludes exact words files limits)
 
-alone_of_faults : AreExact → (words : List (List ℕ)) (desk : DeskView) (limits : Limits) → TellsFiles desk → Excludes (Refuses words desk.files limits) (IsGivenUp words desk.files limits refusal.WriteFault)
+alone_of_faults : AreExact → (words : List (List ℕ)) (desk : DeskView) (limits : Limits) → TellsFiles desk → Excludes (Refuses words desk.files limits) (IsRunGivenUp words desk.files limits refusal.WriteFault)
 alone_of_faults exact words desk limits tells =
-    told_excludes (λ f. Refuses words f limits) (λ f. IsGivenUp words f limits refusal.WriteFault) desk tells (λ files. fault_excludes exact words files limits)
+    told_excludes (λ f. Refuses words f limits) (λ f. IsRunGivenUp words f limits refusal.WriteFault) desk tells (λ files. fault_excludes exact words files limits)
 
 -- an answer, after which nothing is told on `err`
 pub answered_runs : AreExact → (words : List (List ℕ)) (limits : Limits) (status : Status) (desk desk' : DeskView) (out out' err : SinkView)

@@ -26,7 +26,7 @@ use Rattle.dist_app.specs.Due.{LeavesCut, Stops, SweepStops}
 use Rattle.dist_app.specs.PackagesStage.{PackagesStage}
 use Rattle.dist_app.specs.Refusal.{refusal_of}
 use Rattle.dist_app.specs.Stages.{Ending, Goes, Ends, answered, refused}
-use Rattle.dist_app.specs.Strong.{ClausesStage, IsGivenUp, IsStopped, IsSwept}
+use Rattle.dist_app.specs.Strong.{ClausesStage, IsSweepGivenUp, IsStopped, IsSwept}
 use Rattle.dist_app.specs.declared.refusal.Refusal.{Refusal}
 use Rattle.dist_app.specs.declared.refusal.Refusal.TheVariants as refusal
 use Rattle.dist_app.specs.declared.status.Status.{Status}
@@ -121,7 +121,7 @@ module _ (packages name : List ℕ) (essential : Bool) (limit : ℕ) (limits : L
       inr (r, read, inr (tt, kept, inl (subst (λ (f : Option Files). IsSwept f limits name essential limit r (answered new.files status text)) reads.files_stay swept)))
 
   given_up : (why : Refusal) → (why ≡ refusal.WriteFault → ClausesStage old.files limits essential r (Goes tt)) → LeavesCut r essential limit limits name mid.files new.files
-      → IsGivenUp old.files limits packages name essential limit why (refused new.files why)
+      → IsSweepGivenUp old.files limits packages name essential limit why (refused new.files why)
   given_up why kept leaves = record {
     repository = r;
     read = read;

@@ -11,7 +11,7 @@ use Rattle.dist_strong.specs.Sweep.{ComesExactly}
 use Rattle.dist_trial.specs.Trial.{IsTrial, OfArchive, TrialAnswers}
 use Rattle.dist_trial.specs.declared.trials.Trial.{Trial}
 use Rattle.dist_app.specs.Claims.{claims_status, marked_status}
-use Rattle.dist_app.specs.Due.{IsGivenUp}
+use Rattle.dist_app.specs.Due.{IsPartGivenUp}
 use Rattle.dist_app.specs.Refusal.{refusal_of}
 use Rattle.dist_app.specs.Stages.{Goes, answered}
 use Rattle.dist_app.specs.Strong.{ClausesStage}
@@ -64,7 +64,7 @@ not_memory : (one : Result Trial WorkError) → one ≡ Err (work.TooLarge Liter
 not_memory one is e = cc
 
 pub untried : (size seed : ℕ) (limits : Limits) (error : WorkError) → IsExact size seed limits (Err error) → TrialAnswers size seed limits (Err error)
-    → (files : Option Files) → IsGivenUp (TryStages files limits size seed (Tries files limits size)) files (refusal_of error)
+    → (files : Option Files) → IsPartGivenUp (TryStages files limits size seed (Tries files limits size)) files (refusal_of error)
 untried size seed limits (work.TooLarge Bytes) exact longer files = inr (inl (inl (longer, refl)))
 untried size seed limits (work.TooLarge Stanzas) exact many files = inr (inl (inr (many.0, many.1, refl)))
 untried size seed limits (work.TooLarge Clauses) exact of files = inr (inr (of.repository, archive_of files size seed limits _ of, inl (inl (of.holds, refl))))

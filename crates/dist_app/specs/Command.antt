@@ -7,7 +7,7 @@ use Rattle.dist_app.specs.Check.{CheckStages, Reports}
 use Rattle.dist_app.specs.Classes.{ClassesStages, TellsClasses}
 use Rattle.dist_app.specs.Health.{HealthStages, Judges}
 use Rattle.dist_app.specs.Stages.{Ending}
-use Rattle.dist_app.specs.Strong.{StrongStages, Sweeps, IsGivenUp}
+use Rattle.dist_app.specs.Strong.{StrongStages, Sweeps, IsSweepGivenUp}
 use Rattle.dist_app.specs.Try.{TryStages, Tries}
 use Rattle.dist_app.specs.declared.refusal.Refusal.{Refusal}
 
@@ -29,7 +29,7 @@ CommandRefuses (Try size seed) files limits = TryStages files limits size seed (
 
 -- the ends of a command that was given up while it wrote a file
 abbrev pub CommandIsGivenUp : CommandLine → Option Files → Limits → Refusal → Ending → Type 0
-CommandIsGivenUp (Strong packages cert essential limit) files limits = IsGivenUp files limits packages cert essential limit
+CommandIsGivenUp (Strong packages cert essential limit) files limits = IsSweepGivenUp files limits packages cert essential limit
 CommandIsGivenUp line files limits = λ refusal ending. ⊥
 
 -- the command does nothing with the desk

@@ -1,5 +1,6 @@
 -- What a run of each command comes to where nothing is in its way. Want of memory may come in place of any answer.
 use Rattle.std.specs.Prelude.{◌≡◌, ◌⊎◌, ℕ, Bool, false, List, Option, Some, Result, Ok, Err, length}
+use Rattle.dist_base.specs.declared.TheConstants.{DEFAULT_LIMIT}
 use Rattle.dist_outside.specs.Counts.{Rose}
 use Rattle.dist_outside.specs.DeskView.{DeskView}
 use Rattle.dist_outside.specs.Files.{Files, with_file}
@@ -74,7 +75,7 @@ StrongIsComplete words limits result files left = (packages cert : List ℕ) (es
 abbrev pub TrialIsComplete : List (List ℕ) → Limits → Status → Option Files → SinkView → SinkView → Type 0
 TrialIsComplete words limits result files out out' = ¬ Rose out.faults out'.faults → (size seed : ℕ) (r : PackageList)
     → command_of words ≡ Some (Try size seed) → ArchiveStage files limits size seed (Goes r) → ClausesStage files limits false r (Goes tt)
-    → (result ≡ NoMemory) ⊎ (IsCarriedOut result ⊎ ((text : List ℕ) × StopsBelowBudget r false 10000 limits result text))
+    → (result ≡ NoMemory) ⊎ (IsCarriedOut result ⊎ ((text : List ℕ) × StopsBelowBudget r false DEFAULT_LIMIT limits result text))
 
 -- ---- `check`
 

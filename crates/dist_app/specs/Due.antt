@@ -17,12 +17,12 @@ use Rattle.dist_app.specs.declared.status.Status.{Status}
 -- ---- commands that only read
 
 -- for want of memory, or since the inputs decide so
-abbrev pub IsGivenUp : (Ending → Type 0) → Option Files → Refusal → Type 0
-IsGivenUp Decided files refusal = (refusal ≡ NoMemory) ⊎ Decided (refused files refusal)
+abbrev pub IsPartGivenUp : (Ending → Type 0) → Option Files → Refusal → Type 0
+IsPartGivenUp Decided files refusal = (refusal ≡ NoMemory) ⊎ Decided (refused files refusal)
 
 -- the same, or for a fault of reading that was counted
 abbrev pub IsDue : (Ending → Type 0) → DeskView → DeskView → Refusal → Type 0
-IsDue Decided old new refusal = ((refusal ≡ ReadFault) × Rose old.read_faults new.read_faults) ⊎ IsGivenUp Decided old.files refusal
+IsDue Decided old new refusal = ((refusal ≡ ReadFault) × Rose old.read_faults new.read_faults) ⊎ IsPartGivenUp Decided old.files refusal
 
 -- ---- the sweep
 

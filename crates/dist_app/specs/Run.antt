@@ -38,8 +38,8 @@ pub record IsCutShort (words : List (List ℕ)) (files : Option Files) (limits :
   pub is : ending ≡ record { status = status_of refusal; out = ending.out; err = refusal_text refusal; files = decided.files }
 
 -- The command was given up while it wrote a file.
-abbrev pub IsGivenUp : List (List ℕ) → Option Files → Limits → Refusal → Ending → Type 0
-IsGivenUp words files limits refusal ending = (line : CommandLine) × (command_of words ≡ Some line) × CommandIsGivenUp line files limits refusal ending
+abbrev pub IsRunGivenUp : List (List ℕ) → Option Files → Limits → Refusal → Ending → Type 0
+IsRunGivenUp words files limits refusal ending = (line : CommandLine) × (command_of words ≡ Some line) × CommandIsGivenUp line files limits refusal ending
 
 -- A file could not be read, by a command that reads any.
 abbrev pub IsUnread : List (List ℕ) → Option Files → Ending → Type 0
@@ -51,7 +51,7 @@ abbrev pub IsInterrupted : List (List ℕ) → Option Files → Limits → Endin
 IsInterrupted words files limits ending =
     IsUnread words files ending
     ⊎ (ending ≡ refused files NoMemory)
-    ⊎ (IsGivenUp words files limits WriteFault ending ⊎ IsGivenUp words files limits NoMemory ending)
+    ⊎ (IsRunGivenUp words files limits WriteFault ending ⊎ IsRunGivenUp words files limits NoMemory ending)
     ⊎ (IsCutShort words files limits WriteFault ending ⊎ IsCutShort words files limits NoMemory ending)
 
 -- an end that may come
@@ -84,7 +84,7 @@ pub record Leaves (words : List (List ℕ)) (old new : DeskView) : Type 0 where
 -- the end that a fault of writing gave, and the fault
 abbrev pub IsWriteFault : List (List ℕ) → Option Files → Limits → Ending → DeskView → DeskView → SinkView → SinkView → Type 0
 IsWriteFault words files limits ending desk desk' out out' =
-    (IsGivenUp words files limits WriteFault ending × Rose desk.write_faults desk'.write_faults)
+    (IsRunGivenUp words files limits WriteFault ending × Rose desk.write_faults desk'.write_faults)
     ⊎ (IsCutShort words files limits WriteFault ending × Rose out.faults out'.faults)
 
 -- What a run promises of its end.

@@ -51,7 +51,7 @@ StrongStages files limits packages essential Last =
 
 -- The sweep was given up, for a fault of writing or want of memory. CERT is as before, or holds the lines until then, perhaps
 -- with a front of one line more behind them.
-pub record IsGivenUp (files : Option Files) (limits : Limits) (packages cert : List ℕ) (essential : Bool) (limit : ℕ) (refusal : Refusal) (ending : Ending) : Type 0 where
+pub record IsSweepGivenUp (files : Option Files) (limits : Limits) (packages cert : List ℕ) (essential : Bool) (limit : ℕ) (refusal : Refusal) (ending : Ending) : Type 0 where
   pub repository : PackageList
   pub read : PackagesStage files limits packages (Goes repository)
   pub kept : refusal ≡ WriteFault → ClausesStage files limits essential repository (Goes tt)

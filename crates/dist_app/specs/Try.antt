@@ -1,5 +1,6 @@
 -- What `try --size N --seed S` comes to. It touches no file.
 use Rattle.std.specs.Prelude.{◌≡◌, ◌⊎◌, ◌<◌, ◌≤◌, ℕ, false, List, Option, length}
+use Rattle.dist_base.specs.declared.TheConstants.{DEFAULT_LIMIT}
 use Rattle.dist_outside.specs.Files.{Files}
 use Rattle.dist_outside.specs.declared.limits.Limits.{Limits}
 use Rattle.dist_outside.specs.declared.trouble.What.{What}
@@ -22,18 +23,19 @@ ArchiveStage files limits size seed (Ends ending) =
     ((limits.bytes < length (generated size seed)) × (ending ≡ refused files (TooLarge Bytes)))
     ⊎ ((length (generated size seed) ≤ limits.bytes) × (limits.stanzas < size) × (ending ≡ refused files (TooLarge Stanzas)))
 
--- A certificate of the archive, plain and with the limit 10000, is accepted, and the summary of its claims is told.
+-- A certificate of the archive, plain and with the limit of a question where none is given, is accepted, and the summary of
+-- its claims is told.
 pub record IsTried (files : Option Files) (limits : Limits) (size : ℕ) (r : PackageList) (ending : Ending) : Type 0 where
   pub made : List Claim
   pub text : List ℕ
-  pub certificate : IsSweep r false 10000 limits made text
+  pub certificate : IsSweep r false DEFAULT_LIMIT limits made text
   pub is : ending ≡ answered files (claims_status made) (summary_text size made)
 
 -- A part of such a certificate stopped, since one line more would pass a number.
 pub record IsTrialStopped (files : Option Files) (limits : Limits) (r : PackageList) (ending : Ending) : Type 0 where
   pub what : What
   pub text : List ℕ
-  pub full : IsFull r false 10000 limits what text
+  pub full : IsFull r false DEFAULT_LIMIT limits what text
   pub is : ending ≡ refused files (TooLarge what)
 
 abbrev pub Tries : Option Files → Limits → (size : ℕ) → PackageList → Ending → Type 0

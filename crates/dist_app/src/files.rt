@@ -9,7 +9,7 @@ ghost use Rattle.dist_app.specs.Stages.{Goes, Ends};
 ghost use Rattle.dist_app.specs.TextStage.{TextStage};
 ghost use Rattle.dist_app.specs.PackagesStage.{PackagesStage};
 ghost use Rattle.dist_app.specs.RepositoryStage.{RepositoryStage};
-ghost use Rattle.dist_app.specs.Due.{IsDue, IsGivenUp};
+ghost use Rattle.dist_app.specs.Due.{IsDue, IsPartGivenUp};
 ghost use Rattle.dist_app.specs.Run.{IsWithinStated};
 
 use crate::refusal::{Refusal, refusal_of};
@@ -41,7 +41,7 @@ fn repository_of(alloc: Global, text: &[u8], stanzas: u32) -> Result<Repository,
     requires bytes { length text.now ≤ MAX_BYTES }
     requires stanzas { stanzas ≤ MAX_STANZAS }
     ensures goes { IfOk result (λ repository. (files : Option Files) → RepositoryStage files stanzas text.now (Goes repository)) }
-    ensures given_up { IfErr result (λ refusal. (files : Option Files) → IsGivenUp (λ ending. RepositoryStage files stanzas text.now (Ends ending)) files refusal) }
+    ensures given_up { IfErr result (λ refusal. (files : Option Files) → IsPartGivenUp (λ ending. RepositoryStage files stanzas text.now (Ends ending)) files refusal) }
     ensures within_size { IfOk result (λ repository. IsWithinSize repository) }
 {
     match read_packages(alloc, text, stanzas) {

@@ -6,7 +6,7 @@ ghost use Rattle.dist_repo.specs.Size.{IsWithinSize};
 ghost use Rattle.dist_app.specs.Stages.{Ending, Goes, Ends, Then, answered};
 ghost use Rattle.dist_app.specs.TextStage.{TextStage};
 ghost use Rattle.dist_app.specs.Health.{HealthStages, Judges, ListStage, ListStages};
-ghost use Rattle.dist_app.specs.Due.{IsDue, IsGivenUp};
+ghost use Rattle.dist_app.specs.Due.{IsDue, IsPartGivenUp};
 ghost use Rattle.dist_app.specs.Run.{IsWithinStated};
 
 use crate::answer::Answer;
@@ -68,7 +68,7 @@ fn judge_list<D: Desk>(
 /// The set that the text of LIST names.
 fn members_of(alloc: Global, repository: &Repository, text: &[u8]) -> Result<Assignment, Refusal>
     ensures goes { IfOk result (λ members. (files : Option Files) → ListStage files repository.now.packages text.now (Goes members)) }
-    ensures given_up { IfErr result (λ refusal. (files : Option Files) → IsGivenUp (λ ending. ListStage files repository.now.packages text.now (Ends ending)) files refusal) }
+    ensures given_up { IfErr result (λ refusal. (files : Option Files) → IsPartGivenUp (λ ending. ListStage files repository.now.packages text.now (Ends ending)) files refusal) }
 {
     match read_list(alloc, repository, text) {
         Ok(members) => Ok(members),

@@ -2,7 +2,7 @@
 ghost use Rattle.std.specs.Prelude.{IfErr, IfOk, Option};
 ghost use Rattle.dist_outside.specs.Files.{Files};
 ghost use Rattle.dist_words.specs.Lines.{IsSize};
-ghost use Rattle.dist_app.specs.Due.{IsGivenUp};
+ghost use Rattle.dist_app.specs.Due.{IsPartGivenUp};
 ghost use Rattle.dist_app.specs.Run.{IsWithinStated};
 ghost use Rattle.dist_app.specs.Stages.{answered};
 ghost use Rattle.dist_app.specs.Try.{Tries, TryStages};
@@ -21,7 +21,7 @@ pub(crate) fn run_try(alloc: Global, words: &TryWords, limits: &Limits) -> Resul
     requires size { IsSize words.now.size }
     ensures answers { IfOk result (λ answer. (files : Option Files) → TryStages files limits.now words.now.size words.now.seed
         (Tries files limits.now words.now.size) (answered files answer.status answer.text.items)) }
-    ensures stops { IfErr result (λ refusal. (files : Option Files) → IsGivenUp (TryStages files limits.now words.now.size words.now.seed
+    ensures stops { IfErr result (λ refusal. (files : Option Files) → IsPartGivenUp (TryStages files limits.now words.now.size words.now.seed
         (Tries files limits.now words.now.size)) files refusal) }
 {
     match trial(alloc, words.size, words.seed, limits) {

@@ -48,12 +48,12 @@ pub record AreCounts (list : List (List ℕ)) (counts : Counts) : Type 0 where
   pub conflicts : CountsLines Conflicts list counts.conflicts
   pub provided : CountsLines Provides list counts.provided
 
-abbrev pub counts_text : Counts → List ℕ
-counts_text counts = (counted counts.dependencies (codes " dependencies, ") ++ counted counts.conflicts (codes " conflicts, ")) ++ counted counts.provided (codes " provided\n")
+abbrev pub relation_counts_text : Counts → List ℕ
+relation_counts_text counts = (counted counts.dependencies (codes " dependencies, ") ++ counted counts.conflicts (codes " conflicts, ")) ++ counted counts.provided (codes " provided\n")
 
 -- the answer of `read-relations`
 abbrev pub IsCountsText : (text answer : List ℕ) → Type 0
-IsCountsText text answer = (counts : Counts) × AreCounts (lines text) counts × (answer ≡ counts_text counts)
+IsCountsText text answer = (counts : Counts) × AreCounts (lines text) counts × (answer ≡ relation_counts_text counts)
 
 -- each field of a line can be read
 abbrev pub IsRead : (line : List ℕ) → Type 0

@@ -2,8 +2,7 @@
 ghost use Rattle.std.specs.Prelude.{◌≡◌, ◌≤◌, IfOk, length};
 ghost use Rattle.dist_base.specs.Answers.{Answers};
 ghost use Rattle.dist_clause.specs.ClauseList.{clause_at, literal_count};
-ghost use Rattle.dist_space_clauses.specs.SpaceClauses.{AreSpaceClauses};
-ghost use Rattle.dist_bench.specs.FutureClauses.{HasNoFutureClauses, HaveFutureCounts, IsFutureClausesText, PassesLimits, counts_text};
+ghost use Rattle.dist_bench.specs.FutureClauses.{AreFutureWithin, HasNoFutureClauses, HaveFutureCounts, IsFutureClausesText, PassesFutureLimits, future_counts_text};
 
 use crate::counted::{add_counted, counted};
 use crate::error::JobError;
@@ -16,7 +15,7 @@ use std::alloc::{AllocError, Global};
 
 /// The clauses of a space.
 fn space_clauses(alloc: Global, space: &Space) -> Result<ClauseSet, JobError>
-    ensures { Answers (λ set. AreSpaceClauses space.now set.clauses) (λ error. (error ≡ JobError.TooManyClauses) × PassesLimits space.now)
+    ensures { Answers (λ set. AreFutureWithin space.now set.clauses) (λ error. (error ≡ JobError.TooManyClauses) × PassesFutureLimits space.now)
         JobError.NoMemory result }
 {
     match clauses_of(alloc, space, MAX_CLAUSES, MAX_LITERALS) {
@@ -69,7 +68,7 @@ fn counts_of(alloc: Global, text: &[u8]) -> Result<SetCounts, JobError>
 
 /// The counts in words.
 fn text_of(alloc: Global, counts: SetCounts) -> Result<Vec<u8>, AllocError>
-    ensures { IfOk result (λ text. text.items ≡ counts_text counts) }
+    ensures { IfOk result (λ text. text.items ≡ future_counts_text counts) }
 {
     let mut text = counted(alloc, u128::from(counts.clauses), b" clauses of futures, ")?;
     add_counted(&mut text, counts.literals, b" literals\n")?;

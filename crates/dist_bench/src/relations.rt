@@ -2,7 +2,7 @@
 ghost use Rattle.std.specs.Prelude.{◌≡◌, ◌≢◌, ◌⊎◌, ◌+◌, ◌++◌, ℕ, List, IfOk, MatchOption};
 ghost use Rattle.dist_base.specs.Answers.{Answers};
 ghost use Rattle.dist_control.specs.Lines.{lines};
-ghost use Rattle.dist_bench.specs.Relations.{AreCounts, CountsLine, HasNoRelations, HasRelationFault, Holds, IsCountsText, IsFault, IsField, IsNoRelation, counts_text};
+ghost use Rattle.dist_bench.specs.Relations.{AreCounts, CountsLine, HasNoRelations, HasRelationFault, Holds, IsCountsText, IsFault, IsField, IsNoRelation, relation_counts_text};
 ghost use Rattle.dist_bench.specs.declared.error.JobError.TheVariants.{NoRelation};
 
 use crate::counted::{add_counted, counted};
@@ -110,7 +110,7 @@ fn counts_of(alloc: Global, text: &[u8]) -> Result<Counts, JobError>
 
 /// The counts in words.
 fn text_of(alloc: Global, counts: Counts) -> Result<Vec<u8>, AllocError>
-    ensures { IfOk result (λ text. text.items ≡ counts_text counts) }
+    ensures { IfOk result (λ text. text.items ≡ relation_counts_text counts) }
 {
     let mut text = counted(alloc, counts.dependencies, b" dependencies, ")?;
     add_counted(&mut text, counts.conflicts, b" conflicts, ")?;

@@ -1,5 +1,5 @@
 -- What the text is decides what a reader answers.
-use Rattle.std.proofs.Common.{◌≡◌, ◌⊎◌, ⊎_elim, inl, inr, ℕ, List, Option, Some, None, Result, Ok, Err, refl, ap, sym, subst, ◌∙◌}
+use Rattle.std.proofs.Common.{◌≡◌, ◌≢◌, ◌⊎◌, ⊎_elim, inl, inr, ℕ, List, [], ◌∷◌, Option, Some, None, Result, Ok, Err, length, refl, ap, sym, subst, ◌∙◌, arith, length-append}
 use Rattle.std.proofs.lemmas.Bool.{false≢true}
 use Rattle.dist_outside.specs.declared.trouble.What.TheVariants.{Certificate}
 use Rattle.dist_outside.specs.declared.trouble.WorkError.TheVariants.{TooLarge}
@@ -11,12 +11,20 @@ use Rattle.dist_cert.specs.declared.records.CertRecord.{CertRecord}
 use Rattle.dist_cert.specs.declared.records.Header.{Header}
 use Rattle.dist_cert.specs.Form.{HasForm, HasHeaderForm}
 use Rattle.dist_cert.specs.OneVerdict.{one_line}
-use Rattle.dist_cert.specs.Refusal.{BeginsWith}
-use Rattle.dist_cert.specs.FaultsRead.{not_cut, not_nothing}
+use Rattle.dist_cert.specs.Refusal.{line_feed, IsOneLine, BeginsWith}
 use Rattle.dist_cert.specs.Reading.{ReaderView, PassesWhole, IsHeaderNext, HeaderFault, HeaderAnswers, IsRecordNext, IsAtEnd, RecordFault, RecordAnswers}
 use Rattle.dist_cert.specs.ReadBack.{IsGiven}
+use Rattle.dist_cert.specs.ByRecords.{whole_line}
 use Rattle.dist_cert.specs.ExactReader.{IsRefusedFor, IsTooLarge, ReaderIsExact}
 use Rattle.dist_cert.proofs.OneLine.{clear}
+
+-- a text that begins with a line and its line feed is more than one line
+not_cut : (rest line more : List ℕ) → BeginsWith rest line more → ¬ IsOneLine rest
+not_cut rest line more begins h = whole_line line more (subst IsOneLine begins.ended h)
+
+-- nor is it empty
+not_nothing : (rest line more : List ℕ) → BeginsWith rest line more → rest ≢ []
+not_nothing rest line more begins e = let n = ap length (sym e ∙ begins.ended) in omega (arith, n, length-append line (line_feed ∷ more))
 
 -- a text begins with one line
 one_begin : (rest line more other behind : List ℕ) → BeginsWith rest line more → BeginsWith rest other behind → (line ≡ other) × (more ≡ behind)

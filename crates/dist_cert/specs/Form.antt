@@ -3,6 +3,7 @@
 -- `0` only separates lists.
 use Rattle.std.specs.Prelude.{◌≡◌, ◌≢◌, ℕ, ◌<◌, ◌≤◌, ◌^◌, Bool, true, false, List, [], ◌∷◌, ◌++◌, All, AllPairs, length, map, codes, decimal}
 use Rattle.std.specs.List.{flat_map}
+use Rattle.dist_base.specs.declared.TheConstants.{MAX_LIMIT}
 use Rattle.dist_cert.specs.declared.records.CertKind.{CertKind}
 use Rattle.dist_cert.specs.declared.records.CertKind.TheVariants as kinds
 use Rattle.dist_cert.specs.declared.records.CertRecord.{CertRecord}
@@ -132,9 +133,9 @@ mode_text false = codes "plain"
 abbrev pub header_text : Header → List ℕ
 header_text h = codes "distfuture-certificate 1 " ++ (kind_text h.kind ++ (32 ∷ (mode_text h.essential ++ words_text (plains (h.limit ∷ h.packages ∷ h.variables ∷ h.clauses ∷ [])))))
 
--- the limit is from 1 to 1,000,000
+-- the limit is one that may be given
 abbrev pub KeepsLimit : Header → Type 0
-KeepsLimit h = (1 ≤ h.limit) × (h.limit ≤ 1000000)
+KeepsLimit h = (1 ≤ h.limit) × (h.limit ≤ MAX_LIMIT)
 
 -- The line, without its line feed, has the form of this first line.
 pub record HasHeaderForm (line : List ℕ) (h : Header) : Type 0 where

@@ -3,6 +3,7 @@
 use Rattle.std.specs.Prelude.{◌≡◌, ℕ, ◌+◌, ◌-◌, ◌<◌, ◌≤◌, Bool, true, false, if◌then◌else◌, List, [], ◌∷◌, ◌++◌, length, map, slice_index_or}
 use Rattle.std.specs.List.{flat_map, list_any, AllPass}
 use Rattle.dist_clause.specs.Formula.{Literal, literal}
+use Rattle.dist_cert.specs.declared.TheConstants.{REACH}
 use Rattle.dist_cert.specs.declared.records.CertRecord.{CertRecord}
 use Rattle.dist_cert.specs.declared.records.CertRecord.TheVariants.{Question, Derived, Refuted, Installation, Undecided, NotInstallable, Unknown, Strong, Outdated, Alive, Challenged}
 use Rattle.dist_cert.specs.Form.{Word}
@@ -38,9 +39,9 @@ installations lines = flat_map installed_in lines
 abbrev pub installation_at : List CertRecord → ℕ → List ℕ
 installation_at before number = slice_index_or (installations before) (number - 1) []
 
--- the number is one of the latest 1,024 installations
+-- the number is one of the latest installations, as far back as a claim may reach
 abbrev pub IsRecent : List CertRecord → ℕ → Type 0
-IsRecent before number = (1 ≤ number) × (number ≤ length (installations before)) × (length (installations before) < number + 1024)
+IsRecent before number = (1 ≤ number) × (number ≤ length (installations before)) × (length (installations before) < number + REACH)
 
 -- ---- claims
 

@@ -18,7 +18,6 @@ pub mod OneVerdict
 pub mod SomeVerdict
 pub mod GroupLaws
 pub mod ReadBack
-pub mod FaultsRead
 pub mod ExactReader
 pub mod ByRecords
 pub mod Part

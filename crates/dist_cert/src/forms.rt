@@ -9,13 +9,11 @@ use crate::line_text::{add_header_text, add_record_text, kind_word, mode_word};
 use crate::loose_words::read_words;
 use crate::records::{CertKind, CertRecord, Header};
 use crate::rules::keeps_rules;
+use dist_base::MAX_LIMIT;
 use std::alloc::{AllocError, Global};
 
 /// How many bytes stand before the kind of a first line.
 const BEFORE_KIND: usize = 25;
-
-/// The most derived lines that a first line may ask for.
-const MAX_LIMIT: u32 = 1_000_000;
 
 /// Reads lines by their form, with room that is used again for each.
 #[derive(Drop)]

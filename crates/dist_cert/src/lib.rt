@@ -29,3 +29,6 @@ pub use lists::{Claims, Items, Literals, Numbers, Pairs};
 pub use reading::Reader;
 pub use records::{CertKind, CertRecord, Claim, Header};
 pub use writing::Writer;
+
+/// How many installations a claim may reach back.
+pub const REACH: usize = 1_024;

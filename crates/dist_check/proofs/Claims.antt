@@ -10,6 +10,7 @@ use Rattle.dist_repo.specs.PackageList.{PackageList}
 use Rattle.dist_repo.specs.Strong.{IsInstallation, IsInstallable, StronglyDepends}
 use Rattle.dist_repo.specs.declared.package.Package.{Package}
 use Rattle.dist_now.specs.PresentLaws.{AreModelsInstallations}
+use Rattle.dist_cert.specs.declared.TheConstants.{REACH}
 use Rattle.dist_cert.specs.declared.faults.CertCause.TheVariants as causes
 use Rattle.dist_cert.specs.declared.records.CertKind.TheVariants as kinds
 use Rattle.dist_cert.specs.declared.records.CertRecord.{CertRecord}
@@ -110,7 +111,7 @@ named-told before p number = elim (most-told 1 number) [
   | inr low ↦ inr (λ h. low h.0.0)
   | inl first ↦ elim (most-told number (length (installations before))) [
     | inr high ↦ inr (λ h. high h.0.1)
-    | inl last ↦ elim (less-told (length (installations before)) (number + 1024)) [
+    | inl last ↦ elim (less-told (length (installations before)) (number + REACH)) [
       | inr old ↦ inr (λ h. old h.0.2)
       | inl late ↦ elim (number-told (installation_at before number) p) [
         | inr absent ↦ inr (λ h. absent h.1)

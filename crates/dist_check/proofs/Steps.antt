@@ -7,6 +7,7 @@ use Rattle.std.proofs.lemmas.List.Elements.{All-nil, All-push}
 use Rattle.std.proofs.lemmas.List.Quantifiers.{Any-push}
 use Rattle.std.proofs.lemmas.Grind.{flat_map-append}
 use Rattle.dist_clause.specs.Formula.{Literal}
+use Rattle.dist_cert.specs.declared.TheConstants.{REACH}
 use Rattle.dist_cert.specs.declared.records.CertRecord.{CertRecord}
 use Rattle.dist_cert.specs.declared.records.CertRecord.TheVariants as lines
 use Rattle.dist_cert.specs.Form.{Word}
@@ -40,12 +41,12 @@ installed-same before step none = sym (installed-push before step ∙ ap (λ (ms
 -- the latest installations, with one more
 pub latest-push : (all : List (List ℕ)) (members : List ℕ) → latest (latest all ++ members ∷ []) ≡ latest (all ++ members ∷ [])
 latest-push all members =
-    let size : length (latest all) ≡ length all - (length all - 1024) = length-drop (length all - 1024) all in
-    let front : drop (length all - 1024) (all ++ members ∷ []) ≡ latest all ++ members ∷ [] = drop-append-le (length all - 1024) all (members ∷ []) (omega arith) in
-    let few : length (latest all ++ members ∷ []) - 1024 + (length all - 1024) ≡ length (all ++ members ∷ []) - 1024
+    let size : length (latest all) ≡ length all - (length all - REACH) = length-drop (length all - REACH) all in
+    let front : drop (length all - REACH) (all ++ members ∷ []) ≡ latest all ++ members ∷ [] = drop-append-le (length all - REACH) all (members ∷ []) (omega arith) in
+    let few : length (latest all ++ members ∷ []) - REACH + (length all - REACH) ≡ length (all ++ members ∷ []) - REACH
     = omega (arith, size, length-append (latest all) (members ∷ []), length-append all (members ∷ [])) in
-    ap (λ (xs : List (List ℕ)). drop (length (latest all ++ members ∷ []) - 1024) xs) (sym front)
-    ∙ drop-drop (length (latest all ++ members ∷ []) - 1024) (length all - 1024) (all ++ members ∷ [])
+    ap (λ (xs : List (List ℕ)). drop (length (latest all ++ members ∷ []) - REACH) xs) (sym front)
+    ∙ drop-drop (length (latest all ++ members ∷ []) - REACH) (length all - REACH) (all ++ members ∷ [])
     ∙ ap (λ (n : ℕ). drop n (all ++ members ∷ [])) (omega (arith, few))
 
 -- ---- the open question

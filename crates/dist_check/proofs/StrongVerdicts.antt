@@ -7,6 +7,7 @@ use Rattle.std.proofs.lemmas.List.Elements.{All-append, All-contains, All-head, 
 use Rattle.std.proofs.lemmas.Option.{slice_get-get_or, slice_get_past}
 use Rattle.dist_clause.specs.Formula.{Literal}
 use Rattle.dist_repo.specs.PackageList.{PackageList}
+use Rattle.dist_cert.specs.declared.TheConstants.{REACH}
 use Rattle.dist_cert.specs.declared.faults.CertCause.{CertCause}
 use Rattle.dist_cert.specs.declared.faults.CertCause.TheVariants as causes
 use Rattle.dist_cert.specs.declared.records.CertKind.TheVariants as kinds
@@ -39,7 +40,7 @@ recent-told before number = elim (most-told 1 number) [
   | inr low ↦ inr (λ h. low h.0)
   | inl first ↦ elim (most-told number (length (installations before))) [
     | inr high ↦ inr (λ h. high h.1)
-    | inl last ↦ elim (less-told (length (installations before)) (number + 1024)) [
+    | inl last ↦ elim (less-told (length (installations before)) (number + REACH)) [
       | inr old ↦ inr (λ h. old h.2)
       | inl late ↦ inl (first, last, late)
     ]
@@ -47,10 +48,10 @@ recent-told before number = elim (most-told 1 number) [
 ]
 
 -- how many installations are kept no longer
-forgotten-is : (r : PackageList) (inputs : List (List Literal)) (h : Header) (before : List CertRecord) (s : StateView) → IsAt r inputs h before s → s.window.count - length s.window.kept ≡ length (installations before) - 1024
+forgotten-is : (r : PackageList) (inputs : List (List Literal)) (h : Header) (before : List CertRecord) (s : StateView) → IsAt r inputs h before s → s.window.count - length s.window.kept ≡ length (installations before) - REACH
 forgotten-is r inputs h before s at =
-    let size : length s.window.kept ≡ length (installations before) - (length (installations before) - 1024)
-    = ap (λ (xs : List (List ℕ)). length xs) at.kept ∙ length-drop (length (installations before) - 1024) (installations before) in
+    let size : length s.window.kept ≡ length (installations before) - (length (installations before) - REACH)
+    = ap (λ (xs : List (List ℕ)). length xs) at.kept ∙ length-drop (length (installations before) - REACH) (installations before) in
     omega (arith, size, at.count)
 
 if-false : {X : Type 0} (b : Bool) (x y : X) → b ≡ false → (if b then x else y) ≡ y
@@ -66,23 +67,23 @@ kept-recent : (r : PackageList) (inputs : List (List Literal)) (h : Header) (bef
 kept-recent r inputs h before s at number recent =
     let all = installations before in
     let forgotten : ℕ = s.window.count - length s.window.kept in
-    let is : forgotten ≡ length all - 1024 = forgotten-is r inputs h before s at in
-    let size : length s.window.kept ≡ length all - (length all - 1024) = ap (λ (xs : List (List ℕ)). length xs) at.kept ∙ length-drop (length all - 1024) all in
+    let is : forgotten ≡ length all - REACH = forgotten-is r inputs h before s at in
+    let size : length s.window.kept ≡ length all - (length all - REACH) = ap (λ (xs : List (List ℕ)). length xs) at.kept ∙ length-drop (length all - REACH) all in
     let place : ℕ = number - forgotten - 1 in
     let within : place < length s.window.kept = omega (arith, is, size, recent.0, recent.1, recent.2) in
     let later : nat_le number forgotten ≡ false = lt-leb number forgotten (omega (arith, is, recent.2, recent.0)) in
     if-false (nat_le number forgotten) None (slice_get s.window.kept place) later
     ∙ slice_get-get_or s.window.kept place [] within
-    ∙ ap (λ (m : List ℕ). Some m) (ap (λ (xs : List (List ℕ)). get_or xs place []) at.kept ∙ get_or-drop (length all - 1024) all place []
-    ∙ ap (λ (k : ℕ). get_or all k []) (let e : length all - 1024 + place ≡ number - 1 = omega (arith, is, recent.0, recent.2) in e))
+    ∙ ap (λ (m : List ℕ). Some m) (ap (λ (xs : List (List ℕ)). get_or xs place []) at.kept ∙ get_or-drop (length all - REACH) all place []
+    ∙ ap (λ (k : ℕ). get_or all k []) (let e : length all - REACH + place ≡ number - 1 = omega (arith, is, recent.0, recent.2) in e))
 
 kept-old : (r : PackageList) (inputs : List (List Literal)) (h : Header) (before : List CertRecord) (s : StateView) → IsAt r inputs h before s → (number : ℕ) → 1 ≤ number → ¬ IsRecent before number
     → kept_at s.window number ≡ None
 kept-old r inputs h before s at number from old =
     let all = installations before in
     let forgotten : ℕ = s.window.count - length s.window.kept in
-    let is : forgotten ≡ length all - 1024 = forgotten-is r inputs h before s at in
-    let size : length s.window.kept ≡ length all - (length all - 1024) = ap (λ (xs : List (List ℕ)). length xs) at.kept ∙ length-drop (length all - 1024) all in
+    let is : forgotten ≡ length all - REACH = forgotten-is r inputs h before s at in
+    let size : length s.window.kept ≡ length all - (length all - REACH) = ap (λ (xs : List (List ℕ)). length xs) at.kept ∙ length-drop (length all - REACH) all in
     elim (cases_lt forgotten number) [
       | inr early ↦ if-true (nat_le number forgotten) None (slice_get s.window.kept (number - forgotten - 1)) (le-leb number forgotten early)
       | inl late ↦

@@ -6,6 +6,7 @@ use Rattle.std.proofs.lemmas.List.{length-map, get_or-map}
 use Rattle.std.proofs.lemmas.List.Elements.{All-cons, All-nil, All-weaker, All-from_recursion}
 use Rattle.std.proofs.lemmas.List.Sorted.{All-permutation, Contains-permutation, length_permutation}
 use Rattle.std.proofs.lemmas.Fmt.{decimal_injective}
+use Rattle.dist_base.specs.declared.TheConstants.{MAX_SIZE}
 use Rattle.dist_control.specs.RawStanza.{raw_stanzas, raw_stanzas_from}
 use Rattle.dist_package.specs.FirstFault.{Read, IsClash, IsTooMany, AreReadAfter, architecture_of}
 use Rattle.dist_package.specs.PackageOf.{all as all_name}
@@ -120,7 +121,7 @@ are-apart number (d ∷ all) small numbered = (
 
 -- ---- the repository
 
-module _ (size seed : ℕ) (few : size ≤ 2000) where
+module _ (size seed : ℕ) (few : size ≤ MAX_SIZE) where
   all-small : AreSmall (generated_packages size seed)
   all-small = packages-small size seed (omega arith)
 

@@ -74,7 +74,7 @@ abbrev pub conflicts_lines : Option ℕ → List (List ℕ)
 conflicts_lines None = []
 conflicts_lines (Some other) = (codes "Conflicts: g" ++ decimal other) ∷ []
 
--- the lines that each stanza has; two packages after each other have one source
+-- the lines that each stanza has; packages two and two have one source
 abbrev pub head_lines : Drawn → List (List ℕ)
 head_lines drawn =
     (codes "Package: g" ++ decimal drawn.number)

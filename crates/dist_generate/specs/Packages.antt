@@ -27,7 +27,7 @@ conflicts_of (Some other) = record { name = name_of other; qualifier = Plain; bo
 abbrev pub version_of : Drawn → List ℕ
 version_of drawn = codes "1." ++ decimal drawn.digit
 
--- two packages after each other have one source
+-- packages two and two have one source
 abbrev pub package_of : Drawn → Package
 package_of drawn = record {
   name = name_of drawn.number;

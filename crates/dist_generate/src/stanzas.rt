@@ -1,6 +1,7 @@
 //! The stanzas of an archive, each written as it is drawn.
 ghost use Rattle.std.specs.Prelude.{◌≡◌, ◌++◌, ◌∷◌, [], ◌<◌, ◌≤◌, codes, decimal, IfOk, None, OnOk};
 ghost use Rattle.std.specs.List.{join_by};
+ghost use Rattle.dist_base.specs.declared.TheConstants.{MAX_SIZE};
 ghost use Rattle.dist_generate.specs.Draws.{many};
 ghost use Rattle.dist_generate.specs.Generator.{alternative, item, items, conflict, drawn, generated};
 ghost use Rattle.dist_generate.specs.Generator.{bound_text, alternative_text, item_text, depends_lines, conflicts_lines, head_lines, stanza_text, text_of_lines};
@@ -141,7 +142,7 @@ fn add_stanza(text: &mut Vec<u8>, draws: &mut Draws, number: u32) -> Result<(), 
 /// The archive of a size and a seed.
 pub fn generate(alloc: Global, size: u32, seed: u32) -> Result<Vec<u8>, AllocError>
     requires some { 1 ≤ size }
-    requires few { size ≤ 2000 }
+    requires few { size ≤ MAX_SIZE }
     ensures { IfOk result (λ text. text.items ≡ generated size seed) }
 {
     let mut text = Vec::new(alloc);

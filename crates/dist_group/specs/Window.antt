@@ -1,5 +1,6 @@
 -- What is kept of the installations before a line.
 use Rattle.std.specs.Prelude.{ℕ, ◌-◌, Bool, false, List, Option, Some, None, length, drop, nat_le, slice_get, if◌then◌else◌}
+use Rattle.dist_cert.specs.declared.TheConstants.{REACH}
 use Rattle.dist_cert.specs.Rising.{is_among}
 
 -- the latest installations, and how many there were
@@ -7,9 +8,9 @@ pub record WindowView : Type 0 where
   pub kept : List (List ℕ)
   pub count : ℕ
 
--- the last 1,024 of a list
+-- the last ones of a list, as many as a claim may reach back
 abbrev pub latest : List (List ℕ) → List (List ℕ)
-latest installations = drop (length installations - 1024) installations
+latest installations = drop (length installations - REACH) installations
 
 -- the members of the installation of a number, where it is kept
 abbrev pub kept_at : WindowView → ℕ → Option (List ℕ)

@@ -5,15 +5,12 @@ ghost use Rattle.dist_cert.specs.Rising.{AreRising};
 ghost use Rattle.dist_group.specs.Window.{WindowView, has_member, kept_at, latest};
 
 use crate::numbers::has;
-use dist_cert::Numbers;
+use dist_cert::{Numbers, REACH};
 use std::alloc::{AllocError, Global};
 use std::collections::VecDeque;
 use std::marker::Model;
 
-/// How many installations a claim may reach back.
-const REACH: usize = 1024;
-
-/// The latest 1,024 installations. They are numbered from 1.
+/// The latest installations, as many as a claim may reach back. They are numbered from 1.
 #[derive(Debug, Drop)]
 pub struct Window {
     kept: VecDeque<Numbers>,
@@ -23,6 +20,7 @@ pub struct Window {
 
 impl Model for Window {
     ghost use Rattle.std.specs.Prelude.{◌≤◌, All, length};
+    ghost use Rattle.dist_cert.specs.declared.TheConstants.{REACH};
     ghost use Rattle.dist_cert.specs.Rising.{AreRising};
     ghost use Rattle.dist_group.specs.Window.{WindowView};
 
@@ -30,7 +28,7 @@ impl Model for Window {
 
     ghost view = { λ w. record { kept = w.kept.items; count = w.count } };
 
-    ghost invariant = { λ w. (length w.kept.items ≤ w.count) × (length w.kept.items ≤ 1024) × All AreRising w.kept.items };
+    ghost invariant = { λ w. (length w.kept.items ≤ w.count) × (length w.kept.items ≤ REACH) × All AreRising w.kept.items };
 }
 
 impl Window {
@@ -82,7 +80,7 @@ impl Window {
 
 /// Leaves the latest ones of as many installations as are kept, or one more.
 fn forget_old(kept: &mut VecDeque<Numbers>)
-    requires { length kept.old.items ≤ 1025 }
+    requires { length kept.old.items ≤ REACH + 1 }
     ensures { kept.new.items ≡ latest kept.old.items }
 {
     if kept.len() > REACH {

@@ -24,7 +24,7 @@ use Rattle.dist_version.specs.Spelling.{ReadsVersion}
 use Rattle.dist_version.specs.declared.error.VersionError.{VersionError}
 use Rattle.dist_package.specs.FirstFault.{Read, architecture_of, IsLineFault, IsRelated, HasFirstRelationFault, relation_fields, HasFieldFault, IsClash, HasPackage, ReadsAs, HasStanzaFault}
 use Rattle.dist_package.specs.Named.{field_named, value_of, line_of, IsFieldOf, fault_at, name_of}
-use Rattle.dist_package.specs.PackageOf.{ReadsName, HasNameFault, ReadsVersionField, HasVersionFault, ReadsSource, HasSourceFault, ReadsArchitecture, HasArchitectureFault, all, HasFirstFault, HasRelationFault, ReadsRelations, IsPackageOf}
+use Rattle.dist_package.specs.PackageOf.{ReadsName, HasNameFault, ReadsVersionField, HasVersionFault, ReadsSource, HasSourceFault, ReadsArchitecture, HasArchitectureFault, all, HasFirstValueFault, HasRelationFault, ReadsRelations, IsPackageOf}
 use Rattle.dist_package.specs.Source.{name_part, version_part, IsInParentheses, ReadsVersionPart, SpellsSource, IsNoVersionPart, IsNoSource}
 use Rattle.dist_package.specs.declared.error.Fault.{Fault}
 use Rattle.dist_package.specs.declared.error.Kind.TheVariants.{BadPackageName, BadVersionText, BadSource, BadArchitecture, TwoArchitectures, Relation, Clash}
@@ -216,14 +216,14 @@ IsRelatedTo Provides value = (entries : List Provide) × ReadsProvides value ent
 
 module _ (depends : (value : List ℕ) → IsExact (ReadsDepends value) (FirstDependsFault value)) (atoms : (value : List ℕ) → IsExact (ReadsAtoms value) (FirstAtomsFault value))
     (provides : (value : List ℕ) → IsExact (ReadsProvides value) (FirstProvidesFault value)) where
-  error_one : (relation : RelationField) (value : List ℕ) (a b : RelationError) → HasFirstFault relation value a → HasFirstFault relation value b → b ≡ a
+  error_one : (relation : RelationField) (value : List ℕ) (a b : RelationError) → HasFirstValueFault relation value a → HasFirstValueFault relation value b → b ≡ a
   error_one PreDepends value a b f g = (depends value).one_fault b a g f
   error_one Depends value a b f g = (depends value).one_fault b a g f
   error_one Conflicts value a b f g = (atoms value).one_fault b a g f
   error_one Breaks value a b f g = (atoms value).one_fault b a g f
   error_one Provides value a b f g = (provides value).one_fault b a g f
 
-  related_apart : (relation : RelationField) (stanza : Stanza) (error : RelationError) → IsRelated relation stanza → ¬ HasFirstFault relation (value_of stanza (name_of relation)) error
+  related_apart : (relation : RelationField) (stanza : Stanza) (error : RelationError) → IsRelated relation stanza → ¬ HasFirstValueFault relation (value_of stanza (name_of relation)) error
   related_apart PreDepends stanza error (items, reads) has = (depends _).never_both items error reads has
   related_apart Depends stanza error (items, reads) has = (depends _).never_both items error reads has
   related_apart Conflicts stanza error (items, reads) has = (atoms _).never_both items error reads has

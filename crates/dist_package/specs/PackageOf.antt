@@ -108,12 +108,12 @@ pub record HasArchitectureFault (earlier : Option (List ℕ)) (stanza : Stanza) 
 -- ---- relations
 
 -- the first fault of the value of a field of relations
-abbrev pub HasFirstFault : RelationField → List ℕ → RelationError → Type 0
-HasFirstFault PreDepends value error = FirstDependsFault value error
-HasFirstFault Depends value error = FirstDependsFault value error
-HasFirstFault Conflicts value error = FirstAtomsFault value error
-HasFirstFault Breaks value error = FirstAtomsFault value error
-HasFirstFault Provides value error = FirstProvidesFault value error
+abbrev pub HasFirstValueFault : RelationField → List ℕ → RelationError → Type 0
+HasFirstValueFault PreDepends value error = FirstDependsFault value error
+HasFirstValueFault Depends value error = FirstDependsFault value error
+HasFirstValueFault Conflicts value error = FirstAtomsFault value error
+HasFirstValueFault Breaks value error = FirstAtomsFault value error
+HasFirstValueFault Provides value error = FirstProvidesFault value error
 
 -- The value of a field of relations has this first fault, and want of memory is none. A missing field counts as
 -- an empty one, which has no fault.
@@ -123,7 +123,7 @@ IsRelationFault FirstFault stanza relation fault =
     × (fault ≡ fault_at (line_of stanza (name_of relation)) (Relation relation error))
 
 abbrev pub HasRelationFault : Stanza → RelationField → Fault → Type 0
-HasRelationFault stanza relation fault = IsRelationFault (HasFirstFault relation) stanza relation fault
+HasRelationFault stanza relation fault = IsRelationFault (HasFirstValueFault relation) stanza relation fault
 
 -- What the fields of relations give: first the items of Pre-Depends and then those of Depends, first the atoms of
 -- Conflicts and then those of Breaks, and the entries of Provides. A missing field gives nothing.

@@ -1,7 +1,7 @@
 -- A sweep may begin, and when it is refused for its input clauses.
 use Rattle.std.proofs.Common.{◌≡◌, ◌≢◌, ℕ, ◌<◌, ◌≤◌, ◌^◌, Bool, List, [], length, Result, Ok, Err, refl, ap, sym, subst, ◌∙◌, append-nil, arith}
 use Rattle.std.proofs.lemmas.List.Elements.{All-nil}
-use Rattle.dist_base.specs.declared.TheConstants.{MAX_CLAUSES, MAX_PACKAGES}
+use Rattle.dist_base.specs.declared.TheConstants.{MAX_CLAUSES, MAX_LIMIT, MAX_PACKAGES}
 use Rattle.dist_clause.specs.ClauseList.{ClauseList, IsWithinLimits, literal_count}
 use Rattle.dist_clause.specs.Formula.{Literal}
 use Rattle.dist_derive.specs.ClauseLog.{ClauseLog}
@@ -54,7 +54,7 @@ pub record StartsFrom (r : PackageList) (essential : Bool) (limit : ℕ) (limits
   pub ordered : IsInOrder r.packages
   pub packages : length r.packages ≤ MAX_PACKAGES
   pub from_one : 1 ≤ limit
-  pub upto : limit ≤ 1000000
+  pub upto : limit ≤ MAX_LIMIT
   pub set_of : IsSetOf r (IsDemand r essential) limits.clauses limits.literals set
   pub within : IsWithinLimits set
   pub stated : length set.clauses ≤ MAX_CLAUSES

@@ -6,6 +6,7 @@ use Rattle.std.proofs.lemmas.Bool.{cases_lt}
 use Rattle.std.proofs.lemmas.Fmt.{length-decimal-le}
 use Rattle.std.proofs.lemmas.List.{get_or_default, length-map}
 use Rattle.std.proofs.lemmas.List.Elements.{All-nil, All-cons, All-head, All-tail, All-push, All-map}
+use Rattle.dist_cert.specs.declared.TheConstants.{REACH}
 use Rattle.dist_cert.specs.declared.faults.CertCause.TheVariants as causes
 use Rattle.dist_cert.specs.declared.records.CertKind.{CertKind}
 use Rattle.dist_cert.specs.declared.records.CertKind.TheVariants as kinds
@@ -67,16 +68,16 @@ within-range matter h before variables none k d inside =
 -- ---- how many words a line has
 
 abbrev HasFewWords : Matter → CertRecord → Type 0
-HasFewWords matter step = length (words step) ≤ 2 * matter.packages + 1098
+HasFewWords matter step = length (words step) ≤ 2 * matter.packages + (REACH + 74)
 
 question-words : (matter : Matter) (h : Header) (p : ℕ) (question : List Word) → h.kind ≡ kinds.Strong → IsQuestionOn matter h.kind p question → HasFewWords matter (Question question)
 question-words matter h p question strong on =
     ⊎_elim (λ alone. let n = ap length alone in omega (arith, n)) (λ without. let n = ap length without.1 in omega (arith, n))
     (subst (λ (kind : CertKind). IsQuestionOn matter kind p question) strong on)
 
--- the named installations are different ones of the latest 1,024
-named-few : (before : List CertRecord) (p : ℕ) (named : List ℕ) → AllPairs (λ m n. m ≢ n) named → All (IsNamed before p) named → length named ≤ 1024
-named-few before p named distinct all = few-within named (length (installations before) - 1024) 1024 distinct (λ k d inside.
+-- the named installations are different ones that a claim may reach
+named-few : (before : List CertRecord) (p : ℕ) (named : List ℕ) → AllPairs (λ m n. m ≢ n) named → All (IsNamed before p) named → length named ≤ REACH
+named-few before p named distinct all = few-within named (length (installations before) - REACH) REACH distinct (λ k d inside.
     let recent = (all k d inside).0 in
     (omega (arith, recent.0, recent.1, recent.2), omega (arith, recent.0, recent.1, recent.2)))
 
@@ -117,7 +118,7 @@ few-words matter h before (Strong p named on undecided) same strong kept =
       λ holds.
           let few = strong-words matter before p named on undecided kept.form.rules.3 kept.form.rules.4 kept.next holds in omega (arith, few, many),
     )))) (λ few. few)
-    (cases_lt (2 * matter.packages + 1098) (length (words (Strong p named on undecided))))
+    (cases_lt (2 * matter.packages + (REACH + 74)) (length (words (Strong p named on undecided))))
 few-words matter h before (Challenged p named by undecided) same strong kept =
     absurd (kept.faultless causes.WrongClaim (subst (λ (kind : CertKind). IsWrongClaim matter kind before (Challenged p named by undecided)) (sym strong) (refl, λ holds. holds)))
 few-words matter h before step same strong kept = omega arith

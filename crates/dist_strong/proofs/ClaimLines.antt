@@ -5,6 +5,7 @@ use Rattle.std.proofs.lemmas.List.{get_or-map, length-map}
 use Rattle.std.proofs.lemmas.List.Elements.{All-nil, All-cons}
 use Rattle.std.proofs.lemmas.List.Kept.{AllPairs-filter}
 use Rattle.dist_clause.specs.Formula.{value_of}
+use Rattle.dist_cert.specs.declared.TheConstants.{REACH}
 use Rattle.dist_cert.specs.declared.faults.CertCause.{CertCause}
 use Rattle.dist_cert.specs.declared.faults.CertCause.TheVariants as causes
 use Rattle.dist_cert.specs.declared.records.CertKind.{CertKind}
@@ -81,15 +82,15 @@ pub record IsIn (w : WindowView) (number : ℕ) : Type 0 where
   pub high : number < w.count - length w.kept + 1 + length w.kept
 
 pub record Sized (before : List CertRecord) (w : WindowView) : Type 0 where
-  pub few : length w.kept ≤ 1024
+  pub few : length w.kept ≤ REACH
   pub fewer : length w.kept ≤ w.count
-  pub dropped : w.count - length w.kept ≡ length (installations before) - 1024
+  pub dropped : w.count - length w.kept ≡ length (installations before) - REACH
 
 sized : (before : List CertRecord) (w : WindowView) → IsWindowAt before w → Sized before w
 sized before w at =
     let size = ap length at.kept in
     let mapped = length-map w.kept true_variables in
-    let left = length-drop (length (installations before) - 1024) (installations before) in
+    let left = length-drop (length (installations before) - REACH) (installations before) in
     record { few = omega (arith, size, mapped, left); fewer = omega (arith, size, mapped, left, at.count); dropped = omega (arith, size, mapped, left, at.count) }
 
 pub installation-is : (before : List CertRecord) (w : WindowView) (number : ℕ) → IsWindowAt before w → IsIn w number → installation_at before number ≡ true_variables (kept_at w number)
@@ -97,9 +98,9 @@ installation-is before w number at inside =
     let sizes = sized before w at in
     let place : ℕ = number - (w.count - length w.kept + 1) in
     let within : place < length w.kept = omega (arith, inside.low, inside.high) in
-    let same : number - 1 ≡ (length (installations before) - 1024) + place = omega (arith, inside.low, sizes.dropped) in
+    let same : number - 1 ≡ (length (installations before) - REACH) + place = omega (arith, inside.low, sizes.dropped) in
     ap (λ (n : ℕ). get_or (installations before) n []) same
-    ∙ sym (get-drop (length (installations before) - 1024) place (installations before) [])
+    ∙ sym (get-drop (length (installations before) - REACH) place (installations before) [])
     ∙ ap (λ (ms : List (List ℕ)). get_or ms place []) (sym at.kept)
     ∙ get_or-map true_variables w.kept place [] [] within
 
@@ -162,7 +163,7 @@ pub latest-named : (before : List CertRecord) (w : WindowView) (p : ℕ) → IsW
 latest-named before w p at from upto some there =
     let size = ap length at.kept in
     let mapped = length-map w.kept true_variables in
-    let left = length-drop (length (installations before) - 1024) (installations before) in
+    let left = length-drop (length (installations before) - REACH) (installations before) in
     let inside : IsIn w (length (installations before)) = record { low = omega (arith, size, mapped, left, at.count, some); high = omega (arith, size, mapped, left, at.count, some) } in
     kept-there (λ n. value_of (kept_at w n) p) (w.count - length w.kept + 1) (length w.kept) (length (installations before))
     (record { low = inside.low; high = inside.high; holds = has-kept before w (length (installations before)) p at inside from upto there })

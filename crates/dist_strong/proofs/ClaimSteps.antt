@@ -6,6 +6,7 @@ use Rattle.circular_buffer.specs.Buffer.{keep_last}
 use Rattle.dist_clause.specs.Formula.{Literal}
 use Rattle.dist_outside.specs.DeskView.{DeskView, FileGrew}
 use Rattle.dist_outside.specs.declared.trouble.WorkError.{WorkError}
+use Rattle.dist_cert.specs.declared.TheConstants.{REACH}
 use Rattle.dist_cert.specs.declared.records.CertRecord.{CertRecord}
 use Rattle.dist_cert.specs.declared.records.Claim.{Claim}
 use Rattle.dist_cert.specs.Accepted.{claim_in, claims_in}
@@ -57,7 +58,7 @@ put-claimed g before old new a b w step claim at window kind line is rest grew m
       writer = more g before at.writer line (keeps-same g.limits before step kind.no_clause at.writer.written.kept);
     });
     window = record {
-      kept = window.kept ∙ ap (λ (ms : List (List ℕ)). keep_last 1024 ms) (sym same);
+      kept = window.kept ∙ ap (λ (ms : List (List ℕ)). keep_last REACH ms) (sym same);
       count = window.count ∙ ap length (sym same);
       sizes = window.sizes;
     };

@@ -10,6 +10,7 @@ use Rattle.dist_clause.specs.Formula.{value_of}
 use Rattle.dist_outside.specs.DeskView.{DeskView, FileGrew}
 use Rattle.dist_outside.specs.declared.trouble.WorkError.{WorkError}
 use Rattle.dist_outside.specs.declared.trouble.WorkError.TheVariants.{NoMemory}
+use Rattle.dist_cert.specs.declared.TheConstants.{REACH}
 use Rattle.dist_cert.specs.declared.records.CertKind.{CertKind}
 use Rattle.dist_cert.specs.declared.records.CertRecord.{CertRecord}
 use Rattle.dist_cert.specs.declared.records.CertRecord.TheVariants.{Question, NotInstallable, Unknown}
@@ -216,7 +217,7 @@ first-step g before after n p values none asked next from upto variables size ha
 
 -- what is kept behind it
 abbrev pub with-first : WindowView → List Bool → WindowView
-with-first w values = record w { kept = keep_last 1024 (w.kept ++ values ∷ []); count = w.count + 1 }
+with-first w values = record w { kept = keep_last REACH (w.kept ++ values ∷ []); count = w.count + 1 }
 
 opened : (g : Setting) (before : List CertRecord) (old new : DeskView) (a b : AskerView) (w : WindowView) (p : ℕ) (values : List Bool) → IsSwept g before a w → p ≡ claim_count before + 1 → Suits a w p
     → (asked : IsAsked g before (yes p ∷ []) old new b (replies.Found values)) → Holds w.variables (yes p ∷ []) (replies.Found values)

@@ -6,6 +6,7 @@ use Rattle.std.proofs.lemmas.List.{drop-append-le, drop-drop, drop-map, get_or_a
 use Rattle.std.proofs.lemmas.List.Elements.{All-append, All-nil, All-cons, All-drop, All-push}
 use Rattle.circular_buffer.specs.Buffer.{keep_last}
 use Rattle.dist_clause.specs.Formula.{value_of}
+use Rattle.dist_cert.specs.declared.TheConstants.{REACH}
 use Rattle.dist_cert.specs.declared.records.CertKind.{CertKind}
 use Rattle.dist_cert.specs.declared.records.CertRecord.{CertRecord}
 use Rattle.dist_cert.specs.declared.records.CertRecord.TheVariants.{Question, Refuted, Undecided}
@@ -322,17 +323,17 @@ keep-map : {X Y : Type 0} (f : X → Y) (n : ℕ) (xs : List X) → map f (keep_
 keep-map f n xs = sym (drop-map f (length xs - n) xs) ∙ ap (λ (m : ℕ). drop (m - n) (map f xs)) (sym (length-map xs f))
 
 pub window-more : (before after : List CertRecord) (question : List Word) (w : WindowView) (values : List Bool) → IsWindowAt before w → AreAsked before question (true_variables values ∷ []) after → length values ≡ w.variables
-    → IsWindowAt after (record w { kept = keep_last 1024 (w.kept ++ values ∷ []); count = w.count + 1 })
+    → IsWindowAt after (record w { kept = keep_last REACH (w.kept ++ values ∷ []); count = w.count + 1 })
 window-more before after question w values at asked size =
     let inst = installed-after before question (true_variables values ∷ []) after asked in
     record {
-      kept = keep-map true_variables 1024 (w.kept ++ values ∷ []) ∙ ap (λ (ms : List (List ℕ)). keep_last 1024 ms) (map-append true_variables w.kept (values ∷ []) ∙ ap (λ (ms : List (List ℕ)). ms ++ true_variables values ∷ []) at.kept)
-          ∙ keep-push 1024 (installations before) (true_variables values) ∙ ap (λ (ms : List (List ℕ)). keep_last 1024 ms) (sym inst);
+      kept = keep-map true_variables REACH (w.kept ++ values ∷ []) ∙ ap (λ (ms : List (List ℕ)). keep_last REACH ms) (map-append true_variables w.kept (values ∷ []) ∙ ap (λ (ms : List (List ℕ)). ms ++ true_variables values ∷ []) at.kept)
+          ∙ keep-push REACH (installations before) (true_variables values) ∙ ap (λ (ms : List (List ℕ)). keep_last REACH ms) (sym inst);
       count = ap (λ (n : ℕ). n + 1) at.count ∙ sym (ap length inst ∙ length-append (installations before) (true_variables values ∷ []));
-      sizes = All-drop (λ v. length v ≡ w.variables) (length (w.kept ++ values ∷ []) - 1024) (w.kept ++ values ∷ []) (All-push (λ v. length v ≡ w.variables) w.kept values at.sizes size);
+      sizes = All-drop (λ v. length v ≡ w.variables) (length (w.kept ++ values ∷ []) - REACH) (w.kept ++ values ∷ []) (All-push (λ v. length v ≡ w.variables) w.kept values at.sizes size);
     }
 
 pub window-same : (before after : List CertRecord) (question : List Word) (w : WindowView) → IsWindowAt before w → AreAsked before question [] after → IsWindowAt after w
 window-same before after question w at asked =
     let inst = installed-after before question [] after asked ∙ append-nil (installations before) in
-    record { kept = at.kept ∙ ap (λ (ms : List (List ℕ)). keep_last 1024 ms) (sym inst); count = at.count ∙ ap length (sym inst); sizes = at.sizes }
+    record { kept = at.kept ∙ ap (λ (ms : List (List ℕ)). keep_last REACH ms) (sym inst); count = at.count ∙ ap length (sym inst); sizes = at.sizes }

@@ -8,6 +8,7 @@ use Rattle.dist_clause.specs.Formula.{value_of}
 use Rattle.dist_outside.specs.DeskView.{DeskView, FileGrew}
 use Rattle.dist_outside.specs.declared.trouble.WorkError.{WorkError}
 use Rattle.dist_outside.specs.declared.trouble.WorkError.TheVariants.{NoMemory}
+use Rattle.dist_cert.specs.declared.TheConstants.{REACH}
 use Rattle.dist_cert.specs.declared.records.CertRecord.{CertRecord}
 use Rattle.dist_cert.specs.Form.{Word}
 use Rattle.dist_cert.specs.Groups.{installed_in}
@@ -101,7 +102,7 @@ lacks-other n p q values holds = holds.1 1 (record { variable = q; positive = fa
 pub asked-found : (g : Setting) (before : List CertRecord) (old new : DeskView) (a b : AskerView) (w : WindowView) (kept after : GroupView) (q : ℕ) (values : List Bool) → IsSettling g before a w kept → IsCandidate w kept q
     → IsAsked g before (without kept.claimed q) old new b (replies.Found values) → Holds kept.variables (without kept.claimed q) (replies.Found values)
     → after ≡ record kept { common = after.common } → length after.common ≡ kept.variables → IsNarrowed kept.variables kept.common values after.common → w.variables ≡ kept.variables
-    → Settles g before old new b (record w { kept = keep_last 1024 (w.kept ++ values ∷ []); count = w.count + 1 }) (record kept { common = after.common })
+    → Settles g before old new b (record w { kept = keep_last REACH (w.kept ++ values ∷ []); count = w.count + 1 }) (record kept { common = after.common })
 asked-found g before old new a b w kept after q values settling candidate asked holds is size narrowed window =
     let lines : AreAsked before (without kept.claimed q) (true_variables values ∷ []) (before ++ question_lines (without kept.claimed q) asked.between asked.answer) = record {
       between = asked.between;
@@ -149,10 +150,10 @@ settled-undecided old new a b w kept after q words reply are is more candidate b
 
 pub settled-found : (old new : DeskView) (a b : AskerView) (w v : WindowView) (kept after : GroupView) (q : ℕ) (values : List Bool) (words : List Word) (reply : Reply) → words ≡ without kept.claimed q → reply ≡ replies.Found values
     → AskMore old new a b words reply → IsCandidate w kept q → Holds kept.variables (without kept.claimed q) (replies.Found values) → after ≡ record kept { common = after.common } → length after.common ≡ kept.variables
-    → IsNarrowed kept.variables kept.common values after.common → v ≡ record w { kept = keep_last 1024 (w.kept ++ values ∷ []); count = w.count + 1 } → w.variables ≡ kept.variables → SettleMore old new a b w v kept after
+    → IsNarrowed kept.variables kept.common values after.common → v ≡ record w { kept = keep_last REACH (w.kept ++ values ∷ []); count = w.count + 1 } → w.variables ≡ kept.variables → SettleMore old new a b w v kept after
 settled-found old new a b w v kept after q values words reply are is more candidate holds becomes size narrowed window same g before settling =
     subst (λ (u : WindowView). Settles g before old new b u after) (sym window)
-    (subst (λ (k : GroupView). Settles g before old new b (record w { kept = keep_last 1024 (w.kept ++ values ∷ []); count = w.count + 1 }) k) (sym becomes)
+    (subst (λ (k : GroupView). Settles g before old new b (record w { kept = keep_last REACH (w.kept ++ values ∷ []); count = w.count + 1 }) k) (sym becomes)
     (asked-found g before old new a b w kept after q values settling candidate (ask-at old new a b w kept q words reply (replies.Found values) are is more candidate g before settling) holds becomes size narrowed same))
 
 -- want of memory for the window
@@ -232,10 +233,10 @@ fits-after a b w v kept after fits limit variables window claimed same sizes som
 last-any : (P : List Bool → Type 0) (xs : List (List Bool)) (x : List Bool) → P x → Any P (xs ++ x ∷ [])
 last-any P xs x holds = (length xs, x, omega (arith, length-append xs (x ∷ [])), get_or_at xs x [] x (length xs) refl, holds)
 
-pub added-some : (w v : WindowView) (p : ℕ) (values : List Bool) → v ≡ record w { kept = keep_last 1024 (w.kept ++ values ∷ []); count = w.count + 1 } → value_of values p ≡ true
+pub added-some : (w v : WindowView) (p : ℕ) (values : List Bool) → v ≡ record w { kept = keep_last REACH (w.kept ++ values ∷ []); count = w.count + 1 } → value_of values p ≡ true
     → Any (λ xs. value_of xs p ≡ true) v.kept
 added-some w v p values is has =
     let size = length-append w.kept (values ∷ []) in
-    let within : length (w.kept ++ values ∷ []) - 1024 ≤ length w.kept = omega (arith, size) in
-    subst (λ (xs : List (List Bool)). Any (λ ys. value_of ys p ≡ true) xs) (sym (ap (λ (u : WindowView). u.kept) is ∙ drop-append-le (length (w.kept ++ values ∷ []) - 1024) w.kept (values ∷ []) within))
-    (last-any (λ ys. value_of ys p ≡ true) (drop (length (w.kept ++ values ∷ []) - 1024) w.kept) values has)
+    let within : length (w.kept ++ values ∷ []) - REACH ≤ length w.kept = omega (arith, size) in
+    subst (λ (xs : List (List Bool)). Any (λ ys. value_of ys p ≡ true) xs) (sym (ap (λ (u : WindowView). u.kept) is ∙ drop-append-le (length (w.kept ++ values ∷ []) - REACH) w.kept (values ∷ []) within))
+    (last-any (λ ys. value_of ys p ≡ true) (drop (length (w.kept ++ values ∷ []) - REACH) w.kept) values has)

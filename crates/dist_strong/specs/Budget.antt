@@ -4,6 +4,7 @@ use Rattle.std.specs.Prelude.{◌≡◌, ℕ, ◌+◌, ◌*◌, ◌<◌, refl}
 use Rattle.dist_outside.specs.declared.limits.Limits.{Limits}
 use Rattle.dist_outside.specs.declared.trouble.What.{What}
 use Rattle.dist_outside.specs.declared.trouble.What.TheVariants.{Lines, LineLiterals, RecordLine, Certificate}
+use Rattle.dist_cert.specs.declared.TheConstants.{REACH}
 
 -- each package alone, and without each other one
 abbrev pub question_budget : ℕ → ℕ
@@ -15,9 +16,10 @@ line_budget packages limit = limit * question_budget packages
 abbrev pub literal_budget : ℕ → ℕ → ℕ
 literal_budget packages limit = packages * line_budget packages limit
 
--- bytes of a line, with its line feed
+-- Bytes of a line, with its line feed: 12 for each word. A line has at most two words for each package, one for each
+-- installation that a claim may reach, and a few more, for which 76 are enough.
 abbrev pub record_budget : ℕ → ℕ
-record_budget packages = 12 * (2 * packages + 1100)
+record_budget packages = 12 * (2 * packages + (REACH + 76))
 
 -- bytes of a certificate
 abbrev pub certificate_budget : ℕ → ℕ → ℕ

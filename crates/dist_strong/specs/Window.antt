@@ -3,6 +3,7 @@ use Rattle.std.specs.Prelude.{◌≡◌, ℕ, ◌+◌, ◌-◌, Bool, List, [], 
 use Rattle.std.specs.List.{range_with_len}
 use Rattle.circular_buffer.specs.Buffer.{keep_last}
 use Rattle.dist_clause.specs.Formula.{value_of}
+use Rattle.dist_cert.specs.declared.TheConstants.{REACH}
 use Rattle.dist_cert.specs.declared.records.CertRecord.{CertRecord}
 use Rattle.dist_cert.specs.Groups.{installations}
 use Rattle.dist_strong.specs.Words.{true_variables}
@@ -23,6 +24,6 @@ numbers_of w p = filter (λ number. value_of (kept_at w number) p) (range_with_l
 
 -- What is kept are the latest installations of these lines.
 pub record IsWindowAt (before : List CertRecord) (w : WindowView) : Type 0 where
-  pub kept : map true_variables w.kept ≡ keep_last 1024 (installations before)
+  pub kept : map true_variables w.kept ≡ keep_last REACH (installations before)
   pub count : w.count ≡ length (installations before)
   pub sizes : All (λ values. length values ≡ w.variables) w.kept

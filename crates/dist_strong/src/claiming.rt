@@ -3,6 +3,7 @@ ghost use Rattle.std.specs.Prelude.{◌≡◌, ◌+◌, ◌^◌, ◌<◌, ◌≤
 ghost use Rattle.circular_buffer.specs.Buffer.{keep_last};
 ghost use Rattle.dist_clause.specs.Formula.{value_of};
 ghost use Rattle.dist_outside.specs.Files.{IsWriting};
+ghost use Rattle.dist_cert.specs.declared.TheConstants.{REACH};
 ghost use Rattle.dist_cert.specs.Accepted.{claim_in, from_zero};
 ghost use Rattle.dist_cert.specs.ClaimRules.{yes};
 ghost use Rattle.dist_cert.specs.Form.{AreFromOne, KeepsRules};
@@ -123,7 +124,7 @@ fn first_group(
 ) -> Result<Group, AllocError>
     requires { length values ≡ window.old.variables }
     ensures group { IfOk result (λ kept. kept ≡ new_group «package» window.old.variables values) }
-    ensures window { OnOk result (window.new ≡ record window.old { kept = keep_last 1024 (window.old.kept ++ values ∷ []); count = window.old.count + 1 }) }
+    ensures window { OnOk result (window.new ≡ record window.old { kept = keep_last REACH (window.old.kept ++ values ∷ []); count = window.old.count + 1 }) }
 {
     let group = Group::new(alloc, package, &values, window.variables())?;
     window.add(values)?;

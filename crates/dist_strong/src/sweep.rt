@@ -1,6 +1,6 @@
 //! The sweep over all packages, from the first line of its certificate to the last.
 ghost use Rattle.std.specs.Prelude.{◌≡◌, ◌≤◌, [], IfErr, IfOk, OnErr, OnOk, length};
-ghost use Rattle.dist_base.specs.declared.TheConstants.{MAX_PACKAGES};
+ghost use Rattle.dist_base.specs.declared.TheConstants.{MAX_LIMIT, MAX_PACKAGES};
 ghost use Rattle.dist_cert.specs.Form.{KeepsLimit};
 ghost use Rattle.dist_now.specs.PresentClauses.{IsDemand};
 ghost use Rattle.dist_now.specs.PresentSet.{IsSetOf, PassesClauses, PassesLiterals};
@@ -162,7 +162,7 @@ fn write_over<D: Desk>(
     requires packages { length repo.now.packages ≤ MAX_PACKAGES }
     requires inputs { IsSetOf repo.now (IsDemand repo.now essential) limits.now.clauses limits.now.literals inputs }
     requires from_one { 1 ≤ limit }
-    requires upto { limit ≤ 1000000 }
+    requires upto { limit ≤ MAX_LIMIT }
     requires limits { AreStated limits.now }
     ensures { SweepAnswers repo.now essential limit limits.now name.now (D.view desk.old) (D.view desk.new) result }
 {
@@ -196,7 +196,7 @@ pub fn strong<D: Desk>(
     requires idle { IsNotWriting (D.view desk.old).mode }
     requires size { IsWithinSize repo.now }
     requires from_one { 1 ≤ limit }
-    requires upto { limit ≤ 1000000 }
+    requires upto { limit ≤ MAX_LIMIT }
     requires limits { AreStated limits.now }
     ensures answers { SweepAnswers repo.now essential limit limits.now name.now (D.view desk.old) (D.view desk.new) result }
     ensures too_many_clauses { ComesExactly result (TooLarge what.Clauses) (PassesClauses repo.now essential limits.now.clauses limits.now.literals) }

@@ -5,14 +5,12 @@ ghost use Rattle.dist_clause.specs.Formula.{value_of};
 ghost use Rattle.dist_strong.specs.Window.{WindowView, numbers_of};
 
 use circular_buffer::HeapCircularBuffer;
+use dist_cert::REACH;
 use dist_clause::Assignment;
 use std::alloc::{AllocError, Global};
 use std::marker::Model;
 
-/// How many installations a claim may reach back.
-const REACH: usize = 1024;
-
-/// The latest 1,024 installations. They are numbered from 1.
+/// The latest installations, as many as a claim may reach back. They are numbered from 1.
 #[derive(Drop)]
 pub(crate) struct Window {
     kept: HeapCircularBuffer<Assignment>,
@@ -23,13 +21,14 @@ pub(crate) struct Window {
 
 impl Model for Window {
     ghost use Rattle.std.specs.Prelude.{◌≡◌, ◌≤◌, All, length};
+    ghost use Rattle.dist_cert.specs.declared.TheConstants.{REACH};
     ghost use Rattle.dist_strong.specs.Window.{WindowView};
 
     ghost Value = { WindowView };
 
     ghost view = { λ w. record { kept = w.kept.items; count = w.count; variables = w.variables } };
 
-    ghost invariant = { λ w. (w.kept.capacity ≡ 1024) × (length w.kept.items ≤ w.count) × All (λ v. length v ≡ w.variables) w.kept.items };
+    ghost invariant = { λ w. (w.kept.capacity ≡ REACH) × (length w.kept.items ≤ w.count) × All (λ v. length v ≡ w.variables) w.kept.items };
 }
 
 impl Window {
@@ -54,7 +53,7 @@ impl Window {
     /// Adds an installation as the latest one. More than 4,294,967,295 installations in all are want of memory too.
     pub(crate) fn add(&mut self, values: Assignment) -> Result<(), AllocError>
         requires { length values ≡ self.old.variables }
-        ensures { OnOk result (self.new ≡ record self.old { kept = keep_last 1024 (self.old.kept ++ values ∷ []); count = self.old.count + 1 }) }
+        ensures { OnOk result (self.new ≡ record self.old { kept = keep_last REACH (self.old.kept ++ values ∷ []); count = self.old.count + 1 }) }
     {
         if self.count == u32::MAX {
             return Err(AllocError);

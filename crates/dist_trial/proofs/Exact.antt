@@ -1,5 +1,6 @@
 -- When a trial gives each answer, by its two stages.
 use Rattle.std.proofs.Common.{◌≡◌, ◌≢◌, ◌∙◌, ◌<◌, ◌≤◌, ℕ, false, List, Result, Ok, Err, length, refl, sym, ap, subst, arith}
+use Rattle.dist_base.specs.declared.TheConstants.{DEFAULT_LIMIT}
 use Rattle.dist_outside.specs.declared.limits.Limits.{Limits}
 use Rattle.dist_outside.specs.declared.trouble.What.{What}
 use Rattle.dist_outside.specs.declared.trouble.What.TheVariants.{Bytes, Stanzas, Variables, Clauses, Literals, Lines, LineLiterals, Certificate, RecordLine}
@@ -23,10 +24,10 @@ exact-iff : {X : Type 0} (result : Result X WorkError) (error : WorkError) (P Q 
 exact-iff result error P Q to from exact = λ free. ((λ is. to ((exact free).0 is)), λ q. (exact free).1 (from q))
 
 -- only four numbers are passed by a part
-not-full : (r : PackageList) (limits : Limits) (text : List ℕ) → IsFull r false 10000 limits Bytes text → ⊥
+not-full : (r : PackageList) (limits : Limits) (text : List ℕ) → IsFull r false DEFAULT_LIMIT limits Bytes text → ⊥
 not-full r limits text full = full.2.passes
 
-not-full-stanzas : (r : PackageList) (limits : Limits) (text : List ℕ) → IsFull r false 10000 limits Stanzas text → ⊥
+not-full-stanzas : (r : PackageList) (limits : Limits) (text : List ℕ) → IsFull r false DEFAULT_LIMIT limits Stanzas text → ⊥
 not-full-stanzas r limits text full = full.2.passes
 
 apart : (what other : What) → what ≢ other → TooLarge what ≢ TooLarge other
@@ -107,11 +108,11 @@ module _ (size seed : ℕ) (limits : Limits) where
     swept-answers (Err (TooLarge Literals)) a = with-it (λ r. PassesLiterals r false limits.clauses limits.literals) a
     swept-answers (Err (TooLarge Bytes)) a = absurd (not-full r limits a.0 a.1)
     swept-answers (Err (TooLarge Stanzas)) a = absurd (not-full-stanzas r limits a.0 a.1)
-    swept-answers (Err (TooLarge Variables)) a = with-it (λ r. (text : List ℕ) × IsFull r false 10000 limits Variables text) a
-    swept-answers (Err (TooLarge Lines)) a = with-it (λ r. (text : List ℕ) × IsFull r false 10000 limits Lines text) a
-    swept-answers (Err (TooLarge LineLiterals)) a = with-it (λ r. (text : List ℕ) × IsFull r false 10000 limits LineLiterals text) a
-    swept-answers (Err (TooLarge Certificate)) a = with-it (λ r. (text : List ℕ) × IsFull r false 10000 limits Certificate text) a
-    swept-answers (Err (TooLarge RecordLine)) a = with-it (λ r. (text : List ℕ) × IsFull r false 10000 limits RecordLine text) a
+    swept-answers (Err (TooLarge Variables)) a = with-it (λ r. (text : List ℕ) × IsFull r false DEFAULT_LIMIT limits Variables text) a
+    swept-answers (Err (TooLarge Lines)) a = with-it (λ r. (text : List ℕ) × IsFull r false DEFAULT_LIMIT limits Lines text) a
+    swept-answers (Err (TooLarge LineLiterals)) a = with-it (λ r. (text : List ℕ) × IsFull r false DEFAULT_LIMIT limits LineLiterals text) a
+    swept-answers (Err (TooLarge Certificate)) a = with-it (λ r. (text : List ℕ) × IsFull r false DEFAULT_LIMIT limits Certificate text) a
+    swept-answers (Err (TooLarge RecordLine)) a = with-it (λ r. (text : List ℕ) × IsFull r false DEFAULT_LIMIT limits RecordLine text) a
     swept-answers (Err NoMemory) a = tt
     swept-answers (Err ReadFault) a = absurd a
     swept-answers (Err WriteFault) a = absurd a

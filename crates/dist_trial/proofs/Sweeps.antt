@@ -3,6 +3,7 @@ use Rattle.std.proofs.Common.{◌≡◌, ◌≢◌, ◌∙◌, ℕ, cond, false,
 use Rattle.std.proofs.lemmas.Cmp.{nat_list_cmp_total}
 use Rattle.std.specs.Cmp.{eq_by_cmp_equiv}
 use Rattle.std.specs.FinMap.{get, insert, get-insert}
+use Rattle.dist_base.specs.declared.TheConstants.{DEFAULT_LIMIT}
 use Rattle.dist_outside.specs.DeskView.{DeskView, Holds}
 use Rattle.dist_outside.specs.Files.{Files, Mode, Idle, file_bytes, with_file}
 use Rattle.dist_outside.specs.declared.limits.Limits.{Limits}
@@ -55,7 +56,7 @@ exact-memory (TooLarge what) other P exact = exact-err (TooLarge what) other P e
 exact-memory NoMemory other P exact = exact-none other P
 
 pub sweep-stops : {X : Type 0} (Gives : X → Type 0) (r : PackageList) (limits : Limits) (name : List ℕ) (old new : DeskView) (error : WorkError)
-    → SweepAnswers r false 10000 limits name old new (Err error) → SweptAnswers Gives r limits (Err (in_memory error))
+    → SweepAnswers r false DEFAULT_LIMIT limits name old new (Err error) → SweptAnswers Gives r limits (Err (in_memory error))
 sweep-stops Gives r limits name old new ReadFault stops = tt
 sweep-stops Gives r limits name old new WriteFault stops = tt
 sweep-stops Gives r limits name old new NoMemory stops = tt
@@ -104,14 +105,14 @@ OneVerdictLaw = (r : PackageList) (limits : Limits) (text : List ℕ) (verdict o
 
 -- What a sweep wrote to a desk that tells its files.
 abbrev pub IsWritten : PackageList → Limits → (name : List ℕ) → Files → (old new : DeskView) → List Claim → Type 0
-IsWritten r limits name files old new made = (old.files ≡ Some files) × SweepAnswers r false 10000 limits name old new (Ok made)
+IsWritten r limits name files old new made = (old.files ≡ Some files) × SweepAnswers r false DEFAULT_LIMIT limits name old new (Ok made)
 
 verdict-same : RightLaw → OneVerdictLaw → (r : PackageList) (limits : Limits) (name : List ℕ) (files : Files) (old new : DeskView) (made : List Claim) (verdict : Verdict) → (w : IsWritten r limits name files old new made)
-    → OfText (file_bytes new.files name) (λ text. Answers r limits text (Ok verdict)) → Accepted (header_of r false 10000 (w.1.2.0 false)) made ≡ verdict
+    → OfText (file_bytes new.files name) (λ text. Answers r limits text (Ok verdict)) → Accepted (header_of r false DEFAULT_LIMIT (w.1.2.0 false)) made ≡ verdict
 verdict-same right one r limits name files old new made verdict w of =
     let text : List ℕ = w.1.0 in
     let answers : Answers r limits text (Ok verdict) = of-file (λ t. Answers r limits t (Ok verdict)) files name text Idle old new w.0 w.1.1 of in
-    let first : Verdict = Accepted (header_of r false 10000 (w.1.2.0 false)) made in
+    let first : Verdict = Accepted (header_of r false DEFAULT_LIMIT (w.1.2.0 false)) made in
     one r limits text first verdict (right r limits text first w.1.2.2.0) (right r limits text verdict answers)
 
 same-claims : (h other : Header) (made claims : List Claim) → Accepted h made ≡ Accepted other claims → made ≡ claims
@@ -123,13 +124,13 @@ accepted≢refused h made fault e = cc
 pub accepted : RightLaw → OneVerdictLaw → (r : PackageList) (limits : Limits) (name : List ℕ) (files : Files) (old new : DeskView) (made : List Claim) (h : Header) (claims : List Claim)
     → IsWritten r limits name files old new made → OfText (file_bytes new.files name) (λ text. Answers r limits text (Ok (Accepted h claims))) → AreSwept r limits claims
 accepted right one r limits name files old new made h claims w of =
-    let same = same-claims (header_of r false 10000 (w.1.2.0 false)) h made claims (verdict-same right one r limits name files old new made (Accepted h claims) w of) in
+    let same = same-claims (header_of r false DEFAULT_LIMIT (w.1.2.0 false)) h made claims (verdict-same right one r limits name files old new made (Accepted h claims) w of) in
     subst (AreSwept r limits) same (w.1.0, w.1.2)
 
 pub not-refused : RightLaw → OneVerdictLaw → (r : PackageList) (limits : Limits) (name : List ℕ) (files : Files) (old new : DeskView) (made : List Claim) (fault : CertFault)
     → IsWritten r limits name files old new made → ¬ OfText (file_bytes new.files name) (λ text. Answers r limits text (Ok (Refused fault)))
 not-refused right one r limits name files old new made fault w of =
-    accepted≢refused (header_of r false 10000 (w.1.2.0 false)) made fault (verdict-same right one r limits name files old new made (Refused fault) w of)
+    accepted≢refused (header_of r false DEFAULT_LIMIT (w.1.2.0 false)) made fault (verdict-same right one r limits name files old new made (Refused fault) w of)
 
 abbrev pub OneAnswerLaw : Type 0
 OneAnswerLaw = (r : PackageList) (limits : Limits) (text : List ℕ) (result other : Result Verdict WorkError) → IsInOrder r.packages → Answers r limits text result → Answers r limits text other
@@ -143,5 +144,5 @@ pub not-large : OneAnswerLaw → (r : PackageList) (limits : Limits) (name : Lis
 not-large one r limits name files old new made what ordered w of =
     let text : List ℕ = w.1.0 in
     let answers : Answers r limits text (Err (TooLarge what)) = of-file (λ t. Answers r limits t (Err (TooLarge what))) files name text Idle old new w.0 w.1.1 of in
-    let first : Verdict = Accepted (header_of r false 10000 (w.1.2.0 false)) made in
+    let first : Verdict = Accepted (header_of r false DEFAULT_LIMIT (w.1.2.0 false)) made in
     large≢verdict what first (one r limits text (Ok first) (Err (TooLarge what)) ordered w.1.2.2.0 answers tt tt)

@@ -1,6 +1,7 @@
 -- What a trial comes to.
 use Rattle.std.specs.Prelude.{◌≡◌, ℕ, ◌<◌, ◌≤◌, false, List, Result, Ok, Err, length}
 use Rattle.std.specs.List.{list_any}
+use Rattle.dist_base.specs.declared.TheConstants.{DEFAULT_LIMIT}
 use Rattle.dist_outside.specs.declared.limits.Limits.{Limits}
 use Rattle.dist_outside.specs.declared.trouble.What.TheVariants.{Bytes, Stanzas, Clauses, Literals}
 use Rattle.dist_outside.specs.declared.trouble.WorkError.{WorkError}
@@ -23,12 +24,12 @@ pub record OfArchive (size seed : ℕ) (limits : Limits) (P : PackageList → Ty
   pub is_repository : IsRepositoryOf (generated size seed) limits.stanzas repository
   pub holds : P repository
 
--- A whole certificate of the repository, plain and with the limit 10000, is accepted, and what is told is the summary of its
--- claims, and whether one of them has a mark.
+-- A whole certificate of the repository, plain and with the limit of a question where none is given, is accepted, and what is
+-- told is the summary of its claims, and whether one of them has a mark.
 pub record IsTrial (size : ℕ) (limits : Limits) (done : Trial) (r : PackageList) : Type 0 where
   pub made : List Claim
   pub text : List ℕ
-  pub is_sweep : IsSweep r false 10000 limits made text
+  pub is_sweep : IsSweep r false DEFAULT_LIMIT limits made text
   pub summary : done.summary.items ≡ summary_text size made
   pub undecided : done.undecided ≡ list_any has_mark made
 
@@ -40,7 +41,7 @@ TrialAnswers size seed limits (Err (TooLarge Bytes)) = limits.bytes < length (ge
 TrialAnswers size seed limits (Err (TooLarge Stanzas)) = (length (generated size seed) ≤ limits.bytes) × (limits.stanzas < size)
 TrialAnswers size seed limits (Err (TooLarge Clauses)) = OfArchive size seed limits (λ r. PassesClauses r false limits.clauses limits.literals)
 TrialAnswers size seed limits (Err (TooLarge Literals)) = OfArchive size seed limits (λ r. PassesLiterals r false limits.clauses limits.literals)
-TrialAnswers size seed limits (Err (TooLarge what)) = OfArchive size seed limits (λ r. (text : List ℕ) × IsFull r false 10000 limits what text)
+TrialAnswers size seed limits (Err (TooLarge what)) = OfArchive size seed limits (λ r. (text : List ℕ) × IsFull r false DEFAULT_LIMIT limits what text)
 TrialAnswers size seed limits (Err NoMemory) = Unit {0}
 TrialAnswers size seed limits (Err error) = ⊥
 
@@ -59,10 +60,10 @@ abbrev pub SweptAnswers : {X : Type 0} → (X → Type 0) → PackageList → Li
 SweptAnswers Gives r limits (Ok x) = Gives x
 SweptAnswers Gives r limits (Err (TooLarge Clauses)) = PassesClauses r false limits.clauses limits.literals
 SweptAnswers Gives r limits (Err (TooLarge Literals)) = PassesLiterals r false limits.clauses limits.literals
-SweptAnswers Gives r limits (Err (TooLarge what)) = (text : List ℕ) × IsFull r false 10000 limits what text
+SweptAnswers Gives r limits (Err (TooLarge what)) = (text : List ℕ) × IsFull r false DEFAULT_LIMIT limits what text
 SweptAnswers Gives r limits (Err NoMemory) = Unit {0}
 SweptAnswers Gives r limits (Err error) = ⊥
 
 -- the claims of a sweep that is accepted
 abbrev pub AreSwept : PackageList → Limits → List Claim → Type 0
-AreSwept r limits made = (text : List ℕ) × IsSweep r false 10000 limits made text
+AreSwept r limits made = (text : List ℕ) × IsSweep r false DEFAULT_LIMIT limits made text

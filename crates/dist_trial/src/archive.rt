@@ -1,5 +1,6 @@
 //! The repository of a generated archive.
 ghost use Rattle.std.specs.Prelude.{◌≤◌, IfOk};
+ghost use Rattle.dist_base.specs.declared.TheConstants.{MAX_SIZE};
 ghost use Rattle.dist_repo.specs.Size.{IsWithinSize};
 ghost use Rattle.dist_trial.specs.Trial.{ArchiveAnswers};
 
@@ -18,7 +19,7 @@ pub(crate) fn repository_of(
     limits: &Limits,
 ) -> Result<Repository, WorkError>
     requires some { 1 ≤ size }
-    requires few { size ≤ 2000 }
+    requires few { size ≤ MAX_SIZE }
     ensures answers { ArchiveAnswers size seed limits.now result }
     ensures within_size { IfOk result (λ repo. IsWithinSize repo) }
 {

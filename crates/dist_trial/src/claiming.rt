@@ -9,6 +9,7 @@ ghost use Rattle.dist_subject.specs.Limited.{AreStated};
 ghost use Rattle.dist_trial.specs.Claiming.{in_memory};
 ghost use Rattle.dist_trial.specs.Trial.{AreSwept, SweptAnswers};
 
+use dist_base::DEFAULT_LIMIT;
 use dist_cert::Claims;
 use dist_check::{Verdict, check, texts_have_one_answer, texts_have_one_verdict};
 use dist_outside::{Limits, MemoryDesk, WorkError};
@@ -18,9 +19,6 @@ use std::alloc::Global;
 
 /// The file on the desk.
 const CERTIFICATE: &str = "certificate";
-
-/// So many derived lines leave a question undecided.
-const LIMIT: u32 = 10000;
 
 /// Why work on a desk in memory stops. No call of it is made to fail, so what it lacks is memory.
 fn in_memory(error: WorkError) -> WorkError
@@ -50,7 +48,15 @@ pub(crate) fn claims_of(
     // The packages of a repository are in order.
     let _ = repo.len();
     let mut desk = MemoryDesk::new(alloc, usize::MAX, &[])?;
-    match strong(alloc, repo, false, &mut desk, CERTIFICATE, LIMIT, limits) {
+    match strong(
+        alloc,
+        repo,
+        false,
+        &mut desk,
+        CERTIFICATE,
+        DEFAULT_LIMIT,
+        limits,
+    ) {
         Ok(_) => {}
         Err(error) => return Err(in_memory(error)),
     }

@@ -1,5 +1,6 @@
 //! A trial, stage by stage.
 ghost use Rattle.std.specs.Prelude.{◌≡◌, ◌≢◌, ◌≤◌, ◌<◌, false, length};
+ghost use Rattle.dist_base.specs.declared.TheConstants.{MAX_SIZE};
 ghost use Rattle.dist_generate.specs.Generator.{generated};
 ghost use Rattle.dist_now.specs.PresentSet.{PassesClauses, PassesLiterals};
 ghost use Rattle.dist_outside.specs.declared.trouble.What.TheVariants as what;
@@ -36,7 +37,7 @@ fn swept(alloc: Global, size: u32, repo: &Repository, limits: &Limits) -> Result
 #[tactic(none)]
 pub fn trial(alloc: Global, size: u32, seed: u32, limits: &Limits) -> Result<Trial, WorkError>
     requires some { 1 ≤ size }
-    requires few { size ≤ 2000 }
+    requires few { size ≤ MAX_SIZE }
     requires limits { AreStated limits.now }
     ensures answers { TrialAnswers size seed limits.now result }
     ensures too_many_bytes { ComesExactly result (TooLarge what.Bytes) (limits.now.bytes < length (generated size seed)) }

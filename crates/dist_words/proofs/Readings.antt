@@ -16,6 +16,7 @@ use Rattle.clap.specs.declared.builder.value_parser.ValueParser.TheVariants as v
 use Rattle.clap.specs.declared.parser.matches.ArgMatches.{ArgMatches}
 use Rattle.clap.proofs.CallerReads.{signed_reads}
 use Rattle.clap.proofs.WalkLemmas.{one_text-rows}
+use Rattle.dist_base.specs.declared.TheConstants.{MAX_LIMIT, MAX_SIZE}
 use Rattle.dist_words.specs.Clap.{Options as Chosen, number_of, options_of, simple_command, taken_of}
 use Rattle.dist_words.specs.Lines.{IsLimit, IsSize}
 use Rattle.dist_words.specs.SimpleCommand.{IsMatched}
@@ -119,11 +120,11 @@ flag_read m matched k rule at parser r none if_true if_false = go (one_text (fou
         let passed = subst (λ (u : Text). (bytes_eq u (codes "true") || bytes_eq u (codes "false")) ≡ true) (sym got.1) got.2 in
         words t e (bytes_eq t (codes "true")) refl passed ∙ sym (ap text (sym (one_text-rows (found_of m) rule.id) ∙ e))
 
-pub size_of : (r : Option ℕ) → IfSome r (λ n. (1 ≤ n) × (n ≤ 2000)) → IfSome r IsSize
+pub size_of : (r : Option ℕ) → IfSome r (λ n. (1 ≤ n) × (n ≤ MAX_SIZE)) → IfSome r IsSize
 size_of None h = tt
 size_of (Some n) (least, greatest) = record { least = least; greatest = greatest }
 
-pub limit_of : (r : Option ℕ) → IfSome r (λ n. (1 ≤ n) × (n ≤ 1000000)) → IfSome r IsLimit
+pub limit_of : (r : Option ℕ) → IfSome r (λ n. (1 ≤ n) × (n ≤ MAX_LIMIT)) → IfSome r IsLimit
 limit_of None h = tt
 limit_of (Some n) (least, greatest) = record { least = least; greatest = greatest }
 

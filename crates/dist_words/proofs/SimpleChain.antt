@@ -7,6 +7,7 @@ use Rattle.clap.specs.Simple.{with_rule}
 use Rattle.clap.specs.Walk.{Rule, Text}
 use Rattle.clap.specs.declared.builder.arg.Arg.{Arg}
 use Rattle.clap.specs.declared.builder.command.Command.{Command}
+use Rattle.dist_base.specs.declared.TheConstants.{MAX_LIMIT, MAX_SIZE}
 use Rattle.dist_words.specs.Clap.{command_rule, files_rule, essential_rule, number_option}
 use Rattle.dist_words.specs.SimpleCommand.{IsArg, IsSimpleCommand, IsStart}
 
@@ -29,7 +30,7 @@ fits a rule is not_empty not_help not_version =
 
 -- the six arguments, added to it
 pub made : (start c1 c2 c3 c4 c5 c6 : Command) (command files limit size seed essential : Arg) → IsStart start
-    → IsArg command command_rule → IsArg files files_rule → IsArg limit (number_option (codes "limit") 1 1000000) → IsArg size (number_option (codes "size") 1 2000)
+    → IsArg command command_rule → IsArg files files_rule → IsArg limit (number_option (codes "limit") 1 MAX_LIMIT) → IsArg size (number_option (codes "size") 1 MAX_SIZE)
     → IsArg seed (number_option (codes "seed") 0 4294967295) → IsArg essential essential_rule
     → AddsArg start command c1 → AddsArg c1 files c2 → AddsArg c2 limit c3 → AddsArg c3 size c4 → AddsArg c4 seed c5 → AddsArg c5 essential c6 → IsSimpleCommand c6
 made start c1 c2 c3 c4 c5 c6 command files limit size seed essential s is1 is2 is3 is4 is5 is6 a1 a2 a3 a4 a5 a6 = record {
@@ -49,8 +50,8 @@ made start c1 c2 c3 c4 c5 c6 command files limit size seed essential s is1 is2 i
   fit = all_six command files limit size seed essential
       (fits command command_rule is1 (λ e. omega (arith, e)) (λ e. omega (arith, e)) (λ e. omega (arith, e)))
       (fits files files_rule is2 (λ e. omega (arith, e)) (λ e. omega (arith, e)) (λ e. omega (arith, e)))
-      (fits limit (number_option (codes "limit") 1 1000000) is3 (λ e. omega (arith, e)) (λ e. omega (arith, e)) (λ e. omega (arith, e)))
-      (fits size (number_option (codes "size") 1 2000) is4 (λ e. omega (arith, e)) (λ e. omega (arith, e)) (λ e. omega (arith, e)))
+      (fits limit (number_option (codes "limit") 1 MAX_LIMIT) is3 (λ e. omega (arith, e)) (λ e. omega (arith, e)) (λ e. omega (arith, e)))
+      (fits size (number_option (codes "size") 1 MAX_SIZE) is4 (λ e. omega (arith, e)) (λ e. omega (arith, e)) (λ e. omega (arith, e)))
       (fits seed (number_option (codes "seed") 0 4294967295) is5 (λ e. omega (arith, e)) (λ e. omega (arith, e)) (λ e. omega (arith, e)))
       (fits essential essential_rule is6 (λ e. omega (arith, e)) (λ e. omega (arith, e)) (λ e. omega (arith, e)));
   rules = rw (is1.rule_is, is2.rule_is, is3.rule_is, is4.rule_is, is5.rule_is, is6.rule_is) refl;

@@ -7,6 +7,7 @@ use Rattle.clap.specs.Simple.{App, matches_of, new_rule, new_shape}
 use Rattle.clap.specs.Walk.{Row, Rule, Text, all_of, first_of, one_of}
 use Rattle.clap.specs.declared.builder.action.ArgAction.TheVariants.{Set, Append, SetTrue}
 use Rattle.clap.specs.declared.builder.value_parser.ValueParser.TheVariants as values
+use Rattle.dist_base.specs.declared.TheConstants.{MAX_LIMIT, MAX_SIZE}
 
 -- an option that takes a number within bounds
 abbrev pub number_option : Text → (least greatest : ℕ) → Rule
@@ -29,7 +30,7 @@ essential_rule = record (new_rule (codes "essential")) { long = Some (codes "ess
 abbrev pub simple_command : App
 simple_command = record {
   top = record (new_shape (codes "distfuture")) {
-    rules = command_rule ∷ files_rule ∷ number_option (codes "limit") 1 1000000 ∷ number_option (codes "size") 1 2000
+    rules = command_rule ∷ files_rule ∷ number_option (codes "limit") 1 MAX_LIMIT ∷ number_option (codes "size") 1 MAX_SIZE
         ∷ number_option (codes "seed") 0 4294967295 ∷ essential_rule ∷ [];
     no_binary_name = true;
     disable_help_flag = true;

@@ -1,6 +1,7 @@
 -- What the code keeps of the words, as the definitions see it.
 use Rattle.std.specs.Prelude.{◌≤◌, ℕ, List, map}
 use Rattle.std.specs.Borrow.{Bor}
+use Rattle.dist_base.specs.declared.TheConstants.{MAX_LIMIT, MAX_SIZE}
 use Rattle.dist_words.specs.Clap.{Options as Chosen}
 use Rattle.dist_words.specs.CommandLine.{CommandLine, Health, Classes, Strong, Check, Try}
 use Rattle.dist_words.specs.declared.command.Command.{Command}
@@ -18,12 +19,12 @@ line_of (command.Try words) = Try words.size words.seed
 -- a limit of derived lines that may stand
 pub record IsLimit (limit : ℕ) : Type 0 where
   pub least : 1 ≤ limit
-  pub greatest : limit ≤ 1000000
+  pub greatest : limit ≤ MAX_LIMIT
 
 -- a size of an archive that may stand
 pub record IsSize (size : ℕ) : Type 0 where
   pub least : 1 ≤ size
-  pub greatest : size ≤ 2000
+  pub greatest : size ≤ MAX_SIZE
 
 -- a command's limit, or its size, may stand
 abbrev pub HasLimit : Command → Type 0

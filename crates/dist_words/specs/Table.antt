@@ -8,6 +8,7 @@
 --   try        none              --size and --seed, both needed
 use Rattle.std.specs.Prelude.{◌≡◌, ℕ, ◌&&◌, Bool, not, List, [], ◌∷◌, Option, Some, None, is_some, if◌then◌else◌, codes, unwrap_or}
 use Rattle.std.specs.Str.{bytes_eq}
+use Rattle.dist_base.specs.declared.TheConstants.{DEFAULT_LIMIT}
 use Rattle.clap.specs.Walk.{Text, is_empty}
 use Rattle.clap.specs.Faults.{fault_of}
 use Rattle.dist_words.specs.Clap.{Options, Taken, simple_command, taken}
@@ -48,7 +49,7 @@ abbrev pub where_allowed : Bool → Option CommandLine → Option CommandLine
 where_allowed allowed line = if allowed then line else None
 
 abbrev pub strong_with : Options → Text → Text → CommandLine
-strong_with options packages cert = Strong packages cert options.essential (unwrap_or options.limit 10000)
+strong_with options packages cert = Strong packages cert options.essential (unwrap_or options.limit DEFAULT_LIMIT)
 
 -- with a size and a seed
 abbrev pub seeded : Option ℕ → Option ℕ → Option CommandLine

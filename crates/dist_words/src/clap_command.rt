@@ -13,6 +13,7 @@ use crate::error::WordsError;
 use clap::builder::ValueParser;
 use clap::error::ErrorKind;
 use clap::{Arg, ArgAction, ArgMatches, Command, value_parser};
+use dist_base::{MAX_LIMIT, MAX_SIZE};
 use std::alloc::{AllocError, Global};
 
 /// An option that takes a number within the bounds of its parser.
@@ -43,16 +44,24 @@ fn files_argument<'a>(alloc: Global) -> Arg<'a>
 
 /// `--limit`.
 fn limit_option<'a>(alloc: Global) -> Arg<'a>
-    ensures { IsArg result (number_option (codes "limit") 1 1000000) }
+    ensures { IsArg result (number_option (codes "limit") 1 MAX_LIMIT) }
 {
-    number_option(alloc, "limit", value_parser!(u32).range(1..=1_000_000))
+    number_option(
+        alloc,
+        "limit",
+        value_parser!(u32).range(1..=i64::from(MAX_LIMIT)),
+    )
 }
 
 /// `--size`.
 fn size_option<'a>(alloc: Global) -> Arg<'a>
-    ensures { IsArg result (number_option (codes "size") 1 2000) }
+    ensures { IsArg result (number_option (codes "size") 1 MAX_SIZE) }
 {
-    number_option(alloc, "size", value_parser!(u32).range(1..=2_000))
+    number_option(
+        alloc,
+        "size",
+        value_parser!(u32).range(1..=i64::from(MAX_SIZE)),
+    )
 }
 
 /// `--seed`.

@@ -14,10 +14,8 @@ use crate::command::{CertFiles, Command, HealthFiles, StrongWords, TryWords};
 use crate::error::WordsError;
 use crate::taken::{Options, options_of};
 use clap::ArgMatches;
+use dist_base::DEFAULT_LIMIT;
 use std::alloc::Global;
-
-/// The limit where no option gives one.
-const DEFAULT_LIMIT: u32 = 10_000;
 
 /// The command of the words, which stand after the program's name.
 #[tactic(auto, unfolding(crate::specs::Table::command_of))]

@@ -1,5 +1,5 @@
 use Rattle.std.proofs.Common.{sym, subst}
-use Rattle.dist_app.specs.Due.{IsGivenUp}
+use Rattle.dist_app.specs.Due.{IsPartGivenUp}
 use Rattle.dist_app.specs.Try.{Tries, TryStages}
 use Rattle.dist_app.specs.declared.refusal.Refusal.{Refusal}
 use Rattle.dist_app.proofs.Trying.{tried, untried}
@@ -12,5 +12,5 @@ returns-in-Ok-clause-answers c =
 
 pub returns-in-Err-clause-stops : goal.returns-in-Err-clause-stops
 returns-in-Err-clause-stops c = λ files.
-    subst (λ (why : Refusal). IsGivenUp (TryStages files c.args.limits.now c.args.words.now.size c.args.words.now.seed (Tries files c.args.limits.now c.args.words.now.size)) files why) (sym c.refusal_of.ensures)
+    subst (λ (why : Refusal). IsPartGivenUp (TryStages files c.args.limits.now c.args.words.now.size c.args.words.now.seed (Tries files c.args.limits.now c.args.words.now.size)) files why) (sym c.refusal_of.ensures)
     (untried c.args.words.now.size c.args.words.now.seed c.args.limits.now c.in-Err.error (record { clauses = c.in-Err.ensures.too_many_clauses; literals = c.in-Err.ensures.too_many_literals }) c.in-Err.ensures.answers files)

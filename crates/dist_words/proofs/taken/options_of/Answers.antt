@@ -1,15 +1,16 @@
 use Rattle.std.proofs.Common.{refl, arith, codes}
 use Rattle.std.specs.Str.Parse.{ParsesUnsigned, ExplainsUnsignedError, HasUnsignedDigitsIfOk}
+use Rattle.dist_base.specs.declared.TheConstants.{MAX_LIMIT, MAX_SIZE}
 use Rattle.dist_words.specs.Clap.{number_option, essential_rule}
 use Rattle.dist_words.proofs.Chain.{alone, no_rule}
 use Rattle.dist_words.proofs.Readings.{IsAt, number_read, flag_read, limit_of, size_of}
 use Rattle.dist_words.proofs.taken.options_of.Goals as goal
 
-limit_at : IsAt 2 (number_option (codes "limit") 1 1000000)
+limit_at : IsAt 2 (number_option (codes "limit") 1 MAX_LIMIT)
 unfolding alone no_rule
 limit_at = record { within = omega arith; is = λ d. refl; own = refl }
 
-size_at : IsAt 3 (number_option (codes "size") 1 2000)
+size_at : IsAt 3 (number_option (codes "size") 1 MAX_SIZE)
 unfolding alone no_rule
 size_at = record { within = omega arith; is = λ d. refl; own = refl }
 
@@ -24,8 +25,8 @@ essential_at = record { within = omega arith; is = λ d. refl; own = refl }
 pub returns-clause-options : goal.returns-clause-options
 returns-clause-options c =
     let m = c.args.matches.now in
-    let limit = number_read (λ bs r. ParsesUnsigned 32 10 bs r × ExplainsUnsignedError 10 bs r × HasUnsignedDigitsIfOk bs r) m c.requires 2 (number_option (codes "limit") 1 1000000) 1 1000000 limit_at refl (omega arith) (λ u x g. g.0) c.get_one.result c.get_one.ensures.none c.get_one.ensures.value in
-    let size = number_read (λ bs r. ParsesUnsigned 32 10 bs r × ExplainsUnsignedError 10 bs r × HasUnsignedDigitsIfOk bs r) m c.requires 3 (number_option (codes "size") 1 2000) 1 2000 size_at refl (omega arith) (λ u x g. g.0) c.get_one-2.result c.get_one-2.ensures.none c.get_one-2.ensures.value in
+    let limit = number_read (λ bs r. ParsesUnsigned 32 10 bs r × ExplainsUnsignedError 10 bs r × HasUnsignedDigitsIfOk bs r) m c.requires 2 (number_option (codes "limit") 1 MAX_LIMIT) 1 MAX_LIMIT limit_at refl (omega arith) (λ u x g. g.0) c.get_one.result c.get_one.ensures.none c.get_one.ensures.value in
+    let size = number_read (λ bs r. ParsesUnsigned 32 10 bs r × ExplainsUnsignedError 10 bs r × HasUnsignedDigitsIfOk bs r) m c.requires 3 (number_option (codes "size") 1 MAX_SIZE) 1 MAX_SIZE size_at refl (omega arith) (λ u x g. g.0) c.get_one-2.result c.get_one-2.ensures.none c.get_one-2.ensures.value in
     let seed = number_read (λ bs r. ParsesUnsigned 32 10 bs r × ExplainsUnsignedError 10 bs r × HasUnsignedDigitsIfOk bs r) m c.requires 4 (number_option (codes "seed") 0 4294967295) 0 4294967295 seed_at refl (omega arith) (λ u x g. g.0) c.get_one-3.result c.get_one-3.ensures.none c.get_one-3.ensures.value in
     let essential = flag_read m c.requires 5 essential_rule essential_at refl c.get_flag.result c.get_flag.ensures.none c.get_flag.ensures.value c.get_flag.ensures.other in
     rw (limit.0, size.0, seed.0, essential) refl
@@ -33,11 +34,11 @@ returns-clause-options c =
 pub returns-clause-limit : goal.returns-clause-limit
 returns-clause-limit c =
     let m = c.args.matches.now in
-    let limit = number_read (λ bs r. ParsesUnsigned 32 10 bs r × ExplainsUnsignedError 10 bs r × HasUnsignedDigitsIfOk bs r) m c.requires 2 (number_option (codes "limit") 1 1000000) 1 1000000 limit_at refl (omega arith) (λ u x g. g.0) c.get_one.result c.get_one.ensures.none c.get_one.ensures.value in
+    let limit = number_read (λ bs r. ParsesUnsigned 32 10 bs r × ExplainsUnsignedError 10 bs r × HasUnsignedDigitsIfOk bs r) m c.requires 2 (number_option (codes "limit") 1 MAX_LIMIT) 1 MAX_LIMIT limit_at refl (omega arith) (λ u x g. g.0) c.get_one.result c.get_one.ensures.none c.get_one.ensures.value in
     limit_of c.get_one.result limit.1
 
 pub returns-clause-size : goal.returns-clause-size
 returns-clause-size c =
     let m = c.args.matches.now in
-    let size = number_read (λ bs r. ParsesUnsigned 32 10 bs r × ExplainsUnsignedError 10 bs r × HasUnsignedDigitsIfOk bs r) m c.requires 3 (number_option (codes "size") 1 2000) 1 2000 size_at refl (omega arith) (λ u x g. g.0) c.get_one-2.result c.get_one-2.ensures.none c.get_one-2.ensures.value in
+    let size = number_read (λ bs r. ParsesUnsigned 32 10 bs r × ExplainsUnsignedError 10 bs r × HasUnsignedDigitsIfOk bs r) m c.requires 3 (number_option (codes "size") 1 MAX_SIZE) 1 MAX_SIZE size_at refl (omega arith) (λ u x g. g.0) c.get_one-2.result c.get_one-2.ensures.none c.get_one-2.ensures.value in
     size_of c.get_one-2.result size.1
