@@ -4,10 +4,12 @@ use Rattle.std.specs.Prelude.{All, Contains, slice_index}
 use Rattle.std.proofs.lemmas.Bool.{cases_lt}
 use Rattle.std.proofs.lemmas.List.Elements.{All-cons, All-head, All-nil, All-tail}
 use Rattle.std.proofs.lemmas.Option.{slice_get-get_or, slice_get_within}
+use Rattle.dist_base.specs.ListLaws.{any-contained, at-has, contains-at, element-at, within-from}
 use Rattle.dist_version.specs.Order.{version_cmp}
 use Rattle.dist_version.specs.Spelling.{IsVersion}
 use Rattle.dist_clause.specs.Formula.{Literal, IsModel, value_of}
 use Rattle.dist_cluster.specs.Partition.{IsIn}
+use Rattle.dist_repo.specs.DecidedLaws.{both-decided, IsDecided}
 use Rattle.dist_repo.specs.Strong.{IsInstallable, IsInstallation}
 use Rattle.dist_repo.specs.declared.package.Package.{Package}
 use Rattle.dist_classes.specs.ClassList.{IsOfClass, IsOfClassAt}
@@ -20,15 +22,13 @@ use Rattle.dist_future.specs.Stands.{future_of, installation_of}
 use Rattle.dist_space.specs.declared.meaning.Meaning.{Meaning}
 use Rattle.dist_space.specs.declared.meaning.Meaning.TheVariants.{Now, Present, At}
 use Rattle.dist_future.proofs.ClassMatch.{ClassLaws}
-use Rattle.dist_space_clauses.specs.DecidedLaws.{IsDecided}
 use Rattle.dist_future.proofs.DemandLemmas.{IsTrueMeaning, met-from-model}
 use Rattle.dist_future.proofs.FutureToModel.{IsFate, IsSeen, option-cases}
-use Rattle.dist_future.proofs.FutureValues.{both-decided, future-model, number-decided}
-use Rattle.dist_space.specs.ListLaws.{any-contained, at-has, contains-at, element-at, within-from}
+use Rattle.dist_future.proofs.FutureValues.{future-model, number-decided}
 use Rattle.dist_future.proofs.ModelToFuture.{AreVersions, future-is, healthy-is, holds-cluster, old-member, today-is}
 use Rattle.dist_future.proofs.SpaceLemmas.{class-of, class_at-same, never-at, one-class, one-of-name, same-clustered, top-below}
 use Rattle.dist_space.specs.ClusterLaws.{has-cluster, in-package, placed-in}
-use Rattle.dist_future.proofs.VersionOrder.{equal-back}
+use Rattle.dist_classes.specs.VersionOrder.{equal-back}
 
 module _ (laws : ClassLaws) (s : SpaceView) (space : IsSpace s) where
   -- ---- the fates of clusters in a future

@@ -4,12 +4,10 @@ pub mod MemberLemmas
 pub mod LeastLemmas
 pub mod NameLemmas
 pub mod LaterLemmas
-pub mod Decided
 pub mod HealthyLemmas
 pub mod OneHealth
 pub mod RejectedLemmas
 pub mod ConflictLemmas
-pub mod RisingRows
 pub mod DemandLists
 pub mod SetLemmas
 pub mod ModelLemmas
