@@ -1,14 +1,15 @@
--- Each raw stanza has exactly one reading or exactly one first fault.
-use Rattle.std.proofs.Common.{◌≡◌, ℕ, zero, suc, ◌<◌, List, Option, Some, None, length, refl, sym, ap, ◌∙◌, arith, inl, inr, ◌⊎◌}
+-- Each raw stanza has exactly one reading or exactly one first fault, and each text one list of stanzas or one first fault.
+use Rattle.std.proofs.Common.{◌≡◌, ℕ, zero, suc, ◌<◌, List, [], ◌∷◌, Option, Some, None, length, refl, sym, ap, ◌∙◌, arith, inl, inr, ◌⊎◌}
 use Rattle.std.proofs.lemmas.Bool.{cases_order}
 use borrow.Author.Count.{below_more}
+use Rattle.dist_base.specs.Answers.{IsExact}
 use Rattle.dist_control.specs.FieldText.{FieldText}
 use Rattle.dist_control.specs.declared.error.ControlError.{ControlError}
 use Rattle.dist_control.specs.declared.field_list.Stanza.{Stanza}
-use Rattle.dist_control.specs.ControlText.{IsExactStanza}
-use Rattle.dist_control.specs.Faults.{fault_at, IsSoundBelow, HasFault}
+use Rattle.dist_control.specs.ControlText.{AreReadings, HasFirstFault, IsExactStanza, IsExactText}
+use Rattle.dist_control.specs.Faults.{fault_at, IsSound, IsSoundBelow, HasFault}
 use Rattle.dist_control.specs.Fields.{fields_from}
-use Rattle.dist_control.specs.RawStanza.{RawStanza}
+use Rattle.dist_control.specs.RawStanza.{RawStanza, raw_stanzas}
 
 -- no line below a place has a fault, or there is a first one that has
 first_below : (raw : RawStanza) (n : ℕ) → IsSoundBelow raw n
@@ -53,6 +54,9 @@ same_stanza stanza other on with =
     let second : List FieldText → Stanza = λ fs. record { line = other.line; fields = fs } in
     ap first on ∙ ap second with
 
+sound_or_faulty : (raw : RawStanza) (error : ControlError) → IsSound raw → HasFault raw error → ⊥
+sound_or_faulty raw error sound faulty = no_error error _ (sound faulty.place faulty.within) faulty.fault
+
 pub exact : (raw : RawStanza) → IsExactStanza raw
 exact raw = record {
   some = elim (first_below raw (length raw.lines)) [
@@ -61,5 +65,58 @@ exact raw = record {
   ];
   one_reading = λ stanza other first second. same_stanza stanza other (first.line ∙ sym second.line) (first.fields ∙ sym second.fields);
   one_fault = one_fault raw;
-  never_both = λ stanza error reads faulty. no_error error _ (reads.sound faulty.place faulty.within) faulty.fault;
+  never_both = λ stanza error reads faulty. sound_or_faulty raw error reads.sound faulty;
 }
+
+-- ---- whole texts
+
+no_stanzas : (stanzas : List Stanza) → AreReadings [] stanzas → stanzas ≡ []
+no_stanzas [] are = refl
+no_stanzas (stanza ∷ stanzas) are = absurd are
+
+-- a first stanza and what is known of the raw stanzas after it
+module _ (raw : RawStanza) (raws : List RawStanza) (rest : IsExact (AreReadings raws) (HasFirstFault raws)) where
+  some_more : ((stanzas : List Stanza) × AreReadings (raw ∷ raws) stanzas) ⊎ ((error : ControlError) × HasFirstFault (raw ∷ raws) error)
+  some_more = elim (exact raw).some [
+    | inr fault ↦ inr (fault.0, inl fault.1)
+    | inl first ↦ elim rest.some [
+      | inl others ↦ inl (first.0 ∷ others.0, (first.1, others.1))
+      | inr fault ↦ inr (fault.0, inr (first.1.sound, fault.1))
+    ]
+  ]
+
+  one_more : (stanzas other : List Stanza) → AreReadings (raw ∷ raws) stanzas → AreReadings (raw ∷ raws) other → stanzas ≡ other
+  one_more [] other are same = absurd are
+  one_more (stanza ∷ stanzas) [] are same = absurd same
+  one_more (stanza ∷ stanzas) (first ∷ other) are same =
+      ap (λ (s : Stanza). s ∷ stanzas) ((exact raw).one_reading stanza first are.0 same.0)
+      ∙ ap (λ (l : List Stanza). first ∷ l) (rest.one_reading stanzas other are.1 same.1)
+
+  fault_more : (error other : ControlError) → HasFirstFault (raw ∷ raws) error → HasFirstFault (raw ∷ raws) other → error ≡ other
+  fault_more error other (inl here) (inl same) = one_fault raw error other here same
+  fault_more error other (inl here) (inr later) = absurd (sound_or_faulty raw error later.0 here)
+  fault_more error other (inr later) (inl here) = absurd (sound_or_faulty raw other later.0 here)
+  fault_more error other (inr later) (inr same) = rest.one_fault error other later.1 same.1
+
+  never_more : (stanzas : List Stanza) (error : ControlError) → AreReadings (raw ∷ raws) stanzas → ¬ HasFirstFault (raw ∷ raws) error
+  never_more [] error are faulty = absurd are
+  never_more (stanza ∷ stanzas) error are (inl here) = sound_or_faulty raw error are.0.sound here
+  never_more (stanza ∷ stanzas) error are (inr later) = rest.never_both stanzas error are.1 later.1
+
+exact-raws : (raws : List RawStanza) → IsExact (AreReadings raws) (HasFirstFault raws)
+exact-raws [] = record {
+  some = inl ([], tt);
+  one_reading = λ stanzas other are same. no_stanzas stanzas are ∙ sym (no_stanzas other same);
+  one_fault = λ error other none same. absurd none;
+  never_both = λ stanzas error are none. none;
+}
+exact-raws (raw ∷ raws) =
+    let rest = exact-raws raws in record {
+      some = some_more raw raws rest;
+      one_reading = one_more raw raws rest;
+      one_fault = fault_more raw raws rest;
+      never_both = never_more raw raws rest;
+    }
+
+pub exact-text : (text : List ℕ) → IsExactText text
+exact-text text = exact-raws (raw_stanzas text)

@@ -8,8 +8,8 @@ use Rattle.std.proofs.lemmas.List.Sums.{position_or_len_is}
 use Rattle.memchr.specs.Find.{IsFirstByte, is_byte}
 use Rattle.dist_control.specs.Bytes.{is_colon}
 use Rattle.dist_control.specs.Fields.{trim}
-use Rattle.dist_control.specs.Lines.{lines}
-use Rattle.dist_control.specs.Pieces.{IsFirstColon, IsCutAtLine, HasInFront, IsFieldInFront, IsContinuedTo, AreContinuations, ended}
+use Rattle.dist_control.specs.Lines.{lines, IsCutAtLine}
+use Rattle.dist_control.specs.Pieces.{IsFirstColon, HasInFront, IsFieldInFront, IsContinuedTo, AreContinuations, ended}
 use Rattle.dist_control.proofs.TrimLemmas.{trim-end}
 
 no-colon : (line : List ℕ) → ((j : ℕ) → j < length line → is_colon (get_or line j 0) ≡ false) → list_any is_colon line ≡ false

@@ -7,7 +7,9 @@ use Rattle.std.proofs.lemmas.List.{get_or-set_same, get_or-set_other, length-set
 use Rattle.std.proofs.lemmas.Slice.Eq.{bytes_eq-Decides}
 use Rattle.dist_control.specs.FieldText.{FieldText}
 use Rattle.dist_control.specs.Fields.{folded, is_same_name}
-use Rattle.dist_control.specs.Pieces.{early_fields, mark_of, AreSet, AreMarked}
+use Rattle.dist_control.specs.declared.field_list.TheConstants.{EARLY_FIELDS}
+use Rattle.dist_control.specs.declared.marks.TheConstants.{MARKS}
+use Rattle.dist_control.specs.Pieces.{mark_of, AreSet, AreMarked}
 use Rattle.dist_control.proofs.NameLemmas.{any-found, some-found}
 
 module _ (name : List ℕ) where
@@ -26,9 +28,9 @@ module _ (name : List ℕ) where
       ]
 
   -- a name that no field has is no early one's
-  pub early-none : (fields : List FieldText) → list_any IsOf fields ≡ false → false ≡ list_any IsOf (take early_fields fields)
+  pub early-none : (fields : List FieldText) → list_any IsOf fields ≡ false → false ≡ list_any IsOf (take EARLY_FIELDS fields)
   early-none fields none =
-      elim (cases_Bool (list_any IsOf (take early_fields fields))) [
+      elim (cases_Bool (list_any IsOf (take EARLY_FIELDS fields))) [
         | inl some ↦ absurd (both_ways _ none (any-found name fields some))
         | inr none ↦ sym none
       ]
@@ -56,7 +58,7 @@ set-more marks (first ∷ fields) field place are is within =
 
 -- one more field, whose mark is set
 pub marks-push : (marks : List Bool) (fields : List FieldText) (field : FieldText) (place : ℕ) → AreMarked marks fields → place ≡ mark_of (folded field.name) →
-    place < 64 → AreMarked (set marks place true) (fields ++ field ∷ [])
+    place < MARKS → AreMarked (set marks place true) (fields ++ field ∷ [])
 marks-push marks fields field place are is within = record {
   size = length-set marks place true ∙ are.size;
   set = set-more marks fields field place are.set is (omega (arith, are.size));

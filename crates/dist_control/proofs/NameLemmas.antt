@@ -16,7 +16,8 @@ use Rattle.std.proofs.lemmas.Map.Text.{is_eq-slice_cmp}
 use Rattle.std.proofs.lemmas.Slice.Eq.{bytes_eq-Decides}
 use Rattle.dist_control.specs.FieldText.{FieldText, field_text}
 use Rattle.dist_control.specs.Fields.{folded, is_same_name}
-use Rattle.dist_control.specs.Pieces.{early_fields, folded_names, AreLateNames}
+use Rattle.dist_control.specs.declared.field_list.TheConstants.{EARLY_FIELDS}
+use Rattle.dist_control.specs.Pieces.{folded_names, AreLateNames}
 use Rattle.dist_control.specs.declared.field_list.Field.{Field}
 
 -- ---- a set of names
@@ -114,50 +115,50 @@ module _ (name : List ℕ) (fields : List FieldText) where
   abbrev HasName : List FieldText → Bool
   HasName fs = list_any (λ field. is_same_name name field.name) fs
 
-  pub any-split : HasName fields ≡ (HasName (take early_fields fields) || list_any (bytes_eq (folded name)) (drop early_fields (folded_names fields)))
+  pub any-split : HasName fields ≡ (HasName (take EARLY_FIELDS fields) || list_any (bytes_eq (folded name)) (drop EARLY_FIELDS (folded_names fields)))
   any-split =
-      ap HasName (sym (take-append-drop early_fields fields))
-      ∙ list_any-append (λ field. is_same_name name field.name) (take early_fields fields) (drop early_fields fields)
-      ∙ ap (λ b. HasName (take early_fields fields) || b) (late-any name fields early_fields)
+      ap HasName (sym (take-append-drop EARLY_FIELDS fields))
+      ∙ list_any-append (λ field. is_same_name name field.name) (take EARLY_FIELDS fields) (drop EARLY_FIELDS fields)
+      ∙ ap (λ b. HasName (take EARLY_FIELDS fields) || b) (late-any name fields EARLY_FIELDS)
 
   -- no early field has the name: the late ones decide
-  pub any-late : (names : List (List ℕ)) → AreLateNames fields names → HasName (take early_fields fields) ≡ false →
+  pub any-late : (names : List (List ℕ)) → AreLateNames fields names → HasName (take EARLY_FIELDS fields) ≡ false →
       HasName fields ≡ list_any (bytes_eq (folded name)) names
-  any-late names late none = any-split ∙ ap (λ b. b || list_any (bytes_eq (folded name)) (drop early_fields (folded_names fields))) none ∙ sym (late (folded name))
+  any-late names late none = any-split ∙ ap (λ b. b || list_any (bytes_eq (folded name)) (drop EARLY_FIELDS (folded_names fields))) none ∙ sym (late (folded name))
 
   -- where there are early fields alone, they decide
-  pub any-early : length fields < 24 → HasName (take early_fields fields) ≡ false → HasName fields ≡ false
+  pub any-early : length fields < EARLY_FIELDS → HasName (take EARLY_FIELDS fields) ≡ false → HasName fields ≡ false
   any-early few none =
-      any-split ∙ ap (λ b. b || list_any (bytes_eq (folded name)) (drop early_fields (folded_names fields))) none
-      ∙ ap (λ (l : List (List ℕ)). list_any (bytes_eq (folded name)) l) (drop_all early_fields (folded_names fields) (omega (arith, length-map fields (λ (field : FieldText). folded field.name))))
+      any-split ∙ ap (λ b. b || list_any (bytes_eq (folded name)) (drop EARLY_FIELDS (folded_names fields))) none
+      ∙ ap (λ (l : List (List ℕ)). list_any (bytes_eq (folded name)) l) (drop_all EARLY_FIELDS (folded_names fields) (omega (arith, length-map fields (λ (field : FieldText). folded field.name))))
 
-  pub any-found : HasName (take early_fields fields) ≡ true → HasName fields ≡ true
+  pub any-found : HasName (take EARLY_FIELDS fields) ≡ true → HasName fields ≡ true
   any-found some = any-split ∙ or_left _ _ some
 
 names-push : (fields : List FieldText) (field : FieldText) → folded_names (fields ++ field ∷ []) ≡ folded_names fields ++ folded field.name ∷ []
 names-push fields field = map-append (λ (field : FieldText). folded field.name) fields (field ∷ [])
 
 -- an early field leaves the late names as they are
-pub late-early : (fields : List FieldText) (field : FieldText) (names : List (List ℕ)) → AreLateNames fields names → length fields < 24 →
+pub late-early : (fields : List FieldText) (field : FieldText) (names : List (List ℕ)) → AreLateNames fields names → length fields < EARLY_FIELDS →
     AreLateNames (fields ++ field ∷ []) names
 late-early fields field names late few other =
     let size = length-map fields (λ (field : FieldText). folded field.name) in
     late other
     ∙ ap (λ (l : List (List ℕ)). list_any (bytes_eq other) l) (
-    drop_all early_fields (folded_names fields) (omega arith)
-    ∙ sym (drop_all early_fields (folded_names (fields ++ field ∷ [])) (omega (arith, ap length (names-push fields field), length-append (folded_names fields) (folded field.name ∷ [])))))
+    drop_all EARLY_FIELDS (folded_names fields) (omega arith)
+    ∙ sym (drop_all EARLY_FIELDS (folded_names (fields ++ field ∷ [])) (omega (arith, ap length (names-push fields field), length-append (folded_names fields) (folded field.name ∷ [])))))
 
 -- a late field's name is one of them
 pub late-more : (fields : List FieldText) (field : FieldText) (names more : List (List ℕ)) → AreLateNames fields names → 24 ≤ length fields →
     ((other : List ℕ) → list_any (bytes_eq other) more ≡ (bytes_eq other (folded field.name) || list_any (bytes_eq other) names)) →
     AreLateNames (fields ++ field ∷ []) more
 late-more fields field names more late many grown other =
-    let old = drop early_fields (folded_names fields) in
+    let old = drop EARLY_FIELDS (folded_names fields) in
     let Has : List (List ℕ) → Bool = λ l. list_any (bytes_eq other) l in
     grown other
     ∙ ap (λ b. bytes_eq other (folded field.name) || b) (late other)
     ∙ or-comm (bytes_eq other (folded field.name)) (Has old)
     ∙ ap (λ b. Has old || b) (or-comm false (bytes_eq other (folded field.name)))
     ∙ sym (list_any-append (bytes_eq other) old (folded field.name ∷ []))
-    ∙ ap Has (sym (drop-append-le early_fields (folded_names fields) (folded field.name ∷ []) (omega (arith, length-map fields (λ (field : FieldText). folded field.name)))))
-    ∙ ap (λ (l : List (List ℕ)). Has (drop early_fields l)) (sym (names-push fields field))
+    ∙ ap Has (sym (drop-append-le EARLY_FIELDS (folded_names fields) (folded field.name ∷ []) (omega (arith, length-map fields (λ (field : FieldText). folded field.name)))))
+    ∙ ap (λ (l : List (List ℕ)). Has (drop EARLY_FIELDS l)) (sym (names-push fields field))

@@ -1,6 +1,7 @@
 -- Control text (Debian Policy 5.1): a text and its stanzas, each a list of fields.
-use Rattle.std.specs.Prelude.{◌≡◌, ℕ, List, [], ◌∷◌}
+use Rattle.std.specs.Prelude.{◌≡◌, ◌⊎◌, ℕ, List, [], ◌∷◌}
 use Rattle.dist_base.specs.Answers.{IsExact}
+use Rattle.dist_control.specs.declared.error.ControlError.{ControlError}
 use Rattle.dist_control.specs.declared.field_list.Stanza.{Stanza}
 use Rattle.dist_control.specs.Faults.{IsSound, HasFault}
 use Rattle.dist_control.specs.Fields.{fields_from}
@@ -26,3 +27,12 @@ ControlText text stanzas = AreReadings (raw_stanzas text) stanzas
 -- each raw stanza has exactly one reading, or exactly one first fault
 abbrev pub IsExactStanza : RawStanza → Type 0
 IsExactStanza raw = IsExact (IsReading raw) (HasFault raw)
+
+-- this is the first fault of the first stanza that has one
+abbrev pub HasFirstFault : List RawStanza → ControlError → Type 0
+HasFirstFault [] error = ⊥
+HasFirstFault (raw ∷ raws) error = HasFault raw error ⊎ (IsSound raw × HasFirstFault raws error)
+
+-- a text has exactly one list of stanzas, or exactly one first fault
+abbrev pub IsExactText : List ℕ → Type 0
+IsExactText text = IsExact (ControlText text) (HasFirstFault (raw_stanzas text))

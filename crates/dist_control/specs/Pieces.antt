@@ -4,10 +4,12 @@ use Rattle.std.specs.List.{list_any, flat_map, after_first}
 use Rattle.std.specs.Str.{bytes_eq}
 use Rattle.dist_control.specs.Bytes.{line_feed, is_colon, is_blank, is_continuation, is_field_name}
 use Rattle.dist_control.specs.declared.error.ControlError.{ControlError}
+use Rattle.dist_control.specs.declared.field_list.TheConstants.{EARLY_FIELDS}
+use Rattle.dist_control.specs.declared.marks.TheConstants.{MARKS}
 use Rattle.dist_control.specs.Faults.{line_fault, IsSound}
 use Rattle.dist_control.specs.FieldText.{FieldText}
 use Rattle.dist_control.specs.Fields.{name_of, folded, field_spelled, fields_from}
-use Rattle.dist_control.specs.Lines.{lines}
+use Rattle.dist_control.specs.Lines.{lines, IsCutAtLine}
 use Rattle.dist_control.specs.RawStanza.{RawStanza, run, raw_stanzas_from}
 
 -- the next of these lines, if there is one, is not blank
@@ -34,10 +36,6 @@ EndsField (line ∷ rest) = is_continuation line ≡ false
 abbrev pub AreContinuations : List (List ℕ) → Type 0
 AreContinuations [] = Unit {0}
 AreContinuations (line ∷ rest) = (is_continuation line ≡ true) × (is_blank line ≡ false) × AreContinuations rest
-
--- a first line and what comes after its line feed, or a last line that has none
-abbrev pub IsCutAtLine : (text line after : List ℕ) → Type 0
-IsCutAtLine text line after = (text ≡ line ++ line_feed ∷ after) ⊎ ((text ≡ line) × (after ≡ []))
 
 -- a text begins with a blank line, and this comes after it
 pub record IsBlankBefore (text after : List ℕ) : Type 0 where
@@ -115,10 +113,6 @@ pub record ReadsFields (number : ℕ) (text : List ℕ) (fields : List FieldText
   pub stanzas : raw_stanzas_from next true (lines after) ≡ raw_stanzas_from number false (lines text)
   pub room : next + length after < 2 ^ 64
 
--- how many fields are looked through one by one
-abbrev pub early_fields : ℕ
-early_fields = 24
-
 -- the names of fields, in lower case
 abbrev pub folded_names : List FieldText → List (List ℕ)
 folded_names fields = map (λ field. folded field.name) fields
@@ -126,11 +120,11 @@ folded_names fields = map (λ field. folded field.name) fields
 -- the names of the fields after the early ones are these, in lower case
 abbrev pub AreLateNames : List FieldText → List (List ℕ) → Type 0
 AreLateNames fields names =
-    (name : List ℕ) → list_any (bytes_eq name) names ≡ list_any (bytes_eq name) (drop early_fields (folded_names fields))
+    (name : List ℕ) → list_any (bytes_eq name) names ≡ list_any (bytes_eq name) (drop EARLY_FIELDS (folded_names fields))
 
 -- the mark of a name in lower case: of its first byte, its last and its length
 abbrev pub mark_of : List ℕ → ℕ
-mark_of name = (3 * get_or name 0 0 + 5 * get_or name (length name - 1) 0 + length name % 64) % 64
+mark_of name = (3 * get_or name 0 0 + 5 * get_or name (length name - 1) 0 + length name % MARKS) % MARKS
 
 -- the marks of the names of these fields are all set
 abbrev pub AreSet : List Bool → List FieldText → Type 0
@@ -139,5 +133,5 @@ AreSet marks (field ∷ fields) = (get_or marks (mark_of (folded field.name)) fa
 
 -- a table of marks in which those of the names of these fields are set
 pub record AreMarked (marks : List Bool) (fields : List FieldText) : Type 0 where
-  pub size : length marks ≡ 64
+  pub size : length marks ≡ MARKS
   pub set : AreSet marks fields

@@ -1,7 +1,7 @@
 //! One field: its field line, its continuation lines, its name and its value.
 ghost use Rattle.std.specs.Prelude.{◌≡◌, ℕ, ◌+◌, ◌<◌, ◌^◌, List, [], ◌∷◌, ◌++◌, false, length, IsTrue, MatchOption, MatchResult};
 ghost use Rattle.std.specs.List.{list_any, list_all};
-ghost use Rattle.dist_control.specs.Bytes.{is_colon, is_name_byte, is_field_name, is_continuation, is_white};
+ghost use Rattle.dist_control.specs.Bytes.{space, line_feed, is_colon, is_name_byte, is_field_name, is_continuation, is_white};
 ghost use Rattle.dist_control.specs.Fields.{name_of, trim};
 ghost use Rattle.dist_control.specs.FieldText.{field_text};
 ghost use Rattle.dist_control.specs.Lines.{lines};
@@ -26,7 +26,7 @@ fn is_white(byte: u8) -> bool
 
 /// Whether a text is not empty and has no white space at its ends.
 fn is_trimmed(text: &[u8]) -> bool
-    ensures { IsTrue result → trim (32 ∷ (text.now ++ 10 ∷ [])) ≡ text.now }
+    ensures { IsTrue result → trim (space ∷ (text.now ++ line_feed ∷ [])) ≡ text.now }
 {
     match (text.first(), text.last()) {
         (Some(first), Some(last)) => !is_white(*first) && !is_white(*last),

@@ -26,7 +26,7 @@ pub struct Field<'a> {
 /// The fields of a stanza, in the order of the text.
 #[derive(Drop)]
 pub struct Fields<'a> {
-    items: SmallVec<Field<'a>, 24>,
+    items: SmallVec<Field<'a>, EARLY_FIELDS>,
     /// The marks of their names: a name whose mark is not here is none of theirs, and they are not looked through for it.
     marks: [bool; MARKS],
 }
@@ -67,7 +67,7 @@ fn field_named<'f, 'a>(fields: &'f [Field<'a>], name: &[u8]) -> Option<&'f Field
 
 /// The early ones of these fields.
 fn early<'f, 'a>(fields: &'f [Field<'a>]) -> &'f [Field<'a>]
-    ensures { result.now ≡ take early_fields fields.now }
+    ensures { result.now ≡ take EARLY_FIELDS fields.now }
 {
     if fields.len() < EARLY_FIELDS {
         fields
@@ -79,8 +79,8 @@ fn early<'f, 'a>(fields: &'f [Field<'a>]) -> &'f [Field<'a>]
 impl<'a> Fields<'a> {
     ghost use Rattle.std.specs.Prelude.{false};
     ghost use Rattle.dist_control.specs.FieldText.{field_text};
-    ghost use Rattle.dist_control.specs.Pieces.{early_fields};
 
+    /// No fields.
     pub(crate) fn new(alloc: Global) -> Fields<'a>
         ensures { result ≡ [] }
     {
@@ -90,6 +90,7 @@ impl<'a> Fields<'a> {
         }
     }
 
+    /// Adds a field, and sets its name's mark.
     pub(crate) fn push(&mut self, field: Field<'a>) -> Result<(), AllocError>
         ensures ok { OnOk result (self.new ≡ self.old ++ field_text field.entry ∷ []) }
     {
@@ -108,7 +109,7 @@ impl<'a> Fields<'a> {
 
     /// Whether one of the early fields has this name.
     fn has_early_name(&self, name: &[u8]) -> bool
-        ensures { result ≡ list_any (λ field. is_same_name name.now field.name) (take early_fields self.now) }
+        ensures { result ≡ list_any (λ field. is_same_name name.now field.name) (take EARLY_FIELDS self.now) }
     {
         self.may_have(name) && field_named(early(self.items.as_slice()), name).is_some()
     }
@@ -153,7 +154,7 @@ impl<'a> Stanza<'a> {
 }
 
 ghost use Rattle.dist_control.specs.FieldText.{field_text};
-ghost use Rattle.dist_control.specs.Pieces.{AreLateNames, early_fields};
+ghost use Rattle.dist_control.specs.Pieces.{AreLateNames};
 
 /// Adds a field, or finds that an earlier one has its name. Late names are those after the early fields.
 pub(crate) fn add_field<'a>(

@@ -16,6 +16,6 @@ mod reader;
 pub use error::ControlError;
 pub use field::trimmed;
 pub use field_list::{Field, Fields, Stanza};
-pub use laws::{one_reading_or_fault, values_take_bytes};
+pub use laws::{one_list_or_fault, one_reading_or_fault, values_take_bytes};
 pub use line::split_line;
 pub use reader::Stanzas;

@@ -21,7 +21,7 @@ fn lowered(byte: Option<&u8>) -> usize
 /// The mark of a name, ASCII case apart. Of the names that the stanzas of an archive have hardly two share one.
 pub(crate) fn mark_of(name: &[u8]) -> usize
     ensures mark { result ≡ mark_of (folded name.now) }
-    ensures within { result < 64 }
+    ensures within { result < MARKS }
 {
     (3 * lowered(name.first()) + 5 * lowered(name.last()) + name.len() % MARKS) % MARKS
 }

@@ -32,6 +32,7 @@ fn lowered(alloc: Global, name: &[u8]) -> Result<Vec<u8>, AllocError>
 }
 
 impl NameSet {
+    /// No names.
     pub(crate) fn new(alloc: Global) -> NameSet
         ensures { result ≡ [] }
     {

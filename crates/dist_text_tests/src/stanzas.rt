@@ -1,7 +1,7 @@
 //! Texts, and what is read of them.
 use dist_control::{
-    ControlError, Field, Stanza, Stanzas, one_reading_or_fault, split_line, trimmed,
-    values_take_bytes,
+    ControlError, Field, Stanza, Stanzas, one_list_or_fault, one_reading_or_fault, split_line,
+    trimmed, values_take_bytes,
 };
 use std::alloc::{AllocError, Global};
 use std::process::Abort;
@@ -264,5 +264,6 @@ fn values_are_trimmed(rt: HostRuntime) {
 #[test]
 fn the_laws_hold() {
     one_reading_or_fault();
+    one_list_or_fault();
     values_take_bytes();
 }

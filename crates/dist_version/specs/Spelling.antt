@@ -18,6 +18,10 @@ tilde = 126
 abbrev pub plus : ℕ
 plus = 43
 
+-- the digit 0
+abbrev pub digit_zero : ℕ
+digit_zero = 48
+
 -- the byte stands somewhere in the bytes
 abbrev pub has : ℕ → List ℕ → Bool
 has byte bytes = list_any (λ b. b == byte) bytes

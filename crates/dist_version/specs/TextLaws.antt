@@ -7,6 +7,7 @@ use Rattle.std.specs.Str.Parse.{digits_value}
 use Rattle.std.proofs.lemmas.Bool.{false≢true, and_parts, and_from, or_parts, or_from, false_from_ne_true, cases_Bool}
 use Rattle.std.proofs.lemmas.Iterator.Adapters.{position_from-zero}
 use Rattle.dist_base.specs.Answers.{IsExact}
+use Rattle.dist_version.specs.declared.TheConstants.{MAX_EPOCH}
 use Rattle.dist_version.specs.declared.error.VersionError.{VersionError}
 use Rattle.dist_version.specs.declared.error.VersionError.TheVariants.{NoMemory, BadEpoch, EpochTooLarge, BadByte}
 use Rattle.dist_version.specs.Spelling.{ReadsVersion, colon, hyphen, has, is_upstream_byte, is_revision_byte, IsMadeOf, Parts, Spells, SpellsEpoch, revision_text, IsVersion, split_once, rsplit_once, epoch_digits, after_epoch, epoch_of, upstream_of, revision_of, parts_of}
@@ -35,9 +36,9 @@ revised_lacks : (upstream : List ℕ) (revision : Option (List ℕ)) → has col
 revised_lacks upstream None h made = lacks-append colon upstream [] h refl
 revised_lacks upstream (Some r) h made = lacks-append colon upstream (hyphen ∷ r) h (lacks colon is_revision_byte r refl made.1)
 
-pub epoch_fault-none : (ds : List ℕ) → IsMadeOf is_ascii_digit ds → digits_value 10 ds ≤ 2147483647 → epoch_fault ds ≡ None
+pub epoch_fault-none : (ds : List ℕ) → IsMadeOf is_ascii_digit ds → digits_value 10 ds ≤ MAX_EPOCH → epoch_fault ds ≡ None
 epoch_fault-none [] made small = absurd (omega (arith, made.0))
-epoch_fault-none (d ∷ ds) made small = rw (made.1, le-ltb 2147483647 (digits_value 10 (d ∷ ds)) small) refl
+epoch_fault-none (d ∷ ds) made small = rw (made.1, le-ltb MAX_EPOCH (digits_value 10 (d ∷ ds)) small) refl
 
 some-none : {A : Type 0} (x : A) → Some x ≡ None → ⊥
 some-none x e = cc
@@ -47,20 +48,15 @@ chosen true true e = absurd (some-none _ e)
 chosen true false e = (refl, refl)
 chosen false large e = absurd (some-none _ e)
 
-pub epoch_fault-none_is : (ds : List ℕ) → epoch_fault ds ≡ None → IsMadeOf is_ascii_digit ds × (digits_value 10 ds ≤ 2147483647)
+pub epoch_fault-none_is : (ds : List ℕ) → epoch_fault ds ≡ None → IsMadeOf is_ascii_digit ds × (digits_value 10 ds ≤ MAX_EPOCH)
 epoch_fault-none_is [] e = absurd (some-none _ e)
 epoch_fault-none_is (d ∷ ds) e =
-    let p = chosen (list_all is_ascii_digit (d ∷ ds)) (nat_lt 2147483647 (digits_value 10 (d ∷ ds))) e in
-    ((omega arith, p.0), ltb-false 2147483647 (digits_value 10 (d ∷ ds)) p.1)
+    let p = chosen (list_all is_ascii_digit (d ∷ ds)) (nat_lt MAX_EPOCH (digits_value 10 (d ∷ ds))) e in
+    ((omega arith, p.0), ltb-false MAX_EPOCH (digits_value 10 (d ∷ ds)) p.1)
 
-pub epoch_fault-bad : (ds : List ℕ) → (length ds ≡ 0) ⊎ (list_all is_ascii_digit ds ≡ false) → epoch_fault ds ≡ Some BadEpoch
-epoch_fault-bad [] h = refl
-epoch_fault-bad (d ∷ ds) (inl h) = absurd (omega (arith, h))
-epoch_fault-bad (d ∷ ds) (inr h) = rw h refl
-
-pub epoch_fault-large : (ds : List ℕ) → 0 < length ds → list_all is_ascii_digit ds ≡ true → 2147483647 < digits_value 10 ds → epoch_fault ds ≡ Some EpochTooLarge
+pub epoch_fault-large : (ds : List ℕ) → 0 < length ds → list_all is_ascii_digit ds ≡ true → MAX_EPOCH < digits_value 10 ds → epoch_fault ds ≡ Some EpochTooLarge
 epoch_fault-large [] some all large = absurd (omega arith)
-epoch_fault-large (d ∷ ds) some all large = rw (all, lt-ltb 2147483647 (digits_value 10 (d ∷ ds)) large) refl
+epoch_fault-large (d ∷ ds) some all large = rw (all, lt-ltb MAX_EPOCH (digits_value 10 (d ∷ ds)) large) refl
 
 -- ---- the epoch's colon
 
@@ -82,7 +78,7 @@ pub without_colon : (text : List ℕ) → split_once colon text ≡ None → Sta
 unfolding after_epoch epoch_of epoch_digits
 without_colon text e = record { rest = rw e refl; epoch = rw e refl; fault = rw e refl }
 
-starts_with : (text front after : List ℕ) (value : ℕ) → text ≡ front ++ after → SpellsEpoch front value → value ≤ 2147483647 → (front ≡ [] → has colon after ≡ false) → StartsWith text after value
+starts_with : (text front after : List ℕ) (value : ℕ) → text ≡ front ++ after → SpellsEpoch front value → value ≤ MAX_EPOCH → (front ≡ [] → has colon after ≡ false) → StartsWith text after value
 starts_with text front after value whole (inl w) small none =
     let cut : split_once colon text ≡ Some (w.0, after) = rw (whole, w.1, append_assoc) (split_once-at colon w.0 after (lacks colon is_ascii_digit w.0 refl w.2.1)) in
     rw (← w.3) (with_colon text w.0 after cut (epoch_fault-none w.0 w.2 (rw w.3 small)))
@@ -221,7 +217,7 @@ record Epoch (text : List ℕ) : Type 0 where
   value : ℕ
   whole : text ≡ front ++ after
   spelled : SpellsEpoch front value
-  small : value ≤ 2147483647
+  small : value ≤ MAX_EPOCH
   lacking : front ≡ [] → has colon after ≡ false
   start : StartsWith text after value
 
@@ -326,7 +322,7 @@ epoch_fault-other : (o : Option (List ℕ)) → option_map_or epoch_fault o None
 epoch_fault-other None = λ e. cc
 epoch_fault-other (Some []) = λ e. cc
 epoch_fault-other (Some (d ∷ ds)) = elim (cases_Bool (list_all is_ascii_digit (d ∷ ds))) [
-  | inl all ↦ elim (cases_Bool (nat_lt 2147483647 (digits_value 10 (d ∷ ds)))) [
+  | inl all ↦ elim (cases_Bool (nat_lt MAX_EPOCH (digits_value 10 (d ∷ ds)))) [
     | inl large ↦ rw (all, large) (λ e. cc)
     | inr small ↦ rw (all, small) (λ e. cc)
   ]

@@ -4,6 +4,7 @@ ghost use Rattle.std.specs.Char.{is_ascii_digit};
 ghost use Rattle.std.specs.List.{list_all, prefix_len};
 ghost use Rattle.std.specs.Ordering.{nat_cmp, ordering_then};
 ghost use Rattle.std.specs.Str.Parse.{digits_value};
+ghost use Rattle.dist_version.specs.Spelling.{digit_zero};
 ghost use Rattle.dist_version.specs.Order.{weight_of, weight_at, text_start, digit_start, after_text, after_turn, weights_cmp, part_cmp};
 
 use std::cmp::Ordering;
@@ -82,7 +83,7 @@ fn compare_texts(a: &[u8], b: &[u8]) -> Ordering
 
 /// How many zeros stand at the start.
 fn zeros_len(digits: &[u8]) -> usize
-    ensures value { result ≡ prefix_len (λ digit. digit == 48) digits.now }
+    ensures value { result ≡ prefix_len (λ digit. digit == digit_zero) digits.now }
     ensures within { result ≤ length digits.now }
 {
     digits.iter().take_while(|digit| **digit == b'0').count()
@@ -90,7 +91,7 @@ fn zeros_len(digits: &[u8]) -> usize
 
 /// The digits without the zeros that they begin with.
 fn without_zeros(digits: &[u8]) -> &[u8]
-    ensures { result.now ≡ drop (prefix_len (λ digit. digit == 48) digits.now) digits.now }
+    ensures { result.now ≡ drop (prefix_len (λ digit. digit == digit_zero) digits.now) digits.now }
 {
     &digits[zeros_len(digits)..]
 }
