@@ -1,3 +1,4 @@
 pub mod Counting
+pub mod Limits
 pub mod LinesRead
 pub mod Spaces

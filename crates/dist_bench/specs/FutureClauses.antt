@@ -12,9 +12,17 @@ use Rattle.dist_bench.specs.declared.error.JobError.{JobError}
 use Rattle.dist_bench.specs.declared.error.JobError.TheVariants.{TooManyClauses}
 use Rattle.dist_bench.specs.declared.future_clauses.SetCounts.{SetCounts}
 
+abbrev pub PassesFutureLimits : SpaceView → Type 0
+PassesFutureLimits space = PassesClauses space MAX_CLAUSES MAX_LITERALS ⊎ PassesLiterals space MAX_CLAUSES MAX_LITERALS
+
+-- the clauses of a space, which pass no stated limit
+pub record AreFutureWithin (space : SpaceView) (clauses : List (List Literal)) : Type 0 where
+  pub are : AreSpaceClauses space clauses
+  pub within : ¬ PassesFutureLimits space
+
 -- so many clauses the space has, and so many literals they have together
 abbrev pub HaveFutureCounts : (text : List ℕ) → SetCounts → Type 0
-HaveFutureCounts text counts = OfSpace text (λ space. (clauses : List (List Literal)) × AreSpaceClauses space clauses
+HaveFutureCounts text counts = OfSpace text (λ space. (clauses : List (List Literal)) × AreFutureWithin space clauses
     × (counts.clauses ≡ length clauses) × (counts.literals ≡ literal_count clauses))
 
 abbrev pub future_counts_text : SetCounts → List ℕ
@@ -23,9 +31,6 @@ future_counts_text counts = counted counts.clauses (codes " clauses of futures, 
 -- the answer of `count-future-clauses`, and why it has none
 abbrev pub IsFutureClausesText : (text answer : List ℕ) → Type 0
 IsFutureClausesText text answer = (counts : SetCounts) × HaveFutureCounts text counts × (answer ≡ future_counts_text counts)
-
-abbrev pub PassesFutureLimits : SpaceView → Type 0
-PassesFutureLimits space = PassesClauses space MAX_CLAUSES MAX_LITERALS ⊎ PassesLiterals space MAX_CLAUSES MAX_LITERALS
 
 abbrev pub HasNoFutureClauses : (text : List ℕ) → JobError → Type 0
 HasNoFutureClauses text error = HasNoSpace text error ⊎ ((error ≡ TooManyClauses) × OfSpace text PassesFutureLimits)

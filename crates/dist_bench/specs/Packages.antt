@@ -42,11 +42,16 @@ IsPackagesText text answer = OfFile text (λ r. answer ≡ counted (length r.pac
 
 -- ---- the answer of `count-clauses`, at mode plain, and why it has none
 
-abbrev pub IsClausesText : (text answer : List ℕ) → Type 0
-IsClausesText text answer = OfFile text (λ r. (clauses : List (List Literal)) × ArePresentClauses r false clauses × (answer ≡ counted (length clauses) (codes " clauses\n")))
-
 abbrev pub PassesPresentLimits : PackageList → Type 0
 PassesPresentLimits r = PassesClauses r false MAX_CLAUSES MAX_LITERALS ⊎ PassesLiterals r false MAX_CLAUSES MAX_LITERALS
+
+-- the clauses of the present of a repository, which pass no stated limit
+pub record ArePresentWithin (r : PackageList) (clauses : List (List Literal)) : Type 0 where
+  pub are : ArePresentClauses r false clauses
+  pub within : ¬ PassesPresentLimits r
+
+abbrev pub IsClausesText : (text answer : List ℕ) → Type 0
+IsClausesText text answer = OfFile text (λ r. (clauses : List (List Literal)) × ArePresentWithin r clauses × (answer ≡ counted (length clauses) (codes " clauses\n")))
 
 abbrev pub HasNoClauses : (text : List ℕ) → JobError → Type 0
 HasNoClauses text error = HasNoPackages text error ⊎ ((error ≡ TooManyClauses) × OfFile text PassesPresentLimits)

@@ -2,8 +2,7 @@
 ghost use Rattle.std.specs.Prelude.{◌≡◌, ◌≤◌, IfOk, length};
 ghost use Rattle.dist_base.specs.Answers.{Answers};
 ghost use Rattle.dist_clause.specs.ClauseList.{clause_at, literal_count};
-ghost use Rattle.dist_space_clauses.specs.SpaceClauses.{AreSpaceClauses};
-ghost use Rattle.dist_bench.specs.FutureClauses.{HasNoFutureClauses, HaveFutureCounts, IsFutureClausesText, PassesFutureLimits, future_counts_text};
+ghost use Rattle.dist_bench.specs.FutureClauses.{AreFutureWithin, HasNoFutureClauses, HaveFutureCounts, IsFutureClausesText, PassesFutureLimits, future_counts_text};
 
 use crate::counted::{add_counted, counted};
 use crate::error::JobError;
@@ -16,7 +15,7 @@ use std::alloc::{AllocError, Global};
 
 /// The clauses of a space.
 fn space_clauses(alloc: Global, space: &Space) -> Result<ClauseSet, JobError>
-    ensures { Answers (λ set. AreSpaceClauses space.now set.clauses) (λ error. (error ≡ JobError.TooManyClauses) × PassesFutureLimits space.now)
+    ensures { Answers (λ set. AreFutureWithin space.now set.clauses) (λ error. (error ≡ JobError.TooManyClauses) × PassesFutureLimits space.now)
         JobError.NoMemory result }
 {
     match clauses_of(alloc, space, MAX_CLAUSES, MAX_LITERALS) {

@@ -2,9 +2,8 @@
 ghost use Rattle.std.specs.Prelude.{◌≡◌, ◌⊎◌, ◌++◌, ◌<◌, false, IfOk, codes, length};
 ghost use Rattle.dist_base.specs.Answers.{Answers};
 ghost use Rattle.dist_classes.specs.Answers.{AreClustersOf};
-ghost use Rattle.dist_now.specs.PresentClauses.{ArePresentClauses};
 ghost use Rattle.dist_repo.specs.Size.{IsWithinSize};
-ghost use Rattle.dist_bench.specs.Packages.{HasNoClauses, HasNoPackages, HaveClasses, IsClassesText, IsClausesText, IsFileOf, IsNewestOf, IsPackagesText, OfNewest, PassesPresentLimits};
+ghost use Rattle.dist_bench.specs.Packages.{ArePresentWithin, HasNoClauses, HasNoPackages, HaveClasses, IsClassesText, IsClausesText, IsFileOf, IsNewestOf, IsPackagesText, OfNewest, PassesPresentLimits};
 
 use crate::counted::{add_counted, counted};
 use crate::error::JobError;
@@ -55,7 +54,7 @@ pub fn packages_text(alloc: Global, text: &[u8]) -> Result<Vec<u8>, JobError>
 /// The clauses of the present, at mode plain.
 fn present_clauses(alloc: Global, repository: &Repository) -> Result<ClauseSet, JobError>
     requires { IsWithinSize repository.now }
-    ensures { Answers (λ set. ArePresentClauses repository.now false set.clauses) (λ error. (error ≡ JobError.TooManyClauses) × PassesPresentLimits repository.now)
+    ensures { Answers (λ set. ArePresentWithin repository.now set.clauses) (λ error. (error ≡ JobError.TooManyClauses) × PassesPresentLimits repository.now)
         JobError.NoMemory result }
 {
     match clauses_of(alloc, repository, false, MAX_CLAUSES, MAX_LITERALS) {

@@ -1,0 +1,15 @@
+use Rattle.std.proofs.Common.{⊎_elim}
+use Rattle.dist_base.specs.declared.TheConstants.{MAX_CLAUSES, MAX_LITERALS}
+use Rattle.dist_clause.specs.declared.clause_set.PushError.TheVariants.{TooManyClauses, TooManyLiterals, NoMemory}
+use Rattle.dist_space_clauses.specs.SpaceSet.{PassesClauses, PassesLiterals}
+use Rattle.dist_bench.proofs.Limits.{without-cause}
+use Rattle.dist_bench.proofs.future_clauses.space_clauses.Goals as goal
+
+pub returns-in-Ok : goal.returns-in-Ok
+returns-in-Ok c = record {
+  are = c.in-Ok.ensures.ok.clauses;
+  within = λ passes. ⊎_elim
+      (without-cause c.in-Ok.set NoMemory TooManyClauses (PassesClauses c.args.space.now MAX_CLAUSES MAX_LITERALS) c.in-Ok.ensures.too_many_clauses)
+      (without-cause c.in-Ok.set NoMemory TooManyLiterals (PassesLiterals c.args.space.now MAX_CLAUSES MAX_LITERALS) c.in-Ok.ensures.too_many_literals)
+      passes;
+}
