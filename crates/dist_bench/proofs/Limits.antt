@@ -1,5 +1,5 @@
 -- What an answer that is no error says of the limits.
-use Rattle.std.proofs.Common.{◌≢◌, Result, Ok, Err}
+use Rattle.std.proofs.Common.{◌≢◌, Ok, Err}
 use Rattle.dist_base.specs.Answers.{IsExactly}
 
 no-error : {X E : Type 0} (x : X) (error : E) → Ok x ≢ Err error
