@@ -3,6 +3,7 @@ use Rattle.std.proofs.Common.{◌≡◌, ◌⊎◌, ◌↔◌, ℕ, zero, suc, �
 use Rattle.std.specs.Prelude.{Any, Contains, IsSomeAnd, slice_index, if◌then◌else◌}
 use Rattle.std.specs.Ordering.{is_eq}
 use Rattle.std.proofs.lemmas.Option.{get_or_from_slice_get, slice_get_within}
+use Rattle.dist_base.specs.ListLaws.{any-at, any-cases, any-head, at-has, contains-at, found-at, has-at, here-at}
 use Rattle.dist_version.specs.Order.{version_cmp, IsBelow}
 use Rattle.dist_version.specs.Spelling.{IsVersion}
 use Rattle.dist_relation.specs.declared.atom.Atom.{Atom}
@@ -18,7 +19,6 @@ use Rattle.dist_classes.specs.declared.class_value.Class.{Class}
 use Rattle.dist_space.specs.Space.{IsExample, IsMatched, IsMeaning, IsFrame, MeetsBound, SpaceView, example_at, fresh_classes, member_classes, moved_entry, moved_version}
 use Rattle.dist_future.specs.Stands.{fresh_package}
 use Rattle.dist_space.specs.declared.meaning.Meaning.TheVariants.{New, Kept, Fresh}
-use Rattle.dist_space.specs.ListLaws.{any-at, any-cases, any-head, at-has, contains-at, found-at, here-at, has-at}
 use Rattle.dist_future.proofs.VersionOrder.{equal-itself}
 use Rattle.dist_space.specs.ClusterLaws.{HasCluster}
 

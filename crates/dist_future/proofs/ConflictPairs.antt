@@ -4,20 +4,20 @@ use Rattle.std.specs.Prelude.{Any, IsSomeAnd, MatchOption}
 use Rattle.std.specs.Option.{option_map}
 use Rattle.std.proofs.lemmas.Bool.{cases_lt}
 use Rattle.std.proofs.lemmas.Option.{same_Some, slice_get_within}
+use Rattle.dist_base.specs.Least.{IsAtMost, IsLeast, IsLeastPairIfAny, IsLesserPair}
+use Rattle.dist_base.specs.ListLaws.{any-contained, any-more, at-has, contains-at, element-at, has-at, here-at, within-from}
 use Rattle.dist_relation.specs.declared.atom.Atom.{Atom}
 use Rattle.dist_repo.specs.Conflict.{AreInConflict}
 use Rattle.dist_repo.specs.Match.{IsUsable, Matches}
 use Rattle.dist_repo.specs.PackageList.{IsPackageAnd}
 use Rattle.dist_repo.specs.declared.package.Package.{Package}
 use Rattle.dist_future.specs.FutureHealth.{AreConflicting, Holds}
-use Rattle.dist_future.specs.Least.{IsAtMost, IsLeast, IsLeastPairIfAny}
-use Rattle.dist_future.specs.Matching.{IsLesserPair, IsOther, IsRejectedFrom}
+use Rattle.dist_future.specs.Matching.{IsOther, IsRejectedFrom}
 use Rattle.dist_space.specs.Space.{IsMatched, IsMeaning, IsMetBy, IsSpace, SpaceView, variable_of}
 use Rattle.dist_space_clauses.specs.SpaceClauses.{Excludes}
 use Rattle.dist_space.specs.declared.meaning.Meaning.{Meaning}
 use Rattle.dist_space.specs.declared.meaning.Meaning.TheVariants.{Now, Present, At, New, Kept, Fresh}
 use Rattle.dist_space.specs.VariableLaws.{one-meaning, variable-range}
-use Rattle.dist_space.specs.ListLaws.{any-contained, any-more, at-has, contains-at, element-at, has-at, here-at, within-from}
 use Rattle.dist_space.specs.ClusterLaws.{names-apart}
 use Rattle.dist_future.proofs.VariableOrder.{key-less}
 

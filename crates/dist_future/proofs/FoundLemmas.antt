@@ -3,6 +3,8 @@ use Rattle.std.proofs.Common.{◌≡◌, ◌≢◌, ◌⊎◌, ℕ, ◌<◌, ◌
 use Rattle.std.specs.Prelude.{Contains, IsSomeAnd}
 use Rattle.std.proofs.lemmas.Bool.{false≢true}
 use Rattle.std.proofs.lemmas.List.{get_or_default}
+use Rattle.dist_base.specs.Least.{IsLeast, IsLeastIfAny}
+use Rattle.dist_base.specs.ListLaws.{any-at, at-has, at-more, contains-at, has-at, here-at, within-from}
 use Rattle.dist_clause.specs.Formula.{value_of}
 use Rattle.dist_relation.specs.declared.atom.Atom.{Atom}
 use Rattle.dist_relation.specs.declared.atom.Provide.{Provide}
@@ -12,14 +14,12 @@ use Rattle.dist_repo.specs.Providers.{AreProviders, IsProvider}
 use Rattle.dist_repo.specs.declared.package.Package.{Package}
 use Rattle.dist_future.specs.FutureHealth.{Holds}
 use Rattle.dist_space_clauses.specs.Gathering.{IsFresh, IsLaterOf, IsOfVersion}
-use Rattle.dist_future.specs.Least.{IsLeast, IsLeastIfAny}
 use Rattle.dist_future.specs.Matching.{IsFound, IsLesserOf, IsMovedBut, IsOther, IsPresentBut}
 use Rattle.dist_space.specs.Space.{IsMatchedBy, IsMeaning, IsSpace, MeetsBound, SpaceView, example_at, fresh_classes, member_classes, moved_entry, variable_of}
 use Rattle.dist_future.specs.SpaceLaws.{holds_under}
 use Rattle.dist_space.specs.declared.meaning.Meaning.{Meaning}
 use Rattle.dist_space.specs.declared.meaning.Meaning.TheVariants.{Now, Present, At, New, Kept, Fresh}
 use Rattle.dist_future.proofs.Leasts.{Before, least-shift, least-two}
-use Rattle.dist_space.specs.ListLaws.{any-at, at-has, at-more, contains-at, has-at, here-at, within-from}
 use Rattle.dist_future.proofs.VariableOrder.{key-less}
 
 -- what a test of a variable tells

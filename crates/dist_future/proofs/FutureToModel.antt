@@ -4,6 +4,7 @@ use Rattle.std.specs.Prelude.{All, AllPairs, Any, Contains, IsSomeAnd, filter, s
 use Rattle.std.specs.Option.{option_map}
 use Rattle.std.proofs.lemmas.List.Elements.{All-contains, All-filter, All-map}
 use Rattle.std.proofs.lemmas.Option.{same_Some, slice_get_within}
+use Rattle.dist_base.specs.ListLaws.{all-contained, any-at, any-contained, at-has, contains-at, element-at, found-at, FoundAt, has-at, here-at, pair-from, place-of, within-from}
 use Rattle.dist_relation.specs.declared.atom.Atom.{Atom}
 use Rattle.dist_repo.specs.Conflict.{AreInConflict}
 use Rattle.dist_repo.specs.Healthy.{IsMet, required_names}
@@ -25,7 +26,6 @@ use Rattle.dist_space.specs.declared.meaning.Meaning.TheVariants.{Now, Present, 
 use Rattle.dist_future.proofs.ClassMatch.{ClassLaws, IsMemberAt, fresh-at, from-fresh, from-kept, from-new, member-at, to-fresh, to-new}
 use Rattle.dist_space_clauses.specs.DecidedLaws.{IsDecided, any-decided, text-decided}
 use Rattle.dist_future.proofs.DemandLemmas.{AreMet, IsMetIn}
-use Rattle.dist_space.specs.ListLaws.{FoundAt, all-contained, any-at, element-at, any-contained, at-has, contains-at, found-at, has-at, here-at, pair-from, place-of, within-from}
 use Rattle.dist_space.specs.ClusterLaws.{has-cluster, names-apart}
 use Rattle.dist_future.proofs.SpaceLemmas.{never-at, one-of-name, fresh-class}
 use Rattle.dist_future.proofs.VersionOrder.{equal-back}

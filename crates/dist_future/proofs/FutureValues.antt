@@ -4,6 +4,7 @@ use Rattle.std.specs.Prelude.{Any, Contains, IsSomeAnd, slice_index}
 use Rattle.std.proofs.lemmas.Bool.{cases_lt}
 use Rattle.std.proofs.lemmas.List.{length-map}
 use Rattle.std.proofs.lemmas.Option.{same_Some}
+use Rattle.dist_base.specs.ListLaws.{any-contained}
 use Rattle.dist_version.specs.Order.{version_cmp}
 use Rattle.dist_clause.specs.Formula.{Literal, IsModel, value_of}
 use Rattle.dist_repo.specs.Equality.{package_eq, packages_decide}
@@ -21,7 +22,6 @@ use Rattle.dist_future.proofs.ClassMatch.{ClassLaws}
 use Rattle.dist_space_clauses.specs.DecidedLaws.{IsDecided, any-decided, text-decided}
 use Rattle.dist_future.proofs.DemandLemmas.{IsTrueMeaning, met-alike, model-from-met}
 use Rattle.dist_future.proofs.FutureToModel.{Holds, IsNamedIn, IsSeen, kept_of, met-by-future}
-use Rattle.dist_space.specs.ListLaws.{any-contained}
 use Rattle.dist_space.specs.VariableLaws.{value-at}
 
 -- ---- what is decided

@@ -3,11 +3,12 @@ use Rattle.std.proofs.Common.{◌≡◌, ℕ, ◌<◌, Bool, true, false, cond, 
 use Rattle.std.specs.Prelude.{Contains, IsSomeAnd, filter, slice_index}
 use Rattle.std.proofs.lemmas.Bool.{false≢true}
 use Rattle.std.proofs.lemmas.Option.{slice_get_within}
+use Rattle.dist_base.specs.Least.{IsAtMost, IsLeast, IsLeastPair, IsNoPair}
+use Rattle.dist_base.specs.ListLaws.{any-contained, at-has, contains-at, here-at, place-of}
 use Rattle.dist_relation.specs.declared.atom.Atom.{Atom}
 use Rattle.dist_repo.specs.Healthy.{required_names}
 use Rattle.dist_repo.specs.declared.package.Package.{Package}
 use Rattle.dist_future.specs.FutureHealth.{AreApart, AreConflicting, AreNoFuture, Holds, IsFutureHealth, IsMissing, IsUnmetAt, Needs, SomeHolds}
-use Rattle.dist_future.specs.Least.{IsAtMost, IsLeast, IsLeastPair, IsNoPair}
 use Rattle.dist_space.specs.Space.{IsMeaning, IsMetBy, IsSpace, SpaceView, cluster_classes, fresh_classes, variable_of}
 use Rattle.dist_space_clauses.specs.SpaceClauses.{Excludes, IsBearer}
 use Rattle.dist_future.specs.SpaceLaws.{holds_under}
@@ -18,7 +19,6 @@ use Rattle.dist_space.specs.declared.meaning.Meaning.TheVariants.{Now, Present, 
 use Rattle.dist_space_clauses.specs.DecidedLaws.{IsDecided, any-decided, both-decided, bearer-decided, met-decided}
 use Rattle.dist_future.proofs.DemandLemmas.{AreMet, IsMetIn, IsTrueMeaning}
 use Rattle.dist_space_clauses.specs.ItemLaws.{item-at}
-use Rattle.dist_space.specs.ListLaws.{any-contained, at-has, contains-at, here-at, place-of}
 use Rattle.dist_future.proofs.NoFutureLemmas.{new-of}
 use Rattle.dist_space.specs.RisingLaws.{contains-cons, contains-first, contains-later, in-map, map-in}
 

@@ -4,6 +4,8 @@ use Rattle.std.specs.Prelude.{All, Any, Contains, IsSomeAnd, slice_index}
 use Rattle.std.specs.Option.{option_map}
 use Rattle.std.proofs.lemmas.List.Elements.{All-contains}
 use Rattle.std.proofs.lemmas.Option.{slice_get_within}
+use Rattle.dist_base.specs.Least.{IsNoPair}
+use Rattle.dist_base.specs.ListLaws.{any-at, at-has, contains-at, element-at, found-at, has-at, here-at, place-of}
 use Rattle.dist_relation.specs.declared.atom.Atom.{Atom}
 use Rattle.dist_relation.specs.declared.atom.Provide.{Provide}
 use Rattle.dist_repo.specs.Conflict.{AreInConflict}
@@ -16,7 +18,6 @@ use Rattle.dist_classes.specs.ClassList.{IsOfClassAt}
 use Rattle.dist_classes.specs.NewVersion.{IsNewVersionOf}
 use Rattle.dist_future.specs.FutureHealth.{AreNoFuture}
 use Rattle.dist_future.specs.HealthLaws.{IsHealthyIn, StandsForHealthy}
-use Rattle.dist_future.specs.Least.{IsNoPair}
 use Rattle.dist_future.specs.Outdated.{IsInstallationOf}
 use Rattle.dist_space.specs.Space.{IsMatched, IsMeaning, IsMetBy, IsSpace, MeetsBound, SpaceView, example_at, fresh_classes, member_classes}
 use Rattle.dist_space_clauses.specs.SpaceClauses.{Excludes, IsBearer}
@@ -28,7 +29,6 @@ use Rattle.dist_future.proofs.ClassMatch.{ClassLaws, IsMemberAt, fresh-at, fresh
 use Rattle.dist_future.proofs.DemandLemmas.{IsMetIn, IsTrueMeaning}
 use Rattle.dist_future.proofs.FutureToModel.{never-conflict, required-package}
 use Rattle.dist_future.proofs.HealthLemmas.{health-from-met, met-from-health, met-with, with-it}
-use Rattle.dist_space.specs.ListLaws.{any-at, at-has, contains-at, element-at, found-at, has-at, here-at, place-of}
 use Rattle.dist_future.proofs.ModelToFuture.{future-is, healthy-is}
 use Rattle.dist_future.proofs.NoFutureLemmas.{new-of as kept-new}
 use Rattle.dist_space.specs.UsableLaws.{usable-is}

@@ -2,7 +2,7 @@
 use Rattle.std.proofs.Common.{◌≡◌, ◌⊎◌, ℕ, ◌+◌, ◌<◌, Option, None, Some, true, false, sym, subst, inl, inr, arith}
 use Rattle.std.specs.Option.{is_some}
 use Rattle.std.proofs.lemmas.Bool.{cases_lt, false≢true}
-use Rattle.dist_future.specs.Least.{IsLeast, IsLeastIfAny, IsLeastPair}
+use Rattle.dist_base.specs.Least.{IsLeast, IsLeastIfAny, IsLeastPair}
 use Rattle.dist_future.specs.Matching.{IsLesserOf}
 
 -- one of those so far

@@ -2,18 +2,18 @@
 use Rattle.std.proofs.Common.{◌≡◌, ℕ, ◌+◌, ◌<◌, ◌≤◌, Bool, true, false, List, Some, length, refl, sym, ap, subst, ◌∙◌, inl, inr, arith, slice_get}
 use Rattle.std.proofs.lemmas.Bool.{cases_lt, false≢true}
 use Rattle.std.proofs.lemmas.Option.{slice_get_within}
+use Rattle.dist_base.specs.Least.{IsLeast}
+use Rattle.dist_base.specs.ListLaws.{at-has, has-at, here-at}
 use Rattle.dist_repo.specs.Order.{IsFlat}
 use Rattle.dist_repo.specs.PackageList.{IsPackageAnd}
 use Rattle.dist_repo.specs.declared.package.Package.{Package}
 use Rattle.dist_future.specs.FutureHealth.{Holds, IsMissing, SomeHolds}
-use Rattle.dist_future.specs.Least.{IsLeast}
 use Rattle.dist_future.specs.Matching.{IsInstalled}
 use Rattle.dist_space.specs.Space.{SpaceView, member_classes}
 use Rattle.dist_space_clauses.specs.SpaceClauses.{IsBearer}
 use Rattle.dist_future.specs.SpaceLaws.{holds_under}
 use Rattle.dist_space.specs.declared.meaning.Meaning.{Meaning}
 use Rattle.dist_space.specs.declared.meaning.Meaning.TheVariants.{Now, Present, At, New, Kept, Fresh}
-use Rattle.dist_space.specs.ListLaws.{at-has, has-at, here-at}
 use Rattle.dist_space.specs.ClusterLaws.{names-apart}
 
 module _ (s : SpaceView) (values : List Bool) where

@@ -9,6 +9,7 @@ use Rattle.std.proofs.lemmas.Bool.{cases_lt, false≢true}
 use Rattle.std.proofs.lemmas.Cmp.{nat_list_cmp_total, tied_itself}
 use Rattle.std.proofs.lemmas.List.Elements.{All-nil}
 use Rattle.std.proofs.lemmas.Option.{get_or_from_slice_get, same_Some, slice_get_within}
+use Rattle.dist_base.specs.ListLaws.{all-contained, any-at, any-contained, at-has, contains-at, element-at, found-at, has-at, here-at, place-of, PlaceOf, within-from}
 use Rattle.dist_version.specs.Order.{version_cmp, IsBelow}
 use Rattle.dist_version.specs.Spelling.{IsVersion}
 use Rattle.dist_relation.specs.declared.atom.Atom.{Atom}
@@ -32,7 +33,6 @@ use Rattle.dist_space.specs.declared.meaning.Meaning.TheVariants.{Now, Present, 
 use Rattle.dist_future.proofs.ClassMatch.{ClassLaws, IsMemberAt, fresh-at, fresh-new, from-fresh, from-kept, from-new, member-at, to-fresh, to-new}
 use Rattle.dist_future.proofs.DemandLemmas.{AreMet}
 use Rattle.dist_future.proofs.FutureToModel.{conflict-back, option-cases}
-use Rattle.dist_space.specs.ListLaws.{all-contained, any-at, any-contained, at-has, contains-at, element-at, found-at, has-at, here-at, PlaceOf, place-of, within-from}
 use Rattle.dist_space.specs.UsableLaws.{usable-is}
 use Rattle.dist_future.proofs.Parts.{first-none, first-some, flag-at, flag-is, if-some, if-true, kept-carried, length-flags, made, made-of, made-pairs, map-some}
 use Rattle.dist_space.specs.RisingLaws.{pairs-more}

@@ -3,18 +3,18 @@ use Rattle.std.proofs.Common.{◌≡◌, ◌⊎◌, ℕ, ◌+◌, ◌<◌, ◌�
 use borrow.Author.Count.{below_more}
 use Rattle.std.specs.Prelude.{IsSomeAnd, slice_get, slice_index}
 use Rattle.std.proofs.lemmas.Bool.{cases_lt, false≢true}
+use Rattle.dist_base.specs.Least.{IsLeast, IsLeastIfAny}
+use Rattle.dist_base.specs.ListLaws.{within-from}
 use Rattle.dist_clause.specs.Formula.{value_of}
 use Rattle.dist_repo.specs.Match.{IsUsable}
 use Rattle.dist_repo.specs.declared.package.Package.{Package}
 use Rattle.dist_future.specs.FutureHealth.{AreApart, AreNoFuture, Holds, Needs}
 use Rattle.dist_space.specs.Space.{IsChange, IsMeaningOf, IsMeaning, IsSpace, SpaceView, variable_of}
-use Rattle.dist_future.specs.Least.{IsLeast, IsLeastIfAny}
 use Rattle.dist_future.specs.Matching.{IsChangeAt, IsHeldFrom, IsLacking}
 use Rattle.dist_future.specs.SpaceLaws.{holds_under}
 use Rattle.dist_space.specs.declared.meaning.Meaning.{Meaning}
 use Rattle.dist_space.specs.declared.meaning.Meaning.TheVariants.{Now, Present, At, New, Kept, Fresh}
 use Rattle.dist_space.specs.VariableLaws.{one-meaning, variable-range}
-use Rattle.dist_space.specs.ListLaws.{within-from}
 use Rattle.dist_future.proofs.Leasts.{IsNoneBelow, IsNoneTo, least-shift}
 
 -- ---- numbered meanings, from a number on

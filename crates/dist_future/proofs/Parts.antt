@@ -5,6 +5,7 @@ use Rattle.std.proofs.lemmas.Bool.{cases_lt, false≢true}
 use Rattle.std.proofs.lemmas.Option.{same_Some}
 use Rattle.std.specs.List.{cons_option}
 use Rattle.std.specs.Option.{option_map}
+use Rattle.dist_base.specs.ListLaws.{all-contained}
 use Rattle.dist_relation.specs.declared.atom.Provide.{Provide}
 use Rattle.dist_version.specs.Spelling.{IsVersion}
 use Rattle.dist_classes.specs.NewVersion.{AreCarried}
@@ -12,7 +13,6 @@ use Rattle.dist_space.specs.Space.{moved_entry}
 use Rattle.dist_future.specs.Stands.{first_true, flags_from, kept_entries, or_else}
 use Rattle.dist_space.specs.Usable.{is_usable}
 use Rattle.dist_future.proofs.ClassMatch.{moved-carried}
-use Rattle.dist_space.specs.ListLaws.{all-contained}
 
 -- ---- elements that are made of elements
 

@@ -1,18 +1,18 @@
 -- What the conflict atoms of a package match among what holds.
 use Rattle.std.proofs.Common.{◌≡◌, ℕ, ◌≤◌, Bool, false, List, Option, Some, length, sym, ap, subst, ◌∙◌, arith, slice_get}
 use Rattle.std.proofs.lemmas.Option.{same_Some, slice_get_within}
+use Rattle.dist_base.specs.Least.{IsLeastIfAny}
+use Rattle.dist_base.specs.ListLaws.{any-at, found-at}
 use Rattle.dist_clause.specs.Formula.{value_of}
 use Rattle.dist_relation.specs.declared.atom.Atom.{Atom}
 use Rattle.dist_repo.specs.declared.package.Package.{Package}
 use Rattle.dist_future.specs.FutureHealth.{Holds}
 use Rattle.dist_space.specs.Space.{IsMeaningOf, IsMatched, SpaceView}
-use Rattle.dist_future.specs.Least.{IsLeastIfAny}
 use Rattle.dist_future.specs.Matching.{IsRejectedBy, IsRejectedFrom}
 use Rattle.dist_space.specs.declared.meaning.Meaning.{Meaning}
 use Rattle.dist_space.specs.declared.meaning.Meaning.TheVariants.{Present}
 use Rattle.dist_future.proofs.FoundLemmas.{IsAny}
 use Rattle.dist_future.proofs.Leasts.{Before, least-shift}
-use Rattle.dist_space.specs.ListLaws.{any-at, found-at}
 use Rattle.dist_future.proofs.NoFutureLemmas.{meaning-holds, never-holds}
 
 number-of : (a b : ℕ) → Present a ≡ Present b → a ≡ b

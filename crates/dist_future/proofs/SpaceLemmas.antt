@@ -2,6 +2,7 @@
 use Rattle.std.proofs.Common.{◌≡◌, ◌≢◌, ℕ, ◌<◌, List, [], Some, Equal, length, get_or, map, refl, sym, ap, subst, ◌∙◌, slice_get}
 use Rattle.std.specs.Prelude.{AllPairs, Contains, IsSomeAnd, slice_index}
 use Rattle.std.proofs.lemmas.Option.{slice_get-get_or, slice_get_within}
+use Rattle.dist_base.specs.ListLaws.{at-has, contains-at, has-at, here-at, place-of}
 use Rattle.dist_version.specs.Order.{version_cmp, IsBelow}
 use Rattle.dist_cluster.specs.Partition.{IsIn}
 use Rattle.dist_cluster.specs.Relation.{Member, AreClustered, AreTogether}
@@ -16,7 +17,6 @@ use Rattle.dist_future.specs.Future.{IsAboveCluster}
 use Rattle.dist_space.specs.Space.{IsFrame, SpaceView, cluster_classes, fresh_classes, member_classes}
 use Rattle.dist_future.proofs.ClassMatch.{ClassLaws}
 use Rattle.dist_space.specs.ClusterLaws.{has-cluster, in-package, member-at, names-apart, placed-in, whole-at}
-use Rattle.dist_space.specs.ListLaws.{at-has, contains-at, has-at, here-at, place-of}
 use Rattle.dist_future.proofs.VersionOrder.{alike-left, alike-right, not-above_below, not-both}
 
 -- ---- classes of equal versions

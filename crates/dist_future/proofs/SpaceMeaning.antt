@@ -4,6 +4,7 @@ use Rattle.std.specs.Prelude.{All, Contains, slice_index}
 use Rattle.std.proofs.lemmas.Bool.{cases_lt}
 use Rattle.std.proofs.lemmas.List.Elements.{All-cons, All-head, All-nil, All-tail}
 use Rattle.std.proofs.lemmas.Option.{slice_get-get_or, slice_get_within}
+use Rattle.dist_base.specs.ListLaws.{any-contained, at-has, contains-at, element-at, within-from}
 use Rattle.dist_version.specs.Order.{version_cmp}
 use Rattle.dist_version.specs.Spelling.{IsVersion}
 use Rattle.dist_clause.specs.Formula.{Literal, IsModel, value_of}
@@ -24,7 +25,6 @@ use Rattle.dist_space_clauses.specs.DecidedLaws.{IsDecided}
 use Rattle.dist_future.proofs.DemandLemmas.{IsTrueMeaning, met-from-model}
 use Rattle.dist_future.proofs.FutureToModel.{IsFate, IsSeen, option-cases}
 use Rattle.dist_future.proofs.FutureValues.{both-decided, future-model, number-decided}
-use Rattle.dist_space.specs.ListLaws.{any-contained, at-has, contains-at, element-at, within-from}
 use Rattle.dist_future.proofs.ModelToFuture.{AreVersions, future-is, healthy-is, holds-cluster, old-member, today-is}
 use Rattle.dist_future.proofs.SpaceLemmas.{class-of, class_at-same, never-at, one-class, one-of-name, same-clustered, top-below}
 use Rattle.dist_space.specs.ClusterLaws.{has-cluster, in-package, placed-in}

@@ -4,6 +4,8 @@ use Rattle.std.specs.Prelude.{IsSomeAnd}
 use Rattle.std.proofs.lemmas.Bool.{cases_lt}
 use Rattle.std.proofs.lemmas.List.Sums.{sum_by_more, sum_by-take-le, get_or-le-sum_by}
 use Rattle.std.proofs.lemmas.Option.{get_or_from_slice_get, same_Some, slice_get_within}
+use Rattle.dist_base.specs.Least.{IsLeastIfAny}
+use Rattle.dist_base.specs.ListLaws.{any-at, at-has, found-at, has-at, here-at}
 use Rattle.dist_clause.specs.Formula.{value_of}
 use Rattle.dist_relation.specs.declared.atom.Atom.{Atom}
 use Rattle.dist_repo.specs.PackageList.{PackageList}
@@ -11,7 +13,6 @@ use Rattle.dist_repo.specs.Size.{IsWithinSize, relations_of}
 use Rattle.dist_repo.specs.declared.package.Package.{Package}
 use Rattle.dist_future.specs.FutureHealth.{Holds, IsUnmetAt, SomeHolds}
 use Rattle.dist_space.specs.Space.{IsMeaningOf, IsMatched, IsMetBy, IsSpace, SpaceView, variable_of}
-use Rattle.dist_future.specs.Least.{IsLeastIfAny}
 use Rattle.dist_future.specs.Matching.{IsOther, IsUnmetItem}
 use Rattle.dist_space_clauses.specs.SpaceClauses.{IsItemAnd}
 use Rattle.dist_space.specs.declared.meaning.Meaning.{Meaning}
@@ -19,7 +20,6 @@ use Rattle.dist_space.specs.declared.meaning.Meaning.TheVariants.{Now, Present, 
 use Rattle.dist_space.specs.VariableLaws.{variable-range}
 use Rattle.dist_future.proofs.FoundLemmas.{IsAny}
 use Rattle.dist_future.proofs.Leasts.{IsNoneBelow, least-shift}
-use Rattle.dist_space.specs.ListLaws.{any-at, at-has, found-at, has-at, here-at}
 use Rattle.dist_future.proofs.NoFutureLemmas.{meaning-holds, never-holds}
 
 number-of : (a b : ℕ) → Present a ≡ Present b → a ≡ b

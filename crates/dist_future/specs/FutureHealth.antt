@@ -1,8 +1,8 @@
 -- Where an assignment does not stand for a future and a healthy installation in it: four kinds of fault, tried in this order,
 -- each with its least place.
 use Rattle.std.specs.Prelude.{◌≡◌, ◌⊎◌, ℕ, ◌<◌, Bool, true, false, List, length, slice_index}
+use Rattle.dist_base.specs.Least.{IsLeast, IsLeastPair, IsNoPair}
 use Rattle.dist_repo.specs.PackageList.{IsPackageAnd}
-use Rattle.dist_future.specs.Least.{IsLeast, IsLeastPair, IsNoPair}
 use Rattle.dist_space.specs.Space.{SpaceView, IsMeaning, IsMetBy, variable_of}
 use Rattle.dist_space_clauses.specs.SpaceClauses.{Excludes, IsBearer, IsItemAnd}
 use Rattle.dist_future.specs.SpaceLaws.{holds_under}

@@ -1,7 +1,7 @@
 -- What it means that an assignment is healthy.
 use Rattle.std.specs.Prelude.{Bool, List}
+use Rattle.dist_base.specs.Least.{IsNoPair}
 use Rattle.dist_future.specs.FutureHealth.{AreNoFuture, IsFutureHealth}
-use Rattle.dist_future.specs.Least.{IsNoPair}
 use Rattle.dist_future.specs.Outdated.{IsInstallationOf}
 use Rattle.dist_space.specs.Space.{SpaceView}
 use Rattle.dist_future.specs.SpaceLaws.{examples_of, holds_under}

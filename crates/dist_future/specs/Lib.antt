@@ -3,7 +3,6 @@ pub mod Outdated
 pub mod Stands
 pub mod SpaceLaws
 pub mod FutureExamples
-pub mod Least
 pub mod FutureHealth
 pub mod Matching
 pub mod HealthLaws

@@ -3,7 +3,6 @@ use Rattle.std.specs.Prelude.{◌≡◌, ◌≢◌, ◌⊎◌, ℕ, ◌≤◌, B
 use Rattle.dist_relation.specs.declared.atom.Atom.{Atom}
 use Rattle.dist_repo.specs.declared.package.Package.{Package}
 use Rattle.dist_future.specs.FutureHealth.{Holds, SomeHolds}
-use Rattle.dist_future.specs.Least.{IsAtMost}
 use Rattle.dist_space.specs.Space.{SpaceView, IsChange, IsMatchedBy, IsMetBy, variable_of}
 use Rattle.dist_future.specs.SpaceLaws.{holds_under}
 use Rattle.dist_space.specs.declared.meaning.Meaning.{Meaning}

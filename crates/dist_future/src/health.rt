@@ -1,9 +1,9 @@
 //! Whether an assignment stands for a future and a healthy installation in it: the kinds of fault in their order.
 ghost use Rattle.std.specs.Prelude.{◌≡◌, ◌≤◌, ◌<◌, ◌↔◌, ℕ, IsTrue, Some, length, slice_get};
+ghost use Rattle.dist_base.specs.Least.{IsLeastIfAny, IsLeastPairIfAny, IsLesserPair};
 ghost use Rattle.dist_repo.specs.Size.{IsWithinSize};
 ghost use Rattle.dist_future.specs.FutureHealth.{AreConflicting, IsFutureHealth, IsMissing, IsOneEach, IsUnmetAt, SomeHolds};
-ghost use Rattle.dist_future.specs.Least.{IsLeastIfAny, IsLeastPairIfAny};
-ghost use Rattle.dist_future.specs.Matching.{IsItemAt, IsLesserPair, IsInstalled, IsRejectedBy, IsRejectedFrom, IsUnmetItem};
+ghost use Rattle.dist_future.specs.Matching.{IsItemAt, IsInstalled, IsRejectedBy, IsRejectedFrom, IsUnmetItem};
 ghost use Rattle.dist_space.specs.Space.{IsMeaning, IsMetBy};
 ghost use Rattle.dist_future.specs.SpaceLaws.{holds_under};
 

@@ -3,13 +3,12 @@ use Rattle.std.proofs.Common.{◌≡◌, ◌≢◌, ℕ, ◌+◌, ◌<◌, ◌�
 use Rattle.std.specs.Prelude.{All, AllPairs, Contains}
 use Rattle.std.proofs.lemmas.List.Elements.{All-cons, All-map, All-nil}
 use Rattle.std.proofs.lemmas.List.Kept.{AllPairs-cons, AllPairs-from_increasing}
+use Rattle.dist_base.specs.ListLaws.{all-contained, pairs-head, pairs-tail, within-from}
 use Rattle.dist_clause.specs.Formula.{Literal, IsClauseOver}
 use Rattle.dist_repo.specs.PackageList.{PackageList}
 use Rattle.dist_repo.specs.declared.package.Package.{Package}
 use Rattle.dist_now.specs.PresentClauses.{AreNumbersOf, installed, not_installed}
-use Rattle.dist_now.proofs.HealthyLemmas.{pairs-head, pairs-none, pairs-tail}
-use Rattle.dist_now.proofs.MemberLemmas.{within-from}
-use Rattle.dist_now.proofs.SetLemmas.{all-contained}
+use Rattle.dist_now.proofs.HealthyLemmas.{pairs-none}
 
 abbrev InRange : ℕ → Literal → Type 0
 InRange n l = (1 ≤ l.variable) × (l.variable ≤ n)
@@ -34,7 +33,7 @@ apart-each n numbers other l is =
 pairs-apart : (numbers : List ℕ) → AllPairs (λ x y. x < y) numbers → AllPairs Apart (map installed numbers)
 pairs-apart [] rising = pairs-none Apart
 pairs-apart (n ∷ numbers) rising =
-    let less : All (λ y. n < y) numbers = pairs-head (λ x y. x < y) n numbers rising in
+    let less : All (λ y. n < y) numbers = all-contained (λ y. n < y) numbers (pairs-head (λ x y. x < y) n numbers rising) in
     AllPairs-cons Apart (installed n) (map installed numbers)
     (All-map (Apart (installed n)) installed numbers (λ i d short. let h = less i d short in λ same. omega arith))
     (pairs-apart numbers (pairs-tail (λ x y. x < y) n numbers rising))

@@ -6,6 +6,8 @@ use Rattle.std.specs.Ordering.{nat_cmp, ordering_then}
 use Rattle.std.proofs.lemmas.Bool.{cases_lt}
 use Rattle.std.proofs.lemmas.Cmp.{nat_list_cmp_total, tied_itself}
 use Rattle.std.proofs.lemmas.Option.{slice_get-get_or, get_or_from_slice_get, slice_get_within}
+use Rattle.dist_base.specs.Least.{IsAtMost, IsLeast, IsLeastPairIfAny, IsLesserPair}
+use Rattle.dist_base.specs.ListLaws.{any-at, at-has, element-is, has-at, some-element}
 use Rattle.dist_version.specs.Order.{version_cmp}
 use Rattle.dist_relation.specs.declared.atom.Atom.{Atom}
 use Rattle.dist_repo.specs.Conflict.{AreInConflict}
@@ -14,10 +16,7 @@ use Rattle.dist_repo.specs.Order.{package_cmp, IsInOrder, IsSamePackage}
 use Rattle.dist_repo.specs.PackageList.{PackageList, IsPackageAnd}
 use Rattle.dist_repo.specs.declared.package.Package.{Package}
 use Rattle.dist_now.specs.Health.{AreConflicting}
-use Rattle.dist_now.specs.Least.{IsAtMost, IsLeast}
-use Rattle.dist_now.specs.Rejected.{IsRejected, IsLesserPair}
-use Rattle.dist_now.specs.Rows.{IsLeastPairIfAny}
-use Rattle.dist_now.proofs.Places.{any-at, at-has, has-at, some-element, element-is}
+use Rattle.dist_now.specs.Rejected.{IsRejected}
 
 -- ---- conflicts
 

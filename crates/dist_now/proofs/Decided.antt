@@ -4,6 +4,7 @@ use Rattle.std.specs.Prelude.{Any, IfSome, IsSomeAnd, bytes_eq, codes}
 use Rattle.std.specs.declared.cmp.Ordering.{Ordering}
 use Rattle.std.specs.declared.cmp.Ordering.TheVariants.{Less, Equal, Greater}
 use Rattle.std.proofs.lemmas.Slice.Eq.{bytes_eq-Decides}
+use Rattle.dist_base.specs.ListLaws.{any-cases, any-head, any-later}
 use Rattle.dist_version.specs.Order.{version_cmp}
 use Rattle.dist_relation.specs.Satisfies.{AllowsOrder, Satisfies}
 use Rattle.dist_relation.specs.declared.atom.Atom.{Atom}
@@ -16,8 +17,6 @@ use Rattle.dist_relation.specs.declared.atom.Qualifier.TheVariants.{Plain, Named
 use Rattle.dist_repo.specs.Healthy.{IsMet}
 use Rattle.dist_repo.specs.Match.{IsUsable, Matches, MatchesByEntry, MatchesByName}
 use Rattle.dist_repo.specs.declared.package.Package.{Package}
-use Rattle.dist_now.proofs.MemberLemmas.{any-cases}
-use Rattle.dist_now.proofs.Places.{any-head, any-later}
 
 abbrev pub IsDecided : Type 0 → Type 0
 IsDecided P = P ⊎ (¬ P)

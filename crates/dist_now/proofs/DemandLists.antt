@@ -6,6 +6,8 @@ use Rattle.std.proofs.lemmas.Cmp.{nat_list_cmp_total}
 use Rattle.std.proofs.lemmas.List.{get_or_default, map-append}
 use Rattle.std.proofs.lemmas.List.Elements.{All-nil, All-push}
 use Rattle.std.proofs.lemmas.List.Quantifiers.{all_pairs_push, Any-push}
+use Rattle.dist_base.specs.ListLaws.{any-cases, any-head, any-later, element-is, has-at, some-element}
+use Rattle.dist_base.specs.RowLaws.{HasOneImage, IsAsymmetric, rows-front, rows-same, same-numbers}
 use Rattle.dist_clause.specs.Formula.{Literal}
 use Rattle.dist_relation.specs.declared.atom.Atom.{Atom}
 use Rattle.dist_repo.specs.PackageList.{PackageList}
@@ -13,9 +15,6 @@ use Rattle.dist_repo.specs.declared.package.Package.{Package}
 use Rattle.dist_now.specs.PresentClauses.{Demand, Item, Apart, Required, AreClausesOf, AreNumbersOf, ArePresentClauses, AreClausesBefore, IsBefore, IsClauseFor, IsDemand, IsLesser, IsItemAnd, IsMetBy, installed, not_installed}
 use Rattle.dist_now.specs.PresentLaws.{GoesOn}
 use Rattle.dist_now.proofs.HealthyLemmas.{pairs-none}
-use Rattle.dist_now.proofs.MemberLemmas.{any-cases}
-use Rattle.dist_now.proofs.Places.{any-head, any-later, has-at, some-element, element-is}
-use Rattle.dist_now.proofs.RisingRows.{HasOneImage, IsAsymmetric, rows-same, rows-front, same-numbers}
 
 -- ---- the order of demands
 

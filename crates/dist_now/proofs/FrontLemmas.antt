@@ -2,6 +2,7 @@
 use Rattle.std.proofs.Common.{◌≡◌, ◌⊎◌, ℕ, ◌+◌, ◌<◌, ◌≤◌, Bool, false, List, [], ◌∷◌, ◌++◌, length, refl, sym, ap, ap₂, subst, ◌∙◌, arith, inl, inr, Some, slice_get}
 use Rattle.std.specs.Prelude.{IsSomeAnd}
 use Rattle.std.proofs.lemmas.Bool.{cases_lt}
+use Rattle.dist_base.specs.ListLaws.{has-at, within-from}
 use Rattle.dist_clause.specs.ClauseList.{ClauseList}
 use Rattle.dist_clause.specs.Formula.{Literal}
 use Rattle.dist_clause.specs.declared.clause_set.PushError.{PushError}
@@ -12,8 +13,6 @@ use Rattle.dist_now.specs.Gathering.{IsCauseAt, IsFront, IsPlainSet, IsRefused}
 use Rattle.dist_now.specs.PresentClauses.{Demand, Item, Apart, Required, AreClausesOf, IsBefore, IsClauseFor, IsDemand, IsMetBy}
 use Rattle.dist_now.specs.PresentSet.{IsCause, IsSetOf, IsStopped}
 use Rattle.dist_now.proofs.DemandLists.{clauses-more, clauses-none, clauses-shift}
-use Rattle.dist_now.proofs.MemberLemmas.{within-from}
-use Rattle.dist_now.proofs.Places.{has-at}
 
 -- the demands before one
 abbrev pub Before : PackageList → Demand → Demand → Type 0

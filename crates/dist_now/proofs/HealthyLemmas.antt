@@ -3,16 +3,16 @@ use Rattle.std.proofs.Common.{◌≡◌, ℕ, zero, suc, ◌<◌, Bool, true, fa
 use Rattle.std.specs.Prelude.{All, AllPairs, Any, Contains, IsSomeAnd, filter, map}
 use Rattle.std.proofs.lemmas.List.Elements.{All-cons, All-contains, All-map, All-nil, All-tail}
 use Rattle.std.proofs.lemmas.List.Kept.{AllPairs-cons}
-use Rattle.std.proofs.lemmas.Option.{slice_get-get_or, slice_get_within, get_or_from_slice_get}
+use Rattle.std.proofs.lemmas.Option.{slice_get-get_or}
+use Rattle.dist_base.specs.Least.{IsNoPair}
+use Rattle.dist_base.specs.ListLaws.{all-contained, at-has, contains-at, pairs-head, pairs-tail}
 use Rattle.dist_repo.specs.Conflict.{AreInConflict}
 use Rattle.dist_repo.specs.Healthy.{Healthy, IsMet, required_names}
 use Rattle.dist_repo.specs.PackageList.{PackageList, IsPackageAnd}
 use Rattle.dist_repo.specs.declared.package.Package.{Package}
 use Rattle.dist_now.specs.Health.{AreMembers, AreTwoVersions, AreConflicting, IsUnmetAt, IsMissing}
-use Rattle.dist_now.specs.Least.{IsNoPair}
 use Rattle.dist_now.specs.Members.{members_of}
 use Rattle.dist_now.proofs.Decided.{any-decided, met-decided, text-decided}
-use Rattle.dist_now.proofs.Places.{at-has}
 
 -- ---- lists
 
@@ -26,9 +26,6 @@ pub found : {X : Type 0} (P : X → Type 0) (o : Option X) → IsSomeAnd o P →
 found P None here = absurd here
 found P (Some x) here = record { value = x; is_value = refl; holds = here }
 
-pub contains-at : {X : Type 0} (xs : List X) (k : ℕ) (x : X) → slice_get xs k ≡ Some x → Contains xs x
-contains-at xs k x is = (k, slice_get_within xs k x is, get_or_from_slice_get xs k x x is)
-
 pub all-at : {X : Type 0} (P : X → Type 0) (xs : List X) → All P xs → (k : ℕ) (x : X) → slice_get xs k ≡ Some x → P x
 all-at P xs all k x is = All-contains P xs x all (contains-at xs k x is)
 
@@ -37,12 +34,6 @@ all-from P xs each k d short = each k (get_or xs k d) (slice_get-get_or xs k d s
 
 pub pairs-none : {X : Type 0} (R : X → X → Type 0) → AllPairs R []
 pairs-none R i j d in_order short = absurd (omega arith)
-
-pub pairs-head : {X : Type 0} (R : X → X → Type 0) (x : X) (xs : List X) → AllPairs R (x ∷ xs) → All (R x) xs
-pairs-head R x xs pairs k d short = pairs zero (suc k) d (omega arith) (omega arith)
-
-pub pairs-tail : {X : Type 0} (R : X → X → Type 0) (x : X) (xs : List X) → AllPairs R (x ∷ xs) → AllPairs R xs
-pairs-tail R x xs pairs i j d in_order short = pairs (suc i) (suc j) d (omega arith) (omega arith)
 
 -- ---- the elements that pass a test
 
@@ -129,7 +120,7 @@ each-two R (y ∷ packages) (b ∷ flags) pairs i zero p q in_order m n = absurd
 each-two R (y ∷ packages) (true ∷ flags) pairs zero (suc j) p q in_order m n =
     let there : Some y ≡ Some p = m.there in let same : y ≡ p = cc in
     let first : Package → Type 0 = λ x. R x q in
-    subst first same (each-member (R y) packages flags (pairs-head R y (members_of packages flags) pairs) j q (record { member = n.member; there = n.there }))
+    subst first same (each-member (R y) packages flags (all-contained (R y) (members_of packages flags) (pairs-head R y (members_of packages flags) pairs)) j q (record { member = n.member; there = n.there }))
 each-two R (y ∷ packages) (false ∷ flags) pairs zero (suc j) p q in_order m n = let member : Some false ≡ Some true = m.member in cc
 each-two R (y ∷ packages) (true ∷ flags) pairs (suc i) (suc j) p q in_order m n =
     each-two R packages flags (pairs-tail R y (members_of packages flags) pairs) i j p q (omega arith)

@@ -1,14 +1,13 @@
 -- Members behind one, gone through from the least.
 use Rattle.std.proofs.Common.{◌≡◌, ◌≢◌, ℕ, ◌<◌, ◌≤◌, Bool, List, length, Some, sym, arith, inl, inr, slice_get, ◌∙◌}
 use Rattle.std.proofs.lemmas.Bool.{cases_lt}
+use Rattle.dist_base.specs.ListLaws.{element-is, has-at, some-element, within-from}
 use Rattle.dist_repo.specs.Order.{IsInOrder}
 use Rattle.dist_repo.specs.PackageList.{PackageList}
 use Rattle.dist_repo.specs.declared.package.Package.{Package}
 use Rattle.dist_now.specs.Rows.{IsLater}
 use Rattle.dist_now.proofs.LeastLemmas.{IsNoneTo}
-use Rattle.dist_now.proofs.MemberLemmas.{within-from}
 use Rattle.dist_now.proofs.NameLemmas.{between-named}
-use Rattle.dist_now.proofs.Places.{has-at, some-element, element-is}
 
 -- no member behind one, where none so far is and the numbers have ended
 pub none-later : (r : PackageList) (flags : List Bool) (first count : ℕ) (Q : Package → Type 0) → length r.packages ≤ count → IsNoneTo (IsLater r flags first Q) count → (n : ℕ) → ¬ IsLater r flags first Q n

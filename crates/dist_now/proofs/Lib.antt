@@ -9,7 +9,6 @@ pub mod HealthyLemmas
 pub mod OneHealth
 pub mod RejectedLemmas
 pub mod ConflictLemmas
-pub mod RisingRows
 pub mod DemandLists
 pub mod SetLemmas
 pub mod ModelLemmas

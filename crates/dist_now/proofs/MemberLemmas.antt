@@ -1,21 +1,14 @@
 -- The members of an installation, and what they meet.
-use Rattle.std.proofs.Common.{◌≡◌, ◌⊎◌, ℕ, zero, suc, ◌<◌, ◌≤◌, Bool, true, false, List, [], ◌∷◌, length, get_or, Some, Option, refl, sym, subst, ◌∙◌, arith, inl, inr, slice_get}
-use Rattle.std.specs.Prelude.{Any, Contains, IsSomeAnd}
+use Rattle.std.proofs.Common.{◌≡◌, ℕ, zero, suc, ◌<◌, ◌≤◌, Bool, true, false, List, [], ◌∷◌, length, get_or, Some, Option, refl, sym, subst, ◌∙◌, arith, inl, inr, slice_get}
+use Rattle.std.specs.Prelude.{Any, Contains}
 use Rattle.std.proofs.lemmas.List.{get_or_default}
+use Rattle.dist_base.specs.ListLaws.{any-cases, any-head, any-later, at-has, at-weaker}
 use Rattle.dist_relation.specs.declared.atom.Atom.{Atom}
 use Rattle.dist_repo.specs.Match.{Matches, MatchesByEntry}
 use Rattle.dist_repo.specs.PackageList.{PackageList, IsPackageAnd}
 use Rattle.dist_repo.specs.Providers.{AreProviders, IsProvider}
 use Rattle.dist_repo.specs.declared.package.Package.{Package}
 use Rattle.dist_now.specs.Members.{IsMemberAnd, members_of}
-use Rattle.dist_now.proofs.Places.{any-head, any-later, at-has, at-weaker}
-
-pub any-cases : {X : Type 0} (P : X → Type 0) (x : X) (xs : List X) → Any P (x ∷ xs) → P x ⊎ Any P xs
-any-cases P x xs any = at any.0 any.1 any.2 any.3 any.4
-  where
-    at : (k : ℕ) (y : _) → k < length (x ∷ xs) → get_or (x ∷ xs) k y ≡ y → P y → P x ⊎ Any P xs
-    at zero y short is holds = inl (subst P (sym is) holds)
-    at (suc k) y short is holds = inr (k, y, omega arith, is, holds)
 
 pub member-any : (P : Package → Type 0) (packages : List Package) (flags : List Bool) (k : ℕ) → slice_get flags k ≡ Some true → IsPackageAnd packages k P → Any P (members_of packages flags)
 member-any P [] flags k member here = absurd here
@@ -50,11 +43,6 @@ matched-provides architecture atom p matches =
       | inl by_name ↦ inl by_name.name
       | inr any ↦ let by_entry : MatchesByEntry architecture atom any.1 = any.4 in inr (any.0, any.1, any.2, any.3, (by_entry.usable, by_entry.name))
     ]
-
-pub within-from : {X : Type 0} (P : X → Type 0) (xs : List X) (k : ℕ) → IsSomeAnd (slice_get xs k) P → k < length xs
-within-from P [] k here = absurd here
-within-from P (x ∷ xs) zero here = omega arith
-within-from P (x ∷ xs) (suc k) here = omega (arith, within-from P xs k here)
 
 -- ---- the providers of a name, as far as they were gone through
 

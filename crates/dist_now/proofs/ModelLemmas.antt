@@ -7,6 +7,8 @@ use Rattle.std.proofs.lemmas.List.{length-map}
 use Rattle.std.proofs.lemmas.List.Elements.{All-contains, All-map}
 use Rattle.std.proofs.lemmas.Map.Views.{list_any-from_Contains, Contains-from_any}
 use Rattle.std.proofs.lemmas.Option.{get_or_from_slice_get}
+use Rattle.dist_base.specs.Least.{IsNoPair}
+use Rattle.dist_base.specs.ListLaws.{all-contained, any-cases, any-contained, any-head, any-later, any-more, any-there, at-has, at-more, contains-at, element-is, has-at, pair-from, place-of, some-element}
 use Rattle.dist_version.specs.Order.{version_cmp}
 use Rattle.dist_version.specs.OrderLaws.{version_cmp-same}
 use Rattle.dist_clause.specs.Formula.{Literal, IsTrueLiteral, MakesTrue, IsModel, value_of}
@@ -21,17 +23,15 @@ use Rattle.dist_repo.specs.PackageList.{PackageList, IsPackageAnd}
 use Rattle.dist_repo.specs.Strong.{IsInstallation}
 use Rattle.dist_repo.specs.declared.package.Package.{Package}
 use Rattle.dist_now.specs.Health.{AreMembers, IsUnmetAt, IsMissing}
-use Rattle.dist_now.specs.Least.{IsNoPair}
 use Rattle.dist_now.specs.Members.{members_of}
 use Rattle.dist_now.specs.PresentClauses.{Demand, Item, Apart, Required, AreClausesOf, AreNumbersOf, ArePresentClauses, IsClauseFor, IsDemand, IsMetBy, installed, not_installed}
 use Rattle.dist_now.specs.PresentLaws.{AreModelsInstallations, AreSamePackages, IsModelOf}
 use Rattle.dist_now.proofs.Decided.{any-decided, matches-decided}
-use Rattle.dist_now.proofs.HealthyLemmas.{all-before_map, all-members, all-passed, contains-at, healthy-from, passed-at}
-use Rattle.dist_now.proofs.MemberLemmas.{any-cases, member-any}
-use Rattle.dist_now.proofs.Places.{any-head, any-later, at-has, has-at, some-element, element-is}
+use Rattle.dist_now.proofs.HealthyLemmas.{all-before_map, all-members, all-passed, healthy-from, passed-at}
+use Rattle.dist_now.proofs.MemberLemmas.{member-any}
 use Rattle.dist_now.proofs.ConflictLemmas.{never-same}
 use Rattle.dist_now.proofs.DemandLists.{Row, found-item, one-item}
-use Rattle.dist_now.proofs.SetLemmas.{all-contained, any-contained, any-more, any-there, apart-back, at-more, names-back, pair-from, place-of}
+use Rattle.dist_now.proofs.SetLemmas.{apart-back, names-back}
 
 -- ---- values and literals
 

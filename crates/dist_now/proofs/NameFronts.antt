@@ -5,6 +5,7 @@ use Rattle.std.specs.Ordering.{ordering_reverse}
 use Rattle.std.proofs.lemmas.Bool.{cases_lt, false≢true}
 use Rattle.std.proofs.lemmas.Cmp.{nat_list_cmp_total}
 use Rattle.std.proofs.lemmas.Option.{get_or_from_slice_get, slice_get_within}
+use Rattle.dist_base.specs.ListLaws.{at-has, element-is, has-at, some-element, within-from}
 use Rattle.dist_clause.specs.ClauseList.{ClauseList}
 use Rattle.dist_clause.specs.Formula.{Literal}
 use Rattle.dist_version.specs.Order.{version_cmp}
@@ -15,10 +16,8 @@ use Rattle.dist_now.specs.Gathering.{IsEssentialSet, IsNamedBelow, IsNamedFront,
 use Rattle.dist_now.specs.PresentClauses.{Demand, Item, Apart, Required, IsBefore, IsClauseFor, IsDemand}
 use Rattle.dist_now.specs.PresentSet.{IsSetOf}
 use Rattle.dist_now.proofs.FrontLemmas.{set-more, set-shift}
-use Rattle.dist_now.proofs.MemberLemmas.{within-from}
 use Rattle.dist_now.proofs.ModelLemmas.{IsEssentialOf, required-at, required-from}
 use Rattle.dist_now.proofs.NameLemmas.{between-named, same_names, then-less}
-use Rattle.dist_now.proofs.Places.{at-has, has-at, some-element, element-is}
 
 -- no package from one number up to another is an essential one of the name
 abbrev pub HasNoneFrom : PackageList → (number : ℕ) → List ℕ → (before : ℕ) → Type 0

@@ -4,6 +4,7 @@ use Rattle.std.specs.Prelude.{Contains, IsSomeAnd}
 use Rattle.std.specs.List.Sorted.{IsStrictlyIncreasing}
 use Rattle.std.proofs.lemmas.List.{get_or_default}
 use Rattle.std.proofs.lemmas.Option.{slice_get-get_or}
+use Rattle.dist_base.specs.ListLaws.{any-at, at-has, at-more, element-is, has-at, some-element, within-from}
 use Rattle.dist_relation.specs.declared.atom.Atom.{Atom}
 use Rattle.dist_repo.specs.Match.{Matches}
 use Rattle.dist_repo.specs.PackageList.{PackageList, IsPackageAnd}
@@ -12,9 +13,6 @@ use Rattle.dist_repo.specs.declared.package.Package.{Package}
 use Rattle.dist_now.specs.Gathering.{Adds}
 use Rattle.dist_now.specs.PresentClauses.{AreNumbersOf, IsMetBy}
 use Rattle.dist_now.proofs.AddsLemmas.{UpTo, AddsUpTo, adds-exact, adds-nothing, adds-one, adds-same}
-use Rattle.dist_now.proofs.MemberLemmas.{within-from}
-use Rattle.dist_now.proofs.Places.{any-at, at-has, has-at, some-element, element-is}
-use Rattle.dist_now.proofs.SetLemmas.{at-more}
 
 pub contains-index : (xs : List ℕ) (k : ℕ) → k < length xs → Contains xs (get_or xs k 0)
 contains-index xs k short = (k, short, get_or_default xs k (get_or xs k 0) 0 short)

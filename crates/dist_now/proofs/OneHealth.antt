@@ -1,8 +1,8 @@
 -- A set of members has one health.
 use Rattle.std.proofs.Common.{◌≡◌, ℕ, Bool, List, refl, ap, arith, inl, inr}
+use Rattle.dist_base.specs.Least.{IsAtMost, IsLeast, IsLeastPair}
 use Rattle.dist_repo.specs.PackageList.{PackageList}
 use Rattle.dist_now.specs.Health.{AreTwoVersions, AreConflicting, IsUnmetAt, IsMissing, IsHealth}
-use Rattle.dist_now.specs.Least.{IsAtMost, IsLeast, IsLeastPair}
 use Rattle.dist_now.specs.declared.kinds.Health.{Health}
 use Rattle.dist_now.specs.declared.kinds.Health.TheVariants.{Healthy, TwoVersions, Unmet, Conflict, EssentialMissing}
 use Rattle.dist_now.proofs.HealthyLemmas.{no-two_versions, no-unmet, no-conflict, no-missing}

@@ -5,6 +5,7 @@ use Rattle.std.specs.List.Sorted.{IsStrictlyIncreasing}
 use Rattle.std.proofs.lemmas.Bool.{cases_lt}
 use Rattle.std.proofs.lemmas.List.{get_or_default}
 use Rattle.std.proofs.lemmas.List.Kept.{AllPairs-from_increasing}
+use Rattle.dist_base.specs.ListLaws.{at-has, at-more, element-is, has-at, some-element, within-from}
 use Rattle.dist_clause.specs.ClauseList.{ClauseList}
 use Rattle.dist_clause.specs.Formula.{Literal}
 use Rattle.dist_repo.specs.Conflict.{AreInConflict}
@@ -16,9 +17,6 @@ use Rattle.dist_now.specs.PresentClauses.{Apart, IsDemand, not_installed}
 use Rattle.dist_now.proofs.AddsLemmas.{adds-exact}
 use Rattle.dist_now.proofs.ConflictLemmas.{never-same}
 use Rattle.dist_now.proofs.FrontLemmas.{pair-pushed, pair-shifted, pairs-end}
-use Rattle.dist_now.proofs.MemberLemmas.{within-from}
-use Rattle.dist_now.proofs.Places.{at-has, has-at, some-element, element-is}
-use Rattle.dist_now.proofs.SetLemmas.{at-more}
 use Rattle.dist_now.proofs.VersionLemmas.{IsVersion}
 
 -- the second numbers of the demands of a package

@@ -3,6 +3,7 @@ use Rattle.std.proofs.Common.{◌≡◌, ◌↔◌, ℕ, ◌≤◌, List, [], �
 use Rattle.std.specs.Prelude.{Contains, IsSomeAnd}
 use Rattle.std.proofs.lemmas.List.{get_or_default}
 use Rattle.std.proofs.lemmas.Option.{slice_get-get_or}
+use Rattle.dist_base.specs.ListLaws.{any-at, at-has, at-more, element-is, has-at, some-element, within-from}
 use Rattle.dist_relation.specs.declared.atom.Atom.{Atom}
 use Rattle.dist_repo.specs.Match.{Matches}
 use Rattle.dist_repo.specs.PackageList.{PackageList, IsPackageAnd}
@@ -10,9 +11,7 @@ use Rattle.dist_repo.specs.Providers.{AreProviders}
 use Rattle.dist_repo.specs.declared.package.Package.{Package}
 use Rattle.dist_now.specs.Gathering.{Adds, IsPairIn, IsPairOf, IsPairWithin, IsPairWith, IsRejectingPair, Rejects}
 use Rattle.dist_now.proofs.AddsLemmas.{UpTo, AddsUpTo, adds-exact, adds-nothing, adds-one, adds-same}
-use Rattle.dist_now.proofs.MemberLemmas.{matched-provides, within-from}
-use Rattle.dist_now.proofs.Places.{any-at, at-has, has-at, some-element, element-is}
-use Rattle.dist_now.proofs.SetLemmas.{at-more}
+use Rattle.dist_now.proofs.MemberLemmas.{matched-provides}
 
 -- ---- the pairs of a package and those that an atom matches
 

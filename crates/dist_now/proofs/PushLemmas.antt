@@ -4,6 +4,7 @@ use Rattle.std.specs.Prelude.{Contains, IsSomeAnd, IfErr, OnOk, Result}
 use Rattle.std.proofs.lemmas.Bool.{false≢true}
 use Rattle.std.proofs.lemmas.Option.{slice_get_within}
 use Rattle.std.proofs.lemmas.Result.{IfErr-weaker, on_ok_weaker}
+use Rattle.dist_base.specs.ListLaws.{at-has, has-at}
 use Rattle.dist_clause.specs.ClauseList.{ClauseList}
 use Rattle.dist_clause.specs.Formula.{Literal, IsClauseOver}
 use Rattle.dist_clause.specs.declared.clause_set.PushError.{PushError}
@@ -15,7 +16,6 @@ use Rattle.dist_now.specs.Members.{IsItemAt}
 use Rattle.dist_now.specs.PresentClauses.{Demand, Item, AreNumbersOf, IsBefore, IsClauseFor, IsDemand, IsMetBy, installed, not_installed}
 use Rattle.dist_now.specs.PresentSet.{IsSetOf}
 use Rattle.dist_now.proofs.FrontLemmas.{stops}
-use Rattle.dist_now.proofs.Places.{at-has, has-at}
 
 -- ---- a test whether a number is there
 

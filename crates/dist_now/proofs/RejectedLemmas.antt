@@ -4,16 +4,15 @@ use Rattle.std.specs.Prelude.{Contains, IsSomeAnd}
 use Rattle.std.proofs.lemmas.Bool.{cases_lt}
 use Rattle.std.proofs.lemmas.List.{get_or_default}
 use Rattle.std.proofs.lemmas.List.Kept.{AllPairs-from_increasing}
+use Rattle.dist_base.specs.Least.{IsLeast, IsLeastIfAny}
+use Rattle.dist_base.specs.ListLaws.{at-has, at-weaker, element-is, has-at, some-element}
 use Rattle.dist_relation.specs.declared.atom.Atom.{Atom}
 use Rattle.dist_repo.specs.Match.{Matches}
 use Rattle.dist_repo.specs.PackageList.{PackageList}
 use Rattle.dist_repo.specs.Providers.{AreProviders, IsProvider}
 use Rattle.dist_repo.specs.declared.package.Package.{Package}
-use Rattle.dist_now.specs.Least.{IsLeast}
 use Rattle.dist_now.specs.Rejected.{IsRejected, IsRejectedBy}
-use Rattle.dist_now.specs.Rows.{IsLeastIfAny}
 use Rattle.dist_now.proofs.MemberLemmas.{matched-provides}
-use Rattle.dist_now.proofs.Places.{at-has, has-at, some-element, element-is, at-weaker}
 use Rattle.std.proofs.lemmas.Option.{slice_get_within}
 
 -- ---- one atom

@@ -1,11 +1,10 @@
 -- Lists of packages: which packages are in them, and what depends on that alone.
-use Rattle.std.proofs.Common.{◌≡◌, ◌≢◌, ℕ, zero, suc, Bool, List, [], ◌∷◌, get_or, Some, Option, sym, ap, subst, ◌∙◌, arith, inl, inr, slice_get}
-use Rattle.std.specs.Prelude.{All, AllPairs, Any, Contains, IsSomeAnd}
+use Rattle.std.proofs.Common.{◌≡◌, ◌≢◌, ℕ, Bool, List, get_or, Option, sym, ap, ◌∙◌, arith, inl, inr}
+use Rattle.std.specs.Prelude.{All, AllPairs, Any, Contains}
 use Rattle.std.specs.Ordering.{ordering_reverse}
-use Rattle.std.proofs.lemmas.Bool.{cases_lt}
 use Rattle.std.proofs.lemmas.List.{get_or_default}
 use Rattle.std.proofs.lemmas.List.Elements.{All-contains}
-use Rattle.std.proofs.lemmas.Option.{slice_get-get_or}
+use Rattle.dist_base.specs.ListLaws.{all-contained, any-contained, any-more, any-there, IsSymmetric, pair-from}
 use Rattle.dist_version.specs.OrderLaws.{version_total}
 use Rattle.dist_relation.specs.declared.atom.Atom.{Atom}
 use Rattle.dist_repo.specs.Conflict.{AreInConflict}
@@ -16,60 +15,6 @@ use Rattle.dist_repo.specs.PackageList.{PackageList}
 use Rattle.dist_repo.specs.Strong.{IsInstallation}
 use Rattle.dist_repo.specs.declared.package.Package.{Package}
 use Rattle.dist_now.specs.PresentLaws.{AreSamePackages, HasNoRepeats}
-
--- ---- places
-
-pub record PlaceOf {X : Type 0} (xs : List X) (x : X) : Type 0 where
-  pub place : ℕ
-  pub is : slice_get xs place ≡ Some x
-
-pub place-of : {X : Type 0} (xs : List X) (x : X) → Contains xs x → PlaceOf xs x
-place-of {X} xs x there = record { place = there.0; is = slice_get-get_or xs there.0 x there.1 ∙ ap (λ (y : X). Some y) there.2 }
-
-pub same-at : {X : Type 0} (xs : List X) (k : ℕ) (x y : X) → slice_get xs k ≡ Some x → slice_get xs k ≡ Some y → x ≡ y
-same-at xs k x y first second = cc
-
-pub at-more : {X : Type 0} (P Q : X → Type 0) → ((x : X) → P x → Q x) → (xs : List X) (k : ℕ) → IsSomeAnd (slice_get xs k) P → IsSomeAnd (slice_get xs k) Q
-at-more P Q more [] k here = absurd here
-at-more P Q more (x ∷ xs) zero here = more x here
-at-more P Q more (x ∷ xs) (suc k) here = at-more P Q more xs k here
-
-pub any-more : {X : Type 0} (P Q : X → Type 0) → ((x : X) → P x → Q x) → (xs : List X) → Any P xs → Any Q xs
-any-more P Q more xs any = (any.0, any.1, any.2, any.3, more any.1 any.4)
-
-pub any-contained : {X : Type 0} (P : X → Type 0) (xs : List X) (x : X) → Contains xs x → P x → Any P xs
-any-contained P xs x there holds = (there.0, x, there.1, there.2, holds)
-
-pub any-there : {X : Type 0} (P : X → Type 0) (xs : List X) (any : Any P xs) → Contains xs any.1
-any-there P xs any = (any.0, any.2, any.3)
-
-pub all-contained : {X : Type 0} (P : X → Type 0) (xs : List X) → ((x : X) → Contains xs x → P x) → All P xs
-all-contained P xs each k d short = each (get_or xs k d) (k, short, get_or_default xs k (get_or xs k d) d short)
-
--- ---- pairs
-
-abbrev pub IsSymmetric : {X : Type 0} → (X → X → Type 0) → Type 0
-IsSymmetric {X} R = (x y : X) → R x y → R y x
-
--- two different elements of a list whose pairs are related both ways
-pub pair-from : {X : Type 0} (R : X → X → Type 0) → IsSymmetric R → (xs : List X) (x y : X) → AllPairs R xs → Contains xs x → Contains xs y → x ≢ y → R x y
-pair-from {X} R symmetric xs x y pairs first second apart =
-    elim (cases_lt first.0 second.0) [
-      | inl less ↦
-          let h : R (get_or xs first.0 y) (get_or xs second.0 y) = pairs first.0 second.0 y less second.1 in
-          let a : get_or xs first.0 y ≡ x = get_or_default xs first.0 y x first.1 ∙ first.2 in
-          subst (λ z. R x z) second.2 (subst (λ z. R z (get_or xs second.0 y)) a h)
-      | inr more ↦ elim (cases_lt second.0 first.0) [
-        | inl less ↦
-            let h : R (get_or xs second.0 x) (get_or xs first.0 x) = pairs second.0 first.0 x less first.1 in
-            let b : get_or xs second.0 x ≡ y = get_or_default xs second.0 x y second.1 ∙ second.2 in
-            symmetric y x (subst (λ z. R y z) first.2 (subst (λ z. R z (get_or xs first.0 x)) b h))
-        | inr also ↦
-            let same : first.0 ≡ second.0 = omega arith in
-            let b : get_or xs second.0 x ≡ y = get_or_default xs second.0 x y second.1 ∙ second.2 in
-            absurd (apart (sym first.2 ∙ ap (λ (n : ℕ). get_or xs n x) same ∙ b))
-      ]
-    ]
 
 same-back : (p q : Package) → IsSamePackage p q → IsSamePackage q p
 same-back p q same = (sym same.0, version_total.antisymm q.version p.version ∙ ap ordering_reverse same.1)

@@ -5,6 +5,7 @@ use Rattle.std.specs.List.Sorted.{IsStrictlyIncreasing}
 use Rattle.std.proofs.lemmas.Bool.{cases_lt, false≢true}
 use Rattle.std.proofs.lemmas.List.{get_or_append_left, get_or_default, get_or_push}
 use Rattle.std.proofs.lemmas.List.Elements.{Contains-append_left, Contains-push, Contains-push_cases}
+use Rattle.dist_base.specs.ListLaws.{at-has, element-is, has-at, some-element, within-from}
 use Rattle.dist_clause.specs.ClauseList.{ClauseList}
 use Rattle.dist_clause.specs.Formula.{Literal}
 use Rattle.dist_version.specs.Order.{version_cmp}
@@ -19,10 +20,8 @@ use Rattle.dist_now.specs.PresentClauses.{Demand, Item, Apart, Required, AreNumb
 use Rattle.dist_now.proofs.Decided.{IsDecided, any-decided, matches-decided, text-decided}
 use Rattle.dist_now.proofs.FrontLemmas.{all-items, all-pairs, front-start, item-pushed, item-skipped, items-end, pair-pushed, pair-shifted, pairs-end}
 use Rattle.dist_now.proofs.ModelLemmas.{IsEssentialOf}
-use Rattle.dist_now.proofs.MemberLemmas.{within-from}
 use Rattle.dist_now.proofs.NameFronts.{named-end, named-pushed, named-skipped, named-start}
 use Rattle.dist_now.proofs.PairFronts.{pair-within}
-use Rattle.dist_now.proofs.Places.{at-has, has-at, some-element, element-is}
 
 -- ---- what is decided
 

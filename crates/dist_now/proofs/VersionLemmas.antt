@@ -3,14 +3,13 @@ use Rattle.std.proofs.Common.{◌≡◌, ◌≢◌, ℕ, ◌+◌, ◌<◌, ◌�
 use Rattle.std.specs.Prelude.{bytes_eq}
 use Rattle.std.proofs.lemmas.Bool.{cases_lt, false≢true}
 use Rattle.std.proofs.lemmas.Slice.Eq.{bytes_eq-Decides}
+use Rattle.dist_base.specs.ListLaws.{at-has, element-is, has-at, some-element, within-from}
 use Rattle.dist_repo.specs.Order.{IsInOrder}
 use Rattle.dist_repo.specs.PackageList.{PackageList, IsPackageAnd}
 use Rattle.dist_repo.specs.declared.package.Package.{Package}
 use Rattle.dist_now.specs.Gathering.{Adds}
 use Rattle.dist_now.proofs.AddsLemmas.{UpTo, AddsUpTo, adds-none, adds-one, adds-same}
-use Rattle.dist_now.proofs.MemberLemmas.{within-from}
 use Rattle.dist_now.proofs.NameLemmas.{between-named}
-use Rattle.dist_now.proofs.Places.{at-has, has-at, some-element, element-is}
 
 -- the number itself, if its package stands behind the first one and has the name
 abbrev pub IsVersionAt : (r : PackageList) (first : ℕ) (name : List ℕ) → ℕ → ℕ → Type 0

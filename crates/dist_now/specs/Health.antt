@@ -1,10 +1,10 @@
 -- Where an installation is not healthy: four kinds of fault, tried in this order, each with its least place.
 use Rattle.std.specs.Prelude.{◌≡◌, ℕ, ◌<◌, Bool, true, List, Any, IsSomeAnd, Some, slice_get}
+use Rattle.dist_base.specs.Least.{IsLeast, IsLeastPair, IsNoPair}
 use Rattle.dist_repo.specs.Conflict.{AreInConflict}
 use Rattle.dist_repo.specs.Healthy as installation
 use Rattle.dist_repo.specs.PackageList.{PackageList, IsPackageAnd}
 use Rattle.dist_repo.specs.declared.package.Package.{Package}
-use Rattle.dist_now.specs.Least.{IsLeast, IsLeastPair, IsNoPair}
 use Rattle.dist_now.specs.Members.{IsMemberAnd, members_of}
 use Rattle.dist_now.specs.declared.kinds.Health.{Health}
 use Rattle.dist_now.specs.declared.kinds.Health.TheVariants.{Healthy, TwoVersions, Unmet, Conflict, EssentialMissing}

@@ -3,12 +3,12 @@ use Rattle.std.specs.Prelude.{◌≡◌, ℕ, zero, suc, ◌<◌, true, false, B
 use Rattle.std.proofs.Common.{ap, arith, get_or, inl, inr, lit<, subst, sym}
 use Rattle.std.proofs.lemmas.Bool.{false≢true}
 use Rattle.std.proofs.lemmas.Option.{none-some}
+use Rattle.dist_base.specs.Least.{IsAtMost}
 use Rattle.dist_relation.specs.declared.atom.Atom.{Atom}
 use Rattle.dist_repo.specs.Healthy.{IsMet}
 use Rattle.dist_repo.specs.Match.{Matches}
 use Rattle.dist_repo.specs.declared.package.Package.{Package}
 use Rattle.dist_now.specs.Health.{AreTwoVersions, IsHealth}
-use Rattle.dist_now.specs.Least.{IsAtMost}
 use Rattle.dist_now.specs.PresentExamples.{any_version, needing, never-itself, two}
 use Rattle.dist_now.specs.declared.kinds.Health.TheVariants.{Unmet}
 

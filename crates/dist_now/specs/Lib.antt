@@ -1,5 +1,4 @@
 pub mod Health
-pub mod Least
 pub mod Members
 pub mod Fit
 pub mod Rows

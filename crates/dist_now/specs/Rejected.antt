@@ -1,10 +1,9 @@
 -- What a member's conflict atoms match among the other members.
-use Rattle.std.specs.Prelude.{◌≡◌, ◌≢◌, ◌⊎◌, ℕ, Bool, true, List, Option, Some, slice_get}
+use Rattle.std.specs.Prelude.{◌≡◌, ◌≢◌, ℕ, Bool, true, List, Some, slice_get}
 use Rattle.dist_relation.specs.declared.atom.Atom.{Atom}
 use Rattle.dist_repo.specs.Match.{Matches}
 use Rattle.dist_repo.specs.PackageList.{PackageList}
 use Rattle.dist_repo.specs.declared.package.Package.{Package}
-use Rattle.dist_now.specs.Least.{IsAtMost}
 use Rattle.dist_now.specs.Members.{IsMemberAnd}
 
 -- another member that an atom matches
@@ -20,9 +19,3 @@ pub record IsRejected (r : PackageList) (flags : List Bool) (number k : ℕ) : T
   pub place : ℕ
   pub is_atom : slice_get p.conflicts place ≡ Some atom
   pub rejected : IsRejectedBy r flags number atom k
-
--- one of two pairs, the first of which may be missing, and at most each of them
-pub record IsLesserPair (least : Option (ℕ × ℕ)) (first second : ℕ) (pair : ℕ × ℕ) : Type 0 where
-  pub one : (least ≡ Some pair) ⊎ ((pair.0 ≡ first) × (pair.1 ≡ second))
-  pub at_most_other : IsAtMost pair.0 pair.1 first second
-  pub at_most_least : (n k : ℕ) → least ≡ Some (n, k) → IsAtMost pair.0 pair.1 n k

@@ -1,10 +1,10 @@
 //! The least two members in conflict, found by the providers of the names in conflict atoms.
 ghost use Rattle.std.specs.Prelude.{◌≡◌, ◌⊎◌, ◌<◌, ◌≤◌, ℕ, Some, true, length, slice_get};
+ghost use Rattle.dist_base.specs.Least.{IsLeastIfAny, IsLeastPairIfAny, IsLesserPair};
 ghost use Rattle.dist_repo.specs.Providers.{AreProviders};
 ghost use Rattle.dist_now.specs.Fit.{IsOneEach};
 ghost use Rattle.dist_now.specs.Health.{AreConflicting};
-ghost use Rattle.dist_now.specs.Rejected.{IsRejectedBy, IsRejected, IsLesserPair};
-ghost use Rattle.dist_now.specs.Rows.{IsLeastIfAny, IsLeastPairIfAny};
+ghost use Rattle.dist_now.specs.Rejected.{IsRejectedBy, IsRejected};
 
 use crate::members::is_member;
 use dist_clause::Assignment;

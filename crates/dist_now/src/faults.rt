@@ -1,9 +1,10 @@
 //! The least fault of each kind: rows of pairs, each gone through from its least.
 ghost use Rattle.std.specs.Prelude.{◌≡◌, ◌<◌, Some, length, slice_get};
+ghost use Rattle.dist_base.specs.Least.{IsLeastIfAny, IsLeastPairIfAny};
 ghost use Rattle.dist_repo.specs.Size.{IsWithinSize};
 ghost use Rattle.dist_now.specs.Fit.{IsOneEach};
 ghost use Rattle.dist_now.specs.Health.{AreTwoVersions, IsUnmetAt};
-ghost use Rattle.dist_now.specs.Rows.{IsLater, IsLeastIfAny, IsLeastPairIfAny, IsUnmetItem};
+ghost use Rattle.dist_now.specs.Rows.{IsLater, IsUnmetItem};
 
 use crate::members::{is_member, is_met};
 use dist_clause::Assignment;

@@ -1,9 +1,9 @@
 //! Whether a set of packages is a healthy installation: the kinds of fault in their order.
 ghost use Rattle.std.specs.Prelude.{◌≡◌};
+ghost use Rattle.dist_base.specs.Least.{IsLeastIfAny};
 ghost use Rattle.dist_repo.specs.Size.{IsWithinSize};
 ghost use Rattle.dist_now.specs.Fit.{IsOneEach};
 ghost use Rattle.dist_now.specs.Health.{IsHealth, IsMissing};
-ghost use Rattle.dist_now.specs.Rows.{IsLeastIfAny};
 
 use crate::conflicts::conflict;
 use crate::faults::{two_versions, unmet};

@@ -2,12 +2,12 @@
 use Rattle.std.proofs.Common.{◌≡◌, ℕ, ◌+◌, List, [], ◌∷◌, ◌++◌, get_or, map, take, Some, sym, ap, subst, ◌∙◌, slice_get}
 use Rattle.std.proofs.lemmas.List.{map-append, take_more}
 use Rattle.std.proofs.lemmas.Option.{get_or_from_slice_get, slice_get_within}
+use Rattle.dist_base.specs.ListLaws.{at-has}
 use Rattle.dist_version.specs.Spelling.{IsVersion}
 use Rattle.dist_classes.specs.ClassList.{IsOfClass, example_text}
 use Rattle.dist_classes.specs.declared.class_value.Class.{Class}
 use Rattle.dist_classes.specs.declared.class_value.Class.TheVariants as class
 use Rattle.dist_space.specs.Space.{IsExample, example_at}
-use Rattle.dist_space.specs.ListLaws.{at-has}
 
 pub examples-more : (classes : List Class) (examples : List (List ℕ)) (place : ℕ) (one : Class) (version : List ℕ) → slice_get classes place ≡ Some one → version ≡ example_text one → examples ≡ map example_text (take place classes)
     → examples ++ version ∷ [] ≡ map example_text (take (place + 1) classes)

@@ -5,6 +5,7 @@ use Rattle.std.proofs.lemmas.Bool.{cases_lt}
 use Rattle.std.proofs.lemmas.List.{get_or_past, length-map, length_push}
 use Rattle.std.proofs.lemmas.List.Elements.{All-contains}
 use Rattle.std.proofs.lemmas.Option.{get_or_from_slice_get, same_Some, slice_get-get_or, slice_get_within}
+use Rattle.dist_base.specs.ListLaws.{all-contained, at-has, here-at, within-from}
 use Rattle.dist_cluster.specs.Partition.{IsClusterOf, IsIn}
 use Rattle.dist_cluster.specs.Relation.{Member, AreClustered}
 use Rattle.dist_cluster.specs.Top.{ClusterList}
@@ -15,7 +16,6 @@ use Rattle.dist_classes.specs.NewNames.{AreNewNames}
 use Rattle.dist_classes.specs.declared.class_value.Class.{Class}
 use Rattle.dist_space.specs.Kept.{AreClassesBeside, AreExampled, AreNameClassesBeside}
 use Rattle.dist_space.specs.Space.{IsFrame, SpaceView}
-use Rattle.dist_space.specs.ListLaws.{all-contained, at-has, here-at, within-from}
 
 -- one more element, and those before it
 pub push-old : {X : Type 0} (xs : List X) (x d : X) (k : ℕ) → k < length xs → get_or (xs ++ x ∷ []) k d ≡ get_or xs k d

@@ -10,6 +10,7 @@ use Rattle.std.proofs.lemmas.Cmp.{ranked}
 use Rattle.std.proofs.lemmas.List.FromFn.{get_or-range_with_len, length-range_with_len}
 use Rattle.std.proofs.lemmas.Map.Keys.{Less-from_sorted, sorted_from_strictly_increasing}
 use Rattle.std.proofs.lemmas.Option.{slice_get-get_or, slice_get_within}
+use Rattle.dist_base.specs.ListLaws.{at-has, here-at}
 use Rattle.dist_relation.specs.declared.atom.Provide.{Provide}
 use Rattle.dist_repo.specs.Match.{IsUsable}
 use Rattle.dist_repo.specs.declared.package.Package.{Package}
@@ -19,7 +20,6 @@ use Rattle.dist_space.specs.Space.{AreMeaningsOf, IsFrame, IsMeaning, SpaceView,
 use Rattle.dist_space.specs.declared.meaning.Meaning.{Meaning}
 use Rattle.dist_space.specs.declared.meaning.Meaning.TheVariants.{Now, Present, At, New, Kept, Fresh}
 use Rattle.dist_space.specs.KeyLaws.{IsLess, less-cmp}
-use Rattle.dist_space.specs.ListLaws.{at-has, here-at}
 use Rattle.dist_space.specs.RisingLaws.{StandApart, below-in, contains-cons, contains-first, contains-later, flat-in, in-below, in-flat, in-map, map-in, pairs-append, pairs-below, pairs-cons, pairs-flat, pairs-map, pairs-none}
 use Rattle.dist_space.specs.ClusterLaws.{has-cluster, in-package, placed-in}
 use Rattle.dist_space.specs.UsableLaws.{is-usable, usable-is}

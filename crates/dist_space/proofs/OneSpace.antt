@@ -4,6 +4,7 @@ use Rattle.std.proofs.Common.{◌≡◌, ℕ, suc, ◌<◌, Bool, List, [], ◌�
 use Rattle.std.specs.Prelude.{All, Any, Contains}
 use Rattle.std.proofs.lemmas.Cmp.{nat_list_cmp_total, tied_itself}
 use Rattle.std.proofs.lemmas.List.{get_or_default, same_lists}
+use Rattle.dist_base.specs.RowLaws.{IsAsymmetric, rows-same}
 use Rattle.dist_cluster.specs.Partition.{IsIn, IsPartition}
 use Rattle.dist_cluster.specs.Relation.{Member}
 use Rattle.dist_cluster.specs.Top.{ClusterList, IsTop}
@@ -16,7 +17,6 @@ use Rattle.dist_classes.specs.declared.class_value.Class.{Class}
 use Rattle.dist_space.specs.Space.{AreMeaningsOf, SpaceView, StandsBefore, cluster_classes, fresh_classes, key_of}
 use Rattle.dist_space.specs.SpaceOf.{IsSpaceOf}
 use Rattle.dist_space.specs.declared.meaning.Meaning.{Meaning}
-use Rattle.dist_space.specs.RowLaws.{IsAsymmetric, rows-same}
 
 -- ---- lists by their elements
 

@@ -7,9 +7,9 @@ use Rattle.std.specs.List.Sorted.{IsPartitionPoint, IsPartitionedBy}
 use Rattle.std.proofs.lemmas.Bool.{cases_lt, false≢true}
 use Rattle.std.proofs.lemmas.Cmp.{nat_list_cmp_total}
 use Rattle.std.proofs.lemmas.Option.{get_or_from_slice_get, slice_get_within}
+use Rattle.dist_base.specs.ListLaws.{place-of}
 use Rattle.dist_space.specs.Space.{SpaceView, StandsBefore, key_of}
 use Rattle.dist_space.specs.declared.meaning.Meaning.{Meaning}
-use Rattle.dist_space.specs.ListLaws.{place-of}
 use Rattle.dist_space.specs.VariableLaws.{not-itself}
 
 -- ---- where a meaning is found by halving

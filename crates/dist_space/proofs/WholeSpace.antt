@@ -1,6 +1,7 @@
 -- A frame with its meanings is a space.
 use Rattle.std.proofs.Common.{◌≡◌, ℕ, ◌-◌, ◌≤◌, Bool, List, length, Some, Result, Ok, Err, refl, sym, ap, subst, ◌∙◌, arith, slice_get}
 use Rattle.dist_base.specs.declared.TheConstants.{MAX_VARIABLES}
+use Rattle.dist_base.specs.ListLaws.{contains-at}
 use Rattle.dist_repo.specs.PackageList.{PackageList}
 use Rattle.dist_space.specs.Kept.{IsFrameOf, IsFull}
 use Rattle.dist_space.specs.Numbering.{meanings_of}
@@ -11,7 +12,6 @@ use Rattle.dist_space.specs.declared.errors.SpaceError.TheVariants.{TooManyVaria
 use Rattle.dist_space.specs.declared.meaning.Meaning.{Meaning}
 use Rattle.dist_space.proofs.NumberingLemmas.{numbered}
 use Rattle.dist_space.specs.VariableLaws.{variable-back}
-use Rattle.dist_space.specs.ListLaws.{contains-at}
 
 abbrev pub with_meanings : SpaceView → List Meaning → SpaceView
 with_meanings s ms = record s { meanings = ms }

@@ -7,11 +7,11 @@ use Rattle.std.proofs.lemmas.Bool.{cases_lt}
 use Rattle.std.proofs.lemmas.List.{length-map}
 use Rattle.std.proofs.lemmas.List.Elements.{All-contains}
 use Rattle.std.proofs.lemmas.Option.{get_or_from_slice_get, slice_get-map, slice_get_within}
+use Rattle.dist_base.specs.ListLaws.{at-has, element-at, found-at, within-from}
 use Rattle.dist_cluster.specs.Partition.{IsClusterOf, IsIn}
 use Rattle.dist_cluster.specs.Relation.{Member, AreClustered}
 use Rattle.dist_repo.specs.declared.package.Package.{Package}
 use Rattle.dist_classes.specs.Answers.{member_of}
-use Rattle.dist_space.specs.ListLaws.{at-has, element-at, found-at, within-from}
 use Rattle.dist_space.specs.Space.{IsFrame, SpaceView}
 
 -- ---- one package of a name

@@ -3,9 +3,7 @@ pub mod Usable
 pub mod SpaceOf
 pub mod Numbering
 pub mod Kept
-pub mod ListLaws
 pub mod RisingLaws
-pub mod RowLaws
 pub mod KeyLaws
 pub mod VariableLaws
 pub mod ClusterLaws

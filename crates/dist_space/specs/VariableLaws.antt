@@ -8,9 +8,9 @@ use Rattle.std.specs.Ordering.{is_lt, ordering_reverse}
 use Rattle.std.proofs.lemmas.Cmp.{nat_list_cmp_total, tied_itself}
 use Rattle.std.proofs.lemmas.List.Sums.{sum_by-cons}
 use Rattle.std.proofs.lemmas.Option.{get_or_from_slice_get, same_Some, slice_get-map, slice_get_within}
+use Rattle.dist_base.specs.ListLaws.{place-of}
 use Rattle.dist_clause.specs.Formula.{value_of}
 use Rattle.dist_space.specs.Space.{IsMeaning, IsSpace, SpaceView, StandsBefore, key_of, variable_of}
-use Rattle.dist_space.specs.ListLaws.{place-of}
 use Rattle.dist_space.specs.declared.meaning.Meaning.{Meaning}
 
 -- ---- how many stand before a key

@@ -1,6 +1,7 @@
 -- What bears the name of a package in a flat repository: the package as it is, and its new versions.
 use Rattle.std.proofs.Common.{◌≡◌, ◌⊎◌, ℕ, ◌+◌, ◌<◌, ◌≤◌, List, Some, length, refl, sym, ap, subst, ◌∙◌, inl, inr, arith, slice_get}
 use Rattle.std.proofs.lemmas.Bool.{cases_lt}
+use Rattle.dist_base.specs.ListLaws.{at-has, here-at}
 use Rattle.dist_repo.specs.PackageList.{IsPackageAnd}
 use Rattle.dist_repo.specs.declared.package.Package.{Package}
 use Rattle.dist_space.specs.Space.{IsMeaning, IsSpace, SpaceView, member_classes}
@@ -8,7 +9,6 @@ use Rattle.dist_space_clauses.specs.SpaceClauses.{IsBearer}
 use Rattle.dist_space.specs.declared.meaning.Meaning.{Meaning}
 use Rattle.dist_space.specs.declared.meaning.Meaning.TheVariants.{Now, Present, At, New, Kept, Fresh}
 use Rattle.dist_space_clauses.proofs.Gathered.{UpTo}
-use Rattle.dist_space.specs.ListLaws.{at-has, here-at}
 use Rattle.dist_space.specs.ClusterLaws.{names-apart}
 
 abbrev Named : List ℕ → Package → Type 0

@@ -2,6 +2,7 @@
 use Rattle.std.proofs.Common.{◌≡◌, ◌≢◌, ◌⊎◌, ℕ, ◌<◌, List, Some, Option, length, refl, sym, ap, subst, ◌∙◌, inl, inr, slice_get}
 use Rattle.std.specs.Prelude.{All, Any, Contains, IsSomeAnd}
 use Rattle.std.specs.Option.{option_map}
+use Rattle.dist_base.specs.ListLaws.{all-contained, any-contained, any-more, any-there, at-has, here-at, within-from}
 use Rattle.dist_relation.specs.declared.atom.Atom.{Atom}
 use Rattle.dist_relation.specs.declared.atom.Provide.{Provide}
 use Rattle.dist_repo.specs.Conflict.{AreInConflict}
@@ -13,7 +14,6 @@ use Rattle.dist_space.specs.Space.{IsMatched, IsMetBy, SpaceView, name_of}
 use Rattle.dist_space_clauses.specs.SpaceClauses.{Excludes}
 use Rattle.dist_space.specs.declared.meaning.Meaning.{Meaning}
 use Rattle.dist_space.specs.declared.meaning.Meaning.TheVariants.{Now, Present, At, New, Kept, Fresh}
-use Rattle.dist_space.specs.ListLaws.{all-contained, any-contained, any-more, any-there, at-has, here-at, within-from}
 use Rattle.dist_space_clauses.proofs.MatchLemmas.{MatchedAnd, matched-name}
 
 module _ (s : SpaceView) (number : ℕ) (p : Package) where

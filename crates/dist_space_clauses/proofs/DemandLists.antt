@@ -4,10 +4,10 @@ use Rattle.std.specs.Prelude.{Any}
 use Rattle.std.proofs.lemmas.List.{get_or_default, map-append}
 use Rattle.std.proofs.lemmas.List.Elements.{All-nil, All-push}
 use Rattle.std.proofs.lemmas.List.Quantifiers.{all_pairs_push, Any-push}
+use Rattle.dist_base.specs.ListLaws.{any-cases, any-head, any-later}
 use Rattle.dist_clause.specs.Formula.{Literal}
 use Rattle.dist_space.specs.Space.{SpaceView}
 use Rattle.dist_space_clauses.specs.SpaceClauses.{Demand, AreClausesOf, IsBefore, IsClauseFor}
-use Rattle.dist_space.specs.ListLaws.{any-cases, any-head, any-later}
 use Rattle.dist_space.specs.RisingLaws.{pairs-none}
 
 abbrev Row : Type 0

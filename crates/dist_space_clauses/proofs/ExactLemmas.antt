@@ -9,6 +9,8 @@ use Rattle.std.proofs.lemmas.List.{get_or_default}
 use Rattle.std.proofs.lemmas.List.Sums.{sum_by-append, sum_by-cons}
 use Rattle.std.proofs.lemmas.Map.Text.{is_eq-slice_cmp}
 use Rattle.std.proofs.lemmas.Slice.Eq.{bytes_eq-Decides}
+use Rattle.dist_base.specs.ListLaws.{element-is, has-at, some-element}
+use Rattle.dist_base.specs.RowLaws.{Has, HasOneImage, IsAsymmetric, rows-front, rows-same}
 use Rattle.dist_clause.specs.ClauseList.{ClauseList, IsWithinLimits, literal_count}
 use Rattle.dist_clause.specs.Formula.{Literal}
 use Rattle.dist_clause.specs.declared.clause_set.PushError.{PushError}
@@ -24,8 +26,6 @@ use Rattle.dist_space.specs.declared.meaning.Meaning.TheVariants.{Present}
 use Rattle.dist_space_clauses.proofs.DemandLists.{clauses-shift}
 use Rattle.dist_space_clauses.proofs.Fronts.{leading-is, rank-one}
 use Rattle.dist_space.specs.VariableLaws.{one-meaning}
-use Rattle.dist_space.specs.ListLaws.{element-is, has-at, some-element}
-use Rattle.dist_space.specs.RowLaws.{Has, HasOneImage, IsAsymmetric, rows-front, rows-same}
 
 -- ---- the order of demands
 

@@ -3,6 +3,7 @@ use Rattle.std.proofs.Common.{◌≡◌, ◌⊎◌, ℕ, ◌+◌, ◌<◌, ◌�
 use Rattle.std.specs.Prelude.{IsSomeAnd}
 use Rattle.std.specs.Cmp.Lexicographic.{slice_cmp}
 use Rattle.std.proofs.lemmas.Bool.{cases_lt}
+use Rattle.dist_base.specs.ListLaws.{within-from}
 use Rattle.dist_clause.specs.ClauseList.{ClauseList}
 use Rattle.dist_clause.specs.Formula.{Literal}
 use Rattle.dist_clause.specs.declared.clause_set.PushError.{PushError}
@@ -15,7 +16,6 @@ use Rattle.dist_space_clauses.specs.SpaceSet.{IsSetOf}
 use Rattle.dist_space.specs.declared.meaning.Meaning.{Meaning}
 use Rattle.dist_space_clauses.proofs.DemandLists.{clauses-more, clauses-shift}
 use Rattle.dist_space.specs.KeyLaws.{IsLess, cmp-less, less-cmp}
-use Rattle.dist_space.specs.ListLaws.{within-from}
 use Rattle.dist_space.specs.VariableLaws.{one-meaning}
 
 -- the meaning that leads a demand is one

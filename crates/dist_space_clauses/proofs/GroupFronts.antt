@@ -4,6 +4,7 @@ use Rattle.std.specs.Prelude.{Any, Contains, IsSomeAnd}
 use Rattle.std.proofs.lemmas.Bool.{cases_lt}
 use Rattle.std.proofs.lemmas.List.{get_or_default}
 use Rattle.std.proofs.lemmas.List.Kept.{AllPairs-from_increasing}
+use Rattle.dist_base.specs.ListLaws.{at-has, has-at, here-at, within-from}
 use Rattle.dist_clause.specs.ClauseList.{ClauseList}
 use Rattle.dist_clause.specs.Formula.{Literal}
 use Rattle.dist_clause.specs.declared.clause_set.PushError.{PushError}
@@ -25,7 +26,6 @@ use Rattle.dist_space_clauses.proofs.Fronts.{below-cases, cases-below, front-mor
 use Rattle.dist_space.specs.VariableLaws.{variable-range}
 use Rattle.dist_space.specs.KeyLaws.{IsLess}
 use Rattle.dist_space_clauses.proofs.LedFronts.{IsPairAt}
-use Rattle.dist_space.specs.ListLaws.{at-has, has-at, here-at, within-from}
 
 -- ---- the limits of one set and of another
 

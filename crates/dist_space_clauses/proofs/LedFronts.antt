@@ -1,6 +1,7 @@
 -- What the clauses that one variable leads do to a front.
 use Rattle.std.proofs.Common.{◌≡◌, ◌≢◌, ℕ, ◌+◌, ◌<◌, ◌≤◌, Bool, true, false, List, [], ◌∷◌, ◌++◌, length, get_or, slice_get, refl, sym, ap, subst, ◌∙◌, arith}
 use Rattle.std.specs.Prelude.{IsSomeAnd, slice_index}
+use Rattle.dist_base.specs.ListLaws.{within-from}
 use Rattle.dist_clause.specs.ClauseList.{ClauseList}
 use Rattle.dist_clause.specs.Formula.{IsClauseOver, Literal, literal}
 use Rattle.dist_clause.specs.declared.clause_set.PushError.{PushError}
@@ -12,7 +13,6 @@ use Rattle.dist_space_clauses.specs.SpaceClauses.{Demand, OneClass, Gone, Moved,
 use Rattle.dist_space.specs.declared.meaning.Meaning.{Meaning}
 use Rattle.dist_space.specs.declared.meaning.Meaning.TheVariants.{Now, Present, At, New, Kept, Fresh}
 use Rattle.dist_space_clauses.proofs.Fronts.{front-more, front-skip, front-variable, leads, stops}
-use Rattle.dist_space.specs.ListLaws.{within-from}
 use Rattle.dist_space_clauses.proofs.PairClauses.{meanings-over}
 
 first-number : (a b : ℕ) → ◌≡◌ {A = List ℕ} (a ∷ []) (b ∷ []) → a ≡ b

@@ -2,6 +2,7 @@
 use Rattle.std.proofs.Common.{◌≡◌, ◌⊎◌, ℕ, ◌<◌, List, Some, length, refl, sym, ap, subst, ◌∙◌, inl, inr, slice_get}
 use Rattle.std.specs.Prelude.{Any, Contains, IsSomeAnd}
 use Rattle.std.proofs.lemmas.Option.{same_Some}
+use Rattle.dist_base.specs.ListLaws.{any-at, any-contained, at-has, at-more, has-at, here-at, within-from}
 use Rattle.dist_relation.specs.declared.atom.Atom.{Atom}
 use Rattle.dist_relation.specs.declared.atom.Provide.{Provide}
 use Rattle.dist_repo.specs.Match.{IsUsable, Matches, MatchesByEntry}
@@ -11,7 +12,6 @@ use Rattle.dist_space_clauses.specs.Gathering.{IsFresh, IsKeptOf, IsLaterOf, IsO
 use Rattle.dist_space.specs.Space.{IsMatchedBy, IsMeaning, MeetsBound, SpaceView, example_at, fresh_classes, member_classes, moved_entry}
 use Rattle.dist_space.specs.declared.meaning.Meaning.{Meaning}
 use Rattle.dist_space.specs.declared.meaning.Meaning.TheVariants.{Now, Present, At, New, Kept, Fresh}
-use Rattle.dist_space.specs.ListLaws.{any-at, any-contained, at-has, at-more, has-at, here-at, within-from}
 
 module _ (s : SpaceView) (atom : Atom) where
   -- ---- one meaning

@@ -9,6 +9,7 @@ use Rattle.std.proofs.lemmas.List.Elements.{All-contains, All-cons, All-map, All
 use Rattle.std.proofs.lemmas.Map.Text.{is_eq-slice_cmp}
 use Rattle.std.proofs.lemmas.Option.{get_or_from_slice_get, slice_get_within}
 use Rattle.std.proofs.lemmas.Slice.Eq.{bytes_eq-Decides}
+use Rattle.dist_base.specs.ListLaws.{all-contained, at-has, has-at, here-at, within-from}
 use Rattle.dist_clause.specs.ClauseList.{ClauseList}
 use Rattle.dist_clause.specs.Formula.{Literal}
 use Rattle.dist_version.specs.Order.{version_cmp}
@@ -23,7 +24,6 @@ use Rattle.dist_space_clauses.specs.SpaceSet.{IsSetOf}
 use Rattle.dist_space_clauses.proofs.DemandLists.{clauses-more}
 use Rattle.dist_space_clauses.proofs.Fronts.{set-shift}
 use Rattle.dist_space.specs.KeyLaws.{cmp-less, less-cmp}
-use Rattle.dist_space.specs.ListLaws.{all-contained, at-has, has-at, here-at, within-from}
 use Rattle.dist_space.specs.ClusterLaws.{names-apart}
 
 -- ---- the elements that pass a test

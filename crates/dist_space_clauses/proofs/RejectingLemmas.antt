@@ -8,12 +8,12 @@ use Rattle.std.proofs.lemmas.Bool.{cases_lt, false≢true}
 use Rattle.std.proofs.lemmas.List.Elements.{Contains-append_left, Contains-push, Contains-push_cases}
 use Rattle.std.proofs.lemmas.Map.Text.{is_eq-slice_cmp}
 use Rattle.std.proofs.lemmas.Slice.Eq.{bytes_eq-Decides}
+use Rattle.dist_base.specs.ListLaws.{at-has, has-at, within-from}
 use Rattle.dist_relation.specs.declared.atom.Atom.{Atom}
 use Rattle.dist_repo.specs.PackageList.{PackageList}
 use Rattle.dist_repo.specs.declared.package.Package.{Package}
 use Rattle.dist_space_clauses.specs.Rejecting.{AreRejecting, Entries, IsRejecting, Notes, numbers_at}
 use Rattle.dist_space_clauses.proofs.Gathered.{any-first, any-none, any-take, any-take-back, any-whole}
-use Rattle.dist_space.specs.ListLaws.{at-has, has-at, within-from}
 
 -- ---- one number beside one name
 

@@ -2,6 +2,7 @@
 use Rattle.std.proofs.Common.{◌≡◌, ◌≢◌, ◌⊎◌, ℕ, zero, suc, ◌+◌, ◌-◌, ◌<◌, ◌≤◌, List, [], ◌∷◌, ◌++◌, length, map, take, refl, sym, ap, subst, ◌∙◌, arith, inl, inr, slice_get}
 use Rattle.std.specs.Prelude.{◌↔◌, AllPairs, Any, Contains, IsSomeAnd, slice_index}
 use Rattle.std.proofs.lemmas.Bool.{cases_lt}
+use Rattle.dist_base.specs.ListLaws.{any-contained, contains-at, element-at, ElementAt, has-at, here-at, pairs-head, pairs-tail, within-from}
 use Rattle.dist_clause.specs.ClauseList.{ClauseList}
 use Rattle.dist_clause.specs.Formula.{Literal}
 use Rattle.dist_relation.specs.declared.atom.Atom.{Atom}
@@ -25,10 +26,9 @@ use Rattle.dist_space_clauses.proofs.Gathered.{any-none, any-take, any-take-back
 use Rattle.dist_space_clauses.proofs.GroupFronts.{apart-of, groups-close, groups-none, groups-open, item-from, no-conflicts, no-items}
 use Rattle.dist_space_clauses.proofs.LedFronts.{carried-of, classes-of, fresh-of, moves-of, no-classes, no-fresh, no-moves, no-today, today-of}
 use Rattle.dist_space.specs.KeyLaws.{cmp-less, less-cmp}
-use Rattle.dist_space.specs.ListLaws.{any-contained, ElementAt, contains-at, element-at, has-at, here-at, within-from}
 use Rattle.dist_space_clauses.proofs.NameFronts.{group-cases}
 use Rattle.dist_space_clauses.proofs.SortedNames.{InOrder, IsLess, first-less, in-order}
-use Rattle.dist_space.specs.RisingLaws.{contains-cons, contains-first, contains-later, pairs-cons, pairs-head, pairs-none, pairs-tail}
+use Rattle.dist_space.specs.RisingLaws.{contains-cons, contains-first, contains-later, pairs-cons, pairs-none}
 
 -- ---- what is decided
 

@@ -6,8 +6,9 @@ use Rattle.std.specs.Ordering.{ordering_reverse}
 use Rattle.std.proofs.lemmas.Cmp.{nat_list_cmp_total}
 use Rattle.std.proofs.lemmas.List.{get_or-take, length-take-le}
 use Rattle.std.proofs.lemmas.Option.{get_or_from_slice_get, slice_get_within}
+use Rattle.dist_base.specs.ListLaws.{pairs-head, pairs-tail}
 use Rattle.dist_space_clauses.proofs.NameFronts.{same_names}
-use Rattle.dist_space.specs.RisingLaws.{contains-cons, contains-first, contains-later, pairs-cons, pairs-head, pairs-none, pairs-tail}
+use Rattle.dist_space.specs.RisingLaws.{contains-cons, contains-first, contains-later, pairs-cons, pairs-none}
 
 abbrev pub IsLess : List ℕ → List ℕ → Type 0
 IsLess a b = slice_cmp nat_cmp a b ≡ Less

@@ -4,6 +4,7 @@ use Rattle.std.specs.Prelude.{All, AllPairs, Any, Contains}
 use Rattle.std.proofs.lemmas.List.Elements.{All-cons, All-map}
 use Rattle.std.proofs.lemmas.List.Kept.{AllPairs-cons, AllPairs-from_increasing}
 use Rattle.std.proofs.lemmas.Option.{get_or_from_slice_get, slice_get_within}
+use Rattle.dist_base.specs.ListLaws.{all-contained, any-more, at-has, has-at, pairs-head, pairs-tail}
 use Rattle.dist_clause.specs.Formula.{IsClauseOver, Literal, literal}
 use Rattle.dist_relation.specs.declared.atom.Atom.{Atom}
 use Rattle.dist_repo.specs.Match.{Matches}
@@ -14,8 +15,7 @@ use Rattle.dist_space.specs.declared.meaning.Meaning.{Meaning}
 use Rattle.dist_space.specs.declared.meaning.Meaning.TheVariants.{Present}
 use Rattle.dist_space_clauses.specs.ItemLaws.{item-at, item-has}
 use Rattle.dist_space.specs.VariableLaws.{one-meaning, place-at, variable-range}
-use Rattle.dist_space.specs.ListLaws.{all-contained, any-more, at-has, has-at}
-use Rattle.dist_space.specs.RisingLaws.{pairs-more, contains-cons, contains-first, contains-later, in-map, map-in, pairs-cons, pairs-head, pairs-none, pairs-tail}
+use Rattle.dist_space.specs.RisingLaws.{pairs-more, contains-cons, contains-first, contains-later, in-map, map-in, pairs-cons, pairs-none}
 
 -- numbers that rise when they are taken of a list
 pairs-unmap : {X : Type 0} (f : X → ℕ) (xs : List X) → AllPairs (λ (a b : ℕ). a < b) (map f xs) → AllPairs (λ a b. f a < f b) xs

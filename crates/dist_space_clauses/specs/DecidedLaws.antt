@@ -5,6 +5,7 @@ use Rattle.std.specs.Prelude.{Any, IfSome, IsSomeAnd, bytes_eq, codes}
 use Rattle.std.specs.declared.cmp.Ordering.{Ordering}
 use Rattle.std.specs.declared.cmp.Ordering.TheVariants.{Less, Equal, Greater}
 use Rattle.std.proofs.lemmas.Slice.Eq.{bytes_eq-Decides}
+use Rattle.dist_base.specs.ListLaws.{any-cases, any-head, any-later}
 use Rattle.dist_version.specs.Order.{version_cmp}
 use Rattle.dist_relation.specs.Satisfies.{AllowsOrder, Satisfies}
 use Rattle.dist_relation.specs.declared.atom.Atom.{Atom}
@@ -23,7 +24,6 @@ use Rattle.dist_space.specs.Space.{IsMatched, IsMatchedBy, IsMetBy, MeetsBound, 
 use Rattle.dist_space.specs.declared.meaning.Meaning.{Meaning}
 use Rattle.dist_space.specs.declared.meaning.Meaning.TheVariants.{Now, Present, At, New, Kept, Fresh}
 use Rattle.dist_space_clauses.specs.SpaceClauses.{IsBearer}
-use Rattle.dist_space.specs.ListLaws.{any-cases, any-head, any-later}
 
 abbrev pub IsDecided : Type 0 → Type 0
 IsDecided P = P ⊎ (¬ P)

@@ -1,9 +1,9 @@
 -- An item of a package that is known by its place. No public clause cites these laws; proofs do, those of the crate above too.
 use Rattle.std.proofs.Common.{◌≡◌, ℕ, List, Some, slice_get}
 use Rattle.std.specs.Prelude.{IsSomeAnd}
+use Rattle.dist_base.specs.ListLaws.{at-has, has-at}
 use Rattle.dist_relation.specs.declared.atom.Atom.{Atom}
 use Rattle.dist_repo.specs.declared.package.Package.{Package}
-use Rattle.dist_space.specs.ListLaws.{at-has, has-at}
 use Rattle.dist_space.specs.Space.{SpaceView}
 use Rattle.dist_space_clauses.specs.SpaceClauses.{IsItemAnd}
 

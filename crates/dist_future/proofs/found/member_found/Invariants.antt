@@ -1,4 +1,4 @@
-use Rattle.dist_future.specs.Least.{IsLeastIfAny}
+use Rattle.dist_base.specs.Least.{IsLeastIfAny}
 use Rattle.dist_future.proofs.FoundLemmas.{VersionFound}
 use Rattle.dist_future.proofs.Leasts.{Before}
 use Rattle.dist_future.proofs.found.member_found.Given as goal

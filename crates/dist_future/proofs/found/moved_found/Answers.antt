@@ -2,9 +2,9 @@ use Rattle.std.proofs.Common.{ℕ, ◌+◌, ◌<◌, length, get_or, Option, sub
 use Rattle.std.specs.Prelude.{Contains}
 use Rattle.std.proofs.lemmas.Bool.{false≢true}
 use Rattle.std.proofs.lemmas.List.{get_or_default}
+use Rattle.dist_base.specs.Least.{IsLeastIfAny}
+use Rattle.dist_base.specs.ListLaws.{within-from}
 use Rattle.dist_repo.specs.Providers.{IsProvider}
-use Rattle.dist_space.specs.ListLaws.{within-from}
-use Rattle.dist_future.specs.Least.{IsLeastIfAny}
 use Rattle.dist_space_clauses.specs.Gathering.{IsLaterOf}
 use Rattle.dist_future.specs.Matching.{IsMovedBut}
 use Rattle.dist_future.proofs.FoundLemmas.{OneOf, moved-one, moved-provided, none-moved, providers-all}

@@ -1,4 +1,4 @@
-use Rattle.dist_future.specs.Least.{IsLeastIfAny}
+use Rattle.dist_base.specs.Least.{IsLeastIfAny}
 use Rattle.dist_space_clauses.specs.Gathering.{IsLaterOf}
 use Rattle.dist_future.specs.Matching.{IsMovedBut}
 use Rattle.dist_future.proofs.FoundLemmas.{OneOf}

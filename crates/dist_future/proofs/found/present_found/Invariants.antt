@@ -1,4 +1,4 @@
-use Rattle.dist_future.specs.Least.{IsLeastIfAny}
+use Rattle.dist_base.specs.Least.{IsLeastIfAny}
 use Rattle.dist_future.specs.Matching.{IsPresentBut}
 use Rattle.dist_future.proofs.FoundLemmas.{IsPresentOf, OneOf}
 use Rattle.dist_future.proofs.Leasts.{Before}

@@ -1,4 +1,4 @@
-use Rattle.dist_future.specs.Least.{IsLeastIfAny}
+use Rattle.dist_base.specs.Least.{IsLeastIfAny}
 use Rattle.dist_future.proofs.FoundLemmas.{KeptFound}
 use Rattle.dist_future.proofs.Leasts.{Before}
 use Rattle.dist_future.proofs.found.version_found.Given as goal

@@ -1,5 +1,5 @@
 use Rattle.std.proofs.Common.{arith, subst, sym, Option, ℕ, ◌+◌}
-use Rattle.dist_now.specs.Rows.{IsLeastIfAny}
+use Rattle.dist_base.specs.Least.{IsLeastIfAny}
 use Rattle.dist_now.proofs.RejectedLemmas.{IsRejectedBefore, before-none, before-some, rejected-all}
 use Rattle.dist_now.proofs.conflicts.rejected.Goals.{in-Some, in_default}
 use Rattle.dist_now.proofs.conflicts.rejected.Goals as goal

@@ -1,4 +1,4 @@
-use Rattle.dist_now.specs.Rows.{IsLeastIfAny}
+use Rattle.dist_base.specs.Least.{IsLeastIfAny}
 use Rattle.dist_now.proofs.RejectedLemmas.{IsRejectedBefore}
 use Rattle.dist_now.proofs.conflicts.rejected.Given as goal
 

@@ -1,6 +1,6 @@
 use Rattle.std.proofs.Common.{get_or, refl}
+use Rattle.dist_base.specs.ListLaws.{at-has}
 use Rattle.dist_repo.specs.Match.{Matches}
-use Rattle.dist_now.proofs.Places.{at-has}
 use Rattle.dist_now.proofs.RejectedLemmas.{least-rejected, none-rejected}
 use Rattle.dist_now.proofs.conflicts.rejected_by.Goals as goal
 

@@ -1,11 +1,11 @@
 use Rattle.std.proofs.Common.{List, arith, refl}
 use borrow.Author.Count.{below_more}
 use Rattle.std.proofs.lemmas.Option.{slice_get_within}
+use Rattle.dist_base.specs.ListLaws.{element-is, has-at, some-element}
 use Rattle.dist_relation.specs.declared.atom.Atom.{Atom}
 use Rattle.dist_repo.specs.Healthy.{IsMet}
 use Rattle.dist_now.specs.Members.{members_of}
 use Rattle.dist_now.specs.Rows.{IsUnmetItem}
-use Rattle.dist_now.proofs.Places.{has-at, some-element, element-is}
 use Rattle.dist_now.proofs.Sizes.{count-more, place-fits}
 use Rattle.dist_now.proofs.faults.unmet_item.Goals as goal
 

@@ -1,5 +1,6 @@
 use Rattle.std.proofs.Common.{refl, arith}
-use Rattle.dist_now.proofs.Places.{any-at, none-at-more, none-any}
+use Rattle.dist_base.specs.ListLaws.{any-at}
+use Rattle.dist_now.proofs.Places.{none-at-more, none-any}
 use Rattle.dist_now.proofs.MemberLemmas.{IsMetBy}
 use Rattle.dist_now.proofs.members.is_met.Goals as goal
 

@@ -1,6 +1,7 @@
 use Rattle.std.proofs.Common.{ℕ, List, inl, inr, refl, subst}
 use Rattle.std.specs.Prelude.{Any}
 use Rattle.std.proofs.lemmas.Result.{on_ok_weaker}
+use Rattle.dist_base.specs.ListLaws.{any-more}
 use Rattle.dist_repo.specs.Match.{IsUsable}
 use Rattle.dist_repo.specs.PackageList.{PackageList}
 use Rattle.dist_repo.specs.Providers.{AreProviders}
@@ -10,7 +11,6 @@ use Rattle.dist_space_clauses.specs.SpaceClauses.{Excludes}
 use Rattle.dist_space.specs.declared.meaning.Meaning.{Meaning}
 use Rattle.dist_space_clauses.proofs.ConflictLemmas.{IsNamedOther, apart-fresh, fresh-apart}
 use Rattle.dist_space_clauses.proofs.Gathered.{gathers-both, gathers-weaker}
-use Rattle.dist_space.specs.ListLaws.{any-more}
 use Rattle.dist_space_clauses.proofs.MatchLemmas.{MatchedAnd, matched-cases}
 use Rattle.dist_space_clauses.proofs.conflicts.add_atom.Goals as goal
 

@@ -1,10 +1,10 @@
 use Rattle.std.proofs.Common.{arith}
+use Rattle.dist_base.specs.ListLaws.{contains-at}
 use Rattle.dist_relation.specs.declared.atom.Atom.{Atom}
 use Rattle.dist_space.specs.Space.{IsMatched}
 use Rattle.dist_space_clauses.specs.SpaceClauses.{Excludes}
 use Rattle.dist_space.specs.declared.meaning.Meaning.{Meaning}
 use Rattle.dist_space_clauses.proofs.Gathered.{each-more, each-none, each-whole}
-use Rattle.dist_space.specs.ListLaws.{contains-at}
 use Rattle.dist_space_clauses.proofs.conflicts.add_atoms.Goals as goal
 
 pub add_atom-requires : goal.add_atom-requires

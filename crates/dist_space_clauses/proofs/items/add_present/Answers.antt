@@ -1,11 +1,11 @@
 use Rattle.std.proofs.Common.{refl, subst}
 use Rattle.std.proofs.lemmas.Result.{on_ok_weaker}
+use Rattle.dist_base.specs.ListLaws.{at-has}
 use Rattle.dist_repo.specs.Match.{Matches}
 use Rattle.dist_repo.specs.PackageList.{PackageList}
 use Rattle.dist_space.specs.Space.{IsMatchedBy}
 use Rattle.dist_space.specs.declared.meaning.Meaning.TheVariants.{Present}
 use Rattle.dist_space_clauses.proofs.Gathered.{gathers-one}
-use Rattle.dist_space.specs.ListLaws.{at-has}
 use Rattle.dist_space_clauses.proofs.items.add_present.Goals as goal
 
 pub returns-then-matches : goal.returns-then-matches
