@@ -1,5 +1,6 @@
 -- What a sweep comes to, as the command tells it.
 use Rattle.std.proofs.Common.{◌≡◌, ◌≢◌, ℕ, Bool, List, [], inl, inr, Option, Result, Ok, Err, length, refl, ap, subst}
+use Rattle.dist_base.specs.Answers.{IsExactly}
 use Rattle.dist_outside.specs.Files.{Files}
 use Rattle.dist_outside.specs.DeskView.{DeskView, OnlyReads}
 use Rattle.dist_outside.specs.Counts.{Rose}
@@ -16,7 +17,7 @@ use Rattle.dist_cert.specs.declared.records.Header.{Header}
 use Rattle.dist_subject.specs.Claims.{AreClaimsOf}
 use Rattle.dist_subject.specs.Completed.{IsCompleted}
 use Rattle.dist_subject.specs.Present.{IsAccepted}
-use Rattle.dist_strong.specs.Sweep.{ComesExactly, IsSweep, SweepAnswers, header_of}
+use Rattle.dist_strong.specs.Sweep.{IsSweep, SweepAnswers, header_of}
 use Rattle.dist_check.specs.Means.{Means}
 use Rattle.dist_report.specs.StrongReport.{strong_lines}
 use Rattle.dist_words.specs.CommandLine.{Strong}
@@ -53,8 +54,8 @@ module _ (r : PackageList) (essential : Bool) (limit : ℕ) (limits : Limits) (n
   IsKept = ClausesStage old.files limits essential r (Goes tt)
 
   abbrev Exact : Result (List Claim) WorkError → Type 0
-  Exact result = ComesExactly result (work.TooLarge what.Clauses) (PassesClauses r essential limits.clauses limits.literals)
-      × ComesExactly result (work.TooLarge what.Literals) (PassesLiterals r essential limits.clauses limits.literals)
+  Exact result = IsExactly work.NoMemory result (work.TooLarge what.Clauses) (PassesClauses r essential limits.clauses limits.literals)
+      × IsExactly work.NoMemory result (work.TooLarge what.Literals) (PassesLiterals r essential limits.clauses limits.literals)
 
   kept : (result : Result (List Claim) WorkError) → Exact result → result ≢ Err work.NoMemory → result ≢ Err (work.TooLarge what.Clauses) → result ≢ Err (work.TooLarge what.Literals) → IsKept
   kept result (clauses, literals) memory no_clauses no_literals = ((λ passes. no_clauses ((clauses memory).1 passes)), (λ passes. no_literals ((literals memory).1 passes)))

@@ -1,5 +1,6 @@
 -- What a trial comes to, as an end of a run.
 use Rattle.std.proofs.Common.{◌≡◌, ◌≢◌, inl, inr, ℕ, false, List, Option, Result, Ok, Err, refl, ap, ◌∙◌}
+use Rattle.dist_base.specs.Answers.{IsExactly}
 use Rattle.dist_outside.specs.Files.{Files}
 use Rattle.dist_outside.specs.declared.limits.Limits.{Limits}
 use Rattle.dist_outside.specs.declared.trouble.What.TheVariants.{Bytes, Stanzas, Clauses, Literals}
@@ -7,7 +8,6 @@ use Rattle.dist_outside.specs.declared.trouble.WorkError.{WorkError}
 use Rattle.dist_outside.specs.declared.trouble.WorkError.TheVariants as work
 use Rattle.dist_now.specs.PresentSet.{PassesClauses, PassesLiterals}
 use Rattle.dist_repo.specs.PackageList.{PackageList}
-use Rattle.dist_strong.specs.Sweep.{ComesExactly}
 use Rattle.dist_trial.specs.Trial.{IsTrial, OfArchive, TrialAnswers}
 use Rattle.dist_trial.specs.declared.trials.Trial.{Trial}
 use Rattle.dist_app.specs.Claims.{claims_status, marked_status}
@@ -20,8 +20,8 @@ use Rattle.dist_app.specs.declared.status.Status.{Status}
 
 -- whether the clauses of the archive pass a number is known exactly
 pub record IsExact (size seed : ℕ) (limits : Limits) (result : Result Trial WorkError) : Type 0 where
-  pub clauses : ComesExactly result (work.TooLarge Clauses) (OfArchive size seed limits (λ r. PassesClauses r false limits.clauses limits.literals))
-  pub literals : ComesExactly result (work.TooLarge Literals) (OfArchive size seed limits (λ r. PassesLiterals r false limits.clauses limits.literals))
+  pub clauses : IsExactly work.NoMemory result (work.TooLarge Clauses) (OfArchive size seed limits (λ r. PassesClauses r false limits.clauses limits.literals))
+  pub literals : IsExactly work.NoMemory result (work.TooLarge Literals) (OfArchive size seed limits (λ r. PassesLiterals r false limits.clauses limits.literals))
 
 archive_of : (files : Option Files) (size seed : ℕ) (limits : Limits) (P : PackageList → Type 0) (of : OfArchive size seed limits P) → ArchiveStage files limits size seed (Goes of.repository)
 archive_of files size seed limits P of = (of.bytes, of.stanzas, of.is_repository)

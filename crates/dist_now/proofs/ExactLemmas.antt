@@ -6,6 +6,7 @@ use Rattle.std.specs.Ordering.{ordering_reverse}
 use Rattle.std.proofs.lemmas.Bool.{cases_lt}
 use Rattle.std.proofs.lemmas.Cmp.{nat_list_cmp_total}
 use Rattle.std.proofs.lemmas.List.Sums.{sum_by-append, sum_by-cons}
+use Rattle.dist_base.specs.Answers.{IsExactly}
 use Rattle.dist_clause.specs.ClauseList.{ClauseList, IsWithinLimits, literal_count}
 use Rattle.dist_clause.specs.Formula.{Literal}
 use Rattle.dist_clause.specs.declared.clause_set.PushError.{PushError}
@@ -13,7 +14,7 @@ use Rattle.dist_clause.specs.declared.clause_set.PushError.TheVariants.{TooManyC
 use Rattle.dist_repo.specs.PackageList.{PackageList}
 use Rattle.dist_now.specs.PresentClauses.{Demand, Item, Apart, Required, AreClausesOf, IsBefore, IsClauseFor, IsDemand, IsLesser}
 use Rattle.dist_now.specs.PresentLaws.{GoesOn}
-use Rattle.dist_now.specs.PresentSet.{IsCause, IsExactly, IsSetOf, IsStopped, PassesClauses, PassesLiterals}
+use Rattle.dist_now.specs.PresentSet.{IsCause, IsSetOf, IsStopped, PassesClauses, PassesLiterals}
 use Rattle.dist_now.proofs.DemandLists.{clauses-shift, goes-on, goes-on-of, one-list}
 use Rattle.dist_now.proofs.NameLemmas.{same_names}
 
@@ -145,14 +146,14 @@ none-literals r essential c l set of within stop =
     omega (arith, h, stop.passes.1, within.literals_within, of.literal_limit_is)
 
 pub exactly-clauses : {X : Type 0} (r : PackageList) (essential : Bool) (c l : ℕ) (view : X → ClauseList) (result : Result X PushError) → IfOk result (λ x. IsSetOf r (IsDemand r essential) c l (view x)) → IfOk result (λ x. IsWithinLimits (view x))
-    → IfErr result (IsCause r essential c l) → IsExactly result TooManyClauses (PassesClauses r essential c l)
+    → IfErr result (IsCause r essential c l) → IsExactly NoMemory result TooManyClauses (PassesClauses r essential c l)
 exactly-clauses r essential c l view (Ok x) ok within err = λ memory. ((λ is. cc), λ passes. absurd (none-clauses r essential c l (view x) ok within passes))
 exactly-clauses r essential c l view (Err TooManyClauses) ok within err = λ memory. ((λ is. err), λ passes. refl)
 exactly-clauses r essential c l view (Err TooManyLiterals) ok within err = λ memory. ((λ is. cc), λ passes. absurd (never-both r essential c l passes err))
 exactly-clauses r essential c l view (Err NoMemory) ok within err = λ memory. absurd (memory refl)
 
 pub exactly-literals : {X : Type 0} (r : PackageList) (essential : Bool) (c l : ℕ) (view : X → ClauseList) (result : Result X PushError) → IfOk result (λ x. IsSetOf r (IsDemand r essential) c l (view x)) → IfOk result (λ x. IsWithinLimits (view x))
-    → IfErr result (IsCause r essential c l) → IsExactly result TooManyLiterals (PassesLiterals r essential c l)
+    → IfErr result (IsCause r essential c l) → IsExactly NoMemory result TooManyLiterals (PassesLiterals r essential c l)
 exactly-literals r essential c l view (Ok x) ok within err = λ memory. ((λ is. cc), λ passes. absurd (none-literals r essential c l (view x) ok within passes))
 exactly-literals r essential c l view (Err TooManyClauses) ok within err = λ memory. ((λ is. cc), λ passes. absurd (never-both r essential c l err passes))
 exactly-literals r essential c l view (Err TooManyLiterals) ok within err = λ memory. ((λ is. err), λ passes. refl)

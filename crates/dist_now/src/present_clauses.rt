@@ -3,12 +3,13 @@
 ghost use Rattle.std.specs.Prelude.{◌≡◌, ◌+◌, ◌<◌, ◌≤◌, ◌↔◌, ◌∷◌, ℕ, false, true, All, Contains, IfErr, IfOk, IsTrue, OnOk, Some, slice_get, length, map};
 ghost use Rattle.std.specs.List.Sorted.{IsNonDecreasingBy, IsStrictlyIncreasing};
 ghost use Rattle.dist_base.specs.declared.TheConstants.{MAX_CLAUSES, MAX_LITERALS, MAX_PACKAGES, MAX_VARIABLES};
+ghost use Rattle.dist_base.specs.Answers.{IsExactly};
 ghost use Rattle.dist_clause.specs.ClauseList.{IsWithinLimits};
-ghost use Rattle.dist_clause.specs.declared.clause_set.PushError.TheVariants.{TooManyClauses, TooManyLiterals};
+ghost use Rattle.dist_clause.specs.declared.clause_set.PushError.TheVariants.{TooManyClauses, TooManyLiterals, NoMemory};
 ghost use Rattle.dist_now.specs.Gathering.{AreSplitAt, IsCauseAt, IsEssentialSet, IsFront, IsNamedBelow, IsNamedFront, IsPairIn, IsPlainSet, IsRejectingPair};
 ghost use Rattle.dist_now.specs.Members.{IsItemAt};
 ghost use Rattle.dist_now.specs.PresentClauses.{Apart, Item, Required, IsClauseFor, IsDemand, installed, not_installed};
-ghost use Rattle.dist_now.specs.PresentSet.{IsCause, IsExactly, IsSetOf, PassesClauses, PassesLiterals};
+ghost use Rattle.dist_now.specs.PresentSet.{IsCause, IsSetOf, PassesClauses, PassesLiterals};
 
 use crate::clause_text::{add_clause, add_installed, not_installed};
 use crate::numbers::{add_versions, gather_meeting, gather_named, put_in_order};
@@ -352,8 +353,8 @@ pub fn clauses_of(
     requires clauses { clauses ≤ MAX_CLAUSES }
     requires literals { literals ≤ MAX_LITERALS }
     ensures ok { IfOk result (IsSetOf repo.now (IsDemand repo.now essential) clauses literals) }
-    ensures too_many_clauses { IsExactly result TooManyClauses (PassesClauses repo.now essential clauses literals) }
-    ensures too_many_literals { IsExactly result TooManyLiterals (PassesLiterals repo.now essential clauses literals) }
+    ensures too_many_clauses { IsExactly NoMemory result TooManyClauses (PassesClauses repo.now essential clauses literals) }
+    ensures too_many_literals { IsExactly NoMemory result TooManyLiterals (PassesLiterals repo.now essential clauses literals) }
 {
     made_clauses(alloc, repo, essential, clauses, literals)
 }

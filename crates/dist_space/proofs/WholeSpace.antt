@@ -1,12 +1,13 @@
 -- A frame with its meanings is a space.
 use Rattle.std.proofs.Common.{◌≡◌, ℕ, ◌-◌, ◌≤◌, Bool, List, length, Some, Result, Ok, Err, refl, sym, ap, subst, ◌∙◌, arith, slice_get}
 use Rattle.dist_base.specs.declared.TheConstants.{MAX_VARIABLES}
+use Rattle.dist_base.specs.Answers.{IsExactly}
 use Rattle.dist_base.specs.ListLaws.{contains-at}
 use Rattle.dist_repo.specs.PackageList.{PackageList}
 use Rattle.dist_space.specs.Kept.{IsFrameOf, IsFull}
 use Rattle.dist_space.specs.Numbering.{meanings_of}
 use Rattle.dist_space.specs.Space.{AreMeaningsOf, IsFrame, IsSpace, SpaceView, IsMeaningOf}
-use Rattle.dist_space.specs.SpaceOf.{HasMoreVariables, IsExactly, IsSpaceOf}
+use Rattle.dist_space.specs.SpaceOf.{HasMoreVariables, IsSpaceOf}
 use Rattle.dist_space.specs.declared.errors.SpaceError.{SpaceError}
 use Rattle.dist_space.specs.declared.errors.SpaceError.TheVariants.{TooManyVariables, NoMemory}
 use Rattle.dist_space.specs.declared.meaning.Meaning.{Meaning}
@@ -41,12 +42,12 @@ whole-of r essential s ms of is = record { space = whole s ms of.frame is; repos
 
 -- exactly where there are too many
 pub exactly-none : {X : Type 0} (r : PackageList) (essential : Bool) (s : SpaceView) (variables : ℕ) (e : SpaceError) (result : Result X SpaceError) → result ≡ Err e → IsFrameOf r essential s → IsFull variables (length (meanings_of s)) e
-    → IsExactly result TooManyVariables (HasMoreVariables r essential variables)
+    → IsExactly NoMemory result TooManyVariables (HasMoreVariables r essential variables)
 exactly-none r essential s variables TooManyVariables result is of full = λ some. (λ err. (with_meanings s (meanings_of s), whole-of r essential s (meanings_of s) of refl, full), λ more. is)
 exactly-none r essential s variables NoMemory result is of full = λ some. absurd (some is)
 
 pub exactly-some : {X : Type 0} (r : PackageList) (essential : Bool) (s : SpaceView) (variables : ℕ) (result : Result X SpaceError) (space : X) → result ≡ Ok space → IsSpaceOf r essential s → length s.meanings ≤ variables
-    → ((a b : SpaceView) → IsSpaceOf r essential a → IsSpaceOf r essential b → b ≡ a) → IsExactly result TooManyVariables (HasMoreVariables r essential variables)
+    → ((a b : SpaceView) → IsSpaceOf r essential a → IsSpaceOf r essential b → b ≡ a) → IsExactly NoMemory result TooManyVariables (HasMoreVariables r essential variables)
 exactly-some r essential s variables result space is of within one = λ some. (
   λ err. absurd (let no : Ok space ≡ Err TooManyVariables = sym is ∙ err in cc),
   λ more. absurd (let same = ap (λ (x : SpaceView). length x.meanings) (one s more.0 of more.1) in let past = more.2 in omega (arith, within, same, past)),

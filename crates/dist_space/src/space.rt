@@ -1,10 +1,11 @@
 //! The space of the futures of a repository.
 ghost use Rattle.std.specs.Prelude.{◌≡◌, ◌≤◌, ◌<◌, ◌-◌, ◌^◌, IfOk, Some, length, slice_get};
 ghost use Rattle.dist_base.specs.declared.TheConstants.{MAX_VARIABLES};
+ghost use Rattle.dist_base.specs.Answers.{IsExactly};
 ghost use Rattle.dist_repo.specs.Order.{IsFlat};
 ghost use Rattle.dist_repo.specs.Size.{IsWithinSize};
 ghost use Rattle.dist_space.specs.Space.{IsMeaningOf, IsMeaning, IsSpace, cluster_classes, example_at, fresh_classes, variable_of};
-ghost use Rattle.dist_space.specs.SpaceOf.{HasMoreVariables, IsExactly, IsSpaceOf};
+ghost use Rattle.dist_space.specs.SpaceOf.{HasMoreVariables, IsSpaceOf};
 
 use crate::errors::SpaceError;
 use crate::frame::Frame;
@@ -70,7 +71,7 @@ pub fn space_of(
     requires variables { variables ≤ MAX_VARIABLES }
     ensures ok { IfOk result (λ space. IsSpaceOf repo essential space) }
     ensures within { IfOk result (λ space. length space.meanings ≤ variables) }
-    ensures too_many { IsExactly result SpaceError.TooManyVariables (HasMoreVariables repo essential variables) }
+    ensures too_many { IsExactly SpaceError.NoMemory result SpaceError.TooManyVariables (HasMoreVariables repo essential variables) }
 {
     // What this call tells is that no other space has another number of variables.
     spaces_are_one();

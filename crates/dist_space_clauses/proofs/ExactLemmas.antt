@@ -9,6 +9,7 @@ use Rattle.std.proofs.lemmas.List.{get_or_default}
 use Rattle.std.proofs.lemmas.List.Sums.{sum_by-append, sum_by-cons}
 use Rattle.std.proofs.lemmas.Map.Text.{is_eq-slice_cmp}
 use Rattle.std.proofs.lemmas.Slice.Eq.{bytes_eq-Decides}
+use Rattle.dist_base.specs.Answers.{IsExactly}
 use Rattle.dist_base.specs.ListLaws.{element-is, has-at, some-element}
 use Rattle.dist_base.specs.RowLaws.{Has, HasOneImage, IsAsymmetric, rows-front, rows-same}
 use Rattle.dist_clause.specs.ClauseList.{ClauseList, IsWithinLimits, literal_count}
@@ -20,7 +21,7 @@ use Rattle.dist_repo.specs.declared.package.Package.{Package}
 use Rattle.dist_space.specs.Space.{AreMeaningsOf, IsMetBy, IsSpace, SpaceView, StandsBefore, key_of, variable_of}
 use Rattle.dist_space_clauses.specs.SpaceClauses.{Demand, OneClass, Gone, Moved, Carried, OneFresh, Item, Apart, StaysNow, AbsentNow, Required, AreClausesOf, IsBearer, IsBefore, IsClauseFor, IsDemand, IsItemAnd, group_of, leading, no, rank_of, second_of, yes}
 use Rattle.dist_space_clauses.specs.ClauseLaws.{GoesOn}
-use Rattle.dist_space_clauses.specs.SpaceSet.{IsCause, IsExactly, IsSetOf, IsStopped, PassesClauses, PassesLiterals}
+use Rattle.dist_space_clauses.specs.SpaceSet.{IsCause, IsSetOf, IsStopped, PassesClauses, PassesLiterals}
 use Rattle.dist_space.specs.declared.meaning.Meaning.{Meaning}
 use Rattle.dist_space.specs.declared.meaning.Meaning.TheVariants.{Present}
 use Rattle.dist_space_clauses.proofs.DemandLists.{clauses-shift}
@@ -200,13 +201,13 @@ none-literals s c l set of within stop =
     omega (arith, h, stop.passes.1, within.literals_within, of.literal_limit_is)
 
 module _ {X : Type 0} (s : SpaceView) (c l : ℕ) (space : IsSpace s) (view : X → ClauseList) where
-  pub exactly-clauses : (result : Result X PushError) → IfOk result (λ x. IsSetOf s (IsDemand s) c l (view x)) → IfOk result (λ x. IsWithinLimits (view x)) → IfErr result (IsCause s c l) → IsExactly result TooManyClauses (PassesClauses s c l)
+  pub exactly-clauses : (result : Result X PushError) → IfOk result (λ x. IsSetOf s (IsDemand s) c l (view x)) → IfOk result (λ x. IsWithinLimits (view x)) → IfErr result (IsCause s c l) → IsExactly NoMemory result TooManyClauses (PassesClauses s c l)
   exactly-clauses (Ok x) ok within err = λ memory. ((λ is. cc), λ passes. absurd (none-clauses s c l (view x) ok within passes))
   exactly-clauses (Err TooManyClauses) ok within err = λ memory. ((λ is. err), λ passes. refl)
   exactly-clauses (Err TooManyLiterals) ok within err = λ memory. ((λ is. cc), λ passes. absurd (never-both s c l space passes err))
   exactly-clauses (Err NoMemory) ok within err = λ memory. absurd (memory refl)
 
-  pub exactly-literals : (result : Result X PushError) → IfOk result (λ x. IsSetOf s (IsDemand s) c l (view x)) → IfOk result (λ x. IsWithinLimits (view x)) → IfErr result (IsCause s c l) → IsExactly result TooManyLiterals (PassesLiterals s c l)
+  pub exactly-literals : (result : Result X PushError) → IfOk result (λ x. IsSetOf s (IsDemand s) c l (view x)) → IfOk result (λ x. IsWithinLimits (view x)) → IfErr result (IsCause s c l) → IsExactly NoMemory result TooManyLiterals (PassesLiterals s c l)
   exactly-literals (Ok x) ok within err = λ memory. ((λ is. cc), λ passes. absurd (none-literals s c l (view x) ok within passes))
   exactly-literals (Err TooManyClauses) ok within err = λ memory. ((λ is. cc), λ passes. absurd (never-both s c l space err passes))
   exactly-literals (Err TooManyLiterals) ok within err = λ memory. ((λ is. err), λ passes. refl)

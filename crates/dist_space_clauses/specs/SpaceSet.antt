@@ -1,5 +1,5 @@
 -- What `clauses_of` answers: the set of the clauses of a space, or the limit that they pass first.
-use Rattle.std.specs.Prelude.{◌≡◌, ◌≢◌, ◌↔◌, ℕ, ◌+◌, ◌<◌, ◌≤◌, List, Result, Err, length}
+use Rattle.std.specs.Prelude.{◌≡◌, ℕ, ◌+◌, ◌<◌, ◌≤◌, List, length}
 use Rattle.dist_clause.specs.ClauseList.{ClauseList, literal_count}
 use Rattle.dist_clause.specs.Formula.{Literal}
 use Rattle.dist_clause.specs.declared.clause_set.PushError.{PushError}
@@ -40,7 +40,3 @@ abbrev pub IsCause : SpaceView → (clause_limit literal_limit : ℕ) → PushEr
 IsCause s clause_limit literal_limit TooManyClauses = PassesClauses s clause_limit literal_limit
 IsCause s clause_limit literal_limit TooManyLiterals = PassesLiterals s clause_limit literal_limit
 IsCause s clause_limit literal_limit NoMemory = Unit {0}
-
--- an error comes exactly where its cause is there, want of memory apart
-abbrev pub IsExactly : {X : Type 0} → Result X PushError → PushError → Type 0 → Type 0
-IsExactly result error cause = result ≢ Err NoMemory → ((result ≡ Err error) ↔ cause)

@@ -1,12 +1,13 @@
 //! The clauses of a space, made in their order, so that the first limit that they pass ends the work.
 ghost use Rattle.std.specs.Prelude.{◌≤◌, IfErr, IfOk, OnOk};
 ghost use Rattle.dist_base.specs.declared.TheConstants.{MAX_CLAUSES, MAX_LITERALS};
+ghost use Rattle.dist_base.specs.Answers.{IsExactly};
 ghost use Rattle.dist_clause.specs.ClauseList.{IsWithinLimits};
-ghost use Rattle.dist_clause.specs.declared.clause_set.PushError.TheVariants.{TooManyClauses, TooManyLiterals};
+ghost use Rattle.dist_clause.specs.declared.clause_set.PushError.TheVariants.{TooManyClauses, TooManyLiterals, NoMemory};
 ghost use Rattle.dist_space_clauses.specs.Gathering.{IsCauseAt, IsGroupsFront};
 ghost use Rattle.dist_space_clauses.specs.Rejecting.{AreRejecting};
 ghost use Rattle.dist_space_clauses.specs.SpaceClauses.{IsDemand};
-ghost use Rattle.dist_space_clauses.specs.SpaceSet.{IsCause, IsExactly, IsSetOf, PassesClauses, PassesLiterals};
+ghost use Rattle.dist_space_clauses.specs.SpaceSet.{IsCause, IsSetOf, PassesClauses, PassesLiterals};
 
 use crate::clause_text::Scratch;
 use crate::essential::push_names;
@@ -105,8 +106,8 @@ pub fn clauses_of(
     requires clauses { clauses ≤ MAX_CLAUSES }
     requires literals { literals ≤ MAX_LITERALS }
     ensures ok { IfOk result (IsSetOf space.now (IsDemand space.now) clauses literals) }
-    ensures too_many_clauses { IsExactly result TooManyClauses (PassesClauses space.now clauses literals) }
-    ensures too_many_literals { IsExactly result TooManyLiterals (PassesLiterals space.now clauses literals) }
+    ensures too_many_clauses { IsExactly NoMemory result TooManyClauses (PassesClauses space.now clauses literals) }
+    ensures too_many_literals { IsExactly NoMemory result TooManyLiterals (PassesLiterals space.now clauses literals) }
 {
     // What this call tells is that it is a space.
     let _variables = space.variables();

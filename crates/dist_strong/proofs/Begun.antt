@@ -2,6 +2,7 @@
 use Rattle.std.proofs.Common.{◌≡◌, ◌≢◌, ℕ, ◌<◌, ◌≤◌, ◌^◌, Bool, List, [], length, Result, Ok, Err, refl, ap, sym, subst, ◌∙◌, append-nil, arith}
 use Rattle.std.proofs.lemmas.List.Elements.{All-nil}
 use Rattle.dist_base.specs.declared.TheConstants.{MAX_CLAUSES, MAX_PACKAGES}
+use Rattle.dist_base.specs.Answers.{IsExactly}
 use Rattle.dist_clause.specs.ClauseList.{ClauseList, IsWithinLimits, literal_count}
 use Rattle.dist_clause.specs.Formula.{Literal}
 use Rattle.dist_derive.specs.ClauseLog.{ClauseLog}
@@ -20,7 +21,7 @@ use Rattle.dist_cert.specs.declared.records.Header.{Header}
 use Rattle.dist_cert.specs.PartByRecords.{IsHeaderOf}
 use Rattle.dist_subject.specs.Present.{AreInputs, subject_of}
 use Rattle.dist_strong.specs.Asking.{AskerView}
-use Rattle.dist_strong.specs.Sweep.{ComesExactly, SweepAnswers}
+use Rattle.dist_strong.specs.Sweep.{SweepAnswers}
 use Rattle.dist_strong.specs.Sweeping.{Begins, MayBegin, new_writer, setting_of}
 use Rattle.dist_strong.specs.Window.{WindowView}
 
@@ -114,16 +115,16 @@ no-error : (set : ClauseList) (error : WorkError) → Ok set ≢ Err error
 no-error set error e = cc
 
 pub clauses-exact : (r : PackageList) (essential : Bool) (limit : ℕ) (limits : Limits) (name : List ℕ) (old new : DeskView) (set : ClauseList) (result : Result (List Claim) WorkError)
-    → ComesExactly (Ok set) (TooLarge Clauses) (PassesClauses r essential limits.clauses limits.literals) → SweepAnswers r essential limit limits name old new result
-    → ComesExactly result (TooLarge Clauses) (PassesClauses r essential limits.clauses limits.literals)
+    → IsExactly NoMemory (Ok set) (TooLarge Clauses) (PassesClauses r essential limits.clauses limits.literals) → SweepAnswers r essential limit limits name old new result
+    → IsExactly NoMemory result (TooLarge Clauses) (PassesClauses r essential limits.clauses limits.literals)
 clauses-exact r essential limit limits name old new set result inputs answers = λ other. (
   (λ is. (subst (λ (x : Result (List Claim) WorkError). SweepAnswers r essential limit limits name old new x) is answers).1),
   λ cause. absurd (no-error set (TooLarge Clauses) ((inputs (no-error set NoMemory)).1 cause)),
 )
 
 pub literals-exact : (r : PackageList) (essential : Bool) (limit : ℕ) (limits : Limits) (name : List ℕ) (old new : DeskView) (set : ClauseList) (result : Result (List Claim) WorkError)
-    → ComesExactly (Ok set) (TooLarge Literals) (PassesLiterals r essential limits.clauses limits.literals) → SweepAnswers r essential limit limits name old new result
-    → ComesExactly result (TooLarge Literals) (PassesLiterals r essential limits.clauses limits.literals)
+    → IsExactly NoMemory (Ok set) (TooLarge Literals) (PassesLiterals r essential limits.clauses limits.literals) → SweepAnswers r essential limit limits name old new result
+    → IsExactly NoMemory result (TooLarge Literals) (PassesLiterals r essential limits.clauses limits.literals)
 literals-exact r essential limit limits name old new set result inputs answers = λ other. (
   (λ is. (subst (λ (x : Result (List Claim) WorkError). SweepAnswers r essential limit limits name old new x) is answers).1),
   λ cause. absurd (no-error set (TooLarge Literals) ((inputs (no-error set NoMemory)).1 cause)),

@@ -1,5 +1,5 @@
 -- What a sweep writes, and why it stops.
-use Rattle.std.specs.Prelude.{◌≡◌, ◌≢◌, ◌↔◌, ◌⊎◌, ℕ, Bool, List, Result, Ok, Err, length}
+use Rattle.std.specs.Prelude.{◌≡◌, ◌⊎◌, ℕ, Bool, List, Result, Ok, Err, length}
 use Rattle.dist_outside.specs.Counts.{Rose}
 use Rattle.dist_outside.specs.DeskView.{DeskView, Holds, WriteCounts}
 use Rattle.dist_outside.specs.Files.{Idle, IsNotWriting, with_file}
@@ -62,7 +62,3 @@ SweepAnswers r essential limit limits name old new (Err (TooLarge what)) = (text
 SweepAnswers r essential limit limits name old new (Err WriteFault) = Rose old.write_faults new.write_faults × LeavesPart r essential limit limits name old new
 SweepAnswers r essential limit limits name old new (Err NoMemory) = LeavesPart r essential limit limits name old new
 SweepAnswers r essential limit limits name old new (Err ReadFault) = ⊥
-
--- an error comes exactly where its cause is there, want of memory apart
-abbrev pub ComesExactly : {X : Type 0} → Result X WorkError → WorkError → Type 0 → Type 0
-ComesExactly result error cause = result ≢ Err NoMemory → ((result ≡ Err error) ↔ cause)

@@ -1,6 +1,7 @@
 //! The sweep over all packages, from the first line of its certificate to the last.
 ghost use Rattle.std.specs.Prelude.{◌≡◌, ◌≤◌, [], IfErr, IfOk, OnErr, OnOk, length};
 ghost use Rattle.dist_base.specs.declared.TheConstants.{MAX_PACKAGES};
+ghost use Rattle.dist_base.specs.Answers.{IsExactly};
 ghost use Rattle.dist_cert.specs.Form.{KeepsLimit};
 ghost use Rattle.dist_now.specs.PresentClauses.{IsDemand};
 ghost use Rattle.dist_now.specs.PresentSet.{IsSetOf, PassesClauses, PassesLiterals};
@@ -8,10 +9,10 @@ ghost use Rattle.dist_outside.specs.DeskView.{Closed, Holds, NotCreated};
 ghost use Rattle.dist_outside.specs.Files.{IsNotWriting, IsWriting, Writing, where_told};
 ghost use Rattle.dist_outside.specs.Reading.{DeskWriteCause};
 ghost use Rattle.dist_outside.specs.declared.trouble.What.TheVariants as what;
-ghost use Rattle.dist_outside.specs.declared.trouble.WorkError.TheVariants.{TooLarge};
+ghost use Rattle.dist_outside.specs.declared.trouble.WorkError.TheVariants.{NoMemory, TooLarge};
 ghost use Rattle.dist_repo.specs.Size.{IsWithinSize};
 ghost use Rattle.dist_strong.specs.Script.{Grows};
-ghost use Rattle.dist_strong.specs.Sweep.{ComesExactly, SweepAnswers};
+ghost use Rattle.dist_strong.specs.Sweep.{SweepAnswers};
 ghost use Rattle.dist_strong.specs.Sweeping.{ClaimsMore, ClaimsStop, FileAnswers, InputCause, SweepMore, SweepStops};
 ghost use Rattle.dist_subject.specs.Limited.{AreStated};
 
@@ -135,8 +136,8 @@ fn inputs_of(
     requires packages { length repo.now.packages ≤ MAX_PACKAGES }
     requires limits { AreStated limits.now }
     ensures ok { IfOk result (IsSetOf repo.now (IsDemand repo.now essential) limits.now.clauses limits.now.literals) }
-    ensures too_many_clauses { ComesExactly result (TooLarge what.Clauses) (PassesClauses repo.now essential limits.now.clauses limits.now.literals) }
-    ensures too_many_literals { ComesExactly result (TooLarge what.Literals) (PassesLiterals repo.now essential limits.now.clauses limits.now.literals) }
+    ensures too_many_clauses { IsExactly NoMemory result (TooLarge what.Clauses) (PassesClauses repo.now essential limits.now.clauses limits.now.literals) }
+    ensures too_many_literals { IsExactly NoMemory result (TooLarge what.Literals) (PassesLiterals repo.now essential limits.now.clauses limits.now.literals) }
     ensures cause { IfErr result (InputCause repo.now essential limits.now) }
 {
     match clauses_of(alloc, repo, essential, limits.clauses, limits.literals) {
@@ -199,8 +200,8 @@ pub fn strong<D: Desk>(
     requires upto { limit ≤ 1000000 }
     requires limits { AreStated limits.now }
     ensures answers { SweepAnswers repo.now essential limit limits.now name.now (D.view desk.old) (D.view desk.new) result }
-    ensures too_many_clauses { ComesExactly result (TooLarge what.Clauses) (PassesClauses repo.now essential limits.now.clauses limits.now.literals) }
-    ensures too_many_literals { ComesExactly result (TooLarge what.Literals) (PassesLiterals repo.now essential limits.now.clauses limits.now.literals) }
+    ensures too_many_clauses { IsExactly NoMemory result (TooLarge what.Clauses) (PassesClauses repo.now essential limits.now.clauses limits.now.literals) }
+    ensures too_many_literals { IsExactly NoMemory result (TooLarge what.Literals) (PassesLiterals repo.now essential limits.now.clauses limits.now.literals) }
 {
     let inputs = inputs_of(alloc, repo, essential, limits)?;
     write_over(alloc, repo, essential, inputs, desk, name, limit, limits)

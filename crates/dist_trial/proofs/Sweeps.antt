@@ -3,6 +3,7 @@ use Rattle.std.proofs.Common.{◌≡◌, ◌≢◌, ◌∙◌, ℕ, cond, false,
 use Rattle.std.proofs.lemmas.Cmp.{nat_list_cmp_total}
 use Rattle.std.specs.Cmp.{eq_by_cmp_equiv}
 use Rattle.std.specs.FinMap.{get, insert, get-insert}
+use Rattle.dist_base.specs.Answers.{IsExactly}
 use Rattle.dist_outside.specs.DeskView.{DeskView, Holds}
 use Rattle.dist_outside.specs.Files.{Files, Mode, Idle, file_bytes, with_file}
 use Rattle.dist_outside.specs.declared.limits.Limits.{Limits}
@@ -15,7 +16,7 @@ use Rattle.dist_repo.specs.PackageList.{PackageList}
 use Rattle.dist_cert.specs.declared.faults.CertFault.{CertFault}
 use Rattle.dist_cert.specs.declared.records.Claim.{Claim}
 use Rattle.dist_cert.specs.declared.records.Header.{Header}
-use Rattle.dist_strong.specs.Sweep.{ComesExactly, SweepAnswers, header_of}
+use Rattle.dist_strong.specs.Sweep.{SweepAnswers, header_of}
 use Rattle.dist_check.specs.Answers.{Answers, IsOfText, IsVerdict}
 use Rattle.dist_check.specs.Checking.{OfText}
 use Rattle.dist_check.specs.declared.verdict.Verdict.{Verdict}
@@ -32,23 +33,23 @@ pub same-error : {X : Type 0} (result : Result X WorkError) (error other : WorkE
 same-error result error other is also = cc
 
 -- an error comes as exactly from a call that hands it on
-pub exact-ok : {X Y : Type 0} (x : X) (y : Y) (error : WorkError) (P : Type 0) → ComesExactly (Ok x) error P → ComesExactly (Ok y) error P
+pub exact-ok : {X Y : Type 0} (x : X) (y : Y) (error : WorkError) (P : Type 0) → IsExactly NoMemory (Ok x) error P → IsExactly NoMemory (Ok y) error P
 exact-ok x y error P exact = λ other. (
   (λ is. absurd (no-error y error is)),
   λ p. absurd (no-error x error ((exact (no-error x NoMemory)).1 p)),
 )
 
-pub exact-err : {X Y : Type 0} (error other : WorkError) (P : Type 0) → ComesExactly {X = X} (Err error) other P → ComesExactly {X = Y} (Err error) other P
+pub exact-err : {X Y : Type 0} (error other : WorkError) (P : Type 0) → IsExactly {X = X} NoMemory (Err error) other P → IsExactly {X = Y} NoMemory (Err error) other P
 exact-err {X} {Y} error other P exact = λ free.
     let x : Result X WorkError = Err error in
     let y : Result Y WorkError = Err error in
     let both = exact (λ is. free (ap Err (same-error x error NoMemory refl is))) in
     ((λ is. both.0 (ap Err (same-error y error other refl is))), λ p. ap Err (same-error x error other refl (both.1 p)))
 
-pub exact-none : {Y : Type 0} (other : WorkError) (P : Type 0) → ComesExactly {X = Y} (Err NoMemory) other P
+pub exact-none : {Y : Type 0} (other : WorkError) (P : Type 0) → IsExactly {X = Y} NoMemory (Err NoMemory) other P
 exact-none other P = λ free. absurd (free refl)
 
-pub exact-memory : {X Y : Type 0} (error other : WorkError) (P : Type 0) → ComesExactly {X = X} (Err error) other P → ComesExactly {X = Y} (Err (in_memory error)) other P
+pub exact-memory : {X Y : Type 0} (error other : WorkError) (P : Type 0) → IsExactly {X = X} NoMemory (Err error) other P → IsExactly {X = Y} NoMemory (Err (in_memory error)) other P
 exact-memory ReadFault other P exact = exact-none other P
 exact-memory WriteFault other P exact = exact-none other P
 exact-memory (TooLarge what) other P exact = exact-err (TooLarge what) other P exact

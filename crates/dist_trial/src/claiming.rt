@@ -1,10 +1,10 @@
 //! The claims of a repository: a sweep writes its certificate to a desk in memory, and the check reads it there.
 ghost use Rattle.std.specs.Prelude.{◌≡◌, ◌≢◌, ℕ, false, Err, Result};
+ghost use Rattle.dist_base.specs.Answers.{IsExactly};
 ghost use Rattle.dist_now.specs.PresentSet.{PassesClauses, PassesLiterals};
 ghost use Rattle.dist_outside.specs.declared.trouble.What.TheVariants as what;
-ghost use Rattle.dist_outside.specs.declared.trouble.WorkError.TheVariants.{TooLarge};
+ghost use Rattle.dist_outside.specs.declared.trouble.WorkError.TheVariants.{NoMemory, TooLarge};
 ghost use Rattle.dist_repo.specs.Size.{IsWithinSize};
-ghost use Rattle.dist_strong.specs.Sweep.{ComesExactly};
 ghost use Rattle.dist_subject.specs.Limited.{AreStated};
 ghost use Rattle.dist_trial.specs.Claiming.{in_memory};
 ghost use Rattle.dist_trial.specs.Trial.{AreSwept, SweptAnswers};
@@ -42,8 +42,8 @@ pub(crate) fn claims_of(
     requires size { IsWithinSize repo.now }
     requires limits { AreStated limits.now }
     ensures answers { SweptAnswers (AreSwept repo.now limits.now) repo.now limits.now result }
-    ensures too_many_clauses { ComesExactly result (TooLarge what.Clauses) (PassesClauses repo.now false limits.now.clauses limits.now.literals) }
-    ensures too_many_literals { ComesExactly result (TooLarge what.Literals) (PassesLiterals repo.now false limits.now.clauses limits.now.literals) }
+    ensures too_many_clauses { IsExactly NoMemory result (TooLarge what.Clauses) (PassesClauses repo.now false limits.now.clauses limits.now.literals) }
+    ensures too_many_literals { IsExactly NoMemory result (TooLarge what.Literals) (PassesLiterals repo.now false limits.now.clauses limits.now.literals) }
 {
     texts_have_one_verdict();
     texts_have_one_answer();

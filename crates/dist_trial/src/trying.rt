@@ -1,11 +1,11 @@
 //! A trial, stage by stage.
 ghost use Rattle.std.specs.Prelude.{◌≡◌, ◌≢◌, ◌≤◌, ◌<◌, false, length};
+ghost use Rattle.dist_base.specs.Answers.{IsExactly};
 ghost use Rattle.dist_generate.specs.Generator.{generated};
 ghost use Rattle.dist_now.specs.PresentSet.{PassesClauses, PassesLiterals};
 ghost use Rattle.dist_outside.specs.declared.trouble.What.TheVariants as what;
-ghost use Rattle.dist_outside.specs.declared.trouble.WorkError.TheVariants.{TooLarge};
+ghost use Rattle.dist_outside.specs.declared.trouble.WorkError.TheVariants.{NoMemory, TooLarge};
 ghost use Rattle.dist_repo.specs.Size.{IsWithinSize};
-ghost use Rattle.dist_strong.specs.Sweep.{ComesExactly};
 ghost use Rattle.dist_subject.specs.Limited.{AreStated};
 ghost use Rattle.dist_trial.specs.Trial.{IsTrial, OfArchive, SweptAnswers, TrialAnswers};
 
@@ -24,8 +24,8 @@ fn swept(alloc: Global, size: u32, repo: &Repository, limits: &Limits) -> Result
     requires size { IsWithinSize repo.now }
     requires limits { AreStated limits.now }
     ensures answers { SweptAnswers (λ done. IsTrial size limits.now done repo.now) repo.now limits.now result }
-    ensures too_many_clauses { ComesExactly result (TooLarge what.Clauses) (PassesClauses repo.now false limits.now.clauses limits.now.literals) }
-    ensures too_many_literals { ComesExactly result (TooLarge what.Literals) (PassesLiterals repo.now false limits.now.clauses limits.now.literals) }
+    ensures too_many_clauses { IsExactly NoMemory result (TooLarge what.Clauses) (PassesClauses repo.now false limits.now.clauses limits.now.literals) }
+    ensures too_many_literals { IsExactly NoMemory result (TooLarge what.Literals) (PassesLiterals repo.now false limits.now.clauses limits.now.literals) }
 {
     let claims = claims_of(alloc, repo, limits)?;
     Ok(told(alloc, size, &claims)?)
@@ -39,11 +39,11 @@ pub fn trial(alloc: Global, size: u32, seed: u32, limits: &Limits) -> Result<Tri
     requires few { size ≤ 2000 }
     requires limits { AreStated limits.now }
     ensures answers { TrialAnswers size seed limits.now result }
-    ensures too_many_bytes { ComesExactly result (TooLarge what.Bytes) (limits.now.bytes < length (generated size seed)) }
-    ensures too_many_stanzas { ComesExactly result (TooLarge what.Stanzas) ((length (generated size seed) ≤ limits.now.bytes) × (limits.now.stanzas < size)) }
-    ensures too_many_clauses { ComesExactly result (TooLarge what.Clauses)
+    ensures too_many_bytes { IsExactly NoMemory result (TooLarge what.Bytes) (limits.now.bytes < length (generated size seed)) }
+    ensures too_many_stanzas { IsExactly NoMemory result (TooLarge what.Stanzas) ((length (generated size seed) ≤ limits.now.bytes) × (limits.now.stanzas < size)) }
+    ensures too_many_clauses { IsExactly NoMemory result (TooLarge what.Clauses)
         (OfArchive size seed limits.now (λ r. PassesClauses r false limits.now.clauses limits.now.literals)) }
-    ensures too_many_literals { ComesExactly result (TooLarge what.Literals)
+    ensures too_many_literals { IsExactly NoMemory result (TooLarge what.Literals)
         (OfArchive size seed limits.now (λ r. PassesLiterals r false limits.now.clauses limits.now.literals)) }
 {
     packages_are_exact();

@@ -1,4 +1,5 @@
 use Rattle.std.proofs.Common.{false, List, Result, Ok, Err, arith, codes, refl, sym, subst}
+use Rattle.dist_base.specs.Answers.{IsExactly}
 use Rattle.dist_cert.specs.declared.faults.ReadCertError.TheVariants.{Work}
 use Rattle.dist_cert.specs.declared.records.Claim.{Claim}
 use Rattle.dist_now.specs.PresentSet.{PassesClauses, PassesLiterals}
@@ -11,7 +12,6 @@ use Rattle.dist_outside.specs.declared.trouble.WorkError.TheVariants.{NoMemory, 
 use Rattle.dist_check.specs.Answers.{Answers}
 use Rattle.dist_check.specs.Checking.{OfText, TextCause}
 use Rattle.dist_check.specs.declared.verdict.Verdict.{Verdict}
-use Rattle.dist_strong.specs.Sweep.{ComesExactly}
 use Rattle.dist_trial.specs.Trial.{AreSwept, SweptAnswers}
 use Rattle.dist_trial.proofs.Archives.{by-exit}
 use Rattle.dist_trial.proofs.Sweeps.{accepted, exact-memory, exact-none, exact-ok, not-large, not-refused, sweep-stops}
@@ -33,12 +33,12 @@ returns-in_err-desk-clause-answers c =
 pub returns-in_err-desk-clause-too_many_clauses : goal.returns-in_err-desk-clause-too_many_clauses
 returns-in_err-desk-clause-too_many_clauses c =
     let P : Type 0 = PassesClauses c.args.repo.now false c.args.limits.now.clauses c.args.limits.now.literals in
-    by-exit (λ (r : Result (List Claim) WorkError). ComesExactly r (TooLarge Clauses) P) c.from_residual.result NoMemory c.from_residual.ensures.1 (exact-none (TooLarge Clauses) P)
+    by-exit (λ (r : Result (List Claim) WorkError). IsExactly NoMemory r (TooLarge Clauses) P) c.from_residual.result NoMemory c.from_residual.ensures.1 (exact-none (TooLarge Clauses) P)
 
 pub returns-in_err-desk-clause-too_many_literals : goal.returns-in_err-desk-clause-too_many_literals
 returns-in_err-desk-clause-too_many_literals c =
     let P : Type 0 = PassesLiterals c.args.repo.now false c.args.limits.now.clauses c.args.limits.now.literals in
-    by-exit (λ (r : Result (List Claim) WorkError). ComesExactly r (TooLarge Literals) P) c.from_residual.result NoMemory c.from_residual.ensures.1 (exact-none (TooLarge Literals) P)
+    by-exit (λ (r : Result (List Claim) WorkError). IsExactly NoMemory r (TooLarge Literals) P) c.from_residual.result NoMemory c.from_residual.ensures.1 (exact-none (TooLarge Literals) P)
 
 pub returns-in-Err-clause-answers : goal.returns-in-Err-clause-answers
 returns-in-Err-clause-answers c =
@@ -48,12 +48,12 @@ returns-in-Err-clause-answers c =
 pub returns-in-Err-clause-too_many_clauses : goal.returns-in-Err-clause-too_many_clauses
 returns-in-Err-clause-too_many_clauses c =
     let P : Type 0 = PassesClauses c.args.repo.now false c.args.limits.now.clauses c.args.limits.now.literals in
-    subst (λ (e : WorkError). ComesExactly {X = List Claim} (Err e) (TooLarge Clauses) P) (sym c.in_memory.ensures) (exact-memory c.in-Err.error (TooLarge Clauses) P c.in-Err.ensures.too_many_clauses)
+    subst (λ (e : WorkError). IsExactly {X = List Claim} NoMemory (Err e) (TooLarge Clauses) P) (sym c.in_memory.ensures) (exact-memory c.in-Err.error (TooLarge Clauses) P c.in-Err.ensures.too_many_clauses)
 
 pub returns-in-Err-clause-too_many_literals : goal.returns-in-Err-clause-too_many_literals
 returns-in-Err-clause-too_many_literals c =
     let P : Type 0 = PassesLiterals c.args.repo.now false c.args.limits.now.clauses c.args.limits.now.literals in
-    subst (λ (e : WorkError). ComesExactly {X = List Claim} (Err e) (TooLarge Literals) P) (sym c.in_memory.ensures) (exact-memory c.in-Err.error (TooLarge Literals) P c.in-Err.ensures.too_many_literals)
+    subst (λ (e : WorkError). IsExactly {X = List Claim} NoMemory (Err e) (TooLarge Literals) P) (sym c.in_memory.ensures) (exact-memory c.in-Err.error (TooLarge Literals) P c.in-Err.ensures.too_many_literals)
 
 pub check-requires-clause-idle : goal.check-requires-clause-idle
 check-requires-clause-idle c = subst IsNotWriting (sym c.in-Ok.ensures.answers.1.mode_is) tt

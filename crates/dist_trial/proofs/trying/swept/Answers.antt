@@ -1,9 +1,9 @@
 use Rattle.std.proofs.Common.{false, Result}
+use Rattle.dist_base.specs.Answers.{IsExactly}
 use Rattle.dist_now.specs.PresentSet.{PassesClauses, PassesLiterals}
 use Rattle.dist_outside.specs.declared.trouble.What.TheVariants.{Clauses, Literals}
 use Rattle.dist_outside.specs.declared.trouble.WorkError.{WorkError}
 use Rattle.dist_outside.specs.declared.trouble.WorkError.TheVariants.{NoMemory, TooLarge}
-use Rattle.dist_strong.specs.Sweep.{ComesExactly}
 use Rattle.dist_trial.specs.Trial.{AreSwept, IsTrial, SweptAnswers}
 use Rattle.dist_trial.specs.declared.trials.Trial.{Trial}
 use Rattle.dist_trial.proofs.Archives.{by-exit}
@@ -25,13 +25,13 @@ returns-in_err-claims-clause-answers c =
 pub returns-in_err-claims-clause-too_many_clauses : goal.returns-in_err-claims-clause-too_many_clauses
 returns-in_err-claims-clause-too_many_clauses c =
     let P : Type 0 = PassesClauses c.args.repo.now false c.args.limits.now.clauses c.args.limits.now.literals in
-    by-exit (λ (r : Result Trial WorkError). ComesExactly r (TooLarge Clauses) P) c.from_residual.result c.in_err-claims.field-0.0 c.from_residual.ensures.1
+    by-exit (λ (r : Result Trial WorkError). IsExactly NoMemory r (TooLarge Clauses) P) c.from_residual.result c.in_err-claims.field-0.0 c.from_residual.ensures.1
     (exact-err c.in_err-claims.field-0.0 (TooLarge Clauses) P c.in_err-claims.ensures.too_many_clauses)
 
 pub returns-in_err-claims-clause-too_many_literals : goal.returns-in_err-claims-clause-too_many_literals
 returns-in_err-claims-clause-too_many_literals c =
     let P : Type 0 = PassesLiterals c.args.repo.now false c.args.limits.now.clauses c.args.limits.now.literals in
-    by-exit (λ (r : Result Trial WorkError). ComesExactly r (TooLarge Literals) P) c.from_residual.result c.in_err-claims.field-0.0 c.from_residual.ensures.1
+    by-exit (λ (r : Result Trial WorkError). IsExactly NoMemory r (TooLarge Literals) P) c.from_residual.result c.in_err-claims.field-0.0 c.from_residual.ensures.1
     (exact-err c.in_err-claims.field-0.0 (TooLarge Literals) P c.in_err-claims.ensures.too_many_literals)
 
 pub returns-in_err-told-clause-answers : goal.returns-in_err-told-clause-answers
@@ -42,12 +42,12 @@ returns-in_err-told-clause-answers c =
 pub returns-in_err-told-clause-too_many_clauses : goal.returns-in_err-told-clause-too_many_clauses
 returns-in_err-told-clause-too_many_clauses c =
     let P : Type 0 = PassesClauses c.args.repo.now false c.args.limits.now.clauses c.args.limits.now.literals in
-    by-exit (λ (r : Result Trial WorkError). ComesExactly r (TooLarge Clauses) P) c.from_residual-in_err-told.result NoMemory c.from_residual-in_err-told.ensures.1 (exact-none (TooLarge Clauses) P)
+    by-exit (λ (r : Result Trial WorkError). IsExactly NoMemory r (TooLarge Clauses) P) c.from_residual-in_err-told.result NoMemory c.from_residual-in_err-told.ensures.1 (exact-none (TooLarge Clauses) P)
 
 pub returns-in_err-told-clause-too_many_literals : goal.returns-in_err-told-clause-too_many_literals
 returns-in_err-told-clause-too_many_literals c =
     let P : Type 0 = PassesLiterals c.args.repo.now false c.args.limits.now.clauses c.args.limits.now.literals in
-    by-exit (λ (r : Result Trial WorkError). ComesExactly r (TooLarge Literals) P) c.from_residual-in_err-told.result NoMemory c.from_residual-in_err-told.ensures.1 (exact-none (TooLarge Literals) P)
+    by-exit (λ (r : Result Trial WorkError). IsExactly NoMemory r (TooLarge Literals) P) c.from_residual-in_err-told.result NoMemory c.from_residual-in_err-told.ensures.1 (exact-none (TooLarge Literals) P)
 
 pub returns-clause-answers : goal.returns-clause-answers
 returns-clause-answers c = record {

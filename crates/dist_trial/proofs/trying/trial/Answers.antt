@@ -1,9 +1,9 @@
 use Rattle.std.proofs.Common.{false, Result}
+use Rattle.dist_base.specs.Answers.{IsExactly}
 use Rattle.dist_now.specs.PresentSet.{PassesClauses, PassesLiterals}
 use Rattle.dist_outside.specs.declared.trouble.What.TheVariants.{Bytes, Stanzas, Clauses, Literals}
 use Rattle.dist_outside.specs.declared.trouble.WorkError.{WorkError}
-use Rattle.dist_outside.specs.declared.trouble.WorkError.TheVariants.{TooLarge}
-use Rattle.dist_strong.specs.Sweep.{ComesExactly}
+use Rattle.dist_outside.specs.declared.trouble.WorkError.TheVariants.{NoMemory, TooLarge}
 use Rattle.dist_trial.specs.Trial.{OfArchive, TrialAnswers}
 use Rattle.dist_trial.specs.declared.trials.Trial.{Trial}
 use Rattle.dist_trial.proofs.Archives.{by-exit}
@@ -29,23 +29,23 @@ returns-in_err-repo-clause-answers c =
 
 pub returns-in_err-repo-clause-too_many_bytes : goal.returns-in_err-repo-clause-too_many_bytes
 returns-in_err-repo-clause-too_many_bytes c =
-    by-exit (λ (r : Result Trial WorkError). ComesExactly r (TooLarge Bytes) (IsOver c.args.size c.args.seed c.args.limits.now)) c.from_residual.result c.in_err-repo.field-0.0 c.from_residual.ensures.1
+    by-exit (λ (r : Result Trial WorkError). IsExactly NoMemory r (TooLarge Bytes) (IsOver c.args.size c.args.seed c.args.limits.now)) c.from_residual.result c.in_err-repo.field-0.0 c.from_residual.ensures.1
     (archive-bytes c.args.size c.args.seed c.args.limits.now c.in_err-repo.field-0.0 c.in_err-repo.ensures.answers)
 
 pub returns-in_err-repo-clause-too_many_stanzas : goal.returns-in_err-repo-clause-too_many_stanzas
 returns-in_err-repo-clause-too_many_stanzas c =
-    by-exit (λ (r : Result Trial WorkError). ComesExactly r (TooLarge Stanzas) (IsPast c.args.size c.args.seed c.args.limits.now)) c.from_residual.result c.in_err-repo.field-0.0 c.from_residual.ensures.1
+    by-exit (λ (r : Result Trial WorkError). IsExactly NoMemory r (TooLarge Stanzas) (IsPast c.args.size c.args.seed c.args.limits.now)) c.from_residual.result c.in_err-repo.field-0.0 c.from_residual.ensures.1
     (archive-stanzas c.args.size c.args.seed c.args.limits.now c.in_err-repo.field-0.0 c.in_err-repo.ensures.answers)
 
 pub returns-in_err-repo-clause-too_many_clauses : goal.returns-in_err-repo-clause-too_many_clauses
 returns-in_err-repo-clause-too_many_clauses c =
-    by-exit (λ (r : Result Trial WorkError). ComesExactly r (TooLarge Clauses) (OfArchive c.args.size c.args.seed c.args.limits.now (λ p. PassesClauses p false c.args.limits.now.clauses c.args.limits.now.literals)))
+    by-exit (λ (r : Result Trial WorkError). IsExactly NoMemory r (TooLarge Clauses) (OfArchive c.args.size c.args.seed c.args.limits.now (λ p. PassesClauses p false c.args.limits.now.clauses c.args.limits.now.literals)))
     c.from_residual.result c.in_err-repo.field-0.0 c.from_residual.ensures.1
     (archive-clauses c.args.size c.args.seed c.args.limits.now c.in_err-repo.field-0.0 (λ p. PassesClauses p false c.args.limits.now.clauses c.args.limits.now.literals) c.in_err-repo.ensures.answers)
 
 pub returns-in_err-repo-clause-too_many_literals : goal.returns-in_err-repo-clause-too_many_literals
 returns-in_err-repo-clause-too_many_literals c =
-    by-exit (λ (r : Result Trial WorkError). ComesExactly r (TooLarge Literals) (OfArchive c.args.size c.args.seed c.args.limits.now (λ p. PassesLiterals p false c.args.limits.now.clauses c.args.limits.now.literals)))
+    by-exit (λ (r : Result Trial WorkError). IsExactly NoMemory r (TooLarge Literals) (OfArchive c.args.size c.args.seed c.args.limits.now (λ p. PassesLiterals p false c.args.limits.now.clauses c.args.limits.now.literals)))
     c.from_residual.result c.in_err-repo.field-0.0 c.from_residual.ensures.1
     (archive-literals c.args.size c.args.seed c.args.limits.now c.in_err-repo.field-0.0 (λ p. PassesLiterals p false c.args.limits.now.clauses c.args.limits.now.literals) c.in_err-repo.ensures.answers)
 
