@@ -1,4 +1,3 @@
-pub mod VersionOrder
 pub mod ClassLemmas
 pub mod ClassOfLemmas
 pub mod MatchLemmas

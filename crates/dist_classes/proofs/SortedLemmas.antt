@@ -13,7 +13,7 @@ use Rattle.dist_version.specs.Order.{version_cmp, IsBelow}
 use Rattle.dist_classes.specs.Cuts.{AreCuts, IsLeastText, Rises, RisesFrom}
 use Rattle.dist_classes.specs.Sorted.{cuts_after, cuts_of, text_cmp, text_total}
 use Rattle.dist_classes.proofs.ClassLemmas.{IsTold}
-use Rattle.dist_classes.proofs.VersionOrder.{above-below, below-above, below-trans, cases-order, equal-back, equal-itself, less-not_equal, not-above_below, not-both}
+use Rattle.dist_classes.specs.VersionOrder.{above-below, below-above, below-trans, cases-order, equal-back, equal-itself, less-not_equal, not-above_below, not-both}
 
 -- ---- texts in order
 

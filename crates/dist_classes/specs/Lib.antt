@@ -7,3 +7,4 @@ pub mod NewNames
 pub mod Sorted
 pub mod Table
 pub mod Examples
+pub mod VersionOrder

@@ -19,7 +19,7 @@ use Rattle.dist_classes.specs.declared.class_value.Class.{Class}
 use Rattle.dist_space.specs.Space.{IsExample, IsMatched, IsMeaning, IsFrame, MeetsBound, SpaceView, example_at, fresh_classes, member_classes, moved_entry, moved_version}
 use Rattle.dist_future.specs.Stands.{fresh_package}
 use Rattle.dist_space.specs.declared.meaning.Meaning.TheVariants.{New, Kept, Fresh}
-use Rattle.dist_future.proofs.VersionOrder.{equal-itself}
+use Rattle.dist_classes.specs.VersionOrder.{equal-itself}
 use Rattle.dist_space.specs.ClusterLaws.{HasCluster}
 
 -- ---- the laws of classes

@@ -28,7 +28,7 @@ use Rattle.dist_space_clauses.specs.DecidedLaws.{IsDecided, any-decided, text-de
 use Rattle.dist_future.proofs.DemandLemmas.{AreMet, IsMetIn}
 use Rattle.dist_space.specs.ClusterLaws.{has-cluster, names-apart}
 use Rattle.dist_future.proofs.SpaceLemmas.{never-at, one-of-name, fresh-class}
-use Rattle.dist_future.proofs.VersionOrder.{equal-back}
+use Rattle.dist_classes.specs.VersionOrder.{equal-back}
 
 -- ---- conflicts
 

@@ -16,4 +16,3 @@ pub mod SpaceLemmas
 pub mod SpaceMeaning
 pub mod UnmetLemmas
 pub mod VariableOrder
-pub mod VersionOrder
