@@ -1,17 +1,15 @@
 -- Each cluster and each new name has its classes, and each repository has its new names: the atoms are gone through, and no memory is
 -- asked for.
-use Rattle.std.proofs.Common.{◌≡◌, ◌⊎◌, ◌↔◌, ℕ, zero, suc, Bool, true, false, List, [], ◌∷◌, Option, None, Some, Ordering, Less, Equal, Greater, refl, sym, ap, subst, ◌∙◌, inl, inr, arith, nat_cmp, slice_get}
-use Rattle.std.specs.Prelude.{Any, Contains, IsSomeAnd, bytes_eq, codes}
+use Rattle.std.proofs.Common.{◌≡◌, ◌⊎◌, ◌↔◌, ℕ, List, [], ◌∷◌, Option, None, Some, Equal, refl, ap, subst, ◌∙◌, inl, inr, arith, nat_cmp, slice_get}
+use Rattle.std.specs.Prelude.{Any, Contains, IsSomeAnd}
 use Rattle.std.specs.Cmp.Lexicographic.{slice_cmp}
 use Rattle.std.specs.Ordering.{is_gt}
 use Rattle.std.proofs.lemmas.Cmp.{nat_list_cmp_total}
-use Rattle.std.proofs.lemmas.Slice.Eq.{bytes_eq-Decides}
 use Rattle.dist_version.specs.Order.{version_cmp}
 use Rattle.dist_relation.specs.declared.atom.Atom.{Atom}
 use Rattle.dist_relation.specs.declared.atom.Bound.{Bound}
 use Rattle.dist_relation.specs.declared.atom.Provide.{Provide}
-use Rattle.dist_relation.specs.declared.atom.Qualifier.{Qualifier}
-use Rattle.dist_relation.specs.declared.atom.Qualifier.TheVariants.{Plain, Named}
+use Rattle.dist_repo.specs.DecidedLaws.{any-decided, both-decided, either-decided, equal-decided, IsDecided, some-decided, text-decided, usable-decided}
 use Rattle.dist_repo.specs.Match.{IsUsable}
 use Rattle.dist_repo.specs.PackageList.{PackageList, IsPackageAnd}
 use Rattle.dist_repo.specs.Providers.{IsEntryOf, IsProvider}
@@ -30,77 +28,23 @@ use Rattle.dist_classes.proofs.SortedLemmas.{IsOrdered, cuts-above, cuts-all, cu
 
 -- ---- what is decided
 
-abbrev IsDecided : Type 0 → Type 0
-IsDecided P = P ⊎ (¬ P)
-
-both : {P Q : Type 0} → IsDecided P → IsDecided Q → IsDecided (P × Q)
-both (inl p) (inl q) = inl (p, q)
-both (inl p) (inr q) = inr (λ h. q h.1)
-both (inr p) second = inr (λ h. p h.0)
-
-either : {P Q : Type 0} → IsDecided P → IsDecided Q → IsDecided (P ⊎ Q)
-either (inl p) second = inl (inl p)
-either (inr p) (inl q) = inl (inr q)
-either (inr p) (inr q) = inr (λ h. elim h [ inl x ↦ p x | inr x ↦ q x ])
-
-any-decided : {X : Type 0} (P : X → Type 0) → ((x : X) → IsDecided (P x)) → (xs : List X) → IsDecided (Any P xs)
-any-decided P each [] = inr (λ any. omega (arith, any.2))
-any-decided P each (x ∷ xs) = elim (each x) [
-  | inl here ↦ inl (0, x, omega arith, refl, here)
-  | inr none ↦ elim (any-decided P each xs) [
-    | inl later ↦ inl (suc later.0, later.1, omega (arith, later.2), later.3, later.4)
-    | inr never ↦ inr (neither none never)
-  ]
-]
-  where
-    neither : ¬ P x → ¬ Any P xs → ¬ Any P (x ∷ xs)
-    neither none never (zero, y, short, is, holds) = none (subst P (sym is) holds)
-    neither none never (suc k, y, short, is, holds) = never (k, y, omega (arith, short), is, holds)
-
-text-decided : (a b : List ℕ) → IsDecided (a ≡ b)
-text-decided a b = by (bytes_eq a b) refl
-  where
-    by : (answer : Bool) → bytes_eq a b ≡ answer → IsDecided (a ≡ b)
-    by true is = inl ((bytes_eq-Decides a b).0 is)
-    by false is = inr (λ h. let other = (bytes_eq-Decides a b).1 h in cc)
-
-architecture-decided : (architecture : Option (List ℕ)) (name : List ℕ) → IsDecided (architecture ≡ Some name)
-architecture-decided None name = inr (λ h. cc)
-architecture-decided (Some here) name = elim (text-decided here name) [ inl h ↦ inl (ap (λ (x : List ℕ). Some x) h) | inr h ↦ inr (λ is. h cc) ]
-
-usable-decided : (architecture : Option (List ℕ)) (qualifier : Qualifier) → IsDecided (IsUsable architecture qualifier)
-usable-decided architecture Plain = inl tt
-usable-decided architecture (Named name) =
-    either (text-decided name (codes "any")) (either (text-decided name (codes "native")) (architecture-decided architecture name))
-
-equal-decided : (o : Ordering) → IsDecided (o ≡ Equal)
-equal-decided Less = inr (λ h. cc)
-equal-decided Equal = inl refl
-equal-decided Greater = inr (λ h. cc)
-
-at-decided : (own : Option (List ℕ)) (version : List ℕ) → IsDecided (IsSomeAnd own (λ v. version_cmp v version ≡ Equal))
-at-decided None version = inr (λ h. h)
-at-decided (Some own) version = equal-decided (version_cmp own version)
-
 moving-decided : (architecture : Option (List ℕ)) (p : Package) (entry : Provide) → IsDecided (IsMoving architecture p entry)
-moving-decided architecture p entry = both (usable-decided architecture entry.qualifier) (at-decided entry.version p.version)
+moving-decided architecture p entry =
+    both-decided (usable-decided architecture entry.qualifier)
+    (some-decided (λ v. version_cmp v p.version ≡ Equal) (λ v. equal-decided (version_cmp v p.version)) entry.version)
 
 moved_name-decided : (architecture : Option (List ℕ)) (p : Package) (name : List ℕ) → IsDecided (IsMovedName architecture p name)
 moved_name-decided architecture p name =
-    either (text-decided p.name name) (any-decided (λ entry. IsMoving architecture p entry × (entry.name ≡ name)) (λ entry. both (moving-decided architecture p entry) (text-decided entry.name name)) p.provides)
-
-option-decided : (P : Package → Type 0) → ((p : Package) → IsDecided (P p)) → (o : Option Package) → IsDecided (IsSomeAnd o P)
-option-decided P each None = inr (λ h. h)
-option-decided P each (Some p) = each p
+    either-decided (text-decided p.name name) (any-decided (λ entry. IsMoving architecture p entry × (entry.name ≡ name)) (λ entry. both-decided (moving-decided architecture p entry) (text-decided entry.name name)) p.provides)
 
 name_of_cluster-decided : (r : PackageList) (members : List ℕ) (name : List ℕ) → IsDecided (IsNameOfCluster r members name)
 name_of_cluster-decided r members name =
     any-decided (λ number. IsPackageAnd r.packages number (λ p. IsMovedName r.architecture p name))
-    (λ number. option-decided (λ p. IsMovedName r.architecture p name) (λ p. moved_name-decided r.architecture p name) (slice_get r.packages number)) members
+    (λ number. some-decided (λ p. IsMovedName r.architecture p name) (λ p. moved_name-decided r.architecture p name) (slice_get r.packages number)) members
 
 provider-decided : (architecture : Option (List ℕ)) (name : List ℕ) (p : Package) → IsDecided (IsProvider architecture name p)
 provider-decided architecture name p =
-    either (text-decided p.name name) (any-decided (IsEntryOf architecture name) (λ entry. both (usable-decided architecture entry.qualifier) (text-decided entry.name name)) p.provides)
+    either-decided (text-decided p.name name) (any-decided (IsEntryOf architecture name) (λ entry. both-decided (usable-decided architecture entry.qualifier) (text-decided entry.name name)) p.provides)
 
 -- ---- the versions in bounds on some names
 

@@ -8,6 +8,7 @@ use Rattle.std.proofs.lemmas.Option.{slice_get-map, slice_get_within}
 use Rattle.dist_base.specs.ListLaws.{all-contained, any-at, any-cases, any-head, any-later, any-more, at-has, contains-at, here-at, place-of, within-from}
 use Rattle.dist_clause.specs.Formula.{Literal, IsTrueLiteral, MakesTrue, IsModel, value_of}
 use Rattle.dist_relation.specs.declared.atom.Atom.{Atom}
+use Rattle.dist_repo.specs.DecidedLaws.{any-decided, matches-decided}
 use Rattle.dist_repo.specs.Healthy.{required_names}
 use Rattle.dist_repo.specs.Match.{IsUsable, Matches}
 use Rattle.dist_repo.specs.declared.package.Package.{Package}
@@ -15,7 +16,6 @@ use Rattle.dist_space.specs.Space.{SpaceView, AreMeaningsOf, IsMatched, IsMeanin
 use Rattle.dist_space_clauses.specs.SpaceClauses.{Demand, OneClass, Gone, Moved, Carried, OneFresh, Item, Apart, StaysNow, AbsentNow, Required, AreSpaceClauses, Excludes, IsBearer, IsClauseFor, IsDemand, no, yes}
 use Rattle.dist_space.specs.declared.meaning.Meaning.{Meaning}
 use Rattle.dist_space.specs.declared.meaning.Meaning.TheVariants.{Now, Present, At, New, Kept, Fresh}
-use Rattle.dist_space_clauses.specs.DecidedLaws.{any-decided, matches-decided}
 use Rattle.dist_space_clauses.specs.ItemLaws.{item-at, item-has}
 
 -- some meaning that holds meets the item, or has the name

@@ -7,6 +7,7 @@ use Rattle.std.proofs.lemmas.Option.{same_Some, slice_get_within}
 use Rattle.dist_base.specs.ListLaws.{all-contained, any-at, any-contained, at-has, contains-at, element-at, found-at, FoundAt, has-at, here-at, pair-from, place-of, within-from}
 use Rattle.dist_relation.specs.declared.atom.Atom.{Atom}
 use Rattle.dist_repo.specs.Conflict.{AreInConflict}
+use Rattle.dist_repo.specs.DecidedLaws.{any-decided, IsDecided, text-decided}
 use Rattle.dist_repo.specs.Healthy.{IsMet, required_names}
 use Rattle.dist_repo.specs.Match.{IsUsable, Matches, MatchesByEntry}
 use Rattle.dist_repo.specs.Order.{IsFlat}
@@ -24,7 +25,6 @@ use Rattle.dist_space_clauses.specs.SpaceClauses.{Excludes, IsBearer}
 use Rattle.dist_space.specs.declared.meaning.Meaning.{Meaning}
 use Rattle.dist_space.specs.declared.meaning.Meaning.TheVariants.{Now, Present, At, New, Kept, Fresh}
 use Rattle.dist_future.proofs.ClassMatch.{ClassLaws, IsMemberAt, fresh-at, from-fresh, from-kept, from-new, member-at, to-fresh, to-new}
-use Rattle.dist_space_clauses.specs.DecidedLaws.{IsDecided, any-decided, text-decided}
 use Rattle.dist_future.proofs.DemandLemmas.{AreMet, IsMetIn}
 use Rattle.dist_space.specs.ClusterLaws.{has-cluster, names-apart}
 use Rattle.dist_future.proofs.SpaceLemmas.{never-at, one-of-name, fresh-class}

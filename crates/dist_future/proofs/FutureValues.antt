@@ -1,12 +1,13 @@
 -- The model that a healthy installation of a future gives.
 use Rattle.std.proofs.Common.{◌≡◌, ℕ, Bool, true, false, List, Option, Some, None, Ordering, Less, Equal, Greater, length, map, refl, sym, ap, subst, ◌∙◌, inl, inr, arith, slice_get}
-use Rattle.std.specs.Prelude.{Any, Contains, IsSomeAnd, slice_index}
+use Rattle.std.specs.Prelude.{Any, Contains, slice_index}
 use Rattle.std.proofs.lemmas.Bool.{cases_lt}
 use Rattle.std.proofs.lemmas.List.{length-map}
 use Rattle.std.proofs.lemmas.Option.{same_Some}
 use Rattle.dist_base.specs.ListLaws.{any-contained}
 use Rattle.dist_version.specs.Order.{version_cmp}
 use Rattle.dist_clause.specs.Formula.{Literal, IsModel, value_of}
+use Rattle.dist_repo.specs.DecidedLaws.{any-decided, both-decided, equal-decided, IsDecided, same-as, some-decided, text-decided}
 use Rattle.dist_repo.specs.Equality.{package_eq, packages_decide}
 use Rattle.dist_repo.specs.PackageList.{IsPackageAnd}
 use Rattle.dist_repo.specs.declared.package.Package.{Package}
@@ -19,7 +20,6 @@ use Rattle.dist_space_clauses.specs.SpaceClauses.{AreSpaceClauses}
 use Rattle.dist_space.specs.declared.meaning.Meaning.{Meaning}
 use Rattle.dist_space.specs.declared.meaning.Meaning.TheVariants.{Now, Present, At, New, Kept, Fresh}
 use Rattle.dist_future.proofs.ClassMatch.{ClassLaws}
-use Rattle.dist_space_clauses.specs.DecidedLaws.{IsDecided, any-decided, text-decided}
 use Rattle.dist_future.proofs.DemandLemmas.{IsTrueMeaning, met-alike, model-from-met}
 use Rattle.dist_future.proofs.FutureToModel.{Holds, IsNamedIn, IsSeen, kept_of, met-by-future}
 use Rattle.dist_space.specs.VariableLaws.{value-at}
@@ -40,19 +40,6 @@ unfolding answer
 answer-true (inl p) holds = refl
 answer-true (inr never) holds = absurd (never holds)
 
-pub both-decided : {P Q : Type 0} → IsDecided P → IsDecided Q → IsDecided (P × Q)
-both-decided (inl p) (inl q) = inl (p, q)
-both-decided (inl p) (inr never) = inr (λ h. never h.1)
-both-decided (inr never) d = inr (λ h. never h.0)
-
-alike-decided : {P Q : Type 0} → (P → Q) → (Q → P) → IsDecided P → IsDecided Q
-alike-decided to back (inl p) = inl (to p)
-alike-decided to back (inr never) = inr (λ q. never (back q))
-
-some-decided : {X : Type 0} (P : X → Type 0) → ((x : X) → IsDecided (P x)) → (o : Option X) → IsDecided (IsSomeAnd o P)
-some-decided P each None = inr (λ h. h)
-some-decided P each (Some x) = each x
-
 pub number-decided : (n k : ℕ) → IsDecided (n ≡ k)
 number-decided n k = elim (cases_lt n k) [
   | inl less ↦ inr (λ same. omega (arith, less, same))
@@ -64,7 +51,7 @@ number-decided n k = elim (cases_lt n k) [
 
 option-decided : (o : Option ℕ) (k : ℕ) → IsDecided (o ≡ Some k)
 option-decided None k = inr (λ h. cc)
-option-decided (Some n) k = alike-decided (λ h. ap (λ (x : ℕ). Some x) h) (same_Some n k) (number-decided n k)
+option-decided (Some n) k = same-as (λ h. ap (λ (x : ℕ). Some x) h) (same_Some n k) (number-decided n k)
 
 flag-decided : (o : Option Bool) → IsDecided (o ≡ Some true)
 flag-decided None = inr (λ h. cc)
@@ -75,11 +62,6 @@ less-decided : (o : Ordering) → IsDecided (o ≡ Less)
 less-decided Less = inl refl
 less-decided Equal = inr (λ h. cc)
 less-decided Greater = inr (λ h. cc)
-
-equal-decided : (o : Ordering) → IsDecided (o ≡ Equal)
-equal-decided Less = inr (λ h. cc)
-equal-decided Equal = inl refl
-equal-decided Greater = inr (λ h. cc)
 
 class-decided : (class : Class) (v : List ℕ) → IsDecided (IsOfClass class v)
 class-decided (Point c) v = equal-decided (version_cmp v c)
@@ -100,7 +82,7 @@ package-decided p q = by (package_eq p q) refl
 
 contains-decided : (xs : List Package) (p : Package) → IsDecided (Contains xs p)
 contains-decided xs p =
-    alike-decided (λ any. subst (λ (x : Package). Contains xs x) any.4 (any.0, any.2, any.3)) (λ there. any-contained (λ (q : Package). q ≡ p) xs p there refl)
+    same-as (λ any. subst (λ (x : Package). Contains xs x) any.4 (any.0, any.2, any.3)) (λ there. any-contained (λ (q : Package). q ≡ p) xs p there refl)
     (any-decided (λ (q : Package). q ≡ p) (λ q. package-decided q p) xs)
 
 -- ---- values
@@ -116,7 +98,7 @@ module _ (laws : ClassLaws) (s : SpaceView) (space : IsSpace s) (future members 
   holds-decided (At c k) = option-decided (fate c) k
   holds-decided (New r k) = both-decided (option-decided (fate (slice_index s.cluster_of r)) k) (named-decided r)
   holds-decided (Kept r k j) =
-      alike-decided (λ h. (h.0.0, h.0.1, h.1)) (λ h. ((h.0, h.1), h.2))
+      same-as (λ h. (h.0.0, h.0.1, h.1)) (λ h. ((h.0, h.1), h.2))
       (both-decided (both-decided (option-decided (fate (slice_index s.cluster_of r)) k) (named-decided r)) (flag-decided (slice_get (kept_of laws s space future members N fate seen r) j)))
   holds-decided (Fresh x k) =
       some-decided (λ (name : List ℕ). Any (λ (n : Package). (n.name ≡ name) × IsOfClassAt (fresh_classes s x) k n.version) members)

@@ -6,6 +6,7 @@ use Rattle.std.proofs.lemmas.Option.{slice_get_within}
 use Rattle.dist_base.specs.Least.{IsAtMost, IsLeast, IsLeastPair, IsNoPair}
 use Rattle.dist_base.specs.ListLaws.{any-contained, at-has, contains-at, here-at, place-of}
 use Rattle.dist_relation.specs.declared.atom.Atom.{Atom}
+use Rattle.dist_repo.specs.DecidedLaws.{any-decided, both-decided, IsDecided}
 use Rattle.dist_repo.specs.Healthy.{required_names}
 use Rattle.dist_repo.specs.declared.package.Package.{Package}
 use Rattle.dist_future.specs.FutureHealth.{AreApart, AreConflicting, AreNoFuture, Holds, IsFutureHealth, IsMissing, IsUnmetAt, Needs, SomeHolds}
@@ -16,7 +17,7 @@ use Rattle.dist_future.specs.declared.health_kind.FutureHealth.{FutureHealth}
 use Rattle.dist_future.specs.declared.health_kind.FutureHealth.TheVariants.{Healthy, NotAFuture, Unmet, Conflict, EssentialMissing}
 use Rattle.dist_space.specs.declared.meaning.Meaning.{Meaning}
 use Rattle.dist_space.specs.declared.meaning.Meaning.TheVariants.{Now, Present, At, New, Kept, Fresh}
-use Rattle.dist_space_clauses.specs.DecidedLaws.{IsDecided, any-decided, both-decided, bearer-decided, met-decided}
+use Rattle.dist_space_clauses.specs.DecidedLaws.{bearer-decided, met-decided}
 use Rattle.dist_future.proofs.DemandLemmas.{AreMet, IsMetIn, IsTrueMeaning}
 use Rattle.dist_space_clauses.specs.ItemLaws.{item-at}
 use Rattle.dist_future.proofs.NoFutureLemmas.{new-of}

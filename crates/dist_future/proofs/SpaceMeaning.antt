@@ -9,6 +9,7 @@ use Rattle.dist_version.specs.Order.{version_cmp}
 use Rattle.dist_version.specs.Spelling.{IsVersion}
 use Rattle.dist_clause.specs.Formula.{Literal, IsModel, value_of}
 use Rattle.dist_cluster.specs.Partition.{IsIn}
+use Rattle.dist_repo.specs.DecidedLaws.{both-decided, IsDecided}
 use Rattle.dist_repo.specs.Strong.{IsInstallable, IsInstallation}
 use Rattle.dist_repo.specs.declared.package.Package.{Package}
 use Rattle.dist_classes.specs.ClassList.{IsOfClass, IsOfClassAt}
@@ -21,10 +22,9 @@ use Rattle.dist_future.specs.Stands.{future_of, installation_of}
 use Rattle.dist_space.specs.declared.meaning.Meaning.{Meaning}
 use Rattle.dist_space.specs.declared.meaning.Meaning.TheVariants.{Now, Present, At}
 use Rattle.dist_future.proofs.ClassMatch.{ClassLaws}
-use Rattle.dist_space_clauses.specs.DecidedLaws.{IsDecided}
 use Rattle.dist_future.proofs.DemandLemmas.{IsTrueMeaning, met-from-model}
 use Rattle.dist_future.proofs.FutureToModel.{IsFate, IsSeen, option-cases}
-use Rattle.dist_future.proofs.FutureValues.{both-decided, future-model, number-decided}
+use Rattle.dist_future.proofs.FutureValues.{future-model, number-decided}
 use Rattle.dist_future.proofs.ModelToFuture.{AreVersions, future-is, healthy-is, holds-cluster, old-member, today-is}
 use Rattle.dist_future.proofs.SpaceLemmas.{class-of, class_at-same, never-at, one-class, one-of-name, same-clustered, top-below}
 use Rattle.dist_space.specs.ClusterLaws.{has-cluster, in-package, placed-in}

@@ -7,12 +7,12 @@ use Rattle.std.proofs.lemmas.Option.{slice_get-get_or}
 use Rattle.dist_base.specs.Least.{IsNoPair}
 use Rattle.dist_base.specs.ListLaws.{all-contained, at-has, contains-at, pairs-head, pairs-tail}
 use Rattle.dist_repo.specs.Conflict.{AreInConflict}
+use Rattle.dist_repo.specs.DecidedLaws.{any-decided, met-decided, text-decided}
 use Rattle.dist_repo.specs.Healthy.{Healthy, IsMet, required_names}
 use Rattle.dist_repo.specs.PackageList.{PackageList, IsPackageAnd}
 use Rattle.dist_repo.specs.declared.package.Package.{Package}
 use Rattle.dist_now.specs.Health.{AreMembers, AreTwoVersions, AreConflicting, IsUnmetAt, IsMissing}
 use Rattle.dist_now.specs.Members.{members_of}
-use Rattle.dist_now.proofs.Decided.{any-decided, met-decided, text-decided}
 
 -- ---- lists
 

@@ -4,7 +4,6 @@ pub mod MemberLemmas
 pub mod LeastLemmas
 pub mod NameLemmas
 pub mod LaterLemmas
-pub mod Decided
 pub mod HealthyLemmas
 pub mod OneHealth
 pub mod RejectedLemmas

@@ -15,6 +15,7 @@ use Rattle.dist_clause.specs.Formula.{Literal, IsTrueLiteral, MakesTrue, IsModel
 use Rattle.dist_relation.specs.Equality.{equivalence}
 use Rattle.dist_relation.specs.declared.atom.Atom.{Atom}
 use Rattle.dist_repo.specs.Conflict.{AreInConflict}
+use Rattle.dist_repo.specs.DecidedLaws.{any-decided, matches-decided}
 use Rattle.dist_repo.specs.Equality.{package_eq, packages_decide}
 use Rattle.dist_repo.specs.Healthy.{IsMet, required_names}
 use Rattle.dist_repo.specs.Match.{Matches}
@@ -26,7 +27,6 @@ use Rattle.dist_now.specs.Health.{AreMembers, IsUnmetAt, IsMissing}
 use Rattle.dist_now.specs.Members.{members_of}
 use Rattle.dist_now.specs.PresentClauses.{Demand, Item, Apart, Required, AreClausesOf, AreNumbersOf, ArePresentClauses, IsClauseFor, IsDemand, IsMetBy, installed, not_installed}
 use Rattle.dist_now.specs.PresentLaws.{AreModelsInstallations, AreSamePackages, IsModelOf}
-use Rattle.dist_now.proofs.Decided.{any-decided, matches-decided}
 use Rattle.dist_now.proofs.HealthyLemmas.{all-before_map, all-members, all-passed, healthy-from, passed-at}
 use Rattle.dist_now.proofs.MemberLemmas.{member-any}
 use Rattle.dist_now.proofs.ConflictLemmas.{never-same}

@@ -1,6 +1,6 @@
 -- There is a list of the clauses of the present: what a demand asks is decided, and each demand has a clause.
-use Rattle.std.proofs.Common.{◌≡◌, ◌⊎◌, ◌↔◌, ℕ, zero, suc, ◌+◌, ◌<◌, ◌≤◌, Bool, true, false, List, [], ◌∷◌, ◌++◌, length, get_or, map, Ordering, Less, Equal, Greater, refl, sym, subst, ◌∙◌, arith, inl, inr, Some, slice_get, length-append}
-use Rattle.std.specs.Prelude.{Any, Contains, IsSomeAnd}
+use Rattle.std.proofs.Common.{◌≡◌, ◌⊎◌, ◌↔◌, ℕ, zero, suc, ◌+◌, ◌<◌, ◌≤◌, Bool, true, false, List, [], ◌∷◌, ◌++◌, length, get_or, map, refl, sym, subst, ◌∙◌, arith, inl, inr, Some, slice_get, length-append}
+use Rattle.std.specs.Prelude.{Contains, IsSomeAnd}
 use Rattle.std.specs.List.Sorted.{IsStrictlyIncreasing}
 use Rattle.std.proofs.lemmas.Bool.{cases_lt, false≢true}
 use Rattle.std.proofs.lemmas.List.{get_or_append_left, get_or_default, get_or_push}
@@ -8,36 +8,21 @@ use Rattle.std.proofs.lemmas.List.Elements.{Contains-append_left, Contains-push,
 use Rattle.dist_base.specs.ListLaws.{at-has, element-is, has-at, some-element, within-from}
 use Rattle.dist_clause.specs.ClauseList.{ClauseList}
 use Rattle.dist_clause.specs.Formula.{Literal}
-use Rattle.dist_version.specs.Order.{version_cmp}
 use Rattle.dist_relation.specs.declared.atom.Atom.{Atom}
 use Rattle.dist_repo.specs.Conflict.{AreInConflict}
+use Rattle.dist_repo.specs.DecidedLaws.{any-decided, at-decided, conflict-decided, either-decided, IsDecided, matches-decided, not-decided, text-decided}
 use Rattle.dist_repo.specs.Match.{Matches}
-use Rattle.dist_repo.specs.Order.{IsInOrder, IsSamePackage}
+use Rattle.dist_repo.specs.Order.{IsInOrder}
 use Rattle.dist_repo.specs.PackageList.{PackageList, IsPackageAnd}
 use Rattle.dist_repo.specs.declared.package.Package.{Package}
 use Rattle.dist_now.specs.Gathering.{IsFront, IsNamedBelow, IsNamedFront, IsPlainSet}
 use Rattle.dist_now.specs.PresentClauses.{Demand, Item, Apart, Required, AreNumbersOf, ArePresentClauses, IsClauseFor, IsDemand, IsMetBy, installed, not_installed}
-use Rattle.dist_now.proofs.Decided.{IsDecided, any-decided, matches-decided, text-decided}
 use Rattle.dist_now.proofs.FrontLemmas.{all-items, all-pairs, front-start, item-pushed, item-skipped, items-end, pair-pushed, pair-shifted, pairs-end}
 use Rattle.dist_now.proofs.ModelLemmas.{IsEssentialOf}
 use Rattle.dist_now.proofs.NameFronts.{named-end, named-pushed, named-skipped, named-start}
 use Rattle.dist_now.proofs.PairFronts.{pair-within}
 
 -- ---- what is decided
-
-at-decided : {X : Type 0} (P : X → Type 0) → ((x : X) → IsDecided (P x)) → (xs : List X) (k : ℕ) → IsDecided (IsSomeAnd (slice_get xs k) P)
-at-decided P each [] k = inr (λ h. h)
-at-decided P each (x ∷ xs) zero = each x
-at-decided P each (x ∷ xs) (suc k) = at-decided P each xs k
-
-not-decided : {P : Type 0} → IsDecided P → IsDecided (¬ P)
-not-decided (inl p) = inr (λ none. none p)
-not-decided (inr none) = inl none
-
-either-decided : {P Q : Type 0} → IsDecided P → IsDecided Q → IsDecided (P ⊎ Q)
-either-decided (inl p) second = inl (inl p)
-either-decided (inr p) (inl q) = inl (inr q)
-either-decided (inr p) (inr q) = inr (λ h. elim h [ inl x ↦ p x | inr x ↦ q x ])
 
 met-decided : (r : PackageList) (item : List Atom) (p : Package) → IsDecided (IsMetBy r.architecture item p)
 met-decided r item p = any-decided (λ atom. Matches r.architecture atom p) (λ atom. matches-decided r.architecture atom p) item
@@ -46,38 +31,12 @@ item-decided : (r : PackageList) (n k : ℕ) → IsDecided (IsDemand r false (It
 item-decided r n k = at-decided (λ p. IsSomeAnd (slice_get p.depends k) (λ item. ¬ IsMetBy r.architecture item p))
     (λ p. at-decided (λ item. ¬ IsMetBy r.architecture item p) (λ item. not-decided (met-decided r item p)) p.depends k) r.packages n
 
-equal-decided : (o : Ordering) → IsDecided (o ≡ Equal)
-equal-decided Less = inr (λ h. cc)
-equal-decided Equal = inl refl
-equal-decided Greater = inr (λ h. cc)
-
-same-decided : (p q : Package) → IsDecided (IsSamePackage p q)
-same-decided p q = elim (text-decided p.name q.name) [
-  | inr other ↦ inr (λ same. other same.0)
-  | inl name ↦ elim (equal-decided (version_cmp p.version q.version)) [
-    | inr other ↦ inr (λ same. other same.1)
-    | inl version ↦ inl (name, version)
-  ]
-]
-
-matched-decided : (r : PackageList) (p q : Package) → IsDecided (Any (λ atom. Matches r.architecture atom q) p.conflicts)
-matched-decided r p q = any-decided (λ atom. Matches r.architecture atom q) (λ atom. matches-decided r.architecture atom q) p.conflicts
-
-conflict-decided : (r : PackageList) (p q : Package) → IsDecided (AreInConflict r.architecture p q)
-conflict-decided r p q = elim (same-decided p q) [
-  | inl same ↦ inr (λ conflict. conflict.different same)
-  | inr different ↦ elim (either-decided (matched-decided r p q) (matched-decided r q p)) [
-    | inl matched ↦ inl (record { different = different; matched = matched })
-    | inr none ↦ inr (λ conflict. none conflict.matched)
-  ]
-]
-
 apart-decided : (r : PackageList) (n k : ℕ) → IsDecided (IsDemand r false (Apart n k))
 apart-decided r n k = elim (cases_lt n k) [
   | inr past ↦ inr (λ demand. omega (arith, past, demand.0))
   | inl less ↦
       elim (at-decided (λ p. IsPackageAnd r.packages k (λ q. (p.name ≡ q.name) ⊎ AreInConflict r.architecture p q))
-      (λ p. at-decided (λ q. (p.name ≡ q.name) ⊎ AreInConflict r.architecture p q) (λ q. either-decided (text-decided p.name q.name) (conflict-decided r p q)) r.packages k) r.packages n) [
+      (λ p. at-decided (λ q. (p.name ≡ q.name) ⊎ AreInConflict r.architecture p q) (λ q. either-decided (text-decided p.name q.name) (conflict-decided r.architecture p q)) r.packages k) r.packages n) [
         | inl here ↦ inl (less, here)
         | inr none ↦ inr (λ demand. none demand.1)
       ]

@@ -14,3 +14,4 @@ pub mod Tally
 pub mod Latest
 pub mod Equality
 pub mod InstallationExamples
+pub mod DecidedLaws

@@ -7,6 +7,7 @@ use Rattle.dist_clause.specs.ClauseList.{ClauseList}
 use Rattle.dist_clause.specs.Formula.{Literal}
 use Rattle.dist_relation.specs.declared.atom.Atom.{Atom}
 use Rattle.dist_repo.specs.Conflict.{AreInConflict}
+use Rattle.dist_repo.specs.DecidedLaws.{any-decided, at-decided, both-decided, conflict-decided, IsDecided, matches-decided, not-decided, some-decided, text-decided}
 use Rattle.dist_repo.specs.Match.{Matches}
 use Rattle.dist_repo.specs.Healthy.{required_names}
 use Rattle.dist_repo.specs.PackageList.{IsPackageAnd}
@@ -17,7 +18,7 @@ use Rattle.dist_space_clauses.specs.SpaceClauses.{Demand, OneClass, Gone, Moved,
 use Rattle.dist_space_clauses.specs.SpaceSet.{IsSetOf}
 use Rattle.dist_space.specs.declared.meaning.Meaning.{Meaning}
 use Rattle.dist_space.specs.declared.meaning.Meaning.TheVariants.{Now, Present, At, New, Kept, Fresh}
-use Rattle.dist_space_clauses.specs.DecidedLaws.{IsDecided, any-decided, both-decided, matches-decided, text-decided, at-decided, bearer-decided, conflict-decided, less-decided, met-decided, not-decided, some-decided}
+use Rattle.dist_space_clauses.specs.DecidedLaws.{bearer-decided, less-decided, met-decided}
 use Rattle.dist_space_clauses.specs.ItemLaws.{item-at}
 use Rattle.dist_space_clauses.proofs.DemandLists.{clauses-more, clauses-shift}
 use Rattle.dist_space_clauses.proofs.Fronts.{set-shift, front-more, front-skip, front-variable, leads}
@@ -37,7 +38,7 @@ module _ (s : SpaceView) where
   other-decided p m = both-decided (some-decided (λ (name : List ℕ). name ≢ p.name) (λ name. not-decided (text-decided name p.name)) (name_of s m)) (met-decided s p.conflicts m)
 
   excludes-decided : (n : ℕ) (p : Package) (m : Meaning) → IsDecided (Excludes s n p m)
-  excludes-decided n p (Present other) = both-decided (less-decided n other) (at-decided (AreInConflict s.repository.architecture p) (conflict-decided s p) s.repository.packages other)
+  excludes-decided n p (Present other) = both-decided (less-decided n other) (at-decided (AreInConflict s.repository.architecture p) (conflict-decided s.repository.architecture p) s.repository.packages other)
   excludes-decided n p Now = other-decided p Now
   excludes-decided n p (At c k) = other-decided p (At c k)
   excludes-decided n p (New r k) = other-decided p (New r k)

@@ -1,5 +1,6 @@
--- Whether a member meets a dependency is decided: one way holds or the other.
-use Rattle.std.proofs.Common.{◌≡◌, ◌⊎◌, ℕ, Bool, true, false, List, [], ◌∷◌, Some, None, Option, refl, ap, arith, inl, inr}
+-- What is asked of packages and atoms is decided: one way holds or the other. No public clause cites these laws; proofs of the
+-- crates above do.
+use Rattle.std.proofs.Common.{◌≡◌, ◌⊎◌, ℕ, zero, suc, Bool, true, false, List, [], ◌∷◌, Some, None, Option, refl, ap, arith, inl, inr, slice_get}
 use Rattle.std.specs.Prelude.{Any, IfSome, IsSomeAnd, bytes_eq, codes}
 use Rattle.std.specs.declared.cmp.Ordering.{Ordering}
 use Rattle.std.specs.declared.cmp.Ordering.TheVariants.{Less, Equal, Greater}
@@ -14,8 +15,10 @@ use Rattle.dist_relation.specs.declared.atom.Op.TheVariants.{Lt, Le, Eq, Ge, Gt}
 use Rattle.dist_relation.specs.declared.atom.Provide.{Provide}
 use Rattle.dist_relation.specs.declared.atom.Qualifier.{Qualifier}
 use Rattle.dist_relation.specs.declared.atom.Qualifier.TheVariants.{Plain, Named}
+use Rattle.dist_repo.specs.Conflict.{AreInConflict}
 use Rattle.dist_repo.specs.Healthy.{IsMet}
 use Rattle.dist_repo.specs.Match.{IsUsable, Matches, MatchesByEntry, MatchesByName}
+use Rattle.dist_repo.specs.Order.{IsSamePackage}
 use Rattle.dist_repo.specs.declared.package.Package.{Package}
 
 abbrev pub IsDecided : Type 0 → Type 0
@@ -35,15 +38,15 @@ any-decided P each (x ∷ xs) = elim (each x) [
 ]
 
 -- both, where each is decided
-both : {P Q : Type 0} → IsDecided P → IsDecided Q → IsDecided (P × Q)
-both (inl p) (inl q) = inl (p, q)
-both (inl p) (inr q) = inr (λ h. q h.1)
-both (inr p) second = inr (λ h. p h.0)
+pub both-decided : {P Q : Type 0} → IsDecided P → IsDecided Q → IsDecided (P × Q)
+both-decided (inl p) (inl q) = inl (p, q)
+both-decided (inl p) (inr q) = inr (λ h. q h.1)
+both-decided (inr p) second = inr (λ h. p h.0)
 
-either : {P Q : Type 0} → IsDecided P → IsDecided Q → IsDecided (P ⊎ Q)
-either (inl p) second = inl (inl p)
-either (inr p) (inl q) = inl (inr q)
-either (inr p) (inr q) = inr (λ h. elim h [
+pub either-decided : {P Q : Type 0} → IsDecided P → IsDecided Q → IsDecided (P ⊎ Q)
+either-decided (inl p) second = inl (inl p)
+either-decided (inr p) (inl q) = inl (inr q)
+either-decided (inr p) (inr q) = inr (λ h. elim h [
   | inl x ↦ p x
   | inr x ↦ q x
 ])
@@ -59,6 +62,26 @@ text-decided a b = by (bytes_eq a b) refl
     by : (answer : Bool) → bytes_eq a b ≡ answer → IsDecided (a ≡ b)
     by true is = inl ((bytes_eq-Decides a b).0 is)
     by false is = inr (λ h. let other = (bytes_eq-Decides a b).1 h in cc)
+
+pub at-decided : {X : Type 0} (P : X → Type 0) → ((x : X) → IsDecided (P x)) → (xs : List X) (k : ℕ) → IsDecided (IsSomeAnd (slice_get xs k) P)
+at-decided P each [] k = inr (λ h. h)
+at-decided P each (x ∷ xs) zero = each x
+at-decided P each (x ∷ xs) (suc k) = at-decided P each xs k
+
+pub some-decided : {X : Type 0} (P : X → Type 0) → ((x : X) → IsDecided (P x)) → (o : Option X) → IsDecided (IsSomeAnd o P)
+some-decided P each None = inr (λ h. h)
+some-decided P each (Some x) = each x
+
+pub not-decided : {P : Type 0} → IsDecided P → IsDecided (¬ P)
+not-decided (inl p) = inr (λ none. none p)
+not-decided (inr none) = inl none
+
+pub equal-decided : (o : Ordering) → IsDecided (o ≡ Equal)
+equal-decided Less = inr (λ h. cc)
+equal-decided Equal = inl refl
+equal-decided Greater = inr (λ h. cc)
+
+-- ---- what atoms match, and what is in conflict
 
 order-decided : (op : Op) (order : Ordering) → IsDecided (AllowsOrder op order)
 order-decided Lt Less = inl refl
@@ -84,12 +107,12 @@ architecture-decided : (architecture : Option (List ℕ)) (name : List ℕ) → 
 architecture-decided None name = inr (λ h. cc)
 architecture-decided (Some here) name = same-as (λ h. ap (λ (x : List ℕ). Some x) h) (λ h. cc) (text-decided here name)
 
-usable-decided : (architecture : Option (List ℕ)) (qualifier : Qualifier) → IsDecided (IsUsable architecture qualifier)
+pub usable-decided : (architecture : Option (List ℕ)) (qualifier : Qualifier) → IsDecided (IsUsable architecture qualifier)
 usable-decided architecture Plain = inl tt
 usable-decided architecture (Named name) =
-    either (text-decided name (codes "any")) (either (text-decided name (codes "native")) (architecture-decided architecture name))
+    either-decided (text-decided name (codes "any")) (either-decided (text-decided name (codes "native")) (architecture-decided architecture name))
 
-bound-decided : (version : List ℕ) (bound : Option Bound) → IsDecided (IfSome bound (λ b. Satisfies version b))
+pub bound-decided : (version : List ℕ) (bound : Option Bound) → IsDecided (IfSome bound (λ b. Satisfies version b))
 bound-decided version None = inl tt
 bound-decided version (Some bound) = satisfies-decided version bound
 
@@ -100,20 +123,32 @@ entry-bound-decided (Some version) (Some bound) = satisfies-decided version boun
 
 name-decided : (atom : Atom) (p : Package) → IsDecided (MatchesByName atom p)
 name-decided atom p =
-    same-as (λ h. record { name = h.0; bound = h.1 }) (λ h. (h.name, h.bound)) (both (text-decided p.name atom.name) (bound-decided p.version atom.bound))
+    same-as (λ h. record { name = h.0; bound = h.1 }) (λ h. (h.name, h.bound)) (both-decided (text-decided p.name atom.name) (bound-decided p.version atom.bound))
 
-entry-decided : (architecture : Option (List ℕ)) (atom : Atom) (entry : Provide) → IsDecided (MatchesByEntry architecture atom entry)
+pub entry-decided : (architecture : Option (List ℕ)) (atom : Atom) (entry : Provide) → IsDecided (MatchesByEntry architecture atom entry)
 entry-decided architecture atom entry =
     same-as (λ h. record { usable = h.0; name = h.1.0; bound = h.1.1 }) (λ h. (h.usable, (h.name, h.bound)))
-    (both (usable-decided architecture entry.qualifier) (both (text-decided entry.name atom.name) (entry-bound-decided entry.version atom.bound)))
+    (both-decided (usable-decided architecture entry.qualifier) (both-decided (text-decided entry.name atom.name) (entry-bound-decided entry.version atom.bound)))
 
 pub matches-decided : (architecture : Option (List ℕ)) (atom : Atom) (p : Package) → IsDecided (Matches architecture atom p)
 matches-decided architecture atom p =
     same-as (λ h. record { usable = h.0; matched = h.1 }) (λ h. (h.usable, h.matched))
-    (both (usable-decided architecture atom.qualifier)
-    (either (name-decided atom p) (any-decided (MatchesByEntry architecture atom) (entry-decided architecture atom) p.provides)))
+    (both-decided (usable-decided architecture atom.qualifier)
+    (either-decided (name-decided atom p) (any-decided (MatchesByEntry architecture atom) (entry-decided architecture atom) p.provides)))
 
 pub met-decided : (architecture : Option (List ℕ)) (members : List Package) (item : List Atom) → IsDecided (IsMet architecture members item)
 met-decided architecture members item =
     any-decided (λ atom. Any (Matches architecture atom) members)
     (λ atom. any-decided (Matches architecture atom) (matches-decided architecture atom) members) item
+
+same-decided : (p q : Package) → IsDecided (IsSamePackage p q)
+same-decided p q = both-decided (text-decided p.name q.name) (equal-decided (version_cmp p.version q.version))
+
+rejects-decided : (architecture : Option (List ℕ)) (p q : Package) → IsDecided (Any (λ atom. Matches architecture atom q) p.conflicts)
+rejects-decided architecture p q = any-decided (λ atom. Matches architecture atom q) (λ atom. matches-decided architecture atom q) p.conflicts
+
+pub conflict-decided : (architecture : Option (List ℕ)) (p q : Package) → IsDecided (AreInConflict architecture p q)
+conflict-decided architecture p q = elim (both-decided (not-decided (same-decided p q)) (either-decided (rejects-decided architecture p q) (rejects-decided architecture q p))) [
+  | inl both ↦ inl (record { different = both.0; matched = both.1 })
+  | inr none ↦ inr (λ conflict. none (conflict.different, conflict.matched))
+]
