@@ -90,10 +90,11 @@ impl Eq for TextKey<'_> {
     ghost laws = { eq_by_cmp_equiv text_total };
 }
 
-/// A name, by its bytes.
+/// A name as a key, which stands in the order of its bytes.
 #[derive(Drop)]
-pub(crate) struct NameKey<'a> {
-    pub(crate) name: &'a Name,
+pub struct NameKey<'a> {
+    /// The name.
+    pub name: &'a Name,
 }
 
 impl<'a> Model for NameKey<'a> {
@@ -105,12 +106,7 @@ impl<'a> Model for NameKey<'a> {
 }
 
 impl<'a> NameKey<'a> {
-    pub(crate) fn new(name: &'a Name) -> NameKey<'a>
-        ensures { result ≡ name.now }
-    {
-        NameKey { name }
-    }
-
+    /// The name, which lives longer than the key.
     pub(crate) fn name(&self) -> &'a Name
         ensures { result.now ≡ self.now }
     {

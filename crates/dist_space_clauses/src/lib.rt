@@ -11,7 +11,6 @@ mod groups;
 mod items;
 mod led_clauses;
 mod matched;
-mod name_key;
 mod rejecting;
 
 pub use clause_laws::{

@@ -2,7 +2,7 @@
 ghost use Rattle.std.specs.Prelude.{◌≡◌, ◌++◌, ◌∷◌, [], ℕ, Any, Contains, IfOk, OnOk};
 ghost use Rattle.dist_space_clauses.specs.Rejecting.{AreRejecting, Notes, numbers_at};
 
-use crate::name_key::NameKey;
+use dist_classes::NameKey;
 use dist_relation::{Atoms, Name};
 use dist_repo::Repository;
 use std::alloc::{AllocError, Global};
