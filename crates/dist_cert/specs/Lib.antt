@@ -1,5 +1,6 @@
 pub mod Form
 pub mod Rising
+pub mod ListFacts
 pub mod Writing
 pub mod Subject
 pub mod Groups

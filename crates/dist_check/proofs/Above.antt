@@ -3,9 +3,9 @@ use Rattle.std.proofs.Common.{◌≡◌, inl, inr, ℕ, ◌<◌, ◌≤◌, ◌|
 use Rattle.std.specs.List.{All, Any}
 use Rattle.std.proofs.lemmas.Bool.{ltb-true, ltb-false, or_cases, or_parts, false≢true}
 use Rattle.std.proofs.lemmas.List.Elements.{All-nil, All-cons}
+use Rattle.dist_base.specs.ListLaws.{any-head, any-later}
 use Rattle.dist_cert.specs.Form.{Word}
 use Rattle.dist_state.specs.State.{names_above, is_above}
-use Rattle.dist_check.proofs.Told.{any-head, any-later}
 
 pub none-above : (last : ℕ) (numbers : List ℕ) → is_above last numbers ≡ false → All (λ number. number ≤ last) numbers
 none-above last [] none = All-nil (λ number. number ≤ last)

@@ -30,7 +30,7 @@ use Rattle.dist_check.specs.Checking.{IsReached, HasInputsWithin, StopsFirst, St
 use Rattle.dist_subject.specs.Present.{AreInputs, matter_of, subject_of}
 use Rattle.dist_check.specs.Limited.{AreInputsWithin}
 use Rattle.dist_check.specs.Start.{IsUnfit}
-use Rattle.dist_check.proofs.Places.{contains-cases, contains-later}
+use Rattle.dist_cert.specs.ListFacts.{contains-cases, contains-later}
 use Rattle.dist_check.proofs.Profile.{IsFaultless, HasFirst}
 use Rattle.dist_check.specs.Checked.{AreRight, HaveForms}
 

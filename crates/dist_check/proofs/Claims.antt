@@ -4,6 +4,7 @@ use Rattle.std.specs.List.{All, Any, Contains}
 use Rattle.std.proofs.lemmas.Bool.{cases_eq, false≢true}
 use Rattle.std.proofs.lemmas.List.Elements.{All-contains, Contains-append_left, Contains-append_right, Contains-append_cases}
 use Rattle.std.proofs.lemmas.Option.{slice_get_within}
+use Rattle.dist_base.specs.ListLaws.{all-contained, any-cases, any-head}
 use Rattle.dist_clause.specs.Formula.{Literal, literal, negation, IsTrueLiteral, MakesTrue, IsModel, value_of}
 use Rattle.dist_repo.specs.Order.{IsInOrder}
 use Rattle.dist_repo.specs.PackageList.{PackageList}
@@ -26,8 +27,8 @@ use Rattle.dist_cert.specs.Accepted.{from_zero, claim_in}
 use Rattle.dist_subject.specs.Present.{matter_of, packages_of}
 use Rattle.dist_subject.specs.Claims.{NamesOthers}
 use Rattle.dist_check.specs.Means.{Says}
-use Rattle.dist_check.proofs.Told.{IsTold, stable, most-told, less-told, bool-told, number-told, any-cases, any-head}
-use Rattle.dist_check.proofs.Places.{all-from, contains-map, image-of}
+use Rattle.dist_check.proofs.Told.{IsTold, stable, most-told, less-told, bool-told, number-told}
+use Rattle.dist_check.proofs.Places.{contains-map, image-of}
 use Rattle.dist_check.specs.Checked.{AreRight, HaveForms}
 use Rattle.dist_check.proofs.LineLemmas.{IsSoundRule, refuted-true}
 use Rattle.dist_check.proofs.GroupLemmas.{group-behind, installation-healthy, recent-there}
@@ -150,10 +151,10 @@ in-each : (r : PackageList) (inputs : List (List Literal)) (h : Header) (steps :
     → StronglyDepends h.essential r p q → IsInEach before named (k + 1) (j + 1)
 in-each r inputs h steps x before step after k j p q named is at_k at_j each depends =
     let behind = group-behind before in (
-      all-from (λ number. Contains (installation_at before number) (j + 1)) named (λ number there.
+      all-contained (λ number. Contains (installation_at before number) (j + 1)) named (λ number there.
           let members = installation_at before number in
           has members (healthy-there r inputs h steps x [] before (step ∷ after) members is (recent-there before number (each number there).0)) (each number there).1),
-      all-from (λ members. Contains members (k + 1) → Contains members (j + 1)) (installations (group before)) (λ members there.
+      all-contained (λ members. Contains members (k + 1) → Contains members (j + 1)) (installations (group before)) (λ members there.
           has members (healthy-there r inputs h steps x behind.front (group before) (step ∷ after) members (is ∙ ap (λ (ls : List CertRecord). ls ++ step ∷ after) behind.is) there)),
     )
   where
@@ -216,7 +217,7 @@ strong-names before k h r inputs named on undecided rules twice =
     (names on rules.3 (λ q there. Contains-append_left on undecided q there), names undecided rules.4 (λ q there. Contains-append_right on undecided q there))
   where
     names : (numbers : List ℕ) → AreFromOne numbers → ((q : ℕ) → Contains numbers q → Contains (on ++ undecided) q) → All (λ q. (q < length r.packages) × (q ≢ k)) (from_zero numbers)
-    names numbers from_one among = all-from (λ q. (q < length r.packages) × (q ≢ k)) (from_zero numbers) (λ q there.
+    names numbers from_one among = all-contained (λ q. (q < length r.packages) × (q ≢ k)) (from_zero numbers) (λ q there.
         let of = other-each before (k + 1) h r inputs named on undecided twice (q + 1) (among (q + 1) (up numbers q from_one there)) in
         (omega (arith, of.1), λ same. of.0 (ap (λ (n : ℕ). n + 1) same)))
 

@@ -3,6 +3,7 @@ use Rattle.std.proofs.Common.{◌≡◌, ◌≢◌, ◌⊎◌, inl, inr, ℕ, �
 use Rattle.std.specs.List.{Any}
 use Rattle.std.proofs.lemmas.Bool.{false≢true, and_parts, and_cases, eqb-true, eqb-false, leb-true, leb-false}
 use Rattle.std.proofs.lemmas.Grind.{flat_map-append}
+use Rattle.dist_base.specs.ListLaws.{any-cases, any-head}
 use Rattle.dist_clause.specs.Formula.{Literal}
 use Rattle.dist_derive.specs.New.{EachIsNew}
 use Rattle.dist_repo.specs.PackageList.{PackageList}
@@ -22,7 +23,6 @@ use Rattle.dist_state.specs.State.{QuestionView, StateView, is_next, TellsUndeci
 use Rattle.dist_check.specs.At.{IsQuestionOf, IsAt}
 use Rattle.dist_check.proofs.Profile.{rank, may_have, faultless-from, first-from}
 use Rattle.dist_cert.specs.GroupLaws.{one-open}
-use Rattle.dist_check.proofs.Told.{any-head, any-cases}
 use Rattle.dist_check.proofs.Verdicts.{IsVerdict, each-new, new-from-each}
 
 -- the clauses of the lines before are those before the open question and those since

@@ -8,7 +8,7 @@ use Rattle.dist_cert.specs.declared.records.CertRecord.TheVariants.{Installation
 use Rattle.dist_cert.specs.declared.records.Header.{Header}
 use Rattle.dist_cert.specs.Subject.{Matter}
 use Rattle.dist_cert.specs.Groups.{is_claim, group, installations, installation_at, IsRecent}
-use Rattle.dist_check.proofs.Places.{contains-cases}
+use Rattle.dist_cert.specs.ListFacts.{contains-cases}
 use Rattle.dist_check.specs.Checked.{AreRight}
 
 -- the lines before a group

@@ -7,7 +7,6 @@ mod MemberLemmas
 mod Claims
 mod Whole
 mod Hard
-mod Among
 mod Above
 mod Profile
 mod TestLemmas

@@ -1,12 +1,11 @@
 -- The healthy installations of a repository by the variables of its packages.
-use Rattle.std.proofs.Common.{◌≡◌, inl, inr, ℕ, zero, suc, ◌+◌, ◌-◌, ◌<◌, ◌≤◌, ◌==◌, Bool, true, false, List, [], ◌∷◌, length, get_or, Some, Less, refl, sym, ap, subst, ◌∙◌, arith, slice_get}
-use Rattle.std.specs.List.{All, Contains, list_any, range_with_len}
+use Rattle.std.proofs.Common.{◌≡◌, inl, inr, ℕ, zero, suc, ◌+◌, ◌-◌, ◌<◌, ◌≤◌, Bool, true, false, List, [], ◌∷◌, length, get_or, Some, Less, refl, sym, ap, subst, ◌∙◌, arith, slice_get}
+use Rattle.std.specs.List.{All, Contains}
 use Rattle.std.proofs.lemmas.List.Elements.{All-contains}
 use Rattle.std.specs.Ordering.{ordering_then}
 use Rattle.std.proofs.lemmas.Bool.{cases_order}
 use Rattle.std.proofs.lemmas.Cmp.{tied_itself, nat_cmp_total, lists_total}
-use Rattle.std.proofs.lemmas.List.{length-map, ext_get_or}
-use Rattle.std.proofs.lemmas.List.FromFn.{get_or-map-range_with_len, length-range_with_len}
+use Rattle.std.proofs.lemmas.List.{ext_get_or}
 use Rattle.std.proofs.lemmas.Option.{get_or_from_slice_get, slice_get_within}
 use Rattle.dist_version.specs.Order.{version_cmp}
 use Rattle.dist_version.specs.OrderLaws.{version_total}
@@ -17,19 +16,13 @@ use Rattle.dist_repo.specs.Strong.{IsInstallation}
 use Rattle.dist_repo.specs.declared.package.Package.{Package}
 use Rattle.dist_now.specs.Members.{members_of}
 use Rattle.dist_now.specs.PresentLaws.{AreModelsInstallations, AreSamePackages}
+use Rattle.dist_subject.specs.TruthLaws.{truth-at, truth-length}
 use Rattle.dist_subject.specs.Present.{truth_of, packages_of}
 use Rattle.dist_check.proofs.Told.{model-told, IsTold}
+use Rattle.dist_cert.specs.ListFacts.{any-from, both-flags, contains-cases, contains-later, from-any}
 use Rattle.dist_cert.specs.Rising.{is_among}
-use Rattle.dist_check.proofs.Among.{any-from, from-any}
-use Rattle.dist_check.proofs.Places.{contains-cases, contains-later}
 
 -- ---- truth values
-
-pub truth-length : (n : ℕ) (variables : List ℕ) → length (truth_of n variables) ≡ n
-truth-length n variables = length-map (range_with_len 1 n) (λ variable. list_any (λ v. variable == v) variables) ∙ length-range_with_len 1 n
-
-pub truth-at : (n k : ℕ) (variables : List ℕ) → k < n → get_or (truth_of n variables) k false ≡ list_any (λ v. k + 1 == v) variables
-truth-at n k variables within = get_or-map-range_with_len (λ variable. list_any (λ v. variable == v) variables) 1 n k (k + 1) false within (omega arith)
 
 -- the value of a variable
 value-among : (n : ℕ) (variables : List ℕ) (v : ℕ) → 1 ≤ v → v ≤ n → value_of (truth_of n variables) v ≡ is_among variables v
@@ -110,11 +103,6 @@ variable-there packages variables k p ordered is there =
     ∙ member-at packages (truth_of (length packages) variables) k p ordered is there)
 
 -- ---- healthy installations
-
-both-flags : (a b : Bool) → (a ≡ true → b ≡ true) → (b ≡ true → a ≡ true) → a ≡ b
-both-flags true b to back = sym (to refl)
-both-flags false true to back = back refl
-both-flags false false to back = refl
 
 -- one truth value each, with the same members
 same-flags : (packages : List Package) (a b : List Bool) → IsInOrder packages → length a ≡ length packages → length b ≡ length packages

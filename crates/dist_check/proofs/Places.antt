@@ -1,11 +1,8 @@
 -- Elements of lists that are cut in pieces.
-use Rattle.std.proofs.Common.{◌≡◌, ◌⊎◌, inl, inr, ℕ, zero, suc, ◌<◌, List, [], ◌∷◌, ◌++◌, length, get_or, map, refl, ap, ◌∙◌, arith, length-append}
-use Rattle.std.specs.List.{All, Contains}
+use Rattle.std.proofs.Common.{◌≡◌, inl, inr, ℕ, zero, suc, ◌<◌, List, [], ◌∷◌, ◌++◌, length, get_or, map, refl, ap, ◌∙◌, arith, length-append}
+use Rattle.std.specs.List.{Contains}
 use Rattle.std.proofs.lemmas.List.{get_or_at, get_or-map, length-map}
-use Rattle.std.proofs.lemmas.List.Elements.{Contains-get_or}
-
-pub all-from : {X : Type 0} (P : X → Type 0) (xs : List X) → ((x : X) → Contains xs x → P x) → All P xs
-all-from P xs each k d within = each (get_or xs k d) (Contains-get_or xs k d within)
+use Rattle.dist_cert.specs.ListFacts.{contains-cases, contains-later}
 
 -- the list is cut before an element
 pub record IsCutAt {X : Type 0} (xs : List X) (x : X) : Type 0 where
@@ -26,16 +23,6 @@ cut-at xs x there = at xs there.0 there.1 there.2
 
 pub contains-cut : {X : Type 0} (before : List X) (x : X) (after : List X) → Contains (before ++ x ∷ after) x
 contains-cut before x after = (length before, omega (arith, length-append before (x ∷ after)), get_or_at before x after x (length before) refl)
-
-pub contains-cases : {X : Type 0} (y : X) (xs : List X) (x : X) → Contains (y ∷ xs) x → (y ≡ x) ⊎ Contains xs x
-contains-cases y xs x there = at there.0 there.1 there.2
-  where
-    at : (k : ℕ) → k < length (y ∷ xs) → get_or (y ∷ xs) k x ≡ x → (y ≡ x) ⊎ Contains xs x
-    at zero within is = inl is
-    at (suc k) within is = inr (k, omega (arith, within), is)
-
-pub contains-later : {X : Type 0} (y : X) (xs : List X) (x : X) → Contains xs x → Contains (y ∷ xs) x
-contains-later y xs x there = (suc there.0, omega (arith, there.1), there.2)
 
 -- an element of a list of images
 pub contains-map : {X Y : Type 0} (f : X → Y) (xs : List X) (x : X) → Contains xs x → Contains (map f xs) (f x)

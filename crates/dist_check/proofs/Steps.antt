@@ -19,9 +19,8 @@ use Rattle.dist_group.specs.Closed.{ClosedView, asks_alone, asks_without, Closes
 use Rattle.dist_group.specs.Group.{GroupView, narrowed, common_with}
 use Rattle.dist_state.specs.State.{QuestionView, empty_group}
 use Rattle.dist_check.specs.At.{IsQuestionOf, AreClosed, IsCommonOf, IsGroupOf}
-use Rattle.dist_check.proofs.Places.{contains-cases, contains-later}
+use Rattle.dist_cert.specs.ListFacts.{any-from, contains-cases, contains-later, from-any}
 use Rattle.dist_cert.specs.GroupLaws.{IsOpening, IsAsked, one-open, still-open, none-still, closed-push, closed-more, closed-here, none-closed, group-push, group-claim, asked-in-group}
-use Rattle.dist_check.proofs.Among.{any-from, from-any}
 
 -- ---- lists that grow with the lines
 

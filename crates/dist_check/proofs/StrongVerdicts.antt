@@ -5,6 +5,7 @@ use Rattle.std.proofs.lemmas.Bool.{true≢false, false≢true, and_parts, and_fr
 use Rattle.std.proofs.lemmas.List.{get_or-drop, length-drop}
 use Rattle.std.proofs.lemmas.List.Elements.{All-append, All-contains, All-head, Contains-append_left, Contains-append_right, Contains-append_cases}
 use Rattle.std.proofs.lemmas.Option.{slice_get-get_or, slice_get_past}
+use Rattle.dist_base.specs.ListLaws.{all-contained}
 use Rattle.dist_clause.specs.Formula.{Literal}
 use Rattle.dist_repo.specs.PackageList.{PackageList}
 use Rattle.dist_cert.specs.declared.TheConstants.{REACH}
@@ -26,9 +27,8 @@ use Rattle.dist_state.specs.State.{StateView, is_next, TellsStrong}
 use Rattle.dist_check.specs.At.{IsCommonOf, IsAt}
 use Rattle.dist_check.proofs.ClosingVerdicts.{on-strong, number-verdict, wrong-verdict, right-verdict, incomplete-verdict}
 use Rattle.dist_check.proofs.GroupLemmas.{line-of, recent-there}
-use Rattle.dist_check.proofs.Places.{all-from}
 use Rattle.dist_check.specs.Checked.{AreRight, HaveForms}
-use Rattle.dist_check.proofs.Among.{any-from, from-any}
+use Rattle.dist_cert.specs.ListFacts.{any-from, from-any}
 use Rattle.dist_check.proofs.TestLemmas.{Tests, all-tested, any-tested, none-tested, among-tests, other-tests}
 use Rattle.dist_check.proofs.Told.{IsTold, stable, most-told, less-told}
 use Rattle.dist_check.proofs.Verdicts.{IsVerdict}
@@ -211,9 +211,9 @@ passes-from r inputs h before s p named on undecided x holds =
         rising = holds.rising.0;
         undecided_rising = holds.rising.1;
         apart = (none-tested (is_among undecided) (λ q. Contains undecided q) on (among-tests undecided on)).1 holds.apart;
-        others = (others-tested r inputs h before s p named x on).1 (all-from IsOther on (λ q there. All-contains IsOther (on ++ undecided) q holds.others (Contains-append_left on undecided q there)));
+        others = (others-tested r inputs h before s p named x on).1 (all-contained IsOther on (λ q there. All-contains IsOther (on ++ undecided) q holds.others (Contains-append_left on undecided q there)));
         undecided_others = (others-tested r inputs h before s p named x undecided).1
-            (all-from IsOther undecided (λ q there. All-contains IsOther (on ++ undecided) q holds.others (Contains-append_right on undecided q there)));
+            (all-contained IsOther undecided (λ q there. All-contains IsOther (on ++ undecided) q holds.others (Contains-append_right on undecided q there)));
         refuted = (all-tested (is_among s.group.refuted.without) (λ q. IsRefutedIn (group before) (yes p ∷ no q ∷ [])) on (refuted-tests r inputs h before s p named x on)).1 holds.refuted;
         open_still = (all-tested (is_among s.group.undecided.without) (λ q. IsUndecidedIn (group before) (yes p ∷ no q ∷ [])) undecided (undecided-tests r inputs h before s p named x undecided)).1
             (λ k d within. (holds.open_still k d within).0);

@@ -3,10 +3,9 @@ use Rattle.std.proofs.Common.{◌≡◌, ◌≢◌, inl, inr, ℕ, ◌≤◌, �
 use Rattle.std.specs.List.{All, Any, Contains, list_all, list_any}
 use Rattle.std.proofs.lemmas.Bool.{false≢true, cases_Bool, and_parts, and_from, or_cases, or_parts, or_left, or_right, leb-true, le-leb, eqb-false, ne_eqb, not-true, not_from_false}
 use Rattle.std.proofs.lemmas.List.Elements.{All-nil, All-cons, All-head, All-tail}
+use Rattle.dist_base.specs.ListLaws.{any-cases, any-head, any-later}
 use Rattle.dist_cert.specs.Rising.{is_among}
-use Rattle.dist_check.proofs.Told.{any-head, any-later, any-cases}
-use Rattle.dist_check.proofs.Places.{contains-later}
-use Rattle.dist_check.proofs.Among.{any-from, from-any}
+use Rattle.dist_cert.specs.ListFacts.{any-from, contains-later, from-any}
 
 -- a test that is passed where a fact holds, of the numbers of a list
 abbrev pub Tests : (ℕ → Bool) → (ℕ → Type 0) → List ℕ → Type 0

@@ -1,8 +1,9 @@
 -- What can be told holds where it cannot fail.
-use Rattle.std.proofs.Common.{◌≡◌, ◌⊎◌, ⊎_elim, inl, inr, ℕ, zero, suc, ◌<◌, ◌≤◌, Bool, true, false, List, [], ◌∷◌, length, get_or, refl, subst, sym, arith}
+use Rattle.std.proofs.Common.{◌≡◌, ◌⊎◌, ⊎_elim, inl, inr, ℕ, ◌<◌, ◌≤◌, Bool, true, false, List, [], ◌∷◌, refl, subst, arith}
 use Rattle.std.specs.List.{All, Any, Contains}
 use Rattle.std.proofs.lemmas.Bool.{cases_lt, cases_eq}
 use Rattle.std.proofs.lemmas.List.Elements.{All-nil, All-cons, All-head, All-tail}
+use Rattle.dist_base.specs.ListLaws.{any-cases, any-head, any-later}
 use Rattle.dist_clause.specs.Formula.{Literal, IsTrueLiteral, MakesTrue, IsModel}
 
 abbrev pub IsTold : Type 0 → Type 0
@@ -23,19 +24,6 @@ bool-told true true = inl refl
 bool-told false false = inl refl
 bool-told true false = inr (λ e. cc)
 bool-told false true = inr (λ e. cc)
-
-pub any-head : {X : Type 0} (P : X → Type 0) (x : X) (xs : List X) → P x → Any P (x ∷ xs)
-any-head P x xs holds = (0, x, omega arith, refl, holds)
-
-pub any-later : {X : Type 0} (P : X → Type 0) (x : X) (xs : List X) → Any P xs → Any P (x ∷ xs)
-any-later P x xs any = (suc any.0, any.1, omega (arith, any.2), any.3, any.4)
-
-pub any-cases : {X : Type 0} (P : X → Type 0) (x : X) (xs : List X) → Any P (x ∷ xs) → P x ⊎ Any P xs
-any-cases P x xs any = at any.0 any.1 any.2 any.3 any.4
-  where
-    at : (k : ℕ) (y : _) → k < length (x ∷ xs) → get_or (x ∷ xs) k y ≡ y → P y → P x ⊎ Any P xs
-    at zero y short is holds = inl (subst P (sym is) holds)
-    at (suc k) y short is holds = inr (k, y, omega arith, is, holds)
 
 pub any-told : {X : Type 0} (P : X → Type 0) → ((x : X) → IsTold (P x)) → (xs : List X) → IsTold (Any P xs)
 any-told P each [] = inr (λ any. omega (arith, any.2))

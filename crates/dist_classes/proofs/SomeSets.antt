@@ -1,5 +1,5 @@
 -- Each finite set of texts has a list in order: it is found text by text, and no memory is asked for.
-use Rattle.std.proofs.Common.{◌≡◌, ◌⊎◌, ◌↔◌, List, [], ◌∷◌, ◌++◌, ℕ, zero, suc, Ordering, Less, Equal, Greater, nat_cmp, refl, sym, ap, subst, ◌∙◌, inl, inr, arith}
+use Rattle.std.proofs.Common.{◌≡◌, ◌⊎◌, ◌↔◌, List, [], ◌∷◌, ◌++◌, ℕ, suc, Ordering, Less, Equal, Greater, nat_cmp, refl, sym, ap, ◌∙◌, inl, inr, arith}
 use Rattle.std.specs.Prelude.{Any, Contains}
 use Rattle.std.specs.Cmp.{IsTotalOrder}
 use Rattle.std.specs.Cmp.Lexicographic.{slice_cmp}
@@ -7,6 +7,7 @@ use Rattle.std.specs.List.{AllByRecursion}
 use Rattle.std.specs.List.Sorted.{IsStrictlySortedBy}
 use Rattle.std.specs.Ordering.{ordering_reverse, ordering_then}
 use Rattle.std.proofs.lemmas.List.Elements.{Contains-append_cases, Contains-append_left, Contains-append_right}
+use Rattle.dist_base.specs.ListLaws.{any-cases}
 use Rattle.dist_version.specs.Order.{version_cmp}
 use Rattle.dist_classes.specs.Sorted.{text_cmp}
 use Rattle.dist_classes.specs.Table.{Adds}
@@ -171,12 +172,8 @@ any-head : {X : Type 0} (P : X → Type 0) (x : X) (xs : List X) → (P x ⊎ An
 any-head P x xs (inl holds) = (0, x, omega arith, refl, holds)
 any-head P x xs (inr any) = (suc any.0, any.1, omega (arith, any.2), any.3, any.4)
 
-any-split : {X : Type 0} (P : X → Type 0) (x : X) (xs : List X) → Any P (x ∷ xs) → P x ⊎ Any P xs
-any-split P x xs (zero, y, short, is, holds) = inl (subst P (sym is) holds)
-any-split P x xs (suc k, y, short, is, holds) = inr (k, y, omega (arith, short), is, holds)
-
 pub found-any : {X : Type 0} (P : List ℕ → X → Type 0) → ((x : X) → Found (λ v. P v x)) → (xs : List X) → Found (λ v. Any (P v) xs)
 found-any P each [] = found-none (λ v. Any (P v) []) (λ v any. omega (arith, any.2))
 found-any P each (x ∷ xs) =
-    found-iff (λ v. P v x ⊎ Any (P v) xs) (λ v. Any (P v) (x ∷ xs)) (λ v. (any-head (P v) x xs, any-split (P v) x xs))
+    found-iff (λ v. P v x ⊎ Any (P v) xs) (λ v. Any (P v) (x ∷ xs)) (λ v. (any-head (P v) x xs, any-cases (P v) x xs))
     (found-either (λ v. P v x) (λ v. Any (P v) xs) (each x) (found-any P each xs))

@@ -10,6 +10,7 @@ use Rattle.std.proofs.lemmas.List.Elements.{Contains-append_left, Contains-push,
 use Rattle.std.proofs.lemmas.Map.Text.{is_eq-slice_cmp}
 use Rattle.std.proofs.lemmas.Option.{get_or_from_slice_get, slice_get_within}
 use Rattle.std.proofs.lemmas.Slice.Eq.{bytes_eq-Decides}
+use Rattle.dist_base.specs.ListLaws.{any-contained}
 use Rattle.dist_relation.specs.declared.atom.Atom.{Atom}
 use Rattle.dist_relation.specs.declared.atom.Bound.{Bound}
 use Rattle.dist_repo.specs.Match.{IsUsable}
@@ -101,9 +102,6 @@ notes-both a b c P Q first second q v = (
 
 -- ---- some of the first elements
 
-any-from : {X : Type 0} (P : X → Type 0) (xs : List X) (x : X) → Contains xs x → P x → Any P xs
-any-from P xs x there holds = (there.0, x, there.1, there.2, holds)
-
 pub any-take : {X : Type 0} (P : X → Type 0) (xs : List X) (k : ℕ) (x : X) → slice_get xs k ≡ Some x → (Any P (take k xs) ⊎ P x) ↔ Any P (take (k + 1) xs)
 any-take {X} P xs k x is =
     let short = slice_get_within xs k x is in
@@ -111,13 +109,13 @@ any-take {X} P xs k x is =
     let more : take (k + 1) xs ≡ take k xs ++ x ∷ [] = take_more xs k x short ∙ ap (λ y. take k xs ++ y ∷ []) here in
     let Some_of : List X → Type 0 = λ ys. Any P ys in (
       (λ either. subst Some_of (sym more) (elim either [
-        | inl any ↦ any-from P (take k xs ++ x ∷ []) any.1 (Contains-append_left (take k xs) (x ∷ []) any.1 (any.0, any.2, any.3)) any.4
-        | inr h ↦ any-from P (take k xs ++ x ∷ []) x (Contains-push (take k xs) x) h
+        | inl any ↦ any-contained P (take k xs ++ x ∷ []) any.1 (Contains-append_left (take k xs) (x ∷ []) any.1 (any.0, any.2, any.3)) any.4
+        | inr h ↦ any-contained P (take k xs ++ x ∷ []) x (Contains-push (take k xs) x) h
       ])),
       λ any.
           let pushed = subst Some_of more any in
           elim (Contains-push_cases (take k xs) x pushed.1 (pushed.0, pushed.2, pushed.3)) [
-            | inl h ↦ inl (any-from P (take k xs) pushed.1 h pushed.4)
+            | inl h ↦ inl (any-contained P (take k xs) pushed.1 h pushed.4)
             | inr h ↦ inr (subst P (sym h) pushed.4)
           ],
     )

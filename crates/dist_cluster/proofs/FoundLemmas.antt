@@ -44,7 +44,7 @@ is-in clusters c m cluster is there = some-at (λ (list : List ℕ). Contains li
 least-push : (xs : List ℕ) (y : ℕ) → 0 < length xs → least (xs ++ y ∷ []) ≡ least xs
 least-push xs y some = get_or_append_left xs (y ∷ []) 0 0 some
 
-contains-least : (xs : List ℕ) → 0 < length xs → Contains xs (least xs)
+pub contains-least : (xs : List ℕ) → 0 < length xs → Contains xs (least xs)
 contains-least xs some = (0, some, get_or_default xs 0 (least xs) 0 some)
 
 -- ---- a member joins a cluster

@@ -6,11 +6,13 @@ use Rattle.std.proofs.lemmas.Bool.{cases_lt}
 use Rattle.std.proofs.lemmas.List.{get_or_default, same_lists}
 use Rattle.std.proofs.lemmas.List.Elements.{All-contains}
 use Rattle.std.proofs.lemmas.Option.{slice_get_within, slice_get-get_or, get_or_from_slice_get, same_Some}
+use Rattle.dist_base.specs.ListLaws.{any-at, contains-at}
+use Rattle.dist_cluster.proofs.FoundLemmas.{contains-least}
 use Rattle.dist_cluster.specs.Found.{AreFound, IsListed, number_at}
 use Rattle.dist_cluster.specs.Partition.{least, IsClusterOf, IsIn, IsPartition}
 use Rattle.dist_cluster.specs.Relation.{Member, AreClustered, AreTogether}
 use Rattle.dist_cluster.proofs.Clustered.{number-same}
-use Rattle.dist_cluster.proofs.Places.{some-of, some-at, standing, any-at, contains-at}
+use Rattle.dist_cluster.proofs.Places.{some-of, some-at, standing}
 
 -- ---- what is found of all members
 
@@ -119,9 +121,6 @@ least-of (y ∷ xs) x rising there = elim (contains-cases y x xs there.0 there.1
   | inl h ↦ omega arith
   | inr h ↦ let below = above-head y x xs rising h in omega arith
 ]
-
-contains-least : (xs : List ℕ) → 0 < length xs → Contains xs (least xs)
-contains-least xs some = (0, some, get_or_default xs 0 (least xs) 0 some)
 
 abbrev HaveSame : List ℕ → List ℕ → Type 0
 HaveSame xs ys = (k : ℕ) → Contains xs k ↔ Contains ys k

@@ -3,11 +3,12 @@ use Rattle.std.proofs.Common.{◌≡◌, ◌≢◌, ℕ, zero, suc, ◌+◌, ◌
 use Rattle.std.specs.Prelude.{Contains, IsSomeAnd}
 use Rattle.std.proofs.lemmas.List.{get_or_default, take_all}
 use Rattle.std.proofs.lemmas.List.Elements.{All-get_or}
+use Rattle.dist_base.specs.ListLaws.{contains-at}
 use Rattle.dist_cluster.specs.Found.{top_cmp}
 use Rattle.dist_cluster.specs.Partition.{IsClusterOf, IsPartition}
 use Rattle.dist_cluster.specs.Relation.{Member, AreClustered}
 use Rattle.dist_cluster.specs.Top.{AreTops, IsTop}
-use Rattle.dist_cluster.proofs.Places.{contains-at, some-of, standing, stands-default}
+use Rattle.dist_cluster.proofs.Places.{some-of, standing, stands-default}
 use Rattle.dist_cluster.proofs.TopLemmas.{AreTopsSoFar, IsHighest, highest-first, highest-next, highest-still, top-highest, tops-all, tops-more, tops-none}
 
 module _ (members : List Member) (cluster : List ℕ) (whole : (n : ℕ) → Contains cluster n → (member : Member) × (slice_get members n ≡ Some member)) where

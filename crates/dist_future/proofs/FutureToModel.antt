@@ -1,7 +1,6 @@
 -- A healthy installation of a future meets the demands of the space: which meanings hold in it.
 use Rattle.std.proofs.Common.{◌≡◌, ◌≢◌, ◌⊎◌, ℕ, ◌<◌, Bool, true, false, List, [], Option, Some, None, length, refl, sym, ap, subst, ◌∙◌, inl, inr, arith, slice_get}
 use Rattle.std.specs.Prelude.{All, AllPairs, Any, Contains, IsSomeAnd, filter, slice_index}
-use Rattle.std.specs.Option.{option_map}
 use Rattle.std.proofs.lemmas.List.Elements.{All-contains, All-filter, All-map}
 use Rattle.std.proofs.lemmas.Option.{same_Some, slice_get_within}
 use Rattle.dist_base.specs.ListLaws.{all-contained, any-at, any-contained, at-has, contains-at, element-at, found-at, FoundAt, has-at, here-at, pair-from, place-of, within-from}
@@ -24,10 +23,11 @@ use Rattle.dist_space.specs.Space.{IsMatched, IsMeaning, IsMetBy, IsSpace, Space
 use Rattle.dist_space_clauses.specs.SpaceClauses.{Excludes, IsBearer}
 use Rattle.dist_space.specs.declared.meaning.Meaning.{Meaning}
 use Rattle.dist_space.specs.declared.meaning.Meaning.TheVariants.{Now, Present, At, New, Kept, Fresh}
-use Rattle.dist_future.proofs.ClassMatch.{ClassLaws, IsMemberAt, fresh-at, from-fresh, from-kept, from-new, member-at, to-fresh, to-new}
+use Rattle.dist_future.proofs.ClassMatch.{ClassLaws, fresh-at, from-fresh, from-kept, from-new, member-at, to-fresh, to-new}
 use Rattle.dist_future.proofs.DemandLemmas.{AreMet, IsMetIn}
 use Rattle.dist_space.specs.ClusterLaws.{has-cluster, names-apart}
 use Rattle.dist_future.proofs.SpaceLemmas.{never-at, one-of-name, fresh-class}
+use Rattle.dist_future.proofs.SpaceParts.{conflict-atom, member-of-class, never-taken, other-name}
 use Rattle.dist_classes.specs.VersionOrder.{equal-back}
 
 -- ---- conflicts
@@ -247,11 +247,6 @@ module _ (laws : ClassLaws) (s : SpaceView) (space : IsSpace s) (future members 
 
   -- ---- packages of new names
 
-  untaken : (x : ℕ) (name : List ℕ) → slice_get s.names x ≡ Some name → ¬ IsTaken s.repository name
-  untaken x name is taken =
-      let new = (space.frame.names.exact name).0 (contains-at s.names x name is) in
-      new.unprovided (taken.0, taken.1, taken.2, taken.3, inl taken.4)
-
   record FreshMember (x k : ℕ) : Type 0 where
     name : List ℕ
     is : slice_get s.names x ≡ Some name
@@ -268,7 +263,7 @@ module _ (laws : ClassLaws) (s : SpaceView) (space : IsSpace s) (future members 
 
   fresh-new : (x : ℕ) (name : List ℕ) (n : Package) → slice_get s.names x ≡ Some name → Contains members n → n.name ≡ name → IsOfNewName name n
   fresh-new x name n is there same =
-      subst (λ (y : List ℕ). IsOfNewName y n) same (seen.fresh n (in_future n there) (λ taken. untaken x name is (subst (λ (y : List ℕ). IsTaken s.repository y) same taken))).0
+      subst (λ (y : List ℕ). IsOfNewName y n) same (seen.fresh n (in_future n there) (λ taken. never-taken s space x name is (subst (λ (y : List ℕ). IsTaken s.repository y) same taken))).0
 
   -- ---- conflicts
 
@@ -276,19 +271,6 @@ module _ (laws : ClassLaws) (s : SpaceView) (space : IsSpace s) (future members 
   rejects p n place atom first second names is matches =
       never-conflict s.repository.architecture members p n seen.healthy.no_conflict first second names
       (record { different = λ same. names same.0; matched = inl (any-at (λ a. Matches s.repository.architecture a n) p.conflicts place atom is matches) })
-
-  conflict-atom : (r : ℕ) (p : Package) (place : ℕ) (atom : Atom) → slice_get s.repository.packages r ≡ Some p → slice_get p.conflicts place ≡ Some atom → IsUsable s.repository.architecture atom.qualifier → IsAtomOf s.repository atom
-  conflict-atom r p place atom is is_atom usable =
-      record { usable = usable; there = inr (any-at (λ (q : Package). Contains q.conflicts atom) s.repository.packages r p is (contains-at p.conflicts place atom is_atom)) }
-
-  member-of-class : (r k : ℕ) (q : Package) → slice_get s.repository.packages r ≡ Some q → k < length (member_classes s r) → IsMemberAt s r k q
-  member-of-class r k q is short = member-at laws s space.frame r k q (has-cluster s space.frame r (slice_get_within s.repository.packages r q is)) is short
-
-  -- another name than that of a member
-  other-name : (o : ℕ) (q : Package) (name : List ℕ) → slice_get s.repository.packages o ≡ Some q → IsSomeAnd (option_map (λ (x : Package). x.name) (slice_get s.repository.packages o)) (λ n. n ≢ name) → q.name ≢ name
-  other-name o q name is other =
-      let Differs : Option Package → Type 0 = λ x. IsSomeAnd (option_map (λ (y : Package). y.name) x) (λ n. n ≢ name) in
-      subst Differs is other
 
   rejects-new : (r o k : ℕ) (p q : Package) → slice_get s.repository.packages r ≡ Some p → slice_get s.repository.packages o ≡ Some q → k < length (member_classes s o) → q.name ≢ p.name → Contains members p
       → fate (slice_index s.cluster_of o) ≡ Some k → IsNamedMember o → (place : ℕ) (atom : Atom) → slice_get p.conflicts place ≡ Some atom → IsUsable s.repository.architecture atom.qualifier
@@ -309,19 +291,19 @@ module _ (laws : ClassLaws) (s : SpaceView) (space : IsSpace s) (future members 
   apart-from r p (New o k) is is_meaning excludes present holds =
       let q = element-at s.repository.packages o is_meaning.0 in
       let at = found-at (λ atom. IsMatched s atom (New o k)) p.conflicts excludes.1 in
-      let of = conflict-atom r p at.place at.element is at.is at.holds.0 in
-      rejects-new r o k p q.element is q.is is_meaning.1 (other-name o q.element p.name q.is excludes.0) (present-at r p is present) holds.0 holds.1 at.place at.element at.is at.holds.0
-      (λ n new class. from-new s o k q.element (member-of-class o k q.element q.is is_meaning.1) at.element of n (kept_of o) new class at.holds)
+      let of = conflict-atom s r p at.place at.element is at.is at.holds.0 in
+      rejects-new r o k p q.element is q.is is_meaning.1 (other-name s o q.element p.name q.is excludes.0) (present-at r p is present) holds.0 holds.1 at.place at.element at.is at.holds.0
+      (λ n new class. from-new s o k q.element (member-of-class laws s space o k q.element q.is is_meaning.1) at.element of n (kept_of o) new class at.holds)
   apart-from r p (Kept o k j) is is_meaning excludes present holds =
       let q = element-at s.repository.packages o (within-from (λ (x : Package). IsSomeAnd (slice_get x.provides j) (λ entry. IsUsable s.repository.architecture entry.qualifier)) s.repository.packages o is_meaning.0) in
       let at = found-at (λ atom. IsMatched s atom (Kept o k j)) p.conflicts excludes.1 in
-      let of = conflict-atom r p at.place at.element is at.is at.holds.0 in
-      rejects-new r o k p q.element is q.is is_meaning.1 (other-name o q.element p.name q.is excludes.0) (present-at r p is present) holds.0 holds.1 at.place at.element at.is at.holds.0
-      (λ n new class. from-kept s o k q.element (member-of-class o k q.element q.is is_meaning.1) at.element of n (kept_of o) j new class holds.2 at.holds)
+      let of = conflict-atom s r p at.place at.element is at.is at.holds.0 in
+      rejects-new r o k p q.element is q.is is_meaning.1 (other-name s o q.element p.name q.is excludes.0) (present-at r p is present) holds.0 holds.1 at.place at.element at.is at.holds.0
+      (λ n new class. from-kept s o k q.element (member-of-class laws s space o k q.element q.is is_meaning.1) at.element of n (kept_of o) j new class holds.2 at.holds)
   apart-from r p (Fresh x k) is is_meaning excludes present holds =
       let m = fresh-member x k holds in
       let at = found-at (λ atom. IsMatched s atom (Fresh x k)) p.conflicts excludes.1 in
-      let of = conflict-atom r p at.place at.element is at.is at.holds.0 in
+      let of = conflict-atom s r p at.place at.element is at.is at.holds.0 in
       let names : m.name ≢ p.name = has-at (λ (n : List ℕ). n ≢ p.name) s.names x m.name m.is excludes.0 in
       rejects p m.n at.place at.element (present-at r p is present) m.there (λ same. names (sym (same ∙ m.name_is))) at.is
       (from-fresh s x k m.name (fresh-at laws s space.frame x k m.name m.is is_meaning) at.element of m.n (fresh-new x m.name m.n m.is m.there m.name_is) m.class at.holds)
@@ -392,6 +374,6 @@ module _ (laws : ClassLaws) (s : SpaceView) (space : IsSpace s) (future members 
     met = met-item;
     apart = apart-from;
     stays = λ c k is_meaning now moves. let no : None ≡ Some k = sym (seen.now_stays now c) ∙ moves in cc;
-    absent = λ x k is_meaning now holds. let m = fresh-member x k holds in untaken x m.name m.is (subst (λ (name : List ℕ). IsTaken s.repository name) m.name_is (seen.now_taken now m.n (in_future m.n m.there)));
+    absent = λ x k is_meaning now holds. let m = fresh-member x k holds in never-taken s space x m.name m.is (subst (λ (name : List ℕ). IsTaken s.repository name) m.name_is (seen.now_taken now m.n (in_future m.n m.there)));
     required = bearer;
   }

@@ -1,5 +1,5 @@
 -- The healthy assignments are those that stand for a future and a healthy installation in it.
-use Rattle.std.proofs.Common.{◌≡◌, ◌≢◌, ℕ, ◌<◌, Bool, List, Option, Some, None, length, refl, sym, ap, subst, ◌∙◌, inl, inr, arith, slice_get}
+use Rattle.std.proofs.Common.{◌≡◌, ◌≢◌, ℕ, ◌<◌, Bool, List, Some, None, length, refl, sym, ap, subst, ◌∙◌, inl, inr, arith, slice_get}
 use Rattle.std.specs.Prelude.{All, Any, Contains, IsSomeAnd, slice_index}
 use Rattle.std.specs.Option.{option_map}
 use Rattle.std.proofs.lemmas.List.Elements.{All-contains}
@@ -25,7 +25,7 @@ use Rattle.dist_future.specs.SpaceLaws.{StandsForFuture, examples_of, holds_unde
 use Rattle.dist_future.specs.Stands.{flags_from, fresh_package, future_of, installation_of, installed_package, new_version}
 use Rattle.dist_space.specs.declared.meaning.Meaning.{Meaning}
 use Rattle.dist_space.specs.declared.meaning.Meaning.TheVariants.{Now, Present, At, New, Kept, Fresh}
-use Rattle.dist_future.proofs.ClassMatch.{ClassLaws, IsMemberAt, fresh-at, fresh-new, from-fresh, from-kept, from-new, member-at, to-fresh, to-new}
+use Rattle.dist_future.proofs.ClassMatch.{ClassLaws, fresh-at, fresh-new, from-fresh, from-kept, from-new, to-fresh, to-new}
 use Rattle.dist_future.proofs.DemandLemmas.{IsMetIn, IsTrueMeaning}
 use Rattle.dist_future.proofs.FutureToModel.{never-conflict, required-package}
 use Rattle.dist_future.proofs.HealthLemmas.{health-from-met, met-from-health, met-with, with-it}
@@ -33,7 +33,8 @@ use Rattle.dist_future.proofs.ModelToFuture.{future-is, healthy-is}
 use Rattle.dist_future.proofs.NoFutureLemmas.{new-of as kept-new}
 use Rattle.dist_space.specs.UsableLaws.{usable-is}
 use Rattle.dist_future.proofs.Parts.{flag-at, flag-is, if-some, if-true, kept-carried, length-flags, made, made-of, map-some}
-use Rattle.dist_space.specs.ClusterLaws.{has-cluster, names-apart}
+use Rattle.dist_future.proofs.SpaceParts.{conflict-atom, member-of-class, other-name}
+use Rattle.dist_space.specs.ClusterLaws.{names-apart}
 
 module _ (laws : ClassLaws) (s : SpaceView) (space : IsSpace s) (values : List Bool) where
   pub healthy-stands : IsHealthyIn s values → StandsForFuture s values
@@ -72,9 +73,6 @@ module _ (laws : ClassLaws) (s : SpaceView) (space : IsSpace s) (values : List B
 
   class-of : (r k : ℕ) (p : Package) → k < length (member_classes s r) → IsOfClassAt (member_classes s r) k (newer r k p).version
   class-of r k p short = (space.frame.examples (slice_index s.cluster_of r) k short).1
-
-  member-of-class : (r k : ℕ) (q : Package) → slice_get s.repository.packages r ≡ Some q → k < length (member_classes s r) → IsMemberAt s r k q
-  member-of-class r k q is short = member-at laws s space.frame r k q (has-cluster s space.frame r (slice_get_within s.repository.packages r q is)) is short
 
   in-list : (m : Meaning) (n : Package) → IsMeaning s m → installed_package s (holds_under s values) (examples_of s) m ≡ Some n → Contains installed n
   in-list m n is gives =
@@ -149,7 +147,7 @@ module _ (laws : ClassLaws) (s : SpaceView) (space : IsSpace s) (values : List B
               (subst (λ (y : Package). Matches s.repository.architecture atom y) same matches);
         }
     found-of atom of n _ is_meaning (from_new r k q is holds same) matches =
-        elim (to-new s r k q (member-of-class r k q is is_meaning.1) atom of (newer r k q) (kept_of r k q) (new-of r k q is_meaning.1) (class-of r k q is_meaning.1) (subst (λ (y : Package). Matches s.repository.architecture atom y) same matches)) [
+        elim (to-new s r k q (member-of-class laws s space r k q is is_meaning.1) atom of (newer r k q) (kept_of r k q) (new-of r k q is_meaning.1) (class-of r k q is_meaning.1) (subst (λ (y : Package). Matches s.repository.architecture atom y) same matches)) [
           | inl by_name ↦ record { meaning = New r k; is_meaning = is_meaning; holds = holds; has = by_name }
           | inr kept ↦ record {
             meaning = Kept r k kept.0;
@@ -180,15 +178,6 @@ module _ (laws : ClassLaws) (s : SpaceView) (space : IsSpace s) (values : List B
         never-conflict s.repository.architecture installed p n healthy.no_conflict (old-in r p is holds) there names
         (record { different = λ same. names same.0; matched = inl (any-at (λ a. Matches s.repository.architecture a n) p.conflicts place atom is_atom matches) })
 
-    conflict-atom : (r : ℕ) (p : Package) (place : ℕ) (atom : Atom) → slice_get s.repository.packages r ≡ Some p → slice_get p.conflicts place ≡ Some atom → IsUsable s.repository.architecture atom.qualifier → IsAtomOf s.repository atom
-    conflict-atom r p place atom is is_atom usable =
-        record { usable = usable; there = inr (any-at (λ (q : Package). Contains q.conflicts atom) s.repository.packages r p is (contains-at p.conflicts place atom is_atom)) }
-
-    other-name : (o : ℕ) (q : Package) (name : List ℕ) → slice_get s.repository.packages o ≡ Some q → IsSomeAnd (option_map (λ (x : Package). x.name) (slice_get s.repository.packages o)) (λ n. n ≢ name) → q.name ≢ name
-    other-name o q name is other =
-        let Differs : Option Package → Type 0 = λ x. IsSomeAnd (option_map (λ (y : Package). y.name) x) (λ n. n ≢ name) in
-        subst Differs is other
-
     never-excluded : IsNoPair (AreNoFuture s values) → (r : ℕ) (p : Package) (m : Meaning) → slice_get s.repository.packages r ≡ Some p → IsMeaning s m → Excludes s r p m → T (Present r) → T m → ⊥
     never-excluded stands r p Now is is_meaning excludes present holds = excludes.0
     never-excluded stands r p (At c k) is is_meaning excludes present holds = excludes.0
@@ -199,23 +188,23 @@ module _ (laws : ClassLaws) (s : SpaceView) (space : IsSpace s) (values : List B
     never-excluded stands r p (New o k) is is_meaning excludes present holds =
         let q = element-at s.repository.packages o is_meaning.0 in
         let at = found-at (λ atom. IsMatched s atom (New o k)) p.conflicts excludes.1 in
-        let of = conflict-atom r p at.place at.element is at.is at.holds.0 in
-        rejects r p (newer o k q.element) at.place at.element is present (new-in o k q.element q.is is_meaning holds) (λ same. other-name o q.element p.name q.is excludes.0 (sym same)) at.is
-        (from-new s o k q.element (member-of-class o k q.element q.is is_meaning.1) at.element of (newer o k q.element) (kept_of o k q.element) (new-of o k q.element is_meaning.1) (class-of o k q.element is_meaning.1) at.holds)
+        let of = conflict-atom s r p at.place at.element is at.is at.holds.0 in
+        rejects r p (newer o k q.element) at.place at.element is present (new-in o k q.element q.is is_meaning holds) (λ same. other-name s o q.element p.name q.is excludes.0 (sym same)) at.is
+        (from-new s o k q.element (member-of-class laws s space o k q.element q.is is_meaning.1) at.element of (newer o k q.element) (kept_of o k q.element) (new-of o k q.element is_meaning.1) (class-of o k q.element is_meaning.1) at.holds)
     never-excluded stands r p (Kept o k j) is is_meaning excludes present holds =
         let is_new = kept-new s o k j is_meaning in
         let q = element-at s.repository.packages o is_new.0 in
         let entry = here-at (λ (e : Provide). IsUsable s.repository.architecture e.qualifier) q.element.provides j
         (has-at (λ (x : Package). IsSomeAnd (slice_get x.provides j) (λ e. IsUsable s.repository.architecture e.qualifier)) s.repository.packages o q.element q.is is_meaning.0) in
         let at = found-at (λ atom. IsMatched s atom (Kept o k j)) p.conflicts excludes.1 in
-        let of = conflict-atom r p at.place at.element is at.is at.holds.0 in
+        let of = conflict-atom s r p at.place at.element is at.is at.holds.0 in
         let flag = flag-is s.repository.architecture (λ i. holds_under s values (Kept o k i)) q.element.provides j entry.element entry.is (usable-is s.repository.architecture entry.element.qualifier entry.holds) holds in
         let new = with-it s values (Kept o k j) (New o k) stands (record { is_meaning = is_meaning; is_true = holds }) is_new (refl, refl) in
-        rejects r p (newer o k q.element) at.place at.element is present (new-in o k q.element q.is is_new new) (λ same. other-name o q.element p.name q.is excludes.0 (sym same)) at.is
-        (from-kept s o k q.element (member-of-class o k q.element q.is is_meaning.1) at.element of (newer o k q.element) (kept_of o k q.element) j (new-of o k q.element is_meaning.1) (class-of o k q.element is_meaning.1) flag at.holds)
+        rejects r p (newer o k q.element) at.place at.element is present (new-in o k q.element q.is is_new new) (λ same. other-name s o q.element p.name q.is excludes.0 (sym same)) at.is
+        (from-kept s o k q.element (member-of-class laws s space o k q.element q.is is_meaning.1) at.element of (newer o k q.element) (kept_of o k q.element) j (new-of o k q.element is_meaning.1) (class-of o k q.element is_meaning.1) flag at.holds)
     never-excluded stands r p (Fresh x k) is is_meaning excludes present holds =
         let at = found-at (λ atom. IsMatched s atom (Fresh x k)) p.conflicts excludes.1 in
-        let of = conflict-atom r p at.place at.element is at.is at.holds.0 in
+        let of = conflict-atom s r p at.place at.element is at.is at.holds.0 in
         let name = here-at (λ (n : List ℕ). (n ≡ at.element.name) × MeetsBound at.element (example_at (fresh_classes s x) k)) s.names x at.holds.1 in
         let example = space.frame.name_examples x k is_meaning in
         rejects r p (fresher x k name.element) at.place at.element is present (fresh-in x k name.element name.is is_meaning holds) (λ same. has-at (λ (n : List ℕ). n ≢ p.name) s.names x name.element name.is excludes.0 (sym same)) at.is

@@ -14,5 +14,6 @@ pub mod Parts
 pub mod RejectedLemmas
 pub mod SpaceLemmas
 pub mod SpaceMeaning
+pub mod SpaceParts
 pub mod UnmetLemmas
 pub mod VariableOrder

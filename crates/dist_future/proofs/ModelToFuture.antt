@@ -30,13 +30,14 @@ use Rattle.dist_space_clauses.specs.SpaceClauses.{IsBearer}
 use Rattle.dist_future.specs.Stands.{class_chosen, flags_from, fresh_package, future_of, installation_of, installed_package, later_package, moved_package, new_version}
 use Rattle.dist_space.specs.declared.meaning.Meaning.{Meaning}
 use Rattle.dist_space.specs.declared.meaning.Meaning.TheVariants.{Now, Present, At, New, Kept, Fresh}
-use Rattle.dist_future.proofs.ClassMatch.{ClassLaws, IsMemberAt, fresh-at, fresh-new, from-fresh, from-kept, from-new, member-at, to-fresh, to-new}
+use Rattle.dist_future.proofs.ClassMatch.{ClassLaws, fresh-at, fresh-new, from-fresh, from-kept, from-new, to-fresh, to-new}
 use Rattle.dist_future.proofs.DemandLemmas.{AreMet}
 use Rattle.dist_future.proofs.FutureToModel.{conflict-back, option-cases}
 use Rattle.dist_space.specs.UsableLaws.{usable-is}
 use Rattle.dist_future.proofs.Parts.{first-none, first-some, flag-at, flag-is, if-some, if-true, kept-carried, length-flags, made, made-of, made-pairs, map-some}
 use Rattle.dist_space.specs.RisingLaws.{pairs-more}
 use Rattle.dist_future.proofs.SpaceLemmas.{above-top, class-above, clustered-same}
+use Rattle.dist_future.proofs.SpaceParts.{conflict-atom, member-of-class, never-taken}
 use Rattle.dist_space.specs.ClusterLaws.{has-cluster, names-apart}
 use Rattle.dist_classes.specs.VersionOrder.{equal-itself}
 
@@ -105,14 +106,6 @@ module _ (laws : ClassLaws) (s : SpaceView) (space : IsSpace s) (holds : Meaning
 
   class-of-new : (r k : ℕ) (p : Package) → k < length (member_classes s r) → IsOfClassAt (member_classes s r) k (new_version s holds version r k p).version
   class-of-new r k p short = (versions (slice_index s.cluster_of r) k short).1
-
-  member-of-class : (r k : ℕ) (q : Package) → slice_get s.repository.packages r ≡ Some q → k < length (member_classes s r) → IsMemberAt s r k q
-  member-of-class r k q is short = member-at laws s space.frame r k q (has-cluster s space.frame r (slice_get_within s.repository.packages r q is)) is short
-
-  untaken : (x : ℕ) (name : List ℕ) → slice_get s.names x ≡ Some name → ¬ IsTaken s.repository name
-  untaken x name is taken =
-      let new = (space.frame.names.exact name).0 (contains-at s.names x name is) in
-      new.unprovided (taken.0, taken.1, taken.2, taken.3, inl taken.4)
 
   unprovided : (x : ℕ) (name : List ℕ) → slice_get s.names x ≡ Some name → ¬ IsProvided s.repository name
   unprovided x name is provided =
@@ -201,7 +194,7 @@ module _ (laws : ClassLaws) (s : SpaceView) (space : IsSpace s) (holds : Meaning
 
   fresh-apart : (r x k : ℕ) (p n : Package) (q : Package) → slice_get s.repository.packages r ≡ Some q → p.name ≡ q.name → IsFreshPackage x k n → p.name ≢ n.name
   fresh-apart r x k p n q is name fresh same =
-      untaken x fresh.name fresh.is (any-at (λ (y : Package). y.name ≡ fresh.name) s.repository.packages r q is (sym name ∙ same ∙ ap (λ (y : Package). y.name) fresh.same))
+      never-taken s space x fresh.name fresh.is (any-at (λ (y : Package). y.name ≡ fresh.name) s.repository.packages r q is (sym name ∙ same ∙ ap (λ (y : Package). y.name) fresh.same))
 
   one-fresh : (x k y l : ℕ) (p n : Package) → IsMeaning s (Fresh x k) → IsMeaning s (Fresh y l) → Fresh x k ≢ Fresh y l → IsFreshPackage x k p → IsFreshPackage y l n → p.name ≢ n.name
   one-fresh x k y l p n first second apart a b same =
@@ -424,14 +417,14 @@ module _ (laws : ClassLaws) (s : SpaceView) (space : IsSpace s) (holds : Meaning
 
   new-matches : (r k : ℕ) (q : Package) (atom : Atom) → IsAtomOf s.repository atom → slice_get s.repository.packages r ≡ Some q → IsMeaning s (New r k) → IsMatched s atom (New r k) → Matches s.repository.architecture atom (new_version s holds version r k q)
   new-matches r k q atom of is is_meaning matched =
-      from-new s r k q (member-of-class r k q is is_meaning.1) atom of (new_version s holds version r k q) (kept_of r k q) (new-of r k q is_meaning.1) (class-of-new r k q is_meaning.1) matched
+      from-new s r k q (member-of-class laws s space r k q is is_meaning.1) atom of (new_version s holds version r k q) (kept_of r k q) (new-of r k q is_meaning.1) (class-of-new r k q is_meaning.1) matched
 
   kept-matches : (r k j : ℕ) (q : Package) (atom : Atom) → IsAtomOf s.repository atom → slice_get s.repository.packages r ≡ Some q → IsMeaning s (Kept r k j) → holds (Kept r k j) ≡ true → IsMatched s atom (Kept r k j)
       → Matches s.repository.architecture atom (new_version s holds version r k q)
   kept-matches r k j q atom of is is_meaning true_is matched =
       let here = has-at (λ (p : Package). IsSomeAnd (slice_get p.provides j) (λ entry. IsUsable s.repository.architecture entry.qualifier)) s.repository.packages r q is is_meaning.0 in
       let entry = here-at (λ (e : Provide). IsUsable s.repository.architecture e.qualifier) q.provides j here in
-      from-kept s r k q (member-of-class r k q is is_meaning.1) atom of (new_version s holds version r k q) (kept_of r k q) j (new-of r k q is_meaning.1) (class-of-new r k q is_meaning.1)
+      from-kept s r k q (member-of-class laws s space r k q is is_meaning.1) atom of (new_version s holds version r k q) (kept_of r k q) j (new-of r k q is_meaning.1) (class-of-new r k q is_meaning.1)
       (flag-is s.repository.architecture (λ i. holds (Kept r k i)) q.provides j entry.element entry.is (usable-is s.repository.architecture entry.element.qualifier entry.holds) true_is) matched
 
   kept-within : (r k j : ℕ) → IsMeaning s (Kept r k j) → IsMeaning s (New r k)
@@ -480,10 +473,6 @@ module _ (laws : ClassLaws) (s : SpaceView) (space : IsSpace s) (holds : Meaning
 
   -- ---- conflicts
 
-  conflict-atom : (r : ℕ) (p : Package) (place : ℕ) (atom : Atom) → slice_get s.repository.packages r ≡ Some p → slice_get p.conflicts place ≡ Some atom → IsUsable s.repository.architecture atom.qualifier → IsAtomOf s.repository atom
-  conflict-atom r p place atom is is_atom usable =
-      record { usable = usable; there = inr (any-at (λ (q : Package). Contains q.conflicts atom) s.repository.packages r p is (contains-at p.conflicts place atom is_atom)) }
-
   other-name : (o : ℕ) (q : Package) (name : List ℕ) → slice_get s.repository.packages o ≡ Some q → q.name ≢ name → IsSomeAnd (option_map (λ (x : Package). x.name) (slice_get s.repository.packages o)) (λ n. n ≢ name)
   other-name o q name is other =
       let Differs : Option Package → Type 0 = λ x. IsSomeAnd (option_map (λ (y : Package). y.name) x) (λ n. n ≢ name) in
@@ -512,10 +501,10 @@ module _ (laws : ClassLaws) (s : SpaceView) (space : IsSpace s) (holds : Meaning
   old-rejects-new : (r o k : ℕ) (p n : Package) → IsOld r p → IsNew o k n → IsMeaning s (New o k) → p.name ≢ n.name → ¬ Rejects p n
   old-rejects-new r o k p n a b is_meaning names any =
       let at = found-at (λ atom. Matches s.repository.architecture atom n) p.conflicts any in
-      let of = conflict-atom r p at.place at.element a.is at.is at.holds.usable in
+      let of = conflict-atom s r p at.place at.element a.is at.is at.holds.usable in
       let other : b.q.name ≢ p.name = λ same. names (sym same ∙ sym (ap (λ (x : Package). x.name) b.same)) in
       let matches : Matches s.repository.architecture at.element (new_version s holds version o k b.q) = subst (λ (x : Package). Matches s.repository.architecture at.element x) b.same at.holds in
-      elim (to-new s o k b.q (member-of-class o k b.q b.is is_meaning.1) at.element of (new_version s holds version o k b.q) (kept_of o k b.q) (new-of o k b.q is_meaning.1) (class-of-new o k b.q is_meaning.1) matches) [
+      elim (to-new s o k b.q (member-of-class laws s space o k b.q b.is is_meaning.1) at.element of (new_version s holds version o k b.q) (kept_of o k b.q) (new-of o k b.q is_meaning.1) (class-of-new o k b.q is_meaning.1) matches) [
         | inl matched ↦
             met.apart r p (New o k) a.is is_meaning (other-name o b.q p.name b.is other, any-at (λ atom. IsMatched s atom (New o k)) p.conflicts at.place at.element at.is matched) a.holds_is b.holds_is
         | inr kept ↦
@@ -527,7 +516,7 @@ module _ (laws : ClassLaws) (s : SpaceView) (space : IsSpace s) (holds : Meaning
   old-rejects-fresh : (r x k : ℕ) (p n : Package) → IsOld r p → IsFreshPackage x k n → IsMeaning s (Fresh x k) → p.name ≢ n.name → ¬ Rejects p n
   old-rejects-fresh r x k p n a f is_meaning names any =
       let at = found-at (λ atom. Matches s.repository.architecture atom n) p.conflicts any in
-      let of = conflict-atom r p at.place at.element a.is at.is at.holds.usable in
+      let of = conflict-atom s r p at.place at.element a.is at.is at.holds.usable in
       let example = space.frame.name_examples x k is_meaning in
       let matches : Matches s.repository.architecture at.element (fresh_package f.name (example_at (fresh_classes s x) k)) = subst (λ (y : Package). Matches s.repository.architecture at.element y) f.same at.holds in
       let matched = to-fresh s x k f.name (fresh-at laws s space.frame x k f.name f.is is_meaning) at.element of (fresh_package f.name (example_at (fresh_classes s x) k)) (fresh-new f.name (example_at (fresh_classes s x) k) example.0) example.1 matches in

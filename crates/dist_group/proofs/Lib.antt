@@ -1,4 +1,3 @@
-mod Places
 mod RisingLemmas
 mod SetLemmas
 mod RuleLemmas

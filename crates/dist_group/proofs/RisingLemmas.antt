@@ -1,15 +1,15 @@
 -- Rising lists, what they have, and tests of them.
-use Rattle.std.proofs.Common.{◌≡◌, inl, inr, ℕ, ◌+◌, ◌-◌, ◌<◌, ◌≤◌, ◌↔◌, ◌==◌, ◌||◌, Bool, true, false, List, [], ◌∷◌, length, get_or, Result, Ok, Err, refl, sym, ap, ◌∙◌, arith, nat_cmp}
-use Rattle.std.specs.List.{Contains, list_any}
+use Rattle.std.proofs.Common.{◌≡◌, inl, inr, ℕ, ◌+◌, ◌-◌, ◌<◌, ◌≤◌, ◌↔◌, Bool, true, false, List, length, get_or, Result, Ok, Err, refl, sym, ap, ◌∙◌, arith, nat_cmp}
+use Rattle.std.specs.List.{Contains}
 use Rattle.std.specs.List.Sorted.{IsBinarySearchResult}
 use Rattle.std.specs.Result.{is_ok}
 use Rattle.std.specs.Bool.{IsTrue}
-use Rattle.std.proofs.lemmas.Bool.{cases_lt, cases_order, true≢false, false≢true, eq-eqb, eqb-true, or_right, or_cases}
+use Rattle.std.proofs.lemmas.Bool.{cases_lt, cases_order, true≢false, false≢true}
 use Rattle.std.proofs.lemmas.List.{get_or_default}
 use Rattle.std.proofs.lemmas.List.Kept.{AllPairs-from_increasing}
 use Rattle.std.proofs.lemmas.List.Sorted.{searched}
 use Rattle.dist_cert.specs.Rising.{AreRising, is_among}
-use Rattle.dist_group.proofs.Places.{contains-cases, contains-later}
+use Rattle.dist_cert.specs.ListFacts.{any-from, from-any}
 
 -- rising numbers do not fall
 not-falling : (numbers : List ℕ) → AreRising numbers → (i j : ℕ) → i ≤ j → j < length numbers → get_or numbers i 0 ≤ get_or numbers j 0
@@ -43,20 +43,6 @@ pub never-rising : (numbers : List ℕ) (place : ℕ) → 1 ≤ place → place 
 never-rising numbers place from within falls rising = let less = rising (place - 1) place 0 (omega arith) within in omega arith
 
 -- ---- tests
-
-pub any-from : (number : ℕ) (numbers : List ℕ) → Contains numbers number → is_among numbers number ≡ true
-any-from x [] there = absurd (omega (arith, there.1))
-any-from x (y ∷ xs) there = elim (contains-cases y xs x there) [
-  | inl same ↦ ap (λ (b : Bool). b || list_any (λ v. x == v) xs) (eq-eqb x y (sym same))
-  | inr later ↦ or_right (x == y) (list_any (λ v. x == v) xs) (any-from x xs later)
-]
-
-pub from-any : (number : ℕ) (numbers : List ℕ) → is_among numbers number ≡ true → Contains numbers number
-from-any x [] holds = absurd (false≢true holds)
-from-any x (y ∷ xs) holds = elim (or_cases (x == y) (list_any (λ v. x == v) xs) holds) [
-  | inl here ↦ (0, omega arith, sym (eqb-true x y here))
-  | inr later ↦ contains-later y xs x (from-any x xs later)
-]
 
 pub same-answer : (b : Bool) (numbers : List ℕ) (number : ℕ) → IsTrue b ↔ Contains numbers number → b ≡ is_among numbers number
 same-answer true numbers number iff = sym (any-from number numbers (iff.0 refl))

@@ -7,7 +7,7 @@ use Rattle.std.proofs.lemmas.List.{take_more}
 use Rattle.dist_group.specs.Group.{GroupView, always, candidates, in_each, is_always, omits_package}
 use Rattle.dist_cert.specs.Rising.{is_among}
 use Rattle.dist_group.specs.Window.{WindowView, has_member, kept_at}
-use Rattle.dist_group.proofs.Places.{contains-cases, contains-later}
+use Rattle.dist_cert.specs.ListFacts.{both-flags, contains-cases, contains-later}
 
 and-true : (a : Bool) → (a && true) ≡ a
 and-true true = refl
@@ -90,15 +90,10 @@ each-all : (f : ℕ → Bool) (xs : List ℕ) → ((n : ℕ) → Contains xs n �
 each-all f [] each = refl
 each-all f (x ∷ xs) each = and_from (f x) (list_all f xs) (each x (0, omega arith, refl)) (each-all f xs (λ n there. each n (contains-later x xs n there)))
 
-both-ways : (a b : Bool) → (a ≡ true → b ≡ true) → (b ≡ true → a ≡ true) → a ≡ b
-both-ways true b to back = sym (to refl)
-both-ways false true to back = back refl
-both-ways false false to back = refl
-
 -- the same numbers, in any order and however often
 pub same-all : (f : ℕ → Bool) (xs ys : List ℕ) → ((q : ℕ) → Contains ys q ↔ Contains xs q) → list_all f ys ≡ list_all f xs
 same-all f xs ys same =
-    both-ways (list_all f ys) (list_all f xs) (λ e. each-all f xs (λ n there. all-each f ys e n ((same n).1 there))) (λ e. each-all f ys (λ n there. all-each f xs e n ((same n).0 there)))
+    both-flags (list_all f ys) (list_all f xs) (λ e. each-all f xs (λ n there. all-each f ys e n ((same n).1 there))) (λ e. each-all f ys (λ n there. all-each f xs e n ((same n).0 there)))
 
 -- ---- what is in all installations that are named
 

@@ -1,11 +1,12 @@
 -- Reading LIST line by line.
 use Rattle.std.proofs.Common.{◌≡◌, ◌≢◌, ℕ, suc, ◌+◌, ◌-◌, ◌<◌, Bool, true, false, Option, Some, None, List, [], ◌∷◌, ◌++◌, inl, inr, length, replicate, get_or, set, refl, sym, ap, subst, ◌∙◌, arith, append_assoc, length-append, length-set, get_or-set_same, get_or-set_other}
-use Rattle.std.specs.Prelude.{All, slice_get, slice_set, IsSomeAnd, ◌↔◌}
+use Rattle.std.specs.Prelude.{All, slice_get, slice_set, ◌↔◌}
 use Rattle.std.proofs.lemmas.Bool.{false≢true, cases_eq, cases_lt}
 use Rattle.std.proofs.lemmas.List.{append-nil, get_or_append_left, length-replicate}
 use Rattle.std.proofs.lemmas.List.Elements.{All-push, All-replicate, Contains-append_left, Contains-push, Contains-push_cases}
-use Rattle.std.proofs.lemmas.Option.{slice_get_within, slice_get_read, get_or_from_slice_get, slice_get_past}
+use Rattle.std.proofs.lemmas.Option.{slice_get_within, slice_get_read, get_or_from_slice_get}
 use Rattle.std.proofs.Math.Seq.{get_or-append_seam}
+use Rattle.dist_base.specs.ListLaws.{within-from}
 use Rattle.dist_control.specs.Lines.{lines}
 use Rattle.std.specs.declared.cmp.Ordering.TheVariants.{Equal}
 use Rattle.dist_version.specs.Order.{version_cmp}
@@ -17,13 +18,6 @@ use Rattle.dist_list.specs.PackageSet.{Names, IsListLine, IsNamed, NameSet, Name
 use Rattle.dist_list.specs.Listed.{IsLine, Marks, ReadSoFar}
 use Rattle.dist_list.specs.declared.list.Line.{Line}
 use Rattle.dist_list.specs.declared.list.Line.TheVariants as lines_of
-
-pub at_within : {X : Type 0} (P : X → Type 0) (xs : List X) (i : ℕ) → IsSomeAnd (slice_get xs i) P → i < length xs
-at_within P xs i found =
-    elim (cases_lt i (length xs)) [
-      | inl within ↦ within
-      | inr past ↦ absurd (rw (slice_get_past xs i past) at found)
-    ]
 
 -- flags after one was set
 flag_same : (flags : List Bool) (n : ℕ) → n < length flags → slice_get (slice_set flags n true) n ≡ Some true
@@ -224,7 +218,7 @@ ReadSoFar-marked packages text rest after line number old new so_far next (inr o
 pub Names-within : (packages : List Package) (line : List ℕ) (number : ℕ) → Names packages line number → number < length packages
 Names-within packages line number names =
     let P : Package → Type 0 = λ p. (p.name ≡ names.name) × (version_cmp p.version names.version ≡ Equal) in
-    at_within P packages number names.found
+    within-from P packages number names.found
 
 -- a line that names a package marks it
 pub Marks-one : (packages : List Package) (line : List ℕ) (result : Line) (number : ℕ) (old new : List Bool) → IsLine packages line result → result ≡ lines_of.Package number

@@ -2,7 +2,7 @@
 use Rattle.std.proofs.Common.{◌≡◌, ℕ, zero, suc, ◌<◌, ◌≤◌, Bool, true, false, List, [], ◌∷◌, length, get_or, Some, Option, refl, sym, subst, ◌∙◌, arith, inl, inr, slice_get}
 use Rattle.std.specs.Prelude.{Any, Contains}
 use Rattle.std.proofs.lemmas.List.{get_or_default}
-use Rattle.dist_base.specs.ListLaws.{any-head, any-later, at-has, at-weaker}
+use Rattle.dist_base.specs.ListLaws.{any-cases, any-head, any-later, at-has, at-weaker}
 use Rattle.dist_relation.specs.declared.atom.Atom.{Atom}
 use Rattle.dist_repo.specs.Match.{Matches, MatchesByEntry}
 use Rattle.dist_repo.specs.PackageList.{PackageList, IsPackageAnd}

@@ -5,13 +5,14 @@ use Rattle.std.proofs.lemmas.Bool.{cases_lt}
 use Rattle.std.proofs.lemmas.List.{take_more}
 use Rattle.std.proofs.lemmas.List.Elements.{Contains-append_left, Contains-push, Contains-push_cases}
 use Rattle.std.proofs.lemmas.Option.{get_or_from_slice_get}
+use Rattle.dist_base.specs.ListLaws.{any-contained, within-from}
 use Rattle.dist_relation.specs.declared.atom.Provide.{Provide}
 use Rattle.dist_repo.specs.Match.{IsUsable}
 use Rattle.dist_repo.specs.PackageList.{IsPackageAnd}
 use Rattle.dist_repo.specs.Providers.{IsEntryOf, IsProvider}
 use Rattle.dist_repo.specs.Tally.{numbers_at, IsTallyOf, Notes, NotesEach}
 use Rattle.dist_repo.specs.declared.package.Package.{Package}
-use Rattle.dist_repo.proofs.Search.{some-element, stands-at}
+use Rattle.dist_repo.proofs.Search.{stands-at}
 
 abbrev Entries : Type 0
 Entries = List (List ℕ × List ℕ)
@@ -23,9 +24,6 @@ some-within {X} xs k x is =
     let Here : Option X → Type 0 = λ o. IsSomeAnd o (λ y. y ≡ x) in
     (stands-at (λ y. y ≡ x) xs k x (subst Here (sym is) refl)).within
 
-any-from : {X : Type 0} (P : X → Type 0) (xs : List X) (x : X) → Contains xs x → P x → Any P xs
-any-from P xs x there holds = (there.0, x, there.1, there.2, holds)
-
 pub any-take : {X : Type 0} (P : X → Type 0) (xs : List X) (k : ℕ) (x : X) → slice_get xs k ≡ Some x → Any P (take (k + 1) xs) ↔ (Any P (take k xs) ⊎ P x)
 any-take {X} P xs k x is =
     let short = some-within xs k x is in
@@ -35,12 +33,12 @@ any-take {X} P xs k x is =
       (λ any.
           let pushed = subst Some_of more any in
           elim (Contains-push_cases (take k xs) x pushed.1 (pushed.0, pushed.2, pushed.3)) [
-            | inl h ↦ inl (any-from P (take k xs) pushed.1 h pushed.4)
+            | inl h ↦ inl (any-contained P (take k xs) pushed.1 h pushed.4)
             | inr h ↦ inr (subst P (sym h) pushed.4)
           ]),
       λ either. subst Some_of (sym more) (elim either [
-        | inl any ↦ any-from P (take k xs ++ x ∷ []) any.1 (Contains-append_left (take k xs) (x ∷ []) any.1 (any.0, any.2, any.3)) any.4
-        | inr h ↦ any-from P (take k xs ++ x ∷ []) x (Contains-push (take k xs) x) h
+        | inl any ↦ any-contained P (take k xs ++ x ∷ []) any.1 (Contains-append_left (take k xs) (x ∷ []) any.1 (any.0, any.2, any.3)) any.4
+        | inr h ↦ any-contained P (take k xs ++ x ∷ []) x (Contains-push (take k xs) x) h
       ]),
     )
 
@@ -49,9 +47,6 @@ take-all zero [] past = refl
 take-all zero (x ∷ xs) past = absurd (omega arith)
 take-all (suc k) [] past = refl
 take-all (suc k) (x ∷ xs) past = ap (λ ys. x ∷ ys) (take-all k xs (omega arith))
-
-within-from : {X : Type 0} (P : X → Type 0) (xs : List X) (k : ℕ) → IsSomeAnd (slice_get xs k) P → k < length xs
-within-from P xs k here = (stands-at P xs k (some-element P xs k here) here).within
 
 -- ---- one package
 

@@ -8,13 +8,14 @@ use Rattle.std.specs.Result.{result_ok}
 use Rattle.std.proofs.lemmas.Bool.{cases_lt}
 use Rattle.std.proofs.lemmas.Cmp.{nat_list_cmp_total}
 use Rattle.std.proofs.lemmas.List.{get_or_default}
+use Rattle.dist_base.specs.ListLaws.{at-weaker}
 use Rattle.dist_version.specs.Order.{version_cmp}
 use Rattle.dist_repo.specs.Order.{key_cmp, IsFlat, IsInOrder}
 use Rattle.dist_repo.specs.Providers.{IsPackageAt}
 use Rattle.dist_repo.specs.Total.{key_total}
 use Rattle.dist_repo.specs.declared.package.Package.{Package}
 use Rattle.dist_repo.proofs.HeldLemmas.{same_names, names-tied, then-first, then-second}
-use Rattle.dist_repo.proofs.Search.{at-weaker, searched-place}
+use Rattle.dist_repo.proofs.Search.{searched-place}
 
 abbrev key_of : Package → List ℕ × List ℕ
 key_of p = (p.name, p.version)

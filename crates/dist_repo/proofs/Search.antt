@@ -8,6 +8,7 @@ use Rattle.std.specs.Ordering.{ordering_reverse}
 use Rattle.std.specs.Result.{result_ok}
 use Rattle.std.proofs.lemmas.Cmp.{tied_back}
 use Rattle.std.proofs.lemmas.List.Sorted.{searchable_from_sorted}
+use Rattle.dist_base.specs.ListLaws.{some-element}
 
 -- what stands at a place, with any default
 pub record StandsAt {X : Type 0} (P : X → Type 0) (xs : List X) (k : ℕ) (d : X) : Type 0 where
@@ -23,15 +24,6 @@ pub at-stands : {X : Type 0} (P : X → Type 0) (xs : List X) (k : ℕ) (d : X) 
 at-stands P [] k d short holds = absurd (omega arith)
 at-stands P (x ∷ xs) zero d short holds = holds
 at-stands P (x ∷ xs) (suc k) d short holds = at-stands P xs k d (omega arith) holds
-
-pub at-weaker : {X : Type 0} (P Q : X → Type 0) (xs : List X) (k : ℕ) → ((x : X) → P x → Q x) → IsSomeAnd (slice_get xs k) P → IsSomeAnd (slice_get xs k) Q
-at-weaker P Q [] k more here = absurd here
-at-weaker P Q (x ∷ xs) zero more here = more x here
-at-weaker P Q (x ∷ xs) (suc k) more here = at-weaker P Q xs k more here
-
-pub some-element : {X : Type 0} (P : X → Type 0) (xs : List X) (k : ℕ) → IsSomeAnd (slice_get xs k) P → X
-some-element P [] k here = absurd here
-some-element P (x ∷ xs) k here = x
 
 module _ {X K : Type 0} (R : K → K → Ordering) (o : IsTotalOrder R) (f : X → K) where
   -- each element is below each later one

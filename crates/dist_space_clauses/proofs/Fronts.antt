@@ -56,7 +56,7 @@ second-one s (StaysNow c k) few = (0, refl)
 second-one s (AbsentNow x k) few = (0, refl)
 second-one s (Required name) few = absurd (omega (arith, few))
 
-first-number : (a b : ℕ) → ◌≡◌ {A = List ℕ} (a ∷ []) (b ∷ []) → a ≡ b
+pub first-number : (a b : ℕ) → ◌≡◌ {A = List ℕ} (a ∷ []) (b ∷ []) → a ≡ b
 first-number a b same = ap (λ (xs : List ℕ). get_or xs 0 0) same
 
 -- below the next number is what is below this one, and what has it

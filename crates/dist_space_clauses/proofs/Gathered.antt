@@ -6,6 +6,7 @@ use Rattle.std.proofs.lemmas.Bool.{cases_lt}
 use Rattle.std.proofs.lemmas.List.{take-append-drop, take_all, take_more}
 use Rattle.std.proofs.lemmas.List.Elements.{Contains-append_left, Contains-push, Contains-push_cases}
 use Rattle.std.proofs.lemmas.Option.{get_or_from_slice_get, slice_get_within}
+use Rattle.dist_base.specs.ListLaws.{any-contained}
 use Rattle.dist_space_clauses.specs.Gathering.{Adds, AreVariablesOf, Gathers}
 use Rattle.dist_space.specs.Space.{IsMeaning, SpaceView, variable_of}
 use Rattle.dist_space.specs.declared.meaning.Meaning.{Meaning}
@@ -14,9 +15,6 @@ abbrev Property : Type 1
 Property = Meaning → Type 0
 
 -- ---- the first elements of a list
-
-any-from : {X : Type 0} (P : X → Type 0) (xs : List X) (x : X) → Contains xs x → P x → Any P xs
-any-from P xs x there holds = (there.0, x, there.1, there.2, holds)
 
 pub any-none : {X : Type 0} (P : X → Type 0) (xs : List X) → ¬ Any P (take 0 xs)
 any-none P xs any = omega (arith, any.2)
@@ -28,7 +26,7 @@ any-take {X} P xs k x is any =
     let more : take (k + 1) xs ≡ take k xs ++ x ∷ [] = take_more xs k x short ∙ ap (λ y. take k xs ++ y ∷ []) here in
     let pushed : Any P (take k xs ++ x ∷ []) = subst (λ (ys : List X). Any P ys) more any in
     elim (Contains-push_cases (take k xs) x pushed.1 (pushed.0, pushed.2, pushed.3)) [
-      | inl h ↦ inl (any-from P (take k xs) pushed.1 h pushed.4)
+      | inl h ↦ inl (any-contained P (take k xs) pushed.1 h pushed.4)
       | inr h ↦ inr (subst P (sym h) pushed.4)
     ]
 
@@ -38,14 +36,14 @@ any-take-back {X} P xs k x is either =
     let here : get_or xs k x ≡ x = get_or_from_slice_get xs k x x is in
     let more : take (k + 1) xs ≡ take k xs ++ x ∷ [] = take_more xs k x short ∙ ap (λ y. take k xs ++ y ∷ []) here in
     subst (λ (ys : List X). Any P ys) (sym more) (elim either [
-      | inl any ↦ any-from P (take k xs ++ x ∷ []) any.1 (Contains-append_left (take k xs) (x ∷ []) any.1 (any.0, any.2, any.3)) any.4
-      | inr h ↦ any-from P (take k xs ++ x ∷ []) x (Contains-push (take k xs) x) h
+      | inl any ↦ any-contained P (take k xs ++ x ∷ []) any.1 (Contains-append_left (take k xs) (x ∷ []) any.1 (any.0, any.2, any.3)) any.4
+      | inr h ↦ any-contained P (take k xs ++ x ∷ []) x (Contains-push (take k xs) x) h
     ])
 
 -- one of the first elements is one of all
 pub any-first : {X : Type 0} (P : X → Type 0) (xs : List X) (k : ℕ) → Any P (take k xs) → Any P xs
 any-first {X} P xs k any =
-    any-from P xs any.1 (subst (λ (ys : List X). Contains ys any.1) (take-append-drop k xs) (Contains-append_left (take k xs) (drop k xs) any.1 (any.0, any.2, any.3))) any.4
+    any-contained P xs any.1 (subst (λ (ys : List X). Contains ys any.1) (take-append-drop k xs) (Contains-append_left (take k xs) (drop k xs) any.1 (any.0, any.2, any.3))) any.4
 
 pub any-whole : {X : Type 0} (P : X → Type 0) (xs : List X) (k : ℕ) → length xs ≤ k → Any P xs → Any P (take k xs)
 any-whole {X} P xs k past any = subst (λ (ys : List X). Any P ys) (sym (take_all k xs past)) any

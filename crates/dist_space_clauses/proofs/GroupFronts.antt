@@ -22,7 +22,7 @@ use Rattle.dist_space_clauses.specs.SpaceSet.{IsCause, IsSetOf}
 use Rattle.dist_space.specs.declared.meaning.Meaning.{Meaning}
 use Rattle.dist_space.specs.declared.meaning.Meaning.TheVariants.{Present}
 use Rattle.dist_space_clauses.proofs.DemandLists.{clauses-none}
-use Rattle.dist_space_clauses.proofs.Fronts.{below-cases, cases-below, front-more, front-skip, front-variable, leading-is, leads, second-one, set-shift, stops}
+use Rattle.dist_space_clauses.proofs.Fronts.{below-cases, cases-below, first-number, front-more, front-skip, front-variable, leading-is, leads, second-one, set-shift, stops}
 use Rattle.dist_space.specs.VariableLaws.{variable-range}
 use Rattle.dist_space.specs.KeyLaws.{IsLess}
 use Rattle.dist_space_clauses.proofs.LedFronts.{IsPairAt}
@@ -52,9 +52,6 @@ few-groups Names = omega arith
 few-groups Items = omega arith
 few-groups Conflicts = omega arith
 few-groups Today = omega arith
-
-first-number : (a b : ℕ) → ◌≡◌ {A = List ℕ} (a ∷ []) (b ∷ []) → a ≡ b
-first-number a b same = ap (λ (xs : List ℕ). get_or xs 0 0) same
 
 -- ---- what a package must be apart from
 

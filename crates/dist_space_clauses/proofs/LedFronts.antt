@@ -1,5 +1,5 @@
 -- What the clauses that one variable leads do to a front.
-use Rattle.std.proofs.Common.{◌≡◌, ◌≢◌, ℕ, ◌+◌, ◌<◌, ◌≤◌, Bool, true, false, List, [], ◌∷◌, ◌++◌, length, get_or, slice_get, refl, sym, ap, subst, ◌∙◌, arith}
+use Rattle.std.proofs.Common.{◌≡◌, ◌≢◌, ℕ, ◌+◌, ◌<◌, ◌≤◌, Bool, true, false, [], ◌∷◌, ◌++◌, length, slice_get, refl, sym, ap, subst, ◌∙◌, arith}
 use Rattle.std.specs.Prelude.{IsSomeAnd, slice_index}
 use Rattle.dist_base.specs.ListLaws.{within-from}
 use Rattle.dist_clause.specs.ClauseList.{ClauseList}
@@ -12,11 +12,8 @@ use Rattle.dist_space.specs.Space.{IsChange, IsMeaningOf, IsMeaning, IsSpace, Sp
 use Rattle.dist_space_clauses.specs.SpaceClauses.{Demand, OneClass, Gone, Moved, Carried, OneFresh, StaysNow, AbsentNow, Required, IsClauseFor, IsDemand, group_of, leading, second_of}
 use Rattle.dist_space.specs.declared.meaning.Meaning.{Meaning}
 use Rattle.dist_space.specs.declared.meaning.Meaning.TheVariants.{Now, Present, At, New, Kept, Fresh}
-use Rattle.dist_space_clauses.proofs.Fronts.{front-more, front-skip, front-variable, leads, stops}
+use Rattle.dist_space_clauses.proofs.Fronts.{first-number, front-more, front-skip, front-variable, leads, stops}
 use Rattle.dist_space_clauses.proofs.PairClauses.{meanings-over}
-
-first-number : (a b : ℕ) → ◌≡◌ {A = List ℕ} (a ∷ []) (b ∷ []) → a ≡ b
-first-number a b same = ap (λ (xs : List ℕ). get_or xs 0 0) same
 
 -- ---- a demand whose clause has two literals
 

@@ -8,11 +8,12 @@ use Rattle.std.proofs.lemmas.Bool.{cases_eq, cases_lt, cases_Bool}
 use Rattle.std.proofs.lemmas.List.{get_or-take, length-take-le, get_or_default}
 use Rattle.std.proofs.lemmas.List.Elements.{Contains-append_cases, Contains-append_left, Contains-append_right}
 use Rattle.std.proofs.lemmas.List.Sorted.{Contains-permutation, IsPermutation-sym}
+use Rattle.dist_base.specs.ListLaws.{any-head, any-later}
 use Rattle.dist_clause.specs.ClauseList.{clause_at}
 use Rattle.dist_clause.specs.Formula.{Literal, IsTrueLiteral, MakesTrue, IsModel}
 use Rattle.dist_cert.specs.Rising.{is_among}
 use Rattle.dist_state.specs.Denials.{first_denied, AreDenialsOf}
-use Rattle.dist_state.proofs.Elements.{any-head, any-later, contains-cases, from-any}
+use Rattle.dist_cert.specs.ListFacts.{contains-cases, from-any}
 
 -- ---- the first negative literal of a clause
 

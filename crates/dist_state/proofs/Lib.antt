@@ -1,4 +1,3 @@
-mod Elements
 mod LiteralLemmas
 mod NewLemmas
 mod DenialLemmas

@@ -1,28 +1,15 @@
 -- The literals of a line as clauses.
-use Rattle.std.proofs.Common.{◌≡◌, ◌≢◌, ℕ, ◌<◌, ◌≤◌, false, List, [], ◌∷◌, length, get_or, map, sym, subst, arith, nat_lt}
-use Rattle.std.specs.List.{All, AllPairs}
+use Rattle.std.proofs.Common.{◌≡◌, ◌≢◌, ℕ, ◌≤◌, false, List, [], ◌∷◌, map, arith, nat_lt}
+use Rattle.std.specs.List.{All}
 use Rattle.std.proofs.lemmas.Bool.{ltb-false, or_parts}
-use Rattle.std.proofs.lemmas.List.{get_or-map, length-map}
 use Rattle.std.proofs.lemmas.List.Elements.{All-map, All-nil, All-cons}
 use Rattle.dist_base.specs.declared.TheConstants.{MAX_VARIABLES}
 use Rattle.dist_clause.specs.Formula.{Literal, literal, negation, IsClauseOver}
+use Rattle.dist_cert.specs.ListFacts.{pairs-map}
 use Rattle.dist_cert.specs.Form.{Word, AreLiterals}
 use Rattle.dist_cert.specs.Groups.{clause_of}
 use Rattle.dist_state.specs.Since.{AreLiteralsOver}
 use Rattle.dist_state.specs.State.{names_above}
-
-pairs-map : {X Y : Type 0} (R : Y → Y → Type 0) (f : X → Y) (xs : List X) → AllPairs (λ a b. R (f a) (f b)) xs → AllPairs R (map f xs)
-pairs-map {X} {Y} R f xs pairs i j d before within = at xs pairs (shorter xs (omega (arith, within, length-map xs f)))
-  where
-    shorter : (ys : List X) → j < length ys → (x : X) × (j < length ys)
-    shorter [] short = absurd (omega (arith, short))
-    shorter (y ∷ ys) short = (y, short)
-
-    at : (ys : List X) → AllPairs (λ a b. R (f a) (f b)) ys → (x : X) × (j < length ys) → R (get_or (map f ys) i d) (get_or (map f ys) j d)
-    at ys all some =
-        let early : i < length ys = omega (arith, before, some.1) in
-        subst (λ y. R y (get_or (map f ys) j d)) (sym (get_or-map f ys i some.0 d early))
-        (subst (λ y. R (f (get_or ys i some.0)) y) (sym (get_or-map f ys j some.0 d some.1)) (all i j some.0 before some.1))
 
 pub clause-over : (n : ℕ) (literals : List Word) → AreLiteralsOver n literals → IsClauseOver n (clause_of literals)
 clause-over n literals over = record {

@@ -23,7 +23,7 @@ use Rattle.dist_strong.specs.declared.asker.Reply.TheVariants as replies
 use Rattle.dist_strong.specs.Asking.{AskerView, Holds, IsAsked, IsAt, IsLogAt, IsOver, IsReplyLine, IsReplyOf, MayDerive}
 use Rattle.dist_strong.specs.Script.{Setting, matter_in, IsWriter, PutMore, PutStops, Stops}
 use Rattle.dist_strong.specs.Words.{closing_line, true_variables}
-use Rattle.dist_strong.proofs.Lists.{pairs-map}
+use Rattle.dist_cert.specs.ListFacts.{pairs-map}
 use Rattle.dist_strong.proofs.Keeping.{keeps-same}
 use Rattle.dist_strong.proofs.Lines.{question-line}
 use Rattle.dist_strong.proofs.OneLine.{BeginsLaw, TwiceLaw, lines-more, one-line, stops-after, stops-for-memory}

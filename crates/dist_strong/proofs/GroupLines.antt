@@ -1,9 +1,10 @@
 -- The group of the lines of a question, behind those before.
-use Rattle.std.proofs.Common.{◌≡◌, ◌≢◌, ◌⊎◌, ⊎_elim, inl, inr, ℕ, zero, suc, ◌<◌, ◌||◌, Bool, true, false, List, [], ◌∷◌, ◌++◌, length, get_or, refl, ap, sym, ◌∙◌, append_assoc, append-nil, arith}
+use Rattle.std.proofs.Common.{◌≡◌, ◌≢◌, ◌⊎◌, ⊎_elim, inl, inr, ℕ, suc, ◌||◌, Bool, true, false, List, [], ◌∷◌, ◌++◌, get_or, refl, ap, sym, ◌∙◌, append_assoc, append-nil, arith}
 use Rattle.std.specs.List.{AllPass, Contains, list_any}
 use Rattle.std.proofs.lemmas.Bool.{or_parts, true≢false, false≢true}
 use Rattle.std.proofs.lemmas.Grind.{flat_map-append}
 use Rattle.std.proofs.lemmas.List.Elements.{All-head, All-tail}
+use Rattle.dist_cert.specs.ListFacts.{contains-cases}
 use Rattle.dist_cert.specs.declared.records.CertRecord.{CertRecord}
 use Rattle.dist_cert.specs.declared.records.CertRecord.TheVariants.{Question, Derived, Refuted, Installation, Undecided, End}
 use Rattle.dist_cert.specs.declared.records.Claim.{Claim}
@@ -81,14 +82,6 @@ pub question-installs : (question : List Word) (between : List CertRecord) (answ
 question-installs question between answer all =
     installations-append between (answer ∷ []) ∙ ap (λ (ms : List (List ℕ)). ms ++ (installed_in answer ++ [])) (none-installs between all) ∙ append-nil (installed_in answer)
 
--- a question among some lines and those of a question
-contains-cases : {X : Type 0} (y : X) (xs : List X) (x : X) → Contains (y ∷ xs) x → (y ≡ x) ⊎ Contains xs x
-contains-cases y xs x there = at there.0 there.1 there.2
-  where
-    at : (k : ℕ) → k < length (y ∷ xs) → get_or (y ∷ xs) k x ≡ x → (y ≡ x) ⊎ Contains xs x
-    at zero within is = inl is
-    at (suc k) within is = inr (k, omega (arith, within), is)
-
 contains-join : {X : Type 0} (xs ys : List X) (x : X) → Contains (xs ++ ys) x → Contains xs x ⊎ Contains ys x
 contains-join [] ys x there = inr there
 contains-join (z ∷ xs) ys x there = ⊎_elim (λ here. inl (0, omega arith, here)) (λ later. ⊎_elim (λ left. inl (suc left.0, omega (arith, left.1), left.2)) (λ right. inr right) (contains-join xs ys x later)) (contains-cases z (xs ++ ys) x there)
@@ -96,6 +89,7 @@ contains-join (z ∷ xs) ys x there = ⊎_elim (λ here. inl (0, omega arith, he
 not-derived : (lines : List CertRecord) (question : List Word) → AllPass is_derived lines → ¬ Contains lines (Question question)
 not-derived lines question all there = derived-asks (get_or lines there.0 (Question question)) question (all there.0 (Question question) there.1) there.2
 
+-- a question among some lines and those of a question
 pub questions-of : (lines between : List CertRecord) (question other : List Word) (answer : CertRecord) → AllPass is_derived between → IsAnswerLine answer
     → Contains (lines ++ question_lines question between answer) (Question other) → Contains lines (Question other) ⊎ (Question question ≡ Question other)
 questions-of lines between question other answer all line there =

@@ -21,7 +21,8 @@ use Rattle.dist_cert.specs.GroupLaws.{one-open}
 use Rattle.dist_strong.specs.Asking.{IsOver}
 use Rattle.dist_strong.specs.Script.{Setting, matter_in}
 use Rattle.dist_strong.specs.Words.{words_of}
-use Rattle.dist_strong.proofs.Lists.{none-past, none-in, pairs-map}
+use Rattle.dist_strong.proofs.Lists.{none-past, none-in}
+use Rattle.dist_cert.specs.ListFacts.{pairs-map}
 
 -- ---- numbers are small
 

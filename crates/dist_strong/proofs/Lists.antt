@@ -1,22 +1,9 @@
 -- Lists: what is mapped, and what stands at a place.
-use Rattle.std.proofs.Common.{◌≡◌, inl, inr, ℕ, zero, suc, ◌+◌, ◌<◌, ◌≤◌, Bool, filter, if◌then◌else◌, List, [], ◌∷◌, ◌++◌, length, get_or, map, take, drop, refl, ap, sym, subst, ◌∙◌, arith, length-append}
+use Rattle.std.proofs.Common.{◌≡◌, inl, inr, ℕ, zero, suc, ◌+◌, ◌<◌, ◌≤◌, Bool, filter, if◌then◌else◌, List, [], ◌∷◌, ◌++◌, length, get_or, map, take, drop, refl, ap, ◌∙◌, arith, length-append}
 use Rattle.std.specs.List.{All, AllPairs, Any, Contains, range_with_len}
-use Rattle.std.proofs.lemmas.List.{get_or_at, get_or_append_left, get_or-map, length-map}
+use Rattle.std.proofs.lemmas.List.{get_or_at, get_or_append_left}
 use Rattle.std.proofs.lemmas.Bool.{cases_lt}
 use Rattle.std.proofs.lemmas.List.Elements.{filter-append}
-
-pub pairs-map : {X Y : Type 0} (R : Y → Y → Type 0) (f : X → Y) (xs : List X) → AllPairs (λ a b. R (f a) (f b)) xs → AllPairs R (map f xs)
-pairs-map {X} {Y} R f xs pairs i j d before within = at xs pairs (shorter xs (omega (arith, within, length-map xs f)))
-  where
-    shorter : (ys : List X) → j < length ys → (x : X) × (j < length ys)
-    shorter [] short = absurd (omega (arith, short))
-    shorter (y ∷ ys) short = (y, short)
-
-    at : (ys : List X) → AllPairs (λ a b. R (f a) (f b)) ys → (x : X) × (j < length ys) → R (get_or (map f ys) i d) (get_or (map f ys) j d)
-    at ys all some =
-        let early : i < length ys = omega (arith, before, some.1) in
-        subst (λ y. R y (get_or (map f ys) j d)) (sym (get_or-map f ys i some.0 d early))
-        (subst (λ y. R (f (get_or ys i some.0)) y) (sym (get_or-map f ys j some.0 d some.1)) (all i j some.0 before some.1))
 
 -- no number is above the last
 pub none-past : (n : ℕ) (xs : List ℕ) → All (λ v. v ≤ n) xs → ¬ Any (λ v. n < v) xs

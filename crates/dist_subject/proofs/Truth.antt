@@ -1,49 +1,16 @@
 -- The truth values of listed variables.
-use Rattle.std.proofs.Common.{◌≡◌, inl, inr, ℕ, ◌+◌, ◌-◌, ◌<◌, ◌==◌, ◌||◌, Bool, true, false, List, [], ◌∷◌, length, get_or, refl, sym, ap, subst, ◌∙◌, arith, zero, suc, ◌⊎◌}
-use Rattle.std.specs.List.{Contains, list_any, range_with_len}
-use Rattle.std.proofs.lemmas.Bool.{false≢true, eq-eqb, eqb-true, or_right, or_cases}
-use Rattle.std.proofs.lemmas.List.{length-map, ext_get_or}
-use Rattle.std.proofs.lemmas.List.FromFn.{get_or-map-range_with_len, length-range_with_len}
+use Rattle.std.proofs.Common.{◌≡◌, ℕ, ◌+◌, ◌-◌, ◌<◌, Bool, false, List, length, get_or, sym, ap, subst, ◌∙◌, arith}
+use Rattle.std.proofs.lemmas.List.{ext_get_or}
 use Rattle.dist_clause.specs.Formula.{Literal, value_of, IsModel}
 use Rattle.dist_repo.specs.PackageList.{PackageList}
 use Rattle.dist_repo.specs.Strong.{IsInstallation}
 use Rattle.dist_now.specs.Members.{members_of}
 use Rattle.dist_now.specs.PresentLaws.{AreModelsInstallations}
+use Rattle.dist_subject.specs.TruthLaws.{truth-at, truth-length}
 use Rattle.dist_subject.specs.Installed.{AreTrueOf}
 use Rattle.dist_subject.specs.Present.{truth_of, packages_of}
+use Rattle.dist_cert.specs.ListFacts.{any-from, both-flags, from-any}
 use Rattle.dist_cert.specs.Rising.{is_among}
-
-contains-cases : {X : Type 0} (y : X) (xs : List X) (x : X) → Contains (y ∷ xs) x → (y ≡ x) ⊎ Contains xs x
-contains-cases y xs x there = at there.0 there.1 there.2
-  where
-    at : (k : ℕ) → k < length (y ∷ xs) → get_or (y ∷ xs) k x ≡ x → (y ≡ x) ⊎ Contains xs x
-    at zero within is = inl is
-    at (suc k) within is = inr (k, omega (arith, within), is)
-
-any-from : (number : ℕ) (numbers : List ℕ) → Contains numbers number → is_among numbers number ≡ true
-any-from x [] there = absurd (omega (arith, there.1))
-any-from x (y ∷ xs) there = elim (contains-cases y xs x there) [
-  | inl same ↦ ap (λ (b : Bool). b || list_any (λ v. x == v) xs) (eq-eqb x y (sym same))
-  | inr later ↦ or_right (x == y) (list_any (λ v. x == v) xs) (any-from x xs later)
-]
-
-from-any : (number : ℕ) (numbers : List ℕ) → is_among numbers number ≡ true → Contains numbers number
-from-any x [] holds = absurd (false≢true holds)
-from-any x (y ∷ xs) holds = elim (or_cases (x == y) (list_any (λ v. x == v) xs) holds) [
-  | inl here ↦ (0, omega arith, sym (eqb-true x y here))
-  | inr later ↦ let t = from-any x xs later in (suc t.0, omega (arith, t.1), t.2)
-]
-
-truth-length : (n : ℕ) (variables : List ℕ) → length (truth_of n variables) ≡ n
-truth-length n variables = length-map (range_with_len 1 n) (λ variable. list_any (λ v. variable == v) variables) ∙ length-range_with_len 1 n
-
-truth-at : (n k : ℕ) (variables : List ℕ) → k < n → get_or (truth_of n variables) k false ≡ list_any (λ v. k + 1 == v) variables
-truth-at n k variables within = get_or-map-range_with_len (λ variable. list_any (λ v. variable == v) variables) 1 n k (k + 1) false within (omega arith)
-
-both-flags : (a b : Bool) → (a ≡ true → b ≡ true) → (b ≡ true → a ≡ true) → a ≡ b
-both-flags true b to back = sym (to refl)
-both-flags false true to back = back refl
-both-flags false false to back = refl
 
 truth-same : (values : List Bool) (variables : List ℕ) → AreTrueOf values variables → truth_of (length values) variables ≡ values
 truth-same values variables are =

@@ -4,3 +4,4 @@ pub mod Claims
 pub mod Installed
 pub mod Limited
 pub mod Completed
+pub mod TruthLaws
