@@ -85,9 +85,28 @@ if [ "$got" != 6 ] || [ "$(cat err)" != 'distfuture: write fault' ]; then
     echo "wrong: a full output ended with $got and told '$(cat err)'"
     failed=1
 fi
-# Standard error that takes nothing leaves the status as it is.
+# Standard output that is closed takes nothing either, and no file is taken for it: CERT is as with an open one.
+got=0
+"$program" health packages both >&- 2>err || got=$?
+if [ "$got" != 6 ] || [ "$(cat err)" != 'distfuture: write fault' ]; then
+    echo "wrong: a closed output ended with $got and told '$(cat err)'"
+    failed=1
+fi
+got=0
+"$program" strong packages apart >&- 2>err || got=$?
+if [ "$got" != 6 ] || [ "$(cat err)" != 'distfuture: write fault' ] || ! cmp -s cert apart; then
+    echo "wrong: strong with a closed output ended with $got and told '$(cat err)', or its certificate is another"
+    failed=1
+fi
+# Standard error that takes nothing, or is closed, leaves the status as it is.
 got=0
 "$program" health bad both 2>/dev/full || got=$?
 [ "$got" = 3 ] || { echo "wrong: with a full standard error the status was $got"; failed=1; }
+got=0
+"$program" health bad both >out 2>&- || got=$?
+if [ "$got" != 3 ] || [ -s out ]; then
+    echo "wrong: with a closed standard error the status was $got, and it printed '$(cat out)'"
+    failed=1
+fi
 [ "$failed" = 0 ] && echo 'each status as it should be'
 exit "$failed"
