@@ -6,12 +6,9 @@ ghost use Rattle.dist_outside.specs.Reading.{ReadCause};
 ghost use Rattle.dist_cert.specs.Reading.{WhereTold};
 ghost use Rattle.dist_cert.specs.LineReading.{unread, Filled};
 
-use dist_outside::{Desk, Trouble, WorkError};
+use dist_outside::{Desk, PIECE, Trouble, WorkError};
 use std::alloc::Global;
 use std::marker::Model;
-
-/// How many bytes of a file are read at once.
-const PIECE: usize = 65536;
 
 /// What was not taken yet of a piece of a file.
 #[derive(Drop)]

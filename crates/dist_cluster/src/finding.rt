@@ -45,6 +45,7 @@ impl Numbers {
         Ok(())
     }
 
+    /// The numbers, in their order.
     fn as_slice(&self) -> &[u32]
         ensures { result.now ≡ self.now }
     {
@@ -72,6 +73,7 @@ fn join(clusters: &mut Vec<Numbers>, cluster: u32, member: u32) -> Result<(), Al
 }
 
 impl<'a> Finding<'a> {
+    /// No clusters yet.
     fn new(alloc: Global) -> Finding<'a>
         ensures numbers { result.numbers.entries ≡ [] }
         ensures clusters { result.clusters.items ≡ [] }

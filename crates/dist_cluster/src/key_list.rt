@@ -137,6 +137,7 @@ impl<'a> Model for ClusterKey<'a> {
 }
 
 impl<'a> ClusterKey<'a> {
+    /// The key of this package.
     pub(crate) fn new(entry: &'a Entry) -> ClusterKey<'a>
         ensures { result ≡ entry.now }
     {

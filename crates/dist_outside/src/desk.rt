@@ -7,9 +7,6 @@ ghost use Rattle.dist_outside.specs.Reading.{ReadsNext};
 
 use crate::Trouble;
 
-/// How many bytes of a file are moved at once.
-pub(crate) const PIECE: usize = 65536;
-
 /// Reads and writes files by name, one at a time.
 pub trait Desk {
     /// The files, where the desk tells them, what it is doing, and its two counts, which never fall.

@@ -25,5 +25,8 @@ pub use std_sink::StdSink;
 pub use trouble::{Trouble, What, WorkError};
 pub use whole::{desk_write_whole, read_whole, write_whole};
 
+/// How many bytes of a file are moved at once.
+pub const PIECE: usize = 65_536;
+
 #[cfg(test)]
 mod tests;

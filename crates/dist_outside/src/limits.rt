@@ -32,7 +32,17 @@ pub struct Limits {
 impl Limits {
     /// The stated limits, which no run passes.
     pub fn stated() -> Limits
-        ensures { result ≡ record { bytes = MAX_BYTES; stanzas = MAX_STANZAS; variables = MAX_VARIABLES; clauses = MAX_CLAUSES; literals = MAX_LITERALS; lines = MAX_LINES; line_literals = MAX_LINE_LITERALS; certificate = MAX_CERTIFICATE; record_line = MAX_RECORD_LINE } }
+        ensures { result ≡ record {
+          bytes = MAX_BYTES;
+          stanzas = MAX_STANZAS;
+          variables = MAX_VARIABLES;
+          clauses = MAX_CLAUSES;
+          literals = MAX_LITERALS;
+          lines = MAX_LINES;
+          line_literals = MAX_LINE_LITERALS;
+          certificate = MAX_CERTIFICATE;
+          record_line = MAX_RECORD_LINE;
+        } }
     {
         Limits {
             bytes: MAX_BYTES,

@@ -1,5 +1,5 @@
 //! A desk in memory, which fails where a test asks for it.
-ghost use Rattle.std.specs.Prelude.{◌≡◌, ◌≢◌, ◌+◌, ◌^◌, ◌<◌, ◌≤◌, ◌↔◌, ◌⊎◌, [], Some, length, take, drop, min, IfOk, OnOk, OnErr, IsErrOf, IsNone};
+ghost use Rattle.std.specs.Prelude.{◌≡◌, ◌≢◌, ◌+◌, ◌-◌, ◌^◌, ◌<◌, ◌≤◌, ◌↔◌, ◌⊎◌, [], Some, length, take, drop, min, IfOk, OnOk, OnErr, IsErrOf, IsNone};
 ghost use Rattle.std.specs.Option.{option_copied};
 ghost use Rattle.std.specs.FinMap as map;
 ghost use Rattle.dist_outside.specs.Counts.{Rose};
@@ -45,7 +45,15 @@ impl Model for MemoryDesk {
     ghost use Rattle.dist_outside.specs.Kept.{files_of, mode_of};
     ghost use Rattle.dist_outside.specs.declared.memory_desk.Open.TheVariants as kept;
 
-    ghost view = { λ s. record { files = files_of s.files.items; mode = mode_of s.files.items s.state; read_faults = s.read_faults; write_faults = s.write_faults; calls = s.calls; step = s.step; fails = s.fails.items } };
+    ghost view = { λ s. record {
+      files = files_of s.files.items;
+      mode = mode_of s.files.items s.state;
+      read_faults = s.read_faults;
+      write_faults = s.write_faults;
+      calls = s.calls;
+      step = s.step;
+      fails = s.fails.items;
+    } };
 
     ghost invariant = { λ s. (0 < s.step) × (s.state ≡ kept.Writing → 0 < vec_len s.files) };
 }
@@ -88,7 +96,7 @@ impl MemoryDesk {
 
     /// How often a call of a listed number, or a start on a missing file, failed.
     pub fn faults(&self) -> u64
-        ensures { result ≡ min (self.now.read_faults + self.now.write_faults) 18446744073709551615 }
+        ensures { result ≡ min (self.now.read_faults + self.now.write_faults) (2 ^ 64 - 1) }
     {
         self.read_faults.saturating_add(self.write_faults)
     }

@@ -8,9 +8,8 @@ ghost use Rattle.dist_outside.specs.DeskView.{OnlyReads, Holds, NotCreated, File
 ghost use Rattle.dist_outside.specs.Reading.{ReadsNext};
 ghost use Rattle.dist_outside.specs.Real.{real_view, RealReadCall, RealWriteCall};
 
-use crate::desk::PIECE;
 use crate::std_answers::counted;
-use crate::{Desk, Trouble};
+use crate::{Desk, PIECE, Trouble};
 use std::alloc::Global;
 use std::fs::File;
 use std::io::{BufReader, BufWriter, Read, Write};
@@ -46,7 +45,13 @@ impl<R: Files + Drop> Model for RealDesk<R> {
 
     ghost use Rattle.dist_outside.specs.RealOpen.{real_mode, real_remaining, real_contents};
 
-    ghost view = { λ s. record { mode = real_mode s.state; read_faults = s.read_faults; write_faults = s.write_faults; remaining = real_remaining R.File.remaining s.state; contents = real_contents R.File.contents s.state } };
+    ghost view = { λ s. record {
+      mode = real_mode s.state;
+      read_faults = s.read_faults;
+      write_faults = s.write_faults;
+      remaining = real_remaining R.File.remaining s.state;
+      contents = real_contents R.File.contents s.state;
+    } };
 }
 
 impl<R: Files + Drop> RealDesk<R> {

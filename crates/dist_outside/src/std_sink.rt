@@ -29,6 +29,7 @@ impl<W: Write + Drop> Model for StdSink<W> {
 }
 
 impl<W: Write + Drop> StdSink<W> {
+    /// A sink over this writer, which counted nothing yet.
     pub fn new(writer: W) -> StdSink<W>
         ensures { result ≡ record { contents = W.contents writer; faults = 0; wants = 0 } }
     {

@@ -6,8 +6,7 @@ ghost use Rattle.dist_outside.specs.DeskView.{OnlyReads, FileGrew, FileGrewByFro
 ghost use Rattle.dist_outside.specs.Reading.{ReadCause, DeskWriteCause, IsWhole};
 ghost use Rattle.dist_outside.specs.SoFar.{SoFar};
 
-use crate::desk::PIECE;
-use crate::{Desk, Sink, Trouble, What, WorkError};
+use crate::{Desk, PIECE, Sink, Trouble, What, WorkError};
 use std::alloc::{AllocError, Global};
 
 /// The bytes of a file, of which there are at most `limit`.

@@ -19,7 +19,7 @@ use Rattle.dist_relation.specs.declared.error.ReadError.{ReadError}
 use Rattle.dist_relation.specs.declared.error.ReadError.TheVariants as stops
 use Rattle.dist_relation.specs.declared.error.RelationError.{RelationError}
 use Rattle.dist_relation.specs.declared.error.RelationError.TheVariants as errors
-use Rattle.dist_relation.specs.Bytes.{is_space, is_name_byte, is_operator_byte, is_word_byte, colon, opening, closing, comma, bar}
+use Rattle.dist_relation.specs.Bytes.{is_space, is_name_byte, is_operator_byte, is_word_byte, less, equals, greater, colon, opening, closing, comma, bar}
 use Rattle.dist_relation.specs.Grammar.{allows_operator}
 use Rattle.dist_relation.specs.Faults.{allows_bar, error_at}
 
@@ -71,12 +71,12 @@ head_at text = do
 
 abbrev pub operator_of : List ℕ → Option Op
 operator_of [] = None
-operator_of (a ∷ []) = if a == 60 then Some Le else if a == 61 then Some Eq else if a == 62 then Some Ge else None
+operator_of (a ∷ []) = if a == less then Some Le else if a == equals then Some Eq else if a == greater then Some Ge else None
 operator_of (a ∷ b ∷ []) =
-    if a == 60 && b == 60 then Some Lt
-    else if a == 60 && b == 61 then Some Le
-    else if a == 62 && b == 61 then Some Ge
-    else if a == 62 && b == 62 then Some Gt
+    if a == less && b == less then Some Lt
+    else if a == less && b == equals then Some Le
+    else if a == greater && b == equals then Some Ge
+    else if a == greater && b == greater then Some Gt
     else None
 operator_of (a ∷ b ∷ c ∷ bs) = None
 

@@ -52,7 +52,7 @@ either-decided (inr p) (inr q) = inr (λ h. elim h [
 ])
 
 -- one for the other, where each follows from the other
-same-as : {P Q : Type 0} → (P → Q) → (Q → P) → IsDecided P → IsDecided Q
+pub same-as : {P Q : Type 0} → (P → Q) → (Q → P) → IsDecided P → IsDecided Q
 same-as to back (inl p) = inl (to p)
 same-as to back (inr p) = inr (λ q. p (back q))
 
