@@ -12,13 +12,9 @@ mod lines;
 mod lists;
 mod loose_words;
 mod pieces;
-#[cfg(test)]
-mod reader_tests;
 mod reading;
 mod records;
 mod rules;
-#[cfg(test)]
-mod tests;
 mod writing;
 
 pub use clear_forms::forms_are_clear;

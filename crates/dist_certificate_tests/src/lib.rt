@@ -1,4 +1,5 @@
-//! Sweeps, certificates and their checks, and the reports of claims, over repositories of a few stanzas. Tests alone.
+//! The lines of certificates; sweeps, certificates and their checks, and the reports of claims, over repositories of a few
+//! stanzas. Tests alone.
 #![tactic(auto)]
 
 #[cfg(test)]
@@ -7,6 +8,12 @@ mod accepted;
 mod faults;
 #[cfg(test)]
 mod limits;
+#[cfg(test)]
+mod line_faults;
+#[cfg(test)]
+mod line_lists;
+#[cfg(test)]
+mod line_texts;
 #[cfg(test)]
 mod stanzas;
 #[cfg(test)]
