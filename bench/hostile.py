@@ -24,7 +24,7 @@ def shuffled(items):
     return items
 
 
-FRONT = "lib" + "x" * 61
+LONG = "lib" + "x" * 61
 
 MAKERS = {
     "one stanza of so many different fields": (1_000_000, lambda n: stanza("a", more="".join(f"F{k}: \n" for k in shuffled(range(n))))),
@@ -32,7 +32,7 @@ MAKERS = {
     "one package of so many alternatives": (1_000_000, lambda n: stanza("a", more="Depends: " + " | ".join(f"b{k}" for k in range(n)) + "\n")),
     "one package of so many items": (1_000_000, lambda n: stanza("a", more="Depends: " + ", ".join(f"b{k}" for k in range(n)) + "\n")),
     "so many versions of one name": (200_000, lambda n: "".join(stanza("a", k) for k in shuffled(range(n)))),
-    "so many names of one long front": (200_000, lambda n: "".join(stanza(f"{FRONT}{k:07}") for k in shuffled(range(n)))),
+    "so many names of one long front": (200_000, lambda n: "".join(stanza(f"{LONG}{k:07}") for k in shuffled(range(n)))),
     "so many names, the last first": (200_000, lambda n: "".join(stanza(f"{k:07}") for k in range(n, 0, -1))),
     "one name provided so many times": (200_000, lambda n: "".join(stanza(f"p{k}", more="Provides: a\n") for k in range(n))),
     "so many blank lines": (10_000_000, lambda n: "\n" * n + stanza("a")),
