@@ -2,8 +2,8 @@
 ghost use Rattle.std.specs.Prelude.{◌≡◌};
 ghost use Rattle.dist_repo.specs.Order.{key_cmp};
 
-use crate::prefix::prefix_of;
 use crate::package::Package;
+use crate::prefix::prefix_of;
 use dist_version::Version;
 use std::cmp::Ordering;
 use std::marker::Model;

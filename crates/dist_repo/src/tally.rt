@@ -7,10 +7,10 @@ ghost use Rattle.std.specs.Ordering.{nat_cmp};
 ghost use Rattle.dist_repo.specs.Providers.{IsProvider};
 ghost use Rattle.dist_repo.specs.Tally.{numbers_at, EndsWith, IsTallyOf, Notes, NotesEach, NotesNumber};
 
-use crate::prefix::prefix_of;
 use crate::matching::is_usable;
 use crate::names::NameIndex;
 use crate::package::Package;
+use crate::prefix::prefix_of;
 use dist_base::Flat;
 use dist_relation::Name;
 use smallvec::SmallVec;
