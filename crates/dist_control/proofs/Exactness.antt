@@ -6,7 +6,7 @@ use Rattle.dist_base.specs.Answers.{IsExact}
 use Rattle.dist_control.specs.FieldText.{FieldText}
 use Rattle.dist_control.specs.declared.error.ControlError.{ControlError}
 use Rattle.dist_control.specs.declared.field_list.Stanza.{Stanza}
-use Rattle.dist_control.specs.ControlText.{AreReadings, HasFirstFault, IsExactStanza, IsExactText}
+use Rattle.dist_control.specs.ControlText.{AreReadings, HasFirstTextFault, IsExactStanza, IsExactText}
 use Rattle.dist_control.specs.Faults.{fault_at, IsSound, IsSoundBelow, HasFault}
 use Rattle.dist_control.specs.Fields.{fields_from}
 use Rattle.dist_control.specs.RawStanza.{RawStanza, raw_stanzas}
@@ -75,8 +75,8 @@ no_stanzas [] are = refl
 no_stanzas (stanza ∷ stanzas) are = absurd are
 
 -- a first stanza and what is known of the raw stanzas after it
-module _ (raw : RawStanza) (raws : List RawStanza) (rest : IsExact (AreReadings raws) (HasFirstFault raws)) where
-  some_more : ((stanzas : List Stanza) × AreReadings (raw ∷ raws) stanzas) ⊎ ((error : ControlError) × HasFirstFault (raw ∷ raws) error)
+module _ (raw : RawStanza) (raws : List RawStanza) (rest : IsExact (AreReadings raws) (HasFirstTextFault raws)) where
+  some_more : ((stanzas : List Stanza) × AreReadings (raw ∷ raws) stanzas) ⊎ ((error : ControlError) × HasFirstTextFault (raw ∷ raws) error)
   some_more = elim (exact raw).some [
     | inr fault ↦ inr (fault.0, inl fault.1)
     | inl first ↦ elim rest.some [
@@ -92,18 +92,18 @@ module _ (raw : RawStanza) (raws : List RawStanza) (rest : IsExact (AreReadings 
       ap (λ (s : Stanza). s ∷ stanzas) ((exact raw).one_reading stanza first are.0 same.0)
       ∙ ap (λ (l : List Stanza). first ∷ l) (rest.one_reading stanzas other are.1 same.1)
 
-  fault_more : (error other : ControlError) → HasFirstFault (raw ∷ raws) error → HasFirstFault (raw ∷ raws) other → error ≡ other
+  fault_more : (error other : ControlError) → HasFirstTextFault (raw ∷ raws) error → HasFirstTextFault (raw ∷ raws) other → error ≡ other
   fault_more error other (inl here) (inl same) = one_fault raw error other here same
   fault_more error other (inl here) (inr later) = absurd (sound_or_faulty raw error later.0 here)
   fault_more error other (inr later) (inl here) = absurd (sound_or_faulty raw other later.0 here)
   fault_more error other (inr later) (inr same) = rest.one_fault error other later.1 same.1
 
-  never_more : (stanzas : List Stanza) (error : ControlError) → AreReadings (raw ∷ raws) stanzas → ¬ HasFirstFault (raw ∷ raws) error
+  never_more : (stanzas : List Stanza) (error : ControlError) → AreReadings (raw ∷ raws) stanzas → ¬ HasFirstTextFault (raw ∷ raws) error
   never_more [] error are faulty = absurd are
   never_more (stanza ∷ stanzas) error are (inl here) = sound_or_faulty raw error are.0.sound here
   never_more (stanza ∷ stanzas) error are (inr later) = rest.never_both stanzas error are.1 later.1
 
-exact-raws : (raws : List RawStanza) → IsExact (AreReadings raws) (HasFirstFault raws)
+exact-raws : (raws : List RawStanza) → IsExact (AreReadings raws) (HasFirstTextFault raws)
 exact-raws [] = record {
   some = inl ([], tt);
   one_reading = λ stanzas other are same. no_stanzas stanzas are ∙ sym (no_stanzas other same);

@@ -29,10 +29,10 @@ abbrev pub IsExactStanza : RawStanza → Type 0
 IsExactStanza raw = IsExact (IsReading raw) (HasFault raw)
 
 -- this is the first fault of the first stanza that has one
-abbrev pub HasFirstFault : List RawStanza → ControlError → Type 0
-HasFirstFault [] error = ⊥
-HasFirstFault (raw ∷ raws) error = HasFault raw error ⊎ (IsSound raw × HasFirstFault raws error)
+abbrev pub HasFirstTextFault : List RawStanza → ControlError → Type 0
+HasFirstTextFault [] error = ⊥
+HasFirstTextFault (raw ∷ raws) error = HasFault raw error ⊎ (IsSound raw × HasFirstTextFault raws error)
 
 -- a text has exactly one list of stanzas, or exactly one first fault
 abbrev pub IsExactText : List ℕ → Type 0
-IsExactText text = IsExact (ControlText text) (HasFirstFault (raw_stanzas text))
+IsExactText text = IsExact (ControlText text) (HasFirstTextFault (raw_stanzas text))

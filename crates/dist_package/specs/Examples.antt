@@ -1,4 +1,4 @@
--- Worked examples: the fields of a stanza of two lines, and an architecture that disagrees.
+-- Worked examples: a stanza of two lines, and what fields that it lacks come to.
 use Rattle.std.specs.Prelude.{◌≡◌, [], ◌∷◌, Some, codes, refl}
 use Rattle.std.proofs.Common.{inl}
 use Rattle.dist_control.specs.FieldText.{FieldText}

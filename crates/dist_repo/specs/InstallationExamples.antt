@@ -1,16 +1,17 @@
 -- Worked examples: a package that depends on another one, its installations and its strong dependency; and the newest of two
 -- versions.
 use Rattle.std.specs.Prelude.{◌≡◌, ◌≢◌, ℕ, zero, suc, ◌<◌, false, List, [], ◌∷◌, None, All, AllPairs, Any, Contains, length, slice_index_or, codes, refl}
-use Rattle.std.proofs.Common.{inl, inr, lit<, sym, subst, ap, arith}
+use Rattle.std.proofs.Common.{inl, inr, lit<, sym, subst, ap, ◌∙◌, arith}
 use Rattle.std.proofs.lemmas.List.Elements.{All-cons, All-contains}
 use Rattle.std.proofs.lemmas.List.Kept.{AllPairs-cons}
-use Rattle.std.specs.declared.cmp.Ordering.TheVariants.{Less}
+use Rattle.std.specs.declared.cmp.Ordering.TheVariants.{Less, Equal, Greater}
 use Rattle.dist_relation.specs.declared.atom.Atom.{Atom}
 use Rattle.dist_relation.specs.declared.atom.Qualifier.TheVariants.{Plain}
 use Rattle.dist_repo.specs.Conflict.{AreInConflict}
 use Rattle.dist_repo.specs.Healthy.{IsMet}
 use Rattle.dist_repo.specs.Match.{Matches, MatchesByEntry}
-use Rattle.dist_version.specs.Order.{version_cmp}
+use Rattle.dist_version.specs.Order.{version_cmp, part_cmp, weights_of}
+use Rattle.dist_version.specs.Spelling.{epoch_of, epoch_digits, after_epoch, upstream_of, revision_of}
 use Rattle.dist_repo.specs.Order.{IsFlat, IsNewest}
 use Rattle.dist_repo.specs.PackageList.{PackageList}
 use Rattle.dist_repo.specs.Strong.{IsInstallation, StronglyDepends}
@@ -131,7 +132,7 @@ a_strongly_depends_on_b = record {
 archive_is_flat : IsFlat archive.packages
 archive_is_flat = both_are_healthy.one_of_a_name
 
--- Of two versions of a name the greater one is the newest, 1.10 and not 1.9, wherever it stands.
+-- Of two versions of a name the greater one is the newest: 1.10, and not 1.9.
 abbrev version_of_b : List ℕ → Package
 version_of_b version = record {
   name = codes "b";
@@ -147,15 +148,26 @@ version_of_b version = record {
 abbrev two_versions : List Package
 two_versions = version_of_b (codes "1.10") ∷ version_of_b (codes "1.9") ∷ []
 
+equal_to_itself : version_cmp (codes "1.10") (codes "1.10") ≡ Equal
+unfolding version_cmp part_cmp weights_of epoch_of epoch_digits after_epoch upstream_of revision_of
+equal_to_itself = refl
+
+above_the_other : version_cmp (codes "1.10") (codes "1.9") ≡ Greater
+unfolding version_cmp part_cmp weights_of epoch_of epoch_digits after_epoch upstream_of revision_of
+above_the_other = refl
+
 greater_is_newest : IsNewest two_versions (version_of_b (codes "1.10"))
 greater_is_newest = record {
   there = (0, lit< tt, refl);
-  newest = All-cons IsBelow (version_of_b (codes "1.10")) (version_of_b (codes "1.9") ∷ []) (λ _ less. cc)
-      (All-cons IsBelow (version_of_b (codes "1.9")) [] (λ _ less. cc) (all_of_none IsBelow));
+  newest = All-cons IsNotBelow (version_of_b (codes "1.10")) (version_of_b (codes "1.9") ∷ [])
+      (λ _ less. let wrong : Equal ≡ Less = sym equal_to_itself ∙ less in cc)
+      (All-cons IsNotBelow (version_of_b (codes "1.9")) [] (λ _ less. let wrong : Greater ≡ Less = sym above_the_other ∙ less in cc)
+        (all_of_none IsNotBelow));
 }
   where
-    IsBelow : Package → Type 0
-    IsBelow q = q.name ≡ codes "b" → version_cmp (codes "1.10") q.version ≢ Less
+    IsNotBelow : Package → Type 0
+    IsNotBelow q = q.name ≡ codes "b" → version_cmp (codes "1.10") q.version ≢ Less
 
 lesser_is_not : ¬ IsNewest two_versions (version_of_b (codes "1.9"))
+unfolding version_cmp part_cmp weights_of epoch_of epoch_digits after_epoch upstream_of revision_of
 lesser_is_not newest = newest.newest 0 (version_of_b (codes "1.10")) (lit< tt) refl refl

@@ -7,7 +7,7 @@ digits zero bytes = 0
 digits (suc places) [] = 0
 digits (suc places) (b ∷ bytes) = b * 256 ^ places + digits places bytes
 
--- a number is that of the first sixteen bytes of a name
+-- a number is that of the first sixteen bytes of a name, which has bytes alone
 pub record IsPrefixOf (prefix : ℕ) (name : List ℕ) : Type 0 where
   pub number : prefix ≡ digits 16 name
   pub bytes : All (λ b. b < 256) name
