@@ -162,7 +162,7 @@ greater_is_newest = record {
   newest = All-cons IsNotBelow (version_of_b (codes "1.10")) (version_of_b (codes "1.9") ∷ [])
       (λ _ less. let wrong : Equal ≡ Less = sym equal_to_itself ∙ less in cc)
       (All-cons IsNotBelow (version_of_b (codes "1.9")) [] (λ _ less. let wrong : Greater ≡ Less = sym above_the_other ∙ less in cc)
-        (all_of_none IsNotBelow));
+      (all_of_none IsNotBelow));
 }
   where
     IsNotBelow : Package → Type 0
