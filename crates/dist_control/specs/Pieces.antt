@@ -4,6 +4,7 @@ use Rattle.std.specs.List.{list_any, flat_map, after_first}
 use Rattle.std.specs.Str.{bytes_eq}
 use Rattle.dist_control.specs.Bytes.{line_feed, is_colon, is_blank, is_continuation, is_field_name}
 use Rattle.dist_control.specs.declared.error.ControlError.{ControlError}
+use Rattle.dist_control.specs.declared.error.ControlError.TheVariants.{NoColon, BadFieldName}
 use Rattle.dist_control.specs.declared.field_list.TheConstants.{EARLY_FIELDS}
 use Rattle.dist_control.specs.declared.marks.TheConstants.{MARKS}
 use Rattle.dist_control.specs.Faults.{line_fault, IsSound}
@@ -89,6 +90,12 @@ pub record ReadsField (number : ℕ) (text : List ℕ) (field : FieldText) (afte
   pub ends : EndsField (run (lines after))
   pub room : next + length after < 2 ^ 64
   pub shorter : length after < length text
+
+-- what the name of a line lacks: it has no colon behind it, or is no field name
+abbrev pub IsNameFault : (number : ℕ) (line : List ℕ) → ControlError → Type 0
+IsNameFault number line error =
+    ((error ≡ NoColon number) × (list_any is_colon line ≡ false))
+    ⊎ ((error ≡ BadFieldName number) × (list_any is_colon line ≡ true) × (is_field_name (name_of line) ≡ false))
 
 -- the first line, which is no continuation line, has this fault, whatever lines are before it in its stanza
 pub record IsFieldFault (number : ℕ) (text : List ℕ) (error : ControlError) : Type 0 where

@@ -1,12 +1,12 @@
 //! One field: its field line, its continuation lines, its name and its value.
-ghost use Rattle.std.specs.Prelude.{◌≡◌, ℕ, ◌+◌, ◌<◌, ◌^◌, List, [], ◌∷◌, ◌++◌, false, length, IsTrue, MatchOption, MatchResult};
-ghost use Rattle.std.specs.List.{list_any, list_all};
-ghost use Rattle.dist_control.specs.Bytes.{space, line_feed, is_colon, is_name_byte, is_field_name, is_continuation, is_white};
+ghost use Rattle.std.specs.Prelude.{◌≡◌, ℕ, ◌+◌, ◌<◌, ◌^◌, List, [], ◌∷◌, ◌++◌, true, length, get_or, take, take_while, IsTrue, MatchResult};
+ghost use Rattle.std.specs.List.{list_any};
+ghost use Rattle.dist_control.specs.Bytes.{space, line_feed, is_colon, is_name_byte, is_field_name, is_white};
 ghost use Rattle.dist_control.specs.Fields.{name_of, trim};
 ghost use Rattle.dist_control.specs.FieldText.{field_text};
 ghost use Rattle.dist_control.specs.Lines.{lines};
 ghost use Rattle.dist_control.specs.RawStanza.{run};
-ghost use Rattle.dist_control.specs.Pieces.{EndsField, IsFieldInFront, IsAtField, IsFirstColon, ReadsField, IsFieldFault};
+ghost use Rattle.dist_control.specs.Pieces.{EndsField, IsFieldInFront, IsAtField, IsFirstColon, ReadsField, IsNameFault, IsFieldFault};
 
 use crate::error::ControlError;
 use crate::field_list::Field;
@@ -64,31 +64,56 @@ fn without_white_ends(text: &[u8]) -> &[u8]
 fn is_name_byte(byte: u8) -> bool
     ensures { result ≡ is_name_byte byte }
 {
-    (b'!'..=b'~').contains(&byte) && byte != b':'
+    // Letters are looked for first.
+    matches!(byte, b';'..=b'~' | b'!'..=b'9')
 }
 
-/// Whether all bytes may stand in a field name.
-fn has_name_bytes(name: &[u8]) -> bool
-    ensures { result ≡ list_all is_name_byte name.now }
+/// How many bytes that may stand in a field name are at the front of a line.
+fn name_length(line: &[u8]) -> usize
+    ensures { result ≡ length (take_while is_name_byte line.now) }
 {
-    name.iter().all(|byte| is_name_byte(*byte))
+    line.iter().take_while(|byte| is_name_byte(**byte)).count()
 }
 
-/// Whether this is a field name.
-fn is_field_name(name: &[u8]) -> bool
-    ensures { result ≡ is_field_name name.now }
+/// Whether a field name may begin with the first byte of a line.
+fn begins_name(line: &[u8]) -> bool
+    ensures { result ≡ is_field_name (take 1 line.now) }
 {
-    match name {
-        [first, ..] => *first != b'#' && *first != b'-' && has_name_bytes(name),
+    match line {
+        [first, ..] => *first != b'#' && *first != b'-' && is_name_byte(*first),
         [] => false,
     }
 }
 
-/// The place of the first colon of a line.
-fn find_colon(line: &[u8]) -> Option<usize>
-    ensures { MatchOption result (list_any is_colon line.now ≡ false) (λ place. IsFirstColon line.now place) }
+/// Whether a colon stands at a place of a line.
+fn has_colon_at(line: &[u8], place: usize) -> bool
+    ensures { result ≡ is_colon (get_or line.now place 0) }
 {
-    memchr(b':', line)
+    matches!(line.get(place), Some(b':'))
+}
+
+/// Whether a line has a colon.
+fn has_colon(line: &[u8]) -> bool
+    ensures { result ≡ list_any is_colon line.now }
+{
+    memchr(b':', line).is_some()
+}
+
+/// Where a line's field name ends: there its first colon stands. A colon is no byte of a name, so one look through the
+/// name finds both; only a line at fault is looked through again.
+fn name_end(line: &[u8], number: u64) -> Result<usize, ControlError>
+    ensures { MatchResult result
+        (λ place. IsFirstColon line.now place × (is_field_name (name_of line.now) ≡ true))
+        (λ error. IsNameFault number line.now error) }
+{
+    let end = name_length(line);
+    if has_colon_at(line, end) && begins_name(line) {
+        Ok(end)
+    } else if has_colon(line) {
+        Err(ControlError::BadFieldName(number))
+    } else {
+        Err(ControlError::NoColon(number))
+    }
 }
 
 /// The first line, what comes after it and its continuation lines, and the number of the line there.
@@ -120,16 +145,13 @@ pub(crate) fn read_field(bytes: &[u8], number: u64) -> Result<(Field<'_>, &[u8],
         (λ error. IsFieldFault number bytes.now error) }
 {
     let (line, after, next) = split_field(bytes, number);
-    let Some(colon) = find_colon(line) else {
-        return Err(ControlError::NoColon(number));
+    let colon = match name_end(line, number) {
+        Ok(colon) => colon,
+        Err(error) => return Err(error),
     };
-    let name = &line[..colon];
-    if !is_field_name(name) {
-        return Err(ControlError::BadFieldName(number));
-    }
     let value = trimmed(&bytes[colon + 1..bytes.len() - after.len()]);
     let field = Field {
-        name,
+        name: &line[..colon],
         value,
         line: number,
     };

@@ -1,6 +1,5 @@
 use Rattle.std.proofs.Common.{◌≡◌, ◌+◌, ℕ, List, ◌∷◌, sym, ap, ◌∙◌, arith}
 use Rattle.std.specs.List.{join_with_byte}
-use Rattle.dist_control.specs.Bytes.{is_field_name}
 use Rattle.dist_control.specs.Fields.{trim}
 use Rattle.dist_control.specs.FieldText.{FieldText}
 use Rattle.dist_control.proofs.FieldLemmas.{value-spelled}
@@ -18,15 +17,15 @@ returns c =
     let split = c.split_field-next.ensures in
     let line = c.split_field-next.result.0.now in
     let more = split.field.0 in
-    let at = c.in-Some.ensures in
-    let k = c.in-Some.colon in
+    let at = c.in-Ok.ensures.0 in
+    let k = c.in-Ok.colon in
     record {
       line = line;
       more = more;
       pieces = split.field.1.pieces;
       continued = split.field.1.continued;
       has_colon = at.found;
-      named = ap is_field_name at.before ∙ sym c.if-not-is_field_name.ensures;
+      named = c.in-Ok.ensures.1;
       spelled = same_field _ _ _ _ _ (sym at.before)
           (c.trimmed-value.ensures ∙ value-spelled c.args.bytes.now line c.split_field-next.result.1.now more (k + 1) split.field.1.front (omega (arith, at.within))
           ∙ ap (λ (t : List ℕ). trim (join_with_byte 10 (t ∷ more))) (sym at.after));
