@@ -1,5 +1,6 @@
 -- Loops that read several things one after the other, with a byte between each two.
 use Rattle.std.proofs.Common.{◌≡◌, ℕ, zero, suc, ◌<◌, ◌≤◌, Bool, true, false, eqb, cond, List, [], ◌∷◌, ◌++◌, length, refl, sym, ap, ◌∙◌, append_assoc, append-nil, length-append, Option, None, Some, eq-eqb, arith}
+use Rattle.std.proofs.lemmas.Bool.{eqb-true}
 use Rattle.std.specs.List.{filter_map, take_while}
 use Rattle.std.specs.Option.{option_to_list}
 use Rattle.std.specs.Prelude.{Result, Ok, Err}
@@ -7,7 +8,7 @@ use Rattle.dist_relation.specs.declared.error.Fault.{Fault}
 use Rattle.dist_relation.specs.declared.error.ReadError.{ReadError}
 use Rattle.dist_relation.specs.declared.error.ReadError.TheVariants as stops
 use Rattle.dist_relation.specs.Bytes.{is_space, comma, Stops}
-use Rattle.dist_relation.specs.Reading.{◌>>=◌, Fails, skip, ends_piece, then_more, joined_at, piece_at, items_of}
+use Rattle.dist_relation.specs.Reading.{◌>>=◌, Fails, skip, ends_piece, then_more, others_at, joined_at, piece_at, items_of}
 use Rattle.dist_relation.proofs.Runs.{take_while-past}
 
 -- what was read before, and what is still read
@@ -54,7 +55,7 @@ module _ {X : Type 0} (between : ℕ) (one : List ℕ → Result (X × List ℕ)
   rest_of text = joined_at between one (suc (length text)) text
 
   -- a thing with the byte behind it is the first of several
-  pub rest_more : (text : List ℕ) (x : X) (tail : List ℕ) → one text ≡ Ok (x, between ∷ tail) → rest_of text ≡ onto x (rest_of tail)
+  rest_more : (text : List ℕ) (x : X) (tail : List ℕ) → one text ≡ Ok (x, between ∷ tail) → rest_of text ≡ onto x (rest_of tail)
   unfolding joined_at
   rest_more text x tail e =
       let less : length (between ∷ tail) ≤ length text = shorter text x (between ∷ tail) e in
@@ -66,11 +67,11 @@ module _ {X : Type 0} (between : ℕ) (one : List ℕ → Result (X × List ℕ)
   next_last n x [] h = refl
   next_last n x (b ∷ bs) h = ap (λ (t : Bool). cond t (onto x (joined_at between one n bs)) (stop_at x (b ∷ bs))) h
 
-  pub rest_last : (text : List ℕ) (x : X) (rest : List ℕ) → one text ≡ Ok (x, rest) → Stops (λ b. eqb b between) rest → rest_of text ≡ stop_at x rest
+  rest_last : (text : List ℕ) (x : X) (rest : List ℕ) → one text ≡ Ok (x, rest) → Stops (λ b. eqb b between) rest → rest_of text ≡ stop_at x rest
   unfolding joined_at
   rest_last text x rest e h = ap (after_one (length text)) e ∙ next_last (length text) x rest h
 
-  pub rest_fails : (text : List ℕ) (fault : Fault) → one text ≡ Err fault → rest_of text ≡ Err fault
+  rest_fails : (text : List ℕ) (fault : Fault) → one text ≡ Err fault → rest_of text ≡ Err fault
   unfolding joined_at
   rest_fails text fault e = ap (after_one (length text)) e
 
@@ -80,12 +81,22 @@ module _ {X : Type 0} (between : ℕ) (one : List ℕ → Result (X × List ℕ)
   first_fails stops.NoMemory text h = tt
   first_fails (stops.Fault f) text h = rest_fails text f h
 
-  pub others_fail : (e : ReadError) (text : List ℕ) (x : X) (tail : List ℕ) → one text ≡ Ok (x, between ∷ tail) → Fails e (rest_of tail) → Fails e (rest_of text)
-  others_fail stops.NoMemory text x tail read h = tt
-  others_fail (stops.Fault f) text x tail read h = rest_more text x tail read ∙ ap (onto x) h
+  first_and_others : (text : List ℕ) (x : X) (rest : List ℕ) → one text ≡ Ok (x, rest) → rest_of text ≡ onto x (others_at between rest_of rest)
+  first_and_others text x [] e = rest_last text x [] e tt
+  first_and_others text x (b ∷ bs) e = by_byte (eqb b between) refl
+    where
+      by_byte : (t : Bool) → eqb b between ≡ t → rest_of text ≡ onto x (cond t (rest_of bs) (Ok ([], b ∷ bs)))
+      by_byte true is =
+          let with_rest : List ℕ → Result (X × List ℕ) Fault = λ rest. Ok (x, rest) in
+          rest_more text x bs (e ∙ ap (λ (k : ℕ). with_rest (k ∷ bs)) (eqb-true b between is))
+      by_byte false is = rest_last text x (b ∷ bs) e is
 
-  pub with_others : (text : List ℕ) (x : X) (tail : List ℕ) (others : List X × List ℕ) → one text ≡ Ok (x, between ∷ tail) → rest_of tail ≡ Ok others → rest_of text ≡ Ok (x ∷ others.0, others.1)
-  with_others text x tail others read h = rest_more text x tail read ∙ ap (onto x) h
+  pub others_fail : (e : ReadError) (text : List ℕ) (x : X) (rest : List ℕ) → one text ≡ Ok (x, rest) → Fails e (others_at between rest_of rest) → Fails e (rest_of text)
+  others_fail stops.NoMemory text x rest read h = tt
+  others_fail (stops.Fault f) text x rest read h = first_and_others text x rest read ∙ ap (onto x) h
+
+  pub with_others : (text : List ℕ) (x : X) (rest : List ℕ) (others : List X × List ℕ) → one text ≡ Ok (x, rest) → others_at between rest_of rest ≡ Ok others → rest_of text ≡ Ok (x ∷ others.0, others.1)
+  with_others text x rest others read h = first_and_others text x rest read ∙ ap (onto x) h
 
   -- ---- a list of them
 

@@ -1,5 +1,5 @@
 -- How the private readers go from left to right, as functions on lists. No public clause cites them: proofs/ shows that they give what Grammar and Faults say.
-use Rattle.std.specs.Prelude.{◌≡◌, ◌≤◌, ◌-◌, ℕ, zero, suc, Bool, true, ◌&&◌, ◌==◌, List, [], ◌∷◌, length, take_while, filter_map, Option, None, Some, Result, Ok, Err, if◌then◌else◌}
+use Rattle.std.specs.Prelude.{◌≡◌, ◌≤◌, ◌-◌, ℕ, zero, suc, Bool, true, ◌&&◌, ◌==◌, List, [], ◌∷◌, ◌++◌, length, take_while, filter_map, Option, None, Some, Result, Ok, Err, if◌then◌else◌}
 use Rattle.std.specs.Char.{is_ascii_alphanumeric}
 use Rattle.dist_version.specs.Faults.{fault_of}
 use Rattle.dist_version.specs.declared.error.VersionError.{VersionError}
@@ -36,6 +36,11 @@ Fails (stops.Fault f) read = read ≡ Err f
 abbrev pub Gives : {X Y : Type 0} → (X → Y) → Result X ReadError → Result Y Fault → Type 0
 Gives view (Ok x) read = read ≡ Ok (view x)
 Gives view (Err e) read = Fails e read
+
+-- the same where what was read was put behind the others, of which nothing is said at an error
+abbrev pub GivesOnto : {X Y R : Type 0} → (Y → List X) → (R → List ℕ) → List X → List X → Result R ReadError → Result (Y × List ℕ) Fault → Type 0
+GivesOnto {X} {Y} items left old new (Ok rest) read = (y : Y) × (read ≡ Ok (y, left rest)) × (new ≡ old ++ items y)
+GivesOnto items left old new (Err e) read = Fails e read
 
 -- what is left is no more than there was
 abbrev pub Shortens : {X : Type 0} → (List ℕ → Result (X × List ℕ) Fault) → Type 0
@@ -132,6 +137,11 @@ atom_at kind text = do
 abbrev pub then_more : {X : Type 0} → ℕ → X → List ℕ → (List ℕ → Result (List X × List ℕ) Fault) → Result (List X × List ℕ) Fault
 then_more between x [] more = Ok (x ∷ [], [])
 then_more between x (b ∷ bs) more = if b == between then (more bs >>= λ y. Ok (x ∷ y.0, y.1)) else Ok (x ∷ [], b ∷ bs)
+
+-- those that more are, behind the byte between them, if it follows
+abbrev pub others_at : {X : Type 0} → ℕ → (List ℕ → Result (List X × List ℕ) Fault) → List ℕ → Result (List X × List ℕ) Fault
+others_at between more [] = Ok ([], [])
+others_at between more (b ∷ bs) = if b == between then more bs else Ok ([], b ∷ bs)
 
 -- at most so many, with a byte between each two
 unfoldable pub joined_at : {X : Type 0} → ℕ → (List ℕ → Result (X × List ℕ) Fault) → ℕ → List ℕ → Result (List X × List ℕ) Fault

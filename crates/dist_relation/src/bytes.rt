@@ -11,11 +11,13 @@ fn is_space(byte: u8) -> bool
     matches!(byte, b' ' | b'\t' | b'\n')
 }
 
-/// Whether a name may have the byte behind its first one.
+/// Whether a name may have the byte behind its first one. Most are small letters, so these are looked for first.
 fn is_name_byte(byte: u8) -> bool
     ensures { result ≡ is_name_byte byte }
 {
-    byte.is_ascii_alphanumeric() || matches!(byte, b'+' | b'-' | b'.' | b'_')
+    byte.is_ascii_lowercase()
+        || byte.is_ascii_alphanumeric()
+        || matches!(byte, b'+' | b'-' | b'.' | b'_')
 }
 
 /// Whether an operator may have the byte.

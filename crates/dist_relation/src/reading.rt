@@ -1,5 +1,5 @@
 //! The readers of an atom's parts, from left to right. Each gives what it read and the rest of the text.
-ghost use Rattle.std.specs.Prelude.{◌≡◌, ◌≤◌, IfOk, length, option_map};
+ghost use Rattle.std.specs.Prelude.{◌≡◌, length};
 ghost use Rattle.dist_relation.specs.Reading.{Gives, name_at, qualifier_at, head_at, operator_of, operator_at, version_at, closing_at, bound_at, maybe_bound_at, end_at, atom_at};
 
 use crate::atom::{Atom, Bound, Kind, Op, Qualifier};

@@ -11,30 +11,33 @@ loop-entries-init g c =
     let shorter = piece_shorter reading c.requires in
     rw c.in_ok-entries.ensures.items (entries_start reading shorter c.args.value.now)
 
-pub returns-in_err-piece : goal.returns-in_err-piece
-returns-in_err-piece g c =
+pub returns-in_err-rest : goal.returns-in_err-rest
+returns-in_err-rest g c =
     let reading = g.T.Entry.reading in
     let shorter = piece_shorter reading c.requires in
-    let p = err_from_is_err_and c.from_residual-in_err-piece.result c.from_residual-in_err-piece.ensures.1 in
-    rw (p.1, p.2) (entries_fail reading shorter c.in_err-piece.field-0.0 c.loop-entries.entries.items c.loop-entries.text.now (items_of reading c.args.value.now) c.in_err-piece.ensures c.loop-entries.invariant)
+    let p = err_from_is_err_and c.from_residual-in_err-rest.result c.from_residual-in_err-rest.ensures.1 in
+    rw (p.1, p.2) (entries_fail reading shorter c.in_err-rest.field-0.0 c.loop-entries.entries.items c.loop-entries.text.now (items_of reading c.args.value.now) c.in_err-rest.ensures c.loop-entries.invariant)
 
 pub loop-entries-smaller : goal.loop-entries-smaller
 loop-entries-smaller g c =
     let reading = g.T.Entry.reading in
     let shorter = piece_shorter reading c.requires in
-    let less : length c.in_ok-piece.rest.now ≤ length c.loop-entries.text.now = shorter c.loop-entries.text.now c.in_ok-piece.piece c.in_ok-piece.rest.now c.in_ok-piece.ensures in
-    let more : length c.in_ok-piece.rest.now ≡ length (comma ∷ c.in-Some.tail.now) = ap length c.in-Some.ensures in
+    let p = c.in_ok-rest.ensures in
+    let less : length c.in_ok-rest.rest.now ≤ length c.loop-entries.text.now = shorter c.loop-entries.text.now p.0 c.in_ok-rest.rest.now p.1 in
+    let more : length c.in_ok-rest.rest.now ≡ length (comma ∷ c.in-Some.tail.now) = ap length c.in-Some.ensures in
     omega (arith, less, more)
 
 pub loop-entries-preserved : goal.loop-entries-preserved
 loop-entries-preserved g c =
     let reading = g.T.Entry.reading in
     let shorter = piece_shorter reading c.requires in
-    let read : piece_at reading c.loop-entries.text.now ≡ piece_done c.in_ok-piece.piece (comma ∷ c.in-Some.tail.now) = c.in_ok-piece.ensures ∙ ap (piece_done c.in_ok-piece.piece) c.in-Some.ensures in
-    rw c.in_ok-push_piece.ensures (entries_more reading shorter c.loop-entries.entries.items c.loop-entries.text.now c.in_ok-piece.piece c.in-Some.tail.now (items_of reading c.args.value.now) read c.loop-entries.invariant)
+    let p = c.in_ok-rest.ensures in
+    let read : piece_at reading c.loop-entries.text.now ≡ piece_done p.0 (comma ∷ c.in-Some.tail.now) = p.1 ∙ ap (piece_done p.0) c.in-Some.ensures in
+    rw p.2 (entries_more reading shorter c.loop-entries.entries.items c.loop-entries.text.now p.0 c.in-Some.tail.now (items_of reading c.args.value.now) read c.loop-entries.invariant)
 
 pub returns-in-None : goal.returns-in-None
 returns-in-None g c =
     let reading = g.T.Entry.reading in
     let shorter = piece_shorter reading c.requires in
-    rw c.in_ok-push_piece.ensures (entries_last reading shorter c.loop-entries.entries.items c.loop-entries.text.now c.in_ok-piece.piece c.in_ok-piece.rest.now (items_of reading c.args.value.now) c.in_ok-piece.ensures c.in-None.ensures c.loop-entries.invariant)
+    let p = c.in_ok-rest.ensures in
+    rw p.2 (entries_last reading shorter c.loop-entries.entries.items c.loop-entries.text.now p.0 c.in_ok-rest.rest.now (items_of reading c.args.value.now) p.1 c.in-None.ensures c.loop-entries.invariant)
