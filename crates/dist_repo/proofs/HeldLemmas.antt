@@ -1,5 +1,5 @@
 -- What a builder holds: the held package of a name and an equal version, and what a new package adds.
-use Rattle.std.proofs.Common.{◌≡◌, ◌≢◌, ◌↔◌, ℕ, suc, ◌<◌, Bool, true, false, cond, List, [], ◌∷◌, length, get_or, Some, None, Ordering, Less, Equal, Greater, refl, sym, ap, subst, ◌∙◌, arith, nat_cmp, is_eq}
+use Rattle.std.proofs.Common.{◌≡◌, ◌≢◌, ◌↔◌, ◌⊎◌, ℕ, suc, ◌<◌, Bool, true, false, cond, List, [], ◌∷◌, length, get_or, Some, None, Ordering, Less, Equal, Greater, refl, sym, ap, subst, ◌∙◌, arith, inl, inr, nat_cmp, is_eq}
 use Rattle.std.specs.Prelude.{Contains, IfOk, IsPermutation, Result, Ok, Err}
 use Rattle.std.specs.BTreeMap.{insert_entry, is_at}
 use Rattle.std.specs.Cmp.Lexicographic.{slice_cmp}
@@ -15,11 +15,13 @@ use Rattle.std.proofs.lemmas.Map.{none_passes_from_lookup}
 use Rattle.std.proofs.lemmas.Map.Keys.{Less-from_sorted}
 use Rattle.std.proofs.lemmas.Map.Text.{is_eq-slice_cmp}
 use Rattle.std.proofs.lemmas.Slice.Eq.{bytes_eq-Decides}
+use Rattle.dist_base.specs.ListLaws.{any-cases}
 use Rattle.dist_version.specs.Order.{version_cmp}
 use Rattle.dist_repo.specs.Held.{Held, packages_of, IsHeld, IsClashAt, IsFree}
 use Rattle.dist_repo.specs.Order.{package_cmp, IsInOrder, IsSamePackage}
 use Rattle.dist_repo.specs.Total.{package_total}
 use Rattle.dist_repo.specs.declared.builder.AddError.{AddError}
+use Rattle.dist_repo.specs.declared.builder.AddError.TheVariants.{Clash}
 use Rattle.dist_repo.specs.declared.builder.Added.{Added}
 use Rattle.dist_repo.specs.declared.builder.Added.TheVariants.{New, Same}
 use Rattle.dist_repo.specs.declared.package.Package.{Package}
@@ -87,6 +89,31 @@ free-from_missing held p missing there =
     let passed : is_at (package_cmp p) h.0 ≡ false = subst Passes there.3 (none there.0 h there.2) in
     false≢true (sym passed ∙ ap is_eq (tied-from_same p h.0 (same-back h.0 p there.4)))
 
+-- ---- the held ones that are left, while they are looked through one by one
+
+-- each that is left is held, and where none of them has that name and an equal version, none that is held has
+pub record AreStillHeld (held left : List Held) (p : Package) : Type 0 where
+  pub there : (h : Held) → Contains left h → Contains held h
+  pub free : IsFree left p → IsFree held p
+
+pub left-all : (held : List Held) (p : Package) → AreStillHeld held held p
+left-all held p = record { there = λ h there. there; free = λ free. free }
+
+pub left-head : (held left : List Held) (h : Held) (p : Package) → AreStillHeld held (h ∷ left) p → Contains held h
+left-head held left h p is = is.there h (0, omega arith, refl)
+
+pub left-more : (held left : List Held) (h : Held) (p : Package) → ¬ IsSamePackage h.0 p → AreStillHeld held (h ∷ left) p → AreStillHeld held left p
+left-more held left h p other is = record {
+  there = λ g there. is.there g (contains-later h left g there);
+  free = λ free. is.free (λ any. elim (any-cases (λ (g : Held). IsSamePackage g.0 p) h left any) [
+    | inl here ↦ other here
+    | inr later ↦ free later
+  ]);
+}
+
+pub left-none : (held : List Held) (p : Package) → AreStillHeld held [] p → IsFree held p
+left-none held p is = is.free (λ any. absurd (omega (arith, any.2)))
+
 -- ---- what holds beside a held package of that name and an equal version
 
 abbrev pub IsSorted : List Held → Type 0
@@ -134,13 +161,36 @@ clash-here held q p line kept sorted there same = (
   λ both. (there.0, (q, line), there.1, there.2, (same, both.0, both.1)),
 )
 
+-- what a package is told beside the held one
+abbrev Told : Type 0
+Told = Result Added AddError
+
+pub told-same : (held : List Held) (q p : Package) (kept : ℕ) (told : Told) → AreInOrder held → Contains held (q, kept) → IsSamePackage q p → (told ≡ Ok Same) ↔ (q ≡ p) → (told ≡ Ok Same) ↔ IsHeld held p
+told-same held q p kept told ordered there same is =
+    let here = held-here held q p kept ordered there same in
+    ((λ e. here.1 (is.0 e)), λ any. is.1 (here.0 any))
+
+pub told-clash : (held : List Held) (q p : Package) (kept line : ℕ) (told : Told) → AreInOrder held → Contains held (q, kept) → IsSamePackage q p → (told ≡ Ok Same) ↔ (q ≡ p) → (told ≡ Ok Same) ⊎ (told ≡ Err (Clash kept p))
+    → (told ≡ Err (Clash line p)) ↔ IsClashAt held p line
+told-clash held q p kept line told ordered there same is either =
+    let here = clash-here held q p kept line ordered there same in (
+      (λ e. elim either [
+        | inl ok ↦ cc
+        | inr clash ↦ let at : kept ≡ line = cc in here.1 ((λ equal. let ok = is.1 equal in cc), at)
+      ]),
+      λ any.
+          let both = here.0 any in
+          let error : ℕ → Told = λ k. Err (Clash k p) in
+          elim either [
+            | inl ok ↦ absurd (both.0 (is.0 ok))
+            | inr clash ↦ clash ∙ ap error both.1
+          ],
+    )
+
 pub free-not_held : (held : List Held) (p : Package) → IsFree held p → ¬ IsHeld held p
 free-not_held held p free there =
     let h : Held = there.1 in
     free (there.0, h, there.2, there.3, subst (λ (x : Package). IsSamePackage x p) (sym there.4) (itself p))
-
-pub free-no_clash : (held : List Held) (p : Package) (kept : ℕ) → IsFree held p → ¬ IsClashAt held p kept
-free-no_clash held p kept free there = free (there.0, there.1, there.2, there.3, there.4.0)
 
 -- ---- a new entry is added to those before
 

@@ -1,9 +1,10 @@
 //! A repository in the making: packages come in any order, and each is held once.
-ghost use Rattle.std.specs.Prelude.{◌≡◌, ◌≢◌, ◌+◌, ◌<◌, ◌≤◌, ◌↔◌, ℕ, [], ◌∷◌, length, Ok, Err, IfOk, IfErr, OnErr, IsPermutation, MatchOption, Contains};
+ghost use Rattle.std.specs.Prelude.{◌≡◌, ◌≢◌, ◌+◌, ◌<◌, ◌≤◌, ◌↔◌, ◌⊎◌, ℕ, [], ◌∷◌, length, Ok, Err, IfOk, IfErr, OnErr, IsPermutation, MatchOption, Contains};
 ghost use Rattle.dist_repo.specs.Held.{IsClashAt, IsFree, IsHeld, packages_of, returned_package};
 ghost use Rattle.dist_repo.specs.Order.{IsInOrder, IsSamePackage};
 
 use crate::key::Key;
+use crate::matching::are_same;
 use crate::package::Package;
 use crate::repository::Repository;
 use dist_relation::Name;
@@ -70,6 +71,20 @@ impl Builder {
         }
     }
 
+    /// The same for a package. A key takes memory, so where there is none the held ones are looked through one by one.
+    fn held_without_key(&self, package: &Package) -> Option<(&Package, u64)>
+        ensures found { MatchOption result (IsFree self.now «package».now)
+            (λ h. Contains self.now (h.0.now, h.1) × IsSamePackage h.0.now «package».now) }
+        ensures in_order { IsInOrder (packages_of self.now) }
+    {
+        for (key, line) in self.packages.iter() {
+            if are_same(key.package(), package) {
+                return Some((key.package(), *line));
+            }
+        }
+        None
+    }
+
     /// Adds a package that came with a line.
     pub fn add(&mut self, package: Package, line: u64) -> Result<Added, AddError>
         requires { length self.old < 4294967295 }
@@ -85,14 +100,16 @@ impl Builder {
         ensures in_order { IsInOrder (packages_of self.new) }
         ensures one_at_most { length self.new ≤ length self.old + 1 }
     {
-        let key = Key::new(package);
-        if let Some((held, kept)) = self.held(&key) {
-            if held == key.package() {
-                return Ok(Added::Same);
-            }
-            return Err(AddError::Clash(kept, key.into_package()));
+        match Key::new(self.alloc, package) {
+            Ok(key) => match self.held(&key) {
+                Some((held, kept)) => told_beside(held, kept, key.into_package()),
+                None => self.insert(key, line),
+            },
+            Err(refused) => match self.held_without_key(&refused.value) {
+                Some((held, kept)) => told_beside(held, kept, refused.value),
+                None => Err(AddError::NoMemory(refused.value)),
+            },
         }
-        self.insert(key, line)
     }
 
     /// Adds a package of a name and a version that no held one has.
@@ -118,17 +135,25 @@ impl Builder {
         ensures in_order { IsInOrder (packages_of self) }
     {
         let Builder { alloc, packages } = self;
-        let packages = packages_of(alloc, packages)?;
+        let packages = in_order(alloc, packages)?;
         Repository::from_packages(alloc, architecture, packages)
     }
 }
 
+/// What is told of a package where one of its name and an equal version is held, which came with the line `kept`.
+fn told_beside(held: &Package, kept: u64, package: Package) -> Result<Added, AddError>
+    ensures same { (result ≡ Ok Added.Same) ↔ (held.now ≡ «package») }
+    ensures either { (result ≡ Ok Added.Same) ⊎ (result ≡ Err (AddError.Clash kept «package»)) }
+{
+    if *held == package {
+        return Ok(Added::Same);
+    }
+    Err(AddError::Clash(kept, package))
+}
+
 /// The packages of a map, in order.
-fn packages_of(alloc: Global, packages: BTreeMap<Key, u64>) -> Result<Vec<Package>, AllocError>
+fn in_order(alloc: Global, packages: BTreeMap<Key, u64>) -> Result<Vec<Key>, AllocError>
     ensures { IfOk result (λ list. list.items ≡ packages_of packages.entries) }
 {
-    packages
-        .into_iter()
-        .map(|(key, _)| key.into_package())
-        .collect(alloc)
+    packages.into_keys().collect(alloc)
 }

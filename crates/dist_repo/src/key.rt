@@ -1,10 +1,11 @@
-//! Packages as keys of an ordered map: by the bytes of their names, and then by version.
-ghost use Rattle.std.specs.Prelude.{◌≡◌};
+//! Packages as keys of an ordered map, and in order: by the bytes of their names, and then by version.
+ghost use Rattle.std.specs.Prelude.{◌≡◌, IfOk, IfErr};
 ghost use Rattle.dist_repo.specs.Order.{key_cmp};
 
 use crate::package::Package;
 use crate::prefix::prefix_of;
 use dist_version::Version;
+use std::alloc::{AllocError, AllocFailed, Global};
 use std::cmp::Ordering;
 use std::marker::Model;
 
@@ -24,7 +25,8 @@ pub(crate) fn compare(package: &Package, name: &[u8], version: &Version) -> Orde
 pub(crate) struct Key {
     /// The prefix of the package's name, so that packages of different prefixes are compared without their names.
     prefix: u128,
-    package: Package,
+    /// A package is large, and keys move often, so it stays where it is.
+    package: Box<Package>,
 }
 
 impl Model for Key {
@@ -33,19 +35,20 @@ impl Model for Key {
 
     ghost Value = { Package };
 
-    ghost view = { λ key. key.«package» };
+    ghost view = { λ key. key.«package».value };
 
-    ghost invariant = { λ key. IsPrefixOf key.prefix key.«package».name };
+    ghost invariant = { λ key. IsPrefixOf key.prefix key.«package».value.name };
 }
 
 impl Key {
-    pub(crate) fn new(package: Package) -> Key
-        ensures { result ≡ «package» }
+    /// After a refusal the package is given back.
+    pub(crate) fn new(alloc: Global, package: Package) -> Result<Key, AllocFailed<Package>>
+        ensures made { IfOk result (λ key. key ≡ «package») }
+        ensures returned { IfErr result (λ refused. refused.value ≡ «package») }
     {
-        Key {
-            prefix: prefix_of(package.name.bytes()),
-            package,
-        }
+        let prefix = prefix_of(package.name.bytes());
+        let package = Box::new(alloc, package)?;
+        Ok(Key { prefix, package })
     }
 
     pub(crate) fn package(&self) -> &Package
@@ -54,11 +57,29 @@ impl Key {
         &self.package
     }
 
+    /// The package's name.
+    pub(crate) fn name(&self) -> &[u8]
+        ensures { result.now ≡ self.now.name }
+    {
+        self.package.name.bytes()
+    }
+
+    /// The key of a copy of the package.
+    pub(crate) fn try_clone(&self, alloc: Global) -> Result<Key, AllocError>
+        ensures { IfOk result (λ copy. copy ≡ self.now) }
+    {
+        let package = Box::new(alloc, self.package.try_clone()?)?;
+        Ok(Key {
+            prefix: self.prefix,
+            package,
+        })
+    }
+
     pub(crate) fn into_package(self) -> Package
         ensures { result ≡ self }
     {
         let Key { package, .. } = self;
-        package
+        Box::into_inner(package)
     }
 }
 

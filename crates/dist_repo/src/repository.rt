@@ -10,7 +10,7 @@ ghost use Rattle.dist_repo.specs.PackageList.{IsAlternativeAt, IsConflictAt};
 ghost use Rattle.dist_repo.specs.Providers.{AreProviders, IsPackageAt};
 ghost use Rattle.dist_repo.specs.Size.{IsWithinSize};
 
-use crate::key::compare;
+use crate::key::{Key, compare};
 use crate::matching;
 use crate::names::{NameIndex, place_of};
 use crate::package::Package;
@@ -27,7 +27,7 @@ use std::marker::Model;
 #[derive(Drop)]
 pub struct Repository {
     architecture: Option<Name>,
-    packages: Vec<Package>,
+    packages: Vec<Key>,
     /// The names that packages have or provide, and the numbers of the providers of each.
     index: NameIndex,
 }
@@ -48,7 +48,7 @@ impl Repository {
     pub(crate) fn from_packages(
         alloc: Global,
         architecture: Option<Name>,
-        packages: Vec<Package>,
+        packages: Vec<Key>,
     ) -> Result<Repository, AllocError>
         requires in_order { IsInOrder packages.items }
         requires few { length packages.items < 2 ^ 32 }
@@ -75,7 +75,7 @@ impl Repository {
         requires { number < length self.now.packages }
         ensures { slice_get self.now.packages number ≡ Some result.now }
     {
-        &self.packages[number as usize]
+        self.packages[number as usize].package()
     }
 
     /// The architecture of the file, where it has one.
@@ -89,9 +89,9 @@ impl Repository {
     pub fn find(&self, name: &[u8], version: &Version) -> Option<u32>
         ensures { (number : ℕ) → (result ≡ Some number) ↔ IsPackageAt self.now.packages number name.now version.now }
     {
-        let by_key = |package: &Package| -> Ordering
-            ensures { result ≡ key_cmp («package».now.name, «package».now.version) (name.entry.now, version.entry.now) }
-        { compare(package, name, version) };
+        let by_key = |key: &Key| -> Ordering
+            ensures { result ≡ key_cmp (key.now.name, key.now.version) (name.entry.now, version.entry.now) }
+        { compare(key.package(), name, version) };
         match self.packages.as_slice().binary_search_by(by_key) {
             Ok(place) => Some(place as u32),
             Err(_) => None,
@@ -158,7 +158,7 @@ impl Repository {
         ensures { IsTrue result ↔ IsFlat self.now.packages }
     {
         for number in 1..self.packages.len() {
-            if self.packages[number - 1].name.bytes() == self.packages[number].name.bytes() {
+            if self.packages[number - 1].name() == self.packages[number].name() {
                 return false;
             }
         }
@@ -179,14 +179,14 @@ impl Repository {
 }
 
 /// Copies of the last package of each name.
-fn newest_of(alloc: Global, packages: &[Package]) -> Result<Vec<Package>, AllocError>
+fn newest_of(alloc: Global, packages: &[Key]) -> Result<Vec<Key>, AllocError>
     ensures { IfOk result (λ newest. newest.items ≡ last_of_names packages.now) }
 {
     let mut newest = Vec::new(alloc);
     let mut rest = packages;
     while let [first, others @ ..] = rest {
         if is_last_of_name(first, others) {
-            newest.push(first.try_clone()?)?;
+            newest.push(first.try_clone(alloc)?)?;
         }
         rest = others;
     }
@@ -194,11 +194,11 @@ fn newest_of(alloc: Global, packages: &[Package]) -> Result<Vec<Package>, AllocE
 }
 
 /// Whether the packages behind a package begin with another name, or there is none.
-fn is_last_of_name(package: &Package, others: &[Package]) -> bool
-    ensures { result ≡ is_last_of_name «package».now others.now }
+fn is_last_of_name(key: &Key, others: &[Key]) -> bool
+    ensures { result ≡ is_last_of_name key.now others.now }
 {
     match others {
-        [next, ..] => package.name.bytes() != next.name.bytes(),
+        [next, ..] => key.name() != next.name(),
         [] => true,
     }
 }

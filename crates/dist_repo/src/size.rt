@@ -3,6 +3,7 @@ ghost use Rattle.std.specs.Prelude.{◌≤◌, ◌↔◌, IsTrue, length, sum_by
 ghost use Rattle.dist_base.specs.declared.TheConstants.{MAX_RELATIONS};
 ghost use Rattle.dist_repo.specs.Size.{relations_of, relation_count, Leaves};
 
+use crate::key::Key;
 use crate::package::Package;
 use dist_base::MAX_RELATIONS;
 use dist_relation::Items;
@@ -32,12 +33,12 @@ fn beside_package(limit: usize, package: &Package) -> Option<usize>
 }
 
 /// Whether packages have together at most the stated number of atoms and entries.
-pub(crate) fn has_few_relations(packages: &[Package]) -> bool
+pub(crate) fn has_few_relations(packages: &[Key]) -> bool
     ensures { IsTrue result ↔ (relation_count packages.now ≤ MAX_RELATIONS) }
 {
     let mut left = MAX_RELATIONS as usize;
-    for package in packages {
-        match beside_package(left, package) {
+    for key in packages {
+        match beside_package(left, key.package()) {
             Some(rest) => left = rest,
             None => return false,
         }

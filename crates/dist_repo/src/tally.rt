@@ -7,6 +7,7 @@ ghost use Rattle.std.specs.Ordering.{nat_cmp};
 ghost use Rattle.dist_repo.specs.Providers.{IsProvider};
 ghost use Rattle.dist_repo.specs.Tally.{numbers_at, EndsWith, IsTallyOf, Notes, NotesEach, NotesNumber};
 
+use crate::key::Key;
 use crate::matching::is_usable;
 use crate::names::NameIndex;
 use crate::package::Package;
@@ -249,14 +250,14 @@ impl<'a> Tally<'a> {
 pub(crate) fn tally_of<'a>(
     alloc: Global,
     architecture: &Option<Name>,
-    packages: &'a [Package],
+    packages: &'a [Key],
 ) -> Result<Tally<'a>, AllocError>
     requires { length packages.now < 2 ^ 32 }
     ensures { IfOk result (IsTallyOf architecture.now packages.now) }
 {
     let mut tally = Tally::new(alloc);
-    for (number, package) in packages.iter().enumerate() {
-        tally.note_package(architecture, package, number as u32)?;
+    for (number, key) in packages.iter().enumerate() {
+        tally.note_package(architecture, key.package(), number as u32)?;
     }
     Ok(tally)
 }

@@ -4,5 +4,5 @@ use Rattle.dist_repo.specs.Size.{relation_count}
 use Rattle.dist_repo.proofs.size.has_few_relations.Given as goal
 
 -- the packages so far were taken off
-abbrev pub invariant-loop-package : goal.invariant-loop-package
-invariant-loop-package l = l.left + relation_count (take l.package-index l.packages) ≡ MAX_RELATIONS
+abbrev pub invariant-loop-key : goal.invariant-loop-key
+invariant-loop-key l = l.left + relation_count (take l.key-index l.packages) ≡ MAX_RELATIONS

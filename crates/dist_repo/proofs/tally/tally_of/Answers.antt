@@ -1,5 +1,8 @@
 use Rattle.std.proofs.Common.{ℕ, List, arith, sym, subst, refl}
 use Rattle.std.proofs.lemmas.Option.{slice_get_read}
+use Rattle.dist_repo.specs.Providers.{IsProvider}
+use Rattle.dist_repo.specs.Tally.{NotesEach}
+use Rattle.dist_repo.specs.declared.package.Package.{Package}
 use Rattle.dist_repo.proofs.NotedLemmas.{IsTallyBelow, tally-none, tally-more, tally-all, below-bound}
 use Rattle.dist_repo.proofs.tally.tally_of.Goals as goal
 
@@ -13,9 +16,10 @@ note_package-requires c = below-bound c.args.architecture.now c.args.packages.no
 
 pub loop-number-preserved : goal.loop-number-preserved
 loop-number-preserved c =
-    let p = c.index-packages-number.result in
+    let p : Package = c.index-packages-number.result in
+    let Noted : Package → Type 0 = λ x. NotesEach c.loop-number.tally c.note_package.new.self (λ q. IsProvider c.args.architecture.now q x) c.loop-number.number in
     tally-more c.args.architecture.now c.args.packages.now c.loop-number.number p c.loop-number.tally c.note_package.new.self
-    (slice_get_read c.args.packages.now _ c.loop-number.number p refl c.loop-number-test.true c.index-packages-number.is) c.loop-number.invariant c.in_ok-note_package.ensures
+    (slice_get_read c.args.packages.now _ c.loop-number.number p refl c.loop-number-test.true c.index-packages-number.is) c.loop-number.invariant (subst Noted c.package.ensures c.in_ok-note_package.ensures)
 
 pub returns : goal.returns
 returns c = tally-all c.args.architecture.now c.args.packages.now c.loop-number.number c.loop-number.tally (omega arith) c.loop-number.invariant

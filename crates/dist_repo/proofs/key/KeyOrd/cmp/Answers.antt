@@ -8,8 +8,8 @@ use Rattle.dist_repo.proofs.key.KeyOrd.cmp.Goals as goal
 
 pub returns-then-is_ne : goal.returns-then-is_ne
 returns-then-is_ne c =
-    let p : Package = c.self.inside.package in
-    let q : Package = c.other.inside.package in
+    let p : Package = c.self.inside.package.value in
+    let q : Package = c.other.inside.package.value in
     let o = c.cmp-by_prefix.result in
     let rest = version_cmp p.version q.version in
     let decided : is_ne o ≡ true = sym c.is_ne.ensures ∙ c.if-is_ne.true in
