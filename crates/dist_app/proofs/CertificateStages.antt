@@ -14,11 +14,18 @@ use Rattle.dist_app.specs.Claims.{claims_status}
 use Rattle.dist_app.specs.Stages.{Then, answered}
 use Rattle.dist_app.specs.declared.status.Status.{Status}
 
-same_answer : (files : Option Files) (status status' : Status) (text text' : List ℕ) → status ≡ status' → text ≡ text' → answered files status text ≡ answered files status' text'
+same_answer : (files : Option Files) (status status' : Status) (text text' : List ℕ) → status ≡ status' → text ≡ text'
+    → answered files status text ≡ answered files status' text'
 same_answer files status status' text text' s t = rw (s, t) refl
 
-pub reported : (files : Option Files) (limits : Limits) (cert : List ℕ) (r : PackageList) (h : Header) (made : List Claim) (status : Status) (text : List ℕ) → IsPresent files cert
-    → OfText (file_bytes files cert) (λ bytes. Answers r limits bytes (Ok (Accepted h made))) → AcceptedMeans r h made → status ≡ claims_status made → text ≡ strong_lines r.packages h made
+pub reported : (files : Option Files) (limits : Limits) (cert : List ℕ) (r : PackageList) (h : Header) (made : List Claim) (status : Status) (text : List ℕ)
+    → IsPresent files cert
+    → OfText (file_bytes files cert) (λ bytes. Answers r limits bytes (Ok (Accepted h made))) → AcceptedMeans r h made → status ≡ claims_status made
+    → text ≡ strong_lines r.packages h made
     → Then (CertificateStage files limits cert r) (Reports files r) (answered files status text)
 reported files limits cert r h made status text present answers means s t =
-    inr ((h, made), record { present = present; answers = answers }, (means, same_answer files status (claims_status made) text (strong_lines r.packages h made) s t))
+    inr (
+      (h, made),
+      record { present = present; answers = answers },
+      (means, same_answer files status (claims_status made) text (strong_lines r.packages h made) s t),
+    )

@@ -44,8 +44,10 @@ not_longer a b limit same within longer = omega (arith, ap length same, within, 
 
 pub text_determined : (files : Files) (name : List ℕ) (limit : ℕ) → IsDetermined (TextStage (Some files) name limit)
 text_determined files name limit (Goes a) (Goes b) f g = ap Goes (same_text a b _ f.bytes g.bytes)
-text_determined files name limit (Goes a) (Ends e) f (longer, is) = absurd (not_longer longer.0 a limit (same_text a longer.0 _ f.bytes longer.1) f.within longer.2)
-text_determined files name limit (Ends e) (Goes b) (longer, is) g = absurd (not_longer longer.0 b limit (same_text b longer.0 _ g.bytes longer.1) g.within longer.2)
+text_determined files name limit (Goes a) (Ends e) f (longer, is) =
+    absurd (not_longer longer.0 a limit (same_text a longer.0 _ f.bytes longer.1) f.within longer.2)
+text_determined files name limit (Ends e) (Goes b) (longer, is) g =
+    absurd (not_longer longer.0 b limit (same_text b longer.0 _ g.bytes longer.1) g.within longer.2)
 text_determined files name limit (Ends e) (Ends other) (longer, is) (longer', is') = ap Ends (is' ∙ sym is)
 
 same_end : (files : Option Files) (error : PackagesError) (e other : Ending) → IsEndOf files error e → IsEndOf files error other → other ≡ e
@@ -82,21 +84,31 @@ list_determined exact files packages text (Ends e) (Ends other) (line, bad, is) 
 pub packages_determined : AreExact → (files : Files) (limits : Limits) (name : List ℕ) → IsDetermined (PackagesStage (Some files) limits name)
 packages_determined exact files limits name (Goes a) (Goes b) (t, f, g) (u, h, k) =
     let same : u ≡ t = same_value u t (text_determined files name limits.bytes (Goes t) (Goes u) f h) in
-    repository_determined exact (Some files) limits.stanzas t (Goes a) (Goes b) g (subst (λ (x : List ℕ). RepositoryStage (Some files) limits.stanzas x (Goes b)) same k)
-packages_determined exact files limits name (Goes a) (Ends e) (t, f, g) (inl k) = absurd (apart e t (text_determined files name limits.bytes (Goes t) (Ends e) f k))
+    repository_determined exact (Some files) limits.stanzas t (Goes a) (Goes b) g
+    (subst (λ (x : List ℕ). RepositoryStage (Some files) limits.stanzas x (Goes b)) same k)
+packages_determined exact files limits name (Goes a) (Ends e) (t, f, g) (inl k) =
+    absurd (apart e t (text_determined files name limits.bytes (Goes t) (Ends e) f k))
 packages_determined exact files limits name (Goes a) (Ends e) (t, f, g) (inr (u, h, k)) =
     let same : u ≡ t = same_value u t (text_determined files name limits.bytes (Goes t) (Goes u) f h) in
-    absurd (apart e a (repository_determined exact (Some files) limits.stanzas t (Goes a) (Ends e) g (subst (λ (x : List ℕ). RepositoryStage (Some files) limits.stanzas x (Ends e)) same k)))
-packages_determined exact files limits name (Ends e) (Goes b) (inl g) (u, h, k) = absurd (apart e u (sym (text_determined files name limits.bytes (Ends e) (Goes u) g h)))
+    absurd (apart e a (repository_determined exact (Some files) limits.stanzas t (Goes a) (Ends e) g
+    (subst (λ (x : List ℕ). RepositoryStage (Some files) limits.stanzas x (Ends e)) same k)))
+packages_determined exact files limits name (Ends e) (Goes b) (inl g) (u, h, k) =
+    absurd (apart e u (sym (text_determined files name limits.bytes (Ends e) (Goes u) g h)))
 packages_determined exact files limits name (Ends e) (Goes b) (inr (t, f, g)) (u, h, k) =
     let same : u ≡ t = same_value u t (text_determined files name limits.bytes (Goes t) (Goes u) f h) in
-    absurd (apart e b (sym (repository_determined exact (Some files) limits.stanzas t (Ends e) (Goes b) g (subst (λ (x : List ℕ). RepositoryStage (Some files) limits.stanzas x (Goes b)) same k))))
-packages_determined exact files limits name (Ends e) (Ends o) (inl g) (inl k) = ap Ends (same_ending o e (text_determined files name limits.bytes (Ends e) (Ends o) g k))
-packages_determined exact files limits name (Ends e) (Ends o) (inl g) (inr (u, h, k)) = absurd (apart e u (sym (text_determined files name limits.bytes (Ends e) (Goes u) g h)))
-packages_determined exact files limits name (Ends e) (Ends o) (inr (t, f, g)) (inl k) = absurd (apart o t (text_determined files name limits.bytes (Goes t) (Ends o) f k))
+    absurd
+    (apart e b (sym (repository_determined exact (Some files) limits.stanzas t (Ends e) (Goes b) g
+    (subst (λ (x : List ℕ). RepositoryStage (Some files) limits.stanzas x (Goes b)) same k))))
+packages_determined exact files limits name (Ends e) (Ends o) (inl g) (inl k) =
+    ap Ends (same_ending o e (text_determined files name limits.bytes (Ends e) (Ends o) g k))
+packages_determined exact files limits name (Ends e) (Ends o) (inl g) (inr (u, h, k)) =
+    absurd (apart e u (sym (text_determined files name limits.bytes (Ends e) (Goes u) g h)))
+packages_determined exact files limits name (Ends e) (Ends o) (inr (t, f, g)) (inl k) =
+    absurd (apart o t (text_determined files name limits.bytes (Goes t) (Ends o) f k))
 packages_determined exact files limits name (Ends e) (Ends o) (inr (t, f, g)) (inr (u, h, k)) =
     let same : u ≡ t = same_value u t (text_determined files name limits.bytes (Goes t) (Goes u) f h) in
-    repository_determined exact (Some files) limits.stanzas t (Ends e) (Ends o) g (subst (λ (x : List ℕ). RepositoryStage (Some files) limits.stanzas x (Ends o)) same k)
+    repository_determined exact (Some files) limits.stanzas t (Ends e) (Ends o) g
+    (subst (λ (x : List ℕ). RepositoryStage (Some files) limits.stanzas x (Ends o)) same k)
 
 pub clauses_determined : (files : Option Files) (limits : Limits) (essential : Bool) (r : PackageList) → IsDetermined (ClausesStage files limits essential r)
 clauses_determined files limits essential r (Goes a) (Goes b) f g = refl
@@ -117,7 +129,8 @@ strong_excludes exact files limits packages essential Last =
     nothing_excludes (Last r)))
 
 pub archive_determined : AreExact → (files : Option Files) (limits : Limits) (size seed : ℕ) → IsDetermined (ArchiveStage files limits size seed)
-archive_determined exact files limits size seed (Goes a) (Goes b) f g = ap Goes ((exact.packages (generated size seed) limits.stanzas).one_repository a b f.2 g.2)
+archive_determined exact files limits size seed (Goes a) (Goes b) f g =
+    ap Goes ((exact.packages (generated size seed) limits.stanzas).one_repository a b f.2 g.2)
 archive_determined exact files limits size seed (Goes a) (Ends e) f (inl (longer, is)) = absurd (omega (arith, f.0, longer))
 archive_determined exact files limits size seed (Goes a) (Ends e) f (inr (within, many, is)) = absurd (omega (arith, f.1, many))
 archive_determined exact files limits size seed (Ends e) (Goes b) (inl (longer, is)) g = absurd (omega (arith, g.0, longer))
@@ -129,14 +142,17 @@ archive_determined exact files limits size seed (Ends e) (Ends o) (inr (within, 
 
 -- ---- CERT
 
-in_text : (P Q : List ℕ → Type 0) (found : Option (List ℕ)) (Goal : Type 0) → IsSome found → OfText found P → OfText found Q → ((text : List ℕ) → P text → Q text → Goal) → Goal
+in_text : (P Q : List ℕ → Type 0) (found : Option (List ℕ)) (Goal : Type 0) → IsSome found → OfText found P → OfText found Q
+    → ((text : List ℕ) → P text → Q text → Goal) → Goal
 in_text P Q None Goal present first second both = absurd (false≢true present)
 in_text P Q (Some text) Goal present first second both = both text first second
 
-pub one_judgement : HaveOneAnswer → (files : Files) (limits : Limits) (cert : List ℕ) (r : PackageList) (result other : Result Verdict WorkError) → IsInOrder r.packages
+pub one_judgement : HaveOneAnswer → (files : Files) (limits : Limits) (cert : List ℕ) (r : PackageList) (result other : Result Verdict WorkError)
+    → IsInOrder r.packages
     → IsJudged (Some files) limits cert r result → IsJudged (Some files) limits cert r other → IsOfText result → IsOfText other → other ≡ result
 one_judgement one files limits cert r result other order a b of_a of_b =
-    in_text (λ text. Answers r limits text result) (λ text. Answers r limits text other) (file_bytes (Some files) cert) (other ≡ result) a.present a.answers b.answers
+    in_text (λ text. Answers r limits text result) (λ text. Answers r limits text other) (file_bytes (Some files) cert) (other ≡ result) a.present a.answers
+    b.answers
     (λ text first second. one r limits text result other order first second of_a of_b)
 
 pub end_of_text : (files : Option Files) (result : Result Verdict WorkError) (ending : Ending) → IsEndOfCertificate files result ending → IsOfText result
@@ -147,7 +163,8 @@ end_of_text files (Err work.ReadFault) ending end = absurd end
 end_of_text files (Err work.WriteFault) ending end = absurd end
 end_of_text files (Err work.NoMemory) ending end = absurd end
 
-one_end : (files : Option Files) (result : Result Verdict WorkError) (e other : Ending) → IsEndOfCertificate files result e → IsEndOfCertificate files result other → other ≡ e
+one_end : (files : Option Files) (result : Result Verdict WorkError) (e other : Ending) → IsEndOfCertificate files result e
+    → IsEndOfCertificate files result other → other ≡ e
 one_end files (Ok (Accepted h made)) e other is is' = absurd is
 one_end files (Ok (Refused fault)) e other is is' = is' ∙ sym is
 one_end files (Err (work.TooLarge what)) e other is is' = is' ∙ sym is
@@ -162,18 +179,23 @@ accepting a = Ok (Accepted a.0 a.1)
 same_accepted : (a b : Header × List Claim) → accepting b ≡ accepting a → b ≡ a
 same_accepted (h, made) (h', made') is = cc
 
-not_accepted : (files : Option Files) (result : Result Verdict WorkError) (a : Header × List Claim) (e : Ending) → IsEndOfCertificate files result e → result ≡ accepting a → ⊥
+not_accepted : (files : Option Files) (result : Result Verdict WorkError) (a : Header × List Claim) (e : Ending) → IsEndOfCertificate files result e
+    → result ≡ accepting a → ⊥
 not_accepted files result a e end is = subst (λ (x : Result Verdict WorkError). IsEndOfCertificate files x e) is end
 
-pub certificate_determined : HaveOneAnswer → (files : Files) (limits : Limits) (cert : List ℕ) (r : PackageList) → IsInOrder r.packages → IsDetermined (CertificateStage (Some files) limits cert r)
+pub certificate_determined : HaveOneAnswer → (files : Files) (limits : Limits) (cert : List ℕ) (r : PackageList) → IsInOrder r.packages
+    → IsDetermined (CertificateStage (Some files) limits cert r)
 certificate_determined one files limits cert r order (Goes a) (Goes b) f g =
     ap Goes (same_accepted a b (one_judgement one files limits cert r (Ok (Accepted a.0 a.1)) (Ok (Accepted b.0 b.1)) order f g tt tt))
 certificate_determined one files limits cert r order (Goes a) (Ends e) f (result, judged, end) =
-    absurd (not_accepted (Some files) result a e end (one_judgement one files limits cert r (Ok (Accepted a.0 a.1)) result order f judged tt (end_of_text (Some files) result e end)))
+    absurd (not_accepted (Some files) result a e end (one_judgement one files limits cert r (Ok (Accepted a.0 a.1)) result order f judged tt
+    (end_of_text (Some files) result e end)))
 certificate_determined one files limits cert r order (Ends e) (Goes b) (result, judged, end) g =
-    absurd (not_accepted (Some files) result b e end (one_judgement one files limits cert r (Ok (Accepted b.0 b.1)) result order g judged tt (end_of_text (Some files) result e end)))
+    absurd (not_accepted (Some files) result b e end (one_judgement one files limits cert r (Ok (Accepted b.0 b.1)) result order g judged tt
+    (end_of_text (Some files) result e end)))
 certificate_determined one files limits cert r order (Ends e) (Ends o) (result, judged, end) (result', judged', end') =
-    let same = one_judgement one files limits cert r result result' order judged judged' (end_of_text (Some files) result e end) (end_of_text (Some files) result' o end') in
+    let same = one_judgement one files limits cert r result result' order judged judged' (end_of_text (Some files) result e end)
+    (end_of_text (Some files) result' o end') in
     ap Ends (one_end (Some files) result e o end (subst (λ (x : Result Verdict WorkError). IsEndOfCertificate (Some files) x o) same end'))
 
 -- a repository of packages is in order
@@ -182,19 +204,23 @@ in_order files limits name r (text, goes, has) = has.in_order
 
 -- ---- commands
 
-command_excludes : AreExact → (line : CommandLine) (files : Files) (limits : Limits) → Excludes (CommandRefuses line (Some files) limits) (CommandDecides line (Some files) limits)
+command_excludes : AreExact → (line : CommandLine) (files : Files) (limits : Limits)
+    → Excludes (CommandRefuses line (Some files) limits) (CommandDecides line (Some files) limits)
 command_excludes exact (Health packages list) files limits =
     then_excludes (PackagesStage (Some files) limits packages) _ _ (packages_determined exact files limits packages) (λ r goes.
     then_excludes (TextStage (Some files) list limits.bytes) _ _ (text_determined files list limits.bytes) (λ names whole.
     then_excludes (ListStage (Some files) r.packages names) _ _ (list_determined exact (Some files) r.packages names) (λ members has.
     nothing_excludes (Judges (Some files) r members))))
 command_excludes exact (Classes packages) files limits =
-    then_excludes (PackagesStage (Some files) limits packages) _ _ (packages_determined exact files limits packages) (λ r goes. nothing_excludes (TellsClasses (Some files) r))
-command_excludes exact (Strong packages cert essential limit) files limits = strong_excludes exact files limits packages essential (Sweeps (Some files) limits cert essential limit)
+    then_excludes (PackagesStage (Some files) limits packages) _ _ (packages_determined exact files limits packages)
+    (λ r goes. nothing_excludes (TellsClasses (Some files) r))
+command_excludes exact (Strong packages cert essential limit) files limits =
+    strong_excludes exact files limits packages essential (Sweeps (Some files) limits cert essential limit)
 command_excludes exact (Check packages cert) files limits =
     then_excludes (PackagesStage (Some files) limits packages) _ _ (packages_determined exact files limits packages) (λ r goes.
     then_excludes (CertificateStage (Some files) limits cert r) _ _
-    (certificate_determined exact.certificates files limits cert r (in_order (Some files) limits packages r goes)) (λ accepted judged. nothing_excludes (Reports (Some files) r accepted)))
+    (certificate_determined exact.certificates files limits cert r (in_order (Some files) limits packages r goes))
+    (λ accepted judged. nothing_excludes (Reports (Some files) r accepted)))
 command_excludes exact (Try size seed) files limits =
     then_excludes (ArchiveStage (Some files) limits size seed) _ _ (archive_determined exact (Some files) limits size seed) (λ r goes.
     then_excludes (ClausesStage (Some files) limits false r) _ _ (clauses_determined (Some files) limits false r) (λ _ kept.
@@ -206,7 +232,8 @@ given_up_excludes : AreExact → (line : CommandLine) (files : Files) (limits : 
 given_up_excludes exact (Health packages list) files limits end ending refuses given_up = absurd given_up
 given_up_excludes exact (Classes packages) files limits end ending refuses given_up = absurd given_up
 given_up_excludes exact (Strong packages cert essential limit) files limits end ending refuses given_up =
-    strong_excludes exact files limits packages essential (λ r e. Unit {0}) end ending refuses (inr (given_up.repository, given_up.read, inr (tt, given_up.kept refl, tt)))
+    strong_excludes exact files limits packages essential (λ r e. Unit {0}) end ending refuses
+    (inr (given_up.repository, given_up.read, inr (tt, given_up.kept refl, tt)))
 given_up_excludes exact (Check packages cert) files limits end ending refuses given_up = absurd given_up
 given_up_excludes exact (Try size seed) files limits end ending refuses given_up = absurd given_up
 
@@ -216,7 +243,8 @@ one_line line other found is is' = cc
 no_line : (line : CommandLine) (found : Option CommandLine) → found ≡ None → found ≡ Some line → ⊥
 no_line line found none is = cc
 
-pub decides_excludes : AreExact → (words : List (List ℕ)) (files : Files) (limits : Limits) → Excludes (Refuses words (Some files) limits) (Decides words (Some files) limits)
+pub decides_excludes : AreExact → (words : List (List ℕ)) (files : Files) (limits : Limits)
+    → Excludes (Refuses words (Some files) limits) (Decides words (Some files) limits)
 decides_excludes exact words files limits end ending (inl (bad, is)) (inl (bad', is')) = is' ∙ sym is
 decides_excludes exact words files limits end ending (inl (bad, is)) (inr (line, is_line, decides)) = absurd (no_line line (command_of words) bad is_line)
 decides_excludes exact words files limits end ending (inr (line, is_line, refuses)) (inl (bad, is)) = absurd (no_line line (command_of words) bad is_line)
@@ -224,8 +252,10 @@ decides_excludes exact words files limits end ending (inr (line, is_line, refuse
     command_excludes exact line files limits end ending refuses
     (subst (λ (x : CommandLine). CommandDecides x (Some files) limits ending) (one_line line other (command_of words) is_line is_other) decides)
 
-pub fault_excludes : AreExact → (words : List (List ℕ)) (files : Files) (limits : Limits) → Excludes (Refuses words (Some files) limits) (IsRunGivenUp words (Some files) limits refusal.WriteFault)
+pub fault_excludes : AreExact → (words : List (List ℕ)) (files : Files) (limits : Limits)
+    → Excludes (Refuses words (Some files) limits) (IsRunGivenUp words (Some files) limits refusal.WriteFault)
 fault_excludes exact words files limits end ending (inl (bad, is)) (line, is_line, given_up) = absurd (no_line line (command_of words) bad is_line)
 fault_excludes exact words files limits end ending (inr (line, is_line, refuses)) (other, is_other, given_up) =
     given_up_excludes exact line files limits end ending refuses
-    (subst (λ (x : CommandLine). CommandIsGivenUp x (Some files) limits refusal.WriteFault ending) (one_line line other (command_of words) is_line is_other) given_up)
+    (subst (λ (x : CommandLine). CommandIsGivenUp x (Some files) limits refusal.WriteFault ending) (one_line line other (command_of words) is_line is_other)
+    given_up)

@@ -38,14 +38,16 @@ use Rattle.dist_app.specs.declared.refusal.Refusal.{Refusal}
 use Rattle.dist_app.specs.declared.refusal.Refusal.TheVariants as refusal
 use Rattle.dist_app.specs.declared.status.Status.{Status}
 use Rattle.dist_app.specs.declared.status.Status.TheVariants.{Done, WriteFault, NoMemory, TooLarge}
-use Rattle.dist_app.proofs.CommandLaws.{AreExact, one_line, archive_determined, clauses_determined, end_of_text, in_order, list_determined, one_judgement, packages_determined, text_determined}
+use Rattle.dist_app.proofs.CommandLaws.{AreExact, one_line, archive_determined, clauses_determined, end_of_text, in_order, list_determined, one_judgement}
+use Rattle.dist_app.proofs.CommandLaws.{packages_determined, text_determined}
 use Rattle.dist_app.proofs.Headlines.{of_line}
 use Rattle.dist_app.proofs.Refused.{claims_carried_out}
 use Rattle.dist_app.proofs.StageLaws.{then_goes}
 
 -- a set has one health
 abbrev pub HaveOneHealth : Type 0
-HaveOneHealth = (r : PackageList) (essential : Bool) (flags : List Bool) (health other : Judgement) → IsHealth r essential flags health → IsHealth r essential flags other → other ≡ health
+HaveOneHealth = (r : PackageList) (essential : Bool) (flags : List Bool) (health other : Judgement) → IsHealth r essential flags health
+    → IsHealth r essential flags other → other ≡ health
 
 -- a sweep is stopped by a number only where that is below its budget
 abbrev pub BudgetsSuffice : Type 0
@@ -65,7 +67,8 @@ status_from e f is = ap (λ (x : Ending). x.status) is
 -- ---- each command, of files that are told
 
 -- kinds of health apart from a healthy set
-other_kind : (one : HaveOneHealth) (r : PackageList) (members : List Bool) (kind : Judgement) → IsHealth r false members kind → (health.Healthy ≡ kind → ⊥) → ¬ IsHealth r false members health.Healthy
+other_kind : (one : HaveOneHealth) (r : PackageList) (members : List Bool) (kind : Judgement) → IsHealth r false members kind → (health.Healthy ≡ kind → ⊥)
+    → ¬ IsHealth r false members health.Healthy
 other_kind one r members kind is apart healthy = apart (one r false members kind health.Healthy is healthy)
 
 told_set : (one : HaveOneHealth) (r : PackageList) (members : List Bool) (kind : Judgement) (status : Status) (line : List ℕ) → IsHealth r false members kind
@@ -76,24 +79,30 @@ told_set one r members (health.Unmet p place) status line is tells = inr (tells.
 told_set one r members (health.Conflict p q) status line is tells = inr (tells.0, other_kind one r members (health.Conflict p q) is (λ e. cc))
 told_set one r members (health.EssentialMissing p) status line is tells = absurd tells.1
 
-judged_set : (one : HaveOneHealth) (files : Option Files) (r : PackageList) (members : List Bool) (ending : Ending) → Judges files r members ending → IsStatusOfSet r members ending.status
+judged_set : (one : HaveOneHealth) (files : Option Files) (r : PackageList) (members : List Bool) (ending : Ending) → Judges files r members ending
+    → IsStatusOfSet r members ending.status
 judged_set one files r members ending j =
-    subst (λ (s : Status). IsStatusOfSet r members s) (sym (status_from ending (answered files j.status j.line) j.is)) (told_set one r members j.health j.status j.line j.is_health j.tells)
+    subst (λ (s : Status). IsStatusOfSet r members s) (sym (status_from ending (answered files j.status j.line) j.is))
+    (told_set one r members j.health j.status j.line j.is_health j.tells)
 
 health_ends : Laws → (files : Files) (limits : Limits) (packages list : List ℕ) (r : PackageList) (text : List ℕ) (members : List Bool) (ending : Ending)
-    → PackagesStage (Some files) limits packages (Goes r) → TextStage (Some files) list limits.bytes (Goes text) → ListStage (Some files) r.packages text (Goes members)
+    → PackagesStage (Some files) limits packages (Goes r) → TextStage (Some files) list limits.bytes (Goes text)
+    → ListStage (Some files) r.packages text (Goes members)
     → CommandDecides (Health packages list) (Some files) limits ending → IsStatusOfSet r members ending.status
 health_ends laws files limits packages list r text members ending read whole names decides =
     judged_set laws.health (Some files) r members ending
     (then_goes (ListStage (Some files) r.packages text) (Judges (Some files) r) (list_determined laws.texts (Some files) r.packages text) members names ending
-    (then_goes (TextStage (Some files) list limits.bytes) (λ names. Then (ListStage (Some files) r.packages names) (Judges (Some files) r)) (text_determined files list limits.bytes) text whole ending
-    (then_goes (PackagesStage (Some files) limits packages) (λ x. ListStages (Some files) limits x list (Judges (Some files) x)) (packages_determined laws.texts files limits packages)
+    (then_goes (TextStage (Some files) list limits.bytes) (λ names. Then (ListStage (Some files) r.packages names) (Judges (Some files) r))
+    (text_determined files list limits.bytes) text whole ending
+    (then_goes (PackagesStage (Some files) limits packages) (λ x. ListStages (Some files) limits x list (Judges (Some files) x))
+    (packages_determined laws.texts files limits packages)
     r read ending decides)))
 
 classes_end : Laws → (files : Files) (limits : Limits) (packages : List ℕ) (r : PackageList) (ending : Ending)
     → PackagesStage (Some files) limits packages (Goes r) → CommandDecides (Classes packages) (Some files) limits ending → ending.status ≡ Done
 classes_end laws files limits packages r ending read decides =
-    let tells = then_goes (PackagesStage (Some files) limits packages) (TellsClasses (Some files)) (packages_determined laws.texts files limits packages) r read ending decides in
+    let tells = then_goes (PackagesStage (Some files) limits packages) (TellsClasses (Some files)) (packages_determined laws.texts files limits packages) r read
+    ending decides in
     status_from ending (answered (Some files) Done tells.text) tells.is
 
 -- what a sweep leaves
@@ -122,17 +131,21 @@ sweep_comes_to laws files limits cert essential limit r ending (inr stopped) =
 
 strong_ends : Laws → (files : Files) (limits : Limits) (packages cert : List ℕ) (essential : Bool) (limit : ℕ) (r : PackageList) (ending : Ending)
     → PackagesStage (Some files) limits packages (Goes r) → ClausesStage (Some files) limits essential r (Goes tt)
-    → CommandDecides (Strong packages cert essential limit) (Some files) limits ending → SweepComesTo (Some files) ending.files limits cert essential limit r ending.status
+    → CommandDecides (Strong packages cert essential limit) (Some files) limits ending
+    → SweepComesTo (Some files) ending.files limits cert essential limit r ending.status
 strong_ends laws files limits packages cert essential limit r ending read kept decides =
     sweep_comes_to laws (Some files) limits cert essential limit r ending
-    (then_goes (ClausesStage (Some files) limits essential r) (λ _. Sweeps (Some files) limits cert essential limit r) (clauses_determined (Some files) limits essential r) tt kept ending
-    (then_goes (PackagesStage (Some files) limits packages) (λ x. Then (ClausesStage (Some files) limits essential x) (λ _. Sweeps (Some files) limits cert essential limit x))
+    (then_goes (ClausesStage (Some files) limits essential r) (λ _. Sweeps (Some files) limits cert essential limit r)
+    (clauses_determined (Some files) limits essential r) tt kept ending
+    (then_goes (PackagesStage (Some files) limits packages)
+    (λ x. Then (ClausesStage (Some files) limits essential x) (λ _. Sweeps (Some files) limits cert essential limit x))
     (packages_determined laws.texts files limits packages) r read ending decides))
 
 abbrev TrialComesTo : Limits → PackageList → Status → Type 0
 TrialComesTo limits r status = IsCarriedOut status ⊎ ((text : List ℕ) × StopsBelowBudget r false DEFAULT_LIMIT limits status text)
 
-trial_comes_to : Laws → (files : Option Files) (limits : Limits) (size : ℕ) (r : PackageList) (ending : Ending) → Tries files limits size r ending → TrialComesTo limits r ending.status
+trial_comes_to : Laws → (files : Option Files) (limits : Limits) (size : ℕ) (r : PackageList) (ending : Ending) → Tries files limits size r ending
+    → TrialComesTo limits r ending.status
 trial_comes_to laws files limits size r ending (inl tried) = inl (carried_claims ending.status tried.made (ap (λ (x : Ending). x.status) tried.is))
 trial_comes_to laws files limits size r ending (inr stopped) =
     inr (
@@ -151,7 +164,8 @@ trial_ends : Laws → (files : Option Files) (limits : Limits) (size seed : ℕ)
 trial_ends laws files limits size seed r ending made kept decides =
     trial_comes_to laws files limits size r ending
     (then_goes (ClausesStage files limits false r) (λ _. Tries files limits size r) (clauses_determined files limits false r) tt kept ending
-    (then_goes (ArchiveStage files limits size seed) (λ x. Then (ClausesStage files limits false x) (λ _. Tries files limits size x)) (archive_determined laws.texts files limits size seed) r made ending decides))
+    (then_goes (ArchiveStage files limits size seed) (λ x. Then (ClausesStage files limits false x) (λ _. Tries files limits size x))
+    (archive_determined laws.texts files limits size seed) r made ending decides))
 
 -- the one answer of CERT
 abbrev CheckComesTo : Option Files → Limits → (cert : List ℕ) → PackageList → Status → Type 0
@@ -159,7 +173,8 @@ CheckComesTo files limits cert r status =
     (answer : Result Verdict WorkError) × IsOfText answer × IsJudged files limits cert r answer × (status ≡ verdict_status answer)
     × ((other : Result Verdict WorkError) → IsOfText other → IsJudged files limits cert r other → other ≡ answer)
 
-end_status : (files : Option Files) (answer : Result Verdict WorkError) (ending : Ending) → IsEndOfCertificate files answer ending → ending.status ≡ verdict_status answer
+end_status : (files : Option Files) (answer : Result Verdict WorkError) (ending : Ending) → IsEndOfCertificate files answer ending
+    → ending.status ≡ verdict_status answer
 end_status files (Ok (verdict.Accepted h made)) ending end = absurd end
 end_status files (Ok (verdict.Refused fault)) ending is = ap (λ (x : Ending). x.status) is
 end_status files (Err (work.TooLarge what)) ending is = ap (λ (x : Ending). x.status) is
@@ -167,7 +182,8 @@ end_status files (Err work.ReadFault) ending end = absurd end
 end_status files (Err work.WriteFault) ending end = absurd end
 end_status files (Err work.NoMemory) ending end = absurd end
 
-check_comes_to : Laws → (files : Files) (limits : Limits) (packages cert : List ℕ) (r : PackageList) (ending : Ending) → PackagesStage (Some files) limits packages (Goes r)
+check_comes_to : Laws → (files : Files) (limits : Limits) (packages cert : List ℕ) (r : PackageList) (ending : Ending)
+    → PackagesStage (Some files) limits packages (Goes r)
     → Then (CertificateStage (Some files) limits cert r) (Reports (Some files) r) ending → CheckComesTo (Some files) limits cert r ending.status
 check_comes_to laws files limits packages cert r ending read (inl (answer, judged, end)) = (
   answer,
@@ -186,11 +202,13 @@ check_comes_to laws files limits packages cert r ending read (inr (accepted, jud
       (in_order (Some files) limits packages r read) judged judged' tt of_other,
 )
 
-check_ends : Laws → (files : Files) (limits : Limits) (packages cert : List ℕ) (r : PackageList) (ending : Ending) → PackagesStage (Some files) limits packages (Goes r)
+check_ends : Laws → (files : Files) (limits : Limits) (packages cert : List ℕ) (r : PackageList) (ending : Ending)
+    → PackagesStage (Some files) limits packages (Goes r)
     → CommandDecides (Check packages cert) (Some files) limits ending → CheckComesTo (Some files) limits cert r ending.status
 check_ends laws files limits packages cert r ending read decides =
     check_comes_to laws files limits packages cert r ending read
-    (then_goes (PackagesStage (Some files) limits packages) (λ x. Then (CertificateStage (Some files) limits cert x) (Reports (Some files) x)) (packages_determined laws.texts files limits packages)
+    (then_goes (PackagesStage (Some files) limits packages) (λ x. Then (CertificateStage (Some files) limits cert x) (Reports (Some files) x))
+    (packages_determined laws.texts files limits packages)
     r read ending decides)
 
 -- ---- all
@@ -199,7 +217,8 @@ check_ends laws files limits packages cert r ending read decides =
 module _ (laws : Laws) (words : List (List ℕ)) (limits : Limits) (files : Files) (ending : Ending) (decides : Decides words (Some files) limits ending) where
   pub decided_completes : Completes words limits ending.status (Some files) ending.files
   decided_completes = record {
-    health = λ packages list r text members is read whole names. inr (health_ends laws files limits packages list r text members ending read whole names (of (Health packages list) is));
+    health = λ packages list r text members is read whole names. inr
+        (health_ends laws files limits packages list r text members ending read whole names (of (Health packages list) is));
     classes = λ packages r is read. inr (classes_end laws files limits packages r ending read (of (Classes packages) is));
     strong = λ packages cert essential limit r is read kept.
         inr (strong_ends laws files limits packages cert essential limit r ending read kept (of (Strong packages cert essential limit) is));
@@ -210,7 +229,8 @@ module _ (laws : Laws) (words : List (List ℕ)) (limits : Limits) (files : File
       of line is = of_line words (Some files) limits line ending is decides
 
 -- want of memory leaves all open
-stored_out : (words : List (List ℕ)) (limits : Limits) (result : Status) (files left : Option Files) → result ≡ NoMemory → Completes words limits result files left
+stored_out : (words : List (List ℕ)) (limits : Limits) (result : Status) (files left : Option Files) → result ≡ NoMemory
+    → Completes words limits result files left
 stored_out words limits result files left memory = record {
   health = λ packages list r text members is read whole names. inl memory;
   classes = λ packages r is read. inl memory;
@@ -227,7 +247,8 @@ module _ (laws : Laws) (words : List (List ℕ)) (limits : Limits) (result : Sta
         | inr memory ↦ stored_out words limits result desk.files desk'.files memory
       ]
     where
-      decided : (files : Files) (told : Option Files) → told ≡ Some files → Decides words told limits runs.ending → Completes words limits result told desk'.files
+      decided : (files : Files) (told : Option Files) → told ≡ Some files → Decides words told limits runs.ending
+          → Completes words limits result told desk'.files
       decided files told is decides =
           subst (λ (t : Option Files). Completes words limits result t desk'.files) (sym is)
           (subst (λ (left : Option Files). Completes words limits result (Some files) left) (sym runs.ends.files)
@@ -247,7 +268,8 @@ module _ (laws : Laws) (words : List (List ℕ)) (limits : Limits) (result : Sta
 
     trial_status : Comes words desk.files limits runs.ending → (result ≡ NoMemory) ⊎ TrialComesTo limits r result
     trial_status (inl decides) =
-        inr (subst (TrialComesTo limits r) (sym runs.ends.status) (trial_ends laws desk.files limits size seed r runs.ending made kept (of_line words desk.files limits (Try size seed) runs.ending is_line decides)))
+        inr (subst (TrialComesTo limits r) (sym runs.ends.status)
+        (trial_ends laws desk.files limits size seed r runs.ending made kept (of_line words desk.files limits (Try size seed) runs.ending is_line decides)))
     trial_status (inr (inl (line, is, of_files, end))) = absurd (of_files (subst IsApart (sym (is_try line is)) tt))
     trial_status (inr (inr (inl end))) = inl (runs.ends.status ∙ ap (λ (e : Ending). e.status) end)
     trial_status (inr (inr (inr (inl (inl given_up))))) = absurd (not_given_up refusal.WriteFault runs.ending given_up)

@@ -36,15 +36,18 @@ err_more (Ok value) P Q more has = tt
 err_more (Err error) P Q more has = more error has
 
 -- what a command was given up for, where it only read
-pub due_stops : (line : CommandLine) (limits : Limits) (Part : Ending → Type 0) (old new : DeskView) (why : Refusal) → ((ending : Ending) → Part ending → CommandDecides line old.files limits ending)
+pub due_stops : (line : CommandLine) (limits : Limits) (Part : Ending → Type 0) (old new : DeskView) (why : Refusal)
+    → ((ending : Ending) → Part ending → CommandDecides line old.files limits ending)
     → ¬ IsApart line → OnlyReads old new → IsDue Part old new why → Stops line limits old new why
 due_stops line limits Part old new why more of_files reads (inl (is, rose)) = inr (inl (is, of_files, reads.files_stay, rose))
 due_stops line limits Part old new why more of_files reads (inr (inl memory)) = inr (inr (inr (memory, inl reads.files_stay)))
 due_stops line limits Part old new why more of_files reads (inr (inr decided)) =
-    inl (subst (λ (files : Option Files). CommandDecides line old.files limits (refused files why)) (sym reads.files_stay) (more (refused old.files why) decided))
+    inl (subst (λ (files : Option Files). CommandDecides line old.files limits (refused files why)) (sym reads.files_stay)
+    (more (refused old.files why) decided))
 
 -- and where it does nothing with the desk
-pub apart_stops : (line : CommandLine) (limits : Limits) (Part : Ending → Type 0) (desk : DeskView) (why : Refusal) → ((ending : Ending) → Part ending → CommandDecides line desk.files limits ending)
+pub apart_stops : (line : CommandLine) (limits : Limits) (Part : Ending → Type 0) (desk : DeskView) (why : Refusal)
+    → ((ending : Ending) → Part ending → CommandDecides line desk.files limits ending)
     → IsPartGivenUp Part desk.files why → Stops line limits desk desk why
 apart_stops line limits Part desk why more (inl memory) = inr (inr (inr (memory, inl refl)))
 apart_stops line limits Part desk why more (inr decided) = inl (more (refused desk.files why) decided)

@@ -70,7 +70,8 @@ module _ (words : List (List ℕ)) (limits : Limits) (desk : DeskView) (out out'
   }
 
   -- memory was wanted, and this end may come
-  wanted : (desk' : DeskView) → Comes words desk.files limits (refused desk'.files refusal.NoMemory) → Grew [] out out' → IsRefused words limits desk desk' out out' refusal.NoMemory
+  wanted : (desk' : DeskView) → Comes words desk.files limits (refused desk'.files refusal.NoMemory) → Grew [] out out'
+      → IsRefused words limits desk desk' out out' refusal.NoMemory
   wanted desk' comes grew = record {
     ending = refused desk'.files refusal.NoMemory;
     comes = comes;
@@ -118,7 +119,8 @@ module _ (words : List (List ℕ)) (limits : Limits) (desk : DeskView) (out out'
       write_fault = λ is. cc;
     }
 
-    unwritten : Rose desk.write_faults desk'.write_faults → CommandIsGivenUp line desk.files limits refusal.WriteFault (refused desk'.files refusal.WriteFault) → Grew [] out out' → Refused refusal.WriteFault
+    unwritten : Rose desk.write_faults desk'.write_faults → CommandIsGivenUp line desk.files limits refusal.WriteFault (refused desk'.files refusal.WriteFault)
+        → Grew [] out out' → Refused refusal.WriteFault
     unwritten rose given_up grew = record {
       ending = refused desk'.files refusal.WriteFault;
       comes = inr (inr (inr (inl (inl (line, is_line, given_up)))));
@@ -137,10 +139,20 @@ module _ (words : List (List ℕ)) (limits : Limits) (desk : DeskView) (out out'
     unfinished : CommandIsGivenUp line desk.files limits refusal.NoMemory (refused desk'.files refusal.NoMemory) → Grew [] out out' → Refused refusal.NoMemory
     unfinished given_up grew = wanted desk' (inr (inr (inr (inl (inr (line, is_line, given_up)))))) grew
 
-    untold : (status : Status) (text : List ℕ) → CommandDecides line desk.files limits (answered desk'.files status text) → Grew [] out out' → Refused refusal.NoMemory
+    untold : (status : Status) (text : List ℕ) → CommandDecides line desk.files limits (answered desk'.files status text) → Grew [] out out'
+        → Refused refusal.NoMemory
     untold status text decides grew =
         wanted desk'
-        (inr (inr (inr (inr (inr (record { decided = answered desk'.files status text; decides = inr (line, is_line, decides); answers = refl; front = no_front text; is = refl }))))))
+        (inr
+        (inr
+        (inr
+        (inr (inr (record {
+          decided = answered desk'.files status text;
+          decides = inr (line, is_line, decides);
+          answers = refl;
+          front = no_front text;
+          is = refl;
+        }))))))
         grew
 
     pub refused_command : (r : Refusal) → Stops line limits desk desk' r → Grew [] out out' → Refused r
@@ -151,7 +163,8 @@ module _ (words : List (List ℕ)) (limits : Limits) (desk : DeskView) (out out'
     refused_command r (inr (inr (inr (is, inr (inl given_up))))) grew = subst Refused (sym is) (unfinished given_up grew)
     refused_command r (inr (inr (inr (is, inr (inr (status, text, decides)))))) grew = subst Refused (sym is) (untold status text decides grew)
 
-    answered_command : (status : Status) (text : List ℕ) → CommandDecides line desk.files limits (answered desk'.files status text) → Grew text out out' → IsAnswered words limits desk desk' out out' status
+    answered_command : (status : Status) (text : List ℕ) → CommandDecides line desk.files limits (answered desk'.files status text) → Grew text out out'
+        → IsAnswered words limits desk desk' out out' status
     answered_command status text decides grew = record {
       ending = answered desk'.files status text;
       decides = inr (line, is_line, decides);
@@ -162,7 +175,8 @@ module _ (words : List (List ℕ)) (limits : Limits) (desk : DeskView) (out out'
     }
 
     -- a front of the text of an answer was printed
-    cut_short : (why : Refusal) (status : Status) (text : List ℕ) → CommandDecides line desk.files limits (answered desk'.files status text) → (front : GrewByFront text out out')
+    cut_short : (why : Refusal) (status : Status) (text : List ℕ) → CommandDecides line desk.files limits (answered desk'.files status text)
+        → (front : GrewByFront text out out')
         → IsCutShort words desk.files limits why (record { status = status_of why; out = front.front; err = refusal_text why; files = desk'.files })
     cut_short why status text decides front = record {
       decided = answered desk'.files status text;
@@ -172,7 +186,8 @@ module _ (words : List (List ℕ)) (limits : Limits) (desk : DeskView) (out out'
       is = refl;
     }
 
-    cut_command : (status : Status) (text : List ℕ) (error : WorkError) → CommandDecides line desk.files limits (answered desk'.files status text) → GrewByFront text out out' → WriteCause error out out'
+    cut_command : (status : Status) (text : List ℕ) (error : WorkError) → CommandDecides line desk.files limits (answered desk'.files status text)
+        → GrewByFront text out out' → WriteCause error out out'
         → Refused (refusal_of error)
     cut_command status text work.ReadFault decides front cause = absurd cause
     cut_command status text (work.TooLarge limit) decides front cause = absurd cause
@@ -200,7 +215,8 @@ module _ (words : List (List ℕ)) (limits : Limits) (desk : DeskView) (out out'
     }
 
     -- the text of an answer was written, or a front of it
-    pub printed_command : (status : Status) (text : List ℕ) (result : Result Status Refusal) → CommandDecides line desk.files limits (answered desk'.files status text) → Prints status text result out out'
+    pub printed_command : (status : Status) (text : List ℕ) (result : Result Status Refusal)
+        → CommandDecides line desk.files limits (answered desk'.files status text) → Prints status text result out out'
         → MatchResult result (IsAnswered words limits desk desk' out out') Refused
     printed_command status text (Ok printed) decides (same, grew) =
         subst (IsAnswered words limits desk desk' out out') (sym same) (answered_command status text decides grew)

@@ -38,7 +38,8 @@ of_line words files limits line ending is (inr (other, is_other, decides)) =
 
 -- ---- `strong`
 
-module _ (hold : ClaimsHold) (limits : Limits) (packages cert : List ℕ) (essential : Bool) (limit : ℕ) (result : Status) (desk desk' : DeskView) (out out' : SinkView) (ending : Ending)
+module _ (hold : ClaimsHold) (limits : Limits) (packages cert : List ℕ) (essential : Bool) (limit : ℕ) (result : Status) (desk desk' : DeskView)
+    (out out' : SinkView) (ending : Ending)
     (status_is : result ≡ ending.status) (carried : IsCarriedOut ending.status) (files : desk'.files ≡ ending.files) (printed : Grew ending.out out out') where
   swept_proves : (r : PackageList) → PackagesStage desk.files limits packages (Goes r) → IsSwept desk.files limits cert essential limit r ending
       → ProvesStrong limits packages cert essential limit result desk desk' out out'
@@ -57,7 +58,8 @@ module _ (hold : ClaimsHold) (limits : Limits) (packages cert : List ℕ) (essen
   pub strong_proves : StrongStages desk.files limits packages essential (Sweeps desk.files limits cert essential limit) ending
       → ProvesStrong limits packages cert essential limit result desk desk' out out'
   strong_proves (inl ends) = absurd (refusal_not_carried_out desk.files ending (packages_refuses desk.files limits packages ending ends) carried)
-  strong_proves (inr (r, goes, inl ends)) = absurd (refusal_not_carried_out desk.files ending (clauses_refuse desk.files limits essential r ending ends) carried)
+  strong_proves (inr (r, goes, inl ends)) = absurd (refusal_not_carried_out desk.files ending (clauses_refuse desk.files limits essential r ending ends)
+      carried)
   strong_proves (inr (r, goes, inr (_, kept, inl swept))) = swept_proves r goes swept
   strong_proves (inr (r, goes, inr (_, kept, inr stopped))) = absurd (subst (λ (e : Ending). IsCarriedOut e.status) stopped.is carried)
 
@@ -66,7 +68,8 @@ module _ (hold : ClaimsHold) (limits : Limits) (packages cert : List ℕ) (essen
 module _ (limits : Limits) (packages cert : List ℕ) (result : Status) (desk desk' : DeskView) (out out' : SinkView) (ending : Ending)
     (status_is : result ≡ ending.status) (carried : IsCarriedOut ending.status) (files : desk'.files ≡ ending.files) (printed : Grew ending.out out out') where
   accepted_proves : (r : PackageList) (accepted : Header × List Claim) → PackagesStage desk.files limits packages (Goes r)
-      → CertificateStage desk.files limits cert r (Goes accepted) → Reports desk.files r accepted ending → ProvesCheck limits packages cert result desk desk' out out'
+      → CertificateStage desk.files limits cert r (Goes accepted) → Reports desk.files r accepted ending
+      → ProvesCheck limits packages cert result desk desk' out out'
   accepted_proves r accepted goes judged (means, is) = record {
     repository = r;
     read = goes;
@@ -90,7 +93,8 @@ module _ (limits : Limits) (packages cert : List ℕ) (result : Status) (desk de
 pub strong_proved : ClaimsHold → (words : List (List ℕ)) (limits : Limits) (result : Status) (desk desk' : DeskView) (out out' : SinkView)
     → IsAnswered words limits desk desk' out out' result → StrongIsProved words limits result desk desk' out out'
 strong_proved hold words limits result desk desk' out out' a packages cert essential limit is carried =
-    strong_proves hold limits packages cert essential limit result desk desk' out out' a.ending a.status_is (subst IsCarriedOut a.status_is carried) a.files a.printed
+    strong_proves hold limits packages cert essential limit result desk desk' out out' a.ending a.status_is (subst IsCarriedOut a.status_is carried) a.files
+    a.printed
     (of_line words desk.files limits (Strong packages cert essential limit) a.ending is a.decides)
 
 pub check_proved : (words : List (List ℕ)) (limits : Limits) (result : Status) (desk desk' : DeskView) (out out' : SinkView)
@@ -100,8 +104,10 @@ check_proved words limits result desk desk' out out' a packages cert is carried 
     (of_line words desk.files limits (Check packages cert) a.ending is a.decides)
 
 -- a refusal proves nothing of either
-pub strong_refused : (words : List (List ℕ)) (limits : Limits) (r : Refusal) (desk desk' : DeskView) (out out' : SinkView) → StrongIsProved words limits (status_of r) desk desk' out out'
+pub strong_refused : (words : List (List ℕ)) (limits : Limits) (r : Refusal) (desk desk' : DeskView) (out out' : SinkView)
+    → StrongIsProved words limits (status_of r) desk desk' out out'
 strong_refused words limits r desk desk' out out' packages cert essential limit is carried = absurd (not_carried_out r carried)
 
-pub check_refused : (words : List (List ℕ)) (limits : Limits) (r : Refusal) (desk desk' : DeskView) (out out' : SinkView) → CheckIsProved words limits (status_of r) desk desk' out out'
+pub check_refused : (words : List (List ℕ)) (limits : Limits) (r : Refusal) (desk desk' : DeskView) (out out' : SinkView)
+    → CheckIsProved words limits (status_of r) desk desk' out out'
 check_refused words limits r desk desk' out out' packages cert is carried = absurd (not_carried_out r carried)

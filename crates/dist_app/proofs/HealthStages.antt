@@ -14,7 +14,8 @@ use Rattle.dist_app.specs.declared.status.Status.{Status}
 use Rattle.dist_app.proofs.Due.{due_more, due_later}
 
 -- a stage that takes the text of a file apart
-pub after_text_goes : {X : Type 0} (Stage : Option Files → List ℕ → Step X → Type 0) (result : Result X Refusal) (files : Option Files) (name : List ℕ) (limit : ℕ)
+pub after_text_goes : {X : Type 0} (Stage : Option Files → List ℕ → Step X → Type 0) (result : Result X Refusal) (files : Option Files) (name : List ℕ)
+    (limit : ℕ)
     (text read : List ℕ) → read ≡ text → TextStage files name limit (Goes text) → IfOk result (λ value. (told : Option Files) → Stage told read (Goes value))
     → IfOk result (λ value. (t : List ℕ) × TextStage files name limit (Goes t) × Stage files t (Goes value))
 after_text_goes Stage (Ok value) files name limit text read same goes has =
@@ -27,7 +28,8 @@ pub after_text_due : {X : Type 0} (Stage : Option Files → List ℕ → Step X 
     → IfErr result (IsDue (Then (TextStage old.files name limit) (λ t ending. Stage old.files t (Ends ending))) old new)
 after_text_due Stage (Ok value) old new name limit text read same goes has = tt
 after_text_due Stage (Err refusal) old new name limit text read same goes has =
-    due_more (λ ending. Stage old.files read (Ends ending)) (Then (TextStage old.files name limit) (λ t ending. Stage old.files t (Ends ending))) old new refusal
+    due_more (λ ending. Stage old.files read (Ends ending)) (Then (TextStage old.files name limit) (λ t ending. Stage old.files t (Ends ending))) old new
+    refusal
     (λ ending decided. inr (read, subst (λ (t : List ℕ). TextStage old.files name limit (Goes t)) (sym same) goes, decided)) (inr (has old.files))
 
 pub list_answers : (files : Option Files) (limits : Limits) (repository : PackageList) (list : List ℕ) (members : List Bool) (ending : Ending)
@@ -54,13 +56,15 @@ list_due limits repository list old new refusal due =
 abbrev pub Rest : Type 1
 Rest = Option Files → PackageList → Ending → Type 0
 
-pub packages_answers : (After : Rest) (old mid : DeskView) (limits : Limits) (packages : List ℕ) (repository : PackageList) (status : Status) (text : List ℕ) → OnlyReads old mid
+pub packages_answers : (After : Rest) (old mid : DeskView) (limits : Limits) (packages : List ℕ) (repository : PackageList) (status : Status) (text : List ℕ)
+    → OnlyReads old mid
     → PackagesStage old.files limits packages (Goes repository) → After mid.files repository (answered mid.files status text)
     → Then (PackagesStage old.files limits packages) (After old.files) (answered old.files status text)
 packages_answers After old mid limits packages repository status text reads read decides =
     inr (repository, read, subst (λ (files : Option Files). After files repository (answered files status text)) reads.files_stay decides)
 
-pub packages_due : (After : Rest) (old mid new : DeskView) (limits : Limits) (packages : List ℕ) (repository : PackageList) (refusal : Refusal) → OnlyReads old mid → OnlyReads mid new
+pub packages_due : (After : Rest) (old mid new : DeskView) (limits : Limits) (packages : List ℕ) (repository : PackageList) (refusal : Refusal)
+    → OnlyReads old mid → OnlyReads mid new
     → PackagesStage old.files limits packages (Goes repository) → IsDue (After mid.files repository) mid new refusal
     → IsDue (Then (PackagesStage old.files limits packages) (After old.files)) old new refusal
 packages_due After old mid new limits packages repository refusal before after read due =
@@ -73,5 +77,6 @@ pub packages_unread : (After : Rest) (old new : DeskView) (limits : Limits) (pac
     → IsDue (λ ending. PackagesStage old.files limits packages (Ends ending)) old new refusal
     → IsDue (Then (PackagesStage old.files limits packages) (After old.files)) old new refusal
 packages_unread After old new limits packages refusal due =
-    due_more (λ ending. PackagesStage old.files limits packages (Ends ending)) (Then (PackagesStage old.files limits packages) (After old.files)) old new refusal
+    due_more (λ ending. PackagesStage old.files limits packages (Ends ending)) (Then (PackagesStage old.files limits packages) (After old.files)) old new
+    refusal
     (λ ending ends. inl ends) due

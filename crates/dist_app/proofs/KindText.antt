@@ -4,7 +4,8 @@ use Rattle.std.proofs.lemmas.List.{append-nil}
 use Rattle.dist_relation.specs.declared.error.RelationError.{RelationError}
 use Rattle.dist_package.specs.declared.error.RelationField.{RelationField}
 use Rattle.dist_package.specs.declared.error.Kind.{Kind}
-use Rattle.dist_package.specs.declared.error.Kind.TheVariants.{NoColon, BadFieldName, OrphanContinuation, DoubleField, NoPackage, BadPackageName, NoVersion, BadVersionText, BadSource, BadArchitecture, TwoArchitectures, Relation, Clash}
+use Rattle.dist_package.specs.declared.error.Kind.TheVariants.{NoColon, BadFieldName, OrphanContinuation, DoubleField, NoPackage, BadPackageName, NoVersion}
+use Rattle.dist_package.specs.declared.error.Kind.TheVariants.{BadVersionText, BadSource, BadArchitecture, TwoArchitectures, Relation, Clash}
 use Rattle.dist_app.specs.FaultText.{field_text, place_of, carried_text}
 
 -- a name in two pieces, and what follows it

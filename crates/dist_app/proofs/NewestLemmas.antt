@@ -20,7 +20,8 @@ newest-spelled r newest is spelled k d short =
 any-holds : {X : Type 0} (P Q : X → Type 0) (R : Type 0) (xs : List X) → All P xs → Any Q xs → ((x : X) → P x → Q x → R) → R
 any-holds P Q R xs all any then = then any.1 (All-contains P xs any.1 all (any.0, any.2, any.3)) any.4
 
-bound-version : (bound : Option Bound) (version : List ℕ) → IfSome bound (λ b. IsVersion b.version) → IsSomeAnd bound (λ b. b.version ≡ version) → IsVersion version
+bound-version : (bound : Option Bound) (version : List ℕ) → IfSome bound (λ b. IsVersion b.version) → IsSomeAnd bound (λ b. b.version ≡ version)
+    → IsVersion version
 bound-version None version spelled is = absurd is
 bound-version (Some bound) version spelled is = subst IsVersion is spelled
 
@@ -30,8 +31,10 @@ spelled-bounds r spelled version on =
     let done : IsSpelledAtom atom → IsVersion version = λ own. bound-version atom.bound version own.1 on.bound in
     elim on.is_atom.there [
       | inl dependency ↦ any-holds IsSpelled (λ p. Any (λ item. Contains item atom) p.depends) (IsVersion version) r.packages spelled dependency (λ p own any.
-          any-holds (λ item. All IsSpelledAtom item) (λ item. Contains item atom) (IsVersion version) p.depends own.depends any (λ item atoms there. done (All-contains IsSpelledAtom item atom atoms there)))
-      | inr conflict ↦ any-holds IsSpelled (λ p. Contains p.conflicts atom) (IsVersion version) r.packages spelled conflict (λ p own there. done (All-contains IsSpelledAtom p.conflicts atom own.conflicts there))
+          any-holds (λ item. All IsSpelledAtom item) (λ item. Contains item atom) (IsVersion version) p.depends own.depends any
+          (λ item atoms there. done (All-contains IsSpelledAtom item atom atoms there)))
+      | inr conflict ↦ any-holds IsSpelled (λ p. Contains p.conflicts atom) (IsVersion version) r.packages spelled conflict
+          (λ p own there. done (All-contains IsSpelledAtom p.conflicts atom own.conflicts there))
     ]
 
 pub some-report : ((text : List ℕ) (limit : ℕ) (r : PackageList) → IsRepositoryOf text limit r → All IsSpelled r.packages)

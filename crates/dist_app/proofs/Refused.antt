@@ -32,7 +32,8 @@ use Rattle.dist_app.specs.Try.{ArchiveStage}
 use Rattle.dist_app.specs.declared.refusal.Refusal.{Refusal}
 use Rattle.dist_app.specs.declared.refusal.Refusal.TheVariants as refusal
 use Rattle.dist_app.specs.declared.status.Status.{Status}
-use Rattle.dist_app.specs.declared.status.Status.TheVariants.{Done, BadWords, BadPackages, CertificateRefused, ReadFault, WriteFault, NoMemory, TooLarge, BadList}
+use Rattle.dist_app.specs.declared.status.Status.TheVariants.{Done, BadWords, BadPackages, CertificateRefused, ReadFault, WriteFault, NoMemory, TooLarge}
+use Rattle.dist_app.specs.declared.status.Status.TheVariants.{BadList}
 
 -- the statuses that the files and the limits may decide
 abbrev pub IsOfFiles : Status → Type 0
@@ -82,18 +83,22 @@ end_refuses files (packages_error.Bad fault) ending is = record { why = refusal.
 end_refuses files packages_error.TooMany ending is = record { why = refusal.TooLarge what.Stanzas; of_files = tt; is = is }
 end_refuses files packages_error.NoMemory ending is = absurd is
 
-pub packages_refuses : (files : Option Files) (limits : Limits) (name : List ℕ) (ending : Ending) → PackagesStage files limits name (Ends ending) → IsRefusal files ending
+pub packages_refuses : (files : Option Files) (limits : Limits) (name : List ℕ) (ending : Ending) → PackagesStage files limits name (Ends ending)
+    → IsRefusal files ending
 packages_refuses files limits name ending (inl ends) = text_refuses files name limits.bytes ending ends
 packages_refuses files limits name ending (inr (text, goes, (error, refuses, is))) = end_refuses files error ending is
 
-list_refuses : (files : Option Files) (packages : List Package) (text : List ℕ) (ending : Ending) → ListStage files packages text (Ends ending) → IsRefusal files ending
+list_refuses : (files : Option Files) (packages : List Package) (text : List ℕ) (ending : Ending) → ListStage files packages text (Ends ending)
+    → IsRefusal files ending
 list_refuses files packages text ending (line, bad, is) = record { why = refusal.BadList line; of_files = tt; is = is }
 
-pub clauses_refuse : (files : Option Files) (limits : Limits) (essential : Bool) (r : PackageList) (ending : Ending) → ClausesStage files limits essential r (Ends ending) → IsRefusal files ending
+pub clauses_refuse : (files : Option Files) (limits : Limits) (essential : Bool) (r : PackageList) (ending : Ending)
+    → ClausesStage files limits essential r (Ends ending) → IsRefusal files ending
 clauses_refuse files limits essential r ending (inl (passes, is)) = record { why = refusal.TooLarge what.Clauses; of_files = tt; is = is }
 clauses_refuse files limits essential r ending (inr (not, passes, is)) = record { why = refusal.TooLarge what.Literals; of_files = tt; is = is }
 
-certificate_end_refuses : (files : Option Files) (result : Result Verdict WorkError) (ending : Ending) → IsEndOfCertificate files result ending → IsRefusal files ending
+certificate_end_refuses : (files : Option Files) (result : Result Verdict WorkError) (ending : Ending) → IsEndOfCertificate files result ending
+    → IsRefusal files ending
 certificate_end_refuses files (Ok (verdict.Accepted h made)) ending end = absurd end
 certificate_end_refuses files (Ok (verdict.Refused fault)) ending is = record { why = refusal.CertificateRefused fault; of_files = tt; is = is }
 certificate_end_refuses files (Err (work.TooLarge limit)) ending is = record { why = refusal.TooLarge limit; of_files = tt; is = is }
@@ -101,16 +106,19 @@ certificate_end_refuses files (Err work.ReadFault) ending end = absurd end
 certificate_end_refuses files (Err work.WriteFault) ending end = absurd end
 certificate_end_refuses files (Err work.NoMemory) ending end = absurd end
 
-pub certificate_refuses : (files : Option Files) (limits : Limits) (cert : List ℕ) (r : PackageList) (ending : Ending) → CertificateStage files limits cert r (Ends ending) → IsRefusal files ending
+pub certificate_refuses : (files : Option Files) (limits : Limits) (cert : List ℕ) (r : PackageList) (ending : Ending)
+    → CertificateStage files limits cert r (Ends ending) → IsRefusal files ending
 certificate_refuses files limits cert r ending (result, judged, end) = certificate_end_refuses files result ending end
 
-archive_refuses : (files : Option Files) (limits : Limits) (size seed : ℕ) (ending : Ending) → ArchiveStage files limits size seed (Ends ending) → IsRefusal files ending
+archive_refuses : (files : Option Files) (limits : Limits) (size seed : ℕ) (ending : Ending) → ArchiveStage files limits size seed (Ends ending)
+    → IsRefusal files ending
 archive_refuses files limits size seed ending (inl (longer, is)) = record { why = refusal.TooLarge what.Bytes; of_files = tt; is = is }
 archive_refuses files limits size seed ending (inr (within, many, is)) = record { why = refusal.TooLarge what.Stanzas; of_files = tt; is = is }
 
 -- ---- commands
 
-command_refuses : (line : CommandLine) (files : Option Files) (limits : Limits) (ending : Ending) → CommandRefuses line files limits ending → IsRefusal files ending
+command_refuses : (line : CommandLine) (files : Option Files) (limits : Limits) (ending : Ending) → CommandRefuses line files limits ending
+    → IsRefusal files ending
 command_refuses (Health packages list) files limits ending (inl p) = packages_refuses files limits packages ending p
 command_refuses (Health packages list) files limits ending (inr (r, goes, inl t)) = text_refuses files list limits.bytes ending t
 command_refuses (Health packages list) files limits ending (inr (r, goes, inr (names, whole, inl l))) = list_refuses files r.packages names ending l
@@ -157,29 +165,37 @@ claims_carried_out made = go (list_any has_mark made) refl
 with_status : (ending other : Ending) → ending ≡ other → IsOfFiles other.status → IsOfFiles ending.status
 with_status ending other is of = subst (λ (e : Ending). IsOfFiles e.status) (sym is) of
 
-pub command_status : (line : CommandLine) (files : Option Files) (limits : Limits) (ending : Ending) → CommandDecides line files limits ending → IsOfFiles ending.status
+pub command_status : (line : CommandLine) (files : Option Files) (limits : Limits) (ending : Ending) → CommandDecides line files limits ending
+    → IsOfFiles ending.status
 command_status (Health packages list) files limits ending (inl p) = refusal_status files ending (packages_refuses files limits packages ending p)
 command_status (Health packages list) files limits ending (inr (r, goes, inl t)) = refusal_status files ending (text_refuses files list limits.bytes ending t)
-command_status (Health packages list) files limits ending (inr (r, goes, inr (names, whole, inl l))) = refusal_status files ending (list_refuses files r.packages names ending l)
+command_status (Health packages list) files limits ending (inr (r, goes, inr (names, whole, inl l))) =
+    refusal_status files ending (list_refuses files r.packages names ending l)
 command_status (Health packages list) files limits ending (inr (r, goes, inr (names, whole, inr (members, has, judges)))) =
     with_status ending (answered files judges.status judges.line) judges.is (told_status r.packages judges.health judges.status judges.line judges.tells)
 command_status (Classes packages) files limits ending (inl p) = refusal_status files ending (packages_refuses files limits packages ending p)
 command_status (Classes packages) files limits ending (inr (r, goes, tells)) = with_status ending (answered files Done tells.text) tells.is tt
-command_status (Strong packages cert essential limit) files limits ending (inl p) = refusal_status files ending (packages_refuses files limits packages ending p)
-command_status (Strong packages cert essential limit) files limits ending (inr (r, goes, inl c)) = refusal_status files ending (clauses_refuse files limits essential r ending c)
-command_status (Strong packages cert essential limit) files limits ending (inr (r, goes, inr (_, kept, inl swept))) = subst (λ (e : Ending). IsOfFiles e.status) (sym swept.is) (claims_of_files swept.made)
-command_status (Strong packages cert essential limit) files limits ending (inr (r, goes, inr (_, kept, inr stopped))) = subst (λ (e : Ending). IsOfFiles e.status) (sym stopped.is) tt
+command_status (Strong packages cert essential limit) files limits ending (inl p) =
+    refusal_status files ending (packages_refuses files limits packages ending p)
+command_status (Strong packages cert essential limit) files limits ending (inr (r, goes, inl c)) =
+    refusal_status files ending (clauses_refuse files limits essential r ending c)
+command_status (Strong packages cert essential limit) files limits ending (inr (r, goes, inr (_, kept, inl swept))) =
+    subst (λ (e : Ending). IsOfFiles e.status) (sym swept.is) (claims_of_files swept.made)
+command_status (Strong packages cert essential limit) files limits ending (inr (r, goes, inr (_, kept, inr stopped))) =
+    subst (λ (e : Ending). IsOfFiles e.status) (sym stopped.is) tt
 command_status (Check packages cert) files limits ending (inl p) = refusal_status files ending (packages_refuses files limits packages ending p)
 command_status (Check packages cert) files limits ending (inr (r, goes, inl c)) = refusal_status files ending (certificate_refuses files limits cert r ending c)
 command_status (Check packages cert) files limits ending (inr (r, goes, inr (accepted, judged, (means, is)))) =
     subst (λ (e : Ending). IsOfFiles e.status) (sym is) (claims_of_files accepted.1)
 command_status (Try size seed) files limits ending (inl a) = refusal_status files ending (archive_refuses files limits size seed ending a)
 command_status (Try size seed) files limits ending (inr (r, goes, inl c)) = refusal_status files ending (clauses_refuse files limits false r ending c)
-command_status (Try size seed) files limits ending (inr (r, goes, inr (_, kept, inl tried))) = subst (λ (e : Ending). IsOfFiles e.status) (sym tried.is) (claims_of_files tried.made)
+command_status (Try size seed) files limits ending (inr (r, goes, inr (_, kept, inl tried))) =
+    subst (λ (e : Ending). IsOfFiles e.status) (sym tried.is) (claims_of_files tried.made)
 command_status (Try size seed) files limits ending (inr (r, goes, inr (_, kept, inr stopped))) = subst (λ (e : Ending). IsOfFiles e.status) (sym stopped.is) tt
 
 -- a command that was given up while it wrote ends with the status of why
-pub given_up_status : (line : CommandLine) (files : Option Files) (limits : Limits) (why : Refusal) (ending : Ending) → CommandIsGivenUp line files limits why ending → ending.status ≡ status_of why
+pub given_up_status : (line : CommandLine) (files : Option Files) (limits : Limits) (why : Refusal) (ending : Ending)
+    → CommandIsGivenUp line files limits why ending → ending.status ≡ status_of why
 given_up_status (Health packages list) files limits why ending given_up = absurd given_up
 given_up_status (Classes packages) files limits why ending given_up = absurd given_up
 given_up_status (Strong packages cert essential limit) files limits why ending given_up = ap (λ (e : Ending). e.status) given_up.is
@@ -189,10 +205,14 @@ given_up_status (Try size seed) files limits why ending given_up = absurd given_
 not_of_files : (status other : Status) → IsOfFiles status → status ≡ other → IsOfFiles other
 not_of_files status other of is = subst IsOfFiles is of
 
-pub not_read_fault : (words : List (List ℕ)) (files : Option Files) (limits : Limits) (ending : Ending) → Decides words files limits ending → ¬ (ending.status ≡ ReadFault)
+pub not_read_fault : (words : List (List ℕ)) (files : Option Files) (limits : Limits) (ending : Ending) → Decides words files limits ending
+    → ¬ (ending.status ≡ ReadFault)
 not_read_fault words files limits ending (inl (bad, is)) status = let e = ap (λ (x : Ending). x.status) is in cc
-not_read_fault words files limits ending (inr (line, is, decides)) status = not_of_files ending.status ReadFault (command_status line files limits ending decides) status
+not_read_fault words files limits ending (inr (line, is, decides)) status =
+    not_of_files ending.status ReadFault (command_status line files limits ending decides) status
 
-pub not_write_fault : (words : List (List ℕ)) (files : Option Files) (limits : Limits) (ending : Ending) → Decides words files limits ending → ¬ (ending.status ≡ WriteFault)
+pub not_write_fault : (words : List (List ℕ)) (files : Option Files) (limits : Limits) (ending : Ending) → Decides words files limits ending
+    → ¬ (ending.status ≡ WriteFault)
 not_write_fault words files limits ending (inl (bad, is)) status = let e = ap (λ (x : Ending). x.status) is in cc
-not_write_fault words files limits ending (inr (line, is, decides)) status = not_of_files ending.status WriteFault (command_status line files limits ending decides) status
+not_write_fault words files limits ending (inr (line, is, decides)) status =
+    not_of_files ending.status WriteFault (command_status line files limits ending decides) status

@@ -22,11 +22,14 @@ use Rattle.dist_app.proofs.CommandLaws.{AreExact, decides_excludes, fault_exclud
 use Rattle.dist_app.proofs.Refused.{IsOfFiles, command_status, given_up_status, not_read_fault, not_write_fault, refuses_told}
 
 -- bad words alone exact their status
-words_of_status : (words : List (List ℕ)) (files : Option Files) (limits : Limits) (ending : Ending) → Decides words files limits ending → ending.status ≡ BadWords → IsBadWords words
+words_of_status : (words : List (List ℕ)) (files : Option Files) (limits : Limits) (ending : Ending) → Decides words files limits ending
+    → ending.status ≡ BadWords → IsBadWords words
 words_of_status words files limits ending (inl (bad, is)) status = bad
-words_of_status words files limits ending (inr (line, is_line, decides)) status = absurd (subst IsOfFiles status (command_status line files limits ending decides))
+words_of_status words files limits ending (inr (line, is_line, decides)) status =
+    absurd (subst IsOfFiles status (command_status line files limits ending decides))
 
-status_of_words : (words : List (List ℕ)) (files : Option Files) (limits : Limits) (ending : Ending) → Decides words files limits ending → IsBadWords words → ending.status ≡ BadWords
+status_of_words : (words : List (List ℕ)) (files : Option Files) (limits : Limits) (ending : Ending) → Decides words files limits ending → IsBadWords words
+    → ending.status ≡ BadWords
 status_of_words words files limits ending (inl (bad, is)) _ = ap (λ (e : Ending). e.status) is
 status_of_words words files limits ending (inr (line, is_line, decides)) bad = absurd (apart (command_of words) is_line bad)
   where
@@ -34,16 +37,21 @@ status_of_words words files limits ending (inr (line, is_line, decides)) bad = a
     apart o e f = cc
 
 -- where the desk tells its files
-told_excludes : (Refuses Decides : Option Files → Ending → Type 0) (desk : DeskView) → TellsFiles desk → ((files : Files) → Excludes (Refuses (Some files)) (Decides (Some files)))
+told_excludes : (Refuses Decides : Option Files → Ending → Type 0) (desk : DeskView) → TellsFiles desk
+    → ((files : Files) → Excludes (Refuses (Some files)) (Decides (Some files)))
     → Excludes (Refuses desk.files) (Decides desk.files)
 told_excludes Refuses Decides desk (files, told) excludes = subst (λ (f : Option Files). Excludes (Refuses f) (Decides f)) (sym told) (excludes files)
 
-alone : AreExact → (words : List (List ℕ)) (desk : DeskView) (limits : Limits) → TellsFiles desk → Excludes (Refuses words desk.files limits) (Decides words desk.files limits)
-alone exact words desk limits tells = told_excludes (λ f. Refuses words f limits) (λ f. Decides words f limits) desk tells (λ files. decides_excludes exact words files limits)
+alone : AreExact → (words : List (List ℕ)) (desk : DeskView) (limits : Limits) → TellsFiles desk
+    → Excludes (Refuses words desk.files limits) (Decides words desk.files limits)
+alone exact words desk limits tells = told_excludes (λ f. Refuses words f limits) (λ f. Decides words f limits) desk tells
+    (λ files. decides_excludes exact words files limits)
 
-alone_of_faults : AreExact → (words : List (List ℕ)) (desk : DeskView) (limits : Limits) → TellsFiles desk → Excludes (Refuses words desk.files limits) (IsRunGivenUp words desk.files limits refusal.WriteFault)
+alone_of_faults : AreExact → (words : List (List ℕ)) (desk : DeskView) (limits : Limits) → TellsFiles desk
+    → Excludes (Refuses words desk.files limits) (IsRunGivenUp words desk.files limits refusal.WriteFault)
 alone_of_faults exact words desk limits tells =
-    told_excludes (λ f. Refuses words f limits) (λ f. IsRunGivenUp words f limits refusal.WriteFault) desk tells (λ files. fault_excludes exact words files limits)
+    told_excludes (λ f. Refuses words f limits) (λ f. IsRunGivenUp words f limits refusal.WriteFault) desk tells
+    (λ files. fault_excludes exact words files limits)
 
 -- an answer, after which nothing is told on `err`
 pub answered_runs : AreExact → (words : List (List ℕ)) (limits : Limits) (status : Status) (desk desk' : DeskView) (out out' err : SinkView)
@@ -94,15 +102,19 @@ interrupted_status : (words : List (List ℕ)) (files : Option Files) (limits : 
     → (ending.status ≡ ReadFault) ⊎ ((ending.status ≡ WriteFault) ⊎ (ending.status ≡ NoMemory))
 interrupted_status words files limits ending (inl (line, is_line, of_files, is)) = inl (ap (λ (e : Ending). e.status) is)
 interrupted_status words files limits ending (inr (inl is)) = inr (inr (ap (λ (e : Ending). e.status) is))
-interrupted_status words files limits ending (inr (inr (inl (inl (line, is, given_up))))) = inr (inl (given_up_status line files limits refusal.WriteFault ending given_up))
-interrupted_status words files limits ending (inr (inr (inl (inr (line, is, given_up))))) = inr (inr (given_up_status line files limits refusal.NoMemory ending given_up))
+interrupted_status words files limits ending (inr (inr (inl (inl (line, is, given_up))))) =
+    inr (inl (given_up_status line files limits refusal.WriteFault ending given_up))
+interrupted_status words files limits ending (inr (inr (inl (inr (line, is, given_up))))) =
+    inr (inr (given_up_status line files limits refusal.NoMemory ending given_up))
 interrupted_status words files limits ending (inr (inr (inr (inl cut)))) = inr (inl (ap (λ (e : Ending). e.status) cut.is))
 interrupted_status words files limits ending (inr (inr (inr (inr cut)))) = inr (inr (ap (λ (e : Ending). e.status) cut.is))
 
 -- A refusal, whose line is told on `err`.
-module _ (exact : AreExact) (words : List (List ℕ)) (limits : Limits) (desk desk' : DeskView) (out out' : SinkView) (r : Refusal) (b : IsRefused words limits desk desk' out out' r) where
+module _ (exact : AreExact) (words : List (List ℕ)) (limits : Limits) (desk desk' : DeskView) (out out' : SinkView) (r : Refusal)
+    (b : IsRefused words limits desk desk' out out' r) where
   -- where nothing was counted, want of memory is the only end that may come at any time
-  unstored_alone : ¬ Rose desk.read_faults desk'.read_faults → ¬ Rose desk.write_faults desk'.write_faults → ¬ Rose out.faults out'.faults → IsInterrupted words desk.files limits b.ending → status_of r ≡ NoMemory
+  unstored_alone : ¬ Rose desk.read_faults desk'.read_faults → ¬ Rose desk.write_faults desk'.write_faults → ¬ Rose out.faults out'.faults
+      → IsInterrupted words desk.files limits b.ending → status_of r ≡ NoMemory
   unstored_alone read written printed interrupted =
       elim (interrupted_status words desk.files limits b.ending interrupted) [
         | inl is ↦ absurd (read (b.read_fault (read_fault_of r (sym b.status ∙ is))))
@@ -128,14 +140,18 @@ module _ (exact : AreExact) (words : List (List ℕ)) (limits : Limits) (desk de
   refusal_comes : Comes words desk.files limits b.ending → TellsFiles desk → ¬ Rose desk.read_faults desk'.read_faults → (end : Ending)
       → Refuses words desk.files limits end → (b.ending ≡ end) ⊎ (status_of r ≡ NoMemory)
   refusal_comes (inl decides) tells read end refuses = inl (alone exact words desk limits tells end b.ending refuses decides)
-  refusal_comes (inr (inl (line, is_line, of_files, is))) tells read end refuses = absurd (read (b.read_fault (read_fault_of r (sym b.status ∙ ap (λ (e : Ending). e.status) is))))
+  refusal_comes (inr (inl (line, is_line, of_files, is))) tells read end refuses =
+      absurd (read (b.read_fault (read_fault_of r (sym b.status ∙ ap (λ (e : Ending). e.status) is))))
   refusal_comes (inr (inr (inl is))) tells read end refuses = inr (sym b.status ∙ ap (λ (e : Ending). e.status) is)
-  refusal_comes (inr (inr (inr (inl (inl given_up))))) tells read end refuses = inl (alone_of_faults exact words desk limits tells end b.ending refuses given_up)
-  refusal_comes (inr (inr (inr (inl (inr (line, is, given_up)))))) tells read end refuses = inr (sym b.status ∙ given_up_status line desk.files limits refusal.NoMemory b.ending given_up)
+  refusal_comes (inr (inr (inr (inl (inl given_up))))) tells read end refuses =
+      inl (alone_of_faults exact words desk limits tells end b.ending refuses given_up)
+  refusal_comes (inr (inr (inr (inl (inr (line, is, given_up)))))) tells read end refuses =
+      inr (sym b.status ∙ given_up_status line desk.files limits refusal.NoMemory b.ending given_up)
   refusal_comes (inr (inr (inr (inr (inl cut))))) tells read end refuses = absurd (no_cut tells end refuses cut)
   refusal_comes (inr (inr (inr (inr (inr cut))))) tells read end refuses = inr (sym b.status ∙ ap (λ (e : Ending). e.status) cut.is)
 
-  answer_comes : Comes words desk.files limits b.ending → ¬ Rose desk.read_faults desk'.read_faults → ¬ Rose desk.write_faults desk'.write_faults → ¬ Rose out.faults out'.faults
+  answer_comes : Comes words desk.files limits b.ending → ¬ Rose desk.read_faults desk'.read_faults → ¬ Rose desk.write_faults desk'.write_faults
+      → ¬ Rose out.faults out'.faults
       → Decides words desk.files limits b.ending ⊎ (status_of r ≡ NoMemory)
   answer_comes (inl decides) read written printed = inl decides
   answer_comes (inr interrupted) read written printed = inr (unstored_alone read written printed interrupted)

@@ -36,11 +36,13 @@ use Rattle.dist_app.specs.declared.status.Status.{Status}
 
 -- the law of the checker
 abbrev pub ClaimsHold : Type 0
-ClaimsHold = (r : PackageList) (limits : Limits) (text : List ℕ) (h : Header) (made : List Claim) → IsInOrder r.packages → IsAccepted r limits text h made → Means h.essential r made
+ClaimsHold = (r : PackageList) (limits : Limits) (text : List ℕ) (h : Header) (made : List Claim) → IsInOrder r.packages → IsAccepted r limits text h made
+    → Means h.essential r made
 
 pub completed_means : ClaimsHold → (r : PackageList) (limits : Limits) (text : List ℕ) (h : Header) (made : List Claim) → IsInOrder r.packages
     → IsCompleted r limits text h made → Means h.essential r made
-completed_means hold r limits text h made in_order done = hold r limits text h made in_order (done.inputs, done.are_inputs, (done.steps, done.accepted, done.claims))
+completed_means hold r limits text h made in_order done =
+    hold r limits text h made in_order (done.inputs, done.are_inputs, (done.steps, done.accepted, done.claims))
 
 pub sweep_means : ClaimsHold → (r : PackageList) (essential : Bool) (limit : ℕ) (limits : Limits) (text : List ℕ) (made : List Claim) → IsInOrder r.packages
     → IsSweep r essential limit limits made text → Means essential r made
@@ -57,10 +59,13 @@ module _ (r : PackageList) (essential : Bool) (limit : ℕ) (limits : Limits) (n
   Exact result = IsExactly work.NoMemory result (work.TooLarge what.Clauses) (PassesClauses r essential limits.clauses limits.literals)
       × IsExactly work.NoMemory result (work.TooLarge what.Literals) (PassesLiterals r essential limits.clauses limits.literals)
 
-  kept : (result : Result (List Claim) WorkError) → Exact result → result ≢ Err work.NoMemory → result ≢ Err (work.TooLarge what.Clauses) → result ≢ Err (work.TooLarge what.Literals) → IsKept
-  kept result (clauses, literals) memory no_clauses no_literals = ((λ passes. no_clauses ((clauses memory).1 passes)), (λ passes. no_literals ((literals memory).1 passes)))
+  kept : (result : Result (List Claim) WorkError) → Exact result → result ≢ Err work.NoMemory → result ≢ Err (work.TooLarge what.Clauses)
+      → result ≢ Err (work.TooLarge what.Literals) → IsKept
+  kept result (clauses, literals) memory no_clauses no_literals =
+      ((λ passes. no_clauses ((clauses memory).1 passes)), (λ passes. no_literals ((literals memory).1 passes)))
 
-  pub claims_of : ClaimsHold → (made : List Claim) → IsInOrder r.packages → SweepAnswers r essential limit limits name old new (Ok made) → AreClaimsOf (length r.packages) made
+  pub claims_of : ClaimsHold → (made : List Claim) → IsInOrder r.packages → SweepAnswers r essential limit limits name old new (Ok made)
+      → AreClaimsOf (length r.packages) made
   claims_of hold made in_order (text, holds, sweep) = (sweep_means hold r essential limit limits text made in_order sweep).are_claims
 
   pub swept : (made : List Claim) (status : Status) (text : List ℕ) → SweepAnswers r essential limit limits name old new (Ok made) → status ≡ claims_status made
@@ -72,7 +77,8 @@ module _ (r : PackageList) (essential : Bool) (limit : ℕ) (limits : Limits) (n
     is = rw (holds.files, status_is, text_is) refl;
   }
 
-  pub unreported : (made : List Claim) → Exact (Ok made) → SweepAnswers r essential limit limits name old new (Ok made) → SweepStops r essential limit limits name old new refusal.NoMemory
+  pub unreported : (made : List Claim) → Exact (Ok made) → SweepAnswers r essential limit limits name old new (Ok made)
+      → SweepStops r essential limit limits name old new refusal.NoMemory
   unreported made exact answers =
       inr (inr (inr (
         refl,
@@ -84,8 +90,10 @@ module _ (r : PackageList) (essential : Bool) (limit : ℕ) (limits : Limits) (n
         ),
       )))
 
-  stopped : (limit_of : What) → Exact (Err (work.TooLarge limit_of)) → (work.TooLarge limit_of ≢ work.TooLarge what.Clauses) → (work.TooLarge limit_of ≢ work.TooLarge what.Literals)
-      → IsStopped old.files limits name essential limit r (refused new.files (refusal.TooLarge limit_of)) → SweepStops r essential limit limits name old new (refusal.TooLarge limit_of)
+  stopped : (limit_of : What) → Exact (Err (work.TooLarge limit_of)) → (work.TooLarge limit_of ≢ work.TooLarge what.Clauses)
+      → (work.TooLarge limit_of ≢ work.TooLarge what.Literals)
+      → IsStopped old.files limits name essential limit r (refused new.files (refusal.TooLarge limit_of))
+      → SweepStops r essential limit limits name old new (refusal.TooLarge limit_of)
   stopped limit_of exact no_clauses no_literals stop =
       inr (inl (kept (Err (work.TooLarge limit_of)) exact (λ e. cc) (λ e. no_clauses (error_is e)) (λ e. no_literals (error_is e)), stop))
     where
@@ -98,16 +106,59 @@ module _ (r : PackageList) (essential : Bool) (limit : ℕ) (limits : Limits) (n
   sweep_refused work.WriteFault exact (rose, leaves) =
       inr (inr (inl (refl, rose, kept (Err work.WriteFault) exact (λ e. cc) (λ e. cc) (λ e. cc), leaves.files)))
   sweep_refused work.NoMemory exact leaves = inr (inr (inr (refl, inl leaves.files)))
-  sweep_refused (work.TooLarge what.Clauses) exact (same, passes) = inl (inl (passes, ap (λ (d : DeskView). refused d.files (refusal.TooLarge what.Clauses)) same))
+  sweep_refused (work.TooLarge what.Clauses) exact (same, passes) =
+      inl (inl (passes, ap (λ (d : DeskView). refused d.files (refusal.TooLarge what.Clauses)) same))
   sweep_refused (work.TooLarge what.Literals) (clauses, literals) (same, passes) =
       inl (inr ((λ p. let bad = (clauses (λ e. cc)).1 p in cc), passes, ap (λ (d : DeskView). refused d.files (refusal.TooLarge what.Literals)) same))
-  sweep_refused (work.TooLarge what.Bytes) exact (text, holds, full) = stopped what.Bytes exact (λ e. cc) (λ e. cc) (record { what = what.Bytes; text = text; full = full; is = ap (λ (f : Option Files). refused f (refusal.TooLarge what.Bytes)) holds.files })
-  sweep_refused (work.TooLarge what.Stanzas) exact (text, holds, full) = stopped what.Stanzas exact (λ e. cc) (λ e. cc) (record { what = what.Stanzas; text = text; full = full; is = ap (λ (f : Option Files). refused f (refusal.TooLarge what.Stanzas)) holds.files })
-  sweep_refused (work.TooLarge what.Variables) exact (text, holds, full) = stopped what.Variables exact (λ e. cc) (λ e. cc) (record { what = what.Variables; text = text; full = full; is = ap (λ (f : Option Files). refused f (refusal.TooLarge what.Variables)) holds.files })
-  sweep_refused (work.TooLarge what.Lines) exact (text, holds, full) = stopped what.Lines exact (λ e. cc) (λ e. cc) (record { what = what.Lines; text = text; full = full; is = ap (λ (f : Option Files). refused f (refusal.TooLarge what.Lines)) holds.files })
-  sweep_refused (work.TooLarge what.LineLiterals) exact (text, holds, full) = stopped what.LineLiterals exact (λ e. cc) (λ e. cc) (record { what = what.LineLiterals; text = text; full = full; is = ap (λ (f : Option Files). refused f (refusal.TooLarge what.LineLiterals)) holds.files })
-  sweep_refused (work.TooLarge what.Certificate) exact (text, holds, full) = stopped what.Certificate exact (λ e. cc) (λ e. cc) (record { what = what.Certificate; text = text; full = full; is = ap (λ (f : Option Files). refused f (refusal.TooLarge what.Certificate)) holds.files })
-  sweep_refused (work.TooLarge what.RecordLine) exact (text, holds, full) = stopped what.RecordLine exact (λ e. cc) (λ e. cc) (record { what = what.RecordLine; text = text; full = full; is = ap (λ (f : Option Files). refused f (refusal.TooLarge what.RecordLine)) holds.files })
+  sweep_refused (work.TooLarge what.Bytes) exact (text, holds, full) =
+      stopped what.Bytes exact (λ e. cc) (λ e. cc) (record {
+        what = what.Bytes;
+        text = text;
+        full = full;
+        is = ap (λ (f : Option Files). refused f (refusal.TooLarge what.Bytes)) holds.files;
+      })
+  sweep_refused (work.TooLarge what.Stanzas) exact (text, holds, full) =
+      stopped what.Stanzas exact (λ e. cc) (λ e. cc) (record {
+        what = what.Stanzas;
+        text = text;
+        full = full;
+        is = ap (λ (f : Option Files). refused f (refusal.TooLarge what.Stanzas)) holds.files;
+      })
+  sweep_refused (work.TooLarge what.Variables) exact (text, holds, full) =
+      stopped what.Variables exact (λ e. cc) (λ e. cc) (record {
+        what = what.Variables;
+        text = text;
+        full = full;
+        is = ap (λ (f : Option Files). refused f (refusal.TooLarge what.Variables)) holds.files;
+      })
+  sweep_refused (work.TooLarge what.Lines) exact (text, holds, full) =
+      stopped what.Lines exact (λ e. cc) (λ e. cc) (record {
+        what = what.Lines;
+        text = text;
+        full = full;
+        is = ap (λ (f : Option Files). refused f (refusal.TooLarge what.Lines)) holds.files;
+      })
+  sweep_refused (work.TooLarge what.LineLiterals) exact (text, holds, full) =
+      stopped what.LineLiterals exact (λ e. cc) (λ e. cc) (record {
+        what = what.LineLiterals;
+        text = text;
+        full = full;
+        is = ap (λ (f : Option Files). refused f (refusal.TooLarge what.LineLiterals)) holds.files;
+      })
+  sweep_refused (work.TooLarge what.Certificate) exact (text, holds, full) =
+      stopped what.Certificate exact (λ e. cc) (λ e. cc) (record {
+        what = what.Certificate;
+        text = text;
+        full = full;
+        is = ap (λ (f : Option Files). refused f (refusal.TooLarge what.Certificate)) holds.files;
+      })
+  sweep_refused (work.TooLarge what.RecordLine) exact (text, holds, full) =
+      stopped what.RecordLine exact (λ e. cc) (λ e. cc) (record {
+        what = what.RecordLine;
+        text = text;
+        full = full;
+        is = ap (λ (f : Option Files). refused f (refusal.TooLarge what.RecordLine)) holds.files;
+      })
 
 -- ---- the command
 
@@ -116,12 +167,23 @@ module _ (packages name : List ℕ) (essential : Bool) (limit : ℕ) (limits : L
   abbrev Line : Ending → Type 0
   Line = CommandDecides (Strong packages name essential limit) old.files limits
 
-  pub strong_answers : (status : Status) (text : List ℕ) → ClausesStage mid.files limits essential r (Goes tt) → IsSwept mid.files limits name essential limit r (answered new.files status text)
+  pub strong_answers : (status : Status) (text : List ℕ) → ClausesStage mid.files limits essential r (Goes tt)
+      → IsSwept mid.files limits name essential limit r (answered new.files status text)
       → Line (answered new.files status text)
   strong_answers status text kept swept =
-      inr (r, read, inr (tt, kept, inl (subst (λ (f : Option Files). IsSwept f limits name essential limit r (answered new.files status text)) reads.files_stay swept)))
+      inr (
+        r,
+        read,
+        inr (
+          tt,
+          kept,
+          inl (subst (λ (f : Option Files). IsSwept f limits name essential limit r (answered new.files status text)) reads.files_stay
+              swept),
+        ),
+      )
 
-  given_up : (why : Refusal) → (why ≡ refusal.WriteFault → ClausesStage old.files limits essential r (Goes tt)) → LeavesCut r essential limit limits name mid.files new.files
+  given_up : (why : Refusal) → (why ≡ refusal.WriteFault → ClausesStage old.files limits essential r (Goes tt))
+      → LeavesCut r essential limit limits name mid.files new.files
       → IsSweepGivenUp old.files limits packages name essential limit why (refused new.files why)
   given_up why kept leaves = record {
     repository = r;
@@ -136,7 +198,17 @@ module _ (packages name : List ℕ) (essential : Bool) (limit : ℕ) (limits : L
   strong_stops why (inl ends) =
       inl (inr (r, read, inl (subst (λ (f : Option Files). ClausesStage f limits essential r (Ends (refused new.files why))) reads.files_stay ends)))
   strong_stops why (inr (inl (kept, stop))) =
-      inl (inr (r, read, inr (tt, kept, inr (subst (λ (f : Option Files). IsStopped f limits name essential limit r (refused new.files why)) reads.files_stay stop))))
+      inl
+      (inr (
+        r,
+        read,
+        inr (
+          tt,
+          kept,
+          inr (subst (λ (f : Option Files). IsStopped f limits name essential limit r (refused new.files why)) reads.files_stay
+              stop),
+        ),
+      ))
   strong_stops why (inr (inr (inl (is, rose, kept, leaves)))) =
       inr (inr (inl (is, subst (λ (n : ℕ). Rose n new.write_faults) reads.write_faults_stay rose, given_up refusal.WriteFault (λ _. kept) leaves)))
   strong_stops why (inr (inr (inr (is, inl leaves)))) =

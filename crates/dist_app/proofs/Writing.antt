@@ -1,5 +1,6 @@
 -- Texts that are written in pieces.
-use Rattle.std.proofs.Common.{◌≡◌, ℕ, zero, ◌≤◌, ◌<◌, suc, inl, inr, List, [], ◌∷◌, ◌++◌, length, take, drop, get_or, refl, ap, sym, ◌∙◌, append_assoc, subst, Bor, Result, Ok, Err, OnOk, OnErr, IfErr, arith}
+use Rattle.std.proofs.Common.{◌≡◌, ℕ, zero, ◌≤◌, ◌<◌, suc, inl, inr, List, [], ◌∷◌, ◌++◌, length, take, drop, get_or, refl, ap, sym, ◌∙◌, append_assoc, subst}
+use Rattle.std.proofs.Common.{Bor, Result, Ok, Err, OnOk, OnErr, IfErr, arith}
 use Rattle.dist_app.specs.Writes.{Writes}
 use Rattle.std.specs.List.{flat_map}
 use Rattle.std.proofs.lemmas.Bool.{cases_lt}
@@ -27,7 +28,8 @@ pub pieces_split : {X : Type 0} (f : X → List ℕ) (xs : List X) (i : ℕ) (d 
     → (flat_map f (take i xs) ++ f (get_or xs i d)) ++ flat_map f (drop (suc i) xs) ≡ flat_map f xs
 pieces_split f [] i d h = absurd (omega arith)
 pieces_split f (x ∷ xs) zero d h = refl
-pieces_split f (x ∷ xs) (suc i) d h = simp append_assoc (ap (λ (t : List ℕ). f x ++ t) (sym (append_assoc (flat_map f (take i xs)) (f (get_or xs i d)) (flat_map f (drop (suc i) xs))) ∙ pieces_split f xs i d (omega arith)))
+pieces_split f (x ∷ xs) (suc i) d h = simp append_assoc (ap (λ (t : List ℕ). f x ++ t)
+    (sym (append_assoc (flat_map f (take i xs)) (f (get_or xs i d)) (flat_map f (drop (suc i) xs))) ∙ pieces_split f xs i d (omega arith)))
 
 -- The pieces before one were written, and that one was cut off: a front of them all was written.
 pub pieces_cut : (pieces : List (Bor (List ℕ))) (i : ℕ) (d : Bor (List ℕ)) (old mid new : SinkView) → i < length pieces

@@ -14,7 +14,8 @@ use Rattle.dist_app.specs.declared.refusal.Refusal.{Refusal}
 use Rattle.dist_app.specs.declared.refusal.Refusal.TheVariants.{BadWords, ReadFault, WriteFault, NoMemory}
 
 -- an answer was decided and printed
-pub record IsAnswered (words : List (List ℕ)) (limits : Limits) (desk desk' : DeskView) (out out' : SinkView) (status : Status) : Type 0 where
+pub record IsAnswered (words : List (List ℕ)) (limits : Limits) (desk desk' : DeskView) (out out' : SinkView)
+    (status : Status) : Type 0 where
   pub ending : Ending
   pub decides : Decides words desk.files limits ending
   pub status_is : status ≡ ending.status
@@ -23,7 +24,8 @@ pub record IsAnswered (words : List (List ℕ)) (limits : Limits) (desk desk' : 
   pub printed : Grew ending.out out out'
 
 -- it was given up, with what was printed until then
-pub record IsRefused (words : List (List ℕ)) (limits : Limits) (desk desk' : DeskView) (out out' : SinkView) (refusal : Refusal) : Type 0 where
+pub record IsRefused (words : List (List ℕ)) (limits : Limits) (desk desk' : DeskView) (out out' : SinkView)
+    (refusal : Refusal) : Type 0 where
   pub ending : Ending
   pub comes : Comes words desk.files limits ending
   pub status : ending.status ≡ status_of refusal
@@ -37,4 +39,5 @@ pub record IsRefused (words : List (List ℕ)) (limits : Limits) (desk desk' : D
 -- what writing the text of an answer comes to
 abbrev pub Prints : Status → (text : List ℕ) → Result Status Refusal → SinkView → SinkView → Type 0
 Prints status text (Ok printed) old new = (printed ≡ status) × Grew text old new
-Prints status text (Err refusal) old new = (error : WorkError) × (refusal ≡ refusal_of error) × GrewByFront text old new × WriteCause error old new
+Prints status text (Err refusal) old new = (error : WorkError) × (refusal ≡ refusal_of error) × GrewByFront text old new
+    × WriteCause error old new

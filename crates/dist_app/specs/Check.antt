@@ -18,7 +18,8 @@ use Rattle.dist_app.specs.Stages.{Ending, Step, Goes, Ends, Then, answered, refu
 use Rattle.dist_app.specs.declared.refusal.Refusal.TheVariants.{CertificateRefused, TooLarge}
 
 -- the file CERT is there, and this is the answer of its bytes
-pub record IsJudged (files : Option Files) (limits : Limits) (cert : List ℕ) (r : PackageList) (result : Result Verdict WorkError) : Type 0 where
+pub record IsJudged (files : Option Files) (limits : Limits) (cert : List ℕ) (r : PackageList)
+    (result : Result Verdict WorkError) : Type 0 where
   pub present : IsPresent files cert
   pub answers : OfText (file_bytes files cert) (λ text. Answers r limits text result)
 
@@ -30,17 +31,22 @@ IsEndOfCertificate files (Err (work.TooLarge what)) ending = ending ≡ refused 
 IsEndOfCertificate files (Err error) ending = ⊥
 
 -- the first line and the claims of CERT where it is accepted, or its first fault, or the number that it passes
-abbrev pub CertificateStage : Option Files → Limits → (cert : List ℕ) → PackageList → Step (Header × List Claim) → Type 0
-CertificateStage files limits cert r (Goes accepted) = IsJudged files limits cert r (Ok (Accepted accepted.0 accepted.1))
-CertificateStage files limits cert r (Ends ending) = (result : Result Verdict WorkError) × IsJudged files limits cert r result × IsEndOfCertificate files result ending
+abbrev pub CertificateStage : Option Files → Limits → (cert : List ℕ) → PackageList → Step (Header × List Claim)
+    → Type 0
+CertificateStage files limits cert r (Goes accepted) =
+    IsJudged files limits cert r (Ok (Accepted accepted.0 accepted.1))
+CertificateStage files limits cert r (Ends ending) = (result : Result Verdict WorkError)
+    × IsJudged files limits cert r result × IsEndOfCertificate files result ending
 
 -- what is accepted is true, and is reported
 abbrev pub Reports : Option Files → PackageList → (Header × List Claim) → Ending → Type 0
 Reports files r accepted ending =
-    AcceptedMeans r accepted.0 accepted.1 × (ending ≡ answered files (claims_status accepted.1) (strong_lines r.packages accepted.0 accepted.1))
+    AcceptedMeans r accepted.0 accepted.1 × (ending
+    ≡ answered files (claims_status accepted.1) (strong_lines r.packages accepted.0 accepted.1))
 
 -- PACKAGES is read and taken apart first, then CERT is judged. The first stage that is refused decides.
-abbrev pub CheckStages : Option Files → Limits → (packages cert : List ℕ) → (PackageList → (Header × List Claim) → Ending → Type 0) → Ending → Type 0
+abbrev pub CheckStages : Option Files → Limits → (packages cert : List ℕ)
+    → (PackageList → (Header × List Claim) → Ending → Type 0) → Ending → Type 0
 CheckStages files limits packages cert Last =
     Then (PackagesStage files limits packages) (λ r.
     Then (CertificateStage files limits cert r) (Last r))

@@ -18,5 +18,6 @@ pub record TellsClasses (files : Option Files) (repository : PackageList) (endin
   pub is : ending ≡ answered files Done text
 
 -- PACKAGES is read and taken apart, and its newest versions are told of.
-abbrev pub ClassesStages : Option Files → Limits → (packages : List ℕ) → (PackageList → Ending → Type 0) → Ending → Type 0
+abbrev pub ClassesStages : Option Files → Limits → (packages : List ℕ) → (PackageList → Ending → Type 0) → Ending
+    → Type 0
 ClassesStages files limits packages Last = Then (PackagesStage files limits packages) Last

@@ -15,21 +15,26 @@ use Rattle.dist_app.specs.declared.refusal.Refusal.{Refusal}
 abbrev pub CommandDecides : CommandLine → Option Files → Limits → Ending → Type 0
 CommandDecides (Health packages list) files limits = HealthStages files limits packages list (Judges files)
 CommandDecides (Classes packages) files limits = ClassesStages files limits packages (TellsClasses files)
-CommandDecides (Strong packages cert essential limit) files limits = StrongStages files limits packages essential (Sweeps files limits cert essential limit)
+CommandDecides (Strong packages cert essential limit) files limits =
+    StrongStages files limits packages essential (Sweeps files limits cert essential limit)
 CommandDecides (Check packages cert) files limits = CheckStages files limits packages cert (Reports files)
 CommandDecides (Try size seed) files limits = TryStages files limits size seed (Tries files limits size)
 
 -- The refusals that come whatever happens later: the end of a stage before the last one.
 abbrev pub CommandRefuses : CommandLine → Option Files → Limits → Ending → Type 0
-CommandRefuses (Health packages list) files limits = HealthStages files limits packages list (λ repository members ending. ⊥)
+CommandRefuses (Health packages list) files limits =
+    HealthStages files limits packages list (λ repository members ending. ⊥)
 CommandRefuses (Classes packages) files limits = ClassesStages files limits packages (λ repository ending. ⊥)
-CommandRefuses (Strong packages cert essential limit) files limits = StrongStages files limits packages essential (λ repository ending. ⊥)
-CommandRefuses (Check packages cert) files limits = CheckStages files limits packages cert (λ repository accepted ending. ⊥)
+CommandRefuses (Strong packages cert essential limit) files limits =
+    StrongStages files limits packages essential (λ repository ending. ⊥)
+CommandRefuses (Check packages cert) files limits =
+    CheckStages files limits packages cert (λ repository accepted ending. ⊥)
 CommandRefuses (Try size seed) files limits = TryStages files limits size seed (λ repository ending. ⊥)
 
 -- the ends of a command that was given up while it wrote a file
 abbrev pub CommandIsGivenUp : CommandLine → Option Files → Limits → Refusal → Ending → Type 0
-CommandIsGivenUp (Strong packages cert essential limit) files limits = IsSweepGivenUp files limits packages cert essential limit
+CommandIsGivenUp (Strong packages cert essential limit) files limits =
+    IsSweepGivenUp files limits packages cert essential limit
 CommandIsGivenUp line files limits = λ refusal ending. ⊥
 
 -- the command does nothing with the desk

@@ -42,24 +42,30 @@ pub record IsUndisturbed (desk desk' : DeskView) (out out' : SinkView) : Type 0 
 
 -- what a set comes to: 0 exactly where it is healthy, else 9
 abbrev pub IsStatusOfSet : PackageList → List Bool → Status → Type 0
-IsStatusOfSet r members status = ((status ≡ Done) × IsHealth r false members Healthy) ⊎ ((status ≡ NotHealthy) × (¬ IsHealth r false members Healthy))
+IsStatusOfSet r members status = ((status ≡ Done) × IsHealth r false members Healthy)
+    ⊎ ((status ≡ NotHealthy) × (¬ IsHealth r false members Healthy))
 
 -- LIST names a set of packages of PACKAGES.
 abbrev pub HealthIsComplete : List (List ℕ) → Limits → Status → Option Files → Type 0
-HealthIsComplete words limits result files = (packages list : List ℕ) (r : PackageList) (text : List ℕ) (members : List Bool) → command_of words ≡ Some (Health packages list)
-    → PackagesStage files limits packages (Goes r) → TextStage files list limits.bytes (Goes text) → ListStage files r.packages text (Goes members)
+HealthIsComplete words limits result files =
+    (packages list : List ℕ) (r : PackageList) (text : List ℕ) (members : List Bool)
+    → command_of words ≡ Some (Health packages list)
+    → PackagesStage files limits packages (Goes r) → TextStage files list limits.bytes (Goes text)
+    → ListStage files r.packages text (Goes members)
     → (result ≡ NoMemory) ⊎ IsStatusOfSet r members result
 
 -- ---- `classes`
 
 abbrev pub ClassesAreComplete : List (List ℕ) → Limits → Status → Option Files → Type 0
-ClassesAreComplete words limits result files = (packages : List ℕ) (r : PackageList) → command_of words ≡ Some (Classes packages)
+ClassesAreComplete words limits result files = (packages : List ℕ) (r : PackageList)
+    → command_of words ≡ Some (Classes packages)
     → PackagesStage files limits packages (Goes r) → (result ≡ NoMemory) ⊎ (result ≡ Done)
 
 -- ---- `strong` and `try`
 
 -- A sweep stopped at a number that is below its budget, with a full part of a certificate.
-pub record StopsBelowBudget (r : PackageList) (essential : Bool) (limit : ℕ) (limits : Limits) (status : Status) (text : List ℕ) : Type 0 where
+pub record StopsBelowBudget (r : PackageList) (essential : Bool) (limit : ℕ) (limits : Limits) (status : Status)
+    (text : List ℕ) : Type 0 where
   pub what : What
   pub stopped : status ≡ TooLarge
   pub below : IsBelowBudget limits (length r.packages) limit what
@@ -67,15 +73,21 @@ pub record StopsBelowBudget (r : PackageList) (essential : Bool) (limit : ℕ) (
 
 -- The input clauses of PACKAGES keep their numbers. The part that stopped stands in CERT.
 abbrev pub StrongIsComplete : List (List ℕ) → Limits → Status → (files left : Option Files) → Type 0
-StrongIsComplete words limits result files left = (packages cert : List ℕ) (essential : Bool) (limit : ℕ) (r : PackageList)
-    → command_of words ≡ Some (Strong packages cert essential limit) → PackagesStage files limits packages (Goes r) → ClausesStage files limits essential r (Goes tt)
-    → (result ≡ NoMemory) ⊎ (IsCarriedOut result ⊎ ((text : List ℕ) × StopsBelowBudget r essential limit limits result text × (left ≡ with_file files cert text)))
+StrongIsComplete words limits result files left =
+    (packages cert : List ℕ) (essential : Bool) (limit : ℕ) (r : PackageList)
+    → command_of words ≡ Some (Strong packages cert essential limit) → PackagesStage files limits packages (Goes r)
+    → ClausesStage files limits essential r (Goes tt)
+    → (result ≡ NoMemory) ⊎ (IsCarriedOut result
+    ⊎ ((text : List ℕ) × StopsBelowBudget r essential limit limits result text
+    × (left ≡ with_file files cert text)))
 
 -- The archive of the size and the seed, and its input clauses, keep their numbers. The desk has no part in it.
 abbrev pub TrialIsComplete : List (List ℕ) → Limits → Status → Option Files → SinkView → SinkView → Type 0
 TrialIsComplete words limits result files out out' = ¬ Rose out.faults out'.faults → (size seed : ℕ) (r : PackageList)
-    → command_of words ≡ Some (Try size seed) → ArchiveStage files limits size seed (Goes r) → ClausesStage files limits false r (Goes tt)
-    → (result ≡ NoMemory) ⊎ (IsCarriedOut result ⊎ ((text : List ℕ) × StopsBelowBudget r false DEFAULT_LIMIT limits result text))
+    → command_of words ≡ Some (Try size seed) → ArchiveStage files limits size seed (Goes r)
+    → ClausesStage files limits false r (Goes tt)
+    → (result ≡ NoMemory) ⊎ (IsCarriedOut result
+    ⊎ ((text : List ℕ) × StopsBelowBudget r false DEFAULT_LIMIT limits result text))
 
 -- ---- `check`
 
@@ -87,20 +99,24 @@ verdict_status (Err error) = TooLarge
 
 -- The status is that of the one answer of CERT: it is accepted, or refused, or passes a number.
 abbrev pub CheckIsComplete : List (List ℕ) → Limits → Status → Option Files → Type 0
-CheckIsComplete words limits result files = (packages cert : List ℕ) (r : PackageList) → command_of words ≡ Some (Check packages cert)
+CheckIsComplete words limits result files = (packages cert : List ℕ) (r : PackageList)
+    → command_of words ≡ Some (Check packages cert)
     → PackagesStage files limits packages (Goes r)
-    → (result ≡ NoMemory) ⊎ ((answer : Result Verdict WorkError) × IsOfText answer × IsJudged files limits cert r answer × (result ≡ verdict_status answer)
+    → (result ≡ NoMemory) ⊎ ((answer : Result Verdict WorkError) × IsOfText answer × IsJudged files limits cert r answer
+    × (result ≡ verdict_status answer)
     × ((other : Result Verdict WorkError) → IsOfText other → IsJudged files limits cert r other → other ≡ answer))
 
 -- ---- all
 
 -- the commands that read files
-pub record Completes (words : List (List ℕ)) (limits : Limits) (result : Status) (files left : Option Files) : Type 0 where
-  pub health : HealthIsComplete words limits result files
-  pub classes : ClassesAreComplete words limits result files
-  pub strong : StrongIsComplete words limits result files left
-  pub check : CheckIsComplete words limits result files
+pub record Completes (words : List (List ℕ)) (limits : Limits) (result : Status) (files left : Option Files) : Type 0
+  where
+    pub health : HealthIsComplete words limits result files
+    pub classes : ClassesAreComplete words limits result files
+    pub strong : StrongIsComplete words limits result files left
+    pub check : CheckIsComplete words limits result files
 
-pub record IsComplete (words : List (List ℕ)) (limits : Limits) (result : Status) (desk desk' : DeskView) (out out' : SinkView) : Type 0 where
+pub record IsComplete (words : List (List ℕ)) (limits : Limits) (result : Status) (desk desk' : DeskView)
+    (out out' : SinkView) : Type 0 where
   pub of_files : IsUndisturbed desk desk' out out' → Completes words limits result desk.files desk'.files
   pub of_trials : TrialIsComplete words limits result desk.files out out'

@@ -22,7 +22,8 @@ IsPartGivenUp Decided files refusal = (refusal ≡ NoMemory) ⊎ Decided (refuse
 
 -- the same, or for a fault of reading that was counted
 abbrev pub IsDue : (Ending → Type 0) → DeskView → DeskView → Refusal → Type 0
-IsDue Decided old new refusal = ((refusal ≡ ReadFault) × Rose old.read_faults new.read_faults) ⊎ IsPartGivenUp Decided old.files refusal
+IsDue Decided old new refusal = ((refusal ≡ ReadFault) × Rose old.read_faults new.read_faults)
+    ⊎ IsPartGivenUp Decided old.files refusal
 
 -- ---- the sweep
 
@@ -31,13 +32,16 @@ abbrev pub LeavesCut : PackageList → Bool → ℕ → Limits → (name : List 
 LeavesCut r essential limit limits name files left =
     (left ≡ files) ⊎ ((text : List ℕ) × IsCutSweep r essential limit limits text × (left ≡ with_file files name text))
 
--- A sweep was given up: its clauses pass a number, a later line does, a fault of writing was counted, or memory was wanted,
+-- A sweep was given up: its clauses pass a number, a later line does, a fault of writing was counted, or memory was
+-- wanted,
 -- perhaps for the report alone.
 abbrev pub SweepStops : PackageList → Bool → ℕ → Limits → (name : List ℕ) → DeskView → DeskView → Refusal → Type 0
 SweepStops r essential limit limits name old new refusal =
     (ClausesStage old.files limits essential r (Ends (refused new.files refusal)))
-    ⊎ (ClausesStage old.files limits essential r (Goes tt) × IsStopped old.files limits name essential limit r (refused new.files refusal))
-    ⊎ ((refusal ≡ WriteFault) × Rose old.write_faults new.write_faults × ClausesStage old.files limits essential r (Goes tt)
+    ⊎ (ClausesStage old.files limits essential r (Goes tt)
+    × IsStopped old.files limits name essential limit r (refused new.files refusal))
+    ⊎ ((refusal ≡ WriteFault) × Rose old.write_faults new.write_faults
+    × ClausesStage old.files limits essential r (Goes tt)
     × LeavesCut r essential limit limits name old.files new.files)
     ⊎ ((refusal ≡ NoMemory) × (LeavesCut r essential limit limits name old.files new.files
     ⊎ ((status : Status) × (text : List ℕ) × ClausesStage old.files limits essential r (Goes tt)
@@ -56,7 +60,8 @@ abbrev pub Stops : CommandLine → Limits → DeskView → DeskView → Refusal 
 Stops line limits old new refusal =
     CommandDecides line old.files limits (refused new.files refusal)
     ⊎ ((refusal ≡ ReadFault) × (¬ IsApart line) × (new.files ≡ old.files) × Rose old.read_faults new.read_faults)
-    ⊎ ((refusal ≡ WriteFault) × Rose old.write_faults new.write_faults × CommandIsGivenUp line old.files limits WriteFault (refused new.files WriteFault))
+    ⊎ ((refusal ≡ WriteFault) × Rose old.write_faults new.write_faults
+    × CommandIsGivenUp line old.files limits WriteFault (refused new.files WriteFault))
     ⊎ ((refusal ≡ NoMemory) × IsUnfinished line limits old new)
 
 -- the desk writes no longer, and no count of it fell

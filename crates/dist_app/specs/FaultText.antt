@@ -7,7 +7,10 @@ use Rattle.dist_relation.specs.declared.error.RelationError.TheVariants as relat
 use Rattle.dist_package.specs.declared.error.RelationField.{RelationField}
 use Rattle.dist_package.specs.declared.error.RelationField.TheVariants as field
 use Rattle.dist_package.specs.declared.error.Kind.{Kind}
-use Rattle.dist_package.specs.declared.error.Kind.TheVariants.{NoColon, BadFieldName, OrphanContinuation, DoubleField, NoPackage, BadPackageName, NoVersion, BadVersionText, BadSource, BadArchitecture, TwoArchitectures, Relation, Clash}
+use Rattle.dist_package.specs.declared.error.Kind.TheVariants.{NoColon, BadFieldName, OrphanContinuation, DoubleField}
+use Rattle.dist_package.specs.declared.error.Kind.TheVariants.{NoPackage, BadPackageName, NoVersion, BadVersionText}
+use Rattle.dist_package.specs.declared.error.Kind.TheVariants.{BadSource, BadArchitecture, TwoArchitectures, Relation}
+use Rattle.dist_package.specs.declared.error.Kind.TheVariants.{Clash}
 
 -- the name of a version's fault
 abbrev pub version_text : VersionError → List ℕ

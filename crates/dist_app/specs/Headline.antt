@@ -34,9 +34,11 @@ IsCarriedOut Done = Unit {0}
 IsCarriedOut DoneWithUndecided = Unit {0}
 IsCarriedOut status = ⊥
 
--- PACKAGES has a repository, and CERT holds a whole certificate over it, of kind strong, with the command's mode and limit.
+-- PACKAGES has a repository, and CERT holds a whole certificate over it, of kind strong, with the command's mode and
+-- limit.
 -- What it claims is true, and its report was printed. All other files are as before.
-pub record ProvesStrong (limits : Limits) (packages cert : List ℕ) (essential : Bool) (limit : ℕ) (result : Status) (desk desk' : DeskView) (out out' : SinkView) : Type 0 where
+pub record ProvesStrong (limits : Limits) (packages cert : List ℕ) (essential : Bool) (limit : ℕ) (result : Status)
+    (desk desk' : DeskView) (out out' : SinkView) : Type 0 where
   pub repository : PackageList
   pub read : PackagesStage desk.files limits packages (Goes repository)
   pub made : List Claim
@@ -47,10 +49,13 @@ pub record ProvesStrong (limits : Limits) (packages cert : List ℕ) (essential 
   pub printed : Grew (strong_lines repository.packages (header_of repository essential limit []) made) out out'
   pub status : result ≡ claims_status made
 
--- PACKAGES has a repository, and the file CERT was accepted over it, whoever wrote it, with a first line and claims. The line
--- is of kind strong and has the repository's numbers, what is claimed is true at its mode, and the report was printed. All
+-- PACKAGES has a repository, and the file CERT was accepted over it, whoever wrote it, with a first line and claims.
+-- The line
+-- is of kind strong and has the repository's numbers, what is claimed is true at its mode, and the report was printed.
+-- All
 -- files are as before.
-pub record ProvesCheck (limits : Limits) (packages cert : List ℕ) (result : Status) (desk desk' : DeskView) (out out' : SinkView) : Type 0 where
+pub record ProvesCheck (limits : Limits) (packages cert : List ℕ) (result : Status) (desk desk' : DeskView)
+    (out out' : SinkView) : Type 0 where
   pub repository : PackageList
   pub read : PackagesStage desk.files limits packages (Goes repository)
   pub header : Header
@@ -65,15 +70,19 @@ pub record ProvesCheck (limits : Limits) (packages cert : List ℕ) (result : St
 -- the same of a run with these words
 abbrev pub StrongIsProved : List (List ℕ) → Limits → Status → DeskView → DeskView → SinkView → SinkView → Type 0
 StrongIsProved words limits result desk desk' out out' = (packages cert : List ℕ) (essential : Bool) (limit : ℕ)
-    → command_of words ≡ Some (Strong packages cert essential limit) → IsCarriedOut result → ProvesStrong limits packages cert essential limit result desk desk' out out'
+    → command_of words ≡ Some (Strong packages cert essential limit) → IsCarriedOut result
+    → ProvesStrong limits packages cert essential limit result desk desk' out out'
 
 abbrev pub CheckIsProved : List (List ℕ) → Limits → Status → DeskView → DeskView → SinkView → SinkView → Type 0
 CheckIsProved words limits result desk desk' out out' = (packages cert : List ℕ)
-    → command_of words ≡ Some (Check packages cert) → IsCarriedOut result → ProvesCheck limits packages cert result desk desk' out out'
+    → command_of words ≡ Some (Check packages cert) → IsCarriedOut result
+    → ProvesCheck limits packages cert result desk desk' out out'
 
--- A question that an accepted text leaves undecided is hard: its limit is at most 3 to the power of the number of variables
+-- A question that an accepted text leaves undecided is hard: its limit is at most 3 to the power of the number of
+-- variables
 -- that it reaches.
 abbrev pub UndecidedAreHard : Limits → Type 0
-UndecidedAreHard limits = (r : PackageList) (inputs : Bool → List (List Literal)) (text : List ℕ) (h : Header) (steps : List CertRecord) (question : List Word) (cone : List ℕ)
+UndecidedAreHard limits = (r : PackageList) (inputs : Bool → List (List Literal)) (text : List ℕ) (h : Header)
+    (steps : List CertRecord) (question : List Word) (cone : List ℕ)
     → AreInputs r inputs → IsAcceptedAs (subject_of r inputs) limits text h steps → IsUndecidedIn steps question
     → ((v : ℕ) → Contains cone v ↔ InCone (inputs h.essential) (clause_of question) v) → h.limit ≤ 3 ^ length cone

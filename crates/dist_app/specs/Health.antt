@@ -19,7 +19,8 @@ use Rattle.dist_app.specs.declared.refusal.Refusal.TheVariants.{BadList}
 -- the set that LIST names, or its first bad line
 abbrev pub ListStage : Option Files → List Package → (text : List ℕ) → Step (List Bool) → Type 0
 ListStage files packages text (Goes members) = NamesSet packages text members
-ListStage files packages text (Ends ending) = (line : ℕ) × IsBadAt packages text line × (ending ≡ refused files (BadList line))
+ListStage files packages text (Ends ending) = (line : ℕ) × IsBadAt packages text line
+    × (ending ≡ refused files (BadList line))
 
 -- the status that goes with a health
 abbrev pub health_status : Health → Status
@@ -31,22 +32,25 @@ abbrev pub Tells : List Package → Health → Status → List ℕ → Type 0
 Tells packages health status line = (status ≡ health_status health) × IsHealthText packages health line
 
 -- the health of a set at mode plain, told in one line
-pub record Judges (files : Option Files) (repository : PackageList) (members : List Bool) (ending : Ending) : Type 0 where
-  pub health : Health
-  pub status : Status
-  pub line : List ℕ
-  pub is_health : IsHealth repository false members health
-  pub tells : Tells repository.packages health status line
-  pub is : ending ≡ answered files status line
+pub record Judges (files : Option Files) (repository : PackageList) (members : List Bool) (ending : Ending) : Type 0
+  where
+    pub health : Health
+    pub status : Status
+    pub line : List ℕ
+    pub is_health : IsHealth repository false members health
+    pub tells : Tells repository.packages health status line
+    pub is : ending ≡ answered files status line
 
 -- LIST is read and taken apart.
-abbrev pub ListStages : Option Files → Limits → PackageList → (list : List ℕ) → (List Bool → Ending → Type 0) → Ending → Type 0
+abbrev pub ListStages : Option Files → Limits → PackageList → (list : List ℕ) → (List Bool → Ending → Type 0) → Ending
+    → Type 0
 ListStages files limits repository list Last =
     Then (TextStage files list limits.bytes) (λ names.
     Then (ListStage files repository.packages names) Last)
 
 -- PACKAGES is read and taken apart first. The first stage that is refused decides.
-abbrev pub HealthStages : Option Files → Limits → (packages list : List ℕ) → (PackageList → List Bool → Ending → Type 0) → Ending → Type 0
+abbrev pub HealthStages : Option Files → Limits → (packages list : List ℕ) → (PackageList → List Bool → Ending → Type 0)
+    → Ending → Type 0
 HealthStages files limits packages list Last =
     Then (PackagesStage files limits packages) (λ repository.
     ListStages files limits repository list (Last repository))

@@ -8,5 +8,7 @@ use Rattle.dist_app.specs.Stages.{Step, Goes, Ends, Then}
 use Rattle.dist_app.specs.TextStage.{TextStage}
 
 abbrev pub PackagesStage : Option Files → Limits → (name : List ℕ) → Step PackageList → Type 0
-PackagesStage files limits name (Goes repository) = (text : List ℕ) × TextStage files name limits.bytes (Goes text) × RepositoryStage files limits.stanzas text (Goes repository)
-PackagesStage files limits name (Ends ending) = Then (TextStage files name limits.bytes) (λ text end. RepositoryStage files limits.stanzas text (Ends end)) ending
+PackagesStage files limits name (Goes repository) = (text : List ℕ) × TextStage files name limits.bytes (Goes text)
+    × RepositoryStage files limits.stanzas text (Goes repository)
+PackagesStage files limits name (Ends ending) =
+    Then (TextStage files name limits.bytes) (λ text end. RepositoryStage files limits.stanzas text (Ends end)) ending

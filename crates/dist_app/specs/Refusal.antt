@@ -9,7 +9,8 @@ use Rattle.dist_app.specs.FaultText.{kind_name, carried_text}
 use Rattle.dist_app.specs.declared.status.Status.{Status}
 use Rattle.dist_app.specs.declared.status.Status.TheVariants as status
 use Rattle.dist_app.specs.declared.refusal.Refusal.{Refusal}
-use Rattle.dist_app.specs.declared.refusal.Refusal.TheVariants.{BadWords, BadPackages, CertificateRefused, ReadFault, WriteFault, NoMemory, TooLarge, BadList}
+use Rattle.dist_app.specs.declared.refusal.Refusal.TheVariants.{BadWords, BadPackages, CertificateRefused, ReadFault}
+use Rattle.dist_app.specs.declared.refusal.Refusal.TheVariants.{WriteFault, NoMemory, TooLarge, BadList}
 
 abbrev pub status_of : Refusal → Status
 status_of BadWords = status.BadWords
@@ -36,8 +37,10 @@ limit_text what.RecordLine = codes "RecordLine"
 -- what the line says after the program's name
 abbrev pub reason_text : Refusal → List ℕ
 reason_text BadWords = codes "bad command line"
-reason_text (BadPackages fault) = codes "bad packages at line " ++ (decimal fault.line ++ (codes ": " ++ (kind_name fault.kind ++ carried_text fault.kind)))
-reason_text (CertificateRefused fault) = codes "certificate refused at line " ++ (decimal fault.line ++ (codes ": " ++ cause_text fault.cause))
+reason_text (BadPackages fault) = codes "bad packages at line "
+    ++ (decimal fault.line ++ (codes ": " ++ (kind_name fault.kind ++ carried_text fault.kind)))
+reason_text (CertificateRefused fault) = codes "certificate refused at line "
+    ++ (decimal fault.line ++ (codes ": " ++ cause_text fault.cause))
 reason_text ReadFault = codes "read fault"
 reason_text WriteFault = codes "write fault"
 reason_text NoMemory = codes "no memory"

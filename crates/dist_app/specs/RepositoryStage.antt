@@ -20,4 +20,5 @@ IsEndOf files NoMemory ending = ⊥
 -- the repository of the text, or its first fault, or more stanzas than the limit
 abbrev pub RepositoryStage : Option Files → (stanzas : ℕ) → (text : List ℕ) → Step PackageList → Type 0
 RepositoryStage files stanzas text (Goes repository) = IsRepositoryOf text stanzas repository
-RepositoryStage files stanzas text (Ends ending) = (error : PackagesError) × IsRefused (raw_stanzas text) stanzas error × IsEndOf files error ending
+RepositoryStage files stanzas text (Ends ending) = (error : PackagesError) × IsRefused (raw_stanzas text) stanzas error
+    × IsEndOf files error ending

@@ -1,7 +1,8 @@
 -- What a run comes to, from its words, the files that the desk tells, and the limits.
 use Rattle.std.specs.Prelude.{◌≡◌, ◌⊎◌, ◌≤◌, ℕ, List, [], Option, Some}
 use Rattle.dist_base.specs.Front.{IsFrontOf}
-use Rattle.dist_base.specs.declared.TheConstants.{MAX_BYTES, MAX_STANZAS, MAX_VARIABLES, MAX_CLAUSES, MAX_LITERALS, MAX_LINES, MAX_LINE_LITERALS, MAX_CERTIFICATE, MAX_RECORD_LINE}
+use Rattle.dist_base.specs.declared.TheConstants.{MAX_BYTES, MAX_STANZAS, MAX_VARIABLES, MAX_CLAUSES, MAX_LITERALS}
+use Rattle.dist_base.specs.declared.TheConstants.{MAX_LINES, MAX_LINE_LITERALS, MAX_CERTIFICATE, MAX_RECORD_LINE}
 use Rattle.dist_outside.specs.Counts.{Rose}
 use Rattle.dist_outside.specs.Files.{Files, IsNotWriting}
 use Rattle.dist_outside.specs.DeskView.{DeskView, OnlyReads}
@@ -29,23 +30,33 @@ Refuses words files limits ending =
     (IsBadWords words × (ending ≡ refused files BadWords))
     ⊎ ((line : CommandLine) × (command_of words ≡ Some line) × CommandRefuses line files limits ending)
 
--- The text of an answer that was decided could not be written whole: a front of it was. A file that the command wrote is whole.
-pub record IsCutShort (words : List (List ℕ)) (files : Option Files) (limits : Limits) (refusal : Refusal) (ending : Ending) : Type 0 where
+-- The text of an answer that was decided could not be written whole: a front of it was. A file that the command wrote
+-- is whole.
+pub record IsCutShort (words : List (List ℕ)) (files : Option Files) (limits : Limits) (refusal : Refusal)
+    (ending : Ending) : Type 0 where
   pub decided : Ending
   pub decides : Decides words files limits decided
   pub answers : decided.err ≡ []
   pub front : IsFrontOf decided.out ending.out
-  pub is : ending ≡ record { status = status_of refusal; out = ending.out; err = refusal_text refusal; files = decided.files }
+  pub is : ending ≡ record {
+    status = status_of refusal;
+    out = ending.out;
+    err = refusal_text refusal;
+    files = decided.files;
+  }
 
 -- The command was given up while it wrote a file.
 abbrev pub IsRunGivenUp : List (List ℕ) → Option Files → Limits → Refusal → Ending → Type 0
-IsRunGivenUp words files limits refusal ending = (line : CommandLine) × (command_of words ≡ Some line) × CommandIsGivenUp line files limits refusal ending
+IsRunGivenUp words files limits refusal ending = (line : CommandLine) × (command_of words ≡ Some line)
+    × CommandIsGivenUp line files limits refusal ending
 
 -- A file could not be read, by a command that reads any.
 abbrev pub IsUnread : List (List ℕ) → Option Files → Ending → Type 0
-IsUnread words files ending = (line : CommandLine) × (command_of words ≡ Some line) × (¬ IsApart line) × (ending ≡ refused files ReadFault)
+IsUnread words files ending = (line : CommandLine) × (command_of words ≡ Some line) × (¬ IsApart line)
+    × (ending ≡ refused files ReadFault)
 
--- The ends that may come at any time: a fault of reading, and want of memory, with nothing printed and all files as before;
+-- The ends that may come at any time: a fault of reading, and want of memory, with nothing printed and all files as
+-- before;
 -- and a fault of writing, and want of memory, in the midst of a file or with a front of a decided text printed.
 abbrev pub IsInterrupted : List (List ℕ) → Option Files → Limits → Ending → Type 0
 IsInterrupted words files limits ending =
@@ -66,13 +77,15 @@ pub record EndsAs (ending : Ending) (result : Status) (desk desk' : DeskView) (o
 
 -- A text was written whole to a sink, or a front of it where one of the sink's counts rose.
 abbrev pub IsTold : List ℕ → SinkView → SinkView → Type 0
-IsTold text old new = Grew text old new ⊎ (GrewByFront text old new × (Rose old.faults new.faults ⊎ Rose old.wants new.wants))
+IsTold text old new = Grew text old new ⊎ (GrewByFront text old new
+    × (Rose old.faults new.faults ⊎ Rose old.wants new.wants))
 
 -- the desk tells its files
 abbrev pub TellsFiles : DeskView → Type 0
 TellsFiles desk = (files : Files) × (desk.files ≡ Some files)
 
--- The desk writes no longer, and no count of it fell. It was only read, but by a command that writes a file; bad words, and a
+-- The desk writes no longer, and no count of it fell. It was only read, but by a command that writes a file; bad words,
+-- and a
 -- command that is apart from it, leave it as it is.
 pub record Leaves (words : List (List ℕ)) (old new : DeskView) : Type 0 where
   pub not_writing : IsNotWriting new.mode
@@ -82,13 +95,15 @@ pub record Leaves (words : List (List ℕ)) (old new : DeskView) : Type 0 where
   pub untouched : ((line : CommandLine) → command_of words ≡ Some line → IsApart line) → new ≡ old
 
 -- the end that a fault of writing gave, and the fault
-abbrev pub IsWriteFault : List (List ℕ) → Option Files → Limits → Ending → DeskView → DeskView → SinkView → SinkView → Type 0
+abbrev pub IsWriteFault : List (List ℕ) → Option Files → Limits → Ending → DeskView → DeskView → SinkView → SinkView
+    → Type 0
 IsWriteFault words files limits ending desk desk' out out' =
     (IsRunGivenUp words files limits WriteFault ending × Rose desk.write_faults desk'.write_faults)
     ⊎ (IsCutShort words files limits WriteFault ending × Rose out.faults out'.faults)
 
 -- What a run promises of its end.
-pub record Runs (words : List (List ℕ)) (limits : Limits) (result : Status) (desk desk' : DeskView) (out out' err err' : SinkView) : Type 0 where
+pub record Runs (words : List (List ℕ)) (limits : Limits) (result : Status) (desk desk' : DeskView)
+    (out out' err err' : SinkView) : Type 0 where
   -- The status, what `out` grew by, the line on `err` and the files are those of an end that may come.
   pub ending : Ending
   pub comes : Comes words desk.files limits ending
@@ -98,14 +113,18 @@ pub record Runs (words : List (List ℕ)) (limits : Limits) (result : Status) (d
   -- Bad words are told exactly where the words are of no command, but for want of memory.
   pub words_refused : (result ≡ status.BadWords) → IsBadWords words
   pub words_told : IsBadWords words → (result ≡ status.BadWords) ⊎ (result ≡ status.NoMemory)
-  -- Faults are told only where they were counted: of the desk where the command was given up while it wrote, and of `out` where
+  -- Faults are told only where they were counted: of the desk where the command was given up while it wrote, and of
+  -- `out` where
   -- the text of an answer is cut short.
   pub read_fault : result ≡ status.ReadFault → Rose desk.read_faults desk'.read_faults
   pub write_fault : result ≡ status.WriteFault → IsWriteFault words desk.files limits ending desk desk' out out'
-  -- Where the desk tells its files and no fault of reading is counted, a refusal that the inputs decide before anything is
-  -- written is the end, but for want of memory. Where no fault is counted, the end is one that the inputs decide, but for want
+  -- Where the desk tells its files and no fault of reading is counted, a refusal that the inputs decide before anything
+  -- is
+  -- written is the end, but for want of memory. Where no fault is counted, the end is one that the inputs decide, but
+  -- for want
   -- of memory.
-  pub refusal_comes : TellsFiles desk → ¬ Rose desk.read_faults desk'.read_faults → (end : Ending) → Refuses words desk.files limits end
+  pub refusal_comes : TellsFiles desk → ¬ Rose desk.read_faults desk'.read_faults → (end : Ending)
+      → Refuses words desk.files limits end
       → (ending ≡ end) ⊎ (result ≡ status.NoMemory)
   pub answer_comes : ¬ Rose desk.read_faults desk'.read_faults → ¬ Rose desk.write_faults desk'.write_faults
       → ¬ Rose out.faults out'.faults → Decides words desk.files limits ending ⊎ (result ≡ status.NoMemory)

@@ -1,7 +1,9 @@
 -- The number of each status.
 use Rattle.std.specs.Prelude.{ℕ}
 use Rattle.dist_app.specs.declared.status.Status.{Status}
-use Rattle.dist_app.specs.declared.status.Status.TheVariants.{Done, DoneWithUndecided, BadWords, BadPackages, CertificateRefused, ReadFault, WriteFault, NoMemory, TooLarge, NotHealthy, BadList}
+use Rattle.dist_app.specs.declared.status.Status.TheVariants.{Done, DoneWithUndecided, BadWords, BadPackages}
+use Rattle.dist_app.specs.declared.status.Status.TheVariants.{CertificateRefused, ReadFault, WriteFault, NoMemory}
+use Rattle.dist_app.specs.declared.status.Status.TheVariants.{TooLarge, NotHealthy, BadList}
 
 abbrev pub number_of : Status → ℕ
 number_of Done = 0

@@ -18,43 +18,54 @@ use Rattle.dist_app.specs.declared.refusal.Refusal.TheVariants.{TooLarge, WriteF
 -- the input clauses keep both numbers, or the first number that they pass ends the run
 abbrev pub ClausesStage : Option Files → Limits → Bool → PackageList → Step (Unit {0}) → Type 0
 ClausesStage files limits essential r (Goes _) =
-    (¬ PassesClauses r essential limits.clauses limits.literals) × (¬ PassesLiterals r essential limits.clauses limits.literals)
+    (¬ PassesClauses r essential limits.clauses limits.literals)
+    × (¬ PassesLiterals r essential limits.clauses limits.literals)
 ClausesStage files limits essential r (Ends ending) =
     (PassesClauses r essential limits.clauses limits.literals × (ending ≡ refused files (TooLarge Clauses)))
-    ⊎ ((¬ PassesClauses r essential limits.clauses limits.literals) × PassesLiterals r essential limits.clauses limits.literals
+    ⊎ ((¬ PassesClauses r essential limits.clauses limits.literals)
+    × PassesLiterals r essential limits.clauses limits.literals
     × (ending ≡ refused files (TooLarge Literals)))
 
--- The sweep came to its end: CERT holds its certificate, and its claims are reported. The last argument of `header_of` is the
+-- The sweep came to its end: CERT holds its certificate, and its claims are reported. The last argument of `header_of`
+-- is the
 -- input clauses, which the first line counts. A report tells only the limit of that line, so here they are left empty.
-pub record IsSwept (files : Option Files) (limits : Limits) (cert : List ℕ) (essential : Bool) (limit : ℕ) (r : PackageList) (ending : Ending) : Type 0 where
+pub record IsSwept (files : Option Files) (limits : Limits) (cert : List ℕ) (essential : Bool) (limit : ℕ)
+    (r : PackageList) (ending : Ending) : Type 0 where
   pub made : List Claim
   pub text : List ℕ
   pub certificate : IsSweep r essential limit limits made text
-  pub is : ending ≡ answered (with_file files cert text) (claims_status made) (strong_lines r.packages (header_of r essential limit []) made)
+  pub is : ending ≡ answered (with_file files cert text) (claims_status made)
+      (strong_lines r.packages (header_of r essential limit []) made)
 
 -- The sweep stopped, since one line more would pass a number: CERT holds the lines until then.
-pub record IsStopped (files : Option Files) (limits : Limits) (cert : List ℕ) (essential : Bool) (limit : ℕ) (r : PackageList) (ending : Ending) : Type 0 where
+pub record IsStopped (files : Option Files) (limits : Limits) (cert : List ℕ) (essential : Bool) (limit : ℕ)
+    (r : PackageList) (ending : Ending) : Type 0 where
   pub what : What
   pub text : List ℕ
   pub full : IsFull r essential limit limits what text
   pub is : ending ≡ refused (with_file files cert text) (TooLarge what)
 
 abbrev pub Sweeps : Option Files → Limits → (cert : List ℕ) → Bool → ℕ → PackageList → Ending → Type 0
-Sweeps files limits cert essential limit r ending = IsSwept files limits cert essential limit r ending ⊎ IsStopped files limits cert essential limit r ending
+Sweeps files limits cert essential limit r ending = IsSwept files limits cert essential limit r ending
+    ⊎ IsStopped files limits cert essential limit r ending
 
 -- PACKAGES is read and taken apart, then the input clauses are made. The first stage that is refused decides.
-abbrev pub StrongStages : Option Files → Limits → (packages : List ℕ) → Bool → (PackageList → Ending → Type 0) → Ending → Type 0
+abbrev pub StrongStages : Option Files → Limits → (packages : List ℕ) → Bool → (PackageList → Ending → Type 0) → Ending
+    → Type 0
 StrongStages files limits packages essential Last =
     Then (PackagesStage files limits packages) (λ r.
     Then (ClausesStage files limits essential r) (λ _.
     Last r))
 
--- The sweep was given up, for a fault of writing or want of memory. CERT is as before, or holds the lines until then, perhaps
+-- The sweep was given up, for a fault of writing or want of memory. CERT is as before, or holds the lines until then,
+-- perhaps
 -- with a front of one line more behind them.
-pub record IsSweepGivenUp (files : Option Files) (limits : Limits) (packages cert : List ℕ) (essential : Bool) (limit : ℕ) (refusal : Refusal) (ending : Ending) : Type 0 where
+pub record IsSweepGivenUp (files : Option Files) (limits : Limits) (packages cert : List ℕ) (essential : Bool)
+    (limit : ℕ) (refusal : Refusal) (ending : Ending) : Type 0 where
   pub repository : PackageList
   pub read : PackagesStage files limits packages (Goes repository)
   pub kept : refusal ≡ WriteFault → ClausesStage files limits essential repository (Goes tt)
   pub left : Option Files
-  pub leaves : (left ≡ files) ⊎ ((text : List ℕ) × IsCutSweep repository essential limit limits text × (left ≡ with_file files cert text))
+  pub leaves : (left ≡ files) ⊎ ((text : List ℕ) × IsCutSweep repository essential limit limits text
+      × (left ≡ with_file files cert text))
   pub is : ending ≡ refused left refusal

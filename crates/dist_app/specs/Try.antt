@@ -18,18 +18,22 @@ use Rattle.dist_app.specs.declared.refusal.Refusal.TheVariants.{TooLarge}
 
 -- the repository of the archive of the size and the seed, or the first of two limits that the archive passes
 abbrev pub ArchiveStage : Option Files → Limits → (size seed : ℕ) → Step PackageList → Type 0
-ArchiveStage files limits size seed (Goes r) = (length (generated size seed) ≤ limits.bytes) × (size ≤ limits.stanzas) × IsRepositoryOf (generated size seed) limits.stanzas r
+ArchiveStage files limits size seed (Goes r) = (length (generated size seed) ≤ limits.bytes) × (size ≤ limits.stanzas)
+    × IsRepositoryOf (generated size seed) limits.stanzas r
 ArchiveStage files limits size seed (Ends ending) =
     ((limits.bytes < length (generated size seed)) × (ending ≡ refused files (TooLarge Bytes)))
-    ⊎ ((length (generated size seed) ≤ limits.bytes) × (limits.stanzas < size) × (ending ≡ refused files (TooLarge Stanzas)))
+    ⊎ ((length (generated size seed) ≤ limits.bytes) × (limits.stanzas < size)
+    × (ending ≡ refused files (TooLarge Stanzas)))
 
--- A certificate of the archive, plain and with the limit of a question where none is given, is accepted, and the summary of
+-- A certificate of the archive, plain and with the limit of a question where none is given, is accepted, and the
+-- summary of
 -- its claims is told.
-pub record IsTried (files : Option Files) (limits : Limits) (size : ℕ) (r : PackageList) (ending : Ending) : Type 0 where
-  pub made : List Claim
-  pub text : List ℕ
-  pub certificate : IsSweep r false DEFAULT_LIMIT limits made text
-  pub is : ending ≡ answered files (claims_status made) (summary_text size made)
+pub record IsTried (files : Option Files) (limits : Limits) (size : ℕ) (r : PackageList) (ending : Ending) : Type 0
+  where
+    pub made : List Claim
+    pub text : List ℕ
+    pub certificate : IsSweep r false DEFAULT_LIMIT limits made text
+    pub is : ending ≡ answered files (claims_status made) (summary_text size made)
 
 -- A part of such a certificate stopped, since one line more would pass a number.
 pub record IsTrialStopped (files : Option Files) (limits : Limits) (r : PackageList) (ending : Ending) : Type 0 where

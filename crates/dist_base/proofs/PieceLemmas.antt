@@ -1,5 +1,6 @@
 -- Lists kept one after another in a single list: each piece, their number, their joint length, and one more piece.
-use Rattle.std.proofs.Common.{◌≡◌, ℕ, zero, suc, ◌+◌, ◌-◌, ◌<◌, ◌≤◌, List, [], ◌∷◌, ◌++◌, length, get_or, take, drop, Result, Ok, Err, OnOk, OnErr, refl, ap, sym, ◌∙◌, arith, length-drop, length-append}
+use Rattle.std.proofs.Common.{◌≡◌, ℕ, zero, suc, ◌+◌, ◌-◌, ◌<◌, ◌≤◌, List, [], ◌∷◌, ◌++◌, length, get_or, take, drop, Result, Ok, Err, OnOk, OnErr, refl, ap}
+use Rattle.std.proofs.Common.{sym, ◌∙◌, arith, length-drop, length-append}
 use Rattle.std.proofs.lemmas.List.{drop_at, take-append-le, drop-append-le}
 use Rattle.std.proofs.lemmas.List.Edits.{length-between}
 use Rattle.std.proofs.lemmas.List.Sums.{sum_by-cons}
@@ -18,7 +19,8 @@ begin_of-tail : (start end : ℕ) (ends : List ℕ) (place : ℕ) → begin_of s
 begin_of-tail start end ends zero = refl
 begin_of-tail start end ends (suc place) = refl
 
-pub get_or-pieces : {X : Type 0} (start : ℕ) (ends : List ℕ) (xs : List X) (place : ℕ) (d : List X) → place < length ends → get_or (pieces start ends xs) place d ≡ slice_range xs (begin_of start ends place) (get_or ends place 0)
+pub get_or-pieces : {X : Type 0} (start : ℕ) (ends : List ℕ) (xs : List X) (place : ℕ) (d : List X) → place < length ends
+    → get_or (pieces start ends xs) place d ≡ slice_range xs (begin_of start ends place) (get_or ends place 0)
 get_or-pieces start [] xs place d h = absurd (omega arith)
 get_or-pieces start (end ∷ ends) xs zero d h = refl
 get_or-pieces start (end ∷ ends) xs (suc place) d h =
@@ -29,7 +31,8 @@ pub AreEnds-le : (start : ℕ) (ends : List ℕ) (n : ℕ) → AreEnds start end
 AreEnds-le start [] n h = omega arith
 AreEnds-le start (end ∷ ends) n h = omega (arith, h.0, AreEnds-le end ends n h.1)
 
-pub AreEnds-at : (start : ℕ) (ends : List ℕ) (n place : ℕ) → AreEnds start ends n → place < length ends → (begin_of start ends place ≤ get_or ends place 0) × (get_or ends place 0 ≤ n)
+pub AreEnds-at : (start : ℕ) (ends : List ℕ) (n place : ℕ) → AreEnds start ends n → place < length ends → (begin_of start ends place ≤ get_or ends place 0)
+    × (get_or ends place 0 ≤ n)
 AreEnds-at start [] n place h within = absurd (omega arith)
 AreEnds-at start (end ∷ ends) n zero h within = (h.0, AreEnds-le end ends n h.1)
 AreEnds-at start (end ∷ ends) n (suc place) h within =
@@ -56,7 +59,8 @@ slice_range-append_right xs ys n m at to =
     take_all-of [] = refl
     take_all-of (y ∷ ys) = ap (λ zs. y ∷ zs) (take_all-of ys)
 
-pub pieces-push : {X : Type 0} (start : ℕ) (ends : List ℕ) (xs ys : List X) (m : ℕ) → AreEnds start ends (length xs) → m ≡ length xs + length ys → pieces start (ends ++ m ∷ []) (xs ++ ys) ≡ pieces start ends xs ++ ys ∷ []
+pub pieces-push : {X : Type 0} (start : ℕ) (ends : List ℕ) (xs ys : List X) (m : ℕ) → AreEnds start ends (length xs) → m ≡ length xs + length ys
+    → pieces start (ends ++ m ∷ []) (xs ++ ys) ≡ pieces start ends xs ++ ys ∷ []
 pieces-push start [] xs ys m h to =
     let to' : m ≡ start + length ys = omega arith in
     ap (λ piece. piece ∷ []) (slice_range-append_right xs ys start m h to')
@@ -76,14 +80,18 @@ pieces-adds items ends piece new_items new_ends h adds =
     rw (adds.items, adds.ends) (pieces-push 0 ends items piece (length items + length piece) h refl)
 
 -- what is kept after a list was added, or after a refusal
-pub AreEnds-after : {X A E : Type 0} (r : Result A E) (items : List X) (ends : List ℕ) (piece new_items : List X) (new_ends : List ℕ) → AreEnds 0 ends (length items) →
+pub AreEnds-after : {X A E : Type 0} (r : Result A E) (items : List X) (ends : List ℕ) (piece new_items : List X) (new_ends : List ℕ)
+    → AreEnds 0 ends (length items) →
     OnOk r (AddsPiece items ends piece new_items new_ends) → OnErr r (new_items ≡ items) → OnErr r (new_ends ≡ ends) → AreEnds 0 new_ends (length new_items)
 AreEnds-after (Ok v) items ends piece new_items new_ends h adds same_items same_ends = AreEnds-adds items ends piece new_items new_ends h adds
 AreEnds-after (Err e) items ends piece new_items new_ends h adds same_items same_ends = rw (same_items, same_ends) h
 
-pub pieces-after_ok : {X A E : Type 0} (r : Result A E) (items : List X) (ends : List ℕ) (piece new_items : List X) (new_ends : List ℕ) → AreEnds 0 ends (length items) →
-    OnOk r (AddsPiece items ends piece new_items new_ends) → (old : List (List X)) → pieces 0 ends items ≡ old → OnOk r (pieces 0 new_ends new_items ≡ old ++ piece ∷ [])
-pieces-after_ok (Ok v) items ends piece new_items new_ends h adds old is = pieces-adds items ends piece new_items new_ends h adds ∙ ap (λ lists. lists ++ piece ∷ []) is
+pub pieces-after_ok : {X A E : Type 0} (r : Result A E) (items : List X) (ends : List ℕ) (piece new_items : List X) (new_ends : List ℕ)
+    → AreEnds 0 ends (length items) →
+    OnOk r (AddsPiece items ends piece new_items new_ends) → (old : List (List X)) → pieces 0 ends items ≡ old
+    → OnOk r (pieces 0 new_ends new_items ≡ old ++ piece ∷ [])
+pieces-after_ok (Ok v) items ends piece new_items new_ends h adds old is = pieces-adds items ends piece new_items new_ends h adds
+    ∙ ap (λ lists. lists ++ piece ∷ []) is
 pieces-after_ok (Err e) items ends piece new_items new_ends h adds old is = tt
 
 pub pieces-after_err : {X A E : Type 0} (r : Result A E) (items : List X) (ends : List ℕ) (new_items : List X) (new_ends : List ℕ) →

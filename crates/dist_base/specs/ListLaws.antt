@@ -1,5 +1,7 @@
--- Laws of lists: places, what holds of some element, and pairs. No public clause cites them; proofs of the crates above do.
-use Rattle.std.proofs.Common.{◌≡◌, ◌≢◌, ◌⊎◌, ℕ, zero, suc, ◌<◌, inl, inr, ◌∙◌, List, [], ◌∷◌, length, get_or, Some, Option, refl, sym, ap, subst, arith, slice_get}
+-- Laws of lists: places, what holds of some element, and pairs. No public clause cites them; proofs of the crates above
+-- do.
+use Rattle.std.proofs.Common.{◌≡◌, ◌≢◌, ◌⊎◌, ℕ, zero, suc, ◌<◌, inl, inr, ◌∙◌, List, [], ◌∷◌, length, get_or, Some}
+use Rattle.std.proofs.Common.{Option, refl, sym, ap, subst, arith, slice_get}
 use Rattle.std.proofs.lemmas.Bool.{cases_lt}
 use Rattle.std.proofs.lemmas.List.{get_or_default}
 use Rattle.std.proofs.lemmas.Option.{slice_get-get_or, get_or_from_slice_get, slice_get_within}
@@ -10,20 +12,24 @@ some-element P [] k here = absurd here
 some-element P (x ∷ xs) zero here = x
 some-element P (x ∷ xs) (suc k) here = some-element P xs k here
 
-pub element-is : {X : Type 0} (P : X → Type 0) (xs : List X) (k : ℕ) (here : IsSomeAnd (slice_get xs k) P) → slice_get xs k ≡ Some (some-element P xs k here)
+pub element-is : {X : Type 0} (P : X → Type 0) (xs : List X) (k : ℕ) (here : IsSomeAnd (slice_get xs k) P)
+    → slice_get xs k ≡ Some (some-element P xs k here)
 unfolding some-element
 element-is P [] k here = absurd here
 element-is P (x ∷ xs) zero here = refl
 element-is P (x ∷ xs) (suc k) here = element-is P xs k here
 
 -- what an element has, by the equation that names it
-pub has-at : {X : Type 0} (P : X → Type 0) (xs : List X) (k : ℕ) (x : X) → slice_get xs k ≡ Some x → IsSomeAnd (slice_get xs k) P → P x
+pub has-at : {X : Type 0} (P : X → Type 0) (xs : List X) (k : ℕ) (x : X) → slice_get xs k ≡ Some x
+    → IsSomeAnd (slice_get xs k) P → P x
 has-at {X} P xs k x is here = let Q : Option X → Type 0 = λ o. IsSomeAnd o P in subst Q is here
 
-pub at-has : {X : Type 0} (P : X → Type 0) (xs : List X) (k : ℕ) (x : X) → slice_get xs k ≡ Some x → P x → IsSomeAnd (slice_get xs k) P
+pub at-has : {X : Type 0} (P : X → Type 0) (xs : List X) (k : ℕ) (x : X) → slice_get xs k ≡ Some x → P x
+    → IsSomeAnd (slice_get xs k) P
 at-has {X} P xs k x is holds = let Q : Option X → Type 0 = λ o. IsSomeAnd o P in subst Q (sym is) holds
 
-pub at-weaker : {X : Type 0} (P Q : X → Type 0) (xs : List X) (k : ℕ) → ((x : X) → P x → Q x) → IsSomeAnd (slice_get xs k) P → IsSomeAnd (slice_get xs k) Q
+pub at-weaker : {X : Type 0} (P Q : X → Type 0) (xs : List X) (k : ℕ) → ((x : X) → P x → Q x)
+    → IsSomeAnd (slice_get xs k) P → IsSomeAnd (slice_get xs k) Q
 at-weaker P Q xs k more here =
     let x = some-element P xs k here in
     let is = element-is P xs k here in
@@ -61,7 +67,8 @@ pub record ElementAt {X : Type 0} (xs : List X) (k : ℕ) : Type 0 where
 pub element-at : {X : Type 0} (xs : List X) (k : ℕ) → k < length xs → ElementAt xs k
 element-at [] k short = absurd (omega (arith, short))
 element-at (x ∷ xs) zero short = record { element = x; is = refl }
-element-at (x ∷ xs) (suc k) short = let rest = element-at xs k (omega (arith, short)) in record { element = rest.element; is = rest.is }
+element-at (x ∷ xs) (suc k) short = let rest = element-at xs k (omega (arith, short)) in
+    record { element = rest.element; is = rest.is }
 
 -- the place of an element, and what it has
 pub record FoundAt {X : Type 0} (P : X → Type 0) (xs : List X) : Type 0 where
@@ -71,7 +78,12 @@ pub record FoundAt {X : Type 0} (P : X → Type 0) (xs : List X) : Type 0 where
   pub holds : P element
 
 pub found-at : {X : Type 0} (P : X → Type 0) (xs : List X) → Any P xs → FoundAt P xs
-found-at {X} P xs any = record { place = any.0; element = any.1; is = slice_get-get_or xs any.0 any.1 any.2 ∙ ap (λ (y : X). Some y) any.3; holds = any.4 }
+found-at {X} P xs any = record {
+  place = any.0;
+  element = any.1;
+  is = slice_get-get_or xs any.0 any.1 any.2 ∙ ap (λ (y : X). Some y) any.3;
+  holds = any.4;
+}
 
 -- what is known to have a property at a place
 pub record HereAt {X : Type 0} (P : X → Type 0) (xs : List X) (k : ℕ) : Type 0 where
@@ -80,7 +92,11 @@ pub record HereAt {X : Type 0} (P : X → Type 0) (xs : List X) (k : ℕ) : Type
   pub holds : P element
 
 pub here-at : {X : Type 0} (P : X → Type 0) (xs : List X) (k : ℕ) → IsSomeAnd (slice_get xs k) P → HereAt P xs k
-here-at P xs k here = record { element = some-element P xs k here; is = element-is P xs k here; holds = has-at P xs k (some-element P xs k here) (element-is P xs k here) here }
+here-at P xs k here = record {
+  element = some-element P xs k here;
+  is = element-is P xs k here;
+  holds = has-at P xs k (some-element P xs k here) (element-is P xs k here) here;
+}
 
 pub contains-at : {X : Type 0} (xs : List X) (k : ℕ) (x : X) → slice_get xs k ≡ Some x → Contains xs x
 contains-at xs k x is = (k, slice_get_within xs k x is, get_or_from_slice_get xs k x x is)
@@ -90,12 +106,16 @@ pub record PlaceOf {X : Type 0} (xs : List X) (x : X) : Type 0 where
   pub is : slice_get xs place ≡ Some x
 
 pub place-of : {X : Type 0} (xs : List X) (x : X) → Contains xs x → PlaceOf xs x
-place-of {X} xs x there = record { place = there.0; is = slice_get-get_or xs there.0 x there.1 ∙ ap (λ (y : X). Some y) there.2 }
+place-of {X} xs x there = record {
+  place = there.0;
+  is = slice_get-get_or xs there.0 x there.1 ∙ ap (λ (y : X). Some y) there.2;
+}
 
 pub same-at : {X : Type 0} (xs : List X) (k : ℕ) (x y : X) → slice_get xs k ≡ Some x → slice_get xs k ≡ Some y → x ≡ y
 same-at xs k x y first second = cc
 
-pub at-more : {X : Type 0} (P Q : X → Type 0) → ((x : X) → P x → Q x) → (xs : List X) (k : ℕ) → IsSomeAnd (slice_get xs k) P → IsSomeAnd (slice_get xs k) Q
+pub at-more : {X : Type 0} (P Q : X → Type 0) → ((x : X) → P x → Q x) → (xs : List X) (k : ℕ)
+    → IsSomeAnd (slice_get xs k) P → IsSomeAnd (slice_get xs k) Q
 at-more P Q more [] k here = absurd here
 at-more P Q more (x ∷ xs) zero here = more x here
 at-more P Q more (x ∷ xs) (suc k) here = at-more P Q more xs k here
@@ -116,7 +136,8 @@ abbrev pub IsSymmetric : {X : Type 0} → (X → X → Type 0) → Type 0
 IsSymmetric {X} R = (x y : X) → R x y → R y x
 
 -- two different elements of a list whose pairs are related both ways
-pub pair-from : {X : Type 0} (R : X → X → Type 0) → IsSymmetric R → (xs : List X) (x y : X) → AllPairs R xs → Contains xs x → Contains xs y → x ≢ y → R x y
+pub pair-from : {X : Type 0} (R : X → X → Type 0) → IsSymmetric R → (xs : List X) (x y : X) → AllPairs R xs
+    → Contains xs x → Contains xs y → x ≢ y → R x y
 pair-from {X} R symmetric xs x y pairs first second apart =
     elim (cases_lt first.0 second.0) [
       | inl less ↦
@@ -137,8 +158,10 @@ pair-from {X} R symmetric xs x y pairs first second apart =
 
 -- ---- pairs
 
-pub pairs-head : {X : Type 0} (R : X → X → Type 0) (x : X) (xs : List X) → AllPairs R (x ∷ xs) → (y : X) → Contains xs y → R x y
-pairs-head R x xs pairs y there = subst (λ z. R x z) there.2 (pairs 0 (suc there.0) y (omega arith) (omega (arith, there.1)))
+pub pairs-head : {X : Type 0} (R : X → X → Type 0) (x : X) (xs : List X) → AllPairs R (x ∷ xs) → (y : X) → Contains xs y
+    → R x y
+pairs-head R x xs pairs y there = subst (λ z. R x z) there.2
+    (pairs 0 (suc there.0) y (omega arith) (omega (arith, there.1)))
 
 pub pairs-tail : {X : Type 0} (R : X → X → Type 0) (x : X) (xs : List X) → AllPairs R (x ∷ xs) → AllPairs R xs
 pairs-tail R x xs pairs i j d less short = pairs (suc i) (suc j) d (omega (arith, less)) (omega (arith, short))

@@ -25,6 +25,7 @@ pieces_example : pieces {X = ℕ} 0 (2 ∷ 2 ∷ 3 ∷ []) (7 ∷ 8 ∷ 9 ∷ []
 pieces_example = refl
 
 -- a piece is added at the end
-pub record AddsPiece {X : Type 0} (old_items : List X) (old_ends : List ℕ) (piece new_items : List X) (new_ends : List ℕ) : Type 0 where
+pub record AddsPiece {X : Type 0} (old_items : List X) (old_ends : List ℕ) (piece new_items : List X)
+    (new_ends : List ℕ) : Type 0 where
   pub items : new_items ≡ old_items ++ piece
   pub ends : new_ends ≡ old_ends ++ (length old_items + length piece) ∷ []

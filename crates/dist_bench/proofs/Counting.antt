@@ -40,14 +40,16 @@ pub have-none : (r : PackageList) (clusters : ClusterList) → HaveClasses r clu
 have-none r clusters = record { lists = []; one_each = refl; are = λ place within. absurd (omega arith); is = refl }
 
 pub have-more : (r : PackageList) (clusters : ClusterList) (first number : ℕ) (list : List Class) → HaveClasses r clusters first number
-    → AreClassesOf r (slice_index_or clusters.members first []) (slice_index_or clusters.tops first []) list → HaveClasses r clusters (first + 1) (number + length list)
+    → AreClassesOf r (slice_index_or clusters.members first []) (slice_index_or clusters.tops first []) list
+    → HaveClasses r clusters (first + 1) (number + length list)
 have-more r clusters first number list before here = record {
   lists = before.lists ++ list ∷ [];
   one_each = omega (arith, length-append before.lists (list ∷ []), before.one_each);
   are = λ place within. elim (cases_lt place first) [
     | inl earlier ↦ subst (λ (classes : List Class). AreClassesOf r (slice_index_or clusters.members place []) (slice_index_or clusters.tops place []) classes)
         (sym (get_or_append_left before.lists (list ∷ []) [] place (omega (arith, before.one_each)))) (before.are place earlier)
-    | inr later ↦ subst (λ (n : ℕ). AreClassesOf r (slice_index_or clusters.members n []) (slice_index_or clusters.tops n []) (slice_index_or (before.lists ++ list ∷ []) n []))
+    | inr later ↦ subst (λ (n : ℕ). AreClassesOf r (slice_index_or clusters.members n []) (slice_index_or clusters.tops n [])
+        (slice_index_or (before.lists ++ list ∷ []) n []))
         (omega arith)
         (subst (λ (classes : List Class). AreClassesOf r (slice_index_or clusters.members first []) (slice_index_or clusters.tops first []) classes)
         (sym (get_or_push before.lists list [] first before.one_each)) here)
@@ -61,5 +63,6 @@ pub three-counts : (first second third : List ℕ) (a b d a-told d-told : ℕ) (
     three ≡ (counted a first ++ counted b second) ++ counted d third
 three-counts first second third a b d a-told d-told one two three is-one is-a is-two is-three is-d =
     is-three
-    ∙ ap (λ (text : List ℕ). text ++ counted d-told third) (is-two ∙ ap (λ (text : List ℕ). text ++ counted b second) (is-one ∙ ap (λ (n : ℕ). counted n first) is-a))
+    ∙ ap (λ (text : List ℕ). text ++ counted d-told third) (is-two
+    ∙ ap (λ (text : List ℕ). text ++ counted b second) (is-one ∙ ap (λ (n : ℕ). counted n first) is-a))
     ∙ ap (λ (n : ℕ). (counted a first ++ counted b second) ++ counted n third) is-d

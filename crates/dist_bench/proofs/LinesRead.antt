@@ -67,7 +67,8 @@ versions-all text versions so_far =
 pub counts-more : (kind : Kind) (done : List (List ℕ)) (line : List ℕ) (number first : ℕ) → CountsLines kind done number → CountsLine kind line first
     → CountsLines kind (done ++ line ∷ []) (number + first)
 counts-more kind [] line number first none one = (first, 0, one, refl, omega (arith, none))
-counts-more kind (head ∷ done) line number first (m, k, here, rest, is) one = (m, k + first, here, counts-more kind done line k first rest one, omega (arith, is))
+counts-more kind (head ∷ done) line number first (m, k, here, rest, is) one =
+    (m, k + first, here, counts-more kind done line k first rest one, omega (arith, is))
 
 -- each field of a line was read
 pub reads : (line : List ℕ) (d k p : ℕ) → CountsLine Depends line d → CountsLine Conflicts line k → CountsLine Provides line p → IsRead line

@@ -26,11 +26,13 @@ HaveFutureCounts text counts = OfSpace text (λ space. (clauses : List (List Lit
     × (counts.clauses ≡ length clauses) × (counts.literals ≡ literal_count clauses))
 
 abbrev pub future_counts_text : SetCounts → List ℕ
-future_counts_text counts = counted counts.clauses (codes " clauses of futures, ") ++ counted counts.literals (codes " literals\n")
+future_counts_text counts = counted counts.clauses (codes " clauses of futures, ")
+    ++ counted counts.literals (codes " literals\n")
 
 -- the answer of `count-future-clauses`, and why it has none
 abbrev pub IsFutureClausesText : (text answer : List ℕ) → Type 0
-IsFutureClausesText text answer = (counts : SetCounts) × HaveFutureCounts text counts × (answer ≡ future_counts_text counts)
+IsFutureClausesText text answer = (counts : SetCounts) × HaveFutureCounts text counts
+    × (answer ≡ future_counts_text counts)
 
 abbrev pub HasNoFutureClauses : (text : List ℕ) → JobError → Type 0
 HasNoFutureClauses text error = HasNoSpace text error ⊎ ((error ≡ TooManyClauses) × OfSpace text PassesFutureLimits)

@@ -20,7 +20,8 @@ OfSpace text P = OfNewest text (λ r. (space : SpaceView) × IsSpaceWithin r spa
 
 -- the text is no Packages file, or the space of its newest packages has more variables than the stated limit
 abbrev pub HasNoSpace : (text : List ℕ) → JobError → Type 0
-HasNoSpace text error = HasNoPackages text error ⊎ ((error ≡ TooManyVariables) × OfNewest text (λ r. HasMoreVariables r false MAX_VARIABLES))
+HasNoSpace text error = HasNoPackages text error
+    ⊎ ((error ≡ TooManyVariables) × OfNewest text (λ r. HasMoreVariables r false MAX_VARIABLES))
 
 -- the answer of `count-future-variables`
 abbrev pub IsVariablesText : (text answer : List ℕ) → Type 0

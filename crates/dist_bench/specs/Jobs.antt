@@ -4,12 +4,15 @@ use Rattle.dist_bench.specs.Counted.{lines_text}
 use Rattle.dist_bench.specs.Filled.{HasNoCount, IsFilledText}
 use Rattle.dist_bench.specs.FutureClauses.{HasNoFutureClauses, IsFutureClausesText}
 use Rattle.dist_bench.specs.Futures.{HasNoSpace, IsVariablesText}
-use Rattle.dist_bench.specs.Packages.{HasNoClauses, HasNoPackages, IsClassesText, IsClausesText, IsPackagesText, OfNewest}
+use Rattle.dist_bench.specs.Packages.{HasNoClauses, HasNoPackages, IsClassesText, IsClausesText, IsPackagesText}
+use Rattle.dist_bench.specs.Packages.{OfNewest}
 use Rattle.dist_bench.specs.Relations.{HasNoRelations, IsCountsText}
 use Rattle.dist_bench.specs.Versions.{HasNoVersion, IsSortedText}
 use Rattle.dist_bench.specs.declared.error.JobError.{JobError}
 use Rattle.dist_bench.specs.declared.job.Job.{Job}
-use Rattle.dist_bench.specs.declared.job.Job.TheVariants.{CountLines, CountClasses, CountClauses, CountFutureClauses, CountFutureVariables, CountPackages, FillClauses, ReadRelations, SortVersions}
+use Rattle.dist_bench.specs.declared.job.Job.TheVariants.{CountLines, CountClasses, CountClauses, CountFutureClauses}
+use Rattle.dist_bench.specs.declared.job.Job.TheVariants.{CountFutureVariables, CountPackages, FillClauses}
+use Rattle.dist_bench.specs.declared.job.Job.TheVariants.{ReadRelations, SortVersions}
 
 abbrev pub word_of : Job → List ℕ
 word_of CountLines = codes "count-lines"

@@ -51,7 +51,8 @@ pub record ArePresentWithin (r : PackageList) (clauses : List (List Literal)) : 
   pub within : ¬ PassesPresentLimits r
 
 abbrev pub IsClausesText : (text answer : List ℕ) → Type 0
-IsClausesText text answer = OfFile text (λ r. (clauses : List (List Literal)) × ArePresentWithin r clauses × (answer ≡ counted (length clauses) (codes " clauses\n")))
+IsClausesText text answer = OfFile text (λ r. (clauses : List (List Literal)) × ArePresentWithin r clauses
+    × (answer ≡ counted (length clauses) (codes " clauses\n")))
 
 abbrev pub HasNoClauses : (text : List ℕ) → JobError → Type 0
 HasNoClauses text error = HasNoPackages text error ⊎ ((error ≡ TooManyClauses) × OfFile text PassesPresentLimits)
@@ -63,7 +64,8 @@ pub record HaveClasses (r : PackageList) (clusters : ClusterList) (first : ℕ) 
   pub lists : List (List Class)
   pub one_each : length lists ≡ first
   pub are : (place : ℕ) → place < first
-      → AreClassesOf r (slice_index_or clusters.members place []) (slice_index_or clusters.tops place []) (slice_index_or lists place [])
+      → AreClassesOf r (slice_index_or clusters.members place []) (slice_index_or clusters.tops place [])
+      (slice_index_or lists place [])
   pub is : number ≡ sum_by (λ list. length list) lists
 
 -- the clusters of a repository, their classes, and its new names
@@ -74,4 +76,5 @@ pub record IsClassesText (r : PackageList) (answer : List ℕ) : Type 0 where
   pub have_classes : HaveClasses r clusters (length clusters.members) classes
   pub names : List (List ℕ)
   pub are_names : AreNewNames r names
-  pub is : answer ≡ (counted (length clusters.members) (codes " clusters, ") ++ counted classes (codes " classes, ")) ++ counted (length names) (codes " new names\n")
+  pub is : answer ≡ (counted (length clusters.members) (codes " clusters, ") ++ counted classes (codes " classes, "))
+      ++ counted (length names) (codes " new names\n")

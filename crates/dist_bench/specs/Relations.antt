@@ -41,7 +41,8 @@ CountsLine kind line number =
 -- and so many all lines have
 abbrev pub CountsLines : Kind → (list : List (List ℕ)) → ℕ → Type 0
 CountsLines kind [] number = number ≡ 0
-CountsLines kind (line ∷ list) number = (first others : ℕ) × CountsLine kind line first × CountsLines kind list others × (number ≡ first + others)
+CountsLines kind (line ∷ list) number = (first others : ℕ) × CountsLine kind line first × CountsLines kind list others
+    × (number ≡ first + others)
 
 pub record AreCounts (list : List (List ℕ)) (counts : Counts) : Type 0 where
   pub dependencies : CountsLines Depends list counts.dependencies
@@ -49,7 +50,8 @@ pub record AreCounts (list : List (List ℕ)) (counts : Counts) : Type 0 where
   pub provided : CountsLines Provides list counts.provided
 
 abbrev pub relation_counts_text : Counts → List ℕ
-relation_counts_text counts = (counted counts.dependencies (codes " dependencies, ") ++ counted counts.conflicts (codes " conflicts, ")) ++ counted counts.provided (codes " provided\n")
+relation_counts_text counts = (counted counts.dependencies (codes " dependencies, ")
+    ++ counted counts.conflicts (codes " conflicts, ")) ++ counted counts.provided (codes " provided\n")
 
 -- the answer of `read-relations`
 abbrev pub IsCountsText : (text answer : List ℕ) → Type 0

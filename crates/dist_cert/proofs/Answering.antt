@@ -1,5 +1,6 @@
 -- What a reader answers, from where the reading of a line ended.
-use Rattle.std.proofs.Common.{◌≡◌, ◌≢◌, ℕ, ◌+◌, ◌-◌, ◌^◌, ◌<◌, Bool, true, false, List, [], ◌++◌, length, drop, Option, Some, None, Result, Ok, Err, ⊎_elim, inl, inr, refl, ap, sym, subst, ◌∙◌, arith, append_assoc}
+use Rattle.std.proofs.Common.{◌≡◌, ◌≢◌, ℕ, ◌+◌, ◌-◌, ◌^◌, ◌<◌, Bool, true, false, List, [], ◌++◌, length, drop, Option, Some, None, Result, Ok, Err, ⊎_elim}
+use Rattle.std.proofs.Common.{inl, inr, refl, ap, sym, subst, ◌∙◌, arith, append_assoc}
 use Rattle.std.specs.Prelude.{◌⊎◌}
 use Rattle.std.proofs.lemmas.Bool.{false≢true}
 use Rattle.dist_outside.specs.DeskView.{DeskView}
@@ -23,7 +24,8 @@ pub feed : (limits : Limits) (given : ℕ) (new : Held) (reached : Reached) → 
 feed limits given new reached is end = subst (HasEnd limits given new) is end
 
 -- there is room to count a line that keeps the limit of the whole
-pub counted : (limits : Limits) (given : ℕ) (new : Held) (reached : Reached) → reached ≡ Feed → HasEnd limits given new reached → (line : List ℕ) → line ≡ new.line
+pub counted : (limits : Limits) (given : ℕ) (new : Held) (reached : Reached) → reached ≡ Feed → HasEnd limits given new reached → (line : List ℕ)
+    → line ≡ new.line
     → given + length line < 2 ^ 64 - 1
 counted limits given new reached is end line same =
     let next : HasFeed limits given new = feed limits given new reached is end in
@@ -55,7 +57,8 @@ module _ (limits : Limits) (given : ℕ) (new : Held) (is : HasFeed limits given
       (h.0, h.1, (f rest (is.more ++ b.0) h.2.1 (begun rest b.0 (sym h.2.0 ∙ b.1)), h.2.0))
 
   -- and of one that was
-  pub passed : (before left : Option (List ℕ)) (R : List ℕ → List ℕ → Type 0) → WhereTold before (in_front (held_text new) left) (Ends (KeepsLimits limits given))
+  pub passed : (before left : Option (List ℕ)) (R : List ℕ → List ℕ → Type 0)
+      → WhereTold before (in_front (held_text new) left) (Ends (KeepsLimits limits given))
       → ((rest more : List ℕ) → KeepsLimits limits given rest → BeginsWith rest new.line more → R rest more)
       → WhereTold before (in_front ([] ++ drop 1 new.behind) left) R
   passed None None R h f = refl
@@ -73,14 +76,17 @@ module _ (limits : Limits) (given : ℕ) (new : Held) (is : HasFeed limits given
 
 -- ---- the first line
 
-module _ (limits : Limits) (given lines : ℕ) (ended : Bool) (old new : Held) (r : ReaderView) (is : view_of limits given lines ended old ≡ r) (left after : DeskView) (reached : Reached)
-    (read : WhereTold (text_held old left) (text_held new after) (Ends (λ rest. EndsAt limits given new rest (Ok reached)))) (end : HasEnd limits given new reached) where
+module _ (limits : Limits) (given lines : ℕ) (ended : Bool) (old new : Held) (r : ReaderView) (is : view_of limits given lines ended old ≡ r)
+    (left after : DeskView) (reached : Reached)
+    (read : WhereTold (text_held old left) (text_held new after) (Ends (λ rest. EndsAt limits given new rest (Ok reached))))
+    (end : HasEnd limits given new reached) where
   -- the text that the reader left, where the view of the reader is opened
   opened : (R : ReaderView → List ℕ → List ℕ → Type 0) (told : Option (List ℕ)) → WhereTold (text_held old left) told (R (view_of limits given lines ended old))
       → WhereTold (text_left r left) told (R r)
   opened R told h = subst (λ v. WhereTold (text_left v left) told (R v)) is h
 
-  reached_as : (other : Reached) → reached ≡ other → WhereTold (text_held old left) (text_held new after) (Ends (λ rest. EndsAt limits given new rest (Ok other)))
+  reached_as : (other : Reached) → reached ≡ other → WhereTold (text_held old left) (text_held new after)
+      (Ends (λ rest. EndsAt limits given new rest (Ok other)))
   reached_as other e = subst (λ to. WhereTold (text_held old left) (text_held new after) (Ends (λ rest. EndsAt limits given new rest (Ok to)))) e read
 
   pub header_cut : reached ≡ File → (line : ℕ) (error : ReadCertError) → error ≡ Bad (record { line = line; cause = causes.Truncated })
@@ -90,7 +96,8 @@ module _ (limits : Limits) (given lines : ℕ) (ended : Bool) (old new : Held) (
       (told_weaker (text_held old left) (text_held new after) _ _
       (λ rest more h. ((h.1.0, subst IsOneLine (sym h.1.1) (subst (HasEnd limits given new) at end)), h.0)) (reached_as File at)))
 
-  pub header_bad : reached ≡ Feed → IsReadAsHeader new.line None → (line : ℕ) (error : ReadCertError) → error ≡ Bad (record { line = line; cause = causes.BadHeader })
+  pub header_bad : reached ≡ Feed → IsReadAsHeader new.line None → (line : ℕ) (error : ReadCertError)
+      → error ≡ Bad (record { line = line; cause = causes.BadHeader })
       → WhereTold (text_left r left) (text_held new after) (λ rest more. HeaderAnswers r rest more (Err error))
   header_bad at none line error e = subst (λ x. WhereTold (text_left r left) (text_held new after) (λ rest more. HeaderAnswers r rest more (Err x))) (sym e)
       (opened (λ v rest more. HeaderAnswers v rest more (Err (Bad (record { line = line; cause = causes.BadHeader })))) (text_held new after)
@@ -106,12 +113,14 @@ module _ (limits : Limits) (given lines : ℕ) (ended : Bool) (old new : Held) (
 
   -- ---- a later line
 
-  record_end : reached ≡ File → ended ≡ true → new.line ≡ [] → WhereTold (text_left r left) (text_held new after) (λ rest more. RecordAnswers r rest more (Ok None))
+  record_end : reached ≡ File → ended ≡ true → new.line ≡ []
+      → WhereTold (text_left r left) (text_held new after) (λ rest more. RecordAnswers r rest more (Ok None))
   record_end at over nothing = opened (λ v rest more. RecordAnswers v rest more (Ok None)) (text_held new after)
       (told_weaker (text_held old left) (text_held new after) _ _
       (λ rest more h. (record { limits = h.1.0; ended = over; nothing = h.1.1 ∙ nothing }, h.0)) (reached_as File at))
 
-  record_cut : reached ≡ File → (new.line ≢ []) ⊎ (ended ≡ false) → (line : ℕ) (error : ReadCertError) → error ≡ Bad (record { line = line; cause = causes.Truncated })
+  record_cut : reached ≡ File → (new.line ≢ []) ⊎ (ended ≡ false) → (line : ℕ) (error : ReadCertError)
+      → error ≡ Bad (record { line = line; cause = causes.Truncated })
       → WhereTold (text_left r left) (text_held new after) (λ rest more. RecordAnswers r rest more (Err error))
   record_cut at cut line error e = subst (λ x. WhereTold (text_left r left) (text_held new after) (λ rest more. RecordAnswers r rest more (Err x))) (sym e)
       (opened (λ v rest more. RecordAnswers v rest more (Err (Bad (record { line = line; cause = causes.Truncated })))) (text_held new after)
@@ -131,7 +140,8 @@ module _ (limits : Limits) (given lines : ℕ) (ended : Bool) (old new : Held) (
       → WhereTold (text_left r left) (text_held new after) (λ rest more. RecordAnswers r rest more result)
   record_file at line same (Ok None) h = record_end at h.0 (sym same ∙ h.1)
   record_file at line same (Ok (Some step)) h = absurd h
-  record_file at line same (Err error) h = record_cut at (⊎_elim (λ some. inl (λ none. some (same ∙ none))) (λ not_over. inr not_over) h.1) (lines + 1) error h.0
+  record_file at line same (Err error) h = record_cut at (⊎_elim (λ some. inl (λ none. some (same ∙ none))) (λ not_over. inr not_over) h.1) (lines + 1) error
+      h.0
 
   pub record_bad : reached ≡ Feed → IsReadAs new.line None → (line : ℕ) (error : ReadCertError) → error ≡ Bad (record { line = line; cause = causes.BadRecord })
       → WhereTold (text_left r left) (text_held new after) (λ rest more. RecordAnswers r rest more (Err error))
@@ -140,9 +150,11 @@ module _ (limits : Limits) (given lines : ℕ) (ended : Bool) (old new : Held) (
       (kept limits given new (feed limits given new reached at end) (text_held old left) (unread after) _ (reached_as Feed at)
       (λ rest more keeps line_is. (keeps, (new.line, more, line_is, inr none)))))
 
-  pub record_ok : reached ≡ Feed → ended ≡ false → (step : CertRecord) → IsReadAs new.line (Some step) → (next : Held) → next ≡ record { line = []; behind = drop 1 new.behind }
+  pub record_ok : reached ≡ Feed → ended ≡ false → (step : CertRecord) → IsReadAs new.line (Some step) → (next : Held)
+      → next ≡ record { line = []; behind = drop 1 new.behind }
       → WhereTold (text_left r left) (text_held next after) (λ rest more. RecordAnswers r rest more (Ok (Some step)))
-  record_ok at not_over step form next on = subst (λ n. WhereTold (text_left r left) (text_held n after) (λ rest more. RecordAnswers r rest more (Ok (Some step)))) (sym on)
+  record_ok at not_over step form next on = subst (λ n. WhereTold (text_left r left) (text_held n after)
+      (λ rest more. RecordAnswers r rest more (Ok (Some step)))) (sym on)
       (opened (λ v rest more. RecordAnswers v rest more (Ok (Some step))) (in_front ([] ++ drop 1 new.behind) (unread after))
       (passed limits given new (feed limits given new reached at end) (text_held old left) (unread after) _ (reached_as Feed at)
       (λ rest more keeps line_is. record { limits = keeps; not_ended = not_over; line = new.line; begins = line_is; form = form })))

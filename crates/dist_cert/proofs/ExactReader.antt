@@ -1,5 +1,6 @@
 -- What the text is decides what a reader answers.
-use Rattle.std.proofs.Common.{◌≡◌, ◌≢◌, ◌⊎◌, ⊎_elim, inl, inr, ℕ, List, [], ◌∷◌, Option, Some, None, Result, Ok, Err, length, refl, ap, sym, subst, ◌∙◌, arith, length-append}
+use Rattle.std.proofs.Common.{◌≡◌, ◌≢◌, ◌⊎◌, ⊎_elim, inl, inr, ℕ, List, [], ◌∷◌, Option, Some, None, Result, Ok, Err, length, refl, ap, sym, subst, ◌∙◌, arith}
+use Rattle.std.proofs.Common.{length-append}
 use Rattle.std.proofs.lemmas.Bool.{false≢true}
 use Rattle.dist_outside.specs.declared.trouble.What.TheVariants.{Certificate}
 use Rattle.dist_outside.specs.declared.trouble.WorkError.TheVariants.{TooLarge}
@@ -43,7 +44,8 @@ record AreExclusive (Has : CertCause → Type 0) (bad : CertCause) : Type 0 wher
 one_fault : (Has : CertCause → Type 0) (bad : CertCause) → AreExclusive Has bad → (cause other : CertCause) → Has cause → Has other → other ≡ cause
 one_fault Has bad x cause other f g = at (x.only cause f) (x.only other g)
   where
-    at : (cause ≡ causes.LineTooLong) ⊎ ((cause ≡ causes.Truncated) ⊎ (cause ≡ bad)) → (other ≡ causes.LineTooLong) ⊎ ((other ≡ causes.Truncated) ⊎ (other ≡ bad)) → other ≡ cause
+    at : (cause ≡ causes.LineTooLong) ⊎ ((cause ≡ causes.Truncated) ⊎ (cause ≡ bad)) → (other ≡ causes.LineTooLong)
+        ⊎ ((other ≡ causes.Truncated) ⊎ (other ≡ bad)) → other ≡ cause
     at (inl a) (inl b) = b ∙ sym a
     at (inl a) (inr (inl b)) = absurd (x.long_cut (subst Has a f) (subst Has b g))
     at (inl a) (inr (inr b)) = absurd (x.long_bad (subst Has a f) (subst Has b g))
@@ -60,7 +62,8 @@ one_fault Has bad x cause other f g = at (x.only cause f) (x.only other g)
 header_no_fault : (r : ReaderView) (rest behind : List ℕ) (h : Header) (cause : CertCause) → IsHeaderNext r rest behind h → ¬ HeaderFault r rest cause
 header_no_fault r rest behind h causes.LineTooLong next f = next.limits.line f.1
 header_no_fault r rest behind h causes.Truncated next f = not_cut rest next.line behind next.begins f.1
-header_no_fault r rest behind h causes.BadHeader next f = f.1.3 h (subst (λ l. HasHeaderForm l h) (one_begin rest next.line behind f.1.0 f.1.1 next.begins f.1.2).0 next.form)
+header_no_fault r rest behind h causes.BadHeader next f =
+    f.1.3 h (subst (λ l. HasHeaderForm l h) (one_begin rest next.line behind f.1.0 f.1.1 next.begins f.1.2).0 next.form)
 header_no_fault r rest behind h cause next f = f
 
 header_exclusive : (r : ReaderView) (rest : List ℕ) → AreExclusive (HeaderFault r rest) causes.BadHeader

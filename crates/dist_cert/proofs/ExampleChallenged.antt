@@ -17,9 +17,11 @@ use Rattle.dist_cert.specs.ClaimRules.{yes, IsNamed, IsPairFor, IsPairBelow, Has
 use Rattle.dist_cert.specs.Refusal.{certificate_text}
 use Rattle.dist_cert.specs.Accepted.{Accepted}
 use Rattle.dist_cert.specs.ByRecords.{AreSound, IsSound, IsSoundHeader, accepted_by_records}
-use Rattle.dist_cert.specs.ExampleChallenged.{one_class, moves, needs, stays, space, archive_of_libx, header, fourteen_lines, by_two_classes, ChallengedIsAccepted}
+use Rattle.dist_cert.specs.ExampleChallenged.{one_class, moves, needs, stays, space, archive_of_libx, header, fourteen_lines, by_two_classes}
+use Rattle.dist_cert.specs.ExampleChallenged.{ChallengedIsAccepted}
 use Rattle.dist_cert.proofs.ExampleTests.{makes_true, has, lacks, ends-false, is-model}
-use Rattle.dist_cert.proofs.ExampleLines.{keeps_installation, keeps_hints, from-one, question-line, refuted-line, installation-line, end-line, claims-challenged, sound, sound-more}
+use Rattle.dist_cert.proofs.ExampleLines.{keeps_installation, keeps_hints, from-one, question-line, refuted-line, installation-line, end-line}
+use Rattle.dist_cert.proofs.ExampleLines.{claims-challenged, sound, sound-more}
 use Rattle.dist_cert.proofs.OneLine.{clear}
 
 -- ---- the lines
@@ -83,15 +85,16 @@ libx-holds = record {
 
 -- neither p as it is nor p at its class is installed
 no-p : HasNone space (cluster_at space 2) (1 ∷ 2 ∷ [])
-no-p = All-from_recursion (λ r. (¬ Contains (1 ∷ 2 ∷ []) (space.present r)) × ((class : ℕ) → 1 ≤ class → class ≤ 1 → ¬ Contains (1 ∷ 2 ∷ []) (space.new r class))) (2 ∷ []) (
-  (
-    lacks (1 ∷ 2 ∷ []) 3 refl,
-    λ class least most there.
-        let is : class ≡ 1 = omega (arith, least, most) in
-        lacks (1 ∷ 2 ∷ []) 11 refl (subst (λ k. Contains (1 ∷ 2 ∷ []) (space.new 2 k)) is there),
-  ),
-  tt,
-)
+no-p = All-from_recursion (λ r. (¬ Contains (1 ∷ 2 ∷ []) (space.present r))
+    × ((class : ℕ) → 1 ≤ class → class ≤ 1 → ¬ Contains (1 ∷ 2 ∷ []) (space.new r class))) (2 ∷ []) (
+      (
+        lacks (1 ∷ 2 ∷ []) 3 refl,
+        λ class least most there.
+            let is : class ≡ 1 = omega (arith, least, most) in
+            lacks (1 ∷ 2 ∷ []) 11 refl (subst (λ k. Contains (1 ∷ 2 ∷ []) (space.new 2 k)) is there),
+      ),
+      tt,
+    )
 
 -- the other cluster is p's
 libx-omits-none : ¬ OmitsPair space on_libx 1 (1 ∷ []) []
@@ -143,15 +146,19 @@ p-omits-none o = at o.0.0 o.0.1 o.1 o.2 o.3
 -- with p and libx at its second class, libx is neither as it is nor at its first class
 not-second : Follows (numbered space []) (literal 3 false ∷ literal 6 false ∷ []) (6 ∷ 12 ∷ 5 ∷ 1 ∷ [])
 not-second = ends-false (numbered space []) (literal 3 true ∷ literal 6 true ∷ [])
-    (record { number = 6; made_true = literal 2 false } ∷ record { number = 12; made_true = literal 5 true } ∷ record { number = 5; made_true = literal 4 true } ∷ []) 1 refl
+    (record { number = 6; made_true = literal 2 false } ∷ record { number = 12; made_true = literal 5 true } ∷ record { number = 5; made_true = literal 4 true }
+    ∷ []) 1 refl
 
 not-third : Follows (numbered space []) (literal 3 false ∷ literal 8 false ∷ []) (8 ∷ 12 ∷ 5 ∷ 2 ∷ [])
 not-third = ends-false (numbered space []) (literal 3 true ∷ literal 8 true ∷ [])
-    (record { number = 8; made_true = literal 2 false } ∷ record { number = 12; made_true = literal 5 true } ∷ record { number = 5; made_true = literal 4 true } ∷ []) 2 refl
+    (record { number = 8; made_true = literal 2 false } ∷ record { number = 12; made_true = literal 5 true } ∷ record { number = 5; made_true = literal 4 true }
+    ∷ []) 2 refl
 
 -- an installation that meets all clauses
-installed : (limits : Limits) → 56 ≤ limits.record_line → (before : List CertRecord) (variables line : List ℕ) → record_text (Installation variables) ≡ line → length line < 20
-    → keeps_installation 11 variables ≡ true → list_all (makes_true variables) (one_class ++ moves ++ stays) ≡ true → list_all (makes_true variables) needs ≡ true
+installed : (limits : Limits) → 56 ≤ limits.record_line → (before : List CertRecord) (variables line : List ℕ) → record_text (Installation variables) ≡ line
+    → length line < 20
+    → keeps_installation 11 variables ≡ true → list_all (makes_true variables) (one_class ++ moves ++ stays) ≡ true
+    → list_all (makes_true variables) needs ≡ true
     → list_any is_end before ≡ false → IsSound limits space header before (Installation variables)
 installed limits room before variables line is short keeps future healthy not_ended =
     installation-line limits space header before variables line is keeps
@@ -161,7 +168,13 @@ installed limits room before variables line is short keeps future healthy not_en
 libx-sound : (limits : Limits) → 56 ≤ limits.record_line → AreSound limits space header [] (on_libx ++ claim_on_libx ∷ [])
 unfolding digits
 libx-sound limits room =
-    let rules : KeepsRules claim_on_libx = (lit≤ tt, lit< tt, from-one (1 ∷ []) refl, (λ k d within. absurd (none-of k within)), (λ k d within. absurd (none-of k within))) in (
+    let rules : KeepsRules claim_on_libx = (
+      lit≤ tt,
+      lit< tt,
+      from-one (1 ∷ []) refl,
+      (λ k d within. absurd (none-of k within)),
+      (λ k d within. absurd (none-of k within)),
+    ) in (
       question-line limits space header _ (yes 1 ∷ yes 2 ∷ []) (codes "q 1 2") refl refl (omega (arith, room)) refl,
       (
         installed limits room _ (1 ∷ 2 ∷ []) (codes "m 1 2") refl (lit< tt) refl refl refl refl,
@@ -200,7 +213,8 @@ unfolding digits
 others-sound limits room = (
   question-line limits space header _ (yes 3 ∷ yes 6 ∷ []) (codes "q 3 6") refl refl (omega (arith, room)) refl,
   (
-    answered limits room (on_libx ++ claim_on_libx ∷ at_first) (yes 3 ∷ yes 6 ∷ []) (6 ∷ 12 ∷ 5 ∷ 1 ∷ []) (codes "f 6 12 5 1") refl (lit< tt) refl not-second refl,
+    answered limits room (on_libx ++ claim_on_libx ∷ at_first) (yes 3 ∷ yes 6 ∷ []) (6 ∷ 12 ∷ 5 ∷ 1 ∷ []) (codes "f 6 12 5 1") refl (lit< tt) refl not-second
+        refl,
     (
       question-line limits space header _ (yes 3 ∷ yes 8 ∷ []) (codes "q 3 8") refl refl (omega (arith, room)) refl,
       (

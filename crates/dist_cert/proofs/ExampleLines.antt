@@ -1,5 +1,6 @@
 -- What a line of a worked example needs to have no fault, for each letter that stands in one.
-use Rattle.std.proofs.Common.{◌≡◌, ◌≢◌, ◌⊎◌, ⊎_elim, inl, inr, ℕ, zero, suc, ◌+◌, ◌<◌, ◌≤◌, ◌^◌, ◌&&◌, Bool, true, false, not, List, [], ◌∷◌, ◌++◌, codes, length, get_or, map, eqb, leb, ltb, refl, sym, ap, ◌∙◌, subst, append_assoc, append-nil, arith, lit<}
+use Rattle.std.proofs.Common.{◌≡◌, ◌≢◌, ◌⊎◌, ⊎_elim, inl, inr, ℕ, zero, suc, ◌+◌, ◌<◌, ◌≤◌, ◌^◌, ◌&&◌, Bool, true, false, not, List, [], ◌∷◌, ◌++◌, codes}
+use Rattle.std.proofs.Common.{length, get_or, map, eqb, leb, ltb, refl, sym, ap, ◌∙◌, subst, append_assoc, append-nil, arith, lit<}
 use Rattle.std.specs.List.{All, Any, Contains, list_all, list_any}
 use Rattle.std.proofs.lemmas.Bool.{true≢false, false≢true, and_parts, ltb-true, leb-true, eq-eqb}
 use Rattle.std.proofs.lemmas.List.Elements.{All-map}
@@ -58,7 +59,8 @@ asks matter h before literals all causes.WrongClaim f = false≢true f.0
 asks matter h before literals all cause f = f
 
 pub refutes-asked : (matter : Matter) (h : Header) (before earlier : List CertRecord) (question : List Word) (since : List CertRecord) (hints : List ℕ)
-    → IsOpen before earlier question since → UpTo (length (numbered matter before)) hints → Follows (numbered matter before) (map negation (clause_of question)) hints
+    → IsOpen before earlier question since → UpTo (length (numbered matter before)) hints
+    → Follows (numbered matter before) (map negation (clause_of question)) hints
     → (cause : CertCause) → ¬ HasRecordFault matter h before (Refuted hints) cause
 refutes-asked matter h before earlier question since hints asked all follows causes.OutOfRange f = none-in (λ variable. matter.variables < variable) f
 refutes-asked matter h before earlier question since hints asked all follows causes.OutOfOrder f = f (earlier, question, since, asked)
@@ -90,7 +92,8 @@ installs matter h before variables all future healthy causes.NotAnInstallation f
 installs matter h before variables all future healthy causes.WrongClaim f = false≢true f.0
 installs matter h before variables all future healthy cause f = f
 
-pub claims-strong : (matter : Matter) (h : Header) (before : List CertRecord) (p : ℕ) (named on undecided : List ℕ) → p ≡ claim_count before + 1 → p ≤ matter.packages
+pub claims-strong : (matter : Matter) (h : Header) (before : List CertRecord) (p : ℕ) (named on undecided : List ℕ) → p ≡ claim_count before + 1
+    → p ≤ matter.packages
     → HoldsClaim matter h.kind before (Strong p named on undecided) → ¬ OmitsPackage matter before p named (on ++ undecided)
     → (cause : CertCause) → ¬ HasRecordFault matter h before (Strong p named on undecided) cause
 claims-strong matter h before p named on undecided is within holds whole causes.OutOfRange f = none-in (λ variable. matter.variables < variable) f
@@ -106,7 +109,8 @@ claims-strong matter h before p named on undecided is within holds whole causes.
 claims-strong matter h before p named on undecided is within holds whole causes.Incomplete f = whole f
 claims-strong matter h before p named on undecided is within holds whole cause f = f
 
-pub claims-challenged : (matter : Matter) (h : Header) (before : List CertRecord) (p : ℕ) (named : List ℕ) (by undecided : List (ℕ × ℕ)) → p ≡ claim_count before + 1
+pub claims-challenged : (matter : Matter) (h : Header) (before : List CertRecord) (p : ℕ) (named : List ℕ) (by undecided : List (ℕ × ℕ))
+    → p ≡ claim_count before + 1
     → p ≤ matter.packages → HoldsClaim matter h.kind before (Challenged p named by undecided) → ¬ OmitsPair matter before p named (by ++ undecided)
     → (cause : CertCause) → ¬ HasRecordFault matter h before (Challenged p named by undecided) cause
 claims-challenged matter h before p named by undecided is within holds whole causes.OutOfRange f = none-in (λ variable. matter.variables < variable) f
@@ -122,7 +126,8 @@ claims-challenged matter h before p named by undecided is within holds whole cau
 claims-challenged matter h before p named by undecided is within holds whole causes.Incomplete f = whole f
 claims-challenged matter h before p named by undecided is within holds whole cause f = f
 
-pub is-the-end : (matter : Matter) (h : Header) (before : List CertRecord) → matter.packages ≤ claim_count before → (cause : CertCause) → ¬ HasRecordFault matter h before End cause
+pub is-the-end : (matter : Matter) (h : Header) (before : List CertRecord) → matter.packages ≤ claim_count before → (cause : CertCause)
+    → ¬ HasRecordFault matter h before End cause
 is-the-end matter h before all causes.OutOfRange f = none-in (λ variable. matter.variables < variable) f
 is-the-end matter h before all causes.OutOfOrder f = none-in (λ p. (p ≡ claim_count before + 1 → ⊥) ⊎ (matter.packages < p)) f
 is-the-end matter h before all causes.UnknownLine f = none-in (λ hint. length (numbered matter before) < hint) f
@@ -142,8 +147,10 @@ abbrev small : Word → Bool
 small word = ltb word.0 (2 ^ 32)
 
 -- A line of such a text has no fault where its record has none.
-pub sound : (limits : Limits) (matter : Matter) (h : Header) (before : List CertRecord) (step : CertRecord) (line : List ℕ) → record_text step ≡ line → KeepsRules step
-    → list_all small (words step) ≡ true → length line < limits.record_line → list_any is_end before ≡ false → ((cause : CertCause) → ¬ HasRecordFault matter h before step cause)
+pub sound : (limits : Limits) (matter : Matter) (h : Header) (before : List CertRecord) (step : CertRecord) (line : List ℕ) → record_text step ≡ line
+    → KeepsRules step
+    → list_all small (words step) ≡ true → length line < limits.record_line → list_any is_end before ≡ false
+    → ((cause : CertCause) → ¬ HasRecordFault matter h before step cause)
     → IsSound limits matter h before step
 sound limits matter h before step line is rules numbers short not_ended faultless = record {
   form = record { text = refl; rules = rules; numbers = all-by small (λ word. IsSmall word.0) (λ word e. ltb-true word.0 (2 ^ 32) e) (words step) numbers };
@@ -168,8 +175,10 @@ abbrev keeps_question : ℕ → List Word → Bool
 keeps_question last literals = ltb 0 (length literals) && (list_all (λ (l : Word). leb l.0 last) literals
     && (list_all (λ (l : Word). leb 1 l.0) literals && (all_pairs (λ (l m : Word). not (eqb l.0 m.0)) literals && list_all small literals)))
 
-pub question-line : (limits : Limits) (matter : Matter) (h : Header) (before : List CertRecord) (literals : List Word) (line : List ℕ) → record_text (Question literals) ≡ line
-    → keeps_question matter.variables literals ≡ true → length line < limits.record_line → list_any is_end before ≡ false → IsSound limits matter h before (Question literals)
+pub question-line : (limits : Limits) (matter : Matter) (h : Header) (before : List CertRecord) (literals : List Word) (line : List ℕ)
+    → record_text (Question literals) ≡ line
+    → keeps_question matter.variables literals ≡ true → length line < limits.record_line → list_any is_end before ≡ false
+    → IsSound limits matter h before (Question literals)
 question-line limits matter h before literals line is keeps short not_ended =
     let a = and_parts (ltb 0 (length literals)) _ keeps in
     let b = and_parts (list_all (λ (l : Word). leb l.0 matter.variables) literals) _ a.1 in
@@ -190,7 +199,8 @@ question-line limits matter h before literals line is keeps short not_ended =
 abbrev pub keeps_hints : ℕ → List ℕ → Bool
 keeps_hints last hints = list_all (leb 1) hints && (list_all (λ k. leb k last) hints && list_all small (plains hints))
 
-pub refuted-line : (limits : Limits) (matter : Matter) (h : Header) (before earlier : List CertRecord) (question : List Word) (since : List CertRecord) (hints line : List ℕ)
+pub refuted-line : (limits : Limits) (matter : Matter) (h : Header) (before earlier : List CertRecord) (question : List Word) (since : List CertRecord)
+    (hints line : List ℕ)
     → record_text (Refuted hints) ≡ line → IsOpen before earlier question since → keeps_hints (length (numbered matter before)) hints ≡ true
     → Follows (numbered matter before) (map negation (clause_of question)) hints → length line < limits.record_line
     → list_any is_end before ≡ false → IsSound limits matter h before (Refuted hints)
@@ -202,21 +212,25 @@ refuted-line limits matter h before earlier question since hints line is asked k
 
 -- no variable above the last, and they rise from one on
 abbrev pub keeps_installation : ℕ → List ℕ → Bool
-keeps_installation last variables = list_all (leb 1) variables && (list_all (λ k. leb k last) variables && (all_pairs ltb variables && list_all small (plains variables)))
+keeps_installation last variables = list_all (leb 1) variables
+    && (list_all (λ k. leb k last) variables && (all_pairs ltb variables && list_all small (plains variables)))
 
-pub installation-line : (limits : Limits) (matter : Matter) (h : Header) (before : List CertRecord) (variables line : List ℕ) → record_text (Installation variables) ≡ line
+pub installation-line : (limits : Limits) (matter : Matter) (h : Header) (before : List CertRecord) (variables line : List ℕ)
+    → record_text (Installation variables) ≡ line
     → keeps_installation matter.variables variables ≡ true → matter.IsFuture variables → matter.IsHealthy variables → length line < limits.record_line
     → list_any is_end before ≡ false → IsSound limits matter h before (Installation variables)
 installation-line limits matter h before variables line is keeps future healthy short not_ended =
     let a = and_parts (list_all (leb 1) variables) _ keeps in
     let b = and_parts (list_all (λ k. leb k matter.variables) variables) _ a.1 in
     let c = and_parts (all_pairs ltb variables) _ b.1 in
-    sound limits matter h before (Installation variables) line is (from-one variables a.0, pairs-by ltb (λ v w. v < w) ltb-true variables c.0) c.1 short not_ended
+    sound limits matter h before (Installation variables) line is (from-one variables a.0, pairs-by ltb (λ v w. v < w) ltb-true variables c.0) c.1 short
+    not_ended
     (installs matter h before variables (up-to matter.variables variables b.0) future healthy)
 
 pub end-line : (limits : Limits) (matter : Matter) (h : Header) (before : List CertRecord) → record_text End ≡ codes "e" → matter.packages ≤ claim_count before
     → 1 < limits.record_line → list_any is_end before ≡ false → IsSound limits matter h before End
-end-line limits matter h before is all short not_ended = sound limits matter h before End (codes "e") is tt refl short not_ended (is-the-end matter h before all)
+end-line limits matter h before is all short not_ended =
+    sound limits matter h before End (codes "e") is tt refl short not_ended (is-the-end matter h before all)
 
 -- ---- lines behind others
 
@@ -232,7 +246,8 @@ sound-more limits matter h before (step ∷ lines) more all later = (
 -- ---- refusals
 
 -- the one fault is the first one
-lone-first : (Has : CertCause → Type 0) (cause : CertCause) → Has cause → ((other : CertCause) → (¬ Has other) ⊎ (cause ≡ other)) → (list : List CertCause) → Contains list cause
+lone-first : (Has : CertCause → Type 0) (cause : CertCause) → Has cause → ((other : CertCause) → (¬ Has other) ⊎ (cause ≡ other)) → (list : List CertCause)
+    → Contains list cause
     → IsFirstOf list Has cause
 lone-first Has cause has alone [] there = omega (arith, there.1)
 lone-first Has cause has alone (next ∷ later) there =
@@ -243,10 +258,12 @@ lone-first Has cause has alone (next ∷ later) there =
     behind none (suc k) within is = (k, omega (arith, within), is)
 
 -- a refutation without hints
-pub no-hints : (matter : Matter) (h : Header) (before earlier : List CertRecord) (question : List Word) (since : List CertRecord) → IsOpen before earlier question since
+pub no-hints : (matter : Matter) (h : Header) (before earlier : List CertRecord) (question : List Word) (since : List CertRecord)
+    → IsOpen before earlier question since
     → IsFirstOf in_order (HasRecordFault matter h before (Refuted [])) causes.BadLine
 no-hints matter h before earlier question since asked =
-    lone-first (HasRecordFault matter h before (Refuted [])) causes.BadLine (earlier, question, since, asked, λ follows. follows) alone in_order (7, lit< tt, refl)
+    lone-first (HasRecordFault matter h before (Refuted [])) causes.BadLine (earlier, question, since, asked, λ follows. follows) alone in_order
+    (7, lit< tt, refl)
   where
     none-new : (kind : CertKind) → ¬ IsNoFuture matter kind (Refuted [])
     none-new kinds.Strong g = g

@@ -121,7 +121,8 @@ on-b-sound limits room =
 ending-sound : (limits : Limits) → 50 ≤ limits.record_line → AreSound limits two header on_b (claim_on_b ∷ End ∷ [])
 unfolding digits
 ending-sound limits room = (
-  sound limits two header on_b claim_on_b (codes "s 2 2 0 0") refl (lit≤ tt, lit< tt, from-one (2 ∷ []) refl, from-one [] refl, from-one [] refl) refl (omega (arith, room)) refl
+  sound limits two header on_b claim_on_b (codes "s 2 2 0 0") refl (lit≤ tt, lit< tt, from-one (2 ∷ []) refl, from-one [] refl, from-one [] refl) refl
+      (omega (arith, room)) refl
       (claims-strong two header on_b 2 (2 ∷ []) [] [] refl (lit≤ tt) b-holds b-omits-none),
   (
     end-line limits two header _ refl (lit≤ tt) (omega (arith, room)) refl,

@@ -1,5 +1,6 @@
 -- Tests that compute, and what they show of the conditions of a worked example.
-use Rattle.std.proofs.Common.{◌≡◌, inl, inr, ℕ, ◌&&◌, ◌||◌, Bool, true, false, not, List, [], ◌∷◌, ◌++◌, length, get_or, map, refl, ap, sym, subst, ◌∙◌, eqb, leb, arith}
+use Rattle.std.proofs.Common.{◌≡◌, inl, inr, ℕ, ◌&&◌, ◌||◌, Bool, true, false, not, List, [], ◌∷◌, ◌++◌, length, get_or, map, refl, ap, sym, subst, ◌∙◌, eqb}
+use Rattle.std.proofs.Common.{leb, arith}
 use Rattle.std.specs.List.{All, AllPairs, Contains, list_all, list_any}
 use Rattle.std.proofs.lemmas.Bool.{true≢false, and_parts, eqb-true, eq-eqb, leb-true}
 use Rattle.std.proofs.lemmas.List.Sums.{AllPass-from_list_all}
@@ -20,16 +21,19 @@ abbrev pub all_pairs : {X : Type 0} → (X → X → Bool) → List X → Bool
 all_pairs test [] = true
 all_pairs test (x ∷ xs) = list_all (test x) xs && all_pairs test xs
 
-pub pairs-by : {X : Type 0} (test : X → X → Bool) (R : X → X → Type 0) → ((x y : X) → test x y ≡ true → R x y) → (xs : List X) → all_pairs test xs ≡ true → AllPairs R xs
+pub pairs-by : {X : Type 0} (test : X → X → Bool) (R : X → X → Type 0) → ((x y : X) → test x y ≡ true → R x y) → (xs : List X) → all_pairs test xs ≡ true
+    → AllPairs R xs
 pairs-by test R says [] e = λ i j d before within. absurd (omega (arith, within))
 pairs-by test R says (x ∷ xs) e =
     let parts = and_parts (list_all (test x) xs) (all_pairs test xs) e in
     AllPairs-cons R x xs (all-by (test x) (R x) (says x) xs parts.0) (pairs-by test R says xs parts.1)
 
-pub lacks-by : {X : Type 0} (same : X → X → Bool) → ((x y : X) → x ≡ y → same x y ≡ true) → (xs : List X) (x : X) → list_any (same x) xs ≡ false → ¬ Contains xs x
+pub lacks-by : {X : Type 0} (same : X → X → Bool) → ((x y : X) → x ≡ y → same x y ≡ true) → (xs : List X) (x : X) → list_any (same x) xs ≡ false
+    → ¬ Contains xs x
 lacks-by same says xs x e there = true≢false (sym (list_any_at (same x) xs there.0 x there.1 (says x (get_or xs there.0 x) (sym there.2))) ∙ e)
 
-pub contains-by : {X : Type 0} (same : X → X → Bool) → ((x y : X) → same x y ≡ true → x ≡ y) → (xs : List X) (x : X) → list_any (same x) xs ≡ true → Contains xs x
+pub contains-by : {X : Type 0} (same : X → X → Bool) → ((x y : X) → same x y ≡ true → x ≡ y) → (xs : List X) (x : X) → list_any (same x) xs ≡ true
+    → Contains xs x
 contains-by same says xs x e =
     let some = Any-from_list_any (same x) xs e in
     (some.0, some.2, subst (λ y. get_or xs some.0 y ≡ y) (sym (says x some.1 some.4)) some.3)

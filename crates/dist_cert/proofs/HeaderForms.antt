@@ -34,9 +34,11 @@ numbers_of_line kinds.Outdated false numbers = refl
 numbers_of_line kinds.Challenged true numbers = refl
 numbers_of_line kinds.Challenged false numbers = refl
 
-parts_of_line : (kind : CertKind) (essential : Bool) (numbers : List ℕ) → loose_header (begun kind essential numbers) ≡ header_with kind essential (loose_words numbers)
+parts_of_line : (kind : CertKind) (essential : Bool) (numbers : List ℕ)
+    → loose_header (begun kind essential numbers) ≡ header_with kind essential (loose_words numbers)
 parts_of_line kind essential numbers =
-    ap (λ k. header_with k (mode_in (begun kind essential numbers) k) (loose_words (drop (before_numbers k (mode_in (begun kind essential numbers) k)) (begun kind essential numbers)))) (kind_of_line kind essential numbers)
+    ap (λ k. header_with k (mode_in (begun kind essential numbers) k)
+    (loose_words (drop (before_numbers k (mode_in (begun kind essential numbers) k)) (begun kind essential numbers)))) (kind_of_line kind essential numbers)
     ∙ ap (λ m. header_with kind m (loose_words (drop (before_numbers kind m) (begun kind essential numbers)))) (mode_of_line kind essential numbers)
     ∙ ap (λ bytes. header_with kind essential (loose_words bytes)) (numbers_of_line kind essential numbers)
 

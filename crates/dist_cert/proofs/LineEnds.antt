@@ -1,5 +1,6 @@
 -- A line that was read to its end, or to a limit: what it is of the text that was left.
-use Rattle.std.proofs.Common.{◌≡◌, ◌≢◌, ℕ, zero, suc, ◌+◌, ◌-◌, ◌<◌, ◌≤◌, List, [], ◌∷◌, ◌++◌, length, take, Option, Some, None, Result, Ok, Err, refl, ap, sym, subst, ◌∙◌, arith, length-append, append_assoc}
+use Rattle.std.proofs.Common.{◌≡◌, ◌≢◌, ℕ, zero, suc, ◌+◌, ◌-◌, ◌<◌, ◌≤◌, List, [], ◌∷◌, ◌++◌, length, take, Option, Some, None, Result, Ok, Err, refl, ap, sym}
+use Rattle.std.proofs.Common.{subst, ◌∙◌, arith, length-append, append_assoc}
 use Rattle.std.proofs.lemmas.List.{take-append-le}
 use Rattle.std.proofs.lemmas.List.Elements.{All-tail, All-take}
 use Rattle.dist_outside.specs.declared.limits.Limits.{Limits}
@@ -71,14 +72,16 @@ module _ (limits : Limits) (given : ℕ) (within : given ≤ limits.certificate)
   }
 
   -- and so does one at the end of the text
-  pub keeps_last : length line < limits.record_line → (limits.certificate - given < limits.record_line → length line ≤ limits.certificate - given) → KeepsLimits limits given line
+  pub keeps_last : length line < limits.record_line → (limits.certificate - given < limits.record_line → length line ≤ limits.certificate - given)
+      → KeepsLimits limits given line
   keeps_last short room = record {
     whole = λ p. omega (arith, p.passed, room (omega (arith, p.not_before, within)), within);
     line = λ t. omega (arith, t.0, short);
   }
 
   -- a line that is too long was so before the limit of the whole
-  pub not_passed : (rest : List ℕ) → (limits.certificate - given < limits.record_line → length line ≤ limits.certificate - given) → limits.record_line ≤ length line
+  pub not_passed : (rest : List ℕ) → (limits.certificate - given < limits.record_line → length line ≤ limits.certificate - given)
+      → limits.record_line ≤ length line
       → ¬ PassesWhole limits given rest
   not_passed rest room long p = omega (arith, room (omega (arith, p.not_before, within)), p.not_before, long, within)
 
@@ -94,7 +97,8 @@ most Feed n = omega arith
 most File n = omega arith
 most Within n = omega arith
 
-all_there : (old new : Held) (reached : Reached) → IsReached old new (Ok reached) → (more : List ℕ) → came reached (length new.line) ≤ length (new.line ++ (new.behind ++ more))
+all_there : (old new : Held) (reached : Reached) → IsReached old new (Ok reached) → (more : List ℕ)
+    → came reached (length new.line) ≤ length (new.line ++ (new.behind ++ more))
 all_there old new Feed (behind, is) more = let n = ap length is in omega (arith, n, length-append new.line (new.behind ++ more), length-append new.behind more)
 all_there old new File is more = omega (arith, length-append new.line (new.behind ++ more))
 all_there old new Within is more = omega (arith, length-append new.line (new.behind ++ more))
@@ -103,7 +107,8 @@ abbrev reached_ok : Reached → Result Reached WorkError
 reached_ok reached = Ok reached
 
 -- from what is held
-pub judged : (limits : Limits) (given : ℕ) → given ≤ limits.certificate → (old new : Held) → IsOneLine new.line → (reached : Reached) → IsReached old new (Ok reached)
+pub judged : (limits : Limits) (given : ℕ) → given ≤ limits.certificate → (old new : Held) → IsOneLine new.line → (reached : Reached)
+    → IsReached old new (Ok reached)
     → (result : Result (Option Reached) WorkError) → IsJudged limits (limits.certificate - given) (length new.line) reached result
     → (rest more : List ℕ) → rest ≡ held_text new ++ more → (reached_ok reached ≡ Ok File → rest ≡ new.line) → EndsOr limits given new rest result
 judged limits given within old new one reached is (Ok None) j rest more e whole = tt
@@ -117,10 +122,12 @@ judged limits given within old new one Feed is (Ok (Some Feed)) j rest more e wh
 judged limits given within old new one reached is (Ok (Some Feed)) j rest more e whole = absurd (let bad = j.0 in cc)
 judged limits given within old new one reached is (Ok (Some File)) j rest more e whole =
     let all : rest ≡ new.line = whole (ap Ok j.0) in (
-      subst (KeepsLimits limits given) (sym all) (keeps_last limits given within new.line one j.1 (λ short. omega (arith, j.2 short, least reached (length new.line)))),
+      subst (KeepsLimits limits given) (sym all) (keeps_last limits given within new.line one j.1
+          (λ short. omega (arith, j.2 short, least reached (length new.line)))),
       all,
     )
 judged limits given within old new one reached is (Err (TooLarge Certificate)) j rest more e whole =
     subst (PassesWhole limits given) (sym (e ∙ append_assoc new.line new.behind more))
-    (passes limits given within new.line one (new.behind ++ more) (omega (arith, j.0, most reached (length new.line))) (omega (arith, j.0, all_there old new reached is more)) j.1)
+    (passes limits given within new.line one (new.behind ++ more) (omega (arith, j.0, most reached (length new.line)))
+    (omega (arith, j.0, all_there old new reached is more)) j.1)
 judged limits given within old new one reached is (Err error) j rest more e whole = absurd j

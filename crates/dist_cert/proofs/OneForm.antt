@@ -1,14 +1,17 @@
 -- A line is the text of one record at most, and of one first line at most.
-use Rattle.std.proofs.Common.{◌≡◌, ◌≢◌, ℕ, zero, suc, ◌<◌, ◌≤◌, ◌^◌, Bool, true, false, List, [], ◌∷◌, ◌++◌, All, length, drop, get_or, decimal, refl, ap, sym, ◌∙◌, arith, rules}
+use Rattle.std.proofs.Common.{◌≡◌, ◌≢◌, ℕ, zero, suc, ◌<◌, ◌≤◌, ◌^◌, Bool, true, false, List, [], ◌∷◌, ◌++◌, All, length, drop, get_or, decimal, refl, ap, sym}
+use Rattle.std.proofs.Common.{◌∙◌, arith, rules}
 use Rattle.std.proofs.lemmas.List.Elements.{All-head, All-tail, All-map, All-cons, All-nil}
 use Rattle.std.proofs.lemmas.Fmt.{decimal_by_steps, decimal_injective}
-use Rattle.dist_cert.specs.Form.{Word, word_text, signed_text, words_text, plain, plains, pair_words, separator, letter, words, AreFromOne, ArePairs, KeepsRules, IsSmall, HasForm, kind_text, mode_text, HasHeaderForm}
+use Rattle.dist_cert.specs.Form.{Word, word_text, signed_text, words_text, plain, plains, pair_words, separator, letter, words, AreFromOne, ArePairs}
+use Rattle.dist_cert.specs.Form.{KeepsRules, IsSmall, HasForm, kind_text, mode_text, HasHeaderForm}
 use Rattle.dist_cert.proofs.Parts.{HasNoSpace, IsBehind}
 use Rattle.dist_cert.specs.Decoded.{before, after, numbers, pairs, decoded}
 use Rattle.dist_cert.specs.declared.records.CertKind.{CertKind}
 use Rattle.dist_cert.specs.declared.records.CertKind.TheVariants as kinds
 use Rattle.dist_cert.specs.declared.records.CertRecord.{CertRecord}
-use Rattle.dist_cert.specs.declared.records.CertRecord.TheVariants.{Question, Derived, Refuted, Installation, Undecided, NotInstallable, Unknown, Strong, Outdated, Alive, Challenged, End}
+use Rattle.dist_cert.specs.declared.records.CertRecord.TheVariants.{Question, Derived, Refuted, Installation, Undecided, NotInstallable, Unknown, Strong}
+use Rattle.dist_cert.specs.declared.records.CertRecord.TheVariants.{Outdated, Alive, Challenged, End}
 use Rattle.dist_cert.specs.declared.records.Header.{Header}
 
 -- ---- bytes of a word

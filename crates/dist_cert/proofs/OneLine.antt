@@ -6,9 +6,11 @@ use Rattle.std.proofs.lemmas.List.Elements.{All-head, All-tail, All-cons, All-ni
 use Rattle.dist_cert.specs.declared.records.CertKind.{CertKind}
 use Rattle.dist_cert.specs.declared.records.CertKind.TheVariants as kinds
 use Rattle.dist_cert.specs.declared.records.CertRecord.{CertRecord}
-use Rattle.dist_cert.specs.declared.records.CertRecord.TheVariants.{Question, Derived, Refuted, Installation, Undecided, NotInstallable, Unknown, Strong, Outdated, Alive, Challenged, End}
+use Rattle.dist_cert.specs.declared.records.CertRecord.TheVariants.{Question, Derived, Refuted, Installation, Undecided, NotInstallable, Unknown, Strong}
+use Rattle.dist_cert.specs.declared.records.CertRecord.TheVariants.{Outdated, Alive, Challenged, End}
 use Rattle.dist_cert.specs.declared.records.Header.{Header}
-use Rattle.dist_cert.specs.Form.{Word, IsSmall, signed_text, word_text, words_text, plains, letter, words, record_text, HasForm, kind_text, mode_text, header_text, HasHeaderForm}
+use Rattle.dist_cert.specs.Form.{Word, IsSmall, signed_text, word_text, words_text, plains, letter, words, record_text, HasForm, kind_text, mode_text}
+use Rattle.dist_cert.specs.Form.{header_text, HasHeaderForm}
 use Rattle.dist_cert.specs.Refusal.{line_feed, IsOneLine}
 use Rattle.dist_cert.specs.ClearForms.{FormsAreClear}
 use Rattle.dist_cert.proofs.OneForm.{Digits, digits_of_decimal, header_words_small, one_record, one_header}
@@ -80,7 +82,8 @@ joined a b c d ha hb hc hd =
 
 header_line : (h : Header) → HasHeaderForm (header_text h) h → IsOneLine (header_text h)
 header_line h form = to_line (header_text h)
-    (joined (codes "distfuture-certificate 1 ") (kind_text h.kind) (mode_text h.essential) (words_text (plains (h.limit ∷ h.packages ∷ h.variables ∷ h.clauses ∷ [])))
+    (joined (codes "distfuture-certificate 1 ") (kind_text h.kind) (mode_text h.essential)
+    (words_text (plains (h.limit ∷ h.packages ∷ h.variables ∷ h.clauses ∷ [])))
     (fixed_line (codes "distfuture-certificate 1 ") refl) (kind_line h.kind) (mode_line h.essential)
     (words_line (plains (h.limit ∷ h.packages ∷ h.variables ∷ h.clauses ∷ [])) (header_words_small (header_text h) h form)))
 

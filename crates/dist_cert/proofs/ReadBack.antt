@@ -1,5 +1,6 @@
 -- What a writer wrote is read back.
-use Rattle.std.proofs.Common.{◌≡◌, ℕ, suc, ◌+◌, ◌-◌, ◌<◌, ◌≤◌, true, false, List, [], ◌∷◌, ◌++◌, All, length, refl, ap, sym, subst, ◌∙◌, arith, append_assoc, length-append}
+use Rattle.std.proofs.Common.{◌≡◌, ℕ, suc, ◌+◌, ◌-◌, ◌<◌, ◌≤◌, true, false, List, [], ◌∷◌, ◌++◌, All, length, refl, ap, sym, subst, ◌∙◌, arith, append_assoc}
+use Rattle.std.proofs.Common.{length-append}
 use Rattle.std.proofs.lemmas.List.Elements.{All-head, All-tail, All-nil}
 use Rattle.dist_outside.specs.declared.limits.Limits.{Limits}
 use Rattle.dist_cert.specs.declared.records.CertRecord.{CertRecord}
@@ -15,7 +16,8 @@ use Rattle.dist_cert.proofs.OneLine.{clear}
 
 -- ---- one line, within both limits
 
-keeps : (limits : Limits) (given : ℕ) (line more : List ℕ) → length line < limits.record_line → given + length line < limits.certificate → KeepsLimits limits given (line ++ line_feed ∷ more)
+keeps : (limits : Limits) (given : ℕ) (line more : List ℕ) → length line < limits.record_line → given + length line < limits.certificate
+    → KeepsLimits limits given (line ++ line_feed ∷ more)
 keeps limits given line more short room = record {
   whole = λ p. past (limits.certificate - given) line more (omega (arith, room)) p.in_line;
   line = λ t. past limits.record_line line more short t.1;
@@ -30,7 +32,8 @@ header_next r h behind form short room = record {
   form = form;
 }
 
-record_next : (r : ReaderView) (step : CertRecord) (behind : List ℕ) → r.ended ≡ false → HasForm (record_text step) step → length (record_text step) < r.limits.record_line
+record_next : (r : ReaderView) (step : CertRecord) (behind : List ℕ) → r.ended ≡ false → HasForm (record_text step) step
+    → length (record_text step) < r.limits.record_line
     → r.given + length (record_text step) < r.limits.certificate → IsRecordNext r (record_text step ++ line_feed ∷ behind) behind step
 record_next r step behind going form short room = record {
   limits = keeps r.limits r.given (record_text step) behind short room;
@@ -56,7 +59,8 @@ one_text : (step : CertRecord) (steps : List CertRecord) → lines_text (step �
 one_text step steps = append_assoc (record_text step) (line_feed ∷ []) (lines_text steps)
 
 records_given : (steps : List CertRecord) (r : ReaderView) → r.ended ≡ false → All (λ step. HasForm (record_text step) step) steps
-    → All (λ step. length (record_text step) < r.limits.record_line) steps → All (λ step. is_end step ≡ false) steps → length (record_text End) < r.limits.record_line
+    → All (λ step. length (record_text step) < r.limits.record_line) steps → All (λ step. is_end step ≡ false) steps
+    → length (record_text End) < r.limits.record_line
     → r.given + length (lines_text (steps ++ End ∷ [])) ≤ r.limits.certificate → GivesRecords r (lines_text (steps ++ End ∷ [])) (steps ++ End ∷ [])
 records_given [] r going forms shorts none short room = (
   [],
@@ -66,7 +70,8 @@ records_given [] r going forms shorts none short room = (
 )
 records_given (step ∷ steps) r going forms shorts none short room =
     let text = one_text step (steps ++ End ∷ []) in
-    let size : length (lines_text (step ∷ steps ++ End ∷ [])) ≡ length (record_text step) + suc (length (lines_text (steps ++ End ∷ []))) = ap length text ∙ length-append (record_text step) (line_feed ∷ lines_text (steps ++ End ∷ [])) in
+    let size : length (lines_text (step ∷ steps ++ End ∷ [])) ≡ length (record_text step) + suc (length (lines_text (steps ++ End ∷ []))) = ap length text
+    ∙ length-append (record_text step) (line_feed ∷ lines_text (steps ++ End ∷ [])) in
     let form = All-head (λ s. HasForm (record_text s) s) step steps forms in
     let small = All-head (λ s. length (record_text s) < r.limits.record_line) step steps shorts in (
       lines_text (steps ++ End ∷ []),
@@ -88,5 +93,6 @@ text_given limits h steps can =
       lines_text (steps ++ End ∷ []),
       λ more answer. header_given r (certificate_text h (steps ++ End ∷ [])) (lines_text (steps ++ End ∷ [])) more h answer
           (header_next r h (lines_text (steps ++ End ∷ [])) can.header can.header_short (omega (arith, can.whole, size))),
-      λ held. records_given steps (past_line r held (header_text h)) refl can.records can.records_short can.not_ended can.end_short (omega (arith, can.whole, size)),
+      λ held. records_given steps (past_line r held (header_text h)) refl can.records can.records_short can.not_ended can.end_short
+          (omega (arith, can.whole, size)),
     )

@@ -1,5 +1,6 @@
 -- What a line is read as: a record of its letter and its loose words, or nothing.
-use Rattle.std.proofs.Common.{◌≡◌, ℕ, zero, suc, ◌-◌, ◌≤◌, Bool, true, false, nat_eq, List, [], ◌∷◌, ◌++◌, All, length, get_or, take, drop, take_all, ap, sym, subst, ◌∙◌, arith}
+use Rattle.std.proofs.Common.{◌≡◌, ℕ, zero, suc, ◌-◌, ◌≤◌, Bool, true, false, nat_eq, List, [], ◌∷◌, ◌++◌, All, length, get_or, take, drop, take_all, ap, sym}
+use Rattle.std.proofs.Common.{subst, ◌∙◌, arith}
 use Rattle.std.specs.Prelude.{if◌then◌else◌}
 use Rattle.std.proofs.lemmas.List.Elements.{All-head, All-tail, All-cons, All-nil, All-append}
 use Rattle.dist_cert.specs.declared.records.CertRecord.{CertRecord}
@@ -27,7 +28,8 @@ small_append : (vs ws : List Word) → AreSmall vs → AreSmall ws → AreSmall 
 small_append vs ws some more = All-append (λ v. IsSmall v.0) vs ws some more
 
 small_byte : (w : Word) (byte : ℕ) → IsSmall w.0 → IsSmall (with_byte w byte).0
-small_byte w byte small = elim (nat_eq byte 45) as (λ b. let byte_more : Word = if b then (w.0, false) else (with_digit w.0 byte, w.1) in IsSmall byte_more.0) [ true ↦ small | false ↦ omega arith ]
+small_byte w byte small = elim (nat_eq byte 45) as (λ b. let byte_more : Word = if b then (w.0, false) else (with_digit w.0 byte, w.1) in IsSmall byte_more.0)
+    [ true ↦ small | false ↦ omega arith ]
 
 small_from : (w : Word) (bytes : List ℕ) → IsSmall w.0 → AreSmall (words_from w bytes)
 small_from w [] small = small_cons w [] small (All-nil (λ v. IsSmall v.0))
@@ -104,7 +106,8 @@ small_decoded c ws small =
     either (nat_eq c 115) _ _ (small_cons (plain (first ws)) _ claimed (separated _ _ named
     (separated _ _ (small_numbers _ (small_before _ lists)) (small_numbers _ (small_after _ lists))))) (
     either (nat_eq c 111) _ _ alone (
-    either (nat_eq c 97) _ _ (small_cons (plain (first ws)) (plain (first (rest ws)) ∷ []) claimed (one_small (first (rest ws)) (small_first (rest ws) behind))) (
+    either (nat_eq c 97) _ _ (small_cons (plain (first ws)) (plain (first (rest ws)) ∷ []) claimed (one_small (first (rest ws)) (small_first (rest ws) behind)))
+    (
     either (nat_eq c 99) _ _ (small_cons (plain (first ws)) _ claimed (separated _ _ named
     (separated _ _ (small_pairs _ (small_before _ lists)) (small_pairs _ (small_after _ lists))))) none))))))))))
 
@@ -115,7 +118,8 @@ line_parts [] some = absurd (omega (arith, some))
 line_parts (c ∷ text) some = ap (λ t. c ∷ t) (sym (take_all (length (c ∷ text) - 1) text (omega arith)))
 
 -- a record that keeps the rules and whose text is the line
-pub has_form : (line : List ℕ) (c : ℕ) (text : List ℕ) (step : CertRecord) → step ≡ decoded c (loose_words text) → KeepsRules step × (record_text step ≡ line) → HasForm line step
+pub has_form : (line : List ℕ) (c : ℕ) (text : List ℕ) (step : CertRecord) → step ≡ decoded c (loose_words text) → KeepsRules step × (record_text step ≡ line)
+    → HasForm line step
 has_form line c text step is kept = record {
   text = sym kept.1;
   rules = kept.0;
@@ -123,13 +127,15 @@ has_form line c text step is kept = record {
 }
 
 -- a line has no form but that of the record of its letter and its loose words
-pub no_form : (line : List ℕ) (c : ℕ) (text : List ℕ) (step : CertRecord) → line ≡ c ∷ text → step ≡ decoded c (loose_words text) → ¬ (KeepsRules step × (record_text step ≡ line))
+pub no_form : (line : List ℕ) (c : ℕ) (text : List ℕ) (step : CertRecord) → line ≡ c ∷ text → step ≡ decoded c (loose_words text)
+    → ¬ (KeepsRules step × (record_text step ≡ line))
     → (other : CertRecord) → ¬ HasForm line other
 no_form line c text step parts is not_kept other form =
     let e : c ∷ text ≡ letter other ∷ words_text (words other) = sym parts ∙ form.text in
     let l : c ≡ letter other = heads c (letter other) text (words_text (words other)) e in
     let t : text ≡ words_text (words other) = tails c (letter other) text (words_text (words other)) e in
-    let same : step ≡ other = is ∙ ((λ i. decoded (l i) (loose_words (t i))) ∙ (ap (decoded (letter other)) (words_read (words other) form.numbers) ∙ decoded_of other form.rules)) in
+    let same : step ≡ other = is ∙ ((λ i. decoded (l i) (loose_words (t i)))
+    ∙ (ap (decoded (letter other)) (words_read (words other) form.numbers) ∙ decoded_of other form.rules)) in
     not_kept (subst KeepsRules (sym same) form.rules, ap record_text same ∙ sym form.text)
 
 pub no_text : (other : CertRecord) → ¬ HasForm [] other

@@ -1,5 +1,6 @@
 -- Numbers that rise, and variables that stand once.
-use Rattle.std.proofs.Common.{◌≡◌, ◌≢◌, ℕ, suc, ◌<◌, ◌≤◌, Bool, true, nat_eq, List, All, AllPairs, IsTrue, length, get_or, map, ap, sym, subst, ◌∙◌, arith, add-one, ⊎_elim}
+use Rattle.std.proofs.Common.{◌≡◌, ◌≢◌, ℕ, suc, ◌<◌, ◌≤◌, Bool, true, nat_eq, List, All, AllPairs, IsTrue, length, get_or, map, ap, sym, subst, ◌∙◌, arith}
+use Rattle.std.proofs.Common.{add-one, ⊎_elim}
 use Rattle.std.specs.Prelude.{◌↔◌}
 use Rattle.std.specs.List.Sorted.{IsPermutation, IsSorted}
 use Rattle.std.specs.Ordering.{nat_cmp}
@@ -52,7 +53,8 @@ once_from_rise literals sorted same rise = from_variables literals
     (to_sorted sorted (map variable literals) (IsPermutation-sym (map variable literals) sorted same)
     (λ i j d low high e. omega (arith, rise i j d low high, e)))
 
-pub rise_from_once : (literals : List Word) (sorted : List ℕ) → IsPermutation (map variable literals) sorted → IsSorted nat_cmp sorted → OnceEach literals → Rise sorted
+pub rise_from_once : (literals : List Word) (sorted : List ℕ) → IsPermutation (map variable literals) sorted → IsSorted nat_cmp sorted → OnceEach literals
+    → Rise sorted
 rise_from_once literals sorted same order once = AllPairs-from_increasing sorted
     (IsStrictlyIncreasing-from_distinct sorted (IsNonDecreasingBy-from_sort (λ x. x) sorted order)
     (IsDistinct-from_AllPairs Decides-eqb sorted (to_sorted (map variable literals) sorted same (to_variables literals once))))
@@ -63,7 +65,8 @@ from_one_of : (literals : List Word) → All (λ n. 1 ≤ n) (map variable liter
 from_one_of literals all k d within = subst (λ n. 1 ≤ n) (get_or-map variable literals k d) (all k d.0 (omega (arith, within, length-map literals variable)))
 
 to_one_of : (literals : List Word) → All (λ l. 1 ≤ l.0) literals → All (λ n. 1 ≤ n) (map variable literals)
-to_one_of literals all k d within = subst (λ n. 1 ≤ n) (sym (get_or-map variable literals k (d, true))) (all k (d, true) (omega (arith, within, length-map literals variable)))
+to_one_of literals all k d within = subst (λ n. 1 ≤ n) (sym (get_or-map variable literals k (d, true)))
+    (all k (d, true) (omega (arith, within, length-map literals variable)))
 
 pub literals_from : (literals : List Word) (sorted : List ℕ) → IsPermutation (map variable literals) sorted
     → All (λ n. 1 ≤ n) (map variable literals) → Rise sorted → AreLiterals literals

@@ -26,7 +26,8 @@ claim_in (lines.Unknown p) = claims.Unknown ∷ []
 claim_in (lines.Strong p installations on undecided) = claims.Strong (from_zero on) (from_zero undecided) ∷ []
 claim_in (lines.Outdated p) = claims.Outdated ∷ []
 claim_in (lines.Alive p installation) = claims.Alive ∷ []
-claim_in (lines.Challenged p installations by undecided) = claims.Challenged (pairs_from_zero by) (pairs_from_zero undecided) ∷ []
+claim_in (lines.Challenged p installations by undecided) =
+    claims.Challenged (pairs_from_zero by) (pairs_from_zero undecided) ∷ []
 claim_in step = []
 
 -- the claims of the lines, in order
@@ -36,10 +37,12 @@ claims_in steps = flat_map claim_in steps
 -- ---- acceptance
 
 -- The text is the lines of this header and these records. No line has a fault, and none is missing behind the last.
-pub record IsAcceptedAs (subject : Subject) (limits : Limits) (text : List ℕ) (h : Header) (steps : List CertRecord) : Type 0 where
+pub record IsAcceptedAs (subject : Subject) (limits : Limits) (text : List ℕ) (h : Header)
+    (steps : List CertRecord) : Type 0 where
   pub faultless : AreFaultless subject limits text h steps []
   pub ends : (cause : CertCause) → ¬ HasLineFault subject limits h steps [] cause
 
 -- The text is accepted with this header and these claims, one for each package in order.
 abbrev pub Accepted : Subject → Limits → List ℕ → Header → List Claim → Type 0
-Accepted subject limits text h made = (steps : List CertRecord) × IsAcceptedAs subject limits text h steps × (made ≡ claims_in steps)
+Accepted subject limits text h made = (steps : List CertRecord) × IsAcceptedAs subject limits text h steps
+    × (made ≡ claims_in steps)

@@ -1,9 +1,12 @@
--- Serves private contracts: the record that a letter and words are of, if they are of any. A line that has a form has that
+-- Serves private contracts: the record that a letter and words are of, if they are of any. A line that has a form has
+-- that
 -- of this record.
 use Rattle.std.specs.Prelude.{ℕ, zero, suc, List, [], ◌∷◌, map, nat_eq, if◌then◌else◌}
 use Rattle.dist_cert.specs.Form.{Word}
 use Rattle.dist_cert.specs.declared.records.CertRecord.{CertRecord}
-use Rattle.dist_cert.specs.declared.records.CertRecord.TheVariants.{Question, Derived, Refuted, Installation, Undecided, NotInstallable, Unknown, Strong, Outdated, Alive, Challenged, End}
+use Rattle.dist_cert.specs.declared.records.CertRecord.TheVariants.{Question, Derived, Refuted, Installation, Undecided}
+use Rattle.dist_cert.specs.declared.records.CertRecord.TheVariants.{NotInstallable, Unknown, Strong, Outdated, Alive}
+use Rattle.dist_cert.specs.declared.records.CertRecord.TheVariants.{Challenged, End}
 
 -- the words before the first 0, and those behind it
 abbrev pub before : List Word → List Word
@@ -42,7 +45,9 @@ decoded c ws =
     if nat_eq c 117 then Undecided else (
     if nat_eq c 120 then NotInstallable (first ws) else (
     if nat_eq c 121 then Unknown (first ws) else (
-    if nat_eq c 115 then Strong (first ws) (numbers (before (rest ws))) (numbers (before (after (rest ws)))) (numbers (after (after (rest ws)))) else (
+    if nat_eq c 115 then Strong (first ws) (numbers (before (rest ws))) (numbers (before (after (rest ws))))
+    (numbers (after (after (rest ws)))) else (
     if nat_eq c 111 then Outdated (first ws) else (
     if nat_eq c 97 then Alive (first ws) (first (rest ws)) else (
-    if nat_eq c 99 then Challenged (first ws) (numbers (before (rest ws))) (pairs (before (after (rest ws)))) (pairs (after (after (rest ws)))) else End))))))))))
+    if nat_eq c 99 then Challenged (first ws) (numbers (before (rest ws))) (pairs (before (after (rest ws))))
+    (pairs (after (after (rest ws)))) else End))))))))))

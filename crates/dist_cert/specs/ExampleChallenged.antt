@@ -1,5 +1,7 @@
--- Worked example: a certificate of kind challenged is accepted as a whole. The archive has `libx` of version 1, and `p`, which
--- depends on `libx (<< 2)`. Of libx's later versions the classes are `>> 1, << 2`, `= 2` and `>> 2`, of p's there is one.
+-- Worked example: a certificate of kind challenged is accepted as a whole. The archive has `libx` of version 1, and
+-- `p`, which
+-- depends on `libx (<< 2)`. Of libx's later versions the classes are `>> 1, << 2`, `= 2` and `>> 2`, of p's there is
+-- one.
 use Rattle.std.specs.Prelude.{◌≡◌, ℕ, ◌+◌, ◌-◌, ◌≤◌, true, false, List, [], ◌∷◌, ◌++◌, codes, slice_index_or}
 use Rattle.dist_outside.specs.declared.limits.Limits.{Limits}
 use Rattle.dist_clause.specs.Formula.{Literal, literal, IsModel}
@@ -12,7 +14,8 @@ use Rattle.dist_cert.specs.Subject.{Matter, Subject}
 use Rattle.dist_cert.specs.Accepted.{Accepted}
 use Rattle.dist_cert.specs.ExampleText.{ended_lines}
 
--- ---- the space of its futures: variable 1 is Now; 2 and 3 are libx and p as they are; 4, 6 and 8 say that libx is at its
+-- ---- the space of its futures: variable 1 is Now; 2 and 3 are libx and p as they are; 4, 6 and 8 say that libx is at
+-- its
 -- first, second and third class, and 5, 7 and 9 that it is installed so; 10 and 11 say the same of p and its class
 
 -- at least one of two literals is false
@@ -29,7 +32,8 @@ one_class = not_both 4 6 ∷ not_both 4 8 ∷ not_both 6 8 ∷ []
 
 -- a package is installed as it is where its cluster is at no class, and anew where it is at that class
 abbrev pub moves : List (List Literal)
-moves = not_both 2 4 ∷ only_with 5 4 ∷ not_both 2 6 ∷ only_with 7 6 ∷ not_both 2 8 ∷ only_with 9 8 ∷ not_both 3 10 ∷ only_with 11 10 ∷ []
+moves = not_both 2 4 ∷ only_with 5 4 ∷ not_both 2 6 ∷ only_with 7 6 ∷ not_both 2 8 ∷ only_with 9 8 ∷ not_both 3 10
+    ∷ only_with 11 10 ∷ []
 
 -- p needs libx as it is or at its first class
 abbrev pub needs : List (List Literal)
@@ -43,7 +47,8 @@ stays = not_both 1 4 ∷ not_both 1 6 ∷ not_both 1 8 ∷ not_both 1 10 ∷ []
 abbrev pub number_at : List (List ℕ) → ℕ → ℕ → ℕ
 number_at rows row place = slice_index_or (slice_index_or rows (row - 1) []) (place - 1) 0
 
--- A set of variables stands for a future where it meets all clauses but those of needs, and is healthy where it meets those.
+-- A set of variables stands for a future where it meets all clauses but those of needs, and is healthy where it meets
+-- those.
 abbrev pub space : Matter
 space = record {
   packages = 2;
@@ -59,10 +64,20 @@ space = record {
 
 -- kind challenged is taken, at mode plain
 abbrev pub archive_of_libx : Subject
-archive_of_libx = record { IsTaken = λ kind essential. (kind ≡ kinds.Challenged) × (essential ≡ false); matter = λ kind essential. space }
+archive_of_libx = record {
+  IsTaken = λ kind essential. (kind ≡ kinds.Challenged) × (essential ≡ false);
+  matter = λ kind essential. space;
+}
 
 abbrev pub header : Header
-header = record { kind = kinds.Challenged; limit = 10000; packages = 2; variables = 11; clauses = 16; essential = false }
+header = record {
+  kind = kinds.Challenged;
+  limit = 10000;
+  packages = 2;
+  variables = 11;
+  clauses = 16;
+  essential = false;
+}
 
 -- ---- the certificate
 
@@ -89,6 +104,8 @@ fourteen_lines = ended_lines (
 abbrev pub by_two_classes : List Claim
 by_two_classes = claims.Challenged [] [] ∷ claims.Challenged ((0, 1) ∷ (0, 2) ∷ []) [] ∷ []
 
--- It is accepted, where a line may have as many bytes as its longest one. The law `examples_are_accepted` says that it is so.
+-- It is accepted, where a line may have as many bytes as its longest one. The law `examples_are_accepted` says that it
+-- is so.
 abbrev pub ChallengedIsAccepted : Type 0
-ChallengedIsAccepted = (limits : Limits) → 56 ≤ limits.record_line → Accepted archive_of_libx limits fourteen_lines header by_two_classes
+ChallengedIsAccepted = (limits : Limits) → 56 ≤ limits.record_line
+    → Accepted archive_of_libx limits fourteen_lines header by_two_classes

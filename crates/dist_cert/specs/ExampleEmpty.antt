@@ -23,7 +23,10 @@ nothing = record {
 
 -- kind strong is taken, at mode plain
 abbrev pub empty_archive : Subject
-empty_archive = record { IsTaken = λ kind essential. (kind ≡ kinds.Strong) × (essential ≡ false); matter = λ kind essential. nothing }
+empty_archive = record {
+  IsTaken = λ kind essential. (kind ≡ kinds.Strong) × (essential ≡ false);
+  matter = λ kind essential. nothing;
+}
 
 abbrev pub header : Header
 header = record { kind = kinds.Strong; limit = 10000; packages = 0; variables = 0; clauses = 0; essential = false }
@@ -32,7 +35,8 @@ header = record { kind = kinds.Strong; limit = 10000; packages = 0; variables = 
 abbrev pub two_lines : List ℕ
 two_lines = ended_lines (codes "distfuture-certificate 1 strong plain 10000 0 0 0" ∷ codes "e" ∷ [])
 
--- It is accepted and claims nothing, where a line may have as many bytes as its longest one. The law `examples_are_accepted`
+-- It is accepted and claims nothing, where a line may have as many bytes as its longest one. The law
+-- `examples_are_accepted`
 -- says that it is so.
 abbrev pub EmptyIsAccepted : Type 0
 EmptyIsAccepted = (limits : Limits) → 50 ≤ limits.record_line → Accepted empty_archive limits two_lines header []

@@ -1,4 +1,5 @@
--- Worked example: a certificate of ten lines is accepted as a whole. The archive has `a`, which depends on `b`, and `b`.
+-- Worked example: a certificate of ten lines is accepted as a whole. The archive has `a`, which depends on `b`, and
+-- `b`.
 use Rattle.std.specs.Prelude.{◌≡◌, ℕ, ◌≤◌, true, false, List, [], ◌∷◌, Contains, codes}
 use Rattle.dist_outside.specs.declared.limits.Limits.{Limits}
 use Rattle.dist_clause.specs.Formula.{literal}
@@ -26,7 +27,10 @@ two = record {
 
 -- kind strong is taken, at mode plain
 abbrev pub archive_of_two : Subject
-archive_of_two = record { IsTaken = λ kind essential. (kind ≡ kinds.Strong) × (essential ≡ false); matter = λ kind essential. two }
+archive_of_two = record {
+  IsTaken = λ kind essential. (kind ≡ kinds.Strong) × (essential ≡ false);
+  matter = λ kind essential. two;
+}
 
 abbrev pub header : Header
 header = record { kind = kinds.Strong; limit = 10000; packages = 2; variables = 2; clauses = 1; essential = false }
@@ -51,6 +55,8 @@ ten_lines = ended_lines (
 abbrev pub on_b_and_on_nothing : List Claim
 on_b_and_on_nothing = claims.Strong (1 ∷ []) [] ∷ claims.Strong [] [] ∷ []
 
--- It is accepted, where a line may have as many bytes as its longest one. The law `examples_are_accepted` says that it is so.
+-- It is accepted, where a line may have as many bytes as its longest one. The law `examples_are_accepted` says that it
+-- is so.
 abbrev pub TenLinesAreAccepted : Type 0
-TenLinesAreAccepted = (limits : Limits) → 50 ≤ limits.record_line → Accepted archive_of_two limits ten_lines header on_b_and_on_nothing
+TenLinesAreAccepted = (limits : Limits) → 50 ≤ limits.record_line
+    → Accepted archive_of_two limits ten_lines header on_b_and_on_nothing

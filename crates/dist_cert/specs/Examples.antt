@@ -5,7 +5,14 @@ use Rattle.dist_cert.specs.Form.{record_text, header_text}
 use Rattle.dist_cert.specs.declared.records.CertKind.TheVariants as kinds
 use Rattle.dist_cert.specs.declared.records.CertRecord.TheVariants.{Question, Refuted, Installation, Strong, End}
 
-first_line : header_text (record { kind = kinds.Strong; limit = 10000; packages = 2; variables = 2; clauses = 1; essential = false })
+first_line : header_text (record {
+  kind = kinds.Strong;
+  limit = 10000;
+  packages = 2;
+  variables = 2;
+  clauses = 1;
+  essential = false;
+})
     ≡ codes "distfuture-certificate 1 strong plain 10000 2 2 1"
 unfolding digits
 first_line = refl

@@ -1,13 +1,16 @@
 -- The lines of a certificate, by their form. A line is words with one space between each two: a letter, and numbers.
 -- Numbers are decimal without leading zeros. A literal is a variable from 1, with `-` before it where it is negative.
 -- `0` only separates lists.
-use Rattle.std.specs.Prelude.{◌≡◌, ◌≢◌, ℕ, ◌<◌, ◌≤◌, ◌^◌, Bool, true, false, List, [], ◌∷◌, ◌++◌, All, AllPairs, length, map, codes, decimal}
+use Rattle.std.specs.Prelude.{◌≡◌, ◌≢◌, ℕ, ◌<◌, ◌≤◌, ◌^◌, Bool, true, false, List, [], ◌∷◌, ◌++◌, All, AllPairs, length}
+use Rattle.std.specs.Prelude.{map, codes, decimal}
 use Rattle.std.specs.List.{flat_map}
 use Rattle.dist_base.specs.declared.TheConstants.{MAX_LIMIT}
 use Rattle.dist_cert.specs.declared.records.CertKind.{CertKind}
 use Rattle.dist_cert.specs.declared.records.CertKind.TheVariants as kinds
 use Rattle.dist_cert.specs.declared.records.CertRecord.{CertRecord}
-use Rattle.dist_cert.specs.declared.records.CertRecord.TheVariants.{Question, Derived, Refuted, Installation, Undecided, NotInstallable, Unknown, Strong, Outdated, Alive, Challenged, End}
+use Rattle.dist_cert.specs.declared.records.CertRecord.TheVariants.{Question, Derived, Refuted, Installation, Undecided}
+use Rattle.dist_cert.specs.declared.records.CertRecord.TheVariants.{NotInstallable, Unknown, Strong, Outdated, Alive}
+use Rattle.dist_cert.specs.declared.records.CertRecord.TheVariants.{Challenged, End}
 use Rattle.dist_cert.specs.declared.records.Header.{Header}
 
 -- ---- words
@@ -67,10 +70,12 @@ words (Installation variables) = plains variables
 words Undecided = []
 words (NotInstallable p) = plain p ∷ []
 words (Unknown p) = plain p ∷ []
-words (Strong p installations on undecided) = plain p ∷ (plains installations ++ (separator ∷ (plains on ++ (separator ∷ plains undecided))))
+words (Strong p installations on undecided) =
+    plain p ∷ (plains installations ++ (separator ∷ (plains on ++ (separator ∷ plains undecided))))
 words (Outdated p) = plain p ∷ []
 words (Alive p installation) = plain p ∷ plain installation ∷ []
-words (Challenged p installations by undecided) = plain p ∷ (plains installations ++ (separator ∷ (pair_words by ++ (separator ∷ pair_words undecided))))
+words (Challenged p installations by undecided) =
+    plain p ∷ (plains installations ++ (separator ∷ (pair_words by ++ (separator ∷ pair_words undecided))))
 words End = []
 
 -- the line of a record, without its line feed
@@ -98,10 +103,12 @@ KeepsRules (Installation variables) = AreFromOne variables × AllPairs (λ v w. 
 KeepsRules Undecided = Unit {0}
 KeepsRules (NotInstallable p) = 1 ≤ p
 KeepsRules (Unknown p) = 1 ≤ p
-KeepsRules (Strong p installations on undecided) = (1 ≤ p) × (0 < length installations) × AreFromOne installations × AreFromOne on × AreFromOne undecided
+KeepsRules (Strong p installations on undecided) = (1 ≤ p) × (0 < length installations) × AreFromOne installations
+    × AreFromOne on × AreFromOne undecided
 KeepsRules (Outdated p) = 1 ≤ p
 KeepsRules (Alive p installation) = (1 ≤ p) × (1 ≤ installation)
-KeepsRules (Challenged p installations by undecided) = (1 ≤ p) × (0 < length installations) × AreFromOne installations × ArePairs by × ArePairs undecided
+KeepsRules (Challenged p installations by undecided) = (1 ≤ p) × (0 < length installations) × AreFromOne installations
+    × ArePairs by × ArePairs undecided
 KeepsRules End = Unit {0}
 
 -- a number is at most 4,294,967,295
@@ -131,7 +138,9 @@ mode_text true = codes "essential"
 mode_text false = codes "plain"
 
 abbrev pub header_text : Header → List ℕ
-header_text h = codes "distfuture-certificate 1 " ++ (kind_text h.kind ++ (32 ∷ (mode_text h.essential ++ words_text (plains (h.limit ∷ h.packages ∷ h.variables ∷ h.clauses ∷ [])))))
+header_text h = codes "distfuture-certificate 1 "
+    ++ (kind_text h.kind ++ (32 ∷ (mode_text h.essential
+    ++ words_text (plains (h.limit ∷ h.packages ∷ h.variables ∷ h.clauses ∷ [])))))
 
 -- the limit is one that may be given
 abbrev pub KeepsLimit : Header → Type 0

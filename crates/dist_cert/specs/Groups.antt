@@ -1,11 +1,14 @@
 -- What the lines before a line hold: numbered clauses, numbered installations, claims, the open question, and the group
 -- of a claim. The lines are those after the first line, as records.
-use Rattle.std.specs.Prelude.{◌≡◌, ℕ, ◌+◌, ◌-◌, ◌<◌, ◌≤◌, Bool, true, false, if◌then◌else◌, List, [], ◌∷◌, ◌++◌, length, map, slice_index_or}
+use Rattle.std.specs.Prelude.{◌≡◌, ℕ, ◌+◌, ◌-◌, ◌<◌, ◌≤◌, Bool, true, false, if◌then◌else◌, List, [], ◌∷◌, ◌++◌, length}
+use Rattle.std.specs.Prelude.{map, slice_index_or}
 use Rattle.std.specs.List.{flat_map, list_any, AllPass}
 use Rattle.dist_clause.specs.Formula.{Literal, literal}
 use Rattle.dist_cert.specs.declared.TheConstants.{REACH}
 use Rattle.dist_cert.specs.declared.records.CertRecord.{CertRecord}
-use Rattle.dist_cert.specs.declared.records.CertRecord.TheVariants.{Question, Derived, Refuted, Installation, Undecided, NotInstallable, Unknown, Strong, Outdated, Alive, Challenged}
+use Rattle.dist_cert.specs.declared.records.CertRecord.TheVariants.{Question, Derived, Refuted, Installation, Undecided}
+use Rattle.dist_cert.specs.declared.records.CertRecord.TheVariants.{NotInstallable, Unknown, Strong, Outdated, Alive}
+use Rattle.dist_cert.specs.declared.records.CertRecord.TheVariants.{Challenged}
 use Rattle.dist_cert.specs.Form.{Word}
 use Rattle.dist_cert.specs.Subject.{Matter}
 
@@ -41,7 +44,8 @@ installation_at before number = slice_index_or (installations before) (number - 
 
 -- the number is one of the latest installations, as far back as a claim may reach
 abbrev pub IsRecent : List CertRecord → ℕ → Type 0
-IsRecent before number = (1 ≤ number) × (number ≤ length (installations before)) × (length (installations before) < number + REACH)
+IsRecent before number = (1 ≤ number) × (number ≤ length (installations before))
+    × (length (installations before) < number + REACH)
 
 -- ---- claims
 
@@ -85,7 +89,8 @@ pub record IsOpen (before earlier : List CertRecord) (question : List Word) (sin
   pub left_open : AllPass leaves_open since
 
 abbrev pub HasOpenQuestion : List CertRecord → Type 0
-HasOpenQuestion before = (earlier : List CertRecord) × (question : List Word) × (since : List CertRecord) × IsOpen before earlier question since
+HasOpenQuestion before = (earlier : List CertRecord) × (question : List Word) × (since : List CertRecord)
+    × IsOpen before earlier question since
 
 -- Among the lines the question is opened, and a line that comes while it is open closes it.
 abbrev pub IsClosedBy : List CertRecord → List Word → CertRecord → Type 0

@@ -1,8 +1,10 @@
--- Worked examples: the lines of the certificate of ten lines as records, their claims, installations and groups, and edits of
+-- Worked examples: the lines of the certificate of ten lines as records, their claims, installations and groups, and
+-- edits of
 -- them with their faults.
 use Rattle.std.proofs.Common.{◌≡◌, List, [], ◌∷◌, ◌++◌, length, refl, ap, arith, lit<, length-append}
 use Rattle.dist_cert.specs.declared.records.CertRecord.{CertRecord}
-use Rattle.dist_cert.specs.declared.records.CertRecord.TheVariants.{Question, Refuted, Installation, Undecided, Strong, End}
+use Rattle.dist_cert.specs.declared.records.CertRecord.TheVariants.{Question, Refuted, Installation, Undecided, Strong}
+use Rattle.dist_cert.specs.declared.records.CertRecord.TheVariants.{End}
 use Rattle.dist_cert.specs.Groups.{installations, claim_count, group, IsOpen}
 use Rattle.dist_cert.specs.ClaimRules.{yes, no}
 use Rattle.dist_cert.specs.LineRules.{IsOutOfRange, IsOutOfOrder, IsTooEarly}
@@ -50,7 +52,8 @@ out_of_range = (0, 3, lit< tt, refl, lit< tt)
 
 -- line 2 as `f 1`
 no_question : IsOutOfOrder two [] (Refuted (1 ∷ []))
-no_question open_one = let n = ap length open_one.3.ends in omega (arith, n, length-append open_one.0 (Question open_one.1 ∷ open_one.2))
+no_question open_one = let n = ap length open_one.3.ends in
+    omega (arith, n, length-append open_one.0 (Question open_one.1 ∷ open_one.2))
 
 -- the question of line 4 is open
 pub asked : IsOpen asking (Question (yes 1 ∷ []) ∷ Installation (1 ∷ 2 ∷ []) ∷ []) (yes 1 ∷ no 2 ∷ []) []

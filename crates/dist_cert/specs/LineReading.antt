@@ -1,5 +1,6 @@
 -- Serves private contracts: how the bytes of a line come, piece by piece.
-use Rattle.std.specs.Prelude.{◌≡◌, ◌≢◌, ◌⊎◌, IsTrue, ℕ, ◌+◌, ◌^◌, ◌<◌, ◌≤◌, Bool, false, List, [], ◌∷◌, ◌++◌, length, Option, Some, None, Result, Ok, Err}
+use Rattle.std.specs.Prelude.{◌≡◌, ◌≢◌, ◌⊎◌, IsTrue, ℕ, ◌+◌, ◌^◌, ◌<◌, ◌≤◌, Bool, false, List, [], ◌∷◌, ◌++◌, length}
+use Rattle.std.specs.Prelude.{Option, Some, None, Result, Ok, Err}
 use Rattle.dist_outside.specs.Counts.{Rose}
 use Rattle.dist_outside.specs.DeskView.{DeskView}
 use Rattle.dist_outside.specs.Reading.{bytes_left}
@@ -67,9 +68,12 @@ came reached length = length
 -- whether the reading of a line ends, where the whole may have so many bytes more
 abbrev pub IsJudged : Limits → ℕ → ℕ → Reached → Result (Option Reached) WorkError → Type 0
 IsJudged limits room length reached (Ok None) = (reached ≡ Within) × (length < limits.record_line)
-IsJudged limits room length reached (Ok (Some Within)) = (limits.record_line ≤ length) × (room < limits.record_line → came reached length ≤ room)
-IsJudged limits room length reached (Ok (Some end)) = (reached ≡ end) × (length < limits.record_line) × (room < limits.record_line → came reached length ≤ room)
-IsJudged limits room length reached (Err (TooLarge Certificate)) = (room < came reached length) × (room < limits.record_line)
+IsJudged limits room length reached (Ok (Some Within)) = (limits.record_line ≤ length)
+    × (room < limits.record_line → came reached length ≤ room)
+IsJudged limits room length reached (Ok (Some end)) = (reached ≡ end) × (length < limits.record_line)
+    × (room < limits.record_line → came reached length ≤ room)
+IsJudged limits room length reached (Err (TooLarge Certificate)) = (room < came reached length)
+    × (room < limits.record_line)
 IsJudged limits room length reached (Err error) = ⊥
 
 -- no byte was lost, and that is where the reading ended
@@ -105,4 +109,5 @@ LineCause limits given new before after error = ⊥
 abbrev pub AtFileEnd : Bool → ℕ → List ℕ → Result (Option CertRecord) ReadCertError → Type 0
 AtFileEnd ended lines line (Ok None) = IsTrue ended × (line ≡ [])
 AtFileEnd ended lines line (Ok (Some step)) = ⊥
-AtFileEnd ended lines line (Err error) = (error ≡ Bad (record { line = lines + 1; cause = causes.Truncated })) × ((line ≢ []) ⊎ (ended ≡ false))
+AtFileEnd ended lines line (Err error) = (error ≡ Bad (record { line = lines + 1; cause = causes.Truncated }))
+    × ((line ≢ []) ⊎ (ended ≡ false))

@@ -9,11 +9,13 @@ use Rattle.dist_cert.specs.declared.faults.CertCause.TheVariants as causes
 use Rattle.dist_cert.specs.declared.records.CertKind.{CertKind}
 use Rattle.dist_cert.specs.declared.records.CertKind.TheVariants as kinds
 use Rattle.dist_cert.specs.declared.records.CertRecord.{CertRecord}
-use Rattle.dist_cert.specs.declared.records.CertRecord.TheVariants.{Question, Derived, Refuted, Installation, Undecided, Strong, Challenged, End}
+use Rattle.dist_cert.specs.declared.records.CertRecord.TheVariants.{Question, Derived, Refuted, Installation, Undecided}
+use Rattle.dist_cert.specs.declared.records.CertRecord.TheVariants.{Strong, Challenged, End}
 use Rattle.dist_cert.specs.declared.records.Header.{Header}
 use Rattle.dist_cert.specs.Form.{Word}
 use Rattle.dist_cert.specs.Subject.{Matter}
-use Rattle.dist_cert.specs.Groups.{clause_of, derived, numbered, claimed, is_claim, claim_count, IsOpen, HasOpenQuestion}
+use Rattle.dist_cert.specs.Groups.{clause_of, derived, numbered, claimed, is_claim, claim_count, IsOpen}
+use Rattle.dist_cert.specs.Groups.{HasOpenQuestion}
 use Rattle.dist_cert.specs.ClaimRules.{HoldsClaim, OmitsPackage, OmitsPair}
 
 -- ---- what a line names
@@ -48,8 +50,10 @@ IsUnknownLine matter before step = Any (λ hint. length (numbered matter before)
 -- the clause of `d`, or for `f` that of the open question's negated assumptions, does not follow by the hints
 abbrev pub IsBadLine : Matter → List CertRecord → CertRecord → Type 0
 IsBadLine matter before (Derived literals hints) = ¬ Follows (numbered matter before) (clause_of literals) hints
-IsBadLine matter before (Refuted hints) = (earlier : List CertRecord) × (question : List Word) × (since : List CertRecord)
-    × IsOpen before earlier question since × (¬ Follows (numbered matter before) (map negation (clause_of question)) hints)
+IsBadLine matter before (Refuted hints) = (earlier : List CertRecord) × (question : List Word)
+    × (since : List CertRecord)
+    × IsOpen before earlier question since × (¬ Follows (numbered matter before) (map negation (clause_of question))
+    hints)
 IsBadLine matter before step = ⊥
 
 -- kinds outdated and challenged: an `m` line that stands for no future

@@ -1,5 +1,6 @@
 -- Serves private contracts: the header that a line is of, if it is of any, and what a line is read as.
-use Rattle.std.specs.Prelude.{ℕ, ◌+◌, Bool, List, [], ◌∷◌, length, drop, slice_index, nat_eq, Option, Some, None, if◌then◌else◌}
+use Rattle.std.specs.Prelude.{ℕ, ◌+◌, Bool, List, [], ◌∷◌, length, drop, slice_index, nat_eq, Option, Some, None}
+use Rattle.std.specs.Prelude.{if◌then◌else◌}
 use Rattle.dist_cert.specs.declared.records.CertKind.{CertKind}
 use Rattle.dist_cert.specs.declared.records.CertKind.TheVariants as kinds
 use Rattle.dist_cert.specs.declared.records.CertRecord.{CertRecord}
@@ -9,7 +10,8 @@ use Rattle.dist_cert.specs.LooseWords.{loose_words}
 
 -- the kind of its word's first letter
 abbrev pub kind_from : ℕ → CertKind
-kind_from letter = if nat_eq letter 115 then kinds.Strong else (if nat_eq letter 111 then kinds.Outdated else kinds.Challenged)
+kind_from letter = if nat_eq letter 115 then kinds.Strong
+    else (if nat_eq letter 111 then kinds.Outdated else kinds.Challenged)
 
 -- the kind of a first line, and whether the word behind it begins as that of mode essential
 abbrev pub kind_in : List ℕ → CertKind
@@ -25,14 +27,22 @@ before_numbers kind essential = 26 + length (kind_text kind) + length (mode_text
 -- the header of four numbers
 abbrev pub header_with : CertKind → Bool → List Word → Option Header
 header_with kind essential (limit ∷ packages ∷ variables ∷ clauses ∷ []) =
-    Some (record { kind = kind; limit = limit.0; packages = packages.0; variables = variables.0; clauses = clauses.0; essential = essential })
+    Some (record {
+      kind = kind;
+      limit = limit.0;
+      packages = packages.0;
+      variables = variables.0;
+      clauses = clauses.0;
+      essential = essential;
+    })
 header_with kind essential words = None
 
 -- the header that a line is of, if it is of any
 abbrev pub loose_header : List ℕ → Option Header
 loose_header line =
     let kind = kind_in line in
-    let essential = mode_in line kind in header_with kind essential (loose_words (drop (before_numbers kind essential) line))
+    let essential = mode_in line kind in header_with kind essential
+    (loose_words (drop (before_numbers kind essential) line))
 
 -- what a line is read as: the value of its form, or nothing where it has none
 abbrev pub IsReadAs : List ℕ → Option CertRecord → Type 0

@@ -13,7 +13,8 @@ with_byte word byte = if nat_eq byte 45 then (word.0, false) else (with_digit wo
 -- a word that was begun, and those behind it, each behind one space
 abbrev pub words_from : Word → List ℕ → List Word
 words_from word [] = word ∷ []
-words_from word (byte ∷ bytes) = if nat_eq byte 32 then (word ∷ words_from (0, true) bytes) else (words_from (with_byte word byte) bytes)
+words_from word (byte ∷ bytes) = if nat_eq byte 32 then (word ∷ words_from (0, true) bytes)
+    else (words_from (with_byte word byte) bytes)
 
 -- the words of a text, each behind one byte
 abbrev pub loose_words : List ℕ → List Word

@@ -1,4 +1,5 @@
--- What a writer of certificates may have written so far. It keeps more rules than an accepted text has to: it asks for the
+-- What a writer of certificates may have written so far. It keeps more rules than an accepted text has to: it asks for
+-- the
 -- next claim alone, asks nothing twice for a claim, and spends no more lines on a question than the limit.
 use Rattle.std.specs.Prelude.{◌≡◌, ◌≢◌, ◌⊎◌, ℕ, ◌+◌, ◌<◌, ◌≤◌, List, [], ◌∷◌, ◌++◌, AllPairs, Any, Contains, length}
 use Rattle.dist_base.specs.Front.{IsFrontOf}
@@ -12,7 +13,8 @@ use Rattle.dist_cert.specs.declared.faults.CertCause.TheVariants as causes
 use Rattle.dist_cert.specs.declared.records.CertKind.{CertKind}
 use Rattle.dist_cert.specs.declared.records.CertKind.TheVariants as kinds
 use Rattle.dist_cert.specs.declared.records.CertRecord.{CertRecord}
-use Rattle.dist_cert.specs.declared.records.CertRecord.TheVariants.{Question, Derived, Refuted, Installation, Undecided, Strong, Challenged}
+use Rattle.dist_cert.specs.declared.records.CertRecord.TheVariants.{Question, Derived, Refuted, Installation, Undecided}
+use Rattle.dist_cert.specs.declared.records.CertRecord.TheVariants.{Strong, Challenged}
 use Rattle.dist_cert.specs.declared.records.Header.{Header}
 use Rattle.dist_cert.specs.Form.{Word, record_text, header_text}
 use Rattle.dist_cert.specs.Subject.{Matter, Subject}
@@ -23,10 +25,12 @@ use Rattle.dist_cert.specs.Writing.{ended}
 
 -- ---- questions
 
--- The question is one that a claim on the package may need: its own question, the package without another one (kind strong),
+-- The question is one that a claim on the package may need: its own question, the package without another one (kind
+-- strong),
 -- or the package at a class of a cluster that has not got it (kind challenged).
 abbrev pub IsQuestionOn : Matter → CertKind → ℕ → List Word → Type 0
-IsQuestionOn matter kinds.Strong p question = (question ≡ claim_question matter kinds.Strong p) ⊎ ((q : ℕ) × (question ≡ yes p ∷ no q ∷ []))
+IsQuestionOn matter kinds.Strong p question = (question ≡ claim_question matter kinds.Strong p)
+    ⊎ ((q : ℕ) × (question ≡ yes p ∷ no q ∷ []))
 IsQuestionOn matter kinds.Outdated p question = question ≡ claim_question matter kinds.Outdated p
 IsQuestionOn matter kinds.Challenged p question = (question ≡ claim_question matter kinds.Challenged p)
     ⊎ ((pair : ℕ × ℕ) × IsPairFor matter p pair × (question ≡ challenge_question matter p pair))
@@ -42,10 +46,11 @@ abbrev pub AsksSome : List CertRecord → Type 0
 AsksSome before = (question : List Word) × (since : List CertRecord) × IsAsking before question since
 
 -- The question is on the package of the next claim, and was not opened before in the group of that claim.
-pub record IsNextQuestion (matter : Matter) (h : Header) (before : List CertRecord) (question : List Word) : Type 0 where
-  pub claim_left : claim_count before < matter.packages
-  pub on_next : IsQuestionOn matter h.kind (claim_count before + 1) question
-  pub not_twice : ¬ Contains (group before) (Question question)
+pub record IsNextQuestion (matter : Matter) (h : Header) (before : List CertRecord) (question : List Word) : Type 0
+  where
+    pub claim_left : claim_count before < matter.packages
+    pub on_next : IsQuestionOn matter h.kind (claim_count before + 1) question
+    pub not_twice : ¬ Contains (group before) (Question question)
 
 -- The derived line is one of at most the limit that are new under the assumptions of the question that is asked.
 pub record IsNextDerived (matter : Matter) (h : Header) (before : List CertRecord) (literals : List Word) : Type 0 where
@@ -78,11 +83,13 @@ abbrev pub IsLastTooLong : CertCause → List CertRecord → Type 0
 IsLastTooLong cause later = (cause ≡ causes.LineTooLong) × (later ≡ [])
 
 -- The text is this header and these records. No line has a fault, but that the last one may be too long.
-pub record IsPartOf (subject : Subject) (limits : Limits) (h : Header) (text : List ℕ) (steps : List CertRecord) : Type 0 where
+pub record IsPartOf (subject : Subject) (limits : Limits) (h : Header) (text : List ℕ) (steps : List CertRecord) : Type
+    0 where
   pub reads : Reads text h steps []
   pub first : (cause : CertCause) → HasFirstFault subject limits text cause → IsLastTooLong cause steps
   pub later : (before : List CertRecord) (step : CertRecord) (after : List CertRecord) → steps ≡ before ++ step ∷ after
-      → (cause : CertCause) → HasLineFault subject limits h before (lines_text (step ∷ after)) cause → IsLastTooLong cause after
+      → (cause : CertCause) → HasLineFault subject limits h before (lines_text (step ∷ after)) cause
+      → IsLastTooLong cause after
   pub next : (before : List CertRecord) (step : CertRecord) (after : List CertRecord) → steps ≡ before ++ step ∷ after
       → IsNextLine (subject.matter h.kind h.essential) h before step
 
@@ -96,7 +103,8 @@ IsPart subject limits h text = (text ≡ []) ⊎ ((steps : List CertRecord) × I
 abbrev pub Passes : Limits → Header → List CertRecord → What → Type 0
 Passes limits h steps Lines = limits.lines < length (derived steps)
 Passes limits h steps LineLiterals = limits.line_literals < literal_count (derived steps)
-Passes limits h steps RecordLine = (limits.record_line < length (ended (header_text h))) ⊎ Any (λ step. limits.record_line < length (ended (record_text step))) steps
+Passes limits h steps RecordLine = (limits.record_line < length (ended (header_text h)))
+    ⊎ Any (λ step. limits.record_line < length (ended (record_text step))) steps
 Passes limits h steps Certificate = limits.certificate < length (certificate_text h steps)
 Passes limits h steps what = ⊥
 

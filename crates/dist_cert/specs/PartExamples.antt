@@ -17,16 +17,27 @@ not_twice : (matter : Matter) (h : Header) → ¬ IsNextLine matter h asked (Que
 not_twice matter h next = next.not_twice (0, lit< tt, refl)
 
 -- behind `q 1` may stand `m 1 2`
-may_stand : (matter : Matter) (h : Header) → IsNextLine matter h (Question (yes 1 ∷ []) ∷ []) (Installation (1 ∷ 2 ∷ []))
-may_stand matter h = (yes 1 ∷ [], [], record { earlier = []; opened = record { ends = refl; left_open = λ k d within. absurd (omega_none k within) }; no_installation = refl })
+may_stand : (matter : Matter) (h : Header)
+    → IsNextLine matter h (Question (yes 1 ∷ []) ∷ []) (Installation (1 ∷ 2 ∷ []))
+may_stand matter h = (
+  yes 1 ∷ [],
+  [],
+  record {
+    earlier = [];
+    opened = record { ends = refl; left_open = λ k d within. absurd (omega_none k within) };
+    no_installation = refl;
+  },
+)
   where
     omega_none : (k : ℕ) → k < 0 → ⊥
     omega_none k within = omega (arith, within)
 
 -- an installation is named once
-named_once : (matter : Matter) (h : Header) (before : List CertRecord) → ¬ IsNextLine matter h before (Strong 2 (1 ∷ 1 ∷ []) [] [])
+named_once : (matter : Matter) (h : Header) (before : List CertRecord)
+    → ¬ IsNextLine matter h before (Strong 2 (1 ∷ 1 ∷ []) [] [])
 named_once matter h before once = once 0 1 0 (lit< tt) (lit< tt) refl
 
 -- two derived lines pass the number 1
-two_lines : (limits : Limits) (h : Header) → limits.lines ≡ 1 → Passes limits h (Derived [] [] ∷ Derived [] [] ∷ []) Lines
+two_lines : (limits : Limits) (h : Header) → limits.lines ≡ 1
+    → Passes limits h (Derived [] [] ∷ Derived [] [] ∷ []) Lines
 two_lines limits h one = omega (arith, one)

@@ -1,5 +1,6 @@
 -- What a reader of certificates knows, and what it answers.
-use Rattle.std.specs.Prelude.{◌≡◌, ℕ, ◌+◌, ◌-◌, ◌<◌, Bool, false, IsTrue, List, [], ◌++◌, length, take, Option, Some, None, Result, Ok, Err}
+use Rattle.std.specs.Prelude.{◌≡◌, ℕ, ◌+◌, ◌-◌, ◌<◌, Bool, false, IsTrue, List, [], ◌++◌, length, take, Option, Some}
+use Rattle.std.specs.Prelude.{None, Result, Ok, Err}
 use Rattle.dist_outside.specs.Counts.{Rose}
 use Rattle.dist_outside.specs.DeskView.{DeskView}
 use Rattle.dist_outside.specs.Reading.{bytes_left}
@@ -17,7 +18,8 @@ use Rattle.dist_cert.specs.Refusal.{IsOneLine, BeginsWith, IsTooLong, IsCutBehin
 
 -- ---- a reader
 
--- the limits, the bytes that came and were not given yet, how many bytes were given, and how many lines, and whether the
+-- the limits, the bytes that came and were not given yet, how many bytes were given, and how many lines, and whether
+-- the
 -- end was one of them
 pub record ReaderView : Type 0 where
   pub limits : Limits
@@ -74,7 +76,8 @@ HeaderFault r rest causes.Truncated = KeepsLimits r.limits r.given rest × IsOne
 HeaderFault r rest causes.BadHeader = KeepsLimits r.limits r.given rest × HasNoHeader rest
 HeaderFault r rest cause = ⊥
 
--- When each answer is given, and what is left then. Each two exclude one another (law `reader_is_exact`), but for a fault
+-- When each answer is given, and what is left then. Each two exclude one another (law `reader_is_exact`), but for a
+-- fault
 -- of the desk and want of memory, which may come in place of any.
 abbrev pub HeaderAnswers : ReaderView → List ℕ → List ℕ → Result Header ReadCertError → Type 0
 HeaderAnswers r rest more (Ok h) = IsHeaderNext r rest more h
@@ -142,7 +145,8 @@ HeaderCause old new before after (Err (Bad fault)) = (fault.line ≡ old.lines +
 HeaderCause old new before after (Err error) = WorkCause new before after error
 
 -- the same of a record, and none comes behind the end
-abbrev pub RecordCause : ReaderView → ReaderView → DeskView → DeskView → Result (Option CertRecord) ReadCertError → Type 0
+abbrev pub RecordCause : ReaderView → ReaderView → DeskView → DeskView → Result (Option CertRecord) ReadCertError
+    → Type 0
 RecordCause old new before after (Ok (Some step)) = HasForm (record_text step) step × (old.ended ≡ false)
 RecordCause old new before after (Ok None) = IsTrue old.ended
 RecordCause old new before after (Err (Bad fault)) = (fault.line ≡ old.lines + 1) × IsRecordCause fault.cause

@@ -13,7 +13,17 @@ use Rattle.dist_cert.specs.Reading.{ReaderView, RecordAnswers, past_line}
 
 -- 100 bytes of a whole and `line` of a line; these are given before
 abbrev within : ℕ → Limits
-within line = record { bytes = 0; stanzas = 0; variables = 0; clauses = 0; literals = 0; lines = 0; line_literals = 0; certificate = 100; record_line = line }
+within line = record {
+  bytes = 0;
+  stanzas = 0;
+  variables = 0;
+  clauses = 0;
+  literals = 0;
+  lines = 0;
+  line_literals = 0;
+  certificate = 100;
+  record_line = line;
+}
 
 abbrev reader : ℕ → ℕ → ReaderView
 reader line given = record { limits = within line; held = []; given = given; lines = 5; ended = false }
@@ -23,7 +33,8 @@ abbrev last : List ℕ
 last = 101 ∷ 10 ∷ []
 
 one_line : IsOneLine (101 ∷ [])
-one_line = All-cons (λ byte. byte ≡ line_feed → ⊥) 101 [] (λ e. omega (arith, e)) (All-nil (λ byte. byte ≡ line_feed → ⊥))
+one_line = All-cons (λ byte. byte ≡ line_feed → ⊥) 101 [] (λ e. omega (arith, e))
+    (All-nil (λ byte. byte ≡ line_feed → ⊥))
 
 end_is_given : RecordAnswers (reader 50 98) last [] (Ok (Some End))
 end_is_given = record {
@@ -46,4 +57,11 @@ two_bytes : (past_line (reader 50 98) [] (record_text End)).given ≡ 100
 two_bytes = refl
 
 text_ends : RecordAnswers (record (past_line (reader 50 98) [] (record_text End)) { ended = true }) [] [] (Ok None)
-text_ends = (record { limits = record { whole = λ p. omega (arith, p.passed); line = λ t. omega (arith, t.0) }; ended = refl; nothing = refl }, refl)
+text_ends = (
+  record {
+    limits = record { whole = λ p. omega (arith, p.passed); line = λ t. omega (arith, t.0) };
+    ended = refl;
+    nothing = refl;
+  },
+  refl,
+)

@@ -56,7 +56,8 @@ pub record Fits (subject : Subject) (h : Header) : Type 0 where
 
 -- the first line has a line feed, and is no header that fits
 abbrev pub IsBadHeader : Subject → List ℕ → Type 0
-IsBadHeader subject text = (line more : List ℕ) × BeginsWith text line more × ((h : Header) → HasHeaderForm line h → ¬ Fits subject h)
+IsBadHeader subject text = (line more : List ℕ) × BeginsWith text line more
+    × ((h : Header) → HasHeaderForm line h → ¬ Fits subject h)
 
 -- the first line of the text has a fault of this cause
 abbrev pub HasFirstFault : Subject → Limits → List ℕ → CertCause → Type 0
@@ -73,7 +74,8 @@ IsCutBehind Ended rest = IsOneLine rest × ((rest ≢ []) ⊎ (¬ Ended))
 
 -- the line has a line feed, and stands after the end or has no form
 abbrev pub IsBadBehind : Type 0 → List ℕ → Type 0
-IsBadBehind Ended rest = (line more : List ℕ) × BeginsWith rest line more × (Ended ⊎ ((step : CertRecord) → ¬ HasForm line step))
+IsBadBehind Ended rest = (line more : List ℕ) × BeginsWith rest line more
+    × (Ended ⊎ ((step : CertRecord) → ¬ HasForm line step))
 
 -- the same behind these records
 abbrev pub IsCut : List CertRecord → List ℕ → Type 0
@@ -84,9 +86,11 @@ IsBadRecord before rest = IsBadBehind (Contains before End) rest
 
 -- the line has the form of a record with a fault of this cause
 abbrev pub IsBadStep : Matter → Header → List CertRecord → List ℕ → CertCause → Type 0
-IsBadStep matter h before rest cause = (line more : List ℕ) × (step : CertRecord) × BeginsWith rest line more × HasForm line step × HasRecordFault matter h before step cause
+IsBadStep matter h before rest cause = (line more : List ℕ) × (step : CertRecord) × BeginsWith rest line more
+    × HasForm line step × HasRecordFault matter h before step cause
 
--- The line with which `rest` begins has a fault of this cause, where it stands behind a header and the records `before`.
+-- The line with which `rest` begins has a fault of this cause, where it stands behind a header and the records
+-- `before`.
 abbrev pub HasLineFault : Subject → Limits → Header → List CertRecord → List ℕ → CertCause → Type 0
 HasLineFault subject limits h before rest causes.LineTooLong = IsTooLong limits rest
 HasLineFault subject limits h before rest causes.Truncated = IsCut before rest
@@ -97,8 +101,10 @@ HasLineFault subject limits h before rest cause = IsBadStep (subject.matter h.ki
 
 -- in a line the earlier cause of this list decides
 abbrev pub in_order : List CertCause
-in_order = causes.LineTooLong ∷ causes.Truncated ∷ causes.BadHeader ∷ causes.BadRecord ∷ causes.OutOfRange ∷ causes.OutOfOrder
-    ∷ causes.UnknownLine ∷ causes.BadLine ∷ causes.NotAFuture ∷ causes.NotAnInstallation ∷ causes.LimitNotReached ∷ causes.NotNew
+in_order = causes.LineTooLong ∷ causes.Truncated ∷ causes.BadHeader ∷ causes.BadRecord ∷ causes.OutOfRange
+    ∷ causes.OutOfOrder
+    ∷ causes.UnknownLine ∷ causes.BadLine ∷ causes.NotAFuture ∷ causes.NotAnInstallation ∷ causes.LimitNotReached
+    ∷ causes.NotNew
     ∷ causes.WrongClaim ∷ causes.Incomplete ∷ []
 
 -- the first cause of the list for which there is a fault
@@ -107,10 +113,12 @@ IsFirstOf [] Has cause = ⊥
 IsFirstOf (next ∷ later) Has cause = (Has next × (cause ≡ next)) ⊎ ((¬ Has next) × IsFirstOf later Has cause)
 
 -- The lines of the header and the records `before`, behind which `rest` stands, have no fault.
-pub record AreFaultless (subject : Subject) (limits : Limits) (text : List ℕ) (h : Header) (before : List CertRecord) (rest : List ℕ) : Type 0 where
+pub record AreFaultless (subject : Subject) (limits : Limits) (text : List ℕ) (h : Header) (before : List CertRecord)
+    (rest : List ℕ) : Type 0 where
   pub reads : Reads text h before rest
   pub first : (cause : CertCause) → ¬ HasFirstFault subject limits text cause
-  pub later : (earlier : List CertRecord) (step : CertRecord) (others : List CertRecord) → before ≡ earlier ++ step ∷ others
+  pub later : (earlier : List CertRecord) (step : CertRecord) (others : List CertRecord)
+      → before ≡ earlier ++ step ∷ others
       → (cause : CertCause) → ¬ HasLineFault subject limits h earlier (lines_text (step ∷ others) ++ rest) cause
 
 -- the first line is the faulty one
@@ -119,7 +127,8 @@ pub record IsFirstRefused (subject : Subject) (limits : Limits) (text : List ℕ
   pub cause : IsFirstOf in_order (HasFirstFault subject limits text) fault.cause
 
 -- the line behind a faultless header and faultless records is the faulty one
-pub record IsLaterRefused (subject : Subject) (limits : Limits) (text : List ℕ) (h : Header) (before : List CertRecord) (rest : List ℕ) (fault : CertFault) : Type 0 where
+pub record IsLaterRefused (subject : Subject) (limits : Limits) (text : List ℕ) (h : Header) (before : List CertRecord)
+    (rest : List ℕ) (fault : CertFault) : Type 0 where
   pub faultless : AreFaultless subject limits text h before rest
   pub line : fault.line ≡ length before + 2
   pub cause : IsFirstOf in_order (HasLineFault subject limits h before rest) fault.cause
@@ -127,4 +136,5 @@ pub record IsLaterRefused (subject : Subject) (limits : Limits) (text : List ℕ
 -- The refusal of a text: its first faulty line, numbered from 1, and the first cause of that line in the order.
 abbrev pub Refusal : Subject → Limits → List ℕ → CertFault → Type 0
 Refusal subject limits text fault = IsFirstRefused subject limits text fault
-    ⊎ ((h : Header) × (before : List CertRecord) × (rest : List ℕ) × IsLaterRefused subject limits text h before rest fault)
+    ⊎ ((h : Header) × (before : List CertRecord) × (rest : List ℕ)
+    × IsLaterRefused subject limits text h before rest fault)

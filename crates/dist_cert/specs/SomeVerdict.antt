@@ -1,5 +1,6 @@
 -- A law of acceptance and refusal: no text is neither accepted nor refused.
-use Rattle.std.proofs.Common.{◌≡◌, ◌≢◌, ◌⊎◌, ⊎_elim, inl, inr, ℕ, zero, suc, ◌+◌, ◌<◌, List, [], ◌∷◌, ◌++◌, length, refl, ap, sym, subst, ◌∙◌, append_assoc, arith, length-append}
+use Rattle.std.proofs.Common.{◌≡◌, ◌≢◌, ◌⊎◌, ⊎_elim, inl, inr, ℕ, zero, suc, ◌+◌, ◌<◌, List, [], ◌∷◌, ◌++◌, length}
+use Rattle.std.proofs.Common.{refl, ap, sym, subst, ◌∙◌, append_assoc, arith, length-append}
 use Rattle.std.proofs.lemmas.Bool.{cases_eq}
 use Rattle.std.proofs.lemmas.Grind.{flat_map-append}
 use Rattle.std.proofs.lemmas.List.Elements.{All-nil, All-cons, All-push}
@@ -12,7 +13,8 @@ use Rattle.dist_cert.specs.declared.records.Claim.{Claim}
 use Rattle.dist_cert.specs.declared.records.Header.{Header}
 use Rattle.dist_cert.specs.Form.{record_text, HasForm, header_text, HasHeaderForm}
 use Rattle.dist_cert.specs.Subject.{Subject}
-use Rattle.dist_cert.specs.Refusal.{line_feed, IsOneLine, BeginsWith, lines_text, HasFirstFault, HasLineFault, in_order, IsFirstOf, AreFaultless, Refusal}
+use Rattle.dist_cert.specs.Refusal.{line_feed, IsOneLine, BeginsWith, lines_text, HasFirstFault, HasLineFault, in_order}
+use Rattle.dist_cert.specs.Refusal.{IsFirstOf, AreFaultless, Refusal}
 use Rattle.dist_cert.specs.Accepted.{claims_in, Accepted}
 
 -- ---- causes
@@ -25,12 +27,14 @@ NoneOf (next ∷ later) Has = (¬ Has next) × NoneOf later Has
 either_way : (P : Type 0) → ¬ ¬ (P ⊎ (¬ P))
 either_way P never = never (inr (λ p. never (inl p)))
 
-first_or_none : (Has : CertCause → Type 0) (list : List CertCause) → ¬ ¬ (((cause : CertCause) × IsFirstOf list Has cause) ⊎ NoneOf list Has)
+first_or_none : (Has : CertCause → Type 0) (list : List CertCause)
+    → ¬ ¬ (((cause : CertCause) × IsFirstOf list Has cause) ⊎ NoneOf list Has)
 unfolding NoneOf
 first_or_none Has [] never = never (inr tt)
 first_or_none Has (next ∷ later) never = either_way (Has next) (λ told. ⊎_elim
     (λ yes. never (inl (next, inl (yes, refl))))
-    (λ none. first_or_none Has later (λ rest. ⊎_elim (λ found. never (inl (found.0, inr (none, found.1)))) (λ all. never (inr (none, all))) rest))
+    (λ none. first_or_none Has later (λ rest. ⊎_elim (λ found. never (inl (found.0, inr (none, found.1))))
+    (λ all. never (inr (none, all))) rest))
     told)
 
 -- the list has all causes
@@ -58,7 +62,14 @@ split_line [] = inr (All-nil (λ byte. byte ≢ line_feed))
 split_line (x ∷ text) = ⊎_elim
     (λ feed. inl ([], text, record { ended = ap (λ y. y ∷ text) feed; one_line = All-nil (λ byte. byte ≢ line_feed) }))
     (λ other. ⊎_elim
-    (λ h. inl (x ∷ h.0, h.1, record { ended = ap (λ ys. x ∷ ys) h.2.ended; one_line = All-cons (λ byte. byte ≢ line_feed) x h.0 other h.2.one_line }))
+    (λ h. inl (
+      x ∷ h.0,
+      h.1,
+      record {
+        ended = ap (λ ys. x ∷ ys) h.2.ended;
+        one_line = All-cons (λ byte. byte ≢ line_feed) x h.0 other h.2.one_line;
+      },
+    ))
     (λ one. inr (All-cons (λ byte. byte ≢ line_feed) x text other one))
     (split_line text))
     (cases_eq x line_feed)
@@ -72,34 +83,45 @@ head_or d [] = d
 head_or d (x ∷ xs) = x
 
 -- an element of a list with one more behind: the last one, or one of those before
-pub split_push : (before earlier others : List CertRecord) (step last : CertRecord) → before ++ last ∷ [] ≡ earlier ++ step ∷ others
-    → ((earlier ≡ before) × (step ≡ last) × (others ≡ [])) ⊎ ((more : List CertRecord) × (before ≡ earlier ++ step ∷ more) × (others ≡ more ++ last ∷ []))
+pub split_push : (before earlier others : List CertRecord) (step last : CertRecord)
+    → before ++ last ∷ [] ≡ earlier ++ step ∷ others
+    → ((earlier ≡ before) × (step ≡ last) × (others ≡ []))
+    ⊎ ((more : List CertRecord) × (before ≡ earlier ++ step ∷ more) × (others ≡ more ++ last ∷ []))
 unfolding tail_of head_or
 split_push [] [] others step last e = inl (refl, sym (ap (head_or last) e), sym (ap tail_of e))
 split_push [] (x ∷ earlier) others step last e = absurd (nothing earlier (ap tail_of e))
   where
     nothing : (xs : List CertRecord) → [] ≡ xs ++ step ∷ others → ⊥
     nothing xs f = let n = ap length f in omega (arith, n, length-append xs (step ∷ others))
-split_push (b ∷ before) [] others step last e = inr (before, ap (λ s. s ∷ before) (ap (head_or b) e), sym (ap tail_of e))
+split_push (b ∷ before) [] others step last e =
+    inr (before, ap (λ s. s ∷ before) (ap (head_or b) e), sym (ap tail_of e))
 split_push (b ∷ before) (x ∷ earlier) others step last e = ⊎_elim
     (λ h. inl (subst (λ y. x ∷ earlier ≡ y ∷ before) (sym (ap (head_or b) e)) (ap (λ ys. x ∷ ys) h.0), h.1, h.2))
-    (λ h. inr (h.0, subst (λ y. b ∷ before ≡ y ∷ earlier ++ step ∷ h.0) (ap (head_or b) e) (ap (λ ys. b ∷ ys) h.1), h.2))
+    (λ h. inr (
+      h.0,
+      subst (λ y. b ∷ before ≡ y ∷ earlier ++ step ∷ h.0) (ap (head_or b) e) (ap (λ ys. b ∷ ys) h.1),
+      h.2,
+    ))
     (split_push before earlier others step last (ap tail_of e))
 
 -- ---- one line more
 
 -- the text of some lines and one more, with what stands behind
-push_text : (steps : List CertRecord) (step : CertRecord) (rest line more : List ℕ) → BeginsWith rest line more → HasForm line step
+push_text : (steps : List CertRecord) (step : CertRecord) (rest line more : List ℕ) → BeginsWith rest line more
+    → HasForm line step
     → lines_text (steps ++ step ∷ []) ++ more ≡ lines_text steps ++ rest
 push_text steps step rest line more begins form =
     let one : CertRecord → List ℕ = λ s. record_text s ++ line_feed ∷ [] in
     let last : lines_text (step ∷ []) ++ more ≡ rest
     = append_assoc (record_text step ++ line_feed ∷ []) [] more ∙ append_assoc (record_text step) (line_feed ∷ []) more
     ∙ ap (λ l. l ++ line_feed ∷ more) (sym form.text) ∙ sym begins.ended in
-    ap (λ bytes. bytes ++ more) (flat_map-append one steps (step ∷ [])) ∙ append_assoc (lines_text steps) (lines_text (step ∷ [])) more ∙ ap (λ bytes. lines_text steps ++ bytes) last
+    ap (λ bytes. bytes ++ more) (flat_map-append one steps (step ∷ []))
+    ∙ append_assoc (lines_text steps) (lines_text (step ∷ [])) more ∙ ap (λ bytes. lines_text steps ++ bytes) last
 
-pub grown : (subject : Subject) (limits : Limits) (text : List ℕ) (h : Header) (before : List CertRecord) (rest line more : List ℕ) (step : CertRecord)
-    → AreFaultless subject limits text h before rest → ((cause : CertCause) → ¬ HasLineFault subject limits h before rest cause)
+pub grown : (subject : Subject) (limits : Limits) (text : List ℕ) (h : Header) (before : List CertRecord)
+    (rest line more : List ℕ) (step : CertRecord)
+    → AreFaultless subject limits text h before rest
+    → ((cause : CertCause) → ¬ HasLineFault subject limits h before rest cause)
     → BeginsWith rest line more → HasForm line step → AreFaultless subject limits text h (before ++ step ∷ []) more
 grown subject limits text h before rest line more step faultless none begins form = record {
   reads = record {
@@ -107,43 +129,57 @@ grown subject limits text h before rest line more step faultless none begins for
         ∙ ap (λ bytes. header_text h ++ line_feed ∷ bytes) (sym (push_text before step rest line more begins form))
         ∙ sym (append_assoc (header_text h) (line_feed ∷ lines_text (before ++ step ∷ [])) more);
     header = faultless.reads.header;
-    records = All-push (λ s. HasForm (record_text s) s) before step faultless.reads.records (subst (λ l. HasForm l step) form.text form);
+    records = All-push (λ s. HasForm (record_text s) s) before step faultless.reads.records
+        (subst (λ l. HasForm l step) form.text form);
   };
   first = faultless.first;
   later = later;
 }
   where
-    later : (earlier : List CertRecord) (s : CertRecord) (others : List CertRecord) → before ++ step ∷ [] ≡ earlier ++ s ∷ others
+    later : (earlier : List CertRecord) (s : CertRecord) (others : List CertRecord)
+        → before ++ step ∷ [] ≡ earlier ++ s ∷ others
         → (cause : CertCause) → ¬ HasLineFault subject limits h earlier (lines_text (s ∷ others) ++ more) cause
     later earlier s others e cause fault = ⊎_elim
         (λ x.
         let bytes : lines_text (s ∷ others) ++ more ≡ rest
-        = ap (λ r. lines_text (r ∷ others) ++ more) x.1 ∙ ap (λ rs. lines_text (step ∷ rs) ++ more) x.2 ∙ push_text [] step rest line more begins form in
-        none cause (subst (λ bs. HasLineFault subject limits h before bs cause) bytes (subst (λ steps. HasLineFault subject limits h steps (lines_text (s ∷ others) ++ more) cause) x.0 fault)))
+        = ap (λ r. lines_text (r ∷ others) ++ more) x.1 ∙ ap (λ rs. lines_text (step ∷ rs) ++ more) x.2
+        ∙ push_text [] step rest line more begins form in
+        none cause (subst (λ bs. HasLineFault subject limits h before bs cause) bytes
+        (subst (λ steps. HasLineFault subject limits h steps (lines_text (s ∷ others) ++ more) cause) x.0 fault)))
         (λ x.
         let bytes : lines_text (s ∷ others) ++ more ≡ lines_text (s ∷ x.0) ++ rest
         = ap (λ rs. lines_text (s ∷ rs) ++ more) x.2 ∙ push_text (s ∷ x.0) step rest line more begins form in
-        faultless.later earlier s x.0 x.1 cause (subst (λ bs. HasLineFault subject limits h earlier bs cause) bytes fault))
+        faultless.later earlier s x.0 x.1 cause (subst (λ bs. HasLineFault subject limits h earlier bs cause) bytes
+        fault))
         (split_push before earlier others s step e)
 
 -- ---- the law
 
 abbrev IsJudged : Subject → Limits → List ℕ → Type 0
-IsJudged subject limits text = ((h : Header) × (made : List Claim) × Accepted subject limits text h made) ⊎ ((fault : CertFault) × Refusal subject limits text fault)
+IsJudged subject limits text = ((h : Header) × (made : List Claim) × Accepted subject limits text h made)
+    ⊎ ((fault : CertFault) × Refusal subject limits text fault)
 
 some_byte : (x : ℕ) (xs : List ℕ) → x ∷ xs ≢ []
 some_byte x xs e = let n = ap length e in omega (arith, n)
 
-judge_rest : (subject : Subject) (limits : Limits) (text : List ℕ) (h : Header) (fuel : ℕ) (before : List CertRecord) (rest : List ℕ)
+judge_rest : (subject : Subject) (limits : Limits) (text : List ℕ) (h : Header) (fuel : ℕ) (before : List CertRecord)
+    (rest : List ℕ)
     → length rest < fuel → AreFaultless subject limits text h before rest → ¬ ¬ IsJudged subject limits text
 judge_rest subject limits text h zero before rest enough faultless never = omega (arith, enough)
-judge_rest subject limits text h (suc fuel) before rest enough faultless never = first_or_none (HasLineFault subject limits h before rest) in_order (λ told. ⊎_elim
-    (λ found. never (inr (record { line = length before + 2; cause = found.0 }, inr (h, before, rest, record { faultless = faultless; line = refl; cause = found.1 }))))
+judge_rest subject limits text h (suc fuel) before rest enough faultless never =
+    first_or_none (HasLineFault subject limits h before rest) in_order (λ told. ⊎_elim
+    (λ found. never (inr (
+      record { line = length before + 2; cause = found.0 },
+      inr (h, before, rest, record { faultless = faultless; line = refl; cause = found.1 }),
+    )))
     (λ n.
-    let none : (cause : CertCause) → ¬ HasLineFault subject limits h before rest cause = not_any (HasLineFault subject limits h before rest) n in
+    let none : (cause : CertCause) → ¬ HasLineFault subject limits h before rest cause =
+    not_any (HasLineFault subject limits h before rest) n in
     read_on none (λ line more step begins form.
-    let size : length rest ≡ length line + length (line_feed ∷ more) = ap length begins.ended ∙ length-append line (line_feed ∷ more) in
-    judge_rest subject limits text h fuel (before ++ step ∷ []) more (omega (arith, enough, size)) (grown subject limits text h before rest line more step faultless none begins form) never))
+    let size : length rest ≡ length line + length (line_feed ∷ more) = ap length begins.ended
+    ∙ length-append line (line_feed ∷ more) in
+    judge_rest subject limits text h fuel (before ++ step ∷ []) more (omega (arith, enough, size))
+    (grown subject limits text h before rest line more step faultless none begins form) never))
     told)
   where
     at_the_end : (left : List ℕ) → IsOneLine left → AreFaultless subject limits text h before left
@@ -163,13 +199,15 @@ judge_rest subject limits text h (suc fuel) before rest enough faultless never =
 
 -- No text is neither accepted nor refused.
 pub some_verdict : (subject : Subject) (limits : Limits) (text : List ℕ)
-    → ¬ ¬ (((h : Header) × (made : List Claim) × Accepted subject limits text h made) ⊎ ((fault : CertFault) × Refusal subject limits text fault))
+    → ¬ ¬ (((h : Header) × (made : List Claim) × Accepted subject limits text h made)
+    ⊎ ((fault : CertFault) × Refusal subject limits text fault))
 some_verdict subject limits text never = first_or_none (HasFirstFault subject limits text) in_order (λ told. ⊎_elim
     (λ found. never (inr (record { line = 1; cause = found.0 }, inl (record { line = refl; cause = found.1 }))))
     (λ n. read_on (not_any (HasFirstFault subject limits text) n))
     told)
   where
-    not_among : (earlier : List CertRecord) (step : CertRecord) (others : List CertRecord) → [] ≡ earlier ++ step ∷ others → ⊥
+    not_among : (earlier : List CertRecord) (step : CertRecord) (others : List CertRecord)
+        → [] ≡ earlier ++ step ∷ others → ⊥
     not_among earlier step others e = let n = ap length e in omega (arith, n, length-append earlier (step ∷ others))
 
     read_on : ((cause : CertCause) → ¬ HasFirstFault subject limits text cause) → ⊥
@@ -177,7 +215,8 @@ some_verdict subject limits text never = first_or_none (HasFirstFault subject li
         (λ s. either_way ((h : Header) × HasHeaderForm s.0 h) (λ form. ⊎_elim
         (λ f. judge_rest subject limits text f.0 (suc (length s.1)) [] s.1 (omega arith) (record {
           reads = record {
-            text_is = s.2.ended ∙ ap (λ l. l ++ line_feed ∷ s.1) f.1.text ∙ sym (append_assoc (header_text f.0) (line_feed ∷ []) s.1);
+            text_is = s.2.ended ∙ ap (λ l. l ++ line_feed ∷ s.1) f.1.text
+                ∙ sym (append_assoc (header_text f.0) (line_feed ∷ []) s.1);
             header = subst (λ l. HasHeaderForm l f.0) f.1.text f.1;
             records = All-nil (λ step. HasForm (record_text step) step);
           };

@@ -1,5 +1,6 @@
 -- From what is told of a line to what is told of the text.
-use Rattle.std.proofs.Common.{◌≡◌, ◌≢◌, inl, inr, ⊎_elim, ℕ, ◌+◌, ◌<◌, ◌||◌, Bool, true, false, List, [], ◌∷◌, ◌++◌, length, refl, sym, ap, subst, ◌∙◌, append_assoc, arith, length-append}
+use Rattle.std.proofs.Common.{◌≡◌, ◌≢◌, inl, inr, ⊎_elim, ℕ, ◌+◌, ◌<◌, ◌||◌, Bool, true, false, List, [], ◌∷◌, ◌++◌, length, refl, sym, ap, subst, ◌∙◌}
+use Rattle.std.proofs.Common.{append_assoc, arith, length-append}
 use Rattle.std.specs.List.{Contains, list_any}
 use Rattle.std.proofs.lemmas.Bool.{false≢true, or_cases, or_left, or_right, or_parts, cases_lt}
 use Rattle.std.proofs.lemmas.Grind.{flat_map-append}
@@ -24,7 +25,8 @@ use Rattle.dist_cert.specs.Groups.{clause_of, derived}
 use Rattle.dist_cert.specs.LineRules.{HasRecordFault}
 use Rattle.dist_cert.specs.OneVerdict.{one_line}
 use Rattle.dist_cert.specs.Reading.{ReaderView, PassesWhole, KeepsLimits, HeaderFault, RecordFault}
-use Rattle.dist_cert.specs.Refusal.{line_feed, IsOneLine, BeginsWith, lines_text, certificate_text, Fits, IsTooLong, HasFirstFault, HasLineFault, in_order, IsFirstOf, AreFaultless}
+use Rattle.dist_cert.specs.Refusal.{line_feed, IsOneLine, BeginsWith, lines_text, certificate_text, Fits, IsTooLong, HasFirstFault, HasLineFault, in_order}
+use Rattle.dist_cert.specs.Refusal.{IsFirstOf, AreFaultless}
 use Rattle.dist_cert.specs.SomeVerdict.{split_push, grown}
 use Rattle.dist_check.specs.Checking.{IsReached, HasInputsWithin, StopsFirst, StopsLater, StopsAtDerived, HasLargeInputs}
 use Rattle.dist_subject.specs.Present.{AreInputs, matter_of, subject_of}
@@ -40,7 +42,8 @@ abbrev pub ThereAreClauses : Type 0
 ThereAreClauses = (r : PackageList) (essential : Bool) → IsInOrder r.packages → (clauses : List (List Literal)) × ArePresentClauses r essential clauses
 
 abbrev pub ClausesAreOne : Type 0
-ClausesAreOne = (r : PackageList) (essential : Bool) (clauses other : List (List Literal)) → ArePresentClauses r essential clauses → ArePresentClauses r essential other → other ≡ clauses
+ClausesAreOne = (r : PackageList) (essential : Bool) (clauses other : List (List Literal)) → ArePresentClauses r essential clauses
+    → ArePresentClauses r essential other → other ≡ clauses
 
 abbrev pub inputs_by : ThereAreClauses → (r : PackageList) → IsInOrder r.packages → Bool → List (List Literal)
 inputs_by there r ordered essential = (there r essential ordered).0
@@ -57,9 +60,12 @@ begins-whole text line more begins one = whole_line line more (subst IsOneLine b
 same-begin : (text a b more other : List ℕ) → BeginsWith text a more → BeginsWith text b other → (a ≡ b) × (more ≡ other)
 same-begin text a b more other x y = one_line a b more other x.one_line y.one_line (sym x.ended ∙ y.ended)
 
-pub header-refused : (there : ThereAreClauses) (r : PackageList) (ordered : IsInOrder r.packages) (limits : Limits) (reader : ReaderView) → reader.limits ≡ limits → reader.given ≡ 0 → (text : List ℕ) (cause : CertCause)
+pub header-refused : (there : ThereAreClauses) (r : PackageList) (ordered : IsInOrder r.packages) (limits : Limits) (reader : ReaderView)
+    → reader.limits ≡ limits → reader.given ≡ 0 → (text : List ℕ) (cause : CertCause)
     → HeaderFault reader text cause → StopsFirst r limits text cause
-header-refused there r ordered limits reader same none text cause fault = by cause (subst (λ l. HeaderFault (record reader { limits = l; given = 0 }) text cause) same (subst (λ n. HeaderFault (record reader { given = n }) text cause) none fault))
+header-refused there r ordered limits reader same none text cause fault =
+    by cause (subst (λ l. HeaderFault (record reader { limits = l; given = 0 }) text cause) same
+    (subst (λ n. HeaderFault (record reader { given = n }) text cause) none fault))
   where
     inputs : Bool → List (List Literal)
     inputs = inputs_by there r ordered
@@ -93,7 +99,9 @@ header-refused there r ordered limits reader same none text cause fault = by cau
     by c f = absurd f
 
 -- a first line of another kind, or with wrong numbers
-pub header-unfit : FormsAreClear → (there : ThereAreClauses) → ClausesAreOne → (r : PackageList) (ordered : IsInOrder r.packages) (limits : Limits) (text line more : List ℕ) (h : Header) → KeepsLimits limits 0 text → BeginsWith text line more
+pub header-unfit : FormsAreClear → (there : ThereAreClauses) → ClausesAreOne
+    → (r : PackageList) (ordered : IsInOrder r.packages) (limits : Limits) (text line more : List ℕ) (h : Header) → KeepsLimits limits 0 text
+    → BeginsWith text line more
     → HasHeaderForm line h → IsUnfit r limits h → StopsFirst r limits text causes.BadHeader
 header-unfit clear there one r ordered limits text line more h keeps begins form unfit = record {
   inputs = inputs_by there r ordered;
@@ -107,7 +115,8 @@ header-unfit clear there one r ordered limits text line more h keeps begins form
   where
     kept : h.kind ≡ kinds.Strong → AreInputsWithin limits (inputs_by there r ordered h.essential)
     kept strong = ⊎_elim (λ other. absurd (other strong))
-        (λ wrong. subst (AreInputsWithin limits) (sym (one r h.essential wrong.0 (inputs_by there r ordered h.essential) wrong.1 (are-inputs there r ordered h.essential))) wrong.2)
+        (λ wrong. subst (AreInputsWithin limits) (sym (one r h.essential wrong.0 (inputs_by there r ordered h.essential) wrong.1
+        (are-inputs there r ordered h.essential))) wrong.2)
         unfit
 
     never : (k : Header) → HasHeaderForm line k → ¬ Fits (subject_of r (inputs_by there r ordered)) k
@@ -116,16 +125,24 @@ header-unfit clear there one r ordered limits text line more h keeps begins form
         let fits_h : Fits (subject_of r (inputs_by there r ordered)) h = subst (Fits (subject_of r (inputs_by there r ordered))) same fits in
         ⊎_elim (λ other. other fits_h.taken)
         (λ wrong.
-        let clauses : inputs_by there r ordered h.essential ≡ wrong.0 = one r h.essential wrong.0 (inputs_by there r ordered h.essential) wrong.1 (are-inputs there r ordered h.essential) in
-        wrong.3 (record { packages = fits_h.packages; variables = fits_h.variables; clause_count = fits_h.clauses ∙ ap (λ (cs : List (List Literal)). length cs) clauses }))
+        let clauses : inputs_by there r ordered h.essential ≡ wrong.0 =
+        one r h.essential wrong.0 (inputs_by there r ordered h.essential) wrong.1 (are-inputs there r ordered h.essential) in
+        wrong.3 (record {
+          packages = fits_h.packages;
+          variables = fits_h.variables;
+          clause_count = fits_h.clauses ∙ ap (λ (cs : List (List Literal)). length cs) clauses;
+        }))
         unfit
 
-pub large-inputs : (r : PackageList) (limits : Limits) (text line more : List ℕ) (h : Header) → KeepsLimits limits 0 text → BeginsWith text line more → HasHeaderForm line h → h.kind ≡ kinds.Strong → (Passes : Bool → Type 0) → Passes h.essential
+pub large-inputs : (r : PackageList) (limits : Limits) (text line more : List ℕ) (h : Header) → KeepsLimits limits 0 text → BeginsWith text line more
+    → HasHeaderForm line h → h.kind ≡ kinds.Strong → (Passes : Bool → Type 0) → Passes h.essential
     → HasLargeInputs limits text Passes
-large-inputs r limits text line more h keeps begins form strong Passes passes = record { keeps = keeps; h = h; line = line; more = more; begins = begins; form = form; strong = strong; passes = passes }
+large-inputs r limits text line more h keeps begins form strong Passes passes =
+    record { keeps = keeps; h = h; line = line; more = more; begins = begins; form = form; strong = strong; passes = passes }
 
 -- the header of a text, behind which nothing was read
-pub starts-faultless : FormsAreClear → (r : PackageList) (inputs : Bool → List (List Literal)) (limits : Limits) (text line more : List ℕ) (h : Header) → KeepsLimits limits 0 text → BeginsWith text line more → HasHeaderForm line h
+pub starts-faultless : FormsAreClear → (r : PackageList) (inputs : Bool → List (List Literal)) (limits : Limits) (text line more : List ℕ) (h : Header)
+    → KeepsLimits limits 0 text → BeginsWith text line more → HasHeaderForm line h
     → Fits (subject_of r inputs) h → AreFaultless (subject_of r inputs) limits text h [] more
 starts-faultless clear r inputs limits text line more h keeps begins form fits = record {
   reads = record {
@@ -179,20 +196,37 @@ ended-push (s ∷ steps) step none =
 -- ---- a later line
 
 -- the line behind lines that are reached has a fault of form, cut or length
-pub record-refused : FormsAreClear → (r : PackageList) (inputs : Bool → List (List Literal)) (limits : Limits) (text : List ℕ) (h : Header) (before : List CertRecord) (rest : List ℕ) (reader : ReaderView) → IsReached r inputs limits text h before rest
-    → reader.limits ≡ limits → reader.given ≡ length (certificate_text h before) → reader.ended ≡ list_any is_end before → (fault : CertFault) → fault.line ≡ length before + 2 → RecordFault reader rest fault.cause → StopsLater r limits text fault
+pub record-refused : FormsAreClear → (r : PackageList) (inputs : Bool → List (List Literal)) (limits : Limits) (text : List ℕ) (h : Header)
+    (before : List CertRecord) (rest : List ℕ) (reader : ReaderView) → IsReached r inputs limits text h before rest
+    → reader.limits ≡ limits → reader.given ≡ length (certificate_text h before) → reader.ended ≡ list_any is_end before → (fault : CertFault)
+    → fault.line ≡ length before + 2 → RecordFault reader rest fault.cause → StopsLater r limits text fault
 record-refused clear r inputs limits text h before rest reader reached same given ended fault line bad =
-    by fault.cause refl (subst (λ l. RecordFault (record reader { limits = l; given = length (certificate_text h before); ended = list_any is_end before }) rest fault.cause) same
+    by fault.cause refl (subst (λ l. RecordFault (record reader { limits = l; given = length (certificate_text h before); ended = list_any is_end before }) rest
+    fault.cause) same
     (subst (λ n. RecordFault (record reader { given = n; ended = list_any is_end before }) rest fault.cause) given
     (subst (λ e. RecordFault (record reader { ended = e }) rest fault.cause) ended bad)))
   where
     Has : CertCause → Type 0
     Has = HasLineFault (subject_of r inputs) limits h before rest
 
-    stops : (c : CertCause) → fault.cause ≡ c → ¬ PassesWhole limits (length (certificate_text h before)) rest → IsFirstOf in_order Has c → StopsLater r limits text fault
-    stops c is bytes first = record { inputs = inputs; h = h; before = before; rest = rest; reached = reached; bytes = bytes; line = line; first = subst (IsFirstOf in_order Has) (sym is) first }
+    stops : (c : CertCause) → fault.cause ≡ c → ¬ PassesWhole limits (length (certificate_text h before)) rest → IsFirstOf in_order Has c
+        → StopsLater r limits text fault
+    stops c is bytes first = record {
+      inputs = inputs;
+      h = h;
+      before = before;
+      rest = rest;
+      reached = reached;
+      bytes = bytes;
+      line = line;
+      first = subst (IsFirstOf in_order Has) (sym is) first;
+    }
 
-    by : (c : CertCause) → fault.cause ≡ c → RecordFault (record reader { limits = limits; given = length (certificate_text h before); ended = list_any is_end before }) rest c → StopsLater r limits text fault
+    by : (c : CertCause) → fault.cause ≡ c → RecordFault (record reader {
+      limits = limits;
+      given = length (certificate_text h before);
+      ended = list_any is_end before;
+    }) rest c → StopsLater r limits text fault
     by causes.LineTooLong is f = stops causes.LineTooLong is f.0 (inl (f.1, refl))
     by causes.Truncated is f = stops causes.Truncated is f.0.whole (inr (
       f.0.line,
@@ -234,35 +268,47 @@ record-refused clear r inputs limits text h before rest reader reached same give
 short-line : (limits : Limits) (line more : List ℕ) → IsOneLine line → ¬ IsTooLong limits (line ++ line_feed ∷ more) → length line < limits.record_line
 short-line limits line more one keeps = elim (cases_lt (length line) limits.record_line) [
   | inl less ↦ less
-  | inr past ↦ absurd (keeps (omega (arith, past, length-append line (line_feed ∷ more)), subst IsOneLine (sym (take-append-le limits.record_line line (line_feed ∷ more) past)) (All-take (λ byte. byte ≢ line_feed) limits.record_line line one)))
+  | inr past ↦ absurd (keeps (
+    omega (arith, past, length-append line (line_feed ∷ more)),
+    subst IsOneLine (sym (take-append-le limits.record_line line (line_feed ∷ more) past)) (All-take (λ byte. byte ≢ line_feed) limits.record_line line one),
+  ))
 ]
 
 -- A line with the form of a record, behind lines that are reached.
-pub record IsLineNext (r : PackageList) (inputs : Bool → List (List Literal)) (limits : Limits) (text : List ℕ) (h : Header) (before : List CertRecord) (rest line more : List ℕ) (step : CertRecord) : Type 0 where
+pub record IsLineNext (r : PackageList) (inputs : Bool → List (List Literal)) (limits : Limits) (text : List ℕ) (h : Header) (before : List CertRecord)
+    (rest line more : List ℕ) (step : CertRecord) : Type 0 where
   pub reached : IsReached r inputs limits text h before rest
   pub keeps : KeepsLimits limits (length (certificate_text h before)) rest
   pub begins : BeginsWith rest line more
   pub form : HasForm line step
   pub open_still : ¬ Contains before End
 
-to-record : FormsAreClear → (r : PackageList) (inputs : Bool → List (List Literal)) (limits : Limits) (text : List ℕ) (h : Header) (before : List CertRecord) (rest line more : List ℕ) (step : CertRecord)
-    → IsLineNext r inputs limits text h before rest line more step → (cause : CertCause) → HasLineFault (subject_of r inputs) limits h before rest cause → HasRecordFault (matter_of r h.essential (inputs h.essential)) h before step cause
+to-record : FormsAreClear → (r : PackageList) (inputs : Bool → List (List Literal)) (limits : Limits) (text : List ℕ) (h : Header) (before : List CertRecord)
+    (rest line more : List ℕ) (step : CertRecord)
+    → IsLineNext r inputs limits text h before rest line more step → (cause : CertCause) → HasLineFault (subject_of r inputs) limits h before rest cause
+    → HasRecordFault (matter_of r h.essential (inputs h.essential)) h before step cause
 to-record clear r inputs limits text h before rest line more step x cause fault =
     let form : HasForm (record_text step) step = subst (λ l. HasForm l step) x.form.text x.form in
     let is : rest ≡ record_text step ++ line_feed ∷ more = x.begins.ended ∙ ap (λ (l : List ℕ). l ++ line_feed ∷ more) x.form.text in
     let keeps : ¬ IsTooLong limits (record_text step ++ line_feed ∷ more) = subst (λ bytes. ¬ IsTooLong limits bytes) is x.keeps.line in
-    line_to_record clear (subject_of r inputs) limits h before step more form x.open_still (short-line limits (record_text step) more (clear.record_line step form) keeps) cause
+    line_to_record clear (subject_of r inputs) limits h before step more form x.open_still
+    (short-line limits (record_text step) more (clear.record_line step form) keeps) cause
     (subst (λ bytes. HasLineFault (subject_of r inputs) limits h before bytes cause) is fault)
 
-from-record : FormsAreClear → (r : PackageList) (inputs : Bool → List (List Literal)) (limits : Limits) (text : List ℕ) (h : Header) (before : List CertRecord) (rest line more : List ℕ) (step : CertRecord)
-    → IsLineNext r inputs limits text h before rest line more step → (cause : CertCause) → HasRecordFault (matter_of r h.essential (inputs h.essential)) h before step cause → HasLineFault (subject_of r inputs) limits h before rest cause
+from-record : FormsAreClear → (r : PackageList) (inputs : Bool → List (List Literal)) (limits : Limits) (text : List ℕ) (h : Header) (before : List CertRecord)
+    (rest line more : List ℕ) (step : CertRecord)
+    → IsLineNext r inputs limits text h before rest line more step → (cause : CertCause)
+    → HasRecordFault (matter_of r h.essential (inputs h.essential)) h before step cause → HasLineFault (subject_of r inputs) limits h before rest cause
 from-record clear r inputs limits text h before rest line more step x cause fault =
     let form : HasForm (record_text step) step = subst (λ l. HasForm l step) x.form.text x.form in
     let is : record_text step ++ line_feed ∷ more ≡ rest = sym (x.begins.ended ∙ ap (λ (l : List ℕ). l ++ line_feed ∷ more) x.form.text) in
-    subst (λ bytes. HasLineFault (subject_of r inputs) limits h before bytes cause) is (record_to_line clear (subject_of r inputs) limits h before step more form cause fault)
+    subst (λ bytes. HasLineFault (subject_of r inputs) limits h before bytes cause) is
+    (record_to_line clear (subject_of r inputs) limits h before step more form cause fault)
 
-pub step-refused : FormsAreClear → (r : PackageList) (inputs : Bool → List (List Literal)) (limits : Limits) (text : List ℕ) (h : Header) (before : List CertRecord) (rest line more : List ℕ) (step : CertRecord)
-    → IsLineNext r inputs limits text h before rest line more step → (fault : CertFault) → fault.line ≡ length before + 2 → HasFirst (matter_of r h.essential (inputs h.essential)) h before step fault.cause → StopsLater r limits text fault
+pub step-refused : FormsAreClear → (r : PackageList) (inputs : Bool → List (List Literal)) (limits : Limits) (text : List ℕ) (h : Header)
+    (before : List CertRecord) (rest line more : List ℕ) (step : CertRecord)
+    → IsLineNext r inputs limits text h before rest line more step → (fault : CertFault) → fault.line ≡ length before + 2
+    → HasFirst (matter_of r h.essential (inputs h.essential)) h before step fault.cause → StopsLater r limits text fault
 step-refused clear r inputs limits text h before rest line more step x fault number first = record {
   inputs = inputs;
   h = h;
@@ -272,20 +318,29 @@ step-refused clear r inputs limits text h before rest line more step x fault num
   bytes = x.keeps.whole;
   line = number;
   first = map_first (HasRecordFault (matter_of r h.essential (inputs h.essential)) h before step) (HasLineFault (subject_of r inputs) limits h before rest)
-      (from-record clear r inputs limits text h before rest line more step x) (to-record clear r inputs limits text h before rest line more step x) in_order fault.cause first;
+      (from-record clear r inputs limits text h before rest line more step x) (to-record clear r inputs limits text h before rest line more step x) in_order
+      fault.cause first;
 }
 
-pub step-none : FormsAreClear → (r : PackageList) (inputs : Bool → List (List Literal)) (limits : Limits) (text : List ℕ) (h : Header) (before : List CertRecord) (rest line more : List ℕ) (step : CertRecord)
-    → IsLineNext r inputs limits text h before rest line more step → IsFaultless (matter_of r h.essential (inputs h.essential)) h before step → (cause : CertCause) → ¬ HasLineFault (subject_of r inputs) limits h before rest cause
-step-none clear r inputs limits text h before rest line more step x faultless cause fault = faultless cause (to-record clear r inputs limits text h before rest line more step x cause fault)
+pub step-none : FormsAreClear → (r : PackageList) (inputs : Bool → List (List Literal)) (limits : Limits) (text : List ℕ) (h : Header)
+    (before : List CertRecord) (rest line more : List ℕ) (step : CertRecord)
+    → IsLineNext r inputs limits text h before rest line more step → IsFaultless (matter_of r h.essential (inputs h.essential)) h before step
+    → (cause : CertCause) → ¬ HasLineFault (subject_of r inputs) limits h before rest cause
+step-none clear r inputs limits text h before rest line more step x faultless cause fault =
+    faultless cause (to-record clear r inputs limits text h before rest line more step x cause fault)
 
-pub step-reached : FormsAreClear → (r : PackageList) (inputs : Bool → List (List Literal)) (limits : Limits) (text : List ℕ) (h : Header) (before : List CertRecord) (rest line more : List ℕ) (step : CertRecord)
-    → IsLineNext r inputs limits text h before rest line more step → IsFaultless (matter_of r h.essential (inputs h.essential)) h before step → AreFaultless (subject_of r inputs) limits text h (before ++ step ∷ []) more
+pub step-reached : FormsAreClear → (r : PackageList) (inputs : Bool → List (List Literal)) (limits : Limits) (text : List ℕ) (h : Header)
+    (before : List CertRecord) (rest line more : List ℕ) (step : CertRecord)
+    → IsLineNext r inputs limits text h before rest line more step → IsFaultless (matter_of r h.essential (inputs h.essential)) h before step
+    → AreFaultless (subject_of r inputs) limits text h (before ++ step ∷ []) more
 step-reached clear r inputs limits text h before rest line more step x faultless =
-    grown (subject_of r inputs) limits text h before rest line more step x.reached.faultless (step-none clear r inputs limits text h before rest line more step x faultless) x.begins x.form
+    grown (subject_of r inputs) limits text h before rest line more step x.reached.faultless
+    (step-none clear r inputs limits text h before rest line more step x faultless) x.begins x.form
 
-pub stops-derived : FormsAreClear → (r : PackageList) (inputs : Bool → List (List Literal)) (limits : Limits) (text : List ℕ) (h : Header) (before : List CertRecord) (rest line more : List ℕ) (literals : List Word) (hints : List ℕ)
-    → IsLineNext r inputs limits text h before rest line more (Derived literals hints) → IsFaultless (matter_of r h.essential (inputs h.essential)) h before (Derived literals hints) → (Passes : List (List Literal) → List Literal → Type 0)
+pub stops-derived : FormsAreClear → (r : PackageList) (inputs : Bool → List (List Literal)) (limits : Limits) (text : List ℕ) (h : Header)
+    (before : List CertRecord) (rest line more : List ℕ) (literals : List Word) (hints : List ℕ)
+    → IsLineNext r inputs limits text h before rest line more (Derived literals hints)
+    → IsFaultless (matter_of r h.essential (inputs h.essential)) h before (Derived literals hints) → (Passes : List (List Literal) → List Literal → Type 0)
     → Passes (derived before) (clause_of literals) → StopsAtDerived r limits text Passes
 stops-derived clear r inputs limits text h before rest line more literals hints x faultless Passes passes = record {
   inputs = inputs;
@@ -309,7 +364,8 @@ stops-derived clear r inputs limits text h before rest line more literals hints 
 nothing-begins : (line more : List ℕ) → [] ≡ line ++ line_feed ∷ more → ⊥
 nothing-begins line more e = let n = ap length e in omega (arith, n, length-append line (line_feed ∷ more))
 
-pub end-none : (r : PackageList) (inputs : Bool → List (List Literal)) (limits : Limits) (h : Header) (before : List CertRecord) → ¬ IsTooLong limits [] → Contains before End → (cause : CertCause)
+pub end-none : (r : PackageList) (inputs : Bool → List (List Literal)) (limits : Limits) (h : Header) (before : List CertRecord) → ¬ IsTooLong limits []
+    → Contains before End → (cause : CertCause)
     → ¬ HasLineFault (subject_of r inputs) limits h before [] cause
 end-none r inputs limits h before keeps ended causes.LineTooLong f = keeps f
 end-none r inputs limits h before keeps ended causes.Truncated f = ⊎_elim (λ some. some refl) (λ none. none ended) f.1
@@ -318,7 +374,8 @@ end-none r inputs limits h before keeps ended cause f = nothing-begins f.0 f.1 f
 
 -- ---- records that were right
 
-pub right-push : (r : PackageList) (inputs : List (List Literal)) (h : Header) (before : List CertRecord) (step : CertRecord) → AreRight (matter_of r h.essential inputs) h before → IsFaultless (matter_of r h.essential inputs) h before step
+pub right-push : (r : PackageList) (inputs : List (List Literal)) (h : Header) (before : List CertRecord) (step : CertRecord)
+    → AreRight (matter_of r h.essential inputs) h before → IsFaultless (matter_of r h.essential inputs) h before step
     → AreRight (matter_of r h.essential inputs) h (before ++ step ∷ [])
 right-push r inputs h before step right faultless earlier s after is cause fault = elim (split_push before earlier after s step is) [
   | inl here ↦
@@ -334,7 +391,8 @@ pub forms-push : (before : List CertRecord) (step : CertRecord) → HaveForms be
 forms-push before step forms form = All-push (λ s. HasForm (record_text s) s) before step forms form
 
 -- how many bytes a line is
-pub text-push : (h : Header) (before : List CertRecord) (step : CertRecord) → length (certificate_text h (before ++ step ∷ [])) ≡ length (certificate_text h before) + (length (record_text step) + 1)
+pub text-push : (h : Header) (before : List CertRecord) (step : CertRecord)
+    → length (certificate_text h (before ++ step ∷ [])) ≡ length (certificate_text h before) + (length (record_text step) + 1)
 text-push h before step =
     let one : CertRecord → List ℕ = λ s. record_text s ++ line_feed ∷ [] in
     let more : lines_text (before ++ step ∷ []) ≡ lines_text before ++ (record_text step ++ line_feed ∷ [])

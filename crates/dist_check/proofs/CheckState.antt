@@ -31,15 +31,18 @@ use Rattle.dist_check.specs.Checked.{TextAt, IsChecked}
 use Rattle.dist_check.proofs.LineLemmas.{WhatFollows, sound-rule}
 use Rattle.dist_check.proofs.Whole.{ModelsAreInstallations, records-mean}
 
-pub variables-same : (r : PackageList) (limits : Limits) (told : Option (List ℕ)) (h : Header) (reader : ReaderView) (left : Option (List ℕ)) (s : StateView) → IsChecked r limits told h reader left s → s.log.variables ≡ s.packages
+pub variables-same : (r : PackageList) (limits : Limits) (told : Option (List ℕ)) (h : Header) (reader : ReaderView) (left : Option (List ℕ)) (s : StateView)
+    → IsChecked r limits told h reader left s → s.log.variables ≡ s.packages
 variables-same r limits told h reader left s x = x.at.variables ∙ sym x.at.packages
 
-pub lines-are : (r : PackageList) (limits : Limits) (told : Option (List ℕ)) (h : Header) (reader : ReaderView) (left : Option (List ℕ)) (s : StateView) (x : IsChecked r limits told h reader left s) → lines_of s.log ≡ derived x.before
+pub lines-are : (r : PackageList) (limits : Limits) (told : Option (List ℕ)) (h : Header) (reader : ReaderView) (left : Option (List ℕ)) (s : StateView)
+    (x : IsChecked r limits told h reader left s) → lines_of s.log ≡ derived x.before
 lines-are r limits told h reader left s x =
     ap (λ (n : ℕ). drop n s.log.clauses) x.at.inputs_are ∙ ap (λ (cs : List (List Literal)). drop (length (x.inputs h.essential)) cs) x.at.clauses
     ∙ drop_at (x.inputs h.essential) (derived x.before) (length (x.inputs h.essential)) refl
 
-pub numbers-of : (r : PackageList) (limits : Limits) (told : Option (List ℕ)) (h : Header) (reader : ReaderView) (left : Option (List ℕ)) (s : StateView) (x : IsChecked r limits told h reader left s) → reader.given ≤ reader.limits.certificate
+pub numbers-of : (r : PackageList) (limits : Limits) (told : Option (List ℕ)) (h : Header) (reader : ReaderView) (left : Option (List ℕ)) (s : StateView)
+    (x : IsChecked r limits told h reader left s) → reader.given ≤ reader.limits.certificate
     → KeepsNumbers limits (x.inputs h.essential) h x.before
 numbers-of r limits told h reader left s x bytes = record {
   clauses = x.clauses;
@@ -55,14 +58,17 @@ few-installations [] = omega arith
 few-installations (lines.Installation variables ∷ steps) = let rest = few-installations steps in omega (arith, rest)
 few-installations (step ∷ steps) = let rest = few-installations steps in omega (arith, rest)
 
-pub count-fits : (r : PackageList) (limits : Limits) (told : Option (List ℕ)) (h : Header) (reader : ReaderView) (left : Option (List ℕ)) (s : StateView) → IsChecked r limits told h reader left s → (line : ℕ) → line ≡ reader.lines + 1
+pub count-fits : (r : PackageList) (limits : Limits) (told : Option (List ℕ)) (h : Header) (reader : ReaderView) (left : Option (List ℕ)) (s : StateView)
+    → IsChecked r limits told h reader left s → (line : ℕ) → line ≡ reader.lines + 1
     → line < 2 ^ 64 → s.window.count + 1 < 2 ^ 64
 count-fits r limits told h reader left s x line is fits = omega (arith, x.at.count, few-installations x.before, x.line_count, is, fits)
 
 -- ---- a line that is not read
 
-pub next-stops : FormsAreClear → (r : PackageList) (limits : Limits) (told : Option (List ℕ)) (h : Header) (reader next : ReaderView) (left after : Option (List ℕ)) (s : StateView) (old new : DeskView) → IsChecked r limits told h reader left s
-    → reader.given ≤ reader.limits.certificate → {X : Type 0} (header : X → Header) (claims : X → List Claim) (error : ReadCertError) → WhereTold left after (λ rest more. RecordAnswers reader rest more (Err error))
+pub next-stops : FormsAreClear → (r : PackageList) (limits : Limits) (told : Option (List ℕ)) (h : Header) (reader next : ReaderView)
+    (left after : Option (List ℕ)) (s : StateView) (old new : DeskView) → IsChecked r limits told h reader left s
+    → reader.given ≤ reader.limits.certificate → {X : Type 0} (header : X → Header) (claims : X → List Claim) (error : ReadCertError)
+    → WhereTold left after (λ rest more. RecordAnswers reader rest more (Err error))
     → RecordCause reader next old new (Err error) → OfText told (λ text. TextAnswers header claims r limits text (Err error))
 next-stops clear r limits told h reader next left after s old new x bytes {X} header claims error answers cause = by told x.text
   where
@@ -72,10 +78,12 @@ next-stops clear r limits told h reader next left after s old new x bytes {X} he
     whole : (rest : List ℕ) → PassesWhole reader.limits reader.given rest → PassesWhole limits (length (certificate_text h x.before)) rest
     whole rest passes = subst (λ n. PassesWhole limits n rest) x.given (subst (λ l. PassesWhole l reader.given rest) x.limits_are passes)
 
-    at : (text rest more : List ℕ) → AreFaultless (subject_of r x.inputs) limits text h x.before rest → (e : ReadCertError) → RecordAnswers reader rest more (Err e) → RecordCause reader next old new (Err e)
+    at : (text rest more : List ℕ) → AreFaultless (subject_of r x.inputs) limits text h x.before rest → (e : ReadCertError)
+        → RecordAnswers reader rest more (Err e) → RecordCause reader next old new (Err e)
         → TextAnswers header claims r limits text (Err e)
     at text rest more faultless (Bad fault) answer because =
-        inr (record-refused clear r x.inputs limits text h x.before rest reader (reached text rest faultless) x.limits_are x.given x.ended fault (omega (arith, because.0, x.line_count)) answer.0)
+        inr (record-refused clear r x.inputs limits text h x.before rest reader (reached text rest faultless) x.limits_are x.given x.ended fault
+        (omega (arith, because.0, x.line_count)) answer.0)
     at text rest more faultless (Work ReadFault) answer because = tt
     at text rest more faultless (Work NoMemory) answer because = tt
     at text rest more faultless (Work WriteFault) answer because = because
@@ -86,12 +94,15 @@ next-stops clear r limits told h reader next left after s old new x bytes {X} he
     by : (t : Option (List ℕ)) → TextAt r x.inputs limits h x.before t left → OfText t (λ text. TextAnswers header claims r limits text (Err error))
     by None here = tt
     by (Some text) here =
-        let answer = subst (λ l. WhereTold l after (λ rest more. RecordAnswers reader rest more (Err error))) here.1 answers in at text here.0 answer.0 here.2 error answer.2 cause
+        let answer = subst (λ l. WhereTold l after (λ rest more. RecordAnswers reader rest more (Err error))) here.1 answers in
+        at text here.0 answer.0 here.2 error answer.2 cause
 
 -- ---- the end
 
-pub completes : FormsAreClear → (r : PackageList) (limits : Limits) (told : Option (List ℕ)) (h : Header) (reader : ReaderView) (left after : Option (List ℕ)) (s : StateView) → IsChecked r limits told h reader left s
-    → reader.given ≤ reader.limits.certificate → WhereTold left after (λ rest more. RecordAnswers reader rest more (Ok None)) → OfText told (λ text. IsCompleted r limits text h s.claims)
+pub completes : FormsAreClear → (r : PackageList) (limits : Limits) (told : Option (List ℕ)) (h : Header) (reader : ReaderView) (left after : Option (List ℕ))
+    (s : StateView) → IsChecked r limits told h reader left s
+    → reader.given ≤ reader.limits.certificate → WhereTold left after (λ rest more. RecordAnswers reader rest more (Ok None))
+    → OfText told (λ text. IsCompleted r limits text h s.claims)
 completes clear r limits told h reader left after s x bytes answers = by told x.text
   where
     by : (t : Option (List ℕ)) → TextAt r x.inputs limits h x.before t left → OfText t (λ text. IsCompleted r limits text h s.claims)
@@ -106,13 +117,15 @@ completes clear r limits told h reader left after s x bytes answers = by told x.
           steps = x.before;
           accepted = record {
             faultless = faultless;
-            ends = end-none r x.inputs limits h x.before (λ long. end.limits.line (subst (λ bs. IsTooLong reader.limits bs) (sym end.nothing) (subst (λ l. IsTooLong l []) (sym x.limits_are) long))) ended;
+            ends = end-none r x.inputs limits h x.before (λ long. end.limits.line
+                (subst (λ bs. IsTooLong reader.limits bs) (sym end.nothing) (subst (λ l. IsTooLong l []) (sym x.limits_are) long))) ended;
           };
           claims = x.at.claims;
           numbers = numbers-of r limits told h reader left s x bytes;
         }
 
-pub means-at : WhatFollows → ModelsAreInstallations → (r : PackageList) (limits : Limits) (told : Option (List ℕ)) (h : Header) (reader : ReaderView) (left : Option (List ℕ)) (s : StateView) → IsInOrder r.packages
+pub means-at : WhatFollows → ModelsAreInstallations → (r : PackageList) (limits : Limits) (told : Option (List ℕ)) (h : Header) (reader : ReaderView)
+    (left : Option (List ℕ)) (s : StateView) → IsInOrder r.packages
     → IsChecked r limits told h reader left s → IsTrue reader.ended → Means h.essential r s.claims
 means-at follows models r limits told h reader left s ordered x ended =
     subst (Means h.essential r) (sym x.at.claims) (records-mean r (x.inputs h.essential) h x.before (record {

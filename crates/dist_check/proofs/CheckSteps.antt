@@ -1,5 +1,6 @@
 -- How a text that is checked goes on, and how it begins.
-use Rattle.std.proofs.Common.{◌≡◌, ◌≢◌, inl, inr, ℕ, ◌+◌, ◌<◌, ◌≤◌, Bool, false, List, [], ◌∷◌, ◌++◌, Option, Some, None, Result, Ok, Err, length, refl, sym, ap, subst, ◌∙◌, arith, length-append}
+use Rattle.std.proofs.Common.{◌≡◌, ◌≢◌, inl, inr, ℕ, ◌+◌, ◌<◌, ◌≤◌, Bool, false, List, [], ◌∷◌, ◌++◌, Option, Some, None, Result, Ok, Err, length, refl, sym}
+use Rattle.std.proofs.Common.{ap, subst, ◌∙◌, arith, length-append}
 use Rattle.std.specs.List.{All}
 use Rattle.std.specs.Result.{IsErrAnd}
 use Rattle.std.proofs.lemmas.Bool.{true≢false, false≢true, cases_lt}
@@ -24,14 +25,17 @@ use Rattle.dist_cert.specs.declared.records.Header.{Header}
 use Rattle.dist_cert.specs.ClearForms.{FormsAreClear}
 use Rattle.dist_cert.specs.Form.{Word, record_text, HasForm, header_text}
 use Rattle.dist_cert.specs.Groups.{clause_of, derived}
-use Rattle.dist_cert.specs.Reading.{ReaderView, WhereTold, PassesWhole, KeepsLimits, IsHeaderNext, IsRecordNext, HeaderAnswers, HeaderCause, GivesHeader, RecordAnswers, RecordCause, GivesRecord}
+use Rattle.dist_cert.specs.Reading.{ReaderView, WhereTold, PassesWhole, KeepsLimits, IsHeaderNext, IsRecordNext, HeaderAnswers, HeaderCause, GivesHeader}
+use Rattle.dist_cert.specs.Reading.{RecordAnswers, RecordCause, GivesRecord}
 use Rattle.dist_cert.specs.Refusal.{Fits, AreFaultless}
 use Rattle.dist_check.specs.Checking.{StopsAtDerived, StopsFirst, TextAnswers, TextCause, OfText}
 use Rattle.dist_subject.specs.Present.{matter_of, subject_of}
 use Rattle.dist_state.specs.Since.{IsAppendCause}
 use Rattle.dist_check.specs.Start.{IsStart, StartAnswers}
 use Rattle.dist_state.specs.State.{StateView, Tells, Becomes, StopsAt, LineStops, TakesLine}
-use Rattle.dist_check.proofs.CheckLemmas.{ThereAreClauses, ClausesAreOne, inputs_by, are-inputs, header-refused, header-unfit, large-inputs, starts-faultless, from-ended, ended-push, IsLineNext, step-refused, step-reached, stops-derived, right-push, right-none, forms-push, text-push}
+use Rattle.dist_check.proofs.CheckLemmas.{ThereAreClauses, ClausesAreOne, inputs_by, are-inputs, header-refused, header-unfit, large-inputs, starts-faultless}
+use Rattle.dist_check.proofs.CheckLemmas.{from-ended, ended-push, IsLineNext, step-refused, step-reached, stops-derived, right-push, right-none, forms-push}
+use Rattle.dist_check.proofs.CheckLemmas.{text-push}
 use Rattle.dist_check.specs.Checked.{TextAt, IsChecked}
 use Rattle.dist_check.proofs.CheckState.{lines-are, numbers-of}
 use Rattle.dist_check.proofs.Next.{told-verdict, becomes-at, starts-at}
@@ -42,8 +46,10 @@ use Rattle.std.proofs.lemmas.List.Elements.{All-nil}
 -- ---- a line that is read
 
 -- the line that is next, where the text is told
-line-next : (r : PackageList) (limits : Limits) (told : Option (List ℕ)) (h : Header) (reader : ReaderView) (left : Option (List ℕ)) (s : StateView) (x : IsChecked r limits told h reader left s) → reader.given ≤ reader.limits.certificate
-    → (text rest more : List ℕ) → AreFaultless (subject_of r x.inputs) limits text h x.before rest → (step : CertRecord) (next : IsRecordNext reader rest more step) → IsLineNext r x.inputs limits text h x.before rest next.line more step
+line-next : (r : PackageList) (limits : Limits) (told : Option (List ℕ)) (h : Header) (reader : ReaderView) (left : Option (List ℕ)) (s : StateView)
+    (x : IsChecked r limits told h reader left s) → reader.given ≤ reader.limits.certificate
+    → (text rest more : List ℕ) → AreFaultless (subject_of r x.inputs) limits text h x.before rest
+    → (step : CertRecord) (next : IsRecordNext reader rest more step) → IsLineNext r x.inputs limits text h x.before rest next.line more step
 line-next r limits told h reader left s x bytes text rest more faultless step next = record {
   reached = record { are_inputs = x.are_inputs; faultless = faultless; numbers = numbers-of r limits told h reader left s x bytes };
   keeps = subst (λ n. KeepsLimits limits n rest) x.given (subst (λ l. KeepsLimits l reader.given rest) x.limits_are next.limits);
@@ -53,24 +59,32 @@ line-next r limits told h reader left s x bytes text rest more faultless step ne
 }
 
 -- the line of a derived clause that passes a number
-derived-stops : FormsAreClear → (r : PackageList) (limits : Limits) (told : Option (List ℕ)) (h : Header) (reader : ReaderView) (left : Option (List ℕ)) (s : StateView) (x : IsChecked r limits told h reader left s) → (text rest more line : List ℕ)
-    (step : CertRecord) → IsLineNext r x.inputs limits text h x.before rest line more step → IsFaultless (matter_of r h.essential (x.inputs h.essential)) h x.before step → (error : WorkError) → error ≢ NoMemory → StopsAt s step error
-    → (Passes : List (List Literal) → List Literal → Type 0) → ((literals : List Word) → IsAppendCause s.log (clause_of literals) error → Passes (derived x.before) (clause_of literals)) → StopsAtDerived r limits text Passes
+derived-stops : FormsAreClear → (r : PackageList) (limits : Limits) (told : Option (List ℕ)) (h : Header) (reader : ReaderView) (left : Option (List ℕ))
+    (s : StateView) (x : IsChecked r limits told h reader left s) → (text rest more line : List ℕ)
+    (step : CertRecord) → IsLineNext r x.inputs limits text h x.before rest line more step
+    → IsFaultless (matter_of r h.essential (x.inputs h.essential)) h x.before step → (error : WorkError) → error ≢ NoMemory → StopsAt s step error
+    → (Passes : List (List Literal) → List Literal → Type 0)
+    → ((literals : List Word) → IsAppendCause s.log (clause_of literals) error → Passes (derived x.before) (clause_of literals))
+    → StopsAtDerived r limits text Passes
 derived-stops clear r limits told h reader left s x text rest more line (lines.Derived literals hints) next faultless error not_memory stops Passes passes =
     stops-derived clear r x.inputs limits text h x.before rest line more literals hints next faultless Passes (passes literals stops)
 derived-stops clear r limits told h reader left s x text rest more line step next faultless error not_memory stops Passes passes = absurd (not_memory stops)
 
 -- no other number is passed
-no-other : (s : StateView) (step : CertRecord) (error : WorkError) → StopsAt s step error → error ≢ NoMemory → error ≢ TooLarge Lines → error ≢ TooLarge LineLiterals → ⊥
+no-other : (s : StateView) (step : CertRecord) (error : WorkError) → StopsAt s step error → error ≢ NoMemory → error ≢ TooLarge Lines
+    → error ≢ TooLarge LineLiterals → ⊥
 no-other s (lines.Derived literals hints) (TooLarge Lines) stops memory_not lines_not literals_not = lines_not refl
 no-other s (lines.Derived literals hints) (TooLarge LineLiterals) stops memory_not lines_not literals_not = literals_not refl
 no-other s (lines.Derived literals hints) NoMemory stops memory_not lines_not literals_not = memory_not refl
 no-other s (lines.Derived literals hints) error stops memory_not lines_not literals_not = stops
 no-other s step error stops memory_not lines_not literals_not = memory_not stops
 
-pub line-stops : FormsAreClear → (r : PackageList) (limits : Limits) (told : Option (List ℕ)) (h : Header) (reader next : ReaderView) (left after : Option (List ℕ)) (s : StateView) (old new : DeskView) → IsChecked r limits told h reader left s
-    → reader.given ≤ reader.limits.certificate → (step : CertRecord) → WhereTold left after (λ rest more. RecordAnswers reader rest more (Ok (Some step))) → RecordCause reader next old new (Ok (Some step)) → (line : ℕ) → line ≡ reader.lines + 1
-    → {X : Type 0} (header : X → Header) (claims : X → List Claim) (error : ReadCertError) → LineStops s step line error → OfText told (λ text. TextAnswers header claims r limits text (Err error))
+pub line-stops : FormsAreClear → (r : PackageList) (limits : Limits) (told : Option (List ℕ)) (h : Header) (reader next : ReaderView)
+    (left after : Option (List ℕ)) (s : StateView) (old new : DeskView) → IsChecked r limits told h reader left s
+    → reader.given ≤ reader.limits.certificate → (step : CertRecord) → WhereTold left after (λ rest more. RecordAnswers reader rest more (Ok (Some step)))
+    → RecordCause reader next old new (Ok (Some step)) → (line : ℕ) → line ≡ reader.lines + 1
+    → {X : Type 0} (header : X → Header) (claims : X → List Claim) (error : ReadCertError) → LineStops s step line error
+    → OfText told (λ text. TextAnswers header claims r limits text (Err error))
 line-stops clear r limits told h reader next left after s old new x bytes step answers because line number {X} header claims error stops = by told x.text
   where
     faultless-line : Tells s step None → IsFaultless (matter_of r h.essential (x.inputs h.essential)) h x.before step
@@ -79,17 +93,23 @@ line-stops clear r limits told h reader next left after s old new x bytes step a
     clauses-are : lines_of s.log ≡ derived x.before
     clauses-are = lines-are r limits told h reader left s x
 
-    at : (text rest more : List ℕ) → AreFaultless (subject_of r x.inputs) limits text h x.before rest → IsRecordNext reader rest more step → (e : ReadCertError) → LineStops s step line e → TextAnswers header claims r limits text (Err e)
+    at : (text rest more : List ℕ) → AreFaultless (subject_of r x.inputs) limits text h x.before rest → IsRecordNext reader rest more step → (e : ReadCertError)
+        → LineStops s step line e → TextAnswers header claims r limits text (Err e)
     at text rest more faultless after_it (Bad fault) stop =
         let one = line-next r limits told h reader left s x bytes text rest more faultless step after_it in
-        let first = told-verdict r (x.inputs h.essential) h x.before s x.strong x.at x.right x.forms x.inputs_mean step because.0.rules (Some fault.cause) stop.1 in
+        let first = told-verdict r (x.inputs h.essential) h x.before s x.strong x.at x.right x.forms x.inputs_mean step because.0.rules (Some fault.cause)
+        stop.1 in
         inr (step-refused clear r x.inputs limits text h x.before rest after_it.line more step one fault (omega (arith, stop.0, number, x.line_count)) first)
     at text rest more faultless after_it (Work NoMemory) stop = tt
     at text rest more faultless after_it (Work (TooLarge Lines)) stop =
-        derived-stops clear r limits told h reader left s x text rest more after_it.line step (line-next r limits told h reader left s x bytes text rest more faultless step after_it) (faultless-line stop.0) (TooLarge Lines) (λ e. cc) stop.1
-        (λ ls clause. length ls ≡ limits.lines) (λ literals passes. omega (arith, passes, x.line_limit, ap (λ (cs : List (List Literal)). length cs) clauses-are))
+        derived-stops clear r limits told h reader left s x text rest more after_it.line step
+        (line-next r limits told h reader left s x bytes text rest more faultless step after_it) (faultless-line stop.0) (TooLarge Lines) (λ e. cc) stop.1
+        (λ ls clause. length ls ≡ limits.lines) (λ literals passes. omega
+        (arith, passes, x.line_limit, ap (λ (cs : List (List Literal)). length cs) clauses-are))
     at text rest more faultless after_it (Work (TooLarge LineLiterals)) stop =
-        derived-stops clear r limits told h reader left s x text rest more after_it.line step (line-next r limits told h reader left s x bytes text rest more faultless step after_it) (faultless-line stop.0) (TooLarge LineLiterals) (λ e. cc) stop.1
+        derived-stops clear r limits told h reader left s x text rest more after_it.line step
+        (line-next r limits told h reader left s x bytes text rest more faultless step after_it) (faultless-line stop.0) (TooLarge LineLiterals) (λ e. cc)
+        stop.1
         (λ ls clause. (length ls < limits.lines) × (limits.line_literals < literal_count ls + length clause))
         (λ literals passes. (
           omega (arith, passes.0, x.line_limit, ap (λ (cs : List (List Literal)). length cs) clauses-are),
@@ -102,19 +122,24 @@ line-stops clear r limits told h reader next left after s old new x bytes step a
     at text rest more faultless after_it (Work (TooLarge Variables)) stop = no-other s step (TooLarge Variables) stop.1 (λ e. cc) (λ e. cc) (λ e. cc)
     at text rest more faultless after_it (Work (TooLarge Clauses)) stop = absurd (no-other s step (TooLarge Clauses) stop.1 (λ e. cc) (λ e. cc) (λ e. cc))
     at text rest more faultless after_it (Work (TooLarge Literals)) stop = absurd (no-other s step (TooLarge Literals) stop.1 (λ e. cc) (λ e. cc) (λ e. cc))
-    at text rest more faultless after_it (Work (TooLarge Certificate)) stop = absurd (no-other s step (TooLarge Certificate) stop.1 (λ e. cc) (λ e. cc) (λ e. cc))
+    at text rest more faultless after_it (Work (TooLarge Certificate)) stop =
+        absurd (no-other s step (TooLarge Certificate) stop.1 (λ e. cc) (λ e. cc) (λ e. cc))
     at text rest more faultless after_it (Work (TooLarge RecordLine)) stop = no-other s step (TooLarge RecordLine) stop.1 (λ e. cc) (λ e. cc) (λ e. cc)
 
     by : (t : Option (List ℕ)) → TextAt r x.inputs limits h x.before t left → OfText t (λ text. TextAnswers header claims r limits text (Err error))
     by None here = tt
     by (Some text) here =
-        let answer = subst (λ l. WhereTold l after (λ rest more. RecordAnswers reader rest more (Ok (Some step)))) here.1 answers in at text here.0 answer.0 here.2 answer.2 error stops
+        let answer = subst (λ l. WhereTold l after (λ rest more. RecordAnswers reader rest more (Ok (Some step)))) here.1 answers in
+        at text here.0 answer.0 here.2 answer.2 error stops
 
 -- ---- a line that is taken
 
-pub next-checked : FormsAreClear → (r : PackageList) (limits : Limits) (told : Option (List ℕ)) (h : Header) (reader next : ReaderView) (left after : Option (List ℕ)) (s t : StateView) (old new : DeskView) → IsChecked r limits told h reader left s
-    → reader.given ≤ reader.limits.certificate → (step : CertRecord) → WhereTold left after (λ rest more. RecordAnswers reader rest more (Ok (Some step))) → RecordCause reader next old new (Ok (Some step))
-    → GivesRecord reader next (Ok (Some step)) → TakesLine s step t → t.log.line_limit ≡ s.log.line_limit → t.log.line_literal_limit ≡ s.log.line_literal_limit → IsChecked r limits told h next after t
+pub next-checked : FormsAreClear → (r : PackageList) (limits : Limits) (told : Option (List ℕ)) (h : Header) (reader next : ReaderView)
+    (left after : Option (List ℕ)) (s t : StateView) (old new : DeskView) → IsChecked r limits told h reader left s
+    → reader.given ≤ reader.limits.certificate → (step : CertRecord) → WhereTold left after (λ rest more. RecordAnswers reader rest more (Ok (Some step)))
+    → RecordCause reader next old new (Ok (Some step))
+    → GivesRecord reader next (Ok (Some step)) → TakesLine s step t → t.log.line_limit ≡ s.log.line_limit → t.log.line_literal_limit ≡ s.log.line_literal_limit
+    → IsChecked r limits told h next after t
 next-checked clear r limits told h reader next left after s t old new x bytes step answers because gives takes line_limit line_literal_limit = record {
   inputs = x.inputs;
   are_inputs = x.are_inputs;
@@ -147,7 +172,8 @@ next-checked clear r limits told h reader next left after s t old new x bytes st
         (answer.0, answer.1, step-reached clear r x.inputs limits text h x.before here.0 answer.2.line answer.0 step one faultless)
 
 -- a line that is taken leaves the limits of derived lines
-pub limits-stay : (s t : StateView) (step : CertRecord) → Tells s step None → Becomes s step t → (t.log.line_limit ≡ s.log.line_limit) × (t.log.line_literal_limit ≡ s.log.line_literal_limit)
+pub limits-stay : (s t : StateView) (step : CertRecord) → Tells s step None → Becomes s step t → (t.log.line_limit ≡ s.log.line_limit)
+    × (t.log.line_literal_limit ≡ s.log.line_literal_limit)
 limits-stay s t (lines.Question literals) told is = (ap (λ (v : StateView). v.log.line_limit) is, ap (λ (v : StateView). v.log.line_literal_limit) is)
 limits-stay s t (lines.Derived literals hints) told is = (ap (λ (v : StateView). v.log.line_limit) is, ap (λ (v : StateView). v.log.line_literal_limit) is)
 limits-stay s t (lines.Refuted hints) told is = (ap (λ (v : StateView). v.log.line_limit) is.rest, ap (λ (v : StateView). v.log.line_literal_limit) is.rest)
@@ -182,15 +208,18 @@ packages-stay s t lines.End told is = ap (λ (v : StateView). v.packages) is
 abbrev pub new_reader : Limits → ReaderView
 new_reader limits = record { limits = limits; held = []; given = 0; lines = 0; ended = false }
 
-pub header-stops : ThereAreClauses → (r : PackageList) → IsInOrder r.packages → (limits : Limits) (reader next : ReaderView) (told left after : Option (List ℕ)) (old new : DeskView) → reader ≡ new_reader limits → left ≡ told
-    → {X : Type 0} (header : X → Header) (claims : X → List Claim) (error : ReadCertError) → WhereTold left after (λ rest more. HeaderAnswers reader rest more (Err error)) → HeaderCause reader next old new (Err error)
+pub header-stops : ThereAreClauses → (r : PackageList) → IsInOrder r.packages
+    → (limits : Limits) (reader next : ReaderView) (told left after : Option (List ℕ)) (old new : DeskView) → reader ≡ new_reader limits → left ≡ told
+    → {X : Type 0} (header : X → Header) (claims : X → List Claim) (error : ReadCertError)
+    → WhereTold left after (λ rest more. HeaderAnswers reader rest more (Err error)) → HeaderCause reader next old new (Err error)
     → OfText told (λ text. TextAnswers header claims r limits text (Err error))
 header-stops there r ordered limits reader next told left after old new is same {X} header claims error answers cause = by told same
   where
     whole : (text : List ℕ) → PassesWhole reader.limits reader.given text → PassesWhole limits 0 text
     whole text passes = subst (λ v. PassesWhole v.limits v.given text) is passes
 
-    at : (text more : List ℕ) (e : ReadCertError) → HeaderAnswers reader text more (Err e) → HeaderCause reader next old new (Err e) → TextAnswers header claims r limits text (Err e)
+    at : (text more : List ℕ) (e : ReadCertError) → HeaderAnswers reader text more (Err e) → HeaderCause reader next old new (Err e)
+        → TextAnswers header claims r limits text (Err e)
     at text more (Bad fault) answer because = inl (
       omega (arith, because.0, ap (λ (v : ReaderView). v.lines) is),
       header-refused there r ordered limits reader (ap (λ (v : ReaderView). v.limits) is) (ap (λ (v : ReaderView). v.given) is) text fault.cause answer.0,
@@ -203,42 +232,54 @@ header-stops there r ordered limits reader next told left after old new is same 
 
     by : (t : Option (List ℕ)) → left ≡ t → OfText t (λ text. TextAnswers header claims r limits text (Err error))
     by None e = tt
-    by (Some text) e = let answer = subst (λ l. WhereTold l after (λ rest more. HeaderAnswers reader rest more (Err error))) e answers in at text answer.0 error answer.2 cause
+    by (Some text) e = let answer = subst (λ l. WhereTold l after (λ rest more. HeaderAnswers reader rest more (Err error))) e answers in
+        at text answer.0 error answer.2 cause
 
-pub start-stops : FormsAreClear → ThereAreClauses → ClausesAreOne → (r : PackageList) → IsInOrder r.packages → (limits : Limits) (reader : ReaderView) (told left after : Option (List ℕ)) (h : Header) → reader ≡ new_reader limits → left ≡ told
-    → {X : Type 0} (header : X → Header) (claims : X → List Claim) (error : ReadCertError) → WhereTold left after (λ rest more. HeaderAnswers reader rest more (Ok h)) → StartAnswers r limits h (Err error)
+pub start-stops : FormsAreClear → ThereAreClauses → ClausesAreOne → (r : PackageList) → IsInOrder r.packages
+    → (limits : Limits) (reader : ReaderView) (told left after : Option (List ℕ)) (h : Header) → reader ≡ new_reader limits → left ≡ told
+    → {X : Type 0} (header : X → Header) (claims : X → List Claim) (error : ReadCertError)
+    → WhereTold left after (λ rest more. HeaderAnswers reader rest more (Ok h)) → StartAnswers r limits h (Err error)
     → OfText told (λ text. TextAnswers header claims r limits text (Err error))
 start-stops clear there one r ordered limits reader told left after h is same {X} header claims error answers stops = by told same
   where
     keeps : (text more : List ℕ) → IsHeaderNext reader text more h → KeepsLimits limits 0 text
     keeps text more next = subst (λ v. KeepsLimits v.limits v.given text) is next.limits
 
-    at : (text more : List ℕ) → IsHeaderNext reader text more h → (e : ReadCertError) → StartAnswers r limits h (Err e) → TextAnswers header claims r limits text (Err e)
+    at : (text more : List ℕ) → IsHeaderNext reader text more h → (e : ReadCertError) → StartAnswers r limits h (Err e)
+        → TextAnswers header claims r limits text (Err e)
     at text more next (Bad fault) stop = inl (
       stop.0,
-      subst (StopsFirst r limits text) (sym stop.1) (header-unfit clear there one r ordered limits text next.line more h (keeps text more next) next.begins next.form stop.2),
+      subst (StopsFirst r limits text) (sym stop.1) (header-unfit clear there one r ordered limits text next.line more h (keeps text more next) next.begins
+          next.form stop.2),
     )
-    at text more next (Work (TooLarge Clauses)) stop = large-inputs r limits text next.line more h (keeps text more next) next.begins next.form stop.0 (λ essential. PassesClauses r essential limits.clauses limits.literals) stop.1
-    at text more next (Work (TooLarge Literals)) stop = large-inputs r limits text next.line more h (keeps text more next) next.begins next.form stop.0 (λ essential. PassesLiterals r essential limits.clauses limits.literals) stop.1
+    at text more next (Work (TooLarge Clauses)) stop = large-inputs r limits text next.line more h (keeps text more next) next.begins next.form stop.0
+        (λ essential. PassesClauses r essential limits.clauses limits.literals) stop.1
+    at text more next (Work (TooLarge Literals)) stop = large-inputs r limits text next.line more h (keeps text more next) next.begins next.form stop.0
+        (λ essential. PassesLiterals r essential limits.clauses limits.literals) stop.1
     at text more next (Work NoMemory) stop = tt
     at text more next (Work error) stop = absurd stop
 
     by : (t : Option (List ℕ)) → left ≡ t → OfText t (λ text. TextAnswers header claims r limits text (Err error))
     by None e = tt
-    by (Some text) e = let answer = subst (λ l. WhereTold l after (λ rest more. HeaderAnswers reader rest more (Ok h))) e answers in at text answer.0 answer.2 error stops
+    by (Some text) e = let answer = subst (λ l. WhereTold l after (λ rest more. HeaderAnswers reader rest more (Ok h))) e answers in
+        at text answer.0 answer.2 error stops
 
-pub starts-checked : FormsAreClear → (there : ThereAreClauses) → ClausesAreOne → ModelsAreInstallations → (r : PackageList) → IsInOrder r.packages → (limits : Limits) (reader next : ReaderView) (told left after : Option (List ℕ)) (h : Header) (s : StateView)
-    → reader ≡ new_reader limits → left ≡ told → WhereTold left after (λ rest more. HeaderAnswers reader rest more (Ok h)) → GivesHeader reader next (Ok h) → IsStart r limits h s → IsChecked r limits told h next after s
+pub starts-checked : FormsAreClear → (there : ThereAreClauses) → ClausesAreOne → ModelsAreInstallations → (r : PackageList) → IsInOrder r.packages
+    → (limits : Limits) (reader next : ReaderView) (told left after : Option (List ℕ)) (h : Header) (s : StateView)
+    → reader ≡ new_reader limits → left ≡ told → WhereTold left after (λ rest more. HeaderAnswers reader rest more (Ok h)) → GivesHeader reader next (Ok h)
+    → IsStart r limits h s → IsChecked r limits told h next after s
 starts-checked clear there one models r ordered limits reader next told left after h s is same answers gives start = record {
   inputs = inputs;
   are_inputs = are-inputs there r ordered;
   inputs_mean = record {
     ordered = ordered;
-    over = subst (λ cs. All (IsClauseOver (length r.packages)) cs) (sym clauses) (subst (λ n. All (IsClauseOver n) s.log.clauses) start.variables start.within.over_variables);
+    over = subst (λ cs. All (IsClauseOver (length r.packages)) cs) (sym clauses)
+        (subst (λ n. All (IsClauseOver n) s.log.clauses) start.variables start.within.over_variables);
     models = models r h.essential (inputs h.essential) ordered (are-inputs there r ordered h.essential);
   };
   before = [];
-  at = starts-at r (inputs h.essential) h s start.limit start.packages (sym clauses) (start.inputs ∙ sym size) start.variables start.window start.question start.next start.group_is start.claims;
+  at = starts-at r (inputs h.essential) h s start.limit start.packages (sym clauses) (start.inputs ∙ sym size) start.variables start.window start.question
+      start.next start.group_is start.claims;
   right = right-none r (inputs h.essential) h;
   forms = All-nil (λ step. HasForm (record_text step) step);
   strong = start.strong;
@@ -264,14 +305,23 @@ starts-checked clear there one models r ordered limits reader next told left aft
     size = ap (λ (cs : List (List Literal)). length cs) clauses
 
     fits : Fits (subject_of r inputs) h
-    fits = record { taken = start.strong; packages = start.numbers.packages; variables = start.numbers.variables; clauses = start.numbers.clause_count ∙ sym size }
+    fits = record {
+      taken = start.strong;
+      packages = start.numbers.packages;
+      variables = start.numbers.variables;
+      clauses = start.numbers.clause_count ∙ sym size;
+    }
 
     by : (t : Option (List ℕ)) → left ≡ t → TextAt r inputs limits h [] t after
     by None e = tt
     by (Some text) e =
         let answer = subst (λ l. WhereTold l after (λ rest more. HeaderAnswers reader rest more (Ok h))) e answers in
-        let next_is = answer.2 in
-        (answer.0, answer.1, starts-faultless clear r inputs limits text next_is.line answer.0 h (subst (λ v. KeepsLimits v.limits v.given text) is next_is.limits) next_is.begins next_is.form fits)
+        let next_is = answer.2 in (
+          answer.0,
+          answer.1,
+          starts-faultless clear r inputs limits text next_is.line answer.0 h
+              (subst (λ v. KeepsLimits v.limits v.given text) is next_is.limits) next_is.begins next_is.form fits,
+        )
 
 -- ---- causes, whatever is told
 
@@ -284,15 +334,18 @@ rose-from a b c first second rose = elim rose [
   ]
 ]
 
-pub next-cause : (reader next : ReaderView) (entry old new : DeskView) (error : ReadCertError) → OnlyReads entry old → OnlyReads old new → RecordCause reader next old new (Err error) → TextCause entry new error
+pub next-cause : (reader next : ReaderView) (entry old new : DeskView) (error : ReadCertError) → OnlyReads entry old → OnlyReads old new
+    → RecordCause reader next old new (Err error) → TextCause entry new error
 next-cause reader next entry old new (Bad fault) first second cause = tt
-next-cause reader next entry old new (Work ReadFault) first second cause = rose-from entry.read_faults old.read_faults new.read_faults first.read_faults_stand second.read_faults_stand cause
+next-cause reader next entry old new (Work ReadFault) first second cause =
+    rose-from entry.read_faults old.read_faults new.read_faults first.read_faults_stand second.read_faults_stand cause
 next-cause reader next entry old new (Work WriteFault) first second cause = cause
 next-cause reader next entry old new (Work NoMemory) first second cause = tt
 next-cause reader next entry old new (Work (TooLarge Certificate)) first second cause = tt
 next-cause reader next entry old new (Work (TooLarge what)) first second cause = absurd cause
 
-pub header-cause : (reader next : ReaderView) (old new : DeskView) (error : ReadCertError) → HeaderCause reader next old new (Err error) → TextCause old new error
+pub header-cause : (reader next : ReaderView) (old new : DeskView) (error : ReadCertError) → HeaderCause reader next old new (Err error)
+    → TextCause old new error
 header-cause reader next old new (Bad fault) cause = tt
 header-cause reader next old new (Work ReadFault) cause = cause
 header-cause reader next old new (Work WriteFault) cause = cause
@@ -300,14 +353,16 @@ header-cause reader next old new (Work NoMemory) cause = tt
 header-cause reader next old new (Work (TooLarge Certificate)) cause = tt
 header-cause reader next old new (Work (TooLarge what)) cause = absurd cause
 
-pub start-cause : (r : PackageList) (limits : Limits) (h : Header) (old new : DeskView) (error : ReadCertError) → StartAnswers r limits h (Err error) → TextCause old new error
+pub start-cause : (r : PackageList) (limits : Limits) (h : Header) (old new : DeskView) (error : ReadCertError) → StartAnswers r limits h (Err error)
+    → TextCause old new error
 start-cause r limits h old new (Bad fault) stops = tt
 start-cause r limits h old new (Work NoMemory) stops = tt
 start-cause r limits h old new (Work (TooLarge Clauses)) stops = tt
 start-cause r limits h old new (Work (TooLarge Literals)) stops = tt
 start-cause r limits h old new (Work error) stops = absurd stops
 
-pub line-cause : (s : StateView) (step : CertRecord) (line : ℕ) (old new : DeskView) (error : ReadCertError) → LineStops s step line error → TextCause old new error
+pub line-cause : (s : StateView) (step : CertRecord) (line : ℕ) (old new : DeskView) (error : ReadCertError) → LineStops s step line error
+    → TextCause old new error
 line-cause s step line old new (Bad fault) stops = tt
 line-cause s step line old new (Work NoMemory) stops = tt
 line-cause s step line old new (Work (TooLarge Lines)) stops = tt
@@ -317,7 +372,8 @@ line-cause s step line old new (Work WriteFault) stops = no-other s step WriteFa
 line-cause s step line old new (Work (TooLarge what)) stops = absurd (no-other s step (TooLarge what) stops.1 (λ e. cc) (λ e. cc) (λ e. cc))
 
 -- what the exit of a `?` returns
-pub by-exit : {X : Type 0} (P : Result X ReadCertError → Type 0) (r : Result X ReadCertError) (error : ReadCertError) → IsErrAnd r (λ e. e ≡ error) → P (Err error) → P r
+pub by-exit : {X : Type 0} (P : Result X ReadCertError → Type 0) (r : Result X ReadCertError) (error : ReadCertError) → IsErrAnd r (λ e. e ≡ error)
+    → P (Err error) → P r
 by-exit P (Ok x) error is holds = absurd is
 by-exit P (Err e) error is holds = subst (λ y. P (Err y)) (sym is) holds
 

@@ -24,8 +24,10 @@ nothing-read limits reader v is = ap (λ (r : ReaderView). text_left r v) is ∙
     by (Some bytes) = refl
 
 -- when a text stops is told whatever would be made of it
-pub stops-alike : {X Y : Type 0} (header : X → Header) (claims : X → List Claim) (to_header : Y → Header) (to_claims : Y → List Claim) (r : PackageList) (limits : Limits) (told : Option (List ℕ)) (error : ReadCertError)
-    → OfText told (λ text. TextAnswers header claims r limits text (Err error)) → OfText told (λ text. TextAnswers to_header to_claims r limits text (Err error))
+pub stops-alike : {X Y : Type 0} (header : X → Header) (claims : X → List Claim) (to_header : Y → Header) (to_claims : Y → List Claim) (r : PackageList)
+    (limits : Limits) (told : Option (List ℕ)) (error : ReadCertError)
+    → OfText told (λ text. TextAnswers header claims r limits text (Err error))
+    → OfText told (λ text. TextAnswers to_header to_claims r limits text (Err error))
 stops-alike header claims to_header to_claims r limits None error stops = tt
 stops-alike header claims to_header to_claims r limits (Some text) (Bad fault) stops = stops
 stops-alike header claims to_header to_claims r limits (Some text) (Work ReadFault) stops = tt
@@ -39,21 +41,25 @@ stops-alike header claims to_header to_claims r limits (Some text) (Work (TooLar
 stops-alike header claims to_header to_claims r limits (Some text) (Work (TooLarge what)) stops = absurd stops
 
 -- want of memory may come at any text
-pub no-memory : {X : Type 0} (header : X → Header) (claims : X → List Claim) (r : PackageList) (limits : Limits) (told : Option (List ℕ)) → OfText told (λ text. TextAnswers header claims r limits text (Err (Work NoMemory)))
+pub no-memory : {X : Type 0} (header : X → Header) (claims : X → List Claim) (r : PackageList) (limits : Limits) (told : Option (List ℕ))
+    → OfText told (λ text. TextAnswers header claims r limits text (Err (Work NoMemory)))
 no-memory header claims r limits None = tt
 no-memory header claims r limits (Some text) = tt
 
 -- a completed text, of which the claims are these
-pub completed-alike : {X : Type 0} (header : X → Header) (claims : X → List Claim) (r : PackageList) (limits : Limits) (told : Option (List ℕ)) (h : Header) (made : List Claim) (of : X) → header of ≡ h → claims of ≡ made
+pub completed-alike : {X : Type 0} (header : X → Header) (claims : X → List Claim) (r : PackageList) (limits : Limits) (told : Option (List ℕ)) (h : Header)
+    (made : List Claim) (of : X) → header of ≡ h → claims of ≡ made
     → OfText told (λ text. IsCompleted r limits text h made) → OfText told (λ text. TextAnswers header claims r limits text (Ok of))
 completed-alike header claims r limits None h made of h_is made_is done = tt
 completed-alike header claims r limits (Some text) h made of h_is made_is done =
     subst (λ m. IsCompleted r limits text (header of) m) (sym made_is) (subst (λ x. IsCompleted r limits text x made) (sym h_is) done)
 
 -- a cause behind what was read before
-pub later-cause : (entry old new : DeskView) (error : ReadCertError) → OnlyReads entry old → OnlyReads old new → TextCause old new error → TextCause entry new error
+pub later-cause : (entry old new : DeskView) (error : ReadCertError) → OnlyReads entry old → OnlyReads old new → TextCause old new error
+    → TextCause entry new error
 later-cause entry old new (Bad fault) first second cause = tt
-later-cause entry old new (Work ReadFault) first second cause = rose-from entry.read_faults old.read_faults new.read_faults first.read_faults_stand second.read_faults_stand cause
+later-cause entry old new (Work ReadFault) first second cause =
+    rose-from entry.read_faults old.read_faults new.read_faults first.read_faults_stand second.read_faults_stand cause
 later-cause entry old new (Work WriteFault) first second cause = cause
 later-cause entry old new (Work NoMemory) first second cause = tt
 later-cause entry old new (Work (TooLarge what)) first second cause = cause

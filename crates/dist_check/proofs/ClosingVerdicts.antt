@@ -1,5 +1,6 @@
 -- The same of lines that close a question as undecided, of claims that are no strong ones, and of the end.
-use Rattle.std.proofs.Common.{◌≡◌, ◌≢◌, ◌⊎◌, inl, inr, ℕ, ◌+◌, ◌<◌, ◌≤◌, Bool, true, false, List, [], ◌∷◌, ◌++◌, Option, Some, None, length, refl, sym, ap, subst, ◌∙◌, append_assoc, arith, length-append}
+use Rattle.std.proofs.Common.{◌≡◌, ◌≢◌, ◌⊎◌, inl, inr, ℕ, ◌+◌, ◌<◌, ◌≤◌, Bool, true, false, List, [], ◌∷◌, ◌++◌, Option, Some, None, length, refl, sym, ap}
+use Rattle.std.proofs.Common.{subst, ◌∙◌, append_assoc, arith, length-append}
 use Rattle.std.specs.List.{Any}
 use Rattle.std.proofs.lemmas.Bool.{false≢true, and_parts, and_cases, eqb-true, eqb-false, leb-true, leb-false}
 use Rattle.std.proofs.lemmas.Grind.{flat_map-append}
@@ -26,17 +27,24 @@ use Rattle.dist_cert.specs.GroupLaws.{one-open}
 use Rattle.dist_check.proofs.Verdicts.{IsVerdict, each-new, new-from-each}
 
 -- the clauses of the lines before are those before the open question and those since
-pub since-question : (inputs : List (List Literal)) (before earlier : List CertRecord) (question : List Word) (since : List CertRecord) → IsOpen before earlier question since
+pub since-question : (inputs : List (List Literal)) (before earlier : List CertRecord) (question : List Word) (since : List CertRecord)
+    → IsOpen before earlier question since
     → inputs ++ derived before ≡ (inputs ++ derived earlier) ++ derived since
 since-question inputs before earlier question since x =
-    ap (λ (ls : List CertRecord). inputs ++ derived ls) x.ends ∙ ap (λ (cs : List (List Literal)). inputs ++ cs) (flat_map-append derived_in earlier (lines.Question question ∷ since))
+    ap (λ (ls : List CertRecord). inputs ++ derived ls) x.ends
+    ∙ ap (λ (cs : List (List Literal)). inputs ++ cs) (flat_map-append derived_in earlier (lines.Question question ∷ since))
     ∙ sym (append_assoc inputs (derived earlier) (derived since))
 
-pub undecided-verdict : (r : PackageList) (inputs : List (List Literal)) (h : Header) (before : List CertRecord) (s : StateView) → h.kind ≡ kinds.Strong → IsAt r inputs h before s → (question : Option QuestionView)
-    → IsQuestionOf inputs before question → (found : Option CertCause) → TellsUndecided s.log s.limit question found → IsVerdict r inputs h before lines.Undecided found
-undecided-verdict r inputs h before s strong at None q found told = subst (IsVerdict r inputs h before lines.Undecided) (sym told) (first-from (matter_of r h.essential inputs) h before lines.Undecided causes.OutOfOrder strong q none)
+pub undecided-verdict : (r : PackageList) (inputs : List (List Literal)) (h : Header) (before : List CertRecord) (s : StateView) → h.kind ≡ kinds.Strong
+    → IsAt r inputs h before s → (question : Option QuestionView)
+    → IsQuestionOf inputs before question → (found : Option CertCause) → TellsUndecided s.log s.limit question found
+    → IsVerdict r inputs h before lines.Undecided found
+undecided-verdict r inputs h before s strong at None q found told =
+    subst (IsVerdict r inputs h before lines.Undecided) (sym told)
+    (first-from (matter_of r h.essential inputs) h before lines.Undecided causes.OutOfOrder strong q none)
   where
-    none : (cause : CertCause) → may_have lines.Undecided cause ≡ true → rank cause < 5 → ¬ HasRecordFault (matter_of r h.essential inputs) h before lines.Undecided cause
+    none : (cause : CertCause) → may_have lines.Undecided cause ≡ true → rank cause < 5
+        → ¬ HasRecordFault (matter_of r h.essential inputs) h before lines.Undecided cause
     none causes.OutOfOrder may below fault = omega (arith, below)
     none causes.LimitNotReached may below fault = omega (arith, below)
     none causes.NotNew may below fault = omega (arith, below)
@@ -47,7 +55,8 @@ undecided-verdict r inputs h before s strong at (Some question) q found told = b
     split = at.clauses ∙ since-question inputs before q.0 question.assumptions q.1 q.2
 
     size : length s.log.clauses ≡ question.last + length (derived q.1)
-    size = ap (λ (cs : List (List Literal)). length cs) split ∙ length-append (inputs ++ derived q.0) (derived q.1) ∙ ap (λ (n : ℕ). n + length (derived q.1)) (sym q.3)
+    size = ap (λ (cs : List (List Literal)). length cs) split ∙ length-append (inputs ++ derived q.0) (derived q.1)
+        ∙ ap (λ (n : ℕ). n + length (derived q.1)) (sym q.3)
 
     in-order : ¬ HasRecordFault (matter_of r h.essential inputs) h before lines.Undecided causes.OutOfOrder
     in-order fault = fault (q.0, question.assumptions, q.1, q.2)
@@ -61,25 +70,30 @@ undecided-verdict r inputs h before s strong at (Some question) q found told = b
     early : length s.log.clauses < question.last + s.limit → HasRecordFault (matter_of r h.essential inputs) h before lines.Undecided causes.LimitNotReached
     early few = (q.0, question.assumptions, q.1, q.2, omega (arith, few, size, at.limit))
 
-    new : AreNewFrom s.log.clauses s.log.inputs (clause_of question.assumptions) question.last → EachIsNew (inputs ++ derived q.0) (length inputs) (clause_of question.assumptions) (derived q.1)
+    new : AreNewFrom s.log.clauses s.log.inputs (clause_of question.assumptions) question.last
+        → EachIsNew (inputs ++ derived q.0) (length inputs) (clause_of question.assumptions) (derived q.1)
     new were =
         each-new (length inputs) (clause_of question.assumptions) (inputs ++ derived q.0) (derived q.1)
         (subst (λ n. AreNewFrom ((inputs ++ derived q.0) ++ derived q.1) (length inputs) (clause_of question.assumptions) n) q.3
         (subst (λ n. AreNewFrom ((inputs ++ derived q.0) ++ derived q.1) n (clause_of question.assumptions) question.last) at.inputs_are
         (subst (λ cs. AreNewFrom cs s.log.inputs (clause_of question.assumptions) question.last) split were)))
 
-    were-new : EachIsNew (inputs ++ derived q.0) (length inputs) (clause_of question.assumptions) (derived q.1) → AreNewFrom s.log.clauses s.log.inputs (clause_of question.assumptions) question.last
+    were-new : EachIsNew (inputs ++ derived q.0) (length inputs) (clause_of question.assumptions) (derived q.1)
+        → AreNewFrom s.log.clauses s.log.inputs (clause_of question.assumptions) question.last
     were-new each =
         subst (λ cs. AreNewFrom cs s.log.inputs (clause_of question.assumptions) question.last) (sym split)
         (subst (λ n. AreNewFrom ((inputs ++ derived q.0) ++ derived q.1) n (clause_of question.assumptions) question.last) (sym at.inputs_are)
         (subst (λ n. AreNewFrom ((inputs ++ derived q.0) ++ derived q.1) (length inputs) (clause_of question.assumptions) n) (sym q.3)
         (new-from-each (length inputs) (clause_of question.assumptions) (inputs ++ derived q.0) (derived q.1) each)))
 
-    no-old : AreNewFrom s.log.clauses s.log.inputs (clause_of question.assumptions) question.last → ¬ HasRecordFault (matter_of r h.essential inputs) h before lines.Undecided causes.NotNew
+    no-old : AreNewFrom s.log.clauses s.log.inputs (clause_of question.assumptions) question.last
+        → ¬ HasRecordFault (matter_of r h.essential inputs) h before lines.Undecided causes.NotNew
     no-old were fault =
         let one = one-open before fault.0 q.0 fault.1 question.assumptions fault.2 q.1 fault.3 q.2 in
-        let New : List CertRecord → List Word → List CertRecord → Type 0 = λ e asked si. EachIsNew (inputs ++ derived e) (length inputs) (clause_of asked) (derived si) in
-        fault.4 (subst (λ e. New e fault.1 fault.2) (sym one.0) (subst (λ asked. New q.0 asked fault.2) (sym one.1) (subst (λ si. New q.0 question.assumptions si) (sym one.2) (new were))))
+        let New : List CertRecord → List Word → List CertRecord
+        → Type 0 = λ e asked si. EachIsNew (inputs ++ derived e) (length inputs) (clause_of asked) (derived si) in
+        fault.4 (subst (λ e. New e fault.1 fault.2) (sym one.0)
+        (subst (λ asked. New q.0 asked fault.2) (sym one.1) (subst (λ si. New q.0 question.assumptions si) (sym one.2) (new were))))
 
     by : (f : Option CertCause) → TellsUndecided s.log s.limit (Some question) f → IsVerdict r inputs h before lines.Undecided f
     by None t = faultless-from (matter_of r h.essential inputs) h before lines.Undecided strong none
@@ -91,14 +105,17 @@ undecided-verdict r inputs h before s strong at (Some question) q found told = b
         none cause may fault = false≢true may
     by (Some causes.LimitNotReached) t = first-from (matter_of r h.essential inputs) h before lines.Undecided causes.LimitNotReached strong (early t) none
       where
-        none : (cause : CertCause) → may_have lines.Undecided cause ≡ true → rank cause < 10 → ¬ HasRecordFault (matter_of r h.essential inputs) h before lines.Undecided cause
+        none : (cause : CertCause) → may_have lines.Undecided cause ≡ true → rank cause < 10
+            → ¬ HasRecordFault (matter_of r h.essential inputs) h before lines.Undecided cause
         none causes.OutOfOrder may below fault = in-order fault
         none causes.LimitNotReached may below fault = omega (arith, below)
         none causes.NotNew may below fault = omega (arith, below)
         none cause may below fault = false≢true may
-    by (Some causes.NotNew) t = first-from (matter_of r h.essential inputs) h before lines.Undecided causes.NotNew strong (q.0, question.assumptions, q.1, q.2, λ each. t.1 (were-new each)) none
+    by (Some causes.NotNew) t = first-from (matter_of r h.essential inputs) h before lines.Undecided causes.NotNew strong
+        (q.0, question.assumptions, q.1, q.2, λ each. t.1 (were-new each)) none
       where
-        none : (cause : CertCause) → may_have lines.Undecided cause ≡ true → rank cause < 11 → ¬ HasRecordFault (matter_of r h.essential inputs) h before lines.Undecided cause
+        none : (cause : CertCause) → may_have lines.Undecided cause ≡ true → rank cause < 11
+            → ¬ HasRecordFault (matter_of r h.essential inputs) h before lines.Undecided cause
         none causes.OutOfOrder may below fault = in-order fault
         none causes.LimitNotReached may below fault = late t.0 fault
         none causes.NotNew may below fault = omega (arith, below)
@@ -107,7 +124,8 @@ undecided-verdict r inputs h before s strong at (Some question) q found told = b
 
 -- ---- the end
 
-pub end-verdict : (r : PackageList) (inputs : List (List Literal)) (h : Header) (before : List CertRecord) (s : StateView) → h.kind ≡ kinds.Strong → IsAt r inputs h before s → (found : Option CertCause)
+pub end-verdict : (r : PackageList) (inputs : List (List Literal)) (h : Header) (before : List CertRecord) (s : StateView) → h.kind ≡ kinds.Strong
+    → IsAt r inputs h before s → (found : Option CertCause)
     → TellsEnd s.next s.packages found → IsVerdict r inputs h before lines.End found
 end-verdict r inputs h before s strong at None told = faultless-from (matter_of r h.essential inputs) h before lines.End strong none
   where
@@ -128,7 +146,8 @@ end-verdict r inputs h before s strong at (Some cause) told = absurd told
 abbrev pub IsWrongNumber : List CertRecord → PackageList → ℕ → Type 0
 IsWrongNumber before r p = (p ≢ claim_count before + 1) ⊎ (length r.packages < p)
 
-pub right-number : (r : PackageList) (inputs : List (List Literal)) (h : Header) (before : List CertRecord) (s : StateView) → IsAt r inputs h before s → (p : ℕ) → is_next s.next s.packages p ≡ true → ¬ Any (IsWrongNumber before r) (p ∷ [])
+pub right-number : (r : PackageList) (inputs : List (List Literal)) (h : Header) (before : List CertRecord) (s : StateView) → IsAt r inputs h before s → (p : ℕ)
+    → is_next s.next s.packages p ≡ true → ¬ Any (IsWrongNumber before r) (p ∷ [])
 right-number r inputs h before s at p next wrong =
     let parts = and_parts _ _ next in
     let same = eqb-true p s.next parts.0 in
@@ -141,7 +160,8 @@ right-number r inputs h before s at p next wrong =
       | inr none ↦ omega (arith, none.2)
     ]
 
-pub wrong-number : (r : PackageList) (inputs : List (List Literal)) (h : Header) (before : List CertRecord) (s : StateView) → IsAt r inputs h before s → (p : ℕ) → is_next s.next s.packages p ≡ false → Any (IsWrongNumber before r) (p ∷ [])
+pub wrong-number : (r : PackageList) (inputs : List (List Literal)) (h : Header) (before : List CertRecord) (s : StateView) → IsAt r inputs h before s → (p : ℕ)
+    → is_next s.next s.packages p ≡ false → Any (IsWrongNumber before r) (p ∷ [])
 wrong-number r inputs h before s at p next = any-head (IsWrongNumber before r) p [] (elim (and_cases _ _ next) [
   | inl other ↦ inl (λ e. eqb-false p s.next other (e ∙ sym at.next))
   | inr high ↦ inr (omega (arith, leb-false p s.packages high, at.packages))
@@ -154,18 +174,22 @@ pub record IsOn (r : PackageList) (inputs : List (List Literal)) (h : Header) (b
   pub from_number : Any (IsWrongNumber before r) (p ∷ []) → HasRecordFault (matter_of r h.essential inputs) h before step causes.OutOfOrder
   pub may : (cause : CertCause) → may_have step cause ≡ true → (cause ≡ causes.OutOfOrder) ⊎ ((cause ≡ causes.WrongClaim) ⊎ (cause ≡ causes.Incomplete))
 
-pub number-verdict : (r : PackageList) (inputs : List (List Literal)) (h : Header) (before : List CertRecord) (s : StateView) → h.kind ≡ kinds.Strong → IsAt r inputs h before s → (step : CertRecord) (p : ℕ) → IsOn r inputs h before step p
+pub number-verdict : (r : PackageList) (inputs : List (List Literal)) (h : Header) (before : List CertRecord) (s : StateView) → h.kind ≡ kinds.Strong
+    → IsAt r inputs h before s → (step : CertRecord) (p : ℕ) → IsOn r inputs h before step p
     → is_next s.next s.packages p ≡ false → IsVerdict r inputs h before step (Some causes.OutOfOrder)
 number-verdict r inputs h before s strong at step p on next =
     let Fault : CertCause → Type 0 = HasRecordFault (matter_of r h.essential inputs) h before step in
-    first-from (matter_of r h.essential inputs) h before step causes.OutOfOrder strong (on.from_number (wrong-number r inputs h before s at p next)) (λ cause may below. elim (on.may cause may) [
+    first-from (matter_of r h.essential inputs) h before step causes.OutOfOrder strong (on.from_number (wrong-number r inputs h before s at p next))
+    (λ cause may below. elim (on.may cause may) [
       | inl order ↦ let e : rank cause ≡ 5 = ap rank order in omega (arith, below, e)
       | inr (inl wrong) ↦ let e : rank cause ≡ 12 = ap rank wrong in omega (arith, below, e)
       | inr (inr incomplete) ↦ let e : rank cause ≡ 13 = ap rank incomplete in omega (arith, below, e)
     ])
 
-pub wrong-verdict : (r : PackageList) (inputs : List (List Literal)) (h : Header) (before : List CertRecord) (s : StateView) → h.kind ≡ kinds.Strong → IsAt r inputs h before s → (step : CertRecord) (p : ℕ) → IsOn r inputs h before step p
-    → is_next s.next s.packages p ≡ true → ¬ HoldsClaim (matter_of r h.essential inputs) kinds.Strong before step → IsVerdict r inputs h before step (Some causes.WrongClaim)
+pub wrong-verdict : (r : PackageList) (inputs : List (List Literal)) (h : Header) (before : List CertRecord) (s : StateView) → h.kind ≡ kinds.Strong
+    → IsAt r inputs h before s → (step : CertRecord) (p : ℕ) → IsOn r inputs h before step p
+    → is_next s.next s.packages p ≡ true → ¬ HoldsClaim (matter_of r h.essential inputs) kinds.Strong before step
+    → IsVerdict r inputs h before step (Some causes.WrongClaim)
 wrong-verdict r inputs h before s strong at step p on next never =
     let Fault : CertCause → Type 0 = HasRecordFault (matter_of r h.essential inputs) h before step in
     first-from (matter_of r h.essential inputs) h before step causes.WrongClaim strong
@@ -175,8 +199,10 @@ wrong-verdict r inputs h before s strong at step p on next never =
       | inr (inr incomplete) ↦ let e : rank cause ≡ 13 = ap rank incomplete in λ fault. omega (arith, below, e)
     ])
 
-pub right-verdict : (r : PackageList) (inputs : List (List Literal)) (h : Header) (before : List CertRecord) (s : StateView) → h.kind ≡ kinds.Strong → IsAt r inputs h before s → (step : CertRecord) (p : ℕ) → IsOn r inputs h before step p
-    → is_next s.next s.packages p ≡ true → HoldsClaim (matter_of r h.essential inputs) kinds.Strong before step → ¬ HasRecordFault (matter_of r h.essential inputs) h before step causes.Incomplete → IsVerdict r inputs h before step None
+pub right-verdict : (r : PackageList) (inputs : List (List Literal)) (h : Header) (before : List CertRecord) (s : StateView) → h.kind ≡ kinds.Strong
+    → IsAt r inputs h before s → (step : CertRecord) (p : ℕ) → IsOn r inputs h before step p
+    → is_next s.next s.packages p ≡ true → HoldsClaim (matter_of r h.essential inputs) kinds.Strong before step
+    → ¬ HasRecordFault (matter_of r h.essential inputs) h before step causes.Incomplete → IsVerdict r inputs h before step None
 right-verdict r inputs h before s strong at step p on next holds whole =
     let Fault : CertCause → Type 0 = HasRecordFault (matter_of r h.essential inputs) h before step in
     faultless-from (matter_of r h.essential inputs) h before step strong (λ cause may fault. elim (on.may cause may) [
@@ -185,8 +211,10 @@ right-verdict r inputs h before s strong at step p on next holds whole =
       | inr (inr incomplete) ↦ whole (subst Fault incomplete fault)
     ])
 
-pub incomplete-verdict : (r : PackageList) (inputs : List (List Literal)) (h : Header) (before : List CertRecord) (s : StateView) → h.kind ≡ kinds.Strong → IsAt r inputs h before s → (step : CertRecord) (p : ℕ) → IsOn r inputs h before step p
-    → is_next s.next s.packages p ≡ true → HoldsClaim (matter_of r h.essential inputs) kinds.Strong before step → HasRecordFault (matter_of r h.essential inputs) h before step causes.Incomplete
+pub incomplete-verdict : (r : PackageList) (inputs : List (List Literal)) (h : Header) (before : List CertRecord) (s : StateView) → h.kind ≡ kinds.Strong
+    → IsAt r inputs h before s → (step : CertRecord) (p : ℕ) → IsOn r inputs h before step p
+    → is_next s.next s.packages p ≡ true → HoldsClaim (matter_of r h.essential inputs) kinds.Strong before step
+    → HasRecordFault (matter_of r h.essential inputs) h before step causes.Incomplete
     → IsVerdict r inputs h before step (Some causes.Incomplete)
 incomplete-verdict r inputs h before s strong at step p on next holds omits =
     let Fault : CertCause → Type 0 = HasRecordFault (matter_of r h.essential inputs) h before step in
@@ -197,7 +225,8 @@ incomplete-verdict r inputs h before s strong at step p on next holds omits =
     ])
 
 -- the causes that a claim may have
-claim-causes : (step : CertRecord) (cause : CertCause) → is_claim step ≡ true → may_have step cause ≡ true → (cause ≡ causes.OutOfOrder) ⊎ ((cause ≡ causes.WrongClaim) ⊎ (cause ≡ causes.Incomplete))
+claim-causes : (step : CertRecord) (cause : CertCause) → is_claim step ≡ true → may_have step cause ≡ true → (cause ≡ causes.OutOfOrder)
+    ⊎ ((cause ≡ causes.WrongClaim) ⊎ (cause ≡ causes.Incomplete))
 claim-causes step causes.OutOfOrder claim may = inl refl
 claim-causes step causes.WrongClaim claim may = inr (inl refl)
 claim-causes step causes.Incomplete claim may = inr (inr refl)
@@ -209,14 +238,26 @@ claim-causes (lines.Alive p i) cause claim may = absurd (false≢true may)
 claim-causes (lines.Challenged p named by undecided) cause claim may = absurd (false≢true may)
 claim-causes step cause claim may = absurd (false≢true claim)
 
-on-installable : (r : PackageList) (inputs : List (List Literal)) (h : Header) (before : List CertRecord) (p : ℕ) → IsOn r inputs h before (lines.NotInstallable p) p
-on-installable r inputs h before p = record { claim = refl; number = λ f. f; from_number = λ f. f; may = λ cause. claim-causes (lines.NotInstallable p) cause refl }
+on-installable : (r : PackageList) (inputs : List (List Literal)) (h : Header) (before : List CertRecord) (p : ℕ)
+    → IsOn r inputs h before (lines.NotInstallable p) p
+on-installable r inputs h before p = record {
+  claim = refl;
+  number = λ f. f;
+  from_number = λ f. f;
+  may = λ cause. claim-causes (lines.NotInstallable p) cause refl;
+}
 
 on-unknown : (r : PackageList) (inputs : List (List Literal)) (h : Header) (before : List CertRecord) (p : ℕ) → IsOn r inputs h before (lines.Unknown p) p
 on-unknown r inputs h before p = record { claim = refl; number = λ f. f; from_number = λ f. f; may = λ cause. claim-causes (lines.Unknown p) cause refl }
 
-pub on-strong : (r : PackageList) (inputs : List (List Literal)) (h : Header) (before : List CertRecord) (p : ℕ) (named on undecided : List ℕ) → IsOn r inputs h before (lines.Strong p named on undecided) p
-on-strong r inputs h before p named on undecided = record { claim = refl; number = λ f. f; from_number = λ f. f; may = λ cause. claim-causes (lines.Strong p named on undecided) cause refl }
+pub on-strong : (r : PackageList) (inputs : List (List Literal)) (h : Header) (before : List CertRecord) (p : ℕ) (named on undecided : List ℕ)
+    → IsOn r inputs h before (lines.Strong p named on undecided) p
+on-strong r inputs h before p named on undecided = record {
+  claim = refl;
+  number = λ f. f;
+  from_number = λ f. f;
+  may = λ cause. claim-causes (lines.Strong p named on undecided) cause refl;
+}
 
 on-outdated : (r : PackageList) (inputs : List (List Literal)) (h : Header) (before : List CertRecord) (p : ℕ) → IsOn r inputs h before (lines.Outdated p) p
 on-outdated r inputs h before p = record { claim = refl; number = λ f. f; from_number = λ f. f; may = λ cause. claim-causes (lines.Outdated p) cause refl }
@@ -224,51 +265,71 @@ on-outdated r inputs h before p = record { claim = refl; number = λ f. f; from_
 on-alive : (r : PackageList) (inputs : List (List Literal)) (h : Header) (before : List CertRecord) (p i : ℕ) → IsOn r inputs h before (lines.Alive p i) p
 on-alive r inputs h before p i = record { claim = refl; number = λ f. f; from_number = λ f. f; may = λ cause. claim-causes (lines.Alive p i) cause refl }
 
-on-challenged : (r : PackageList) (inputs : List (List Literal)) (h : Header) (before : List CertRecord) (p : ℕ) (named : List ℕ) (by undecided : List (ℕ × ℕ)) → IsOn r inputs h before (lines.Challenged p named by undecided) p
-on-challenged r inputs h before p named by undecided = record { claim = refl; number = λ f. f; from_number = λ f. f; may = λ cause. claim-causes (lines.Challenged p named by undecided) cause refl }
+on-challenged : (r : PackageList) (inputs : List (List Literal)) (h : Header) (before : List CertRecord) (p : ℕ) (named : List ℕ) (by undecided : List (ℕ × ℕ))
+    → IsOn r inputs h before (lines.Challenged p named by undecided) p
+on-challenged r inputs h before p named by undecided = record {
+  claim = refl;
+  number = λ f. f;
+  from_number = λ f. f;
+  may = λ cause. claim-causes (lines.Challenged p named by undecided) cause refl;
+}
 
 -- a claim without installations, whose rules are decided
-pub claim-verdict : (r : PackageList) (inputs : List (List Literal)) (h : Header) (before : List CertRecord) (s : StateView) → h.kind ≡ kinds.Strong → IsAt r inputs h before s → (step : CertRecord) (p : ℕ) → IsOn r inputs h before step p
+pub claim-verdict : (r : PackageList) (inputs : List (List Literal)) (h : Header) (before : List CertRecord) (s : StateView) → h.kind ≡ kinds.Strong
+    → IsAt r inputs h before s → (step : CertRecord) (p : ℕ) → IsOn r inputs h before step p
     → (holds : Bool) → (is_next s.next s.packages p ≡ true → holds ≡ true → HoldsClaim (matter_of r h.essential inputs) kinds.Strong before step)
     → (is_next s.next s.packages p ≡ true → holds ≡ false → ¬ HoldsClaim (matter_of r h.essential inputs) kinds.Strong before step)
     → (HoldsClaim (matter_of r h.essential inputs) kinds.Strong before step → ¬ HasRecordFault (matter_of r h.essential inputs) h before step causes.Incomplete)
     → (found : Option CertCause) → TellsClaim (is_next s.next s.packages p) holds found → IsVerdict r inputs h before step found
 claim-verdict r inputs h before s strong at step p on holds right wrong whole None told =
     let rules = right told.0 told.1 in right-verdict r inputs h before s strong at step p on told.0 rules (whole rules)
-claim-verdict r inputs h before s strong at step p on holds right wrong whole (Some causes.OutOfOrder) told = number-verdict r inputs h before s strong at step p on told
-claim-verdict r inputs h before s strong at step p on holds right wrong whole (Some causes.WrongClaim) told = wrong-verdict r inputs h before s strong at step p on told.0 (wrong told.0 told.1)
+claim-verdict r inputs h before s strong at step p on holds right wrong whole (Some causes.OutOfOrder) told =
+    number-verdict r inputs h before s strong at step p on told
+claim-verdict r inputs h before s strong at step p on holds right wrong whole (Some causes.WrongClaim) told =
+    wrong-verdict r inputs h before s strong at step p on told.0 (wrong told.0 told.1)
 claim-verdict r inputs h before s strong at step p on holds right wrong whole (Some cause) told = absurd told
 
 next-is : (next packages p : ℕ) → is_next next packages p ≡ true → next ≡ p
 next-is next packages p is = sym (eqb-true p next (and_parts _ _ is).0)
 
-pub installable-verdict : (r : PackageList) (inputs : List (List Literal)) (h : Header) (before : List CertRecord) (s : StateView) → h.kind ≡ kinds.Strong → IsAt r inputs h before s → (p : ℕ) (found : Option CertCause)
+pub installable-verdict : (r : PackageList) (inputs : List (List Literal)) (h : Header) (before : List CertRecord) (s : StateView) → h.kind ≡ kinds.Strong
+    → IsAt r inputs h before s → (p : ℕ) (found : Option CertCause)
     → TellsClaim (is_next s.next s.packages p) s.group.refuted.alone found → IsVerdict r inputs h before (lines.NotInstallable p) found
 installable-verdict r inputs h before s strong at p found told =
     claim-verdict r inputs h before s strong at (lines.NotInstallable p) p (on-installable r inputs h before p) s.group.refuted.alone
     (λ next holds. subst (λ k. IsRefutedIn (group before) (yes k ∷ [])) (next-is s.next s.packages p next) (at.group_is.refuted.alone.0 holds))
-    (λ next fails refuted. false≢true (sym fails ∙ at.group_is.refuted.alone.1 (subst (λ k. IsRefutedIn (group before) (yes k ∷ [])) (sym (next-is s.next s.packages p next)) refuted)))
+    (λ next fails refuted. false≢true (sym fails ∙ at.group_is.refuted.alone.1
+    (subst (λ k. IsRefutedIn (group before) (yes k ∷ [])) (sym (next-is s.next s.packages p next)) refuted)))
     (λ rules fault. fault) found told
 
-pub unknown-verdict : (r : PackageList) (inputs : List (List Literal)) (h : Header) (before : List CertRecord) (s : StateView) → h.kind ≡ kinds.Strong → IsAt r inputs h before s → (p : ℕ) (found : Option CertCause)
+pub unknown-verdict : (r : PackageList) (inputs : List (List Literal)) (h : Header) (before : List CertRecord) (s : StateView) → h.kind ≡ kinds.Strong
+    → IsAt r inputs h before s → (p : ℕ) (found : Option CertCause)
     → TellsClaim (is_next s.next s.packages p) s.group.undecided.alone found → IsVerdict r inputs h before (lines.Unknown p) found
 unknown-verdict r inputs h before s strong at p found told =
     claim-verdict r inputs h before s strong at (lines.Unknown p) p (on-unknown r inputs h before p) s.group.undecided.alone
     (λ next holds. subst (λ k. IsUndecidedIn (group before) (yes k ∷ [])) (next-is s.next s.packages p next) (at.group_is.undecided.alone.0 holds))
-    (λ next fails closed. false≢true (sym fails ∙ at.group_is.undecided.alone.1 (subst (λ k. IsUndecidedIn (group before) (yes k ∷ [])) (sym (next-is s.next s.packages p next)) closed)))
+    (λ next fails closed. false≢true (sym fails ∙ at.group_is.undecided.alone.1
+    (subst (λ k. IsUndecidedIn (group before) (yes k ∷ [])) (sym (next-is s.next s.packages p next)) closed)))
     (λ rules fault. fault) found told
 
-pub outdated-verdict : (r : PackageList) (inputs : List (List Literal)) (h : Header) (before : List CertRecord) (s : StateView) → h.kind ≡ kinds.Strong → IsAt r inputs h before s → (p : ℕ) (found : Option CertCause)
+pub outdated-verdict : (r : PackageList) (inputs : List (List Literal)) (h : Header) (before : List CertRecord) (s : StateView) → h.kind ≡ kinds.Strong
+    → IsAt r inputs h before s → (p : ℕ) (found : Option CertCause)
     → TellsClaim (is_next s.next s.packages p) false found → IsVerdict r inputs h before (lines.Outdated p) found
 outdated-verdict r inputs h before s strong at p found told =
-    claim-verdict r inputs h before s strong at (lines.Outdated p) p (on-outdated r inputs h before p) false (λ next holds. absurd (false≢true holds)) (λ next fails rules. rules) (λ rules fault. rules) found told
+    claim-verdict r inputs h before s strong at (lines.Outdated p) p (on-outdated r inputs h before p) false (λ next holds. absurd (false≢true holds))
+    (λ next fails rules. rules) (λ rules fault. rules) found told
 
-pub alive-verdict : (r : PackageList) (inputs : List (List Literal)) (h : Header) (before : List CertRecord) (s : StateView) → h.kind ≡ kinds.Strong → IsAt r inputs h before s → (p i : ℕ) (found : Option CertCause)
+pub alive-verdict : (r : PackageList) (inputs : List (List Literal)) (h : Header) (before : List CertRecord) (s : StateView) → h.kind ≡ kinds.Strong
+    → IsAt r inputs h before s → (p i : ℕ) (found : Option CertCause)
     → TellsClaim (is_next s.next s.packages p) false found → IsVerdict r inputs h before (lines.Alive p i) found
 alive-verdict r inputs h before s strong at p i found told =
-    claim-verdict r inputs h before s strong at (lines.Alive p i) p (on-alive r inputs h before p i) false (λ next holds. absurd (false≢true holds)) (λ next fails rules. rules) (λ rules fault. rules) found told
+    claim-verdict r inputs h before s strong at (lines.Alive p i) p (on-alive r inputs h before p i) false (λ next holds. absurd (false≢true holds))
+    (λ next fails rules. rules) (λ rules fault. rules) found told
 
-pub challenged-verdict : (r : PackageList) (inputs : List (List Literal)) (h : Header) (before : List CertRecord) (s : StateView) → h.kind ≡ kinds.Strong → IsAt r inputs h before s → (p : ℕ) (named : List ℕ)
-    (by undecided : List (ℕ × ℕ)) (found : Option CertCause) → TellsClaim (is_next s.next s.packages p) false found → IsVerdict r inputs h before (lines.Challenged p named by undecided) found
+pub challenged-verdict : (r : PackageList) (inputs : List (List Literal)) (h : Header) (before : List CertRecord) (s : StateView) → h.kind ≡ kinds.Strong
+    → IsAt r inputs h before s → (p : ℕ) (named : List ℕ)
+    (by undecided : List (ℕ × ℕ)) (found : Option CertCause) → TellsClaim (is_next s.next s.packages p) false found
+    → IsVerdict r inputs h before (lines.Challenged p named by undecided) found
 challenged-verdict r inputs h before s strong at p named by undecided found told =
-    claim-verdict r inputs h before s strong at (lines.Challenged p named by undecided) p (on-challenged r inputs h before p named by undecided) false (λ next holds. absurd (false≢true holds)) (λ next fails rules. rules) (λ rules fault. rules) found told
+    claim-verdict r inputs h before s strong at (lines.Challenged p named by undecided) p (on-challenged r inputs h before p named by undecided) false
+    (λ next holds. absurd (false≢true holds)) (λ next fails rules. rules) (λ rules fault. rules) found told

@@ -49,14 +49,16 @@ abbrev pub ClausesGoOn : Type 0
 ClausesGoOn = (r : PackageList) (essential : Bool) (d : Demand) (whole front : List (List Literal)) (clause : List Literal)
     → ArePresentClauses r essential whole → AreClausesBefore r essential d front → IsDemand r essential d → IsClauseFor r d clause → GoesOn whole front clause
 
-clauses-within : ClausesGoOn → (r : PackageList) (essential : Bool) (limits : Limits) (whole : List (List Literal)) → ArePresentClauses r essential whole → AreInputsWithin limits whole
+clauses-within : ClausesGoOn → (r : PackageList) (essential : Bool) (limits : Limits) (whole : List (List Literal)) → ArePresentClauses r essential whole
+    → AreInputsWithin limits whole
     → ¬ PassesClauses r essential limits.clauses limits.literals
 clauses-within on r essential limits whole are kept passes =
     let more = on r essential passes.demand whole passes.front passes.clause are passes.before passes.is_demand passes.is_clause in
     let n = ap length more.is in
     omega (arith, n, kept.clauses, passes.passes, length-append passes.front (passes.clause ∷ more.rest))
 
-literals-within : ClausesGoOn → (r : PackageList) (essential : Bool) (limits : Limits) (whole : List (List Literal)) → ArePresentClauses r essential whole → AreInputsWithin limits whole
+literals-within : ClausesGoOn → (r : PackageList) (essential : Bool) (limits : Limits) (whole : List (List Literal)) → ArePresentClauses r essential whole
+    → AreInputsWithin limits whole
     → ¬ PassesLiterals r essential limits.clauses limits.literals
 literals-within on r essential limits whole are kept passes =
     let more = on r essential passes.demand whole passes.front passes.clause are passes.before passes.is_demand passes.is_clause in
@@ -74,7 +76,8 @@ tail-of [] = []
 tail-of (x ∷ xs) = xs
 
 -- of two fronts of one list the longer one has the next clause of the shorter
-longer-front : (few many : List (List Literal)) (a b : List Literal) (later more : List (List Literal)) → few ++ a ∷ later ≡ many ++ b ∷ more → length few < length many
+longer-front : (few many : List (List Literal)) (a b : List Literal) (later more : List (List Literal)) → few ++ a ∷ later ≡ many ++ b ∷ more
+    → length few < length many
     → (middle : List (List Literal)) × (many ≡ few ++ a ∷ middle)
 unfolding head-or tail-of
 longer-front few [] a b later more is below = absurd (omega (arith, below))
@@ -88,7 +91,8 @@ not-both-passed : ClausesGoOn → (r : PackageList) (essential : Bool) (limits :
 not-both-passed on r essential limits whole are clauses literals =
     let many = on r essential clauses.demand whole clauses.front clauses.clause are clauses.before clauses.is_demand clauses.is_clause in
     let few = on r essential literals.demand whole literals.front literals.clause are literals.before literals.is_demand literals.is_clause in
-    let front = longer-front literals.front clauses.front literals.clause clauses.clause few.rest many.rest (sym few.is ∙ many.is) (omega (arith, clauses.passes, literals.passes.0)) in
+    let front = longer-front literals.front clauses.front literals.clause clauses.clause few.rest many.rest (sym few.is ∙ many.is)
+    (omega (arith, clauses.passes, literals.passes.0)) in
     let n = ap literal_count front.1 in
     let sum = sum_by-append (λ (c : List Literal). length c) literals.front (literals.clause ∷ front.0) in
     let one = sum_by-cons (λ (c : List Literal). length c) literals.clause front.0 in
@@ -96,7 +100,8 @@ not-both-passed on r essential limits whole are clauses literals =
 
 -- ---- first lines
 
-same-header : FormsAreClear → (text : List ℕ) (h other : Header) (line more next after : List ℕ) → BeginsWith text line more → HasHeaderForm line h → BeginsWith text next after → HasHeaderForm next other → h ≡ other
+same-header : FormsAreClear → (text : List ℕ) (h other : Header) (line more next after : List ℕ) → BeginsWith text line more → HasHeaderForm line h
+    → BeginsWith text next after → HasHeaderForm next other → h ≡ other
 same-header clear text h other line more next after begins form starts shape =
     let lines = one_line line next more after begins.one_line starts.one_line (sym begins.ended ∙ starts.ended) in
     clear.one_header line h other form (subst (λ bytes. HasHeaderForm bytes other) (sym lines.0) shape)
@@ -105,7 +110,8 @@ no-cut : (text line more : List ℕ) → BeginsWith text line more → ¬ IsOneL
 no-cut text line more begins one = whole_line line more (subst IsOneLine begins.ended one)
 
 large-not-faulty : (r : PackageList) (inputs : Bool → List (List Literal)) (limits : Limits) (text : List ℕ) (Passes : Bool → Type 0) (cause : CertCause)
-    → ((h : Header) → AreInputsWithin limits (inputs h.essential) → ¬ Passes h.essential) → HasLargeInputs limits text Passes → HasFirstFault (subject_of r inputs) limits text cause
+    → ((h : Header) → AreInputsWithin limits (inputs h.essential) → ¬ Passes h.essential) → HasLargeInputs limits text Passes
+    → HasFirstFault (subject_of r inputs) limits text cause
     → (cause ≡ causes.BadHeader → HasInputsWithin inputs limits text) → ⊥
 large-not-faulty r inputs limits text Passes causes.LineTooLong never large fault within = large.keeps.line fault
 large-not-faulty r inputs limits text Passes causes.Truncated never large fault within = no-cut text large.line large.more large.begins fault
@@ -113,13 +119,20 @@ large-not-faulty r inputs limits text Passes causes.BadHeader never large fault 
     never large.h (within refl large.h large.line large.more large.begins large.form large.strong) large.passes
 large-not-faulty r inputs limits text Passes cause never large fault within = fault
 
-large-not-later : FormsAreClear → (r : PackageList) (inputs : Bool → List (List Literal)) (limits : Limits) (text : List ℕ) (Passes : Bool → Type 0) (h : Header) (before : List CertRecord) (rest : List ℕ)
-    → ((g : Header) → AreInputsWithin limits (inputs g.essential) → ¬ Passes g.essential) → HasLargeInputs limits text Passes → IsAtPoint (subject_of r inputs) inputs limits text h before rest → ⊥
+large-not-later : FormsAreClear → (r : PackageList) (inputs : Bool → List (List Literal)) (limits : Limits) (text : List ℕ) (Passes : Bool → Type 0)
+    (h : Header) (before : List CertRecord) (rest : List ℕ)
+    → ((g : Header) → AreInputsWithin limits (inputs g.essential) → ¬ Passes g.essential) → HasLargeInputs limits text Passes
+    → IsAtPoint (subject_of r inputs) inputs limits text h before rest → ⊥
 large-not-later clear r inputs limits text Passes h before rest never large point =
     let starts : BeginsWith text (header_text h) (lines_text before ++ rest)
-    = record { ended = point.faultless.reads.text_is ∙ append_assoc (header_text h) (line_feed ∷ lines_text before) rest; one_line = clear.header_line h point.faultless.reads.header } in
-    let same = same-header clear text large.h h large.line large.more (header_text h) (lines_text before ++ rest) large.begins large.form starts point.faultless.reads.header in
-    never large.h (subst (λ (g : Header). AreInputsWithin limits (inputs g.essential)) (sym same) (record { clauses = point.numbers.clauses; literals = point.numbers.literals })) large.passes
+    = record {
+      ended = point.faultless.reads.text_is ∙ append_assoc (header_text h) (line_feed ∷ lines_text before) rest;
+      one_line = clear.header_line h point.faultless.reads.header;
+    } in
+    let same = same-header clear text large.h h large.line large.more (header_text h) (lines_text before ++ rest) large.begins large.form starts
+    point.faultless.reads.header in
+    never large.h (subst (λ (g : Header). AreInputsWithin limits (inputs g.essential)) (sym same)
+    (record { clauses = point.numbers.clauses; literals = point.numbers.literals })) large.passes
 
 -- what is known of the input clauses
 pub record AreKnown (r : PackageList) (inputs : Bool → List (List Literal)) (limits : Limits) : Type 0 where
@@ -135,27 +148,35 @@ known on r inputs limits are = record {
 }
 
 both-large : FormsAreClear → (r : PackageList) (inputs : Bool → List (List Literal)) (limits : Limits) (text : List ℕ) → AreKnown r inputs limits
-    → HasLargeInputs limits text (λ essential. PassesClauses r essential limits.clauses limits.literals) → HasLargeInputs limits text (λ essential. PassesLiterals r essential limits.clauses limits.literals) → ⊥
+    → HasLargeInputs limits text (λ essential. PassesClauses r essential limits.clauses limits.literals)
+    → HasLargeInputs limits text (λ essential. PassesLiterals r essential limits.clauses limits.literals) → ⊥
 both-large clear r inputs limits text told clauses literals =
-    let same = same-header clear text literals.h clauses.h literals.line literals.more clauses.line clauses.more literals.begins literals.form clauses.begins clauses.form in
+    let same = same-header clear text literals.h clauses.h literals.line literals.more clauses.line clauses.more literals.begins literals.form clauses.begins
+    clauses.form in
     told.both clauses.h clauses.passes (subst (λ (h : Header). PassesLiterals r h.essential limits.clauses limits.literals) same literals.passes)
 
-pub one-first-stop : FormsAreClear → (r : PackageList) (inputs : Bool → List (List Literal)) (limits : Limits) (text : List ℕ) → AreKnown r inputs limits → (one other : Answer)
+pub one-first-stop : FormsAreClear → (r : PackageList) (inputs : Bool → List (List Literal)) (limits : Limits) (text : List ℕ) → AreKnown r inputs limits
+    → (one other : Answer)
     → FirstReason r inputs limits text one → FirstReason r inputs limits text other → one ≡ other
 one-first-stop clear r inputs limits text told (Ok (Refused fault)) (Ok (Refused other)) x y =
-    ap (λ f. Ok (Refused f)) (same-fault fault other (x.line ∙ sym y.line) (one_first (HasFirstFault (subject_of r inputs) limits text) in_order fault.cause other.cause x.first y.first))
+    ap (λ f. Ok (Refused f)) (same-fault fault other (x.line ∙ sym y.line)
+    (one_first (HasFirstFault (subject_of r inputs) limits text) in_order fault.cause other.cause x.first y.first))
 one-first-stop clear r inputs limits text told (Ok (Refused fault)) (Err (TooLarge Clauses)) x y =
-    absurd (large-not-faulty r inputs limits text _ fault.cause told.clauses y (has_first (HasFirstFault (subject_of r inputs) limits text) in_order fault.cause x.first) x.within)
+    absurd (large-not-faulty r inputs limits text _ fault.cause told.clauses y
+    (has_first (HasFirstFault (subject_of r inputs) limits text) in_order fault.cause x.first) x.within)
 one-first-stop clear r inputs limits text told (Ok (Refused fault)) (Err (TooLarge Literals)) x y =
-    absurd (large-not-faulty r inputs limits text _ fault.cause told.literals y (has_first (HasFirstFault (subject_of r inputs) limits text) in_order fault.cause x.first) x.within)
+    absurd (large-not-faulty r inputs limits text _ fault.cause told.literals y
+    (has_first (HasFirstFault (subject_of r inputs) limits text) in_order fault.cause x.first) x.within)
 one-first-stop clear r inputs limits text told (Ok (Refused fault)) (Err (TooLarge Certificate)) x y = absurd (x.bytes y)
 one-first-stop clear r inputs limits text told (Err (TooLarge Clauses)) (Ok (Refused fault)) x y =
-    absurd (large-not-faulty r inputs limits text _ fault.cause told.clauses x (has_first (HasFirstFault (subject_of r inputs) limits text) in_order fault.cause y.first) y.within)
+    absurd (large-not-faulty r inputs limits text _ fault.cause told.clauses x
+    (has_first (HasFirstFault (subject_of r inputs) limits text) in_order fault.cause y.first) y.within)
 one-first-stop clear r inputs limits text told (Err (TooLarge Clauses)) (Err (TooLarge Clauses)) x y = refl
 one-first-stop clear r inputs limits text told (Err (TooLarge Clauses)) (Err (TooLarge Literals)) x y = absurd (both-large clear r inputs limits text told x y)
 one-first-stop clear r inputs limits text told (Err (TooLarge Clauses)) (Err (TooLarge Certificate)) x y = absurd (x.keeps.whole y)
 one-first-stop clear r inputs limits text told (Err (TooLarge Literals)) (Ok (Refused fault)) x y =
-    absurd (large-not-faulty r inputs limits text _ fault.cause told.literals x (has_first (HasFirstFault (subject_of r inputs) limits text) in_order fault.cause y.first) y.within)
+    absurd (large-not-faulty r inputs limits text _ fault.cause told.literals x
+    (has_first (HasFirstFault (subject_of r inputs) limits text) in_order fault.cause y.first) y.within)
 one-first-stop clear r inputs limits text told (Err (TooLarge Literals)) (Err (TooLarge Clauses)) x y = absurd (both-large clear r inputs limits text told y x)
 one-first-stop clear r inputs limits text told (Err (TooLarge Literals)) (Err (TooLarge Literals)) x y = refl
 one-first-stop clear r inputs limits text told (Err (TooLarge Literals)) (Err (TooLarge Certificate)) x y = absurd (x.keeps.whole y)
@@ -175,13 +196,17 @@ one-first-stop clear r inputs limits text told (Err (TooLarge LineLiterals)) oth
 one-first-stop clear r inputs limits text told (Err (TooLarge RecordLine)) other x y = absurd x
 one-first-stop clear r inputs limits text told one other x y = absurd y
 
-pub first-alone : FormsAreClear → (r : PackageList) (inputs : Bool → List (List Literal)) (limits : Limits) (text : List ℕ) (h : Header) (before : List CertRecord) (rest : List ℕ) → AreKnown r inputs limits → (one : Answer)
+pub first-alone : FormsAreClear → (r : PackageList) (inputs : Bool → List (List Literal)) (limits : Limits) (text : List ℕ) (h : Header)
+    (before : List CertRecord) (rest : List ℕ) → AreKnown r inputs limits → (one : Answer)
     → FirstReason r inputs limits text one → IsAtPoint (subject_of r inputs) inputs limits text h before rest → ⊥
 first-alone clear r inputs limits text h before rest told (Ok (Refused fault)) x point =
     point.faultless.first fault.cause (has_first (HasFirstFault (subject_of r inputs) limits text) in_order fault.cause x.first)
-first-alone clear r inputs limits text h before rest told (Err (TooLarge Clauses)) x point = large-not-later clear r inputs limits text _ h before rest told.clauses x point
-first-alone clear r inputs limits text h before rest told (Err (TooLarge Literals)) x point = large-not-later clear r inputs limits text _ h before rest told.literals x point
+first-alone clear r inputs limits text h before rest told (Err (TooLarge Clauses)) x point =
+    large-not-later clear r inputs limits text _ h before rest told.clauses x point
+first-alone clear r inputs limits text h before rest told (Err (TooLarge Literals)) x point =
+    large-not-later clear r inputs limits text _ h before rest told.literals x point
 first-alone clear r inputs limits text h before rest told (Err (TooLarge Certificate)) x point =
-    passed-bytes limits 0 (header_text h) (lines_text before ++ rest) text (point.faultless.reads.text_is ∙ append_assoc (header_text h) (line_feed ∷ lines_text before) rest)
+    passed-bytes limits 0 (header_text h) (lines_text before ++ rest) text
+    (point.faultless.reads.text_is ∙ append_assoc (header_text h) (line_feed ∷ lines_text before) rest)
     (omega (arith, point.numbers.bytes, length-append (header_text h) (line_feed ∷ lines_text before))) x
 first-alone clear r inputs limits text h before rest told one x point = x

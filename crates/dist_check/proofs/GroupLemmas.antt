@@ -42,7 +42,8 @@ line-of (Installation variables ∷ steps) members there = elim (contains-cases 
 line-of (step ∷ steps) members there = later-line step steps members (line-of steps members there)
 
 -- each numbered installation is healthy
-pub installation-healthy : (matter : Matter) (h : Header) (steps : List CertRecord) → AreRight matter h steps → (front lines after : List CertRecord) (members : List ℕ)
+pub installation-healthy : (matter : Matter) (h : Header) (steps : List CertRecord) → AreRight matter h steps
+    → (front lines after : List CertRecord) (members : List ℕ)
     → steps ≡ (front ++ lines) ++ after → Contains (installations lines) members → ¬ (¬ matter.IsHealthy members)
 installation-healthy matter h steps right front lines after members is there none =
     let line = line-of lines members there in

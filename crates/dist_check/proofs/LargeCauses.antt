@@ -16,12 +16,14 @@ use Rattle.dist_check.specs.Checking.{LargeCause}
 use Rattle.dist_check.specs.Start.{StartAnswers}
 use Rattle.dist_state.specs.State.{StateView, LineStops}
 
-pub header-large : (r : PackageList) (limits : Limits) (old new : ReaderView) (before after : DeskView) (error : ReadCertError) → HeaderCause old new before after (Err error) → LargeCause r limits error
+pub header-large : (r : PackageList) (limits : Limits) (old new : ReaderView) (before after : DeskView) (error : ReadCertError)
+    → HeaderCause old new before after (Err error) → LargeCause r limits error
 header-large r limits old new before after (Work (TooLarge Clauses)) cause = absurd cause
 header-large r limits old new before after (Work (TooLarge Literals)) cause = absurd cause
 header-large r limits old new before after error cause = tt
 
-pub record-large : (r : PackageList) (limits : Limits) (old new : ReaderView) (before after : DeskView) (error : ReadCertError) → RecordCause old new before after (Err error) → LargeCause r limits error
+pub record-large : (r : PackageList) (limits : Limits) (old new : ReaderView) (before after : DeskView) (error : ReadCertError)
+    → RecordCause old new before after (Err error) → LargeCause r limits error
 record-large r limits old new before after (Work (TooLarge Clauses)) cause = absurd cause
 record-large r limits old new before after (Work (TooLarge Literals)) cause = absurd cause
 record-large r limits old new before after error cause = tt
@@ -34,7 +36,8 @@ start-large r limits h error answer = tt
 large-or-none : (what : What) → TooLarge what ≡ NoMemory → ⊥
 large-or-none what e = cc
 
-pub line-large : (r : PackageList) (limits : Limits) (s : StateView) (step : CertRecord) (line : _) (error : ReadCertError) → LineStops s step line error → LargeCause r limits error
+pub line-large : (r : PackageList) (limits : Limits) (s : StateView) (step : CertRecord) (line : _) (error : ReadCertError) → LineStops s step line error
+    → LargeCause r limits error
 line-large r limits s (Derived literals hints) line (Work (TooLarge Clauses)) stops = absurd stops.1
 line-large r limits s (Derived literals hints) line (Work (TooLarge Literals)) stops = absurd stops.1
 line-large r limits s step line (Work (TooLarge Clauses)) stops = absurd (large-or-none Clauses stops.1)

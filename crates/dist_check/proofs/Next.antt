@@ -1,5 +1,6 @@
 -- The verdict on the next line, and what is kept behind it.
-use Rattle.std.proofs.Common.{◌≡◌, ℕ, ◌+◌, true, false, List, [], ◌∷◌, ◌++◌, Option, Some, None, length, refl, sym, ap, subst, ◌∙◌, append_assoc, arith, length-append, MatchOption}
+use Rattle.std.proofs.Common.{◌≡◌, ℕ, ◌+◌, true, false, List, [], ◌∷◌, ◌++◌, Option, Some, None, length, refl, sym, ap, subst, ◌∙◌, append_assoc, arith}
+use Rattle.std.proofs.Common.{length-append, MatchOption}
 use Rattle.std.proofs.lemmas.Bool.{false≢true}
 use Rattle.std.proofs.lemmas.List.{append-nil}
 use Rattle.std.proofs.lemmas.Grind.{flat_map-append}
@@ -20,29 +21,41 @@ use Rattle.dist_group.specs.Closed.{Closes}
 use Rattle.dist_group.specs.Group.{GroupView}
 use Rattle.dist_state.specs.State.{QuestionView, StateView, Tells, Becomes, empty_group, after_claim, TellsRefuted, TellsUndecided}
 use Rattle.dist_check.specs.At.{IsQuestionOf, IsGroupOf, IsAt}
-use Rattle.dist_check.proofs.ClosingVerdicts.{undecided-verdict, end-verdict, installable-verdict, unknown-verdict, outdated-verdict, alive-verdict, challenged-verdict}
+use Rattle.dist_check.proofs.ClosingVerdicts.{undecided-verdict, end-verdict, installable-verdict, unknown-verdict, outdated-verdict, alive-verdict}
+use Rattle.dist_check.proofs.ClosingVerdicts.{challenged-verdict}
 use Rattle.dist_cert.specs.GroupLaws.{IsOpening, opened, none-open, none-first}
 use Rattle.dist_check.specs.Checked.{AreInputsOf, AreRight, HaveForms}
-use Rattle.dist_check.proofs.Steps.{derived-push, derived-same, installed-push, installed-same, latest-push, question-stays, group-first, group-same, group-installed, group-refuted, group-undecided, group-after_claim}
+use Rattle.dist_check.proofs.Steps.{derived-push, derived-same, installed-push, installed-same, latest-push, question-stays, group-first, group-same}
+use Rattle.dist_check.proofs.Steps.{group-installed, group-refuted, group-undecided, group-after_claim}
 use Rattle.dist_check.proofs.StrongVerdicts.{strong-verdict}
 use Rattle.dist_check.proofs.Verdicts.{IsVerdict, question-verdict, derived-verdict, refuted-verdict, installation-verdict}
 use Rattle.dist_check.proofs.Whole.{claim-count-push}
 
 -- ---- the verdict
 
-pub told-verdict : (r : PackageList) (inputs : List (List Literal)) (h : Header) (before : List CertRecord) (s : StateView) → h.kind ≡ kinds.Strong → IsAt r inputs h before s → AreRight (matter_of r h.essential inputs) h before → HaveForms before
-    → AreInputsOf r h.essential inputs → (step : CertRecord) → KeepsRules step → (found : Option CertCause) → Tells s step found → IsVerdict r inputs h before step found
-told-verdict r inputs h before s strong at right forms mean (lines.Question literals) rules found told = question-verdict r inputs h before s strong at literals found told
-told-verdict r inputs h before s strong at right forms mean (lines.Derived literals hints) rules found told = derived-verdict r inputs h before s strong at literals hints found told
-told-verdict r inputs h before s strong at right forms mean (lines.Refuted hints) rules found told = refuted-verdict r inputs h before s strong at s.question at.question hints found told
-told-verdict r inputs h before s strong at right forms mean (lines.Installation variables) rules found told = installation-verdict r inputs h before s strong at mean variables found told
-told-verdict r inputs h before s strong at right forms mean lines.Undecided rules found told = undecided-verdict r inputs h before s strong at s.question at.question found told
-told-verdict r inputs h before s strong at right forms mean (lines.NotInstallable p) rules found told = installable-verdict r inputs h before s strong at p found told
+pub told-verdict : (r : PackageList) (inputs : List (List Literal)) (h : Header) (before : List CertRecord) (s : StateView) → h.kind ≡ kinds.Strong
+    → IsAt r inputs h before s → AreRight (matter_of r h.essential inputs) h before → HaveForms before
+    → AreInputsOf r h.essential inputs → (step : CertRecord) → KeepsRules step → (found : Option CertCause) → Tells s step found
+    → IsVerdict r inputs h before step found
+told-verdict r inputs h before s strong at right forms mean (lines.Question literals) rules found told =
+    question-verdict r inputs h before s strong at literals found told
+told-verdict r inputs h before s strong at right forms mean (lines.Derived literals hints) rules found told =
+    derived-verdict r inputs h before s strong at literals hints found told
+told-verdict r inputs h before s strong at right forms mean (lines.Refuted hints) rules found told =
+    refuted-verdict r inputs h before s strong at s.question at.question hints found told
+told-verdict r inputs h before s strong at right forms mean (lines.Installation variables) rules found told =
+    installation-verdict r inputs h before s strong at mean variables found told
+told-verdict r inputs h before s strong at right forms mean lines.Undecided rules found told =
+    undecided-verdict r inputs h before s strong at s.question at.question found told
+told-verdict r inputs h before s strong at right forms mean (lines.NotInstallable p) rules found told =
+    installable-verdict r inputs h before s strong at p found told
 told-verdict r inputs h before s strong at right forms mean (lines.Unknown p) rules found told = unknown-verdict r inputs h before s strong at p found told
-told-verdict r inputs h before s strong at right forms mean (lines.Strong p named on undecided) rules found told = strong-verdict r inputs h before s strong at right forms p named on undecided rules found told
+told-verdict r inputs h before s strong at right forms mean (lines.Strong p named on undecided) rules found told =
+    strong-verdict r inputs h before s strong at right forms p named on undecided rules found told
 told-verdict r inputs h before s strong at right forms mean (lines.Outdated p) rules found told = outdated-verdict r inputs h before s strong at p found told
 told-verdict r inputs h before s strong at right forms mean (lines.Alive p i) rules found told = alive-verdict r inputs h before s strong at p i found told
-told-verdict r inputs h before s strong at right forms mean (lines.Challenged p named by undecided) rules found told = challenged-verdict r inputs h before s strong at p named by undecided found told
+told-verdict r inputs h before s strong at right forms mean (lines.Challenged p named by undecided) rules found told =
+    challenged-verdict r inputs h before s strong at p named by undecided found told
 told-verdict r inputs h before s strong at right forms mean lines.End rules found told = end-verdict r inputs h before s strong at found told
 
 -- ---- what is kept behind a line
@@ -51,14 +64,17 @@ counts-same : (before : List CertRecord) (step : CertRecord) → claimed step �
 counts-same before step none = omega (arith, claim-count-push before step, ap (λ (ns : List ℕ). length ns) none)
 
 claims-same : (before : List CertRecord) (step : CertRecord) → claim_in step ≡ [] → claims_in before ≡ claims_in (before ++ step ∷ [])
-claims-same before step none = sym (flat_map-append claim_in before (step ∷ []) ∙ ap (λ (cs : List Claim). claims_in before ++ cs) (append-nil (claim_in step) ∙ none) ∙ append-nil (claims_in before))
+claims-same before step none = sym (flat_map-append claim_in before (step ∷ [])
+    ∙ ap (λ (cs : List Claim). claims_in before ++ cs) (append-nil (claim_in step) ∙ none) ∙ append-nil (claims_in before))
 
 claims-more : (before : List CertRecord) (step : CertRecord) → claims_in before ++ claim_in step ≡ claims_in (before ++ step ∷ [])
 claims-more before step = sym (flat_map-append claim_in before (step ∷ []) ∙ ap (λ (cs : List Claim). claims_in before ++ cs) (append-nil (claim_in step)))
 
 -- a line that is no claim, with what it changes
-plain-step : (r : PackageList) (inputs : List (List Literal)) (h : Header) (before : List CertRecord) (s : StateView) → IsAt r inputs h before s → (step : CertRecord) → claimed step ≡ [] → claim_in step ≡ [] → installed_in step ≡ []
-    → derived_in step ≡ [] → (question : Option QuestionView) → IsQuestionOf inputs (before ++ step ∷ []) question → (kept : GroupView) → IsGroupOf (group (before ++ step ∷ [])) s.next kept
+plain-step : (r : PackageList) (inputs : List (List Literal)) (h : Header) (before : List CertRecord) (s : StateView) → IsAt r inputs h before s
+    → (step : CertRecord) → claimed step ≡ [] → claim_in step ≡ [] → installed_in step ≡ []
+    → derived_in step ≡ [] → (question : Option QuestionView) → IsQuestionOf inputs (before ++ step ∷ []) question → (kept : GroupView)
+    → IsGroupOf (group (before ++ step ∷ [])) s.next kept
     → IsAt r inputs h (before ++ step ∷ []) (record s { question = question; group = kept })
 plain-step r inputs h before s at step no_number no_claim no_members no_clause question q kept g = record {
   limit = at.limit;
@@ -75,7 +91,8 @@ plain-step r inputs h before s at step no_number no_claim no_members no_clause q
 }
 
 -- a claim on the next package
-claim-step : (r : PackageList) (inputs : List (List Literal)) (h : Header) (before : List CertRecord) (s : StateView) → IsAt r inputs h before s → (step : CertRecord) → is_claim step ≡ true → length (claimed step) ≡ 1 → installed_in step ≡ []
+claim-step : (r : PackageList) (inputs : List (List Literal)) (h : Header) (before : List CertRecord) (s : StateView) → IsAt r inputs h before s
+    → (step : CertRecord) → is_claim step ≡ true → length (claimed step) ≡ 1 → installed_in step ≡ []
     → derived_in step ≡ [] → leaves_open step ≡ false → ¬ IsOpening step → IsAt r inputs h (before ++ step ∷ []) (after_claim s (claim_in step))
 claim-step r inputs h before s at step claim one no_members no_clause closes never = record {
   limit = at.limit;
@@ -92,7 +109,8 @@ claim-step r inputs h before s at step claim one no_members no_clause closes nev
 }
 
 -- the group behind a line that closes the open question
-refuted-group : (inputs : List (List Literal)) (before : List CertRecord) (s t : StateView) (hints : List ℕ) → IsGroupOf (group before) s.next s.group → (question : Option QuestionView) → IsQuestionOf inputs before question
+refuted-group : (inputs : List (List Literal)) (before : List CertRecord) (s t : StateView) (hints : List ℕ) → IsGroupOf (group before) s.next s.group
+    → (question : Option QuestionView) → IsQuestionOf inputs before question
     → TellsRefuted s.log question hints None → t.group.common ≡ s.group.common
     → MatchOption question (t.group ≡ s.group) (λ q. Closes s.next q.assumptions s.group.refuted t.group.refuted × (t.group.undecided ≡ s.group.undecided))
     → IsGroupOf (group (before ++ lines.Refuted hints ∷ [])) s.next t.group
@@ -100,7 +118,8 @@ refuted-group inputs before s t hints is None q told common noted = cc
 refuted-group inputs before s t hints is (Some question) q told common noted =
     group-refuted before q.0 question.assumptions q.1 hints s.next s.group t.group q.2 noted.0 noted.1 common is
 
-undecided-group : (inputs : List (List Literal)) (before : List CertRecord) (s t : StateView) → IsGroupOf (group before) s.next s.group → (question : Option QuestionView) → IsQuestionOf inputs before question
+undecided-group : (inputs : List (List Literal)) (before : List CertRecord) (s t : StateView) → IsGroupOf (group before) s.next s.group
+    → (question : Option QuestionView) → IsQuestionOf inputs before question
     → TellsUndecided s.log s.limit question None → t.group.common ≡ s.group.common
     → MatchOption question (t.group ≡ s.group) (λ q. Closes s.next q.assumptions s.group.undecided t.group.undecided × (t.group.refuted ≡ s.group.refuted))
     → IsGroupOf (group (before ++ lines.Undecided ∷ [])) s.next t.group
@@ -108,12 +127,14 @@ undecided-group inputs before s t is None q told common noted = cc
 undecided-group inputs before s t is (Some question) q told common noted =
     group-undecided before q.0 question.assumptions q.1 s.next s.group t.group q.2 noted.0 noted.1 common is
 
-pub becomes-at : (r : PackageList) (inputs : List (List Literal)) (h : Header) (before : List CertRecord) (s t : StateView) → IsAt r inputs h before s → (step : CertRecord) → Tells s step None → Becomes s step t
+pub becomes-at : (r : PackageList) (inputs : List (List Literal)) (h : Header) (before : List CertRecord) (s t : StateView) → IsAt r inputs h before s
+    → (step : CertRecord) → Tells s step None → Becomes s step t
     → IsAt r inputs h (before ++ step ∷ []) t
 becomes-at r inputs h before s t at (lines.Question literals) told is =
     subst (IsAt r inputs h (before ++ lines.Question literals ∷ [])) (sym is)
     (plain-step r inputs h before s at (lines.Question literals) refl refl refl refl (Some (record { assumptions = literals; last = length s.log.clauses }))
-    (before, [], opened before literals, ap (λ (cs : List (List Literal)). length cs) at.clauses) s.group (group-same before (lines.Question literals) s.next s.group refl refl (λ hints e. cc) (λ e. cc) at.group_is))
+    (before, [], opened before literals, ap (λ (cs : List (List Literal)). length cs) at.clauses) s.group
+    (group-same before (lines.Question literals) s.next s.group refl refl (λ hints e. cc) (λ e. cc) at.group_is))
 becomes-at r inputs h before s t at (lines.Derived literals hints) told is =
     let step = lines.Derived literals hints in
     let never : ¬ IsOpening step = λ o. let e = o.1 in cc in
@@ -140,8 +161,14 @@ becomes-at r inputs h before s t at (lines.Installation variables) told is =
       clauses = at.clauses ∙ derived-same inputs before step refl;
       inputs_are = at.inputs_are;
       variables = at.variables;
-      kept = ap (λ (ms : List (List ℕ)). latest (ms ++ variables ∷ [])) at.kept ∙ latest-push (installations before) variables ∙ ap latest (sym (installed-push before step));
-      count = omega (arith, at.count, ap (λ (ms : List (List ℕ)). length ms) (installed-push before step), length-append (installations before) (variables ∷ []));
+      kept = ap (λ (ms : List (List ℕ)). latest (ms ++ variables ∷ [])) at.kept ∙ latest-push (installations before) variables
+          ∙ ap latest (sym (installed-push before step));
+      count = omega (
+        arith,
+        at.count,
+        ap (λ (ms : List (List ℕ)). length ms) (installed-push before step),
+        length-append (installations before) (variables ∷ []),
+      );
       question = question-stays inputs before step refl never s.question at.question;
       next = at.next ∙ ap (λ (n : ℕ). n + 1) (counts-same before step refl);
       group_is = group-installed before variables s.next s.group at.group_is;
@@ -151,18 +178,23 @@ becomes-at r inputs h before s t at (lines.Refuted hints) told is =
     let step = lines.Refuted hints in
     let never : ¬ IsOpening step = λ o. let e = o.1 in cc in
     subst (IsAt r inputs h (before ++ step ∷ [])) (sym is.rest)
-    (plain-step r inputs h before s at step refl refl refl refl None (none-open before step refl never) t.group (refuted-group inputs before s t hints at.group_is s.question at.question told is.common is.noted))
+    (plain-step r inputs h before s at step refl refl refl refl None (none-open before step refl never) t.group
+    (refuted-group inputs before s t hints at.group_is s.question at.question told is.common is.noted))
 becomes-at r inputs h before s t at lines.Undecided told is =
     let step = lines.Undecided in
     let never : ¬ IsOpening step = λ o. let e = o.1 in cc in
     subst (IsAt r inputs h (before ++ step ∷ [])) (sym is.rest)
-    (plain-step r inputs h before s at step refl refl refl refl None (none-open before step refl never) t.group (undecided-group inputs before s t at.group_is s.question at.question told is.common is.noted))
+    (plain-step r inputs h before s at step refl refl refl refl None (none-open before step refl never) t.group
+    (undecided-group inputs before s t at.group_is s.question at.question told is.common is.noted))
 becomes-at r inputs h before s t at (lines.NotInstallable p) told is =
-    subst (IsAt r inputs h (before ++ lines.NotInstallable p ∷ [])) (sym is) (claim-step r inputs h before s at (lines.NotInstallable p) refl refl refl refl refl (λ o. let e = o.1 in cc))
+    subst (IsAt r inputs h (before ++ lines.NotInstallable p ∷ [])) (sym is)
+    (claim-step r inputs h before s at (lines.NotInstallable p) refl refl refl refl refl (λ o. let e = o.1 in cc))
 becomes-at r inputs h before s t at (lines.Unknown p) told is =
-    subst (IsAt r inputs h (before ++ lines.Unknown p ∷ [])) (sym is) (claim-step r inputs h before s at (lines.Unknown p) refl refl refl refl refl (λ o. let e = o.1 in cc))
+    subst (IsAt r inputs h (before ++ lines.Unknown p ∷ [])) (sym is)
+    (claim-step r inputs h before s at (lines.Unknown p) refl refl refl refl refl (λ o. let e = o.1 in cc))
 becomes-at r inputs h before s t at (lines.Strong p named on undecided) told is =
-    subst (IsAt r inputs h (before ++ lines.Strong p named on undecided ∷ [])) (sym is) (claim-step r inputs h before s at (lines.Strong p named on undecided) refl refl refl refl refl (λ o. let e = o.1 in cc))
+    subst (IsAt r inputs h (before ++ lines.Strong p named on undecided ∷ [])) (sym is)
+    (claim-step r inputs h before s at (lines.Strong p named on undecided) refl refl refl refl refl (λ o. let e = o.1 in cc))
 becomes-at r inputs h before s t at (lines.Outdated p) told is = absurd (false≢true told.1)
 becomes-at r inputs h before s t at (lines.Alive p i) told is = absurd (false≢true told.1)
 becomes-at r inputs h before s t at (lines.Challenged p named by undecided) told is = absurd (false≢true told.1)
@@ -170,11 +202,14 @@ becomes-at r inputs h before s t at lines.End told is =
     let step = lines.End in
     let never : ¬ IsOpening step = λ o. let e = o.1 in cc in
     subst (IsAt r inputs h (before ++ step ∷ [])) (sym is)
-    (plain-step r inputs h before s at step refl refl refl refl None (none-open before step refl never) s.group (group-same before step s.next s.group refl refl (λ hints e. cc) (λ e. cc) at.group_is))
+    (plain-step r inputs h before s at step refl refl refl refl None (none-open before step refl never) s.group
+    (group-same before step s.next s.group refl refl (λ hints e. cc) (λ e. cc) at.group_is))
 
 -- before the first line
-pub starts-at : (r : PackageList) (inputs : List (List Literal)) (h : Header) (s : StateView) → s.limit ≡ h.limit → s.packages ≡ length r.packages → s.log.clauses ≡ inputs → s.log.inputs ≡ length inputs
-    → s.log.variables ≡ length r.packages → s.window ≡ record { kept = []; count = 0 } → s.question ≡ None → s.next ≡ 1 → s.group ≡ empty_group → s.claims ≡ [] → IsAt r inputs h [] s
+pub starts-at : (r : PackageList) (inputs : List (List Literal)) (h : Header) (s : StateView) → s.limit ≡ h.limit → s.packages ≡ length r.packages
+    → s.log.clauses ≡ inputs → s.log.inputs ≡ length inputs
+    → s.log.variables ≡ length r.packages → s.window ≡ record { kept = []; count = 0 } → s.question ≡ None → s.next ≡ 1 → s.group ≡ empty_group → s.claims ≡ []
+    → IsAt r inputs h [] s
 starts-at r inputs h s limit packages clauses inputs_are variables window question next kept claims = record {
   limit = limit;
   packages = packages;

@@ -18,7 +18,8 @@ use Rattle.dist_check.proofs.Stops.{Answer, Reason, IsAtPoint, one-later}
 
 -- behind some records
 abbrev StopsBehind : PackageList → (Bool → List (List Literal)) → Limits → List ℕ → Answer → Type 0
-StopsBehind r inputs limits text one = (h : Header) × (before : List CertRecord) × (rest : List ℕ) × IsAtPoint (subject_of r inputs) inputs limits text h before rest
+StopsBehind r inputs limits text one = (h : Header) × (before : List CertRecord) × (rest : List ℕ)
+    × IsAtPoint (subject_of r inputs) inputs limits text h before rest
     × Reason (subject_of r inputs) limits h before rest one
 
 abbrev StopsAt : PackageList → (Bool → List (List Literal)) → Limits → List ℕ → Answer → Type 0
@@ -28,7 +29,8 @@ StopsAt r inputs limits text one = FirstReason r inputs limits text one ⊎ Stop
 abbrev Stop : PackageList → Limits → List ℕ → Answer → Type 0
 Stop r limits text one = (inputs : Bool → List (List Literal)) × AreInputs r inputs × StopsAt r inputs limits text one
 
-stop-of : (r : PackageList) (inputs : Bool → List (List Literal)) (limits : Limits) (text : List ℕ) (one : Answer) → AreInputs r inputs → Answers r limits text one → IsOfText one → Stop r limits text one
+stop-of : (r : PackageList) (inputs : Bool → List (List Literal)) (limits : Limits) (text : List ℕ) (one : Answer) → AreInputs r inputs
+    → Answers r limits text one → IsOfText one → Stop r limits text one
 stop-of r inputs limits text (Ok (Accepted h made)) are x of = (
   x.inputs,
   x.are_inputs,
@@ -64,7 +66,17 @@ stop-of r inputs limits text (Err (TooLarge Lines)) are x of = (
     x.before,
     x.rest,
     record { faultless = x.reached.faultless; numbers = x.reached.numbers },
-    record { keeps = x.keeps; literals = x.literals; hints = x.hints; line = x.line; more = x.more; begins = x.begins; form = x.form; none = x.none; passes = x.passes },
+    record {
+      keeps = x.keeps;
+      literals = x.literals;
+      hints = x.hints;
+      line = x.line;
+      more = x.more;
+      begins = x.begins;
+      form = x.form;
+      none = x.none;
+      passes = x.passes;
+    },
   ),
 )
 stop-of r inputs limits text (Err (TooLarge LineLiterals)) are x of = (
@@ -75,19 +87,40 @@ stop-of r inputs limits text (Err (TooLarge LineLiterals)) are x of = (
     x.before,
     x.rest,
     record { faultless = x.reached.faultless; numbers = x.reached.numbers },
-    record { keeps = x.keeps; literals = x.literals; hints = x.hints; line = x.line; more = x.more; begins = x.begins; form = x.form; none = x.none; passes = x.passes },
+    record {
+      keeps = x.keeps;
+      literals = x.literals;
+      hints = x.hints;
+      line = x.line;
+      more = x.more;
+      begins = x.begins;
+      form = x.form;
+      none = x.none;
+      passes = x.passes;
+    },
   ),
 )
 stop-of r inputs limits text (Err (TooLarge Certificate)) are x of = ⊎_elim
     (λ first. (inputs, are, inl first))
-    (λ later. (later.inputs, later.reached.are_inputs, inr (later.h, later.before, later.rest, record { faultless = later.reached.faultless; numbers = later.reached.numbers }, later.passes)))
+    (λ later. (
+      later.inputs,
+      later.reached.are_inputs,
+      inr (
+        later.h,
+        later.before,
+        later.rest,
+        record { faultless = later.reached.faultless; numbers = later.reached.numbers },
+        later.passes,
+      ),
+    ))
     x
 stop-of r inputs limits text (Err ReadFault) are x of = absurd of
 stop-of r inputs limits text (Err NoMemory) are x of = absurd of
 stop-of r inputs limits text (Err (TooLarge what)) are x of = absurd x
 stop-of r inputs limits text (Err error) are x of = absurd x
 
-one-stop : FormsAreClear → ClausesGoOn → (r : PackageList) (inputs : Bool → List (List Literal)) (limits : Limits) (text : List ℕ) (one other : Answer) → AreInputs r inputs
+one-stop : FormsAreClear → ClausesGoOn → (r : PackageList) (inputs : Bool → List (List Literal)) (limits : Limits) (text : List ℕ) (one other : Answer)
+    → AreInputs r inputs
     → StopsAt r inputs limits text one → StopsAt r inputs limits text other → one ≡ other
 one-stop clear on r inputs limits text one other are x y =
     let told = known on r inputs limits are in
@@ -102,7 +135,8 @@ one-stop clear on r inputs limits text one other are x y =
     y)
     x
 
-pub one-answer : FormsAreClear → ClausesAreOne → ClausesGoOn → (r : PackageList) (inputs : Bool → List (List Literal)) (limits : Limits) (text : List ℕ) (one other : Answer) → AreInputs r inputs
+pub one-answer : FormsAreClear → ClausesAreOne → ClausesGoOn
+    → (r : PackageList) (inputs : Bool → List (List Literal)) (limits : Limits) (text : List ℕ) (one other : Answer) → AreInputs r inputs
     → Answers r limits text one → Answers r limits text other → IsOfText one → IsOfText other → other ≡ one
 one-answer clear same on r inputs limits text one other are x y of of_other =
     let a = stop-of r inputs limits text one are x of in

@@ -9,7 +9,8 @@ use Rattle.dist_cert.specs.declared.records.CertRecord.{CertRecord}
 use Rattle.dist_cert.specs.declared.records.CertRecord.TheVariants as lines
 use Rattle.dist_cert.specs.declared.records.Header.{Header}
 use Rattle.dist_cert.specs.Subject.{Matter}
-use Rattle.dist_cert.specs.LineRules.{IsOutOfRange, IsOutOfOrder, IsUnknownLine, IsBadLine, IsNoFuture, IsNoInstallation, IsTooEarly, HasOldLine, IsWrongClaim, IsIncomplete, HasRecordFault}
+use Rattle.dist_cert.specs.LineRules.{IsOutOfRange, IsOutOfOrder, IsUnknownLine, IsBadLine, IsNoFuture, IsNoInstallation, IsTooEarly, HasOldLine, IsWrongClaim}
+use Rattle.dist_cert.specs.LineRules.{IsIncomplete, HasRecordFault}
 use Rattle.dist_cert.specs.Refusal.{in_order, IsFirstOf}
 
 -- the place of a cause in the order
@@ -30,21 +31,205 @@ rank causes.WrongClaim = 12
 rank causes.Incomplete = 13
 
 -- a cause before which no other is
-pub first-of : (Has : CertCause → Type 0) (cause : CertCause) → Has cause → ((earlier : CertCause) → rank earlier < rank cause → ¬ Has earlier) → IsFirstOf in_order Has cause
+pub first-of : (Has : CertCause → Type 0) (cause : CertCause) → Has cause → ((earlier : CertCause) → rank earlier < rank cause → ¬ Has earlier)
+    → IsFirstOf in_order Has cause
 first-of Has causes.LineTooLong has none = inl (has, refl)
 first-of Has causes.Truncated has none = inr (none causes.LineTooLong (lit< tt), inl (has, refl))
 first-of Has causes.BadHeader has none = inr (none causes.LineTooLong (lit< tt), inr (none causes.Truncated (lit< tt), inl (has, refl)))
-first-of Has causes.BadRecord has none = inr (none causes.LineTooLong (lit< tt), inr (none causes.Truncated (lit< tt), inr (none causes.BadHeader (lit< tt), inl (has, refl))))
-first-of Has causes.OutOfRange has none = inr (none causes.LineTooLong (lit< tt), inr (none causes.Truncated (lit< tt), inr (none causes.BadHeader (lit< tt), inr (none causes.BadRecord (lit< tt), inl (has, refl)))))
-first-of Has causes.OutOfOrder has none = inr (none causes.LineTooLong (lit< tt), inr (none causes.Truncated (lit< tt), inr (none causes.BadHeader (lit< tt), inr (none causes.BadRecord (lit< tt), inr (none causes.OutOfRange (lit< tt), inl (has, refl))))))
-first-of Has causes.UnknownLine has none = inr (none causes.LineTooLong (lit< tt), inr (none causes.Truncated (lit< tt), inr (none causes.BadHeader (lit< tt), inr (none causes.BadRecord (lit< tt), inr (none causes.OutOfRange (lit< tt), inr (none causes.OutOfOrder (lit< tt), inl (has, refl)))))))
-first-of Has causes.BadLine has none = inr (none causes.LineTooLong (lit< tt), inr (none causes.Truncated (lit< tt), inr (none causes.BadHeader (lit< tt), inr (none causes.BadRecord (lit< tt), inr (none causes.OutOfRange (lit< tt), inr (none causes.OutOfOrder (lit< tt), inr (none causes.UnknownLine (lit< tt), inl (has, refl))))))))
-first-of Has causes.NotAFuture has none = inr (none causes.LineTooLong (lit< tt), inr (none causes.Truncated (lit< tt), inr (none causes.BadHeader (lit< tt), inr (none causes.BadRecord (lit< tt), inr (none causes.OutOfRange (lit< tt), inr (none causes.OutOfOrder (lit< tt), inr (none causes.UnknownLine (lit< tt), inr (none causes.BadLine (lit< tt), inl (has, refl)))))))))
-first-of Has causes.NotAnInstallation has none = inr (none causes.LineTooLong (lit< tt), inr (none causes.Truncated (lit< tt), inr (none causes.BadHeader (lit< tt), inr (none causes.BadRecord (lit< tt), inr (none causes.OutOfRange (lit< tt), inr (none causes.OutOfOrder (lit< tt), inr (none causes.UnknownLine (lit< tt), inr (none causes.BadLine (lit< tt), inr (none causes.NotAFuture (lit< tt), inl (has, refl))))))))))
-first-of Has causes.LimitNotReached has none = inr (none causes.LineTooLong (lit< tt), inr (none causes.Truncated (lit< tt), inr (none causes.BadHeader (lit< tt), inr (none causes.BadRecord (lit< tt), inr (none causes.OutOfRange (lit< tt), inr (none causes.OutOfOrder (lit< tt), inr (none causes.UnknownLine (lit< tt), inr (none causes.BadLine (lit< tt), inr (none causes.NotAFuture (lit< tt), inr (none causes.NotAnInstallation (lit< tt), inl (has, refl)))))))))))
-first-of Has causes.NotNew has none = inr (none causes.LineTooLong (lit< tt), inr (none causes.Truncated (lit< tt), inr (none causes.BadHeader (lit< tt), inr (none causes.BadRecord (lit< tt), inr (none causes.OutOfRange (lit< tt), inr (none causes.OutOfOrder (lit< tt), inr (none causes.UnknownLine (lit< tt), inr (none causes.BadLine (lit< tt), inr (none causes.NotAFuture (lit< tt), inr (none causes.NotAnInstallation (lit< tt), inr (none causes.LimitNotReached (lit< tt), inl (has, refl))))))))))))
-first-of Has causes.WrongClaim has none = inr (none causes.LineTooLong (lit< tt), inr (none causes.Truncated (lit< tt), inr (none causes.BadHeader (lit< tt), inr (none causes.BadRecord (lit< tt), inr (none causes.OutOfRange (lit< tt), inr (none causes.OutOfOrder (lit< tt), inr (none causes.UnknownLine (lit< tt), inr (none causes.BadLine (lit< tt), inr (none causes.NotAFuture (lit< tt), inr (none causes.NotAnInstallation (lit< tt), inr (none causes.LimitNotReached (lit< tt), inr (none causes.NotNew (lit< tt), inl (has, refl)))))))))))))
-first-of Has causes.Incomplete has none = inr (none causes.LineTooLong (lit< tt), inr (none causes.Truncated (lit< tt), inr (none causes.BadHeader (lit< tt), inr (none causes.BadRecord (lit< tt), inr (none causes.OutOfRange (lit< tt), inr (none causes.OutOfOrder (lit< tt), inr (none causes.UnknownLine (lit< tt), inr (none causes.BadLine (lit< tt), inr (none causes.NotAFuture (lit< tt), inr (none causes.NotAnInstallation (lit< tt), inr (none causes.LimitNotReached (lit< tt), inr (none causes.NotNew (lit< tt), inr (none causes.WrongClaim (lit< tt), inl (has, refl))))))))))))))
+first-of Has causes.BadRecord has none = inr (
+  none causes.LineTooLong (lit< tt),
+  inr (none causes.Truncated (lit< tt), inr (none causes.BadHeader (lit< tt), inl (has, refl))),
+)
+first-of Has causes.OutOfRange has none = inr (
+  none causes.LineTooLong (lit< tt),
+  inr (none causes.Truncated (lit< tt), inr (none causes.BadHeader (lit< tt), inr (none causes.BadRecord (lit< tt), inl (has, refl)))),
+)
+first-of Has causes.OutOfOrder has none = inr (
+  none causes.LineTooLong (lit< tt),
+  inr (
+    none causes.Truncated (lit< tt),
+    inr (
+      none causes.BadHeader (lit< tt),
+      inr (none causes.BadRecord (lit< tt), inr (none causes.OutOfRange (lit< tt), inl (has, refl))),
+    ),
+  ),
+)
+first-of Has causes.UnknownLine has none = inr (
+  none causes.LineTooLong (lit< tt),
+  inr (
+    none causes.Truncated (lit< tt),
+    inr (
+      none causes.BadHeader (lit< tt),
+      inr (none causes.BadRecord (lit< tt), inr (none causes.OutOfRange (lit< tt), inr (none causes.OutOfOrder (lit< tt), inl (has, refl)))),
+    ),
+  ),
+)
+first-of Has causes.BadLine has none = inr (
+  none causes.LineTooLong (lit< tt),
+  inr (
+    none causes.Truncated (lit< tt),
+    inr (
+      none causes.BadHeader (lit< tt),
+      inr (
+        none causes.BadRecord (lit< tt),
+        inr (
+          none causes.OutOfRange (lit< tt),
+          inr (none causes.OutOfOrder (lit< tt), inr (none causes.UnknownLine (lit< tt), inl (has, refl))),
+        ),
+      ),
+    ),
+  ),
+)
+first-of Has causes.NotAFuture has none = inr (
+  none causes.LineTooLong (lit< tt),
+  inr (
+    none causes.Truncated (lit< tt),
+    inr (
+      none causes.BadHeader (lit< tt),
+      inr (
+        none causes.BadRecord (lit< tt),
+        inr (
+          none causes.OutOfRange (lit< tt),
+          inr (none causes.OutOfOrder (lit< tt), inr (none causes.UnknownLine (lit< tt), inr (none causes.BadLine (lit< tt), inl (has, refl)))),
+        ),
+      ),
+    ),
+  ),
+)
+first-of Has causes.NotAnInstallation has none = inr (
+  none causes.LineTooLong (lit< tt),
+  inr (
+    none causes.Truncated (lit< tt),
+    inr (
+      none causes.BadHeader (lit< tt),
+      inr (
+        none causes.BadRecord (lit< tt),
+        inr (
+          none causes.OutOfRange (lit< tt),
+          inr (
+            none causes.OutOfOrder (lit< tt),
+            inr (
+              none causes.UnknownLine (lit< tt),
+              inr (none causes.BadLine (lit< tt), inr (none causes.NotAFuture (lit< tt), inl (has, refl))),
+            ),
+          ),
+        ),
+      ),
+    ),
+  ),
+)
+first-of Has causes.LimitNotReached has none = inr (
+  none causes.LineTooLong (lit< tt),
+  inr (
+    none causes.Truncated (lit< tt),
+    inr (
+      none causes.BadHeader (lit< tt),
+      inr (
+        none causes.BadRecord (lit< tt),
+        inr (
+          none causes.OutOfRange (lit< tt),
+          inr (
+            none causes.OutOfOrder (lit< tt),
+            inr (
+              none causes.UnknownLine (lit< tt),
+              inr (none causes.BadLine (lit< tt), inr (none causes.NotAFuture (lit< tt), inr (none causes.NotAnInstallation (lit< tt), inl (has, refl)))),
+            ),
+          ),
+        ),
+      ),
+    ),
+  ),
+)
+first-of Has causes.NotNew has none = inr (
+  none causes.LineTooLong (lit< tt),
+  inr (
+    none causes.Truncated (lit< tt),
+    inr (
+      none causes.BadHeader (lit< tt),
+      inr (
+        none causes.BadRecord (lit< tt),
+        inr (
+          none causes.OutOfRange (lit< tt),
+          inr (
+            none causes.OutOfOrder (lit< tt),
+            inr (
+              none causes.UnknownLine (lit< tt),
+              inr (
+                none causes.BadLine (lit< tt),
+                inr (
+                  none causes.NotAFuture (lit< tt),
+                  inr (none causes.NotAnInstallation (lit< tt), inr (none causes.LimitNotReached (lit< tt), inl (has, refl))),
+                ),
+              ),
+            ),
+          ),
+        ),
+      ),
+    ),
+  ),
+)
+first-of Has causes.WrongClaim has none = inr (
+  none causes.LineTooLong (lit< tt),
+  inr (
+    none causes.Truncated (lit< tt),
+    inr (
+      none causes.BadHeader (lit< tt),
+      inr (
+        none causes.BadRecord (lit< tt),
+        inr (
+          none causes.OutOfRange (lit< tt),
+          inr (
+            none causes.OutOfOrder (lit< tt),
+            inr (
+              none causes.UnknownLine (lit< tt),
+              inr (
+                none causes.BadLine (lit< tt),
+                inr (
+                  none causes.NotAFuture (lit< tt),
+                  inr (none causes.NotAnInstallation (lit< tt), inr (none causes.LimitNotReached (lit< tt), inr (none causes.NotNew (lit< tt), inl (has, refl)))),
+                ),
+              ),
+            ),
+          ),
+        ),
+      ),
+    ),
+  ),
+)
+first-of Has causes.Incomplete has none = inr (
+  none causes.LineTooLong (lit< tt),
+  inr (
+    none causes.Truncated (lit< tt),
+    inr (
+      none causes.BadHeader (lit< tt),
+      inr (
+        none causes.BadRecord (lit< tt),
+        inr (
+          none causes.OutOfRange (lit< tt),
+          inr (
+            none causes.OutOfOrder (lit< tt),
+            inr (
+              none causes.UnknownLine (lit< tt),
+              inr (
+                none causes.BadLine (lit< tt),
+                inr (
+                  none causes.NotAFuture (lit< tt),
+                  inr (
+                    none causes.NotAnInstallation (lit< tt),
+                    inr (
+                      none causes.LimitNotReached (lit< tt),
+                      inr (none causes.NotNew (lit< tt), inr (none causes.WrongClaim (lit< tt), inl (has, refl))),
+                    ),
+                  ),
+                ),
+              ),
+            ),
+          ),
+        ),
+      ),
+    ),
+  ),
+)
 
 -- the causes that a record may have for kind strong
 abbrev pub may_have : CertRecord → CertCause → Bool
@@ -119,7 +304,8 @@ old-none : (matter : Matter) (before : List CertRecord) (step : CertRecord) → 
 old-none matter before lines.Undecided e f = true≢false e
 old-none matter before step e f = f
 
-wrong-none : (matter : Matter) (before : List CertRecord) (step : CertRecord) → may_have step causes.WrongClaim ≡ false → ¬ IsWrongClaim matter kinds.Strong before step
+wrong-none : (matter : Matter) (before : List CertRecord) (step : CertRecord) → may_have step causes.WrongClaim ≡ false
+    → ¬ IsWrongClaim matter kinds.Strong before step
 wrong-none matter before (lines.Question literals) e f = false≢true f.0
 wrong-none matter before (lines.Derived literals hints) e f = false≢true f.0
 wrong-none matter before (lines.Refuted hints) e f = false≢true f.0
@@ -134,7 +320,8 @@ incomplete-none matter before (lines.Challenged p named by undecided) e f = true
 incomplete-none matter before lines.End e f = true≢false e
 incomplete-none matter before step e f = f
 
-none-else : (matter : Matter) (h : Header) (before : List CertRecord) (step : CertRecord) → h.kind ≡ kinds.Strong → (cause : CertCause) → may_have step cause ≡ false → ¬ HasRecordFault matter h before step cause
+none-else : (matter : Matter) (h : Header) (before : List CertRecord) (step : CertRecord) → h.kind ≡ kinds.Strong → (cause : CertCause)
+    → may_have step cause ≡ false → ¬ HasRecordFault matter h before step cause
 none-else matter h before step strong causes.OutOfRange e f = range-none matter step e f
 none-else matter h before step strong causes.OutOfOrder e f = order-none matter before step e f
 none-else matter h before step strong causes.UnknownLine e f = unknown-none matter before step e f
@@ -162,9 +349,12 @@ faultless-from matter h before step strong none cause fault = elim (cases_Bool (
   | inr never ↦ none-else matter h before step strong cause never fault
 ]
 
-pub first-from : (matter : Matter) (h : Header) (before : List CertRecord) (step : CertRecord) (cause : CertCause) → h.kind ≡ kinds.Strong → HasRecordFault matter h before step cause
-    → ((earlier : CertCause) → may_have step earlier ≡ true → rank earlier < rank cause → ¬ HasRecordFault matter h before step earlier) → HasFirst matter h before step cause
-first-from matter h before step cause strong has none = first-of (HasRecordFault matter h before step) cause has (λ earlier below fault. elim (cases_Bool (may_have step earlier)) [
-  | inl may ↦ none earlier may below fault
-  | inr never ↦ none-else matter h before step strong earlier never fault
-])
+pub first-from : (matter : Matter) (h : Header) (before : List CertRecord) (step : CertRecord) (cause : CertCause) → h.kind ≡ kinds.Strong
+    → HasRecordFault matter h before step cause
+    → ((earlier : CertCause) → may_have step earlier ≡ true → rank earlier < rank cause → ¬ HasRecordFault matter h before step earlier)
+    → HasFirst matter h before step cause
+first-from matter h before step cause strong has none = first-of (HasRecordFault matter h before step) cause has
+    (λ earlier below fault. elim (cases_Bool (may_have step earlier)) [
+      | inl may ↦ none earlier may below fault
+      | inr never ↦ none-else matter h before step strong earlier never fault
+    ])

@@ -20,14 +20,18 @@ use Rattle.dist_cert.specs.GroupLaws.{all-at}
 use Rattle.dist_check.specs.Checked.{AreRight}
 use Rattle.dist_check.proofs.Told.{IsTold, stable, contains-told}
 
-to-line : FormsAreClear → (subject : Subject) (limits : Limits) (h : Header) (before : List CertRecord) (step : CertRecord) (more : List ℕ) → HasForm (record_text step) step
-    → (cause : CertCause) → HasRecordFault (subject.matter h.kind h.essential) h before step cause → HasLineFault subject limits h before (record_text step ++ line_feed ∷ more) cause
+to-line : FormsAreClear → (subject : Subject) (limits : Limits) (h : Header) (before : List CertRecord) (step : CertRecord) (more : List ℕ)
+    → HasForm (record_text step) step
+    → (cause : CertCause) → HasRecordFault (subject.matter h.kind h.essential) h before step cause
+    → HasLineFault subject limits h before (record_text step ++ line_feed ∷ more) cause
 to-line clear subject limits h before step more form causes.LineTooLong f = absurd f
 to-line clear subject limits h before step more form causes.Truncated f = absurd f
 to-line clear subject limits h before step more form causes.BadRecord f = absurd f
-to-line clear subject limits h before step more form cause f = (record_text step, more, step, record { ended = refl; one_line = clear.record_line step form }, form, f)
+to-line clear subject limits h before step more form cause f =
+    (record_text step, more, step, record { ended = refl; one_line = clear.record_line step form }, form, f)
 
-pub right-records : FormsAreClear → (subject : Subject) (limits : Limits) (text : List ℕ) (h : Header) (steps : List CertRecord) → IsAcceptedAs subject limits text h steps
+pub right-records : FormsAreClear → (subject : Subject) (limits : Limits) (text : List ℕ) (h : Header) (steps : List CertRecord)
+    → IsAcceptedAs subject limits text h steps
     → AreRight (subject.matter h.kind h.essential) h steps
 right-records clear subject limits text h steps whole before step after is cause fault =
     let form = all-at (λ s. HasForm (record_text s) s) steps before step after is whole.faultless.reads.records in
@@ -35,7 +39,8 @@ right-records clear subject limits text h steps whole before step after is cause
     (subst (λ bytes. HasLineFault subject limits h before bytes cause) (sym (first_line_of step after []))
     (to-line clear subject limits h before step (lines_text after ++ []) form cause fault))
 
-pub fitting : FormsAreClear → (subject : Subject) (limits : Limits) (text : List ℕ) (h : Header) (steps : List CertRecord) → IsAcceptedAs subject limits text h steps
+pub fitting : FormsAreClear → (subject : Subject) (limits : Limits) (text : List ℕ) (h : Header) (steps : List CertRecord)
+    → IsAcceptedAs subject limits text h steps
     → ¬ (¬ Fits subject h)
 fitting clear subject limits text h steps whole none =
     let reads = whole.faultless.reads in
@@ -55,7 +60,8 @@ end-told : (step : CertRecord) → IsTold (step ≡ End)
 end-told End = inl refl
 end-told step = inr (λ e. cc)
 
-pub has-end : (subject : Subject) (limits : Limits) (text : List ℕ) (h : Header) (steps : List CertRecord) → IsAcceptedAs subject limits text h steps → Contains steps End
+pub has-end : (subject : Subject) (limits : Limits) (text : List ℕ) (h : Header) (steps : List CertRecord) → IsAcceptedAs subject limits text h steps
+    → Contains steps End
 has-end subject limits text h steps whole =
     stable (contains-told steps End end-told) (λ none. whole.ends causes.Truncated ((λ k d within. absurd (omega_none k within)), inr none))
   where

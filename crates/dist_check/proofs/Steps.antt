@@ -1,5 +1,6 @@
 -- What is kept, with one line more.
-use Rattle.std.proofs.Common.{◌≡◌, ◌≢◌, ◌⊎◌, inl, inr, ℕ, zero, suc, ◌+◌, ◌-◌, ◌<◌, ◌↔◌, ◌==◌, Bool, true, false, List, [], ◌∷◌, ◌++◌, Option, Some, None, length, drop, filter, get_or, refl, sym, ap, subst, ◌∙◌, arith, length-append, if◌then◌else◌}
+use Rattle.std.proofs.Common.{◌≡◌, ◌≢◌, ◌⊎◌, inl, inr, ℕ, zero, suc, ◌+◌, ◌-◌, ◌<◌, ◌↔◌, ◌==◌, Bool, true, false, List, [], ◌∷◌, ◌++◌, Option, Some, None}
+use Rattle.std.proofs.Common.{length, drop, filter, get_or, refl, sym, ap, subst, ◌∙◌, arith, length-append, if◌then◌else◌}
 use Rattle.std.specs.List.{All, Any, Contains}
 use Rattle.std.proofs.lemmas.Bool.{true≢false, false≢true, and_parts, and_from, or_cases, or_left, or_right, eqb-true, eq-eqb}
 use Rattle.std.proofs.lemmas.List.{append-nil, drop-append-le, drop-drop, length-drop, get_or_append_left, get_or_at}
@@ -20,28 +21,35 @@ use Rattle.dist_group.specs.Group.{GroupView, narrowed, common_with}
 use Rattle.dist_state.specs.State.{QuestionView, empty_group}
 use Rattle.dist_check.specs.At.{IsQuestionOf, AreClosed, IsCommonOf, IsGroupOf}
 use Rattle.dist_cert.specs.ListFacts.{any-from, contains-cases, contains-later, from-any}
-use Rattle.dist_cert.specs.GroupLaws.{IsOpening, IsAsked, one-open, still-open, none-still, closed-push, closed-more, closed-here, none-closed, group-push, group-claim, asked-in-group}
+use Rattle.dist_cert.specs.GroupLaws.{IsOpening, IsAsked, one-open, still-open, none-still, closed-push, closed-more, closed-here, none-closed, group-push}
+use Rattle.dist_cert.specs.GroupLaws.{group-claim, asked-in-group}
 
 -- ---- lists that grow with the lines
 
 pub derived-push : (before : List CertRecord) (step : CertRecord) → derived (before ++ step ∷ []) ≡ derived before ++ derived_in step
-derived-push before step = flat_map-append derived_in before (step ∷ []) ∙ ap (λ (cs : List (List Literal)). derived before ++ cs) (append-nil (derived_in step))
+derived-push before step = flat_map-append derived_in before (step ∷ [])
+    ∙ ap (λ (cs : List (List Literal)). derived before ++ cs) (append-nil (derived_in step))
 
 pub installed-push : (before : List CertRecord) (step : CertRecord) → installations (before ++ step ∷ []) ≡ installations before ++ installed_in step
-installed-push before step = flat_map-append installed_in before (step ∷ []) ∙ ap (λ (ms : List (List ℕ)). installations before ++ ms) (append-nil (installed_in step))
+installed-push before step = flat_map-append installed_in before (step ∷ [])
+    ∙ ap (λ (ms : List (List ℕ)). installations before ++ ms) (append-nil (installed_in step))
 
 -- nothing derived, and nothing installed
-pub derived-same : (inputs : List (List Literal)) (before : List CertRecord) (step : CertRecord) → derived_in step ≡ [] → inputs ++ derived before ≡ inputs ++ derived (before ++ step ∷ [])
-derived-same inputs before step none = ap (λ (cs : List (List Literal)). inputs ++ cs) (sym (derived-push before step ∙ ap (λ (cs : List (List Literal)). derived before ++ cs) none ∙ append-nil (derived before)))
+pub derived-same : (inputs : List (List Literal)) (before : List CertRecord) (step : CertRecord) → derived_in step ≡ []
+    → inputs ++ derived before ≡ inputs ++ derived (before ++ step ∷ [])
+derived-same inputs before step none = ap (λ (cs : List (List Literal)). inputs ++ cs)
+    (sym (derived-push before step ∙ ap (λ (cs : List (List Literal)). derived before ++ cs) none ∙ append-nil (derived before)))
 
 pub installed-same : (before : List CertRecord) (step : CertRecord) → installed_in step ≡ [] → installations before ≡ installations (before ++ step ∷ [])
-installed-same before step none = sym (installed-push before step ∙ ap (λ (ms : List (List ℕ)). installations before ++ ms) none ∙ append-nil (installations before))
+installed-same before step none = sym (installed-push before step ∙ ap (λ (ms : List (List ℕ)). installations before ++ ms) none
+    ∙ append-nil (installations before))
 
 -- the latest installations, with one more
 pub latest-push : (all : List (List ℕ)) (members : List ℕ) → latest (latest all ++ members ∷ []) ≡ latest (all ++ members ∷ [])
 latest-push all members =
     let size : length (latest all) ≡ length all - (length all - REACH) = length-drop (length all - REACH) all in
-    let front : drop (length all - REACH) (all ++ members ∷ []) ≡ latest all ++ members ∷ [] = drop-append-le (length all - REACH) all (members ∷ []) (omega arith) in
+    let front : drop (length all - REACH) (all ++ members ∷ []) ≡ latest all ++ members ∷ [] =
+    drop-append-le (length all - REACH) all (members ∷ []) (omega arith) in
     let few : length (latest all ++ members ∷ []) - REACH + (length all - REACH) ≡ length (all ++ members ∷ []) - REACH
     = omega (arith, size, length-append (latest all) (members ∷ []), length-append all (members ∷ [])) in
     ap (λ (xs : List (List ℕ)). drop (length (latest all ++ members ∷ []) - REACH) xs) (sym front)
@@ -50,15 +58,18 @@ latest-push all members =
 
 -- ---- the open question
 
-pub question-stays : (inputs : List (List Literal)) (before : List CertRecord) (step : CertRecord) → leaves_open step ≡ true → ¬ IsOpening step → (question : Option QuestionView) → IsQuestionOf inputs before question
+pub question-stays : (inputs : List (List Literal)) (before : List CertRecord) (step : CertRecord) → leaves_open step ≡ true → ¬ IsOpening step
+    → (question : Option QuestionView) → IsQuestionOf inputs before question
     → IsQuestionOf inputs (before ++ step ∷ []) question
 question-stays inputs before step leaves never None none = none-still before step never none
-question-stays inputs before step leaves never (Some q) here = (here.0, here.1 ++ step ∷ [], still-open before step here.0 q.assumptions here.1 leaves here.2, here.3)
+question-stays inputs before step leaves never (Some q) here =
+    (here.0, here.1 ++ step ∷ [], still-open before step here.0 q.assumptions here.1 leaves here.2, here.3)
 
 -- ---- closed questions
 
 -- a line that closes nothing in that way
-pub refuted-same : (before : List CertRecord) (step : CertRecord) (question : List Word) → ((hints : List ℕ) → step ≢ lines.Refuted hints) → IsRefutedIn before question ↔ IsRefutedIn (before ++ step ∷ []) question
+pub refuted-same : (before : List CertRecord) (step : CertRecord) (question : List Word) → ((hints : List ℕ) → step ≢ lines.Refuted hints)
+    → IsRefutedIn before question ↔ IsRefutedIn (before ++ step ∷ []) question
 refuted-same before step question never = (
   (λ closed. (closed.0, closed-more before (step ∷ []) question (lines.Refuted closed.0) closed.1)),
   λ closed. elim (closed-push before step question (lines.Refuted closed.0) closed.1) [
@@ -67,7 +78,8 @@ refuted-same before step question never = (
   ],
 )
 
-pub undecided-same : (before : List CertRecord) (step : CertRecord) (question : List Word) → step ≢ lines.Undecided → IsUndecidedIn before question ↔ IsUndecidedIn (before ++ step ∷ []) question
+pub undecided-same : (before : List CertRecord) (step : CertRecord) (question : List Word) → step ≢ lines.Undecided → IsUndecidedIn before question
+    ↔ IsUndecidedIn (before ++ step ∷ []) question
 undecided-same before step question never = (
   (λ closed. closed-more before (step ∷ []) question lines.Undecided closed),
   λ closed. elim (closed-push before step question lines.Undecided closed) [
@@ -77,7 +89,8 @@ undecided-same before step question never = (
 )
 
 -- a line that closes the open question
-refuted-more : (before : List CertRecord) (hints : List ℕ) (asked : List Word) → IsAsked before asked → (question : List Word) → IsRefutedIn (before ++ lines.Refuted hints ∷ []) question ↔ ((asked ≡ question) ⊎ IsRefutedIn before question)
+refuted-more : (before : List CertRecord) (hints : List ℕ) (asked : List Word) → IsAsked before asked → (question : List Word)
+    → IsRefutedIn (before ++ lines.Refuted hints ∷ []) question ↔ ((asked ≡ question) ⊎ IsRefutedIn before question)
 refuted-more before hints asked is question = (
   (λ closed. elim (closed-push before (lines.Refuted hints) question (lines.Refuted closed.0) closed.1) [
     | inl earlier ↦ inr (closed.0, earlier)
@@ -89,7 +102,8 @@ refuted-more before hints asked is question = (
   ],
 )
 
-undecided-more : (before : List CertRecord) (asked : List Word) → IsAsked before asked → (question : List Word) → IsUndecidedIn (before ++ lines.Undecided ∷ []) question ↔ ((asked ≡ question) ⊎ IsUndecidedIn before question)
+undecided-more : (before : List CertRecord) (asked : List Word) → IsAsked before asked → (question : List Word)
+    → IsUndecidedIn (before ++ lines.Undecided ∷ []) question ↔ ((asked ≡ question) ⊎ IsUndecidedIn before question)
 undecided-more before asked is question = (
   (λ closed. elim (closed-push before lines.Undecided question lines.Undecided closed) [
     | inl earlier ↦ inr earlier
@@ -147,13 +161,23 @@ without-is p ((v, true) ∷ (w, false) ∷ []) q = (
 without-is p ((v, false) ∷ (w, false) ∷ []) q = ((λ e. absurd (false≢true e)), λ e. absurd (false≢true (ap (word-sign 0) e)))
 without-is p ((v, true) ∷ (w, true) ∷ []) q = ((λ e. absurd (false≢true e)), λ e. absurd (true≢false (ap (word-sign 1) e)))
 without-is p ((v, false) ∷ (w, true) ∷ []) q = ((λ e. absurd (false≢true e)), λ e. absurd (false≢true (ap (word-sign 0) e)))
-without-is p ((v, true) ∷ (w, false) ∷ x ∷ ws) q = ((λ e. absurd (false≢true e)), λ e. absurd (let n = ap (λ (xs : List Word). length xs) e in omega (arith, n)))
+without-is p ((v, true) ∷ (w, false) ∷ x ∷ ws) q = (
+  (λ e. absurd (false≢true e)),
+  λ e. absurd (let n = ap (λ (xs : List Word). length xs) e in omega (arith, n)),
+)
 without-is p ((v, true) ∷ (w, true) ∷ x ∷ ws) q = ((λ e. absurd (false≢true e)), λ e. absurd (let n = ap (λ (xs : List Word). length xs) e in omega (arith, n)))
-without-is p ((v, false) ∷ (w, false) ∷ x ∷ ws) q = ((λ e. absurd (false≢true e)), λ e. absurd (let n = ap (λ (xs : List Word). length xs) e in omega (arith, n)))
-without-is p ((v, false) ∷ (w, true) ∷ x ∷ ws) q = ((λ e. absurd (false≢true e)), λ e. absurd (let n = ap (λ (xs : List Word). length xs) e in omega (arith, n)))
+without-is p ((v, false) ∷ (w, false) ∷ x ∷ ws) q = (
+  (λ e. absurd (false≢true e)),
+  λ e. absurd (let n = ap (λ (xs : List Word). length xs) e in omega (arith, n)),
+)
+without-is p ((v, false) ∷ (w, true) ∷ x ∷ ws) q = (
+  (λ e. absurd (false≢true e)),
+  λ e. absurd (let n = ap (λ (xs : List Word). length xs) e in omega (arith, n)),
+)
 
 -- one question more
-more-closed : (Old New : List Word → Type 0) (p : ℕ) (asked : List Word) (old new : ClosedView) → ((question : List Word) → New question ↔ ((asked ≡ question) ⊎ Old question)) → Closes p asked old new → AreClosed Old p old → AreClosed New p new
+more-closed : (Old New : List Word → Type 0) (p : ℕ) (asked : List Word) (old new : ClosedView)
+    → ((question : List Word) → New question ↔ ((asked ≡ question) ⊎ Old question)) → Closes p asked old new → AreClosed Old p old → AreClosed New p new
 more-closed Old New p asked old new more closes are = record {
   alone = (
     (λ e. (more (yes p ∷ [])).1 (elim (or_cases (asks_alone p asked) old.alone (sym closes.alone ∙ e)) [
@@ -177,7 +201,8 @@ more-closed Old New p asked old new more closes are = record {
   );
 }
 
-same-closed : (Old New : List Word → Type 0) (p : ℕ) (closed : ClosedView) → ((question : List Word) → Old question ↔ New question) → AreClosed Old p closed → AreClosed New p closed
+same-closed : (Old New : List Word → Type 0) (p : ℕ) (closed : ClosedView) → ((question : List Word) → Old question ↔ New question) → AreClosed Old p closed
+    → AreClosed New p closed
 same-closed Old New p closed same are = record {
   alone = ((λ e. (same (yes p ∷ [])).0 (are.alone.0 e)), λ h. are.alone.1 ((same (yes p ∷ [])).1 h));
   without = λ q. ((λ e. (same (yes p ∷ no q ∷ [])).0 ((are.without q).0 e)), λ h. (are.without q).1 ((same (yes p ∷ no q ∷ [])).1 h));
@@ -221,18 +246,21 @@ all-front P xs x all k d within = subst P (get_or_append_left xs (x ∷ []) d k 
 all-last : {X : Type 0} (P : X → Type 0) (xs : List X) (x : X) → All P (xs ++ x ∷ []) → P x
 all-last P xs x all = subst P (get_or_at xs x [] x (length xs) refl) (all (length xs) x (omega (arith, length-append xs (x ∷ []))))
 
-pub common-push : (all : List (List ℕ)) (p : ℕ) (members : List ℕ) (common : Option (List ℕ)) → IsCommonOf all p common → IsCommonOf (all ++ members ∷ []) p (common_with p members common)
+pub common-push : (all : List (List ℕ)) (p : ℕ) (members : List ℕ) (common : Option (List ℕ)) → IsCommonOf all p common
+    → IsCommonOf (all ++ members ∷ []) p (common_with p members common)
 common-push all p members common is = by (is_among members p) refl common is
   where
     Has : List ℕ → Type 0
     Has m = Contains m p
 
-    by : (b : Bool) → is_among members p ≡ b → (c : Option (List ℕ)) → IsCommonOf all p c → IsCommonOf (all ++ members ∷ []) p (if b then Some (narrowed c members) else c)
+    by : (b : Bool) → is_among members p ≡ b → (c : Option (List ℕ)) → IsCommonOf all p c
+        → IsCommonOf (all ++ members ∷ []) p (if b then Some (narrowed c members) else c)
     by false absent None none = All-push (λ m. ¬ Contains m p) all members none (λ there. false≢true (sym absent ∙ any-from p members there))
     by false absent (Some c) h = (
       any-append (λ m. Contains m p) all members h.0,
       λ q. (
-        (λ there. All-push (λ m. Contains m p → Contains m q) all members ((h.1 q).0 there) (λ holds. absurd (false≢true (sym absent ∙ any-from p members holds)))),
+        (λ there. All-push (λ m. Contains m p → Contains m q) all members ((h.1 q).0 there)
+            (λ holds. absurd (false≢true (sym absent ∙ any-from p members holds)))),
         λ each. (h.1 q).1 (all-front (λ m. Contains m p → Contains m q) all members each),
       ),
     )
@@ -272,12 +300,15 @@ group-first p = record {
 }
 
 -- a line that closes nothing and installs nothing
-pub group-same : (before : List CertRecord) (step : CertRecord) (p : ℕ) (kept : GroupView) → is_claim step ≡ false → installed_in step ≡ [] → ((hints : List ℕ) → step ≢ lines.Refuted hints) → step ≢ lines.Undecided
+pub group-same : (before : List CertRecord) (step : CertRecord) (p : ℕ) (kept : GroupView) → is_claim step ≡ false → installed_in step ≡ []
+    → ((hints : List ℕ) → step ≢ lines.Refuted hints) → step ≢ lines.Undecided
     → IsGroupOf (group before) p kept → IsGroupOf (group (before ++ step ∷ [])) p kept
 group-same before step p kept no_claim none never_refuted never_undecided is =
     subst (λ ls. IsGroupOf ls p kept) (sym (group-push before step no_claim)) (record {
-      refuted = same-closed (IsRefutedIn (group before)) (IsRefutedIn (group before ++ step ∷ [])) p kept.refuted (λ question. refuted-same (group before) step question never_refuted) is.refuted;
-      undecided = same-closed (IsUndecidedIn (group before)) (IsUndecidedIn (group before ++ step ∷ [])) p kept.undecided (λ question. undecided-same (group before) step question never_undecided) is.undecided;
+      refuted = same-closed (IsRefutedIn (group before)) (IsRefutedIn (group before ++ step ∷ [])) p kept.refuted
+          (λ question. refuted-same (group before) step question never_refuted) is.refuted;
+      undecided = same-closed (IsUndecidedIn (group before)) (IsUndecidedIn (group before ++ step ∷ [])) p kept.undecided
+          (λ question. undecided-same (group before) step question never_undecided) is.undecided;
       common = subst (λ ms. IsCommonOf ms p kept.common) (installed-same (group before) step none) is.common;
     })
 
@@ -286,37 +317,49 @@ pub group-installed : (before : List CertRecord) (variables : List ℕ) (p : ℕ
 group-installed before variables p kept is =
     let step = lines.Installation variables in
     subst (λ ls. IsGroupOf ls p (record kept { common = common_with p variables kept.common })) (sym (group-push before step refl)) (record {
-      refuted = same-closed (IsRefutedIn (group before)) (IsRefutedIn (group before ++ step ∷ [])) p kept.refuted (λ question. refuted-same (group before) step question (λ hints e. cc)) is.refuted;
-      undecided = same-closed (IsUndecidedIn (group before)) (IsUndecidedIn (group before ++ step ∷ [])) p kept.undecided (λ question. undecided-same (group before) step question (λ e. cc)) is.undecided;
-      common = subst (λ ms. IsCommonOf ms p (common_with p variables kept.common)) (sym (installed-push (group before) step)) (common-push (installations (group before)) p variables kept.common is.common);
+      refuted = same-closed (IsRefutedIn (group before)) (IsRefutedIn (group before ++ step ∷ [])) p kept.refuted
+          (λ question. refuted-same (group before) step question (λ hints e. cc)) is.refuted;
+      undecided = same-closed (IsUndecidedIn (group before)) (IsUndecidedIn (group before ++ step ∷ [])) p kept.undecided
+          (λ question. undecided-same (group before) step question (λ e. cc)) is.undecided;
+      common = subst (λ ms. IsCommonOf ms p (common_with p variables kept.common)) (sym (installed-push (group before) step))
+          (common-push (installations (group before)) p variables kept.common is.common);
     })
 
 -- the question that is open is asked in the group
-asked-there : (before earlier : List CertRecord) (question : List Word) (since : List CertRecord) → IsOpen before earlier question since → IsAsked (group before) question
+asked-there : (before earlier : List CertRecord) (question : List Word) (since : List CertRecord) → IsOpen before earlier question since
+    → IsAsked (group before) question
 asked-there before earlier question since x =
     let in_group = asked-in-group earlier question since x.left_open in
     (in_group.0, since, record { ends = ap group x.ends ∙ in_group.1; left_open = x.left_open })
 
-pub group-refuted : (before earlier : List CertRecord) (asked : List Word) (since : List CertRecord) (hints : List ℕ) (p : ℕ) (old new : GroupView) → IsOpen before earlier asked since → Closes p asked old.refuted new.refuted
+pub group-refuted : (before earlier : List CertRecord) (asked : List Word) (since : List CertRecord) (hints : List ℕ) (p : ℕ) (old new : GroupView)
+    → IsOpen before earlier asked since → Closes p asked old.refuted new.refuted
     → new.undecided ≡ old.undecided → new.common ≡ old.common → IsGroupOf (group before) p old → IsGroupOf (group (before ++ lines.Refuted hints ∷ [])) p new
 group-refuted before earlier asked since hints p old new x closes undecided common is =
     let step = lines.Refuted hints in
     subst (λ ls. IsGroupOf ls p new) (sym (group-push before step refl)) (record {
-      refuted = more-closed (IsRefutedIn (group before)) (IsRefutedIn (group before ++ step ∷ [])) p asked old.refuted new.refuted (refuted-more (group before) hints asked (asked-there before earlier asked since x)) closes is.refuted;
+      refuted = more-closed (IsRefutedIn (group before)) (IsRefutedIn (group before ++ step ∷ [])) p asked old.refuted new.refuted
+          (refuted-more (group before) hints asked (asked-there before earlier asked since x)) closes is.refuted;
       undecided = subst (AreClosed (IsUndecidedIn (group before ++ step ∷ [])) p) (sym undecided)
-          (same-closed (IsUndecidedIn (group before)) (IsUndecidedIn (group before ++ step ∷ [])) p old.undecided (λ question. undecided-same (group before) step question (λ e. cc)) is.undecided);
-      common = subst (IsCommonOf (installations (group before ++ step ∷ [])) p) (sym common) (subst (λ ms. IsCommonOf ms p old.common) (installed-same (group before) step refl) is.common);
+          (same-closed (IsUndecidedIn (group before)) (IsUndecidedIn (group before ++ step ∷ [])) p old.undecided
+          (λ question. undecided-same (group before) step question (λ e. cc)) is.undecided);
+      common = subst (IsCommonOf (installations (group before ++ step ∷ [])) p) (sym common)
+          (subst (λ ms. IsCommonOf ms p old.common) (installed-same (group before) step refl) is.common);
     })
 
-pub group-undecided : (before earlier : List CertRecord) (asked : List Word) (since : List CertRecord) (p : ℕ) (old new : GroupView) → IsOpen before earlier asked since → Closes p asked old.undecided new.undecided
+pub group-undecided : (before earlier : List CertRecord) (asked : List Word) (since : List CertRecord) (p : ℕ) (old new : GroupView)
+    → IsOpen before earlier asked since → Closes p asked old.undecided new.undecided
     → new.refuted ≡ old.refuted → new.common ≡ old.common → IsGroupOf (group before) p old → IsGroupOf (group (before ++ lines.Undecided ∷ [])) p new
 group-undecided before earlier asked since p old new x closes refuted common is =
     let step = lines.Undecided in
     subst (λ ls. IsGroupOf ls p new) (sym (group-push before step refl)) (record {
-      undecided = more-closed (IsUndecidedIn (group before)) (IsUndecidedIn (group before ++ step ∷ [])) p asked old.undecided new.undecided (undecided-more (group before) asked (asked-there before earlier asked since x)) closes is.undecided;
+      undecided = more-closed (IsUndecidedIn (group before)) (IsUndecidedIn (group before ++ step ∷ [])) p asked old.undecided new.undecided
+          (undecided-more (group before) asked (asked-there before earlier asked since x)) closes is.undecided;
       refuted = subst (AreClosed (IsRefutedIn (group before ++ step ∷ [])) p) (sym refuted)
-          (same-closed (IsRefutedIn (group before)) (IsRefutedIn (group before ++ step ∷ [])) p old.refuted (λ question. refuted-same (group before) step question (λ hints e. cc)) is.refuted);
-      common = subst (IsCommonOf (installations (group before ++ step ∷ [])) p) (sym common) (subst (λ ms. IsCommonOf ms p old.common) (installed-same (group before) step refl) is.common);
+          (same-closed (IsRefutedIn (group before)) (IsRefutedIn (group before ++ step ∷ [])) p old.refuted
+          (λ question. refuted-same (group before) step question (λ hints e. cc)) is.refuted);
+      common = subst (IsCommonOf (installations (group before ++ step ∷ [])) p) (sym common)
+          (subst (λ ms. IsCommonOf ms p old.common) (installed-same (group before) step refl) is.common);
     })
 
 pub group-after_claim : (before : List CertRecord) (step : CertRecord) (p : ℕ) → is_claim step ≡ true → IsGroupOf (group (before ++ step ∷ [])) p empty_group

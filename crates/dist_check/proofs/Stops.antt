@@ -1,5 +1,6 @@
 -- Where the check of a text stops, and why. Two reasons at one place are the same, and none stands before another one.
-use Rattle.std.proofs.Common.{◌≡◌, ◌⊎◌, ⊎_elim, ℕ, ◌+◌, ◌-◌, ◌<◌, ◌≤◌, Bool, List, [], ◌∷◌, ◌++◌, Ok, Err, Result, length, take, refl, ap, sym, subst, ◌∙◌, arith, length-append}
+use Rattle.std.proofs.Common.{◌≡◌, ◌⊎◌, ⊎_elim, ℕ, ◌+◌, ◌-◌, ◌<◌, ◌≤◌, Bool, List, [], ◌∷◌, ◌++◌, Ok, Err, Result, length, take, refl, ap, sym, subst, ◌∙◌}
+use Rattle.std.proofs.Common.{arith, length-append}
 use Rattle.std.specs.List.{All}
 use Rattle.std.proofs.lemmas.Grind.{flat_map-append}
 use Rattle.std.proofs.lemmas.List.Sums.{sum_by-append, sum_by-cons}
@@ -34,7 +35,8 @@ abbrev pub Answer : Type 0
 Answer = Result Verdict WorkError
 
 -- The line behind these records is a derived line without a fault, and with it a number is passed.
-pub record IsPassing (subject : Subject) (limits : Limits) (h : Header) (before : List CertRecord) (rest : List ℕ) (Passes : List (List Literal) → List Literal → Type 0) : Type 0 where
+pub record IsPassing (subject : Subject) (limits : Limits) (h : Header) (before : List CertRecord) (rest : List ℕ)
+    (Passes : List (List Literal) → List Literal → Type 0) : Type 0 where
   pub keeps : KeepsLimits limits (length (certificate_text h before)) rest
   pub literals : List Word
   pub hints : List ℕ
@@ -52,11 +54,12 @@ pub record IsFaulty (subject : Subject) (limits : Limits) (h : Header) (before :
   pub first : IsFirstOf in_order (HasLineFault subject limits h before rest) fault.cause
 
 -- These records are all, and no line is missing behind them.
-pub record IsDone (subject : Subject) (limits : Limits) (h : Header) (before : List CertRecord) (rest : List ℕ) (told : Header) (made : List Claim) : Type 0 where
-  pub header : told ≡ h
-  pub claims : made ≡ claims_in before
-  pub nothing : rest ≡ []
-  pub ends : (cause : CertCause) → ¬ HasLineFault subject limits h before [] cause
+pub record IsDone (subject : Subject) (limits : Limits) (h : Header) (before : List CertRecord) (rest : List ℕ) (told : Header) (made : List Claim) : Type 0
+  where
+    pub header : told ≡ h
+    pub claims : made ≡ claims_in before
+    pub nothing : rest ≡ []
+    pub ends : (cause : CertCause) → ¬ HasLineFault subject limits h before [] cause
 
 -- why a check stops behind these records with an answer
 abbrev pub Reason : Subject → Limits → Header → List CertRecord → List ℕ → Answer → Type 0
@@ -69,7 +72,8 @@ Reason subject limits h before rest (Err (TooLarge Certificate)) = PassesWhole l
 Reason subject limits h before rest other = ⊥
 
 -- The text is read up to behind these records, which have no fault and keep the numbers.
-pub record IsAtPoint (subject : Subject) (inputs : Bool → List (List Literal)) (limits : Limits) (text : List ℕ) (h : Header) (before : List CertRecord) (rest : List ℕ) : Type 0 where
+pub record IsAtPoint (subject : Subject) (inputs : Bool → List (List Literal)) (limits : Limits) (text : List ℕ) (h : Header) (before : List CertRecord)
+    (rest : List ℕ) : Type 0 where
   pub faultless : AreFaultless subject limits text h before rest
   pub numbers : KeepsNumbers limits (inputs h.essential) h before
 
@@ -81,47 +85,66 @@ same-fault fault other line cause = subst (λ n. fault ≡ record { line = n; ca
 pub nothing-begins : (line more rest : List ℕ) → rest ≡ [] → BeginsWith rest line more → ⊥
 nothing-begins line more rest none begins = let n = ap length (sym none ∙ begins.ended) in omega (arith, n, length-append line (line_feed ∷ more))
 
-done-not-faulty : (subject : Subject) (limits : Limits) (h : Header) (before : List CertRecord) (rest : List ℕ) (told : Header) (made : List Claim) (fault : CertFault)
+done-not-faulty : (subject : Subject) (limits : Limits) (h : Header) (before : List CertRecord) (rest : List ℕ) (told : Header) (made : List Claim)
+    (fault : CertFault)
     → IsDone subject limits h before rest told made → IsFaulty subject limits h before rest fault → ⊥
 done-not-faulty subject limits h before rest told made fault done faulty =
-    done.ends fault.cause (subst (λ bytes. HasLineFault subject limits h before bytes fault.cause) done.nothing (has_first (HasLineFault subject limits h before rest) in_order fault.cause faulty.first))
+    done.ends fault.cause (subst (λ bytes. HasLineFault subject limits h before bytes fault.cause) done.nothing
+    (has_first (HasLineFault subject limits h before rest) in_order fault.cause faulty.first))
 
-passing-not-faulty : (subject : Subject) (limits : Limits) (h : Header) (before : List CertRecord) (rest : List ℕ) (Passes : List (List Literal) → List Literal → Type 0) (fault : CertFault)
+passing-not-faulty : (subject : Subject) (limits : Limits) (h : Header) (before : List CertRecord) (rest : List ℕ)
+    (Passes : List (List Literal) → List Literal → Type 0) (fault : CertFault)
     → IsPassing subject limits h before rest Passes → IsFaulty subject limits h before rest fault → ⊥
-passing-not-faulty subject limits h before rest Passes fault passing faulty = passing.none fault.cause (has_first (HasLineFault subject limits h before rest) in_order fault.cause faulty.first)
+passing-not-faulty subject limits h before rest Passes fault passing faulty =
+    passing.none fault.cause (has_first (HasLineFault subject limits h before rest) in_order fault.cause faulty.first)
 
 done-keeps : (limits : Limits) (n : ℕ) (rest : List ℕ) → n ≤ limits.certificate → rest ≡ [] → ¬ PassesWhole limits n rest
 done-keeps limits n rest within none passes = let long = ap length none in omega (arith, within, long, passes.passed)
 
-lines-not-literals : (subject : Subject) (limits : Limits) (h : Header) (before : List CertRecord) (rest : List ℕ) → IsPassing subject limits h before rest (λ lines clause. length lines ≡ limits.lines)
+lines-not-literals : (subject : Subject) (limits : Limits) (h : Header) (before : List CertRecord) (rest : List ℕ)
+    → IsPassing subject limits h before rest (λ lines clause. length lines ≡ limits.lines)
     → IsPassing subject limits h before rest (λ lines clause. (length lines < limits.lines) × (limits.line_literals < literal_count lines + length clause)) → ⊥
 lines-not-literals subject limits h before rest lines literals = omega (arith, lines.passes, literals.passes.0)
 
-pub same-reason : (subject : Subject) (limits : Limits) (h : Header) (before : List CertRecord) (rest : List ℕ) (one other : Answer) → length (certificate_text h before) ≤ limits.certificate
+pub same-reason : (subject : Subject) (limits : Limits) (h : Header) (before : List CertRecord) (rest : List ℕ) (one other : Answer)
+    → length (certificate_text h before) ≤ limits.certificate
     → Reason subject limits h before rest one → Reason subject limits h before rest other → one ≡ other
 same-reason subject limits h before rest (Ok (Accepted g made)) (Ok (Accepted k claims)) kept x y =
     ap (λ n. Ok (Accepted n made)) (x.header ∙ sym y.header) ∙ ap (λ n. Ok (Accepted k n)) (x.claims ∙ sym y.claims)
-same-reason subject limits h before rest (Ok (Accepted g made)) (Ok (Refused fault)) kept x y = absurd (done-not-faulty subject limits h before rest g made fault x y)
+same-reason subject limits h before rest (Ok (Accepted g made)) (Ok (Refused fault)) kept x y =
+    absurd (done-not-faulty subject limits h before rest g made fault x y)
 same-reason subject limits h before rest (Ok (Accepted g made)) (Err (TooLarge Lines)) kept x y = absurd (nothing-begins y.line y.more rest x.nothing y.begins)
-same-reason subject limits h before rest (Ok (Accepted g made)) (Err (TooLarge LineLiterals)) kept x y = absurd (nothing-begins y.line y.more rest x.nothing y.begins)
-same-reason subject limits h before rest (Ok (Accepted g made)) (Err (TooLarge Certificate)) kept x y = absurd (done-keeps limits (length (certificate_text h before)) rest kept x.nothing y)
-same-reason subject limits h before rest (Ok (Refused fault)) (Ok (Accepted g made)) kept x y = absurd (done-not-faulty subject limits h before rest g made fault y x)
+same-reason subject limits h before rest (Ok (Accepted g made)) (Err (TooLarge LineLiterals)) kept x y =
+    absurd (nothing-begins y.line y.more rest x.nothing y.begins)
+same-reason subject limits h before rest (Ok (Accepted g made)) (Err (TooLarge Certificate)) kept x y =
+    absurd (done-keeps limits (length (certificate_text h before)) rest kept x.nothing y)
+same-reason subject limits h before rest (Ok (Refused fault)) (Ok (Accepted g made)) kept x y =
+    absurd (done-not-faulty subject limits h before rest g made fault y x)
 same-reason subject limits h before rest (Ok (Refused fault)) (Ok (Refused other)) kept x y =
-    ap (λ f. Ok (Refused f)) (same-fault fault other (x.line ∙ sym y.line) (one_first (HasLineFault subject limits h before rest) in_order fault.cause other.cause x.first y.first))
-same-reason subject limits h before rest (Ok (Refused fault)) (Err (TooLarge Lines)) kept x y = absurd (passing-not-faulty subject limits h before rest _ fault y x)
-same-reason subject limits h before rest (Ok (Refused fault)) (Err (TooLarge LineLiterals)) kept x y = absurd (passing-not-faulty subject limits h before rest _ fault y x)
+    ap (λ f. Ok (Refused f)) (same-fault fault other (x.line ∙ sym y.line)
+    (one_first (HasLineFault subject limits h before rest) in_order fault.cause other.cause x.first y.first))
+same-reason subject limits h before rest (Ok (Refused fault)) (Err (TooLarge Lines)) kept x y =
+    absurd (passing-not-faulty subject limits h before rest _ fault y x)
+same-reason subject limits h before rest (Ok (Refused fault)) (Err (TooLarge LineLiterals)) kept x y =
+    absurd (passing-not-faulty subject limits h before rest _ fault y x)
 same-reason subject limits h before rest (Ok (Refused fault)) (Err (TooLarge Certificate)) kept x y = absurd (x.bytes y)
 same-reason subject limits h before rest (Err (TooLarge Lines)) (Ok (Accepted g made)) kept x y = absurd (nothing-begins x.line x.more rest y.nothing x.begins)
-same-reason subject limits h before rest (Err (TooLarge Lines)) (Ok (Refused fault)) kept x y = absurd (passing-not-faulty subject limits h before rest _ fault x y)
+same-reason subject limits h before rest (Err (TooLarge Lines)) (Ok (Refused fault)) kept x y =
+    absurd (passing-not-faulty subject limits h before rest _ fault x y)
 same-reason subject limits h before rest (Err (TooLarge Lines)) (Err (TooLarge Lines)) kept x y = refl
-same-reason subject limits h before rest (Err (TooLarge Lines)) (Err (TooLarge LineLiterals)) kept x y = absurd (lines-not-literals subject limits h before rest x y)
+same-reason subject limits h before rest (Err (TooLarge Lines)) (Err (TooLarge LineLiterals)) kept x y =
+    absurd (lines-not-literals subject limits h before rest x y)
 same-reason subject limits h before rest (Err (TooLarge Lines)) (Err (TooLarge Certificate)) kept x y = absurd (x.keeps.whole y)
-same-reason subject limits h before rest (Err (TooLarge LineLiterals)) (Ok (Accepted g made)) kept x y = absurd (nothing-begins x.line x.more rest y.nothing x.begins)
-same-reason subject limits h before rest (Err (TooLarge LineLiterals)) (Ok (Refused fault)) kept x y = absurd (passing-not-faulty subject limits h before rest _ fault x y)
-same-reason subject limits h before rest (Err (TooLarge LineLiterals)) (Err (TooLarge Lines)) kept x y = absurd (lines-not-literals subject limits h before rest y x)
+same-reason subject limits h before rest (Err (TooLarge LineLiterals)) (Ok (Accepted g made)) kept x y =
+    absurd (nothing-begins x.line x.more rest y.nothing x.begins)
+same-reason subject limits h before rest (Err (TooLarge LineLiterals)) (Ok (Refused fault)) kept x y =
+    absurd (passing-not-faulty subject limits h before rest _ fault x y)
+same-reason subject limits h before rest (Err (TooLarge LineLiterals)) (Err (TooLarge Lines)) kept x y =
+    absurd (lines-not-literals subject limits h before rest y x)
 same-reason subject limits h before rest (Err (TooLarge LineLiterals)) (Err (TooLarge LineLiterals)) kept x y = refl
 same-reason subject limits h before rest (Err (TooLarge LineLiterals)) (Err (TooLarge Certificate)) kept x y = absurd (x.keeps.whole y)
-same-reason subject limits h before rest (Err (TooLarge Certificate)) (Ok (Accepted g made)) kept x y = absurd (done-keeps limits (length (certificate_text h before)) rest kept y.nothing x)
+same-reason subject limits h before rest (Err (TooLarge Certificate)) (Ok (Accepted g made)) kept x y =
+    absurd (done-keeps limits (length (certificate_text h before)) rest kept y.nothing x)
 same-reason subject limits h before rest (Err (TooLarge Certificate)) (Ok (Refused fault)) kept x y = absurd (y.bytes x)
 same-reason subject limits h before rest (Err (TooLarge Certificate)) (Err (TooLarge Lines)) kept x y = absurd (y.keeps.whole x)
 same-reason subject limits h before rest (Err (TooLarge Certificate)) (Err (TooLarge LineLiterals)) kept x y = absurd (y.keeps.whole x)
@@ -139,26 +162,32 @@ same-reason subject limits h before rest one other kept x y = absurd y
 
 -- ---- a reason before another place
 
-step-form : (few later many : List CertRecord) (step : CertRecord) → many ≡ few ++ step ∷ later → All (λ s. HasForm (record_text s) s) many → HasForm (record_text step) step
+step-form : (few later many : List CertRecord) (step : CertRecord) → many ≡ few ++ step ∷ later → All (λ s. HasForm (record_text s) s) many
+    → HasForm (record_text step) step
 step-form few later many step is all = all-at (λ s. HasForm (record_text s) s) many few step later is all
 
 -- the next line of the longer reading is the derived one
-same-step : FormsAreClear → (few later : List CertRecord) (step : CertRecord) (rest tail line more : List ℕ) (literals : List Word) (hints : List ℕ) → rest ≡ lines_text (step ∷ later) ++ tail → HasForm (record_text step) step
+same-step : FormsAreClear → (few later : List CertRecord) (step : CertRecord) (rest tail line more : List ℕ) (literals : List Word) (hints : List ℕ)
+    → rest ≡ lines_text (step ∷ later) ++ tail → HasForm (record_text step) step
     → BeginsWith rest line more → HasForm line (Derived literals hints) → step ≡ Derived literals hints
 same-step clear few later step rest tail line more literals hints is form begins derives =
-    let lines = one_line (record_text step) line (lines_text later ++ tail) more (clear.record_line step form) begins.one_line (sym (first_line_of step later tail) ∙ sym is ∙ begins.ended) in
+    let lines = one_line (record_text step) line (lines_text later ++ tail) more (clear.record_line step form) begins.one_line
+    (sym (first_line_of step later tail) ∙ sym is ∙ begins.ended) in
     clear.one_record (record_text step) step (Derived literals hints) form (subst (λ bytes. HasForm bytes (Derived literals hints)) (sym lines.0) derives)
 
 -- the lines of the longer reading have that clause too
-derived-more : (few later many : List CertRecord) (step : CertRecord) (literals : List Word) (hints : List ℕ) → many ≡ few ++ step ∷ later → step ≡ Derived literals hints
+derived-more : (few later many : List CertRecord) (step : CertRecord) (literals : List Word) (hints : List ℕ) → many ≡ few ++ step ∷ later
+    → step ≡ Derived literals hints
     → derived many ≡ derived few ++ clause_of literals ∷ derived later
 derived-more few later many step literals hints is derives =
     ap derived (is ∙ ap (λ (s : CertRecord). few ++ s ∷ later) derives) ∙ flat_map-append derived_in few (Derived literals hints ∷ later)
 
-passed-lines : (limits : Limits) (few later many : List (List Literal)) (clause : List Literal) → many ≡ few ++ clause ∷ later → length many ≤ limits.lines → length few ≡ limits.lines → ⊥
+passed-lines : (limits : Limits) (few later many : List (List Literal)) (clause : List Literal) → many ≡ few ++ clause ∷ later → length many ≤ limits.lines
+    → length few ≡ limits.lines → ⊥
 passed-lines limits few later many clause is within full = let n = ap length is in omega (arith, n, within, full, length-append few (clause ∷ later))
 
-passed-literals : (limits : Limits) (few later many : List (List Literal)) (clause : List Literal) → many ≡ few ++ clause ∷ later → literal_count many ≤ limits.line_literals
+passed-literals : (limits : Limits) (few later many : List (List Literal)) (clause : List Literal) → many ≡ few ++ clause ∷ later
+    → literal_count many ≤ limits.line_literals
     → limits.line_literals < literal_count few + length clause → ⊥
 passed-literals limits few later many clause is within full =
     let n = ap literal_count is in
@@ -167,11 +196,13 @@ passed-literals limits few later many clause is within full =
     omega (arith, n, within, full, sum, one)
 
 -- the bytes of a line and its line feed are among those that are kept
-pub passed-bytes : (limits : Limits) (n : ℕ) (line more rest : List ℕ) → rest ≡ line ++ line_feed ∷ more → n + length line + 1 ≤ limits.certificate → ¬ PassesWhole limits n rest
+pub passed-bytes : (limits : Limits) (n : ℕ) (line more rest : List ℕ) → rest ≡ line ++ line_feed ∷ more → n + length line + 1 ≤ limits.certificate
+    → ¬ PassesWhole limits n rest
 passed-bytes limits n line more rest is kept passes =
     within (limits.certificate - n) line more (omega (arith, kept)) (subst (λ bytes. IsOneLine (take (limits.certificate - n) bytes)) is passes.in_line)
 
-longer-bytes : (h : Header) (few later many : List CertRecord) (step : CertRecord) → many ≡ few ++ step ∷ later → length (certificate_text h few) + length (record_text step) + 1 ≤ length (certificate_text h many)
+longer-bytes : (h : Header) (few later many : List CertRecord) (step : CertRecord) → many ≡ few ++ step ∷ later
+    → length (certificate_text h few) + length (record_text step) + 1 ≤ length (certificate_text h many)
 longer-bytes h few later many step is =
     let same = ap (λ (ls : List CertRecord). length (certificate_text h ls)) is in
     let split = ap length (flat_map-append (λ (s : CertRecord). record_text s ++ line_feed ∷ []) few (step ∷ later)) in
@@ -186,30 +217,37 @@ longer-bytes h few later many step is =
       length-append (record_text step) (line_feed ∷ []),
     )
 
-pub not-before : FormsAreClear → (subject : Subject) (inputs : Bool → List (List Literal)) (limits : Limits) (text : List ℕ) (h other : Header) (few many : List CertRecord) (rest more : List ℕ) (one : Answer) → h ≡ other
+pub not-before : FormsAreClear → (subject : Subject) (inputs : Bool → List (List Literal)) (limits : Limits) (text : List ℕ) (h other : Header)
+    (few many : List CertRecord) (rest more : List ℕ) (one : Answer) → h ≡ other
     → IsAtPoint subject inputs limits text other many more → IsShorter few rest many more → Reason subject limits h few rest one → ⊥
 not-before clear subject inputs limits text h other few many rest more (Ok (Accepted g made)) same point shorter x =
     nothing_more few many more (subst (λ bytes. IsShorter few bytes many more) x.nothing shorter)
 not-before clear subject inputs limits text h other few many rest more (Ok (Refused fault)) same point shorter x =
-    not_faulty subject limits text h other few many rest more fault.cause same point.faultless shorter (has_first (HasLineFault subject limits h few rest) in_order fault.cause x.first)
+    not_faulty subject limits text h other few many rest more fault.cause same point.faultless shorter
+    (has_first (HasLineFault subject limits h few rest) in_order fault.cause x.first)
 not-before clear subject inputs limits text h other few many rest more (Err (TooLarge Lines)) same point shorter x =
     let form = step-form few shorter.1 many shorter.0 shorter.2 point.faultless.reads.records in
     let is = same-step clear few shorter.1 shorter.0 rest more x.line x.more x.literals x.hints shorter.3 form x.begins x.form in
-    passed-lines limits (derived few) (derived shorter.1) (derived many) (clause_of x.literals) (derived-more few shorter.1 many shorter.0 x.literals x.hints shorter.2 is) point.numbers.derived_lines x.passes
+    passed-lines limits (derived few) (derived shorter.1) (derived many) (clause_of x.literals)
+    (derived-more few shorter.1 many shorter.0 x.literals x.hints shorter.2 is) point.numbers.derived_lines x.passes
 not-before clear subject inputs limits text h other few many rest more (Err (TooLarge LineLiterals)) same point shorter x =
     let form = step-form few shorter.1 many shorter.0 shorter.2 point.faultless.reads.records in
     let is = same-step clear few shorter.1 shorter.0 rest more x.line x.more x.literals x.hints shorter.3 form x.begins x.form in
-    passed-literals limits (derived few) (derived shorter.1) (derived many) (clause_of x.literals) (derived-more few shorter.1 many shorter.0 x.literals x.hints shorter.2 is) point.numbers.line_literals x.passes.1
+    passed-literals limits (derived few) (derived shorter.1) (derived many) (clause_of x.literals)
+    (derived-more few shorter.1 many shorter.0 x.literals x.hints shorter.2 is) point.numbers.line_literals x.passes.1
 not-before clear subject inputs limits text h other few many rest more (Err (TooLarge Certificate)) same point shorter x =
     let long = longer-bytes other few shorter.1 many shorter.0 shorter.2 in
     let n : length (certificate_text h few) ≡ length (certificate_text other few) = ap (λ (k : Header). length (certificate_text k few)) same in
-    passed-bytes limits (length (certificate_text h few)) (record_text shorter.0) (lines_text shorter.1 ++ more) rest (shorter.3 ∙ first_line_of shorter.0 shorter.1 more) (omega (arith, long, n, point.numbers.bytes)) x
+    passed-bytes limits (length (certificate_text h few)) (record_text shorter.0) (lines_text shorter.1 ++ more) rest
+    (shorter.3 ∙ first_line_of shorter.0 shorter.1 more) (omega (arith, long, n, point.numbers.bytes)) x
 not-before clear subject inputs limits text h other few many rest more one same point shorter x = x
 
 -- ---- two places
 
-pub one-later : FormsAreClear → (subject : Subject) (inputs : Bool → List (List Literal)) (limits : Limits) (text : List ℕ) (h other : Header) (ones twos : List CertRecord) (rest more : List ℕ) (one two : Answer)
-    → IsAtPoint subject inputs limits text h ones rest → IsAtPoint subject inputs limits text other twos more → Reason subject limits h ones rest one → Reason subject limits other twos more two → one ≡ two
+pub one-later : FormsAreClear → (subject : Subject) (inputs : Bool → List (List Literal)) (limits : Limits) (text : List ℕ) (h other : Header)
+    (ones twos : List CertRecord) (rest more : List ℕ) (one two : Answer)
+    → IsAtPoint subject inputs limits text h ones rest → IsAtPoint subject inputs limits text other twos more → Reason subject limits h ones rest one
+    → Reason subject limits other twos more two → one ≡ two
 one-later clear subject inputs limits text h other ones twos rest more one two x y a b =
     let read = readings clear text h other ones twos rest more x.faultless.reads y.faultless.reads in
     ⊎_elim

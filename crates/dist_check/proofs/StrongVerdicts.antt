@@ -1,7 +1,9 @@
 -- The same of claims on strong dependencies.
-use Rattle.std.proofs.Common.{◌≡◌, ◌≢◌, inl, inr, ⊎_elim, ℕ, ◌+◌, ◌-◌, ◌<◌, ◌≤◌, ◌↔◌, ◌==◌, ◌&&◌, Bool, true, false, not, List, [], ◌∷◌, ◌++◌, Option, Some, None, length, get_or, refl, sym, ap, subst, ◌∙◌, arith, nat_le, slice_get, unwrap_or, if◌then◌else◌}
+use Rattle.std.proofs.Common.{◌≡◌, ◌≢◌, inl, inr, ⊎_elim, ℕ, ◌+◌, ◌-◌, ◌<◌, ◌≤◌, ◌↔◌, ◌==◌, ◌&&◌, Bool, true, false, not, List, [], ◌∷◌, ◌++◌, Option, Some}
+use Rattle.std.proofs.Common.{None, length, get_or, refl, sym, ap, subst, ◌∙◌, arith, nat_le, slice_get, unwrap_or, if◌then◌else◌}
 use Rattle.std.specs.List.{All, Contains, list_all}
-use Rattle.std.proofs.lemmas.Bool.{true≢false, false≢true, and_parts, and_from, cases_lt, eqb-true, eqb-false, ne_eqb, not-true, not_from_false, le-leb, lt-leb, false_from_ne_true}
+use Rattle.std.proofs.lemmas.Bool.{true≢false, false≢true, and_parts, and_from, cases_lt, eqb-true, eqb-false, ne_eqb, not-true, not_from_false, le-leb, lt-leb}
+use Rattle.std.proofs.lemmas.Bool.{false_from_ne_true}
 use Rattle.std.proofs.lemmas.List.{get_or-drop, length-drop}
 use Rattle.std.proofs.lemmas.List.Elements.{All-append, All-contains, All-head, Contains-append_left, Contains-append_right, Contains-append_cases}
 use Rattle.std.proofs.lemmas.Option.{slice_get-get_or, slice_get_past}
@@ -48,7 +50,8 @@ recent-told before number = elim (most-told 1 number) [
 ]
 
 -- how many installations are kept no longer
-forgotten-is : (r : PackageList) (inputs : List (List Literal)) (h : Header) (before : List CertRecord) (s : StateView) → IsAt r inputs h before s → s.window.count - length s.window.kept ≡ length (installations before) - REACH
+forgotten-is : (r : PackageList) (inputs : List (List Literal)) (h : Header) (before : List CertRecord) (s : StateView) → IsAt r inputs h before s
+    → s.window.count - length s.window.kept ≡ length (installations before) - REACH
 forgotten-is r inputs h before s at =
     let size : length s.window.kept ≡ length (installations before) - (length (installations before) - REACH)
     = ap (λ (xs : List (List ℕ)). length xs) at.kept ∙ length-drop (length (installations before) - REACH) (installations before) in
@@ -62,13 +65,15 @@ if-true : {X : Type 0} (b : Bool) (x y : X) → b ≡ true → (if b then x else
 if-true true x y e = refl
 if-true false x y e = absurd (false≢true e)
 
-kept-recent : (r : PackageList) (inputs : List (List Literal)) (h : Header) (before : List CertRecord) (s : StateView) → IsAt r inputs h before s → (number : ℕ) → IsRecent before number
+kept-recent : (r : PackageList) (inputs : List (List Literal)) (h : Header) (before : List CertRecord) (s : StateView) → IsAt r inputs h before s → (number : ℕ)
+    → IsRecent before number
     → kept_at s.window number ≡ Some (installation_at before number)
 kept-recent r inputs h before s at number recent =
     let all = installations before in
     let forgotten : ℕ = s.window.count - length s.window.kept in
     let is : forgotten ≡ length all - REACH = forgotten-is r inputs h before s at in
-    let size : length s.window.kept ≡ length all - (length all - REACH) = ap (λ (xs : List (List ℕ)). length xs) at.kept ∙ length-drop (length all - REACH) all in
+    let size : length s.window.kept ≡ length all - (length all - REACH) = ap (λ (xs : List (List ℕ)). length xs) at.kept
+    ∙ length-drop (length all - REACH) all in
     let place : ℕ = number - forgotten - 1 in
     let within : place < length s.window.kept = omega (arith, is, size, recent.0, recent.1, recent.2) in
     let later : nat_le number forgotten ≡ false = lt-leb number forgotten (omega (arith, is, recent.2, recent.0)) in
@@ -77,13 +82,15 @@ kept-recent r inputs h before s at number recent =
     ∙ ap (λ (m : List ℕ). Some m) (ap (λ (xs : List (List ℕ)). get_or xs place []) at.kept ∙ get_or-drop (length all - REACH) all place []
     ∙ ap (λ (k : ℕ). get_or all k []) (let e : length all - REACH + place ≡ number - 1 = omega (arith, is, recent.0, recent.2) in e))
 
-kept-old : (r : PackageList) (inputs : List (List Literal)) (h : Header) (before : List CertRecord) (s : StateView) → IsAt r inputs h before s → (number : ℕ) → 1 ≤ number → ¬ IsRecent before number
+kept-old : (r : PackageList) (inputs : List (List Literal)) (h : Header) (before : List CertRecord) (s : StateView) → IsAt r inputs h before s → (number : ℕ)
+    → 1 ≤ number → ¬ IsRecent before number
     → kept_at s.window number ≡ None
 kept-old r inputs h before s at number from old =
     let all = installations before in
     let forgotten : ℕ = s.window.count - length s.window.kept in
     let is : forgotten ≡ length all - REACH = forgotten-is r inputs h before s at in
-    let size : length s.window.kept ≡ length all - (length all - REACH) = ap (λ (xs : List (List ℕ)). length xs) at.kept ∙ length-drop (length all - REACH) all in
+    let size : length s.window.kept ≡ length all - (length all - REACH) = ap (λ (xs : List (List ℕ)). length xs) at.kept
+    ∙ length-drop (length all - REACH) all in
     elim (cases_lt forgotten number) [
       | inr early ↦ if-true (nat_le number forgotten) None (slice_get s.window.kept (number - forgotten - 1)) (le-leb number forgotten early)
       | inl late ↦
@@ -95,14 +102,16 @@ kept-old r inputs h before s at number from old =
     ]
 
 -- a member of a recent installation
-pub member-tests : (r : PackageList) (inputs : List (List Literal)) (h : Header) (before : List CertRecord) (s : StateView) → IsAt r inputs h before s → (named : List ℕ) → AreFromOne named → (q : ℕ)
+pub member-tests : (r : PackageList) (inputs : List (List Literal)) (h : Header) (before : List CertRecord) (s : StateView) → IsAt r inputs h before s
+    → (named : List ℕ) → AreFromOne named → (q : ℕ)
     → Tests (λ number. has_member (kept_at s.window number) q) (IsNamed before q) named
 member-tests r inputs h before s at named from_one q number there = elim (recent-told before number) [
   | inl recent ↦
       let is = ap (λ (kept : Option (List ℕ)). has_member kept q) (kept-recent r inputs h before s at number recent) in
       ((λ e. (recent, from-any q (installation_at before number) (sym is ∙ e))), λ h. is ∙ any-from q (installation_at before number) h.1)
   | inr old ↦
-      let is = ap (λ (kept : Option (List ℕ)). has_member kept q) (kept-old r inputs h before s at number (All-contains (λ n. 1 ≤ n) named number from_one there) old) in
+      let is = ap (λ (kept : Option (List ℕ)). has_member kept q)
+      (kept-old r inputs h before s at number (All-contains (λ n. 1 ≤ n) named number from_one there) old) in
       ((λ e. absurd (false≢true (sym is ∙ e))), λ h. absurd (old h.0))
 ]
 
@@ -110,10 +119,12 @@ member-tests r inputs h before s at named from_one q number there = elim (recent
 abbrev pub InNamed : List CertRecord → List ℕ → ℕ → Type 0
 InNamed before named q = All (λ number. Contains (installation_at before number) q) named
 
-in-named : (r : PackageList) (inputs : List (List Literal)) (h : Header) (before : List CertRecord) (s : StateView) → IsAt r inputs h before s → (named : List ℕ) → AreFromOne named → (p : ℕ) → All (IsNamed before p) named → (q : ℕ)
+in-named : (r : PackageList) (inputs : List (List Literal)) (h : Header) (before : List CertRecord) (s : StateView) → IsAt r inputs h before s
+    → (named : List ℕ) → AreFromOne named → (p : ℕ) → All (IsNamed before p) named → (q : ℕ)
     → (in_each s.window named q ≡ true) ↔ InNamed before named q
 in-named r inputs h before s at named from_one p names q =
-    let tested = all-tested (λ number. has_member (kept_at s.window number) q) (IsNamed before q) named (member-tests r inputs h before s at named from_one q) in
+    let tested = all-tested (λ number. has_member (kept_at s.window number) q) (IsNamed before q) named
+    (member-tests r inputs h before s at named from_one q) in
     ((λ e k d within. (tested.0 e k d within).1), λ all. tested.1 (λ k d within. ((names k d within).0, all k d within)))
 
 -- ---- what is in all of a claim's installations
@@ -122,8 +133,10 @@ GroupHas : List CertRecord → ℕ → ℕ → Type 0
 GroupHas before p q = All (λ m. Contains m p → Contains m q) (installations (group before))
 
 -- the first list that is looked at
-candidates-there : (r : PackageList) (inputs : List (List Literal)) (h : Header) (before : List CertRecord) (s : StateView) → IsAt r inputs h before s → (named : List ℕ) (p : ℕ) → 0 < length named → All (IsNamed before p) named
-    → (common : Option (List ℕ)) → IsCommonOf (installations (group before)) p common → (q : ℕ) → InNamed before named q → Contains (candidates s.window common named) q ↔ GroupHas before p q
+candidates-there : (r : PackageList) (inputs : List (List Literal)) (h : Header) (before : List CertRecord) (s : StateView) → IsAt r inputs h before s
+    → (named : List ℕ) (p : ℕ) → 0 < length named → All (IsNamed before p) named
+    → (common : Option (List ℕ)) → IsCommonOf (installations (group before)) p common → (q : ℕ) → InNamed before named q
+    → Contains (candidates s.window common named) q ↔ GroupHas before p q
 unfolding GroupHas
 candidates-there r inputs h before s at named p some names (Some common) is q in_all = is.1 q
 candidates-there r inputs h before s at [] p some names None is q in_all = absurd (omega (arith, some))
@@ -134,8 +147,10 @@ candidates-there r inputs h before s at (number ∷ named) p some names None is 
       λ all. subst (λ (found : Option (List ℕ)). Contains (unwrap_or found []) q) (sym kept) first,
     )
 
-always-is : (r : PackageList) (inputs : List (List Literal)) (h : Header) (before : List CertRecord) (s : StateView) → IsAt r inputs h before s → (named : List ℕ) → AreFromOne named → (p : ℕ) → 0 < length named
-    → All (IsNamed before p) named → (common : Option (List ℕ)) → IsCommonOf (installations (group before)) p common → (q : ℕ) → (is_always s.window common named q ≡ true) ↔ IsInEach before named p q
+always-is : (r : PackageList) (inputs : List (List Literal)) (h : Header) (before : List CertRecord) (s : StateView) → IsAt r inputs h before s
+    → (named : List ℕ) → AreFromOne named → (p : ℕ) → 0 < length named
+    → All (IsNamed before p) named → (common : Option (List ℕ)) → IsCommonOf (installations (group before)) p common → (q : ℕ)
+    → (is_always s.window common named q ≡ true) ↔ IsInEach before named p q
 unfolding GroupHas
 always-is r inputs h before s at named from_one p some names common is q =
     let each = in-named r inputs h before s at named from_one p names q in (
@@ -145,64 +160,83 @@ always-is r inputs h before s at named from_one p some names common is q =
           (in_all, (candidates-there r inputs h before s at named p some names common is q in_all).0 (from-any q (candidates s.window common named) parts.0))),
       λ holds.
           and_from (is_among (candidates s.window common named) q) (in_each s.window named q)
-          (any-from q (candidates s.window common named) ((candidates-there r inputs h before s at named p some names common is q holds.0).1 holds.1)) (each.1 holds.0),
+          (any-from q (candidates s.window common named) ((candidates-there r inputs h before s at named p some names common is q holds.0).1 holds.1))
+          (each.1 holds.0),
     )
 
 -- ---- the rules
 
 -- What is known where a claim on the next package is looked at.
-record IsClaimed (r : PackageList) (inputs : List (List Literal)) (h : Header) (before : List CertRecord) (s : StateView) (p : ℕ) (named : List ℕ) : Type 0 where
-  at : IsAt r inputs h before s
-  right : AreRight (matter_of r h.essential inputs) h before
-  forms : HaveForms before
-  next : s.next ≡ p
-  from_one : AreFromOne named
-  some : 0 < length named
+record IsClaimed (r : PackageList) (inputs : List (List Literal)) (h : Header) (before : List CertRecord) (s : StateView) (p : ℕ) (named : List ℕ) : Type 0
+  where
+    at : IsAt r inputs h before s
+    right : AreRight (matter_of r h.essential inputs) h before
+    forms : HaveForms before
+    next : s.next ≡ p
+    from_one : AreFromOne named
+    some : 0 < length named
 
-common-of : (r : PackageList) (inputs : List (List Literal)) (h : Header) (before : List CertRecord) (s : StateView) (p : ℕ) (named : List ℕ) → IsClaimed r inputs h before s p named → IsCommonOf (installations (group before)) p s.group.common
+common-of : (r : PackageList) (inputs : List (List Literal)) (h : Header) (before : List CertRecord) (s : StateView) (p : ℕ) (named : List ℕ)
+    → IsClaimed r inputs h before s p named → IsCommonOf (installations (group before)) p s.group.common
 common-of r inputs h before s p named x = subst (λ n. IsCommonOf (installations (group before)) n s.group.common) x.next x.at.group_is.common
 
-refuted-tests : (r : PackageList) (inputs : List (List Literal)) (h : Header) (before : List CertRecord) (s : StateView) (p : ℕ) (named : List ℕ) → IsClaimed r inputs h before s p named → (numbers : List ℕ)
+refuted-tests : (r : PackageList) (inputs : List (List Literal)) (h : Header) (before : List CertRecord) (s : StateView) (p : ℕ) (named : List ℕ)
+    → IsClaimed r inputs h before s p named → (numbers : List ℕ)
     → Tests (is_among s.group.refuted.without) (λ q. IsRefutedIn (group before) (yes p ∷ no q ∷ [])) numbers
-refuted-tests r inputs h before s p named x numbers q there = subst (λ n. (is_among s.group.refuted.without q ≡ true) ↔ IsRefutedIn (group before) (yes n ∷ no q ∷ [])) x.next (x.at.group_is.refuted.without q)
+refuted-tests r inputs h before s p named x numbers q there =
+    subst (λ n. (is_among s.group.refuted.without q ≡ true) ↔ IsRefutedIn (group before) (yes n ∷ no q ∷ [])) x.next (x.at.group_is.refuted.without q)
 
-undecided-tests : (r : PackageList) (inputs : List (List Literal)) (h : Header) (before : List CertRecord) (s : StateView) (p : ℕ) (named : List ℕ) → IsClaimed r inputs h before s p named → (numbers : List ℕ)
+undecided-tests : (r : PackageList) (inputs : List (List Literal)) (h : Header) (before : List CertRecord) (s : StateView) (p : ℕ) (named : List ℕ)
+    → IsClaimed r inputs h before s p named → (numbers : List ℕ)
     → Tests (is_among s.group.undecided.without) (λ q. IsUndecidedIn (group before) (yes p ∷ no q ∷ [])) numbers
-undecided-tests r inputs h before s p named x numbers q there = subst (λ n. (is_among s.group.undecided.without q ≡ true) ↔ IsUndecidedIn (group before) (yes n ∷ no q ∷ [])) x.next (x.at.group_is.undecided.without q)
+undecided-tests r inputs h before s p named x numbers q there =
+    subst (λ n. (is_among s.group.undecided.without q ≡ true) ↔ IsUndecidedIn (group before) (yes n ∷ no q ∷ [])) x.next (x.at.group_is.undecided.without q)
 
-names-tested : (r : PackageList) (inputs : List (List Literal)) (h : Header) (before : List CertRecord) (s : StateView) (p : ℕ) (named : List ℕ) → IsClaimed r inputs h before s p named
+names-tested : (r : PackageList) (inputs : List (List Literal)) (h : Header) (before : List CertRecord) (s : StateView) (p : ℕ) (named : List ℕ)
+    → IsClaimed r inputs h before s p named
     → (in_each s.window named p ≡ true) ↔ All (IsNamed before p) named
-names-tested r inputs h before s p named x = all-tested (λ number. has_member (kept_at s.window number) p) (IsNamed before p) named (member-tests r inputs h before s x.at named x.from_one p)
+names-tested r inputs h before s p named x = all-tested (λ number. has_member (kept_at s.window number) p) (IsNamed before p) named
+    (member-tests r inputs h before s x.at named x.from_one p)
 
 Other : PackageList → ℕ → ℕ → Type 0
 Other r p q = (q ≢ p) × (q ≤ length r.packages)
 
-others-tested : (r : PackageList) (inputs : List (List Literal)) (h : Header) (before : List CertRecord) (s : StateView) (p : ℕ) (named : List ℕ) → IsClaimed r inputs h before s p named → (numbers : List ℕ)
+others-tested : (r : PackageList) (inputs : List (List Literal)) (h : Header) (before : List CertRecord) (s : StateView) (p : ℕ) (named : List ℕ)
+    → IsClaimed r inputs h before s p named → (numbers : List ℕ)
     → (list_all (λ q. not (q == p) && nat_le q s.packages) numbers ≡ true) ↔ All (λ q. (q ≢ p) × (q ≤ length r.packages)) numbers
 others-tested r inputs h before s p named x numbers =
     subst (λ n. (list_all (λ q. not (q == p) && nat_le q n) numbers ≡ true) ↔ All (λ q. (q ≢ p) × (q ≤ length r.packages)) numbers) (sym x.at.packages)
-    (all-tested (λ q. not (q == p) && nat_le q (length r.packages)) (λ q. (q ≢ p) × (q ≤ length r.packages)) numbers (other-tests p (length r.packages) numbers))
+    (all-tested (λ q. not (q == p) && nat_le q (length r.packages)) (λ q. (q ≢ p) × (q ≤ length r.packages)) numbers
+    (other-tests p (length r.packages) numbers))
 
-always-tests : (r : PackageList) (inputs : List (List Literal)) (h : Header) (before : List CertRecord) (s : StateView) (p : ℕ) (named : List ℕ) → IsClaimed r inputs h before s p named → All (IsNamed before p) named → (numbers : List ℕ)
+always-tests : (r : PackageList) (inputs : List (List Literal)) (h : Header) (before : List CertRecord) (s : StateView) (p : ℕ) (named : List ℕ)
+    → IsClaimed r inputs h before s p named → All (IsNamed before p) named → (numbers : List ℕ)
     → Tests (is_always s.window s.group.common named) (IsInEach before named p) numbers
-always-tests r inputs h before s p named x names numbers q there = always-is r inputs h before s x.at named x.from_one p x.some names s.group.common (common-of r inputs h before s p named x) q
+always-tests r inputs h before s p named x names numbers q there =
+    always-is r inputs h before s x.at named x.from_one p x.some names s.group.common (common-of r inputs h before s p named x) q
 
-holds-from : (r : PackageList) (inputs : List (List Literal)) (h : Header) (before : List CertRecord) (s : StateView) (p : ℕ) (named on undecided : List ℕ) → IsClaimed r inputs h before s p named
+holds-from : (r : PackageList) (inputs : List (List Literal)) (h : Header) (before : List CertRecord) (s : StateView) (p : ℕ) (named on undecided : List ℕ)
+    → IsClaimed r inputs h before s p named
     → PassesStrong s.window s.group s.packages p named on undecided → HoldsStrong (matter_of r h.essential inputs) before p named on undecided
 holds-from r inputs h before s p named on undecided x passes =
     let names = (names-tested r inputs h before s p named x).0 passes.lists.names in
-    let closed = (all-tested (is_among s.group.undecided.without) (λ q. IsUndecidedIn (group before) (yes p ∷ no q ∷ [])) undecided (undecided-tests r inputs h before s p named x undecided)).0 passes.lists.open_still in
-    let always = (all-tested (is_always s.window s.group.common named) (IsInEach before named p) undecided (always-tests r inputs h before s p named x names undecided)).0 passes.always in
+    let closed = (all-tested (is_among s.group.undecided.without) (λ q. IsUndecidedIn (group before) (yes p ∷ no q ∷ [])) undecided
+    (undecided-tests r inputs h before s p named x undecided)).0 passes.lists.open_still in
+    let always = (all-tested (is_always s.window s.group.common named) (IsInEach before named p) undecided
+    (always-tests r inputs h before s p named x names undecided)).0 passes.always in
     record {
       names = names;
       rising = (passes.lists.rising, passes.lists.undecided_rising);
       apart = (none-tested (is_among undecided) (λ q. Contains undecided q) on (among-tests undecided on)).0 passes.lists.apart;
-      others = All-append (λ q. (q ≢ p) × (q ≤ length r.packages)) on undecided ((others-tested r inputs h before s p named x on).0 passes.lists.others) ((others-tested r inputs h before s p named x undecided).0 passes.lists.undecided_others);
-      refuted = (all-tested (is_among s.group.refuted.without) (λ q. IsRefutedIn (group before) (yes p ∷ no q ∷ [])) on (refuted-tests r inputs h before s p named x on)).0 passes.lists.refuted;
+      others = All-append (λ q. (q ≢ p) × (q ≤ length r.packages)) on undecided ((others-tested r inputs h before s p named x on).0 passes.lists.others)
+          ((others-tested r inputs h before s p named x undecided).0 passes.lists.undecided_others);
+      refuted = (all-tested (is_among s.group.refuted.without) (λ q. IsRefutedIn (group before) (yes p ∷ no q ∷ [])) on
+          (refuted-tests r inputs h before s p named x on)).0 passes.lists.refuted;
       open_still = λ k d within. (closed k d within, always k d within);
     }
 
-passes-from : (r : PackageList) (inputs : List (List Literal)) (h : Header) (before : List CertRecord) (s : StateView) (p : ℕ) (named on undecided : List ℕ) → IsClaimed r inputs h before s p named
+passes-from : (r : PackageList) (inputs : List (List Literal)) (h : Header) (before : List CertRecord) (s : StateView) (p : ℕ) (named on undecided : List ℕ)
+    → IsClaimed r inputs h before s p named
     → HoldsStrong (matter_of r h.essential inputs) before p named on undecided → PassesStrong s.window s.group s.packages p named on undecided
 passes-from r inputs h before s p named on undecided x holds =
     let IsOther : ℕ → Type 0 = λ q. (q ≢ p) × (q ≤ length r.packages) in record {
@@ -211,20 +245,25 @@ passes-from r inputs h before s p named on undecided x holds =
         rising = holds.rising.0;
         undecided_rising = holds.rising.1;
         apart = (none-tested (is_among undecided) (λ q. Contains undecided q) on (among-tests undecided on)).1 holds.apart;
-        others = (others-tested r inputs h before s p named x on).1 (all-contained IsOther on (λ q there. All-contains IsOther (on ++ undecided) q holds.others (Contains-append_left on undecided q there)));
+        others = (others-tested r inputs h before s p named x on).1
+            (all-contained IsOther on (λ q there. All-contains IsOther (on ++ undecided) q holds.others (Contains-append_left on undecided q there)));
         undecided_others = (others-tested r inputs h before s p named x undecided).1
             (all-contained IsOther undecided (λ q there. All-contains IsOther (on ++ undecided) q holds.others (Contains-append_right on undecided q there)));
-        refuted = (all-tested (is_among s.group.refuted.without) (λ q. IsRefutedIn (group before) (yes p ∷ no q ∷ [])) on (refuted-tests r inputs h before s p named x on)).1 holds.refuted;
-        open_still = (all-tested (is_among s.group.undecided.without) (λ q. IsUndecidedIn (group before) (yes p ∷ no q ∷ [])) undecided (undecided-tests r inputs h before s p named x undecided)).1
+        refuted = (all-tested (is_among s.group.refuted.without) (λ q. IsRefutedIn (group before) (yes p ∷ no q ∷ [])) on
+            (refuted-tests r inputs h before s p named x on)).1 holds.refuted;
+        open_still = (all-tested (is_among s.group.undecided.without) (λ q. IsUndecidedIn (group before) (yes p ∷ no q ∷ [])) undecided
+            (undecided-tests r inputs h before s p named x undecided)).1
             (λ k d within. (holds.open_still k d within).0);
       };
-      always = (all-tested (is_always s.window s.group.common named) (IsInEach before named p) undecided (always-tests r inputs h before s p named x holds.names undecided)).1 (λ k d within. (holds.open_still k d within).1);
+      always = (all-tested (is_always s.window s.group.common named) (IsInEach before named p) undecided
+          (always-tests r inputs h before s p named x holds.names undecided)).1 (λ k d within. (holds.open_still k d within).1);
     }
 
 -- ---- what is left out
 
 -- a member of a numbered installation is a package
-member-range : (r : PackageList) (inputs : List (List Literal)) (h : Header) (before : List CertRecord) → AreRight (matter_of r h.essential inputs) h before → HaveForms before → (members : List ℕ) → Contains (installations before) members
+member-range : (r : PackageList) (inputs : List (List Literal)) (h : Header) (before : List CertRecord) → AreRight (matter_of r h.essential inputs) h before
+    → HaveForms before → (members : List ℕ) → Contains (installations before) members
     → (q : ℕ) → Contains members q → (1 ≤ q) × (q ≤ length r.packages)
 member-range r inputs h before right forms members there q among =
     let line = line-of before members there in
@@ -252,8 +291,10 @@ not-among numbers q e there = true≢false (sym (any-from q numbers there) ∙ n
 among-not : (numbers : List ℕ) (q : ℕ) → ¬ Contains numbers q → not (is_among numbers q) ≡ true
 among-not numbers q never = not_from_false (is_among numbers q) (false_from_ne_true (is_among numbers q) (λ e. never (from-any q numbers e)))
 
-omitted-tests : (r : PackageList) (inputs : List (List Literal)) (h : Header) (before : List CertRecord) (s : StateView) (p : ℕ) (named on undecided : List ℕ) → IsClaimed r inputs h before s p named → All (IsNamed before p) named
-    → Tests (λ q. not (q == p) && not (is_among on q) && not (is_among undecided q) && in_each s.window named q) (Omitted before named p on undecided) (candidates s.window s.group.common named)
+omitted-tests : (r : PackageList) (inputs : List (List Literal)) (h : Header) (before : List CertRecord) (s : StateView) (p : ℕ) (named on undecided : List ℕ)
+    → IsClaimed r inputs h before s p named → All (IsNamed before p) named
+    → Tests (λ q. not (q == p) && not (is_among on q) && not (is_among undecided q) && in_each s.window named q) (Omitted before named p on undecided)
+    (candidates s.window s.group.common named)
 unfolding Omitted
 omitted-tests r inputs h before s p named on undecided x names q there =
     let each = in-named r inputs h before s x.at named x.from_one p names q in
@@ -281,11 +322,13 @@ first-named : (named : List ℕ) → 0 < length named → Contains named (get_or
 first-named [] some = absurd (omega (arith, some))
 first-named (n ∷ named) some = (0, omega arith, refl)
 
-omits-from : (r : PackageList) (inputs : List (List Literal)) (h : Header) (before : List CertRecord) (s : StateView) (p : ℕ) (named on undecided : List ℕ) → IsClaimed r inputs h before s p named → All (IsNamed before p) named
+omits-from : (r : PackageList) (inputs : List (List Literal)) (h : Header) (before : List CertRecord) (s : StateView) (p : ℕ) (named on undecided : List ℕ)
+    → IsClaimed r inputs h before s p named → All (IsNamed before p) named
     → (omits_package s.window s.group p named on undecided ≡ true) ↔ OmitsPackage (matter_of r h.essential inputs) before p named (on ++ undecided)
 unfolding Omitted
 omits-from r inputs h before s p named on undecided x names =
-    let tested = any-tested (λ q. not (q == p) && not (is_among on q) && not (is_among undecided q) && in_each s.window named q) (Omitted before named p on undecided) (candidates s.window s.group.common named)
+    let tested = any-tested (λ q. not (q == p) && not (is_among on q) && not (is_among undecided q) && in_each s.window named q)
+    (Omitted before named p on undecided) (candidates s.window s.group.common named)
     (omitted-tests r inputs h before s p named on undecided x names) in (
       (λ omits.
           let any = tested.0 omits in
@@ -294,12 +337,14 @@ omits-from r inputs h before s p named on undecided x names =
           let first = get_or named 0 0 in
           let there = first-named named x.some in
           let holds : Contains (installation_at before first) q = All-contains (λ n. Contains (installation_at before n) q) named first omitted.3.0 there in
-          let range = member-range r inputs h before x.right x.forms (installation_at before first) (recent-there before first (All-contains (IsNamed before p) named first names there).0) q holds in
+          let range = member-range r inputs h before x.right x.forms (installation_at before first)
+          (recent-there before first (All-contains (IsNamed before p) named first names there).0) q holds in
           (q, range.0, range.1, omitted.0, omitted.3, λ among. ⊎_elim omitted.1 omitted.2 (Contains-append_cases on undecided q among))),
       λ omits.
           let q = omits.0 in
           let all = always-is r inputs h before s x.at named x.from_one p x.some names s.group.common (common-of r inputs h before s p named x) q in
-          let there = from-any q (candidates s.window s.group.common named) (and_parts (is_among (candidates s.window s.group.common named) q) (in_each s.window named q) (all.1 omits.4)).0 in
+          let there = from-any q (candidates s.window s.group.common named)
+          (and_parts (is_among (candidates s.window s.group.common named) q) (in_each s.window named q) (all.1 omits.4)).0 in
           tested.1 (
             there.0,
             q,
@@ -311,15 +356,25 @@ omits-from r inputs h before s p named on undecided x names =
 
 -- ---- the verdict
 
-pub strong-verdict : (r : PackageList) (inputs : List (List Literal)) (h : Header) (before : List CertRecord) (s : StateView) → h.kind ≡ kinds.Strong → IsAt r inputs h before s → AreRight (matter_of r h.essential inputs) h before → HaveForms before
+pub strong-verdict : (r : PackageList) (inputs : List (List Literal)) (h : Header) (before : List CertRecord) (s : StateView) → h.kind ≡ kinds.Strong
+    → IsAt r inputs h before s → AreRight (matter_of r h.essential inputs) h before → HaveForms before
     → (p : ℕ) (named on undecided : List ℕ) → KeepsRules (lines.Strong p named on undecided) → (found : Option CertCause)
-    → TellsStrong (is_next s.next s.packages p) s.window s.group s.packages p named on undecided found → IsVerdict r inputs h before (lines.Strong p named on undecided) found
+    → TellsStrong (is_next s.next s.packages p) s.window s.group s.packages p named on undecided found
+    → IsVerdict r inputs h before (lines.Strong p named on undecided) found
 strong-verdict r inputs h before s strong at right forms p named on undecided rules found told = by (is_next s.next s.packages p) refl told
   where
     claimed : is_next s.next s.packages p ≡ true → IsClaimed r inputs h before s p named
-    claimed next = record { at = at; right = right; forms = forms; next = sym (eqb-true p s.next (and_parts (p == s.next) (nat_le p s.packages) next).0); from_one = rules.2; some = rules.1 }
+    claimed next = record {
+      at = at;
+      right = right;
+      forms = forms;
+      next = sym (eqb-true p s.next (and_parts (p == s.next) (nat_le p s.packages) next).0);
+      from_one = rules.2;
+      some = rules.1;
+    }
 
-    ruled : is_next s.next s.packages p ≡ true → (f : Option CertCause) → TellsRules s.window s.group s.packages p named on undecided f → IsVerdict r inputs h before (lines.Strong p named on undecided) f
+    ruled : is_next s.next s.packages p ≡ true → (f : Option CertCause) → TellsRules s.window s.group s.packages p named on undecided f
+        → IsVerdict r inputs h before (lines.Strong p named on undecided) f
     ruled next None t =
         let x = claimed next in
         let holds = holds-from r inputs h before s p named on undecided x t.0 in
@@ -335,7 +390,8 @@ strong-verdict r inputs h before s strong at right forms p named on undecided ru
         ((omits-from r inputs h before s p named on undecided x holds.names).0 t.1)
     ruled next (Some cause) t = absurd t
 
-    by : (b : Bool) → is_next s.next s.packages p ≡ b → TellsStrong b s.window s.group s.packages p named on undecided found → IsVerdict r inputs h before (lines.Strong p named on undecided) found
+    by : (b : Bool) → is_next s.next s.packages p ≡ b → TellsStrong b s.window s.group s.packages p named on undecided found
+        → IsVerdict r inputs h before (lines.Strong p named on undecided) found
     by true next t = ruled next found t
     by false other t =
         subst (IsVerdict r inputs h before (lines.Strong p named on undecided)) (sym t)

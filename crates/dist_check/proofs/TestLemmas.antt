@@ -1,7 +1,8 @@
 -- Tests of all or some numbers, and what they say.
 use Rattle.std.proofs.Common.{◌≡◌, ◌≢◌, inl, inr, ℕ, ◌≤◌, ◌↔◌, ◌==◌, ◌&&◌, ◌||◌, Bool, true, false, not, List, [], ◌∷◌, refl, sym, ap, ◌∙◌, arith, nat_le}
 use Rattle.std.specs.List.{All, Any, Contains, list_all, list_any}
-use Rattle.std.proofs.lemmas.Bool.{false≢true, cases_Bool, and_parts, and_from, or_cases, or_parts, or_left, or_right, leb-true, le-leb, eqb-false, ne_eqb, not-true, not_from_false}
+use Rattle.std.proofs.lemmas.Bool.{false≢true, cases_Bool, and_parts, and_from, or_cases, or_parts, or_left, or_right, leb-true, le-leb, eqb-false, ne_eqb}
+use Rattle.std.proofs.lemmas.Bool.{not-true, not_from_false}
 use Rattle.std.proofs.lemmas.List.Elements.{All-nil, All-cons, All-head, All-tail}
 use Rattle.dist_base.specs.ListLaws.{any-cases, any-head, any-later}
 use Rattle.dist_cert.specs.Rising.{is_among}

@@ -1,5 +1,6 @@
 -- What is told of a line by what is kept is its first fault, or that it has none.
-use Rattle.std.proofs.Common.{◌≡◌, inl, inr, ℕ, ◌+◌, ◌-◌, ◌<◌, ◌≤◌, true, false, List, [], ◌∷◌, ◌++◌, Option, Some, None, length, get_or, map, take, refl, sym, ap, subst, ◌∙◌, append_assoc, arith, length-append}
+use Rattle.std.proofs.Common.{◌≡◌, inl, inr, ℕ, ◌+◌, ◌-◌, ◌<◌, ◌≤◌, true, false, List, [], ◌∷◌, ◌++◌, Option, Some, None, length, get_or, map, take, refl, sym}
+use Rattle.std.proofs.Common.{ap, subst, ◌∙◌, append_assoc, arith, length-append}
 use Rattle.std.specs.List.{All, Any}
 use Rattle.std.proofs.lemmas.Bool.{false≢true, cases_lt}
 use Rattle.std.proofs.lemmas.List.{take_at, get_or_at}
@@ -44,11 +45,14 @@ none-out : (last : ℕ) (numbers : List ℕ) → is_above last numbers ≡ false
 none-out last numbers none = any-above last numbers (none-above last numbers none)
 
 -- at the number of packages and of clauses that is kept
-pub range-none : (last packages : ℕ) (words : List Word) → last ≡ packages → names_above last words ≡ false → ¬ Any (λ n. packages < n) (map (λ word. word.0) words)
-range-none last packages words same none = subst (λ n. ¬ Any (λ m. n < m) (map (λ word. word.0) words)) same (none-out last (map (λ word. word.0) words) (sym (words-above last words) ∙ none))
+pub range-none : (last packages : ℕ) (words : List Word) → last ≡ packages → names_above last words ≡ false
+    → ¬ Any (λ n. packages < n) (map (λ word. word.0) words)
+range-none last packages words same none = subst (λ n. ¬ Any (λ m. n < m) (map (λ word. word.0) words)) same
+    (none-out last (map (λ word. word.0) words) (sym (words-above last words) ∙ none))
 
 range-some : (last packages : ℕ) (words : List Word) → last ≡ packages → names_above last words ≡ true → Any (λ n. packages < n) (map (λ word. word.0) words)
-range-some last packages words same some = subst (λ n. Any (λ m. n < m) (map (λ word. word.0) words)) same (some-above last (map (λ word. word.0) words) (sym (words-above last words) ∙ some))
+range-some last packages words same some = subst (λ n. Any (λ m. n < m) (map (λ word. word.0) words)) same
+    (some-above last (map (λ word. word.0) words) (sym (words-above last words) ∙ some))
 
 hints-none : (last clauses : ℕ) (hints : List ℕ) → last ≡ clauses → is_above last hints ≡ false → ¬ Any (λ n. clauses < n) hints
 hints-none last clauses hints same none = subst (λ n. ¬ Any (λ m. n < m) hints) same (none-out last hints none)
@@ -58,42 +62,55 @@ hints-some last clauses hints same some = subst (λ n. Any (λ m. n < m) hints) 
 
 -- ---- questions
 
-pub question-verdict : (r : PackageList) (inputs : List (List Literal)) (h : Header) (before : List CertRecord) (s : StateView) → h.kind ≡ kinds.Strong → IsAt r inputs h before s → (literals : List Word) (found : Option CertCause)
+pub question-verdict : (r : PackageList) (inputs : List (List Literal)) (h : Header) (before : List CertRecord) (s : StateView) → h.kind ≡ kinds.Strong
+    → IsAt r inputs h before s → (literals : List Word) (found : Option CertCause)
     → TellsQuestion s.packages literals found → IsVerdict r inputs h before (lines.Question literals) found
-question-verdict r inputs h before s strong at literals None told = faultless-from (matter_of r h.essential inputs) h before (lines.Question literals) strong none
+question-verdict r inputs h before s strong at literals None told =
+    faultless-from (matter_of r h.essential inputs) h before (lines.Question literals) strong none
   where
-    none : (cause : CertCause) → may_have (lines.Question literals) cause ≡ true → ¬ HasRecordFault (matter_of r h.essential inputs) h before (lines.Question literals) cause
+    none : (cause : CertCause) → may_have (lines.Question literals) cause ≡ true
+        → ¬ HasRecordFault (matter_of r h.essential inputs) h before (lines.Question literals) cause
     none causes.OutOfRange may fault = range-none s.packages (length r.packages) literals at.packages told fault
     none cause may fault = false≢true may
 question-verdict r inputs h before s strong at literals (Some causes.OutOfRange) told =
-    first-from (matter_of r h.essential inputs) h before (lines.Question literals) causes.OutOfRange strong (range-some s.packages (length r.packages) literals at.packages told) none
+    first-from (matter_of r h.essential inputs) h before (lines.Question literals) causes.OutOfRange strong
+    (range-some s.packages (length r.packages) literals at.packages told) none
   where
-    none : (cause : CertCause) → may_have (lines.Question literals) cause ≡ true → rank cause < 4 → ¬ HasRecordFault (matter_of r h.essential inputs) h before (lines.Question literals) cause
+    none : (cause : CertCause) → may_have (lines.Question literals) cause ≡ true → rank cause < 4
+        → ¬ HasRecordFault (matter_of r h.essential inputs) h before (lines.Question literals) cause
     none causes.OutOfRange may below fault = omega (arith, below)
     none cause may below fault = false≢true may
 question-verdict r inputs h before s strong at literals (Some cause) told = absurd told
 
 -- ---- derived lines
 
-same-variables : (r : PackageList) (inputs : List (List Literal)) (h : Header) (before : List CertRecord) (s : StateView) → IsAt r inputs h before s → s.log.variables ≡ length r.packages
+same-variables : (r : PackageList) (inputs : List (List Literal)) (h : Header) (before : List CertRecord) (s : StateView) → IsAt r inputs h before s
+    → s.log.variables ≡ length r.packages
 same-variables r inputs h before s at = at.variables
 
-same-length : (r : PackageList) (inputs : List (List Literal)) (h : Header) (before : List CertRecord) (s : StateView) → IsAt r inputs h before s → length s.log.clauses ≡ length (numbered (matter_of r h.essential inputs) before)
+same-length : (r : PackageList) (inputs : List (List Literal)) (h : Header) (before : List CertRecord) (s : StateView) → IsAt r inputs h before s
+    → length s.log.clauses ≡ length (numbered (matter_of r h.essential inputs) before)
 same-length r inputs h before s at = ap (λ (cs : List (List Literal)). length cs) at.clauses
 
-pub derived-verdict : (r : PackageList) (inputs : List (List Literal)) (h : Header) (before : List CertRecord) (s : StateView) → h.kind ≡ kinds.Strong → IsAt r inputs h before s → (literals : List Word) (hints : List ℕ)
+pub derived-verdict : (r : PackageList) (inputs : List (List Literal)) (h : Header) (before : List CertRecord) (s : StateView) → h.kind ≡ kinds.Strong
+    → IsAt r inputs h before s → (literals : List Word) (hints : List ℕ)
     (found : Option CertCause) → TellsDerived s.log literals hints found → IsVerdict r inputs h before (lines.Derived literals hints) found
-derived-verdict r inputs h before s strong at literals hints None told = faultless-from (matter_of r h.essential inputs) h before (lines.Derived literals hints) strong none
+derived-verdict r inputs h before s strong at literals hints None told =
+    faultless-from (matter_of r h.essential inputs) h before (lines.Derived literals hints) strong none
   where
-    none : (cause : CertCause) → may_have (lines.Derived literals hints) cause ≡ true → ¬ HasRecordFault (matter_of r h.essential inputs) h before (lines.Derived literals hints) cause
+    none : (cause : CertCause) → may_have (lines.Derived literals hints) cause ≡ true
+        → ¬ HasRecordFault (matter_of r h.essential inputs) h before (lines.Derived literals hints) cause
     none causes.OutOfRange may fault = range-none s.log.variables (length r.packages) literals at.variables told.0 fault
-    none causes.UnknownLine may fault = hints-none (length s.log.clauses) (length (numbered (matter_of r h.essential inputs) before)) hints (same-length r inputs h before s at) told.1 fault
+    none causes.UnknownLine may fault = hints-none (length s.log.clauses) (length (numbered (matter_of r h.essential inputs) before)) hints
+        (same-length r inputs h before s at) told.1 fault
     none causes.BadLine may fault = fault (subst (λ cs. Follows cs (clause_of literals) hints) at.clauses told.2)
     none cause may fault = false≢true may
 derived-verdict r inputs h before s strong at literals hints (Some causes.OutOfRange) told =
-    first-from (matter_of r h.essential inputs) h before (lines.Derived literals hints) causes.OutOfRange strong (range-some s.log.variables (length r.packages) literals at.variables told) none
+    first-from (matter_of r h.essential inputs) h before (lines.Derived literals hints) causes.OutOfRange strong
+    (range-some s.log.variables (length r.packages) literals at.variables told) none
   where
-    none : (cause : CertCause) → may_have (lines.Derived literals hints) cause ≡ true → rank cause < 4 → ¬ HasRecordFault (matter_of r h.essential inputs) h before (lines.Derived literals hints) cause
+    none : (cause : CertCause) → may_have (lines.Derived literals hints) cause ≡ true → rank cause < 4
+        → ¬ HasRecordFault (matter_of r h.essential inputs) h before (lines.Derived literals hints) cause
     none causes.OutOfRange may below fault = omega (arith, below)
     none causes.UnknownLine may below fault = omega (arith, below)
     none causes.BadLine may below fault = omega (arith, below)
@@ -102,17 +119,21 @@ derived-verdict r inputs h before s strong at literals hints (Some causes.Unknow
     first-from (matter_of r h.essential inputs) h before (lines.Derived literals hints) causes.UnknownLine strong
     (hints-some (length s.log.clauses) (length (numbered (matter_of r h.essential inputs) before)) hints (same-length r inputs h before s at) told.1) none
   where
-    none : (cause : CertCause) → may_have (lines.Derived literals hints) cause ≡ true → rank cause < 6 → ¬ HasRecordFault (matter_of r h.essential inputs) h before (lines.Derived literals hints) cause
+    none : (cause : CertCause) → may_have (lines.Derived literals hints) cause ≡ true → rank cause < 6
+        → ¬ HasRecordFault (matter_of r h.essential inputs) h before (lines.Derived literals hints) cause
     none causes.OutOfRange may below fault = range-none s.log.variables (length r.packages) literals at.variables told.0 fault
     none causes.UnknownLine may below fault = omega (arith, below)
     none causes.BadLine may below fault = omega (arith, below)
     none cause may below fault = false≢true may
 derived-verdict r inputs h before s strong at literals hints (Some causes.BadLine) told =
-    first-from (matter_of r h.essential inputs) h before (lines.Derived literals hints) causes.BadLine strong (λ follows. told.2 (subst (λ cs. Follows cs (clause_of literals) hints) (sym at.clauses) follows)) none
+    first-from (matter_of r h.essential inputs) h before (lines.Derived literals hints) causes.BadLine strong
+    (λ follows. told.2 (subst (λ cs. Follows cs (clause_of literals) hints) (sym at.clauses) follows)) none
   where
-    none : (cause : CertCause) → may_have (lines.Derived literals hints) cause ≡ true → rank cause < 7 → ¬ HasRecordFault (matter_of r h.essential inputs) h before (lines.Derived literals hints) cause
+    none : (cause : CertCause) → may_have (lines.Derived literals hints) cause ≡ true → rank cause < 7
+        → ¬ HasRecordFault (matter_of r h.essential inputs) h before (lines.Derived literals hints) cause
     none causes.OutOfRange may below fault = range-none s.log.variables (length r.packages) literals at.variables told.0 fault
-    none causes.UnknownLine may below fault = hints-none (length s.log.clauses) (length (numbered (matter_of r h.essential inputs) before)) hints (same-length r inputs h before s at) told.1 fault
+    none causes.UnknownLine may below fault = hints-none (length s.log.clauses) (length (numbered (matter_of r h.essential inputs) before)) hints
+        (same-length r inputs h before s at) told.1 fault
     none causes.BadLine may below fault = omega (arith, below)
     none cause may below fault = false≢true may
 derived-verdict r inputs h before s strong at literals hints (Some cause) told = absurd told
@@ -120,20 +141,28 @@ derived-verdict r inputs h before s strong at literals hints (Some cause) told =
 -- ---- refuted questions
 
 -- what is told of the question that is open
-pub refuted-verdict : (r : PackageList) (inputs : List (List Literal)) (h : Header) (before : List CertRecord) (s : StateView) → h.kind ≡ kinds.Strong → IsAt r inputs h before s → (question : Option QuestionView)
-    → IsQuestionOf inputs before question → (hints : List ℕ) (found : Option CertCause) → TellsRefuted s.log question hints found → IsVerdict r inputs h before (lines.Refuted hints) found
-refuted-verdict r inputs h before s strong at None q hints found told = subst (IsVerdict r inputs h before (lines.Refuted hints)) (sym told) (first-from (matter_of r h.essential inputs) h before (lines.Refuted hints) causes.OutOfOrder strong q none)
+pub refuted-verdict : (r : PackageList) (inputs : List (List Literal)) (h : Header) (before : List CertRecord) (s : StateView) → h.kind ≡ kinds.Strong
+    → IsAt r inputs h before s → (question : Option QuestionView)
+    → IsQuestionOf inputs before question → (hints : List ℕ) (found : Option CertCause) → TellsRefuted s.log question hints found
+    → IsVerdict r inputs h before (lines.Refuted hints) found
+refuted-verdict r inputs h before s strong at None q hints found told =
+    subst (IsVerdict r inputs h before (lines.Refuted hints)) (sym told)
+    (first-from (matter_of r h.essential inputs) h before (lines.Refuted hints) causes.OutOfOrder strong q none)
   where
-    none : (cause : CertCause) → may_have (lines.Refuted hints) cause ≡ true → rank cause < 5 → ¬ HasRecordFault (matter_of r h.essential inputs) h before (lines.Refuted hints) cause
+    none : (cause : CertCause) → may_have (lines.Refuted hints) cause ≡ true → rank cause < 5
+        → ¬ HasRecordFault (matter_of r h.essential inputs) h before (lines.Refuted hints) cause
     none causes.OutOfOrder may below fault = omega (arith, below)
     none causes.UnknownLine may below fault = omega (arith, below)
     none causes.BadLine may below fault = omega (arith, below)
     none cause may below fault = false≢true may
-refuted-verdict r inputs h before s strong at (Some question) q hints None told = faultless-from (matter_of r h.essential inputs) h before (lines.Refuted hints) strong none
+refuted-verdict r inputs h before s strong at (Some question) q hints None told =
+    faultless-from (matter_of r h.essential inputs) h before (lines.Refuted hints) strong none
   where
-    none : (cause : CertCause) → may_have (lines.Refuted hints) cause ≡ true → ¬ HasRecordFault (matter_of r h.essential inputs) h before (lines.Refuted hints) cause
+    none : (cause : CertCause) → may_have (lines.Refuted hints) cause ≡ true
+        → ¬ HasRecordFault (matter_of r h.essential inputs) h before (lines.Refuted hints) cause
     none causes.OutOfOrder may fault = fault (q.0, question.assumptions, q.1, q.2)
-    none causes.UnknownLine may fault = hints-none (length s.log.clauses) (length (numbered (matter_of r h.essential inputs) before)) hints (same-length r inputs h before s at) told.0 fault
+    none causes.UnknownLine may fault = hints-none (length s.log.clauses) (length (numbered (matter_of r h.essential inputs) before)) hints
+        (same-length r inputs h before s at) told.0 fault
     none causes.BadLine may fault =
         let one = one-open before fault.0 q.0 fault.1 question.assumptions fault.2 q.1 fault.3 q.2 in
         fault.4 (subst (λ asked. Follows (numbered (matter_of r h.essential inputs) before) (map negation (clause_of asked)) hints) (sym one.1)
@@ -143,58 +172,80 @@ refuted-verdict r inputs h before s strong at (Some question) q hints (Some caus
     first-from (matter_of r h.essential inputs) h before (lines.Refuted hints) causes.UnknownLine strong
     (hints-some (length s.log.clauses) (length (numbered (matter_of r h.essential inputs) before)) hints (same-length r inputs h before s at) told) none
   where
-    none : (cause : CertCause) → may_have (lines.Refuted hints) cause ≡ true → rank cause < 6 → ¬ HasRecordFault (matter_of r h.essential inputs) h before (lines.Refuted hints) cause
+    none : (cause : CertCause) → may_have (lines.Refuted hints) cause ≡ true → rank cause < 6
+        → ¬ HasRecordFault (matter_of r h.essential inputs) h before (lines.Refuted hints) cause
     none causes.OutOfOrder may below fault = fault (q.0, question.assumptions, q.1, q.2)
     none causes.UnknownLine may below fault = omega (arith, below)
     none causes.BadLine may below fault = omega (arith, below)
     none cause may below fault = false≢true may
 refuted-verdict r inputs h before s strong at (Some question) q hints (Some causes.BadLine) told =
-    first-from (matter_of r h.essential inputs) h before (lines.Refuted hints) causes.BadLine strong
-    (q.0, question.assumptions, q.1, q.2, λ follows. told.1 (subst (λ cs. Follows cs (map negation (clause_of question.assumptions)) hints) (sym at.clauses) follows)) none
+    first-from (matter_of r h.essential inputs) h before (lines.Refuted hints) causes.BadLine strong (
+      q.0,
+      question.assumptions,
+      q.1,
+      q.2,
+      λ follows. told.1
+          (subst (λ cs. Follows cs (map negation (clause_of question.assumptions)) hints) (sym at.clauses) follows),
+    ) none
   where
-    none : (cause : CertCause) → may_have (lines.Refuted hints) cause ≡ true → rank cause < 7 → ¬ HasRecordFault (matter_of r h.essential inputs) h before (lines.Refuted hints) cause
+    none : (cause : CertCause) → may_have (lines.Refuted hints) cause ≡ true → rank cause < 7
+        → ¬ HasRecordFault (matter_of r h.essential inputs) h before (lines.Refuted hints) cause
     none causes.OutOfOrder may below fault = fault (q.0, question.assumptions, q.1, q.2)
-    none causes.UnknownLine may below fault = hints-none (length s.log.clauses) (length (numbered (matter_of r h.essential inputs) before)) hints (same-length r inputs h before s at) told.0 fault
+    none causes.UnknownLine may below fault = hints-none (length s.log.clauses) (length (numbered (matter_of r h.essential inputs) before)) hints
+        (same-length r inputs h before s at) told.0 fault
     none causes.BadLine may below fault = omega (arith, below)
     none cause may below fault = false≢true may
 refuted-verdict r inputs h before s strong at (Some question) q hints (Some cause) told = absurd told
 
 -- ---- installations
 
-inputs-are : (r : PackageList) (inputs : List (List Literal)) (h : Header) (before : List CertRecord) (s : StateView) → IsAt r inputs h before s → inputs_of s.log ≡ inputs
+inputs-are : (r : PackageList) (inputs : List (List Literal)) (h : Header) (before : List CertRecord) (s : StateView) → IsAt r inputs h before s
+    → inputs_of s.log ≡ inputs
 inputs-are r inputs h before s at =
-    ap (λ (n : ℕ). take n s.log.clauses) at.inputs_are ∙ ap (λ (cs : List (List Literal)). take (length inputs) cs) at.clauses ∙ take_at inputs (derived before) (length inputs) refl
+    ap (λ (n : ℕ). take n s.log.clauses) at.inputs_are ∙ ap (λ (cs : List (List Literal)). take (length inputs) cs) at.clauses
+    ∙ take_at inputs (derived before) (length inputs) refl
 
 -- a model is a healthy installation
-healthy-from : (r : PackageList) (inputs : List (List Literal)) (h : Header) (before : List CertRecord) (s : StateView) → IsAt r inputs h before s → AreInputsOf r h.essential inputs → (variables : List ℕ)
+healthy-from : (r : PackageList) (inputs : List (List Literal)) (h : Header) (before : List CertRecord) (s : StateView) → IsAt r inputs h before s
+    → AreInputsOf r h.essential inputs → (variables : List ℕ)
     → IsModel (is_among variables) (inputs_of s.log) → IsInstallation h.essential r (packages_of r.packages variables)
 healthy-from r inputs h before s at mean variables model =
     model-installed r h.essential inputs variables mean.over mean.models (subst (IsModel (is_among variables)) (inputs-are r inputs h before s at) model)
 
-model-from : (r : PackageList) (inputs : List (List Literal)) (h : Header) (before : List CertRecord) (s : StateView) → IsAt r inputs h before s → AreInputsOf r h.essential inputs → (variables : List ℕ)
+model-from : (r : PackageList) (inputs : List (List Literal)) (h : Header) (before : List CertRecord) (s : StateView) → IsAt r inputs h before s
+    → AreInputsOf r h.essential inputs → (variables : List ℕ)
     → IsInstallation h.essential r (packages_of r.packages variables) → IsModel (is_among variables) (inputs_of s.log)
 model-from r inputs h before s at mean variables healthy =
-    subst (IsModel (is_among variables)) (sym (inputs-are r inputs h before s at)) (installed-model r h.essential inputs variables mean.ordered mean.over mean.models healthy)
+    subst (IsModel (is_among variables)) (sym (inputs-are r inputs h before s at))
+    (installed-model r h.essential inputs variables mean.ordered mean.over mean.models healthy)
 
-pub installation-verdict : (r : PackageList) (inputs : List (List Literal)) (h : Header) (before : List CertRecord) (s : StateView) → h.kind ≡ kinds.Strong → IsAt r inputs h before s → AreInputsOf r h.essential inputs
-    → (variables : List ℕ) (found : Option CertCause) → TellsInstallation s.log variables found → IsVerdict r inputs h before (lines.Installation variables) found
-installation-verdict r inputs h before s strong at mean variables None told = faultless-from (matter_of r h.essential inputs) h before (lines.Installation variables) strong none
+pub installation-verdict : (r : PackageList) (inputs : List (List Literal)) (h : Header) (before : List CertRecord) (s : StateView) → h.kind ≡ kinds.Strong
+    → IsAt r inputs h before s → AreInputsOf r h.essential inputs
+    → (variables : List ℕ) (found : Option CertCause) → TellsInstallation s.log variables found
+    → IsVerdict r inputs h before (lines.Installation variables) found
+installation-verdict r inputs h before s strong at mean variables None told =
+    faultless-from (matter_of r h.essential inputs) h before (lines.Installation variables) strong none
   where
-    none : (cause : CertCause) → may_have (lines.Installation variables) cause ≡ true → ¬ HasRecordFault (matter_of r h.essential inputs) h before (lines.Installation variables) cause
+    none : (cause : CertCause) → may_have (lines.Installation variables) cause ≡ true
+        → ¬ HasRecordFault (matter_of r h.essential inputs) h before (lines.Installation variables) cause
     none causes.OutOfRange may fault = hints-none s.log.variables (length r.packages) variables at.variables told.0 fault
     none causes.NotAnInstallation may fault = fault (healthy-from r inputs h before s at mean variables told.1)
     none cause may fault = false≢true may
 installation-verdict r inputs h before s strong at mean variables (Some causes.OutOfRange) told =
-    first-from (matter_of r h.essential inputs) h before (lines.Installation variables) causes.OutOfRange strong (hints-some s.log.variables (length r.packages) variables at.variables told) none
+    first-from (matter_of r h.essential inputs) h before (lines.Installation variables) causes.OutOfRange strong
+    (hints-some s.log.variables (length r.packages) variables at.variables told) none
   where
-    none : (cause : CertCause) → may_have (lines.Installation variables) cause ≡ true → rank cause < 4 → ¬ HasRecordFault (matter_of r h.essential inputs) h before (lines.Installation variables) cause
+    none : (cause : CertCause) → may_have (lines.Installation variables) cause ≡ true → rank cause < 4
+        → ¬ HasRecordFault (matter_of r h.essential inputs) h before (lines.Installation variables) cause
     none causes.OutOfRange may below fault = omega (arith, below)
     none causes.NotAnInstallation may below fault = omega (arith, below)
     none cause may below fault = false≢true may
 installation-verdict r inputs h before s strong at mean variables (Some causes.NotAnInstallation) told =
-    first-from (matter_of r h.essential inputs) h before (lines.Installation variables) causes.NotAnInstallation strong (λ healthy. told.1 (model-from r inputs h before s at mean variables healthy)) none
+    first-from (matter_of r h.essential inputs) h before (lines.Installation variables) causes.NotAnInstallation strong
+    (λ healthy. told.1 (model-from r inputs h before s at mean variables healthy)) none
   where
-    none : (cause : CertCause) → may_have (lines.Installation variables) cause ≡ true → rank cause < 9 → ¬ HasRecordFault (matter_of r h.essential inputs) h before (lines.Installation variables) cause
+    none : (cause : CertCause) → may_have (lines.Installation variables) cause ≡ true → rank cause < 9
+        → ¬ HasRecordFault (matter_of r h.essential inputs) h before (lines.Installation variables) cause
     none causes.OutOfRange may below fault = hints-none s.log.variables (length r.packages) variables at.variables told.0 fault
     none causes.NotAnInstallation may below fault = omega (arith, below)
     none cause may below fault = false≢true may
@@ -203,28 +254,36 @@ installation-verdict r inputs h before s strong at mean variables (Some cause) t
 -- ---- lines that were new
 
 -- the clauses of some lines were new one after another
-pub each-new : (inputs : ℕ) (assumptions : List Literal) (clauses more : List (List Literal)) → AreNewFrom (clauses ++ more) inputs assumptions (length clauses) → EachIsNew clauses inputs assumptions more
+pub each-new : (inputs : ℕ) (assumptions : List Literal) (clauses more : List (List Literal)) → AreNewFrom (clauses ++ more) inputs assumptions (length clauses)
+    → EachIsNew clauses inputs assumptions more
 each-new inputs assumptions clauses [] new = tt
 each-new inputs assumptions clauses (line ∷ more) new =
     let n = length clauses in
     let number : n + 1 - 1 ≡ n = omega arith in
-    let first : IsNew (take (n + 1 - 1) (clauses ++ line ∷ more)) inputs assumptions (clause_at (clauses ++ line ∷ more) (n + 1)) = new (n + 1) (omega arith) (omega (arith, length-append clauses (line ∷ more))) in
-    let place : clause_at (clauses ++ line ∷ more) (n + 1) ≡ line = ap (λ (k : ℕ). get_or (clauses ++ line ∷ more) k []) number ∙ get_or_at clauses line more [] n refl in
-    let front : take (n + 1 - 1) (clauses ++ line ∷ more) ≡ clauses = ap (λ (k : ℕ). take k (clauses ++ line ∷ more)) number ∙ take_at clauses (line ∷ more) n refl in (
+    let first : IsNew (take (n + 1 - 1) (clauses ++ line ∷ more)) inputs assumptions (clause_at (clauses ++ line ∷ more) (n + 1)) =
+    new (n + 1) (omega arith) (omega (arith, length-append clauses (line ∷ more))) in
+    let place : clause_at (clauses ++ line ∷ more) (n + 1) ≡ line = ap (λ (k : ℕ). get_or (clauses ++ line ∷ more) k []) number
+    ∙ get_or_at clauses line more [] n refl in
+    let front : take (n + 1 - 1) (clauses ++ line ∷ more) ≡ clauses = ap (λ (k : ℕ). take k (clauses ++ line ∷ more)) number
+    ∙ take_at clauses (line ∷ more) n refl in (
       subst (λ cs. IsNew cs inputs assumptions line) front (subst (λ c. IsNew (take (n + 1 - 1) (clauses ++ line ∷ more)) inputs assumptions c) place first),
-      each-new inputs assumptions (clauses ++ line ∷ []) more (subst (λ cs. AreNewFrom cs inputs assumptions (length (clauses ++ line ∷ []))) (sym (append_assoc clauses (line ∷ []) more))
+      each-new inputs assumptions (clauses ++ line ∷ []) more
+          (subst (λ cs. AreNewFrom cs inputs assumptions (length (clauses ++ line ∷ []))) (sym (append_assoc clauses (line ∷ []) more))
           (λ k past upto. new k (omega (arith, past, length-append clauses (line ∷ []))) upto)),
     )
 
-pub new-from-each : (inputs : ℕ) (assumptions : List Literal) (clauses more : List (List Literal)) → EachIsNew clauses inputs assumptions more → AreNewFrom (clauses ++ more) inputs assumptions (length clauses)
+pub new-from-each : (inputs : ℕ) (assumptions : List Literal) (clauses more : List (List Literal)) → EachIsNew clauses inputs assumptions more
+    → AreNewFrom (clauses ++ more) inputs assumptions (length clauses)
 new-from-each inputs assumptions clauses [] each k past upto = absurd (omega (arith, past, upto, length-append clauses []))
 new-from-each inputs assumptions clauses (line ∷ more) each k past upto = elim (cases_lt k (length clauses + 2)) [
   | inl less ↦
       let n = length clauses in
       let is : n + 1 ≡ k = omega (arith, less, past) in
       let number : n + 1 - 1 ≡ n = omega arith in
-      let place : line ≡ clause_at (clauses ++ line ∷ more) (n + 1) = sym (ap (λ (i : ℕ). get_or (clauses ++ line ∷ more) i []) number ∙ get_or_at clauses line more [] n refl) in
-      let front : clauses ≡ take (n + 1 - 1) (clauses ++ line ∷ more) = sym (ap (λ (i : ℕ). take i (clauses ++ line ∷ more)) number ∙ take_at clauses (line ∷ more) n refl) in
+      let place : line ≡ clause_at (clauses ++ line ∷ more) (n + 1) =
+      sym (ap (λ (i : ℕ). get_or (clauses ++ line ∷ more) i []) number ∙ get_or_at clauses line more [] n refl) in
+      let front : clauses ≡ take (n + 1 - 1) (clauses ++ line ∷ more) =
+      sym (ap (λ (i : ℕ). take i (clauses ++ line ∷ more)) number ∙ take_at clauses (line ∷ more) n refl) in
       subst (λ i. IsNew (take (i - 1) (clauses ++ line ∷ more)) inputs assumptions (clause_at (clauses ++ line ∷ more) i)) is
       (subst (λ c. IsNew (take (n + 1 - 1) (clauses ++ line ∷ more)) inputs assumptions c) place (subst (λ cs. IsNew cs inputs assumptions line) front each.0))
   | inr later ↦

@@ -1,5 +1,6 @@
 -- The claims of records without faults, as a whole.
-use Rattle.std.proofs.Common.{◌≡◌, ◌⊎◌, inl, inr, ℕ, zero, suc, ◌+◌, ◌<◌, ◌≤◌, Bool, List, [], ◌∷◌, ◌++◌, length, Some, refl, sym, ap, subst, ◌∙◌, append_assoc, arith, slice_get, length-append}
+use Rattle.std.proofs.Common.{◌≡◌, ◌⊎◌, inl, inr, ℕ, zero, suc, ◌+◌, ◌<◌, ◌≤◌, Bool, List, [], ◌∷◌, ◌++◌, length, Some, refl, sym, ap, subst, ◌∙◌, append_assoc}
+use Rattle.std.proofs.Common.{arith, slice_get, length-append}
 use Rattle.std.specs.List.{flat_map}
 use Rattle.std.proofs.lemmas.List.{append-nil}
 use Rattle.std.proofs.lemmas.Grind.{flat_map-append}
@@ -42,10 +43,20 @@ claim-or-none lines.Undecided = inl (refl, refl)
 claim-or-none lines.End = inl (refl, refl)
 claim-or-none (lines.NotInstallable p) = inr (record { claim = claims.Uninstallable; number = p; is = refl; of = refl })
 claim-or-none (lines.Unknown p) = inr (record { claim = claims.Unknown; number = p; is = refl; of = refl })
-claim-or-none (lines.Strong p named on undecided) = inr (record { claim = claims.Strong (from_zero on) (from_zero undecided); number = p; is = refl; of = refl })
+claim-or-none (lines.Strong p named on undecided) = inr (record {
+  claim = claims.Strong (from_zero on) (from_zero undecided);
+  number = p;
+  is = refl;
+  of = refl;
+})
 claim-or-none (lines.Outdated p) = inr (record { claim = claims.Outdated; number = p; is = refl; of = refl })
 claim-or-none (lines.Alive p i) = inr (record { claim = claims.Alive; number = p; is = refl; of = refl })
-claim-or-none (lines.Challenged p i by undecided) = inr (record { claim = claims.Challenged (pairs_from_zero by) (pairs_from_zero undecided); number = p; is = refl; of = refl })
+claim-or-none (lines.Challenged p i by undecided) = inr (record {
+  claim = claims.Challenged (pairs_from_zero by) (pairs_from_zero undecided);
+  number = p;
+  is = refl;
+  of = refl;
+})
 
 -- a claim line with its place among claims
 record IsLineOfClaim (steps : List CertRecord) (number : ℕ) (claim : Claim) : Type 0 where
@@ -58,10 +69,12 @@ record IsLineOfClaim (steps : List CertRecord) (number : ℕ) (claim : Claim) : 
 
 pub claim-count-push : (before : List CertRecord) (step : CertRecord) → claim_count (before ++ step ∷ []) ≡ claim_count before + length (claimed step)
 claim-count-push before step =
-    ap (λ (ns : List ℕ). length ns) (flat_map-append claimed before (step ∷ []) ∙ ap (λ (ns : List ℕ). flat_map claimed before ++ ns) (append-nil (claimed step)))
+    ap (λ (ns : List ℕ). length ns) (flat_map-append claimed before (step ∷ [])
+    ∙ ap (λ (ns : List ℕ). flat_map claimed before ++ ns) (append-nil (claimed step)))
     ∙ length-append (flat_map claimed before) (claimed step)
 
-later-claim : (step : CertRecord) (steps : List CertRecord) (more number : ℕ) (claim : Claim) → length (claimed step) ≡ more → IsLineOfClaim steps number claim → IsLineOfClaim (step ∷ steps) (more + number) claim
+later-claim : (step : CertRecord) (steps : List CertRecord) (more number : ℕ) (claim : Claim) → length (claimed step) ≡ more → IsLineOfClaim steps number claim
+    → IsLineOfClaim (step ∷ steps) (more + number) claim
 later-claim step steps more number claim size line = record {
   before = step ∷ line.before;
   step = line.step;
@@ -72,9 +85,17 @@ later-claim step steps more number claim size line = record {
 }
 
 -- a claim line at a place, by the claims behind it
-at-place : (step : CertRecord) (steps : List CertRecord) (claim : Claim) (one : IsOne step) → ((m : ℕ) → slice_get (claims_in steps) m ≡ Some claim → IsLineOfClaim steps m claim)
+at-place : (step : CertRecord) (steps : List CertRecord) (claim : Claim) (one : IsOne step)
+    → ((m : ℕ) → slice_get (claims_in steps) m ≡ Some claim → IsLineOfClaim steps m claim)
     → (number : ℕ) → slice_get (one.claim ∷ claims_in steps) number ≡ Some claim → IsLineOfClaim (step ∷ steps) number claim
-at-place step steps claim one rest zero at = record { before = []; step = step; after = steps; is = refl; one = one.is ∙ ap (λ (c : Claim). c ∷ []) (let e : one.claim ≡ claim = cc in e); count = refl }
+at-place step steps claim one rest zero at = record {
+  before = [];
+  step = step;
+  after = steps;
+  is = refl;
+  one = one.is ∙ ap (λ (c : Claim). c ∷ []) (let e : one.claim ≡ claim = cc in e);
+  count = refl;
+}
 at-place step steps claim one rest (suc m) at =
     let e : 1 + m ≡ suc m = omega arith in
     subst (λ n. IsLineOfClaim (step ∷ steps) n claim) e (later-claim step steps 1 m claim (ap (λ (ns : List ℕ). length ns) one.of) (rest m at))
@@ -86,21 +107,25 @@ find-claim (step ∷ steps) claim number at = elim (claim-or-none step) [
       let e : 0 + number ≡ number = omega arith in
       subst (λ n. IsLineOfClaim (step ∷ steps) n claim) e (later-claim step steps 0 number claim (ap (λ (ns : List ℕ). length ns) none.1)
       (find-claim steps claim number (subst (λ (cs : List Claim). slice_get (cs ++ claims_in steps) number ≡ Some claim) none.0 at)))
-  | inr one ↦ at-place step steps claim one (find-claim steps claim) number (subst (λ (cs : List Claim). slice_get (cs ++ claims_in steps) number ≡ Some claim) one.is at)
+  | inr one ↦ at-place step steps claim one (find-claim steps claim) number
+      (subst (λ (cs : List Claim). slice_get (cs ++ claims_in steps) number ≡ Some claim) one.is at)
 ]
 
 -- as many claims as claim lines
 same-count : (steps : List CertRecord) → length (claims_in steps) ≡ claim_count steps
 same-count [] = refl
 same-count (step ∷ steps) = elim (claim-or-none step) [
-  | inl none ↦ length-append (claim_in step) (claims_in steps) ∙ ap (λ (n : ℕ). n + length (claims_in steps)) (ap (λ (cs : List Claim). length cs) none.0 ∙ sym (ap (λ (ns : List ℕ). length ns) none.1))
+  | inl none ↦ length-append (claim_in step) (claims_in steps)
+      ∙ ap (λ (n : ℕ). n + length (claims_in steps)) (ap (λ (cs : List Claim). length cs) none.0 ∙ sym (ap (λ (ns : List ℕ). length ns) none.1))
       ∙ ap (λ (n : ℕ). length (claimed step) + n) (same-count steps) ∙ sym (length-append (claimed step) (flat_map claimed steps))
-  | inr one ↦ length-append (claim_in step) (claims_in steps) ∙ ap (λ (n : ℕ). n + length (claims_in steps)) (ap (λ (cs : List Claim). length cs) one.is ∙ sym (ap (λ (ns : List ℕ). length ns) one.of))
+  | inr one ↦ length-append (claim_in step) (claims_in steps)
+      ∙ ap (λ (n : ℕ). n + length (claims_in steps)) (ap (λ (cs : List Claim). length cs) one.is ∙ sym (ap (λ (ns : List ℕ). length ns) one.of))
       ∙ ap (λ (n : ℕ). length (claimed step) + n) (same-count steps) ∙ sym (length-append (claimed step) (flat_map claimed steps))
 ]
 
 -- there are no more claims than packages
-few-more : (r : PackageList) (inputs : List (List Literal)) (h : Header) (steps : List CertRecord) → AreProven r inputs h steps → (before more after : List CertRecord)
+few-more : (r : PackageList) (inputs : List (List Literal)) (h : Header) (steps : List CertRecord) → AreProven r inputs h steps
+    → (before more after : List CertRecord)
     → steps ≡ before ++ (more ++ after) → claim_count before ≤ length r.packages → claim_count (before ++ more) ≤ length r.packages
 few-more r inputs h steps x before [] after is few = subst (λ (b : List CertRecord). claim_count b ≤ length r.packages) (sym (append-nil before)) few
 few-more r inputs h steps x before (step ∷ more) after is few =
@@ -112,10 +137,12 @@ few-more r inputs h steps x before (step ∷ more) after is few =
           omega (arith, at.within, claim-count-push before step, ap (λ (ns : List ℕ). length ns) one.of)
     ]))
 
-no-fewer : (r : PackageList) (inputs : List (List Literal)) (h : Header) (steps : List CertRecord) → AreProven r inputs h steps → length r.packages ≤ claim_count steps
+no-fewer : (r : PackageList) (inputs : List (List Literal)) (h : Header) (steps : List CertRecord) → AreProven r inputs h steps
+    → length r.packages ≤ claim_count steps
 no-fewer r inputs h steps x =
     let cut = cut-at steps lines.End x.ended in
-    let all : length r.packages ≤ claim_count cut.before = not-less (claim_count cut.before) (length r.packages) (x.right cut.before lines.End cut.after cut.is causes.Incomplete) in
+    let all : length r.packages ≤ claim_count cut.before = not-less (claim_count cut.before) (length r.packages)
+    (x.right cut.before lines.End cut.after cut.is causes.Incomplete) in
     omega (arith, all, ap claim_count cut.is, count-append cut.before (lines.End ∷ cut.after))
   where
     not-less : (a b : ℕ) → ¬ (a < b) → b ≤ a
@@ -127,13 +154,15 @@ no-fewer r inputs h steps x =
     count-append : (a b : List CertRecord) → claim_count (a ++ b) ≡ claim_count a + claim_count b
     count-append a b = ap (λ (ns : List ℕ). length ns) (flat_map-append claimed a b) ∙ length-append (flat_map claimed a) (flat_map claimed b)
 
-pub one-each : (r : PackageList) (inputs : List (List Literal)) (h : Header) (steps : List CertRecord) → AreProven r inputs h steps → length (claims_in steps) ≡ length r.packages
+pub one-each : (r : PackageList) (inputs : List (List Literal)) (h : Header) (steps : List CertRecord) → AreProven r inputs h steps
+    → length (claims_in steps) ≡ length r.packages
 one-each r inputs h steps x =
     let few = few-more r inputs h steps x [] steps [] (sym (append-nil steps)) (omega arith) in
     omega (arith, few, no-fewer r inputs h steps x, same-count steps)
 
 -- Records without faults prove their claims.
-pub records-mean : (r : PackageList) (inputs : List (List Literal)) (h : Header) (steps : List CertRecord) → AreProven r inputs h steps → Means h.essential r (claims_in steps)
+pub records-mean : (r : PackageList) (inputs : List (List Literal)) (h : Header) (steps : List CertRecord) → AreProven r inputs h steps
+    → Means h.essential r (claims_in steps)
 records-mean r inputs h steps x = record {
   are_claims = record { one_each = one-each r inputs h steps x; named = λ number claim at. (told number claim at).names };
   each = λ number p claim is at. (told number claim at).says p is;
@@ -146,9 +175,11 @@ records-mean r inputs h steps x = record {
 
 -- the law of dist_now
 abbrev pub ModelsAreInstallations : Type 0
-ModelsAreInstallations = (r : PackageList) (essential : Bool) (clauses : List (List Literal)) → IsInOrder r.packages → ArePresentClauses r essential clauses → AreModelsInstallations r essential clauses
+ModelsAreInstallations = (r : PackageList) (essential : Bool) (clauses : List (List Literal)) → IsInOrder r.packages → ArePresentClauses r essential clauses
+    → AreModelsInstallations r essential clauses
 
-pub accepted-mean : FormsAreClear → WhatFollows → ModelsAreInstallations → (r : PackageList) (limits : Limits) (text : List ℕ) (h : Header) (made : List Claim) → IsInOrder r.packages → IsAccepted r limits text h made
+pub accepted-mean : FormsAreClear → WhatFollows → ModelsAreInstallations → (r : PackageList) (limits : Limits) (text : List ℕ) (h : Header) (made : List Claim)
+    → IsInOrder r.packages → IsAccepted r limits text h made
     → Means h.essential r made
 accepted-mean clear follows models r limits text h made ordered accepted =
     let inputs = accepted.0 in

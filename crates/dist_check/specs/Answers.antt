@@ -27,7 +27,8 @@ as_read (Err error) = Err (Work error)
 
 -- when each answer is given, accepted, refused, or an error of work
 abbrev pub Answers : PackageList → Limits → List ℕ → Result Verdict WorkError → Type 0
-Answers r limits text result = TextAnswers (λ (x : Header × List Claim). x.0) (λ (x : Header × List Claim). x.1) r limits text (as_read result)
+Answers r limits text result = TextAnswers (λ (x : Header × List Claim). x.0) (λ (x : Header × List Claim). x.1) r
+    limits text (as_read result)
 
 -- What is accepted has a first line of kind strong, of its form and with the numbers of the repository, and is true.
 pub record AcceptedMeans (r : PackageList) (h : Header) (made : List Claim) : Type 0 where

@@ -23,16 +23,19 @@ use Rattle.dist_state.specs.State.{StateView}
 
 -- no record has a fault behind those before it
 abbrev pub AreRight : Matter → Header → List CertRecord → Type 0
-AreRight matter h steps = (before : List CertRecord) (step : CertRecord) (after : List CertRecord) → steps ≡ before ++ step ∷ after
+AreRight matter h steps = (before : List CertRecord) (step : CertRecord) (after : List CertRecord)
+    → steps ≡ before ++ step ∷ after
     → (cause : CertCause) → ¬ HasRecordFault matter h before step cause
 
 abbrev pub HaveForms : List CertRecord → Type 0
 HaveForms steps = All (λ step. HasForm (record_text step) step) steps
 
 -- the lines that were read are those of the text, where it is told, and have no fault
-abbrev pub TextAt : PackageList → (Bool → List (List Literal)) → Limits → Header → List CertRecord → Option (List ℕ) → Option (List ℕ) → Type 0
+abbrev pub TextAt : PackageList → (Bool → List (List Literal)) → Limits → Header → List CertRecord → Option (List ℕ)
+    → Option (List ℕ) → Type 0
 TextAt r inputs limits h before None left = Unit {0}
-TextAt r inputs limits h before (Some text) left = (rest : List ℕ) × (left ≡ Some rest) × AreFaultless (subject_of r inputs) limits text h before rest
+TextAt r inputs limits h before (Some text) left = (rest : List ℕ) × (left ≡ Some rest)
+    × AreFaultless (subject_of r inputs) limits text h before rest
 
 -- The input clauses are over the packages, which are in order, and their models are the healthy installations.
 pub record AreInputsOf (r : PackageList) (essential : Bool) (inputs : List (List Literal)) : Type 0 where
@@ -41,7 +44,8 @@ pub record AreInputsOf (r : PackageList) (essential : Bool) (inputs : List (List
   pub models : AreModelsInstallations r essential inputs
 
 -- What is kept is what the lines that were read hold, the reader stands behind them, and they are those of the text.
-pub record IsChecked (r : PackageList) (limits : Limits) (told : Option (List ℕ)) (h : Header) (reader : ReaderView) (left : Option (List ℕ)) (s : StateView) : Type 0 where
+pub record IsChecked (r : PackageList) (limits : Limits) (told : Option (List ℕ)) (h : Header) (reader : ReaderView)
+    (left : Option (List ℕ)) (s : StateView) : Type 0 where
   pub inputs : Bool → List (List Literal)
   pub are_inputs : AreInputs r inputs
   pub inputs_mean : AreInputsOf r h.essential (inputs h.essential)

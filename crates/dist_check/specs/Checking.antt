@@ -22,13 +22,15 @@ use Rattle.dist_cert.specs.declared.records.Header.{Header}
 use Rattle.dist_cert.specs.Form.{Word, HasForm, HasHeaderForm}
 use Rattle.dist_cert.specs.Groups.{clause_of, derived}
 use Rattle.dist_cert.specs.Reading.{PassesWhole, KeepsLimits}
-use Rattle.dist_cert.specs.Refusal.{BeginsWith, HasFirstFault, HasLineFault, in_order, IsFirstOf, certificate_text, AreFaultless}
+use Rattle.dist_cert.specs.Refusal.{BeginsWith, HasFirstFault, HasLineFault, in_order, IsFirstOf, certificate_text}
+use Rattle.dist_cert.specs.Refusal.{AreFaultless}
 use Rattle.dist_check.specs.Limited.{AreInputsWithin}
 use Rattle.dist_subject.specs.Completed.{KeepsNumbers, IsCompleted}
 use Rattle.dist_subject.specs.Present.{AreInputs, subject_of}
 
 -- The text begins with the lines of this header and these records, which have no fault and keep the numbers.
-pub record IsReached (r : PackageList) (inputs : Bool → List (List Literal)) (limits : Limits) (text : List ℕ) (h : Header) (before : List CertRecord) (rest : List ℕ) : Type 0 where
+pub record IsReached (r : PackageList) (inputs : Bool → List (List Literal)) (limits : Limits) (text : List ℕ)
+    (h : Header) (before : List CertRecord) (rest : List ℕ) : Type 0 where
   pub are_inputs : AreInputs r inputs
   pub faultless : AreFaultless (subject_of r inputs) limits text h before rest
   pub numbers : KeepsNumbers limits (inputs h.essential) h before
@@ -37,9 +39,11 @@ pub record IsReached (r : PackageList) (inputs : Bool → List (List Literal)) (
 
 -- where the text begins with a first line of kind strong, its clauses keep both numbers
 abbrev pub HasInputsWithin : (Bool → List (List Literal)) → Limits → List ℕ → Type 0
-HasInputsWithin inputs limits text = (h : Header) (line more : List ℕ) → BeginsWith text line more → HasHeaderForm line h → h.kind ≡ kinds.Strong → AreInputsWithin limits (inputs h.essential)
+HasInputsWithin inputs limits text = (h : Header) (line more : List ℕ) → BeginsWith text line more
+    → HasHeaderForm line h → h.kind ≡ kinds.Strong → AreInputsWithin limits (inputs h.essential)
 
--- The first line has this first fault, and does not pass the number of bytes before. Where it is bad, the clauses do not
+-- The first line has this first fault, and does not pass the number of bytes before. Where it is bad, the clauses do
+-- not
 -- pass a number before.
 pub record StopsFirst (r : PackageList) (limits : Limits) (text : List ℕ) (cause : CertCause) : Type 0 where
   pub inputs : Bool → List (List Literal)
@@ -71,7 +75,8 @@ pub record HasLargeInputs (limits : Limits) (text : List ℕ) (Passes : Bool →
   pub passes : Passes h.essential
 
 -- A derived line without a fault stands behind some lines that are reached, and with it they pass a number.
-pub record StopsAtDerived (r : PackageList) (limits : Limits) (text : List ℕ) (Passes : List (List Literal) → List Literal → Type 0) : Type 0 where
+pub record StopsAtDerived (r : PackageList) (limits : Limits) (text : List ℕ)
+    (Passes : List (List Literal) → List Literal → Type 0) : Type 0 where
   pub inputs : Bool → List (List Literal)
   pub h : Header
   pub before : List CertRecord
@@ -97,14 +102,22 @@ pub record StopsAtByte (r : PackageList) (limits : Limits) (text : List ℕ) : T
   pub passes : PassesWhole limits (length (certificate_text h before)) rest
 
 -- When each answer is given. A fault of the desk and want of memory may come in place of any.
-abbrev pub TextAnswers : {X : Type 0} → (X → Header) → (X → List Claim) → PackageList → Limits → List ℕ → Result X ReadCertError → Type 0
+abbrev pub TextAnswers : {X : Type 0} → (X → Header) → (X → List Claim) → PackageList → Limits → List ℕ
+    → Result X ReadCertError → Type 0
 TextAnswers header claims r limits text (Ok done) = IsCompleted r limits text (header done) (claims done)
-TextAnswers header claims r limits text (Err (Bad fault)) = ((fault.line ≡ 1) × StopsFirst r limits text fault.cause) ⊎ StopsLater r limits text fault
-TextAnswers header claims r limits text (Err (Work (TooLarge Clauses))) = HasLargeInputs limits text (λ essential. PassesClauses r essential limits.clauses limits.literals)
-TextAnswers header claims r limits text (Err (Work (TooLarge Literals))) = HasLargeInputs limits text (λ essential. PassesLiterals r essential limits.clauses limits.literals)
-TextAnswers header claims r limits text (Err (Work (TooLarge Lines))) = StopsAtDerived r limits text (λ lines clause. length lines ≡ limits.lines)
-TextAnswers header claims r limits text (Err (Work (TooLarge LineLiterals))) = StopsAtDerived r limits text (λ lines clause. (length lines < limits.lines) × (limits.line_literals < literal_count lines + length clause))
-TextAnswers header claims r limits text (Err (Work (TooLarge Certificate))) = PassesWhole limits 0 text ⊎ StopsAtByte r limits text
+TextAnswers header claims r limits text (Err (Bad fault)) = ((fault.line ≡ 1) × StopsFirst r limits text fault.cause)
+    ⊎ StopsLater r limits text fault
+TextAnswers header claims r limits text (Err (Work (TooLarge Clauses))) =
+    HasLargeInputs limits text (λ essential. PassesClauses r essential limits.clauses limits.literals)
+TextAnswers header claims r limits text (Err (Work (TooLarge Literals))) =
+    HasLargeInputs limits text (λ essential. PassesLiterals r essential limits.clauses limits.literals)
+TextAnswers header claims r limits text (Err (Work (TooLarge Lines))) =
+    StopsAtDerived r limits text (λ lines clause. length lines ≡ limits.lines)
+TextAnswers header claims r limits text (Err (Work (TooLarge LineLiterals))) =
+    StopsAtDerived r limits text (λ lines clause. (length lines < limits.lines)
+    × (limits.line_literals < literal_count lines + length clause))
+TextAnswers header claims r limits text (Err (Work (TooLarge Certificate))) = PassesWhole limits 0 text
+    ⊎ StopsAtByte r limits text
 TextAnswers header claims r limits text (Err (Work ReadFault)) = Unit {0}
 TextAnswers header claims r limits text (Err (Work NoMemory)) = Unit {0}
 TextAnswers header claims r limits text (Err (Work error)) = ⊥
@@ -126,9 +139,12 @@ TextCause old new (Work (TooLarge LineLiterals)) = Unit {0}
 TextCause old new (Work (TooLarge Certificate)) = Unit {0}
 TextCause old new (Work error) = ⊥
 
--- Whatever the desk tells, too many input clauses or literals are told only of a repository of which the clauses pass that
+-- Whatever the desk tells, too many input clauses or literals are told only of a repository of which the clauses pass
+-- that
 -- number, at one mode.
 abbrev pub LargeCause : PackageList → Limits → ReadCertError → Type 0
-LargeCause r limits (Work (TooLarge Clauses)) = (essential : Bool) × PassesClauses r essential limits.clauses limits.literals
-LargeCause r limits (Work (TooLarge Literals)) = (essential : Bool) × PassesLiterals r essential limits.clauses limits.literals
+LargeCause r limits (Work (TooLarge Clauses)) = (essential : Bool)
+    × PassesClauses r essential limits.clauses limits.literals
+LargeCause r limits (Work (TooLarge Literals)) = (essential : Bool)
+    × PassesLiterals r essential limits.clauses limits.literals
 LargeCause r limits error = Unit {0}

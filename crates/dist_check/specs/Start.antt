@@ -46,13 +46,16 @@ pub record IsStart (r : PackageList) (limits : Limits) (h : Header) (s : StateVi
 -- the kind is not taken, or the clauses keep both numbers and a number of the line is wrong
 abbrev pub IsUnfit : PackageList → Limits → Header → Type 0
 IsUnfit r limits h =
-    (h.kind ≢ kinds.Strong) ⊎ ((clauses : List (List Literal)) × ArePresentClauses r h.essential clauses × AreInputsWithin limits clauses × (¬ HasNumbers r clauses h))
+    (h.kind ≢ kinds.Strong) ⊎ ((clauses : List (List Literal)) × ArePresentClauses r h.essential clauses
+    × AreInputsWithin limits clauses × (¬ HasNumbers r clauses h))
 
 -- When each answer comes.
 abbrev pub StartAnswers : PackageList → Limits → Header → Result StateView ReadCertError → Type 0
 StartAnswers r limits h (Ok s) = IsStart r limits h s
 StartAnswers r limits h (Err (Bad fault)) = (fault.line ≡ 1) × (fault.cause ≡ BadHeader) × IsUnfit r limits h
-StartAnswers r limits h (Err (Work (TooLarge Clauses))) = (h.kind ≡ kinds.Strong) × PassesClauses r h.essential limits.clauses limits.literals
-StartAnswers r limits h (Err (Work (TooLarge Literals))) = (h.kind ≡ kinds.Strong) × PassesLiterals r h.essential limits.clauses limits.literals
+StartAnswers r limits h (Err (Work (TooLarge Clauses))) = (h.kind ≡ kinds.Strong)
+    × PassesClauses r h.essential limits.clauses limits.literals
+StartAnswers r limits h (Err (Work (TooLarge Literals))) = (h.kind ≡ kinds.Strong)
+    × PassesLiterals r h.essential limits.clauses limits.literals
 StartAnswers r limits h (Err (Work NoMemory)) = Unit {0}
 StartAnswers r limits h (Err error) = ⊥

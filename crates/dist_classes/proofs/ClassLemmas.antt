@@ -4,10 +4,12 @@ use Rattle.std.specs.Prelude.{Any}
 use Rattle.dist_version.specs.Order.{version_cmp, IsBelow}
 use Rattle.dist_classes.specs.ClassList.{classes_above, classes_of_all, IsOfClassAt, IsInOneClass}
 use Rattle.dist_classes.specs.Cuts.{Rises, RisesFrom}
-use Rattle.dist_classes.specs.VersionOrder.{above-below, alike-left, alike-right, below-above, below-trans, cases-order, equal-back, less-not_equal, not-above_below, not-both}
+use Rattle.dist_classes.specs.VersionOrder.{above-below, alike-left, alike-right, below-above, below-trans, cases-order, equal-back, less-not_equal}
+use Rattle.dist_classes.specs.VersionOrder.{not-above_below, not-both}
 
 -- a version of a class above a top is above it
-pub above-top : (top : List ℕ) (cuts : List (List ℕ)) → RisesFrom top cuts → (v : List ℕ) (number : ℕ) → IsOfClassAt (classes_above top cuts) number v → IsBelow top v
+pub above-top : (top : List ℕ) (cuts : List (List ℕ)) → RisesFrom top cuts → (v : List ℕ) (number : ℕ) → IsOfClassAt (classes_above top cuts) number v
+    → IsBelow top v
 above-top top [] rising v zero here = here
 above-top top [] rising v (suc number) here = absurd here
 above-top top (cut ∷ cuts) rising v zero here = here.0
@@ -77,7 +79,8 @@ one-class_of_all (cut ∷ cuts) rising v = elim (cases-order (version_cmp v cut)
     alone_point equal (suc zero) here = refl
     alone_point equal (suc (suc other)) here = absurd (less-not_equal cut v (above-top cut cuts rising v other here) (equal-back v cut equal))
 
-    alone_further : IsBelow cut v → (one : IsInOneClass (classes_above cut cuts) v) → (other : ℕ) → IsOfClassAt (classes_of_all (cut ∷ cuts)) other v → other ≡ suc (suc one.number)
+    alone_further : IsBelow cut v → (one : IsInOneClass (classes_above cut cuts) v) → (other : ℕ) → IsOfClassAt (classes_of_all (cut ∷ cuts)) other v
+        → other ≡ suc (suc one.number)
     alone_further above one zero here = absurd (not-both cut v above here)
     alone_further above one (suc zero) here = absurd (less-not_equal cut v above (equal-back v cut here))
     alone_further above one (suc (suc other)) here = ap (λ n. suc (suc n)) (one.alone other here)
@@ -109,7 +112,8 @@ both-above low b v w not_above first second =
     below-above b v (not-above_below low b v not_above first) ∙ sym (below-above b w (not-above_below low b w not_above second))
 
 -- versions below a cut are below all that the cut or a later one is equal to
-both-below : (cut : List ℕ) (cuts : List (List ℕ)) (b v w : List ℕ) → RisesFrom cut cuts → IsTold (cut ∷ cuts) b → IsBelow v cut → IsBelow w cut → version_cmp v b ≡ version_cmp w b
+both-below : (cut : List ℕ) (cuts : List (List ℕ)) (b v w : List ℕ) → RisesFrom cut cuts → IsTold (cut ∷ cuts) b → IsBelow v cut → IsBelow w cut
+    → version_cmp v b ≡ version_cmp w b
 both-below cut cuts b v w rising told first second = elim (told-cases cut cuts b told) [
   | inl equal ↦ (alike-right b cut v equal ∙ first) ∙ sym (alike-right b cut w equal ∙ second)
   | inr later ↦

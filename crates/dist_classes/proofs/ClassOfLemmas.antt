@@ -1,5 +1,6 @@
 -- The class of a version in a list of classes.
-use Rattle.std.proofs.Common.{◌≡◌, ◌↔◌, ℕ, zero, suc, ◌+◌, ◌<◌, ◌≤◌, get_or, slice_get, List, [], ◌∷◌, length, Option, Some, None, refl, sym, ap, subst, ◌∙◌, inl, inr, arith}
+use Rattle.std.proofs.Common.{◌≡◌, ◌↔◌, ℕ, zero, suc, ◌+◌, ◌<◌, ◌≤◌, get_or, slice_get, List, [], ◌∷◌, length, Option, Some, None, refl, sym, ap, subst, ◌∙◌}
+use Rattle.std.proofs.Common.{inl, inr, arith}
 use Rattle.std.specs.Prelude.{IsSomeAnd}
 use Rattle.std.proofs.lemmas.Bool.{cases_lt}
 use Rattle.std.proofs.lemmas.Option.{slice_get-get_or, same_Some}
@@ -35,13 +36,15 @@ one-holds classes list v i j first second = elim list.between [
 
 -- ---- a class was found
 
-pub found-one : (classes : List Class) → IsClassList classes → (v : List ℕ) (n : ℕ) → IsOfClassAt classes n v → (number : ℕ) → (Some n ≡ Some number) ↔ IsOfClassAt classes number v
+pub found-one : (classes : List Class) → IsClassList classes → (v : List ℕ) (n : ℕ) → IsOfClassAt classes n v → (number : ℕ) → (Some n ≡ Some number)
+    ↔ IsOfClassAt classes number v
 found-one classes list v n here number = (
   (λ is. let same : n ≡ number = cc in let At : ℕ → Type 0 = λ k. IsOfClassAt classes k v in subst At same here),
   λ other. ap (λ k. Some k) (one-holds classes list v n number here other),
 )
 
-pub found-above : (classes : List Class) (v : List ℕ) (n : ℕ) → IsOfClassAt classes n v → (top : List ℕ) (cuts : List (List ℕ)) → RisesFrom top cuts → classes ≡ classes_above top cuts →
+pub found-above : (classes : List Class) (v : List ℕ) (n : ℕ) → IsOfClassAt classes n v → (top : List ℕ) (cuts : List (List ℕ)) → RisesFrom top cuts
+    → classes ≡ classes_above top cuts →
     (Some n ≡ None) ↔ (¬ IsBelow top v)
 found-above classes v n here top cuts rising are = (
   (λ is. cc),
@@ -53,13 +56,15 @@ found-above classes v n here top cuts rising are = (
 abbrev none : Option ℕ
 none = None
 
-pub missing-one : (classes : List Class) (v : List ℕ) (count : ℕ) → length classes ≤ count → HasNoneBelow classes v count → (number : ℕ) → (none ≡ Some number) ↔ IsOfClassAt classes number v
+pub missing-one : (classes : List Class) (v : List ℕ) (count : ℕ) → length classes ≤ count → HasNoneBelow classes v count → (number : ℕ) → (none ≡ Some number)
+    ↔ IsOfClassAt classes number v
 missing-one classes v count past missing number = (
   (λ is. cc),
   λ here. absurd (let short = holds-within classes v number here in missing number (omega arith) here),
 )
 
-pub missing-above : (classes : List Class) (v : List ℕ) (count : ℕ) → length classes ≤ count → HasNoneBelow classes v count → (top : List ℕ) (cuts : List (List ℕ)) → RisesFrom top cuts → classes ≡ classes_above top cuts →
+pub missing-above : (classes : List Class) (v : List ℕ) (count : ℕ) → length classes ≤ count → HasNoneBelow classes v count
+    → (top : List ℕ) (cuts : List (List ℕ)) → RisesFrom top cuts → classes ≡ classes_above top cuts →
     (none ≡ None) ↔ (¬ IsBelow top v)
 missing-above classes v count past missing top cuts rising are = (
   (λ _ above.
@@ -71,7 +76,8 @@ missing-above classes v count past missing top cuts rising are = (
   λ _. refl,
 )
 
-pub missing-all : (classes : List Class) (v : List ℕ) (count : ℕ) → length classes ≤ count → HasNoneBelow classes v count → (cuts : List (List ℕ)) → Rises cuts → classes ≡ classes_of_all cuts → ⊥
+pub missing-all : (classes : List Class) (v : List ℕ) (count : ℕ) → length classes ≤ count → HasNoneBelow classes v count → (cuts : List (List ℕ)) → Rises cuts
+    → classes ≡ classes_of_all cuts → ⊥
 missing-all classes v count past missing cuts rising are =
     let one = one-class_of_all cuts rising v in
     let At : List Class → Type 0 = λ list. IsOfClassAt list one.number v in
@@ -81,13 +87,15 @@ missing-all classes v count past missing cuts rising are =
 
 -- ---- the classes so far
 
-pub none-more : (classes : List Class) (v : List ℕ) (count : ℕ) → ¬ IsOfClassAt classes count v → HasNoneBelow classes v count → HasNoneBelow classes v (count + 1)
+pub none-more : (classes : List Class) (v : List ℕ) (count : ℕ) → ¬ IsOfClassAt classes count v → HasNoneBelow classes v count
+    → HasNoneBelow classes v (count + 1)
 none-more classes v count other missing k below here = elim (cases_lt k count) [
   | inl h ↦ missing k h here
   | inr h ↦ let same : k ≡ count = omega arith in let At : ℕ → Type 0 = λ j. IsOfClassAt classes j v in other (subst At same here)
 ]
 
-pub holds-at : (classes : List Class) (v : List ℕ) (n : ℕ) (class : Class) → n < length classes → class ≡ get_or classes n class → IsOfClassAt classes n v ↔ IsOfClass class v
+pub holds-at : (classes : List Class) (v : List ℕ) (n : ℕ) (class : Class) → n < length classes → class ≡ get_or classes n class → IsOfClassAt classes n v
+    ↔ IsOfClass class v
 holds-at classes v n class short is =
     let at : slice_get classes n ≡ Some class = slice_get-get_or classes n class short ∙ ap (λ c. Some c) (sym is) in
     let Here : Option Class → Type 0 = λ o. IsSomeAnd o (λ c. IsOfClass c v) in
@@ -95,7 +103,8 @@ holds-at classes v n class short is =
 
 -- ---- no class is empty
 
-some-above : (top : List ℕ) (cuts : List (List ℕ)) → RisesFrom top cuts → (k : ℕ) (class : Class) → slice_get (classes_above top cuts) k ≡ Some class → HasVersions class
+some-above : (top : List ℕ) (cuts : List (List ℕ)) → RisesFrom top cuts → (k : ℕ) (class : Class) → slice_get (classes_above top cuts) k ≡ Some class
+    → HasVersions class
 some-above top [] rising zero class is = let P : Class → Type 0 = HasVersions in subst P (same_Some _ _ is) tt
 some-above top [] rising (suc k) class is = cc
 some-above top (cut ∷ cuts) rising zero class is = let P : Class → Type 0 = HasVersions in subst P (same_Some _ _ is) rising.0

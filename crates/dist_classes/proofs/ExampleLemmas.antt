@@ -47,7 +47,8 @@ first-of P x xs all = all 0 [] (omega arith)
 rest-of : (P : List ℕ → Type 0) (x : List ℕ) (xs : List (List ℕ)) → All P (x ∷ xs) → All P xs
 rest-of P x xs all k d short = all (suc k) d (omega arith)
 
-pub above-examples : IsDense → (top : List ℕ) (cuts : List (List ℕ)) → IsVersion top → All IsVersion cuts → RisesFrom top cuts → All HasExample (classes_above top cuts)
+pub above-examples : IsDense → (top : List ℕ) (cuts : List (List ℕ)) → IsVersion top → All IsVersion cuts → RisesFrom top cuts
+    → All HasExample (classes_above top cuts)
 above-examples dense top [] version versions rising = All-cons HasExample (Above top) [] (has-example dense (Above top) version tt) (All-nil HasExample)
 above-examples dense top (cut ∷ cuts) version versions rising =
     let own = first-of IsVersion cut cuts versions in
@@ -67,12 +68,16 @@ all-examples dense (cut ∷ cuts) versions rising =
 on-any : (r : PackageList) (Allows : List ℕ → Type 0) (version : List ℕ) → IsBoundOn r Allows version → IsBoundOn r (λ name. Unit {0}) version
 on-any r Allows version on = record { atom = on.atom; is_atom = on.is_atom; allowed = tt; bound = on.bound }
 
-pub cluster-examples : IsDense → (r : PackageList) (members top : List ℕ) (classes : List Class) → AreBoundsVersions r → IsVersion top → AreClassesOf r members top classes → All HasExample classes
+pub cluster-examples : IsDense → (r : PackageList) (members top : List ℕ) (classes : List Class) → AreBoundsVersions r → IsVersion top
+    → AreClassesOf r members top classes → All HasExample classes
 cluster-examples dense r members top classes bounds version of =
-    let versions : All IsVersion of.cuts = λ k d short. let least = of.are_cuts.least k d short in bounds (get_or of.cuts k d) (on-any r _ (get_or of.cuts k d) least.0.1) in
+    let versions : All IsVersion of.cuts = λ k d short. let least = of.are_cuts.least k d short in
+    bounds (get_or of.cuts k d) (on-any r _ (get_or of.cuts k d) least.0.1) in
     subst (All HasExample) (sym of.are) (above-examples dense top of.cuts version versions of.rising)
 
-pub name-examples : IsDense → (r : PackageList) (name : List ℕ) (classes : List Class) → AreBoundsVersions r → AreClassesOfName r name classes → All HasExample classes
+pub name-examples : IsDense → (r : PackageList) (name : List ℕ) (classes : List Class) → AreBoundsVersions r → AreClassesOfName r name classes
+    → All HasExample classes
 name-examples dense r name classes bounds of =
-    let versions : All IsVersion of.cuts = λ k d short. let least = of.are_cuts.least k d short in bounds (get_or of.cuts k d) (on-any r _ (get_or of.cuts k d) least.0) in
+    let versions : All IsVersion of.cuts = λ k d short. let least = of.are_cuts.least k d short in
+    bounds (get_or of.cuts k d) (on-any r _ (get_or of.cuts k d) least.0) in
     subst (All HasExample) (sym of.are) (all-examples dense of.cuts versions of.are_cuts.rising)

@@ -65,14 +65,16 @@ on-either r A B v = (
 )
 
 -- the versions on some names, and then those on others
-on-more : (r : PackageList) (a b c : List (List ℕ)) (A B C : List ℕ → Type 0) → ((n : List ℕ) → (A n ⊎ B n) ↔ C n) → Adds a b (IsBoundOn r A) → Adds b c (IsBoundOn r B) → Adds a c (IsBoundOn r C)
+on-more : (r : PackageList) (a b c : List (List ℕ)) (A B C : List ℕ → Type 0) → ((n : List ℕ) → (A n ⊎ B n) ↔ C n) → Adds a b (IsBoundOn r A)
+    → Adds b c (IsBoundOn r B) → Adds a c (IsBoundOn r C)
 on-more r a b c A B C same first second =
     let Both : List ℕ → Type 0 = λ n. A n ⊎ B n in
     adds-iff a c (IsBoundOn r Both) (IsBoundOn r C) (on-iff r Both C same)
     (adds-iff a c (λ v. IsBoundOn r A v ⊎ IsBoundOn r B v) (IsBoundOn r Both) (on-either r A B)
     (adds-both a b c (IsBoundOn r A) (IsBoundOn r B) first second))
 
-pub adds-table : (r : PackageList) (table : Entries) (name : List ℕ) (a b : List (List ℕ)) → IsTableOf r table → b ≡ a ++ versions_at table name → Adds a b (IsBoundOn r (λ other. other ≡ name))
+pub adds-table : (r : PackageList) (table : Entries) (name : List ℕ) (a b : List (List ℕ)) → IsTableOf r table → b ≡ a ++ versions_at table name
+    → Adds a b (IsBoundOn r (λ other. other ≡ name))
 adds-table r table name a b tabled is v =
     let In : List (List ℕ) → Type 0 = λ xs. Contains xs v in (
       (λ there. elim (Contains-append_cases a (versions_at table name) v (subst In is there)) [
@@ -91,15 +93,22 @@ adds-table r table name a b tabled is v =
 abbrev pub IsMovedBy : Option (List ℕ) → Package → ℕ → List ℕ → Type 0
 IsMovedBy architecture p count n = (p.name ≡ n) ⊎ Any (λ entry. IsMoving architecture p entry × (entry.name ≡ n)) (take count p.provides)
 
-pub moved-none : (r : PackageList) (architecture : Option (List ℕ)) (p : Package) (a b : List (List ℕ)) → Adds a b (IsBoundOn r (λ other. other ≡ p.name)) → Adds a b (IsBoundOn r (IsMovedBy architecture p 0))
+pub moved-none : (r : PackageList) (architecture : Option (List ℕ)) (p : Package) (a b : List (List ℕ)) → Adds a b (IsBoundOn r (λ other. other ≡ p.name))
+    → Adds a b (IsBoundOn r (IsMovedBy architecture p 0))
 moved-none r architecture p a b adds =
-    adds-iff a b (IsBoundOn r (λ other. other ≡ p.name)) (IsBoundOn r (IsMovedBy architecture p 0)) (on-iff r (λ other. other ≡ p.name) (IsMovedBy architecture p 0) (λ n. (
+    adds-iff a b (IsBoundOn r (λ other. other ≡ p.name)) (IsBoundOn r (IsMovedBy architecture p 0))
+    (on-iff r (λ other. other ≡ p.name) (IsMovedBy architecture p 0) (λ n. (
       (λ same. inl (sym same)),
-      λ either. elim either [ inl h ↦ sym h | inr any ↦ absurd (any-none (λ (entry : Provide). IsMoving architecture p entry × (entry.name ≡ n)) p.provides any) ],
+      λ either. elim either [
+        | inl h ↦ sym h
+        | inr any ↦ absurd (any-none (λ (entry : Provide). IsMoving architecture p entry × (entry.name ≡ n)) p.provides any)
+      ],
     ))) adds
 
-pub moved-more : (r : PackageList) (architecture : Option (List ℕ)) (p : Package) (k : ℕ) (entry : Provide) (a b c : List (List ℕ)) → slice_get p.provides k ≡ Some entry → IsMoving architecture p entry →
-    Adds a b (IsBoundOn r (IsMovedBy architecture p k)) → Adds b c (IsBoundOn r (λ other. other ≡ entry.name)) → Adds a c (IsBoundOn r (IsMovedBy architecture p (k + 1)))
+pub moved-more : (r : PackageList) (architecture : Option (List ℕ)) (p : Package) (k : ℕ) (entry : Provide) (a b c : List (List ℕ))
+    → slice_get p.provides k ≡ Some entry → IsMoving architecture p entry →
+    Adds a b (IsBoundOn r (IsMovedBy architecture p k)) → Adds b c (IsBoundOn r (λ other. other ≡ entry.name))
+    → Adds a c (IsBoundOn r (IsMovedBy architecture p (k + 1)))
 moved-more r architecture p k entry a b c here moving first second =
     on-more r a b c (IsMovedBy architecture p k) (λ other. other ≡ entry.name) (IsMovedBy architecture p (k + 1)) (λ n.
     let taken = any-take (λ (e : Provide). IsMoving architecture p e × (e.name ≡ n)) p.provides k entry here in (
@@ -113,10 +122,12 @@ moved-more r architecture p k entry a b c here moving first second =
       ],
     )) first second
 
-pub moved-still : (r : PackageList) (architecture : Option (List ℕ)) (p : Package) (k : ℕ) (entry : Provide) (a b : List (List ℕ)) → slice_get p.provides k ≡ Some entry → ¬ IsMoving architecture p entry →
+pub moved-still : (r : PackageList) (architecture : Option (List ℕ)) (p : Package) (k : ℕ) (entry : Provide) (a b : List (List ℕ))
+    → slice_get p.provides k ≡ Some entry → ¬ IsMoving architecture p entry →
     Adds a b (IsBoundOn r (IsMovedBy architecture p k)) → Adds a b (IsBoundOn r (IsMovedBy architecture p (k + 1)))
 moved-still r architecture p k entry a b here still adds =
-    adds-iff a b (IsBoundOn r (IsMovedBy architecture p k)) (IsBoundOn r (IsMovedBy architecture p (k + 1))) (on-iff r (IsMovedBy architecture p k) (IsMovedBy architecture p (k + 1)) (λ n.
+    adds-iff a b (IsBoundOn r (IsMovedBy architecture p k)) (IsBoundOn r (IsMovedBy architecture p (k + 1)))
+    (on-iff r (IsMovedBy architecture p k) (IsMovedBy architecture p (k + 1)) (λ n.
     let taken = any-take (λ (e : Provide). IsMoving architecture p e × (e.name ≡ n)) p.provides k entry here in (
       (λ either. elim either [ inl g ↦ inl g | inr any ↦ inr (taken.0 (inl any)) ]),
       λ either. elim either [
@@ -125,10 +136,12 @@ moved-still r architecture p k entry a b here still adds =
       ],
     ))) adds
 
-pub moved-all : (r : PackageList) (architecture : Option (List ℕ)) (p : Package) (k : ℕ) (a b : List (List ℕ)) → length p.provides ≤ k → Adds a b (IsBoundOn r (IsMovedBy architecture p k)) →
+pub moved-all : (r : PackageList) (architecture : Option (List ℕ)) (p : Package) (k : ℕ) (a b : List (List ℕ)) → length p.provides ≤ k
+    → Adds a b (IsBoundOn r (IsMovedBy architecture p k)) →
     Adds a b (IsBoundOn r (IsMovedName architecture p))
 moved-all r architecture p k a b past adds =
-    adds-iff a b (IsBoundOn r (IsMovedBy architecture p k)) (IsBoundOn r (IsMovedName architecture p)) (on-iff r (IsMovedBy architecture p k) (IsMovedName architecture p) (λ n.
+    adds-iff a b (IsBoundOn r (IsMovedBy architecture p k)) (IsBoundOn r (IsMovedName architecture p))
+    (on-iff r (IsMovedBy architecture p k) (IsMovedName architecture p) (λ n.
     let whole = any-whole (λ (e : Provide). IsMoving architecture p e × (e.name ≡ n)) p.provides k past in (
       (λ either. elim either [ inl g ↦ inl g | inr any ↦ inr (whole.0 any) ]),
       λ either. elim either [ inl g ↦ inl g | inr any ↦ inr (whole.1 any) ],
@@ -140,10 +153,13 @@ members-iff : (r : PackageList) (a b : List (List ℕ)) (A B : List ℕ → Type
 members-iff r a b A B same adds = adds-iff a b (IsBoundOn r A) (IsBoundOn r B) (on-iff r A B same) adds
 
 pub members-none : (r : PackageList) (members : List ℕ) (a : List (List ℕ)) → Adds a a (IsBoundOn r (IsNameOfCluster r (take 0 members)))
-members-none r members a = adds-nothing a (IsBoundOn r (IsNameOfCluster r (take 0 members))) (λ v on. any-none (λ (number : ℕ). IsPackageAnd r.packages number (λ p. IsMovedName r.architecture p on.atom.name)) members on.allowed)
+members-none r members a = adds-nothing a (IsBoundOn r (IsNameOfCluster r (take 0 members)))
+    (λ v on. any-none (λ (number : ℕ). IsPackageAnd r.packages number (λ p. IsMovedName r.architecture p on.atom.name)) members on.allowed)
 
-pub members-more : (r : PackageList) (members : List ℕ) (k number : ℕ) (p : Package) (a b c : List (List ℕ)) → slice_get members k ≡ Some number → slice_get r.packages number ≡ Some p →
-    Adds a b (IsBoundOn r (IsNameOfCluster r (take k members))) → Adds b c (IsBoundOn r (IsMovedName r.architecture p)) → Adds a c (IsBoundOn r (IsNameOfCluster r (take (k + 1) members)))
+pub members-more : (r : PackageList) (members : List ℕ) (k number : ℕ) (p : Package) (a b c : List (List ℕ)) → slice_get members k ≡ Some number
+    → slice_get r.packages number ≡ Some p →
+    Adds a b (IsBoundOn r (IsNameOfCluster r (take k members))) → Adds b c (IsBoundOn r (IsMovedName r.architecture p))
+    → Adds a c (IsBoundOn r (IsNameOfCluster r (take (k + 1) members)))
 members-more r members k number p a b c here at first second =
     on-more r a b c (IsNameOfCluster r (take k members)) (IsMovedName r.architecture p) (IsNameOfCluster r (take (k + 1) members)) (λ n.
     let Has : ℕ → Type 0 = λ j. IsPackageAnd r.packages j (λ q. IsMovedName r.architecture q n) in
@@ -156,30 +172,36 @@ members-more r members k number p a b c here at first second =
       λ any. elim (taken.1 any) [ inl h ↦ inl h | inr h ↦ inr (subst Is at h) ],
     )) first second
 
-pub members-all : (r : PackageList) (members : List ℕ) (k : ℕ) (a b : List (List ℕ)) → length members ≤ k → Adds a b (IsBoundOn r (IsNameOfCluster r (take k members))) → Adds a b (IsBoundOn r (IsNameOfCluster r members))
+pub members-all : (r : PackageList) (members : List ℕ) (k : ℕ) (a b : List (List ℕ)) → length members ≤ k
+    → Adds a b (IsBoundOn r (IsNameOfCluster r (take k members))) → Adds a b (IsBoundOn r (IsNameOfCluster r members))
 members-all r members k a b past adds =
-    members-iff r a b (IsNameOfCluster r (take k members)) (IsNameOfCluster r members) (λ n. any-whole (λ (number : ℕ). IsPackageAnd r.packages number (λ p. IsMovedName r.architecture p n)) members k past) adds
+    members-iff r a b (IsNameOfCluster r (take k members)) (IsNameOfCluster r members)
+    (λ n. any-whole (λ (number : ℕ). IsPackageAnd r.packages number (λ p. IsMovedName r.architecture p n)) members k past) adds
 
 -- ---- the classes
 
 found-iff : (P : List ℕ → Type 0) (found sorted : List (List ℕ)) → Adds [] found P → IsPermutation found sorted → (v : List ℕ) → P v ↔ Contains sorted v
 found-iff P found sorted adds permuted v = (
   (λ h. Contains-permutation found sorted v permuted ((adds v).1 (inr h))),
-  λ there. elim ((adds v).0 (Contains-permutation sorted found v (IsPermutation-sym found sorted permuted) there)) [ inl h ↦ absurd (omega (arith, h.1)) | inr h ↦ h ],
+  λ there. elim ((adds v).0 (Contains-permutation sorted found v (IsPermutation-sym found sorted permuted) there))
+      [ inl h ↦ absurd (omega (arith, h.1)) | inr h ↦ h ],
 )
 
-pub cluster-classes : (r : PackageList) (members top : List ℕ) (found sorted : List (List ℕ)) (classes : List Class) → Adds [] found (IsBoundOn r (IsNameOfCluster r members)) → IsPermutation found sorted → IsSorted text_cmp sorted →
+pub cluster-classes : (r : PackageList) (members top : List ℕ) (found sorted : List (List ℕ)) (classes : List Class)
+    → Adds [] found (IsBoundOn r (IsNameOfCluster r members)) → IsPermutation found sorted → IsSorted text_cmp sorted →
     classes ≡ classes_above top (cuts_after top sorted) → AreClassesOf r members top classes
 cluster-classes r members top found sorted classes adds permuted up is =
     let same = found-iff (IsBoundOn r (IsNameOfCluster r members)) found sorted adds permuted in
     record {
       cuts = cuts_after top sorted;
-      are_cuts = cuts-above (IsClusterCut r members top) top sorted (ordered-from_sorted sorted up) (λ v. ((λ h. (h.0, (same v).0 h.1)), λ h. (h.0, (same v).1 h.1)));
+      are_cuts = cuts-above (IsClusterCut r members top) top sorted (ordered-from_sorted sorted up)
+          (λ v. ((λ h. (h.0, (same v).0 h.1)), λ h. (h.0, (same v).1 h.1)));
       rising = cuts-rise top sorted;
       are = is;
     }
 
-pub name-classes : (r : PackageList) (name : List ℕ) (found sorted : List (List ℕ)) (classes : List Class) → Adds [] found (IsBoundOn r (λ other. other ≡ name)) → IsPermutation found sorted → IsSorted text_cmp sorted →
+pub name-classes : (r : PackageList) (name : List ℕ) (found sorted : List (List ℕ)) (classes : List Class) → Adds [] found (IsBoundOn r (λ other. other ≡ name))
+    → IsPermutation found sorted → IsSorted text_cmp sorted →
     classes ≡ classes_of_all (cuts_of sorted) → AreClassesOfName r name classes
 name-classes r name found sorted classes adds permuted up is = record {
   cuts = cuts_of sorted;

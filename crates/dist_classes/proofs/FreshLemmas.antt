@@ -1,5 +1,6 @@
 -- New names: of one atom, of some, and of a repository.
-use Rattle.std.proofs.Common.{◌≡◌, ◌==◌, eqb-true, eq-eqb, IsTrue, ◌⊎◌, ◌↔◌, ℕ, zero, suc, ◌+◌, ◌≤◌, Bool, List, [], ◌∷◌, length, take, Option, Some, Ordering, Less, Equal, Greater, refl, sym, ap, subst, ◌∙◌, inl, inr, arith, is_eq, nat_cmp, slice_get}
+use Rattle.std.proofs.Common.{◌≡◌, ◌==◌, eqb-true, eq-eqb, IsTrue, ◌⊎◌, ◌↔◌, ℕ, zero, suc, ◌+◌, ◌≤◌, Bool, List, [], ◌∷◌, length, take, Option, Some, Ordering}
+use Rattle.std.proofs.Common.{Less, Equal, Greater, refl, sym, ap, subst, ◌∙◌, inl, inr, arith, is_eq, nat_cmp, slice_get}
 use Rattle.std.specs.Prelude.{Any, Contains, IsSomeAnd}
 use Rattle.std.specs.BTreeSet.{insert_key}
 use Rattle.std.specs.Cmp.Lexicographic.{slice_cmp}
@@ -54,7 +55,10 @@ inserted Greater k x v xs rest is later = (
 )
 
 pub adds-key : (keys : List (List ℕ)) (k : List ℕ) → Adds keys (insert_key (slice_cmp nat_cmp) keys k) (λ q. k ≡ q)
-adds-key [] k v = ((λ there. elim (contains-cases k v [] there) [ inl h ↦ inr h | inr h ↦ inl h ]), λ either. elim either [ inl h ↦ absurd (omega (arith, h.1)) | inr h ↦ contains-here k v [] h ])
+adds-key [] k v = (
+  (λ there. elim (contains-cases k v [] there) [ inl h ↦ inr h | inr h ↦ inl h ]),
+  λ either. elim either [ inl h ↦ absurd (omega (arith, h.1)) | inr h ↦ contains-here k v [] h ],
+)
 adds-key (x ∷ keys) k v = inserted (slice_cmp nat_cmp k x) k x v keys (insert_key (slice_cmp nat_cmp) keys k) refl (adds-key keys k v)
 
 -- ---- one atom
@@ -70,7 +74,8 @@ package-any P packages (k, p, short, is, holds) =
     let Here : Option Package → Type 0 = λ o. IsSomeAnd o P in
     (k, subst Here (sym at) holds)
 
-pub unprovided : (r : PackageList) (name : List ℕ) (numbers : List ℕ) → AreProviders r name numbers → (length numbers ≡ 0) ↔ (¬ Any (λ p. IsProvider r.architecture name p) r.packages)
+pub unprovided : (r : PackageList) (name : List ℕ) (numbers : List ℕ) → AreProviders r name numbers → (length numbers ≡ 0)
+    ↔ (¬ Any (λ p. IsProvider r.architecture name p) r.packages)
 unprovided r name [] are = (
   (λ _ any. let one = package-any (λ p. IsProvider r.architecture name p) r.packages any in let there = (are.exact one.0).1 one.1 in omega (arith, there.1)),
   λ _. refl,
@@ -83,7 +88,8 @@ unprovided r name (n ∷ numbers) are = (
 pub empty-iff : (b : Bool) (xs : List ℕ) → b ≡ (length xs == 0) → IsTrue b ↔ (length xs ≡ 0)
 empty-iff b xs is = ((λ holds. eqb-true (length xs) 0 (sym is ∙ holds)), λ none. is ∙ eq-eqb (length xs) 0 none)
 
-pub fresh-noted : (r : PackageList) (atom : Atom) (a b : List (List ℕ)) → IsFreshAtom r atom.name atom → Adds a b (λ q. atom.name ≡ q) → Adds a b (λ q. IsFreshAtom r q atom)
+pub fresh-noted : (r : PackageList) (atom : Atom) (a b : List (List ℕ)) → IsFreshAtom r atom.name atom → Adds a b (λ q. atom.name ≡ q)
+    → Adds a b (λ q. IsFreshAtom r q atom)
 fresh-noted r atom a b fresh adds =
     adds-iff a b (λ q. atom.name ≡ q) (λ q. IsFreshAtom r q atom) (λ q. (
       (λ same. let P : List ℕ → Type 0 = λ n. IsFreshAtom r n atom in subst P same fresh),
@@ -91,7 +97,8 @@ fresh-noted r atom a b fresh adds =
     )) adds
 
 pub stale-noted : (r : PackageList) (atom : Atom) (a : List (List ℕ)) → ¬ IsFreshAtom r atom.name atom → Adds a a (λ q. IsFreshAtom r q atom)
-stale-noted r atom a stale = adds-nothing a (λ q. IsFreshAtom r q atom) (λ q h. let P : List ℕ → Type 0 = λ n. IsFreshAtom r n atom in stale (subst P (sym h.1) h))
+stale-noted r atom a stale = adds-nothing a (λ q. IsFreshAtom r q atom)
+    (λ q h. let P : List ℕ → Type 0 = λ n. IsFreshAtom r n atom in stale (subst P (sym h.1) h))
 
 -- ---- some of the first elements
 
@@ -104,7 +111,8 @@ adds-more P a b c xs k x is first second =
     adds-iff a c (λ q. Any (P q) (take k xs) ⊎ P q x) (λ q. Any (P q) (take (k + 1) xs)) (λ q. any-take (P q) xs k x is)
     (adds-both a b c (λ q. Any (P q) (take k xs)) (λ q. P q x) first second)
 
-pub adds-whole : {X : Type 0} (P : List ℕ → X → Type 0) (a b : List (List ℕ)) (xs : List X) (k : ℕ) → length xs ≤ k → Adds a b (λ q. Any (P q) (take k xs)) → Adds a b (λ q. Any (P q) xs)
+pub adds-whole : {X : Type 0} (P : List ℕ → X → Type 0) (a b : List (List ℕ)) (xs : List X) (k : ℕ) → length xs ≤ k → Adds a b (λ q. Any (P q) (take k xs))
+    → Adds a b (λ q. Any (P q) xs)
 adds-whole P a b xs k past adds = adds-iff a b (λ q. Any (P q) (take k xs)) (λ q. Any (P q) xs) (λ q. any-whole (P q) xs k past) adds
 
 -- ---- all packages
@@ -131,7 +139,8 @@ from-new r q new =
     let inside = item.4 in
     (p.0, p.1, p.2, p.3, (item.0, item.1, item.2, item.3, (inside.0, new.atom, inside.1, inside.2, (new.usable, new.named, new.unprovided))))
 
-pub names-from : (r : PackageList) (names : List (List ℕ)) → IsStrictlySortedBy (slice_cmp nat_cmp) names → Adds [] names (λ q. Any (HasFresh r q) r.packages) → AreNewNames r names
+pub names-from : (r : PackageList) (names : List (List ℕ)) → IsStrictlySortedBy (slice_cmp nat_cmp) names → Adds [] names (λ q. Any (HasFresh r q) r.packages)
+    → AreNewNames r names
 names-from r names rising adds = record {
   rising = rising;
   exact = λ q. (

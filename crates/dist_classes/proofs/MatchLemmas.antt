@@ -1,5 +1,6 @@
 -- What new versions of a member match, and what packages of a new name do: at versions of one class, the same atoms.
-use Rattle.std.proofs.Common.{◌≡◌, ◌⊎◌, ◌↔◌, ℕ, zero, suc, Bool, true, false, List, [], ◌∷◌, Option, Some, None, Ordering, Less, Equal, Greater, refl, sym, subst, ◌∙◌, inl, inr, arith, slice_get}
+use Rattle.std.proofs.Common.{◌≡◌, ◌⊎◌, ◌↔◌, ℕ, zero, suc, Bool, true, false, List, [], ◌∷◌, Option, Some, None, Ordering, Less, Equal, Greater, refl, sym}
+use Rattle.std.proofs.Common.{subst, ◌∙◌, inl, inr, arith, slice_get}
 use Rattle.std.specs.Prelude.{Any, Contains, IfSome, IsSomeAnd}
 use Rattle.dist_version.specs.Order.{version_cmp, IsBelow}
 use Rattle.dist_relation.specs.Satisfies.{AllowsOrder, Satisfies}
@@ -33,11 +34,13 @@ AreAlike atom v w = (bound : Bound) → atom.bound ≡ Some bound → version_cm
 satisfies-same : (v w : List ℕ) (bound : Bound) → version_cmp v bound.version ≡ version_cmp w bound.version → Satisfies v bound → Satisfies w bound
 satisfies-same v w bound same met = let P : Ordering → Type 0 = AllowsOrder bound.op in subst P same met
 
-meets-same : (o : Option Bound) (v w : List ℕ) → ((bound : Bound) → o ≡ Some bound → version_cmp v bound.version ≡ version_cmp w bound.version) → IfSome o (λ bound. Satisfies v bound) → IfSome o (λ bound. Satisfies w bound)
+meets-same : (o : Option Bound) (v w : List ℕ) → ((bound : Bound) → o ≡ Some bound → version_cmp v bound.version ≡ version_cmp w bound.version)
+    → IfSome o (λ bound. Satisfies v bound) → IfSome o (λ bound. Satisfies w bound)
 meets-same None v w alike met = tt
 meets-same (Some bound) v w alike met = satisfies-same v w bound (alike bound refl) met
 
-by-name : (atom : Atom) (first second : Package) → first.name ≡ second.name → AreAlike atom first.version second.version → MatchesByName atom first → MatchesByName atom second
+by-name : (atom : Atom) (first second : Package) → first.name ≡ second.name → AreAlike atom first.version second.version → MatchesByName atom first
+    → MatchesByName atom second
 by-name atom first second same alike h = record {
   name = sym same ∙ h.name;
   bound = meets-same atom.bound first.version second.version alike h.bound;
@@ -45,7 +48,8 @@ by-name atom first second same alike h = record {
 
 -- ---- entries of Provides
 
-at-cases : (version : Option (List ℕ)) (old : List ℕ) → IsSomeAnd version (λ v. version_cmp v old ≡ Equal) ⊎ ¬ IsSomeAnd version (λ v. version_cmp v old ≡ Equal)
+at-cases : (version : Option (List ℕ)) (old : List ℕ) → IsSomeAnd version (λ v. version_cmp v old ≡ Equal)
+    ⊎ ¬ IsSomeAnd version (λ v. version_cmp v old ≡ Equal)
 at-cases None old = inr (λ h. h)
 at-cases (Some v) old = elim (cases-order (version_cmp v old)) [
   | inl less ↦ inr (λ equal. less-not_equal v old less equal)
@@ -56,7 +60,8 @@ at-cases (Some v) old = elim (cases-order (version_cmp v old)) [
 ]
 
 -- carried entries have versions that are equal to those of their packages
-moved-meets : (o : Option Bound) (v w : List ℕ) (first second : Option (List ℕ)) → ((bound : Bound) → o ≡ Some bound → version_cmp v bound.version ≡ version_cmp w bound.version) →
+moved-meets : (o : Option Bound) (v w : List ℕ) (first second : Option (List ℕ))
+    → ((bound : Bound) → o ≡ Some bound → version_cmp v bound.version ≡ version_cmp w bound.version) →
     IsSomeAnd first (λ x. version_cmp x v ≡ Equal) → IsSomeAnd second (λ x. version_cmp x w ≡ Equal) →
     IfSome o (λ bound. IsSomeAnd first (λ x. Satisfies x bound)) → IfSome o (λ bound. IsSomeAnd second (λ x. Satisfies x bound))
 moved-meets None v w first second alike at_first at_second met = tt
@@ -70,7 +75,8 @@ module _ (architecture : Option (List ℕ)) (atom : Atom) (old v w : List ℕ) w
   abbrev IsFair : Provide → Type 0
   IsFair entry = IsUsable architecture entry.qualifier → IsAt entry old → entry.name ≡ atom.name → AreAlike atom v w
 
-  carried-one : (entry first second : Provide) → IsFair entry → IsCarried old v entry first → IsCarried old w entry second → MatchesByEntry architecture atom first → MatchesByEntry architecture atom second
+  carried-one : (entry first second : Provide) → IsFair entry → IsCarried old v entry first → IsCarried old w entry second
+      → MatchesByEntry architecture atom first → MatchesByEntry architecture atom second
   carried-one entry first second fair one other h =
       let Usable : Qualifier → Type 0 = λ q. IsUsable architecture q in
       let own_usable : IsUsable architecture entry.qualifier = subst Usable one.qualifier h.usable in
@@ -99,7 +105,8 @@ module _ (architecture : Option (List ℕ)) (atom : Atom) (old v w : List ℕ) w
   match-cases entry entries (zero, x, short, is, h) = let P : Provide → Type 0 = λ e. MatchesByEntry architecture atom e in inl (subst P (sym is) h)
   match-cases entry entries (suc k, x, short, is, h) = inr (k, x, omega arith, is, h)
 
-  fair-tail : (entry : Provide) (entries : List Provide) → ((e : Provide) → Contains (entry ∷ entries) e → IsFair e) → (e : Provide) → Contains entries e → IsFair e
+  fair-tail : (entry : Provide) (entries : List Provide) → ((e : Provide) → Contains (entry ∷ entries) e → IsFair e) → (e : Provide) → Contains entries e
+      → IsFair e
   fair-tail entry entries fair e there = fair e (suc there.0, omega (arith, there.1), there.2)
 
   pub carried-match : (kept : List Bool) (entries first second : List Provide) → ((e : Provide) → Contains entries e → IsFair e) →
@@ -108,7 +115,8 @@ module _ (architecture : Option (List ℕ)) (atom : Atom) (old v w : List ℕ) w
   carried-match [] (entry ∷ entries) first second fair one other h = absurd one
   carried-match (true ∷ kept) [] first second fair one other h = absurd one
   carried-match (false ∷ kept) [] first second fair one other h = absurd one
-  carried-match (false ∷ kept) (entry ∷ entries) first second fair one other h = carried-match kept entries first second (fair-tail entry entries fair) one other h
+  carried-match (false ∷ kept) (entry ∷ entries) first second fair one other h =
+      carried-match kept entries first second (fair-tail entry entries fair) one other h
   carried-match (true ∷ kept) (entry ∷ entries) first second fair one other h =
       subst HasMatch (sym other.2) (elim (match-cases one.0 one.1 (subst HasMatch one.2 h)) [
         | inl here ↦ match-first other.0 other.1 (carried-one entry one.0 other.0 (fair entry (0, omega arith, refl)) one.3 other.3 here)
@@ -126,9 +134,16 @@ module _ (r : PackageList) (members top : List ℕ) (cuts : List (List ℕ)) (ar
     (v w : List ℕ) (one : AreInOneClass (classes_above top cuts) v w) (atom : Atom) (is : IsAtomOf r atom) where
   moved-alike : IsMovedName r.architecture p atom.name → AreAlike atom v w
   moved-alike moved bound bound_is =
-      let allowed : IsNameOfCluster r members atom.name = (there.0, number, there.1, there.2, some-at (λ (q : Package). IsMovedName r.architecture q atom.name) (slice_get r.packages number) p at moved) in
+      let allowed : IsNameOfCluster r members atom.name = (
+        there.0,
+        number,
+        there.1,
+        there.2,
+        some-at (λ (q : Package). IsMovedName r.architecture q atom.name) (slice_get r.packages number) p at moved,
+      ) in
       let b = bound.version in
-      let named : IsBoundOn r (IsNameOfCluster r members) b = record { atom = atom; is_atom = is; allowed = allowed; bound = some-at (λ (x : Bound). x.version ≡ b) atom.bound bound bound_is refl } in
+      let named : IsBoundOn r (IsNameOfCluster r members) b =
+      record { atom = atom; is_atom = is; allowed = allowed; bound = some-at (λ (x : Bound). x.version ≡ b) atom.bound bound bound_is refl } in
       let told : (¬ IsBelow top b) ⊎ IsTold cuts b = elim (cases-order (version_cmp top b)) [
         | inl less ↦ inr (are.every b (less, named))
         | inr rest ↦ elim rest [
@@ -154,7 +169,8 @@ one-way r members top cuts are number p there at kept first second a b one atom 
       ];
     }
 
-in-one-back : (r : PackageList) (members top : List ℕ) (cuts : List (List ℕ)) (v w : List ℕ) → AreInOneClass (classes_above top cuts) v w → AreInOneClass (classes_above top cuts) w v
+in-one-back : (r : PackageList) (members top : List ℕ) (cuts : List (List ℕ)) (v w : List ℕ) → AreInOneClass (classes_above top cuts) v w
+    → AreInOneClass (classes_above top cuts) w v
 in-one-back r members top cuts v w one = record { number = one.number; first = one.second; second = one.first }
 
 pub members-alike : (r : PackageList) (members top : List ℕ) (cuts : List (List ℕ)) → AreCuts (IsClusterCut r members top) cuts →
@@ -179,10 +195,16 @@ names-one-way r name cuts are first second a b one atom is h = record {
     | inl by ↦
         let named : atom.name ≡ name = sym by.name ∙ a.name in
         let alike : AreAlike atom first.version second.version = λ bound bound_is.
-        let is_cut : IsNameCut r name bound.version = record { atom = atom; is_atom = is; allowed = named; bound = some-at (λ (x : Bound). x.version ≡ bound.version) atom.bound bound bound_is refl } in
+        let is_cut : IsNameCut r name bound.version = record {
+          atom = atom;
+          is_atom = is;
+          allowed = named;
+          bound = some-at (λ (x : Bound). x.version ≡ bound.version) atom.bound bound bound_is refl;
+        } in
         same-side_of_all cuts are.rising bound.version first.version second.version (are.every bound.version is_cut) one.number one.first one.second in
         inl (by-name atom first second (a.name ∙ sym b.name) alike by)
-    | inr any ↦ absurd (let P : List Provide → Type 0 = λ entries. Any (λ entry. MatchesByEntry r.architecture atom entry) entries in let none = subst P a.provides any in omega (arith, none.2))
+    | inr any ↦ absurd (let P : List Provide → Type 0 = λ entries. Any (λ entry. MatchesByEntry r.architecture atom entry) entries in
+        let none = subst P a.provides any in omega (arith, none.2))
   ];
 }
 

@@ -23,7 +23,8 @@ use Rattle.dist_classes.specs.NewVersion.{IsAt, IsMovedName, IsMoving}
 use Rattle.dist_classes.specs.Sorted.{cuts_after, cuts_of, text_cmp, text_total}
 use Rattle.dist_classes.specs.declared.class_value.Class.{Class}
 use Rattle.dist_classes.proofs.FreshLemmas.{HasFresh, names-from, same_names}
-use Rattle.dist_classes.proofs.SomeSets.{AreStrict, Found, InOrder, found-any, found-either, found-iff, found-none, found-one, in-order, same-texts, strictly-sorted}
+use Rattle.dist_classes.proofs.SomeSets.{AreStrict, Found, InOrder, found-any, found-either, found-iff, found-none, found-one, in-order, same-texts}
+use Rattle.dist_classes.proofs.SomeSets.{strictly-sorted}
 use Rattle.dist_classes.proofs.SortedLemmas.{IsOrdered, cuts-above, cuts-all, cuts-rise}
 
 -- ---- what is decided
@@ -35,7 +36,8 @@ moving-decided architecture p entry =
 
 moved_name-decided : (architecture : Option (List ℕ)) (p : Package) (name : List ℕ) → IsDecided (IsMovedName architecture p name)
 moved_name-decided architecture p name =
-    either-decided (text-decided p.name name) (any-decided (λ entry. IsMoving architecture p entry × (entry.name ≡ name)) (λ entry. both-decided (moving-decided architecture p entry) (text-decided entry.name name)) p.provides)
+    either-decided (text-decided p.name name) (any-decided (λ entry. IsMoving architecture p entry × (entry.name ≡ name))
+    (λ entry. both-decided (moving-decided architecture p entry) (text-decided entry.name name)) p.provides)
 
 name_of_cluster-decided : (r : PackageList) (members : List ℕ) (name : List ℕ) → IsDecided (IsNameOfCluster r members name)
 name_of_cluster-decided r members name =
@@ -44,7 +46,8 @@ name_of_cluster-decided r members name =
 
 provider-decided : (architecture : Option (List ℕ)) (name : List ℕ) (p : Package) → IsDecided (IsProvider architecture name p)
 provider-decided architecture name p =
-    either-decided (text-decided p.name name) (any-decided (IsEntryOf architecture name) (λ entry. both-decided (usable-decided architecture entry.qualifier) (text-decided entry.name name)) p.provides)
+    either-decided (text-decided p.name name) (any-decided (IsEntryOf architecture name)
+    (λ entry. both-decided (usable-decided architecture entry.qualifier) (text-decided entry.name name)) p.provides)
 
 -- ---- the versions in bounds on some names
 
@@ -62,7 +65,8 @@ module _ (r : PackageList) (Allows : List ℕ → Type 0) (decided : (name : Lis
   of-atom : (atom : Atom) → Found (λ v. OfAtom v atom)
   of-atom atom = elim (usable-decided r.architecture atom.qualifier) [
     | inl usable ↦ elim (decided atom.name) [
-      | inl allowed ↦ found-iff (λ v. IsSomeAnd atom.bound (λ bound. bound.version ≡ v)) (λ v. OfAtom v atom) (λ v. ((λ h. (usable, allowed, h)), λ h. h.2)) (of-bound atom.bound)
+      | inl allowed ↦ found-iff (λ v. IsSomeAnd atom.bound (λ bound. bound.version ≡ v)) (λ v. OfAtom v atom) (λ v. ((λ h. (usable, allowed, h)), λ h. h.2))
+          (of-bound atom.bound)
       | inr other ↦ found-none (λ v. OfAtom v atom) (λ v h. other h.1)
     ]
     | inr other ↦ found-none (λ v. OfAtom v atom) (λ v h. other h.0)
@@ -95,8 +99,13 @@ module _ (r : PackageList) (Allows : List ℕ → Type 0) (decided : (name : Lis
   from-bound v on = elim on.is_atom.there [
     | inl dependency ↦
         let item = dependency.4 in
-        let inside = item.4 in
-        (dependency.0, dependency.1, dependency.2, dependency.3, inl (item.0, item.1, item.2, item.3, (inside.0, on.atom, inside.1, inside.2, (on.is_atom.usable, on.allowed, on.bound))))
+        let inside = item.4 in (
+          dependency.0,
+          dependency.1,
+          dependency.2,
+          dependency.3,
+          inl (item.0, item.1, item.2, item.3, (inside.0, on.atom, inside.1, inside.2, (on.is_atom.usable, on.allowed, on.bound))),
+        )
     | inr conflict ↦
         let inside = conflict.4 in
         (conflict.0, conflict.1, conflict.2, conflict.3, inr (inside.0, on.atom, inside.1, inside.2, (on.is_atom.usable, on.allowed, on.bound)))
@@ -104,7 +113,8 @@ module _ (r : PackageList) (Allows : List ℕ → Type 0) (decided : (name : Lis
 
   bounds-in-order : InOrder text_cmp (IsBoundOn r Allows)
   bounds-in-order =
-      let found = found-iff (λ v. Any (OfPackage v) r.packages) (IsBoundOn r Allows) (λ v. (bound-from v, from-bound v)) (found-any OfPackage of-package r.packages) in
+      let found = found-iff (λ v. Any (OfPackage v) r.packages) (IsBoundOn r Allows) (λ v. (bound-from v, from-bound v))
+      (found-any OfPackage of-package r.packages) in
       in-order text_cmp text_total same-texts (IsBoundOn r Allows) found.found found.adds
 
 strict-ordered : (xs : List (List ℕ)) → AreStrict text_cmp xs → IsOrdered xs
@@ -130,15 +140,22 @@ some-cluster_classes r members top =
 pub some-name_classes : (r : PackageList) (name : List ℕ) → (classes : List Class) × AreClassesOfName r name classes
 some-name_classes r name =
     let list = bounds-in-order r (λ other. other ≡ name) (λ other. text-decided other name) in
-    let cuts = cuts_of list.sorted in
-    (classes_of_all cuts, record { cuts = cuts; are_cuts = cuts-all (IsNameCut r name) list.sorted (strict-ordered list.sorted list.strict) list.same; are = refl })
+    let cuts = cuts_of list.sorted in (
+      classes_of_all cuts,
+      record {
+        cuts = cuts;
+        are_cuts = cuts-all (IsNameCut r name) list.sorted (strict-ordered list.sorted list.strict) list.same;
+        are = refl;
+      },
+    )
 
 -- ---- the new names
 
 fresh-atom : (r : PackageList) (atom : Atom) → Found (λ q. IsFreshAtom r q atom)
 fresh-atom r atom = elim (usable-decided r.architecture atom.qualifier) [
   | inl usable ↦ elim (any-decided (λ p. IsProvider r.architecture atom.name p) (provider-decided r.architecture atom.name) r.packages) [
-    | inl there ↦ found-none (λ q. IsFreshAtom r q atom) (λ q h. let Provided : List ℕ → Type 0 = λ n. Any (λ p. IsProvider r.architecture n p) r.packages in h.2 (subst Provided h.1 there))
+    | inl there ↦ found-none (λ q. IsFreshAtom r q atom) (λ q h. let Provided : List ℕ → Type 0 = λ n. Any (λ p. IsProvider r.architecture n p) r.packages in
+        h.2 (subst Provided h.1 there))
     | inr none ↦ found-iff (λ q. atom.name ≡ q) (λ q. IsFreshAtom r q atom) (λ q. (
       (λ same. let Free : List ℕ → Type 0 = λ n. ¬ Any (λ p. IsProvider r.architecture n p) r.packages in (usable, same, subst Free same none)),
       λ h. h.1,
@@ -149,7 +166,8 @@ fresh-atom r atom = elim (usable-decided r.architecture atom.qualifier) [
 
 pub some-new_names : (r : PackageList) → (names : List (List ℕ)) × AreNewNames r names
 some-new_names r =
-    let found = found-any (HasFresh r) (λ p. found-any (λ q item. Any (IsFreshAtom r q) item) (λ item. found-any (IsFreshAtom r) (fresh-atom r) item) p.depends) r.packages in
+    let found = found-any (HasFresh r) (λ p. found-any (λ q item. Any (IsFreshAtom r q) item) (λ item. found-any (IsFreshAtom r) (fresh-atom r) item) p.depends)
+    r.packages in
     let list = in-order (slice_cmp nat_cmp) nat_list_cmp_total same_names (λ q. Any (HasFresh r q) r.packages) found.found found.adds in (
       list.sorted,
       names-from r list.sorted (strictly-sorted (slice_cmp nat_cmp) list.sorted list.strict) (λ q. (

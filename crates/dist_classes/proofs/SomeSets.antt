@@ -65,7 +65,10 @@ module _ (cmp : List ℕ → List ℕ → Ordering) (total : IsTotalOrder cmp) (
     );
     same = λ v. (
       (λ either. elim either [
-        | inl h ↦ elim (contains-cases x v xs h) [ inl g ↦ contains-here x v later.sorted g | inr g ↦ contains-later x v later.sorted ((later.same v).0 (inl g)) ]
+        | inl h ↦ elim (contains-cases x v xs h) [
+          | inl g ↦ contains-here x v later.sorted g
+          | inr g ↦ contains-later x v later.sorted ((later.same v).0 (inl g))
+        ]
         | inr h ↦ contains-later x v later.sorted ((later.same v).0 (inr h))
       ]),
       λ there. elim (contains-cases x v later.sorted there) [

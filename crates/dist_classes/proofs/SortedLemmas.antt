@@ -1,5 +1,6 @@
 -- The cuts among version texts in order.
-use Rattle.std.proofs.Common.{◌≡◌, ◌≢◌, ◌⊎◌, ◌↔◌, ℕ, zero, suc, ◌+◌, ◌<◌, Bool, true, false, cond, List, [], ◌∷◌, length, get_or, Ordering, Less, Equal, Greater, is_eq, is_lt, nat_cmp, refl, sym, ap, subst, ◌∙◌, inl, inr, arith}
+use Rattle.std.proofs.Common.{◌≡◌, ◌≢◌, ◌⊎◌, ◌↔◌, ℕ, zero, suc, ◌+◌, ◌<◌, Bool, true, false, cond, List, [], ◌∷◌, length, get_or, Ordering, Less, Equal}
+use Rattle.std.proofs.Common.{Greater, is_eq, is_lt, nat_cmp, refl, sym, ap, subst, ◌∙◌, inl, inr, arith}
 use Rattle.std.specs.Prelude.{Contains}
 use Rattle.std.specs.Cmp.Lexicographic.{slice_cmp}
 use Rattle.std.specs.List.Sorted.{IsSorted, IsSortedBy}
@@ -13,7 +14,8 @@ use Rattle.dist_version.specs.Order.{version_cmp, IsBelow}
 use Rattle.dist_classes.specs.Cuts.{AreCuts, IsLeastText, Rises, RisesFrom}
 use Rattle.dist_classes.specs.Sorted.{cuts_after, cuts_of, text_cmp, text_total}
 use Rattle.dist_classes.proofs.ClassLemmas.{IsTold}
-use Rattle.dist_classes.specs.VersionOrder.{above-below, below-above, below-trans, cases-order, equal-back, equal-itself, less-not_equal, not-above_below, not-both}
+use Rattle.dist_classes.specs.VersionOrder.{above-below, below-above, below-trans, cases-order, equal-back, equal-itself, less-not_equal, not-above_below}
+use Rattle.dist_classes.specs.VersionOrder.{not-both}
 
 -- ---- texts in order
 
@@ -39,7 +41,8 @@ pub ordered-from_sorted : (xs : List (List ℕ)) → IsSorted text_cmp xs → Is
 ordered-from_sorted [] up = tt
 ordered-from_sorted (x ∷ xs) up = (
   (λ v there.
-      let far : lt (get_or xs there.0 v) x ≡ false = sorted_far lt (ranks_by text_total (λ (y : List ℕ). y)) (x ∷ xs) up 0 (suc there.0) v (omega arith) (omega (arith, there.1)) in
+      let far : lt (get_or xs there.0 v) x ≡ false = sorted_far lt (ranks_by text_total (λ (y : List ℕ). y)) (x ∷ xs) up 0 (suc there.0) v (omega arith)
+      (omega (arith, there.1)) in
       let at : lt v x ≡ false = ap (λ y. lt y x) (sym there.2) ∙ far in
       ap is_gt (text_total.antisymm x v) ∙ turned (text_cmp v x) at),
   ordered-from_sorted xs (sorted-tail x xs up),
@@ -100,7 +103,8 @@ not_above-is x low v h above =
 abbrev chosen : (b : Bool) → List ℕ → List ℕ → List (List ℕ) → List (List ℕ)
 chosen b low x xs = cond b (x ∷ cuts_after x xs) (cuts_after low xs)
 
-chosen-rise : (low x : List ℕ) (xs : List (List ℕ)) (b : Bool) → IsAbove x low ≡ b → RisesFrom x (cuts_after x xs) → RisesFrom low (cuts_after low xs) → RisesFrom low (chosen b low x xs)
+chosen-rise : (low x : List ℕ) (xs : List (List ℕ)) (b : Bool) → IsAbove x low ≡ b → RisesFrom x (cuts_after x xs) → RisesFrom low (cuts_after low xs)
+    → RisesFrom low (chosen b low x xs)
 chosen-rise low x xs true is further same = (above-is x low is, further)
 chosen-rise low x xs false is further same = same
 
@@ -115,7 +119,8 @@ cut-above low (cut ∷ cuts) c rising there = elim (contains-cases cut c cuts th
   | inr later ↦ below-trans low cut c rising.0 (cut-above cut cuts c rising.1 later)
 ]
 
-chosen-there : (low x : List ℕ) (xs : List (List ℕ)) (c : List ℕ) (b : Bool) → (Contains (cuts_after x xs) c → Contains xs c) → (Contains (cuts_after low xs) c → Contains xs c) → Contains (chosen b low x xs) c → Contains (x ∷ xs) c
+chosen-there : (low x : List ℕ) (xs : List (List ℕ)) (c : List ℕ) (b : Bool) → (Contains (cuts_after x xs) c → Contains xs c)
+    → (Contains (cuts_after low xs) c → Contains xs c) → Contains (chosen b low x xs) c → Contains (x ∷ xs) c
 chosen-there low x xs c true further same inside = elim (contains-cases x c (cuts_after x xs) inside) [
   | inl here ↦ (0, omega arith, here)
   | inr later ↦ contains-later x c xs (further later)
@@ -136,7 +141,8 @@ told-after x v xs ordered later = elim (cases-order (version_cmp x v)) [
   ]
 ]
 
-chosen-told : (low x v : List ℕ) (xs : List (List ℕ)) (b : Bool) → IsAbove x low ≡ b → ((w : List ℕ) → Contains xs w → is_gt (text_cmp x w) ≡ false) → IsBelow low v → Contains (x ∷ xs) v →
+chosen-told : (low x v : List ℕ) (xs : List (List ℕ)) (b : Bool) → IsAbove x low ≡ b → ((w : List ℕ) → Contains xs w → is_gt (text_cmp x w) ≡ false)
+    → IsBelow low v → Contains (x ∷ xs) v →
     (Contains xs v → IsBelow x v → IsTold (cuts_after x xs) v) → (Contains xs v → IsTold (cuts_after low xs) v) → IsTold (chosen b low x xs) v
 chosen-told low x v xs true is ordered above there further same = elim (contains-cases x v xs there) [
   | inl here ↦ (0, x, omega arith, refl, ap (λ y. version_cmp y x) (sym here) ∙ equal-itself x)
@@ -152,10 +158,12 @@ chosen-told low x v xs false is ordered above there further same = elim (contain
 pub all-told : (low : List ℕ) (xs : List (List ℕ)) → IsOrdered xs → (v : List ℕ) → Contains xs v → IsBelow low v → IsTold (cuts_after low xs) v
 all-told low [] ordered v there above = absurd (omega (arith, there.1))
 all-told low (x ∷ xs) ordered v there above =
-    chosen-told low x v xs (IsAbove x low) refl ordered.0 above there (λ later below. all-told x xs ordered.1 v later below) (λ later. all-told low xs ordered.1 v later above)
+    chosen-told low x v xs (IsAbove x low) refl ordered.0 above there (λ later below. all-told x xs ordered.1 v later below)
+    (λ later. all-told low xs ordered.1 v later above)
 
 -- the text of a cut is the least
-least-first : (x v : List ℕ) (xs : List (List ℕ)) → ((w : List ℕ) → Contains xs w → is_gt (text_cmp x w) ≡ false) → Contains (x ∷ xs) v → version_cmp v x ≡ Equal → slice_cmp nat_cmp v x ≢ Less
+least-first : (x v : List ℕ) (xs : List (List ℕ)) → ((w : List ℕ) → Contains xs w → is_gt (text_cmp x w) ≡ false) → Contains (x ∷ xs) v
+    → version_cmp v x ≡ Equal → slice_cmp nat_cmp v x ≢ Less
 least-first x v xs ordered there equal less = elim (contains-cases x v xs there) [
   | inl here ↦ let no : Less ≡ Equal = sym less ∙ ap (λ y. slice_cmp nat_cmp y x) (sym here) ∙ tied_itself nat_list_cmp_total x in cc
   | inr later ↦ earlier-text x v (ordered v later) (equal-back v x equal) less
@@ -168,8 +176,10 @@ least-apart x c v xs there equal below = elim (contains-cases x v xs there) [
   | inr later ↦ later
 ]
 
-chosen-least : (low x c v : List ℕ) (xs : List (List ℕ)) (b : Bool) → IsAbove x low ≡ b → ((w : List ℕ) → Contains xs w → is_gt (text_cmp x w) ≡ false) → Contains (x ∷ xs) v → version_cmp v c ≡ Equal →
-    (Contains (cuts_after x xs) c → Contains xs v → slice_cmp nat_cmp v c ≢ Less) → (Contains (cuts_after low xs) c → Contains xs v → slice_cmp nat_cmp v c ≢ Less) → Contains (chosen b low x xs) c → slice_cmp nat_cmp v c ≢ Less
+chosen-least : (low x c v : List ℕ) (xs : List (List ℕ)) (b : Bool) → IsAbove x low ≡ b → ((w : List ℕ) → Contains xs w → is_gt (text_cmp x w) ≡ false)
+    → Contains (x ∷ xs) v → version_cmp v c ≡ Equal →
+    (Contains (cuts_after x xs) c → Contains xs v → slice_cmp nat_cmp v c ≢ Less)
+    → (Contains (cuts_after low xs) c → Contains xs v → slice_cmp nat_cmp v c ≢ Less) → Contains (chosen b low x xs) c → slice_cmp nat_cmp v c ≢ Less
 chosen-least low x c v xs true is ordered there equal further same cut = elim (contains-cases x c (cuts_after x xs) cut) [
   | inl here ↦
       let Of : List ℕ → Type 0 = λ y. slice_cmp nat_cmp v y ≢ Less in
@@ -179,10 +189,12 @@ chosen-least low x c v xs true is ordered there equal further same cut = elim (c
 chosen-least low x c v xs false is ordered there equal further same cut =
     same cut (least-apart x c v xs there equal (not_above-is x low c is (cut-above low (cuts_after low xs) c (cuts-rise low xs) cut)))
 
-pub cut-least : (low : List ℕ) (xs : List (List ℕ)) → IsOrdered xs → (c v : List ℕ) → Contains (cuts_after low xs) c → Contains xs v → version_cmp v c ≡ Equal → slice_cmp nat_cmp v c ≢ Less
+pub cut-least : (low : List ℕ) (xs : List (List ℕ)) → IsOrdered xs → (c v : List ℕ) → Contains (cuts_after low xs) c → Contains xs v → version_cmp v c ≡ Equal
+    → slice_cmp nat_cmp v c ≢ Less
 cut-least low [] ordered c v inside there equal = absurd (omega (arith, there.1))
 cut-least low (x ∷ xs) ordered c v inside there equal =
-    chosen-least low x c v xs (IsAbove x low) refl ordered.0 there equal (λ cut later. cut-least x xs ordered.1 c v cut later equal) (λ cut later. cut-least low xs ordered.1 c v cut later equal) inside
+    chosen-least low x c v xs (IsAbove x low) refl ordered.0 there equal (λ cut later. cut-least x xs ordered.1 c v cut later equal)
+    (λ cut later. cut-least low xs ordered.1 c v cut later equal) inside
 
 -- ---- the cuts of a set of texts
 
@@ -190,18 +202,22 @@ rises : (low : List ℕ) (cuts : List (List ℕ)) → RisesFrom low cuts → Ris
 rises low [] rising = tt
 rises low (cut ∷ cuts) rising = rising.1
 
-pub cuts-above : (Has : List ℕ → Type 0) (low : List ℕ) (xs : List (List ℕ)) → IsOrdered xs → ((v : List ℕ) → Has v ↔ (IsBelow low v × Contains xs v)) → AreCuts Has (cuts_after low xs)
+pub cuts-above : (Has : List ℕ → Type 0) (low : List ℕ) (xs : List (List ℕ)) → IsOrdered xs → ((v : List ℕ) → Has v ↔ (IsBelow low v × Contains xs v))
+    → AreCuts Has (cuts_after low xs)
 cuts-above Has low xs ordered same = record {
   rising = rises low (cuts_after low xs) (cuts-rise low xs);
   least = λ k d short.
       let c = get_or (cuts_after low xs) k d in
-      let inside : Contains (cuts_after low xs) c = Contains-get_or (cuts_after low xs) k d short in
-      ((same c).1 (cut-above low (cuts_after low xs) c (cuts-rise low xs) inside, cut-there low xs c inside), λ other has equal. cut-least low xs ordered c other inside ((same other).0 has).1 equal);
+      let inside : Contains (cuts_after low xs) c = Contains-get_or (cuts_after low xs) k d short in (
+        (same c).1 (cut-above low (cuts_after low xs) c (cuts-rise low xs) inside, cut-there low xs c inside),
+        λ other has equal. cut-least low xs ordered c other inside ((same other).0 has).1 equal,
+      );
   every = λ v has. let parts = (same v).0 has in all-told low xs ordered v parts.1 parts.0;
 }
 
 -- the first text and the cuts above it
-first-cuts : (Has : List ℕ → Type 0) (x : List ℕ) (xs : List (List ℕ)) → IsOrdered (x ∷ xs) → ((v : List ℕ) → Has v ↔ Contains (x ∷ xs) v) → AreCuts Has (x ∷ cuts_after x xs)
+first-cuts : (Has : List ℕ → Type 0) (x : List ℕ) (xs : List (List ℕ)) → IsOrdered (x ∷ xs) → ((v : List ℕ) → Has v ↔ Contains (x ∷ xs) v)
+    → AreCuts Has (x ∷ cuts_after x xs)
 first-cuts Has x xs ordered same = record {
   rising = cuts-rise x xs;
   least = λ k d short. least-at k d short;
@@ -271,7 +287,8 @@ same-heads x y xs ys first second same = elim (contains-cases y x ys ((same x).0
   ]
 ]
 
-tail-same : (x y : List ℕ) (xs ys : List (List ℕ)) → x ≡ y → RisesFrom x xs → ((v : List ℕ) → Contains (x ∷ xs) v → Contains (y ∷ ys) v) → (v : List ℕ) → Contains xs v → Contains ys v
+tail-same : (x y : List ℕ) (xs ys : List (List ℕ)) → x ≡ y → RisesFrom x xs → ((v : List ℕ) → Contains (x ∷ xs) v → Contains (y ∷ ys) v) → (v : List ℕ)
+    → Contains xs v → Contains ys v
 tail-same x y xs ys heads rising into v there = elim (contains-cases y v ys (into v (contains-later x v xs there))) [
   | inl h ↦
       let Below : List ℕ → Type 0 = λ w. IsBelow x w in

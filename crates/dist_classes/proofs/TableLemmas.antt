@@ -1,5 +1,6 @@
 -- What is noted of versions in bounds: of one atom, of some, and of all of a repository.
-use Rattle.std.proofs.Common.{◌≡◌, ◌≢◌, ◌⊎◌, ◌↔◌, ℕ, ◌+◌, ◌≤◌, Bool, true, false, cond, List, [], ◌∷◌, ◌++◌, length, get_or, take, Option, Some, None, refl, sym, ap, subst, ◌∙◌, inl, inr, arith, nat_cmp, slice_get, unwrap_or}
+use Rattle.std.proofs.Common.{◌≡◌, ◌≢◌, ◌⊎◌, ◌↔◌, ℕ, ◌+◌, ◌≤◌, Bool, true, false, cond, List, [], ◌∷◌, ◌++◌, length, get_or, take, Option, Some, None, refl}
+use Rattle.std.proofs.Common.{sym, ap, subst, ◌∙◌, inl, inr, arith, nat_cmp, slice_get, unwrap_or}
 use Rattle.std.specs.Prelude.{Any, Contains, IsSomeAnd}
 use Rattle.std.specs.BTreeMap.{is_at}
 use Rattle.std.specs.Cmp.Lexicographic.{slice_cmp}
@@ -138,15 +139,18 @@ notes-more P a b c xs k x is first second =
     notes-iff a c (λ q v. Any (P q v) (take k xs) ⊎ P q v x) (λ q v. Any (P q v) (take (k + 1) xs)) (λ q v. any-take (P q v) xs k x is)
     (notes-both a b c (λ q v. Any (P q v) (take k xs)) (λ q v. P q v x) first second)
 
-pub notes-whole : {X : Type 0} (P : List ℕ → List ℕ → X → Type 0) (a b : Entries) (xs : List X) (k : ℕ) → length xs ≤ k → Notes a b (λ q v. Any (P q v) (take k xs)) → Notes a b (λ q v. Any (P q v) xs)
+pub notes-whole : {X : Type 0} (P : List ℕ → List ℕ → X → Type 0) (a b : Entries) (xs : List X) (k : ℕ) → length xs ≤ k
+    → Notes a b (λ q v. Any (P q v) (take k xs)) → Notes a b (λ q v. Any (P q v) xs)
 notes-whole P a b xs k past notes = notes-iff a b (λ q v. Any (P q v) (take k xs)) (λ q v. Any (P q v) xs) (λ q v. any-whole (P q v) xs k past) notes
 
 -- ---- one atom
 
 pub no-bound : (architecture : Option (List ℕ)) (a : Entries) (atom : Atom) → atom.bound ≡ None → Notes a a (λ q v. IsAtomBound architecture q v atom)
-no-bound architecture a atom is = notes-nothing a (λ q v. IsAtomBound architecture q v atom) (λ q v h. let P : Option _ → Type 0 = λ o. IsSomeAnd o (λ bound. bound.version ≡ v) in subst P is h.2)
+no-bound architecture a atom is = notes-nothing a (λ q v. IsAtomBound architecture q v atom)
+    (λ q v h. let P : Option _ → Type 0 = λ o. IsSomeAnd o (λ bound. bound.version ≡ v) in subst P is h.2)
 
-pub noted-atom : (architecture : Option (List ℕ)) (a b : Entries) (atom : Atom) (bound : Bound) → atom.bound ≡ Some bound → IsUsable architecture atom.qualifier →
+pub noted-atom : (architecture : Option (List ℕ)) (a b : Entries) (atom : Atom) (bound : Bound) → atom.bound ≡ Some bound → IsUsable architecture atom.qualifier
+    →
     Notes a b (λ q v. (atom.name ≡ q) × (bound.version ≡ v)) → Notes a b (λ q v. IsAtomBound architecture q v atom)
 noted-atom architecture a b atom bound is usable notes =
     notes-iff a b (λ q v. (atom.name ≡ q) × (bound.version ≡ v)) (λ q v. IsAtomBound architecture q v atom) (λ q v.
@@ -177,8 +181,13 @@ from-bound : (r : PackageList) (q v : List ℕ) → IsBoundOn r (λ name. name �
 from-bound r q v on = elim on.is_atom.there [
   | inl dependency ↦
       let item = dependency.4 in
-      let inside = item.4 in
-      (dependency.0, dependency.1, dependency.2, dependency.3, inl (item.0, item.1, item.2, item.3, (inside.0, on.atom, inside.1, inside.2, (on.is_atom.usable, on.allowed, on.bound))))
+      let inside = item.4 in (
+        dependency.0,
+        dependency.1,
+        dependency.2,
+        dependency.3,
+        inl (item.0, item.1, item.2, item.3, (inside.0, on.atom, inside.1, inside.2, (on.is_atom.usable, on.allowed, on.bound))),
+      )
   | inr conflict ↦
       let inside = conflict.4 in
       (conflict.0, conflict.1, conflict.2, conflict.3, inr (inside.0, on.atom, inside.1, inside.2, (on.is_atom.usable, on.allowed, on.bound)))

@@ -10,7 +10,8 @@ use Rattle.dist_classes.specs.NewVersion.{IsMovedName}
 
 -- a name that a new version of a member has at its own version
 abbrev pub IsNameOfCluster : PackageList → List ℕ → List ℕ → Type 0
-IsNameOfCluster r members name = Any (λ number. IsPackageAnd r.packages number (λ p. IsMovedName r.architecture p name)) members
+IsNameOfCluster r members name = Any (λ number. IsPackageAnd r.packages number (λ p. IsMovedName r.architecture p name))
+    members
 
 -- a version above the top that an atom on such a name has in its bound
 abbrev pub IsClusterCut : PackageList → (members top : List ℕ) → List ℕ → Type 0
@@ -31,7 +32,8 @@ Rises (v ∷ versions) = RisesFrom v versions
 
 -- a text of the set that is least in bytes among the texts of equal versions
 abbrev pub IsLeastText : (List ℕ → Type 0) → List ℕ → Type 0
-IsLeastText Has text = Has text × ((other : List ℕ) → Has other → version_cmp other text ≡ Equal → slice_cmp nat_cmp other text ≢ Less)
+IsLeastText Has text = Has text × ((other : List ℕ) → Has other → version_cmp other text ≡ Equal
+    → slice_cmp nat_cmp other text ≢ Less)
 
 -- The cuts of a set of version texts rise, each is one of them in its least text, and each of them is equal to a cut.
 pub record AreCuts (Has : List ℕ → Type 0) (cuts : List (List ℕ)) : Type 0 where

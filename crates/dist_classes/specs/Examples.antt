@@ -1,5 +1,7 @@
--- Worked examples: a library with two bounds on it, a provided interface that moves with its package, and a name that nobody has.
-use Rattle.std.proofs.Common.{◌≡◌, ℕ, zero, suc, ap, sym, subst, ◌∙◌, true, false, List, [], ◌∷◌, None, Some, lit<, inl, inr, refl, arith}
+-- Worked examples: a library with two bounds on it, a provided interface that moves with its package, and a name that
+-- nobody has.
+use Rattle.std.proofs.Common.{◌≡◌, ℕ, zero, suc, ap, sym, subst, ◌∙◌, true, false, List, [], ◌∷◌, None, Some, lit<, inl}
+use Rattle.std.proofs.Common.{inr, refl, arith}
 use Rattle.std.specs.Prelude.{Any, Contains, ◌⊎◌, codes, slice_index}
 use Rattle.std.proofs.lemmas.Cmp.{nat_list_cmp_total}
 use Rattle.std.proofs.lemmas.Map.Keys.{sorted_from_all_adjacent}
@@ -27,7 +29,8 @@ use Rattle.dist_repo.specs.Providers.{IsEntryOf, IsProvider}
 
 -- the versions above 1.0-1, where bounds name 2.0 and 3
 above_example : classes_above (codes "1.0-1") (codes "2.0" ∷ codes "3" ∷ [])
-    ≡ Between (codes "1.0-1") (codes "2.0") ∷ Point (codes "2.0") ∷ Between (codes "2.0") (codes "3") ∷ Point (codes "3") ∷ Above (codes "3") ∷ []
+    ≡ Between (codes "1.0-1") (codes "2.0") ∷ Point (codes "2.0") ∷ Between (codes "2.0") (codes "3")
+    ∷ Point (codes "3") ∷ Above (codes "3") ∷ []
 above_example = refl
 
 -- all versions, where a bound names 1
@@ -105,7 +108,11 @@ repository = record { architecture = None; packages = library ∷ program ∷ []
 bound_example : IsBoundOn repository (IsNameOfCluster repository (0 ∷ [])) (codes "2")
 bound_example = record {
   atom = below_two;
-  is_atom = record { usable = tt; there = inl (1, program, lit< tt, refl, (0, below_two ∷ [], lit< tt, refl, (0, lit< tt, refl))) };
+  is_atom = record {
+    usable = tt;
+    there = inl
+        (1, program, lit< tt, refl, (0, below_two ∷ [], lit< tt, refl, (0, lit< tt, refl)));
+  };
   allowed = (0, 0, lit< tt, refl, inl refl);
   bound = refl;
 }
@@ -127,12 +134,19 @@ two_is_version : IsVersion (codes "2")
 unfolding fault_of epoch_digits after_epoch upstream_of revision_of
 two_is_version = version_from_no_fault (codes "2") refl
 
-carried_example : AreCarried (codes "1.0") (codes "2") (true ∷ []) (interface ∷ []) (record { name = codes "abi"; qualifier = Plain; version = Some (codes "2") } ∷ [])
+carried_example : AreCarried (codes "1.0") (codes "2") (true ∷ []) (interface ∷ [])
+    (record { name = codes "abi"; qualifier = Plain; version = Some (codes "2") } ∷ [])
 carried_example = (
   record { name = codes "abi"; qualifier = Plain; version = Some (codes "2") },
   [],
   refl,
-  record { name = refl; qualifier = refl; moved = λ _. at_two; spelled = λ _. two_is_version; stays = λ other. absurd (other moving_example.1) },
+  record {
+    name = refl;
+    qualifier = refl;
+    moved = λ _. at_two;
+    spelled = λ _. two_is_version;
+    stays = λ other. absurd (other moving_example.1);
+  },
   refl,
 )
 
@@ -144,7 +158,9 @@ abbrev first_byte : List ℕ → ℕ
 first_byte name = slice_index name 0
 
 no_entry : ¬ Any (IsEntryOf None (codes "foo")) library.provides
-no_entry (zero, entry, short, is, holds) = absurd (let named : codes "abi" ≡ codes "foo" = ap (λ (e : Provide). e.name) is ∙ holds.1 in let first : 97 ≡ 102 = ap first_byte named in omega arith)
+no_entry (zero, entry, short, is, holds) =
+    absurd (let named : codes "abi" ≡ codes "foo" = ap (λ (e : Provide). e.name) is ∙ holds.1 in
+    let first : 97 ≡ 102 = ap first_byte named in omega arith)
 no_entry (suc k, entry, short, is, holds) = absurd (omega arith)
 
 not_library : ¬ IsProvider None (codes "foo") library
@@ -156,8 +172,10 @@ not_program (inl named) = absurd (let first : 112 ≡ 102 = ap first_byte named 
 not_program (inr any) = absurd (omega (arith, any.2))
 
 no_foo : ¬ Any (λ p. IsProvider None (codes "foo") p) repository.packages
-no_foo (zero, p, short, is, holds) = let P : Package → Type 0 = IsProvider None (codes "foo") in not_library (subst P (sym is) holds)
-no_foo (suc zero, p, short, is, holds) = let P : Package → Type 0 = IsProvider None (codes "foo") in not_program (subst P (sym is) holds)
+no_foo (zero, p, short, is, holds) = let P : Package → Type 0 = IsProvider None (codes "foo") in
+    not_library (subst P (sym is) holds)
+no_foo (suc zero, p, short, is, holds) = let P : Package → Type 0 = IsProvider None (codes "foo") in
+    not_program (subst P (sym is) holds)
 no_foo (suc (suc k), p, short, is, holds) = absurd (omega arith)
 
 -- nobody has or provides foo
@@ -175,15 +193,19 @@ only_one a atom (zero, short, is) = is
 only_one a atom (suc k, short, is) = absurd (omega arith)
 
 item_cases : (atom : Atom) → Any (λ item. Contains item atom) program.depends → (below_two ≡ atom) ⊎ (on_foo ≡ atom)
-item_cases atom (zero, item, short, is, there) = let In : List Atom → Type 0 = λ list. Contains list atom in inl (only_one below_two atom (subst In (sym is) there))
-item_cases atom (suc zero, item, short, is, there) = let In : List Atom → Type 0 = λ list. Contains list atom in inr (only_one on_foo atom (subst In (sym is) there))
+item_cases atom (zero, item, short, is, there) = let In : List Atom → Type 0 = λ list. Contains list atom in
+    inl (only_one below_two atom (subst In (sym is) there))
+item_cases atom (suc zero, item, short, is, there) = let In : List Atom → Type 0 = λ list. Contains list atom in
+    inr (only_one on_foo atom (subst In (sym is) there))
 item_cases atom (suc (suc k), item, short, is, there) = absurd (omega arith)
 
 -- an atom of an item is one of the two
 dependency_cases : (atom : Atom) → IsDependencyAtom repository.packages atom → (below_two ≡ atom) ⊎ (on_foo ≡ atom)
 dependency_cases atom (zero, p, short, is, any) =
-    let Has : Package → Type 0 = λ q. Any (λ item. Contains item atom) q.depends in let none = subst Has (sym is) any in absurd (omega (arith, none.2))
-dependency_cases atom (suc zero, p, short, is, any) = let Has : Package → Type 0 = λ q. Any (λ item. Contains item atom) q.depends in item_cases atom (subst Has (sym is) any)
+    let Has : Package → Type 0 = λ q. Any (λ item. Contains item atom) q.depends in let none = subst Has (sym is) any in
+    absurd (omega (arith, none.2))
+dependency_cases atom (suc zero, p, short, is, any) = let Has : Package
+    → Type 0 = λ q. Any (λ item. Contains item atom) q.depends in item_cases atom (subst Has (sym is) any)
 dependency_cases atom (suc (suc k), p, short, is, any) = absurd (omega arith)
 
 -- the library has its own name
@@ -194,7 +216,8 @@ foo_alone : (name : List ℕ) → IsNewName repository name → codes "foo" ≡ 
 foo_alone name new = elim (dependency_cases new.atom new.there) [
   | inl h ↦
       let named : codes "libx" ≡ name = ap (λ (a : Atom). a.name) h ∙ new.named in
-      let Has : List ℕ → Type 0 = λ n. Any (λ p. IsProvider None n p) repository.packages in absurd (new.unprovided (subst Has named has_libx))
+      let Has : List ℕ → Type 0 = λ n. Any (λ p. IsProvider None n p) repository.packages in
+      absurd (new.unprovided (subst Has named has_libx))
   | inr h ↦ ap (λ (a : Atom). a.name) h ∙ new.named
 ]
 

@@ -24,4 +24,5 @@ pub record AreNewNames (r : PackageList) (names : List (List ℕ)) : Type 0 wher
 
 -- a usable atom on this name, which no package has or provides
 abbrev pub IsFreshAtom : PackageList → List ℕ → Atom → Type 0
-IsFreshAtom r name atom = IsUsable r.architecture atom.qualifier × (atom.name ≡ name) × (¬ Any (λ p. IsProvider r.architecture name p) r.packages)
+IsFreshAtom r name atom = IsUsable r.architecture atom.qualifier × (atom.name ≡ name)
+    × (¬ Any (λ p. IsProvider r.architecture name p) r.packages)

@@ -1,4 +1,5 @@
--- New versions of a package of the repository, and packages of new names. What they depend on and conflict with is free.
+-- New versions of a package of the repository, and packages of new names. What they depend on and conflict with is
+-- free.
 use Rattle.std.specs.Prelude.{◌≡◌, ◌⊎◌, ℕ, Bool, true, false, List, [], ◌∷◌, Option, Any, IsSomeAnd}
 use Rattle.std.specs.declared.cmp.Ordering.TheVariants.{Equal}
 use Rattle.dist_version.specs.Order.{version_cmp}
@@ -17,7 +18,8 @@ IsMoving architecture p entry = IsUsable architecture entry.qualifier × IsAt en
 
 -- the package's name, or the name of a moving entry: the names that a new version has at its own version
 abbrev pub IsMovedName : Option (List ℕ) → Package → List ℕ → Type 0
-IsMovedName architecture p name = (p.name ≡ name) ⊎ Any (λ entry. IsMoving architecture p entry × (entry.name ≡ name)) p.provides
+IsMovedName architecture p name = (p.name ≡ name)
+    ⊎ Any (λ entry. IsMoving architecture p entry × (entry.name ≡ name)) p.provides
 
 -- An entry at the old version is carried to the new one, in any text that spells it. Any other entry stays as it is.
 pub record IsCarried (old new : List ℕ) (entry carried : Provide) : Type 0 where
@@ -30,7 +32,8 @@ pub record IsCarried (old new : List ℕ) (entry carried : Provide) : Type 0 whe
 -- of the old entries those that are kept, each carried, in their order
 abbrev pub AreCarried : (old new : List ℕ) → List Bool → (entries carried : List Provide) → Type 0
 AreCarried old new [] [] carried = carried ≡ []
-AreCarried old new (true ∷ kept) (entry ∷ entries) carried = (first : Provide) × (rest : List Provide) × (carried ≡ first ∷ rest) × IsCarried old new entry first × AreCarried old new kept entries rest
+AreCarried old new (true ∷ kept) (entry ∷ entries) carried = (first : Provide) × (rest : List Provide)
+    × (carried ≡ first ∷ rest) × IsCarried old new entry first × AreCarried old new kept entries rest
 AreCarried old new (false ∷ kept) (entry ∷ entries) carried = AreCarried old new kept entries carried
 AreCarried old new kept entries carried = ⊥
 

@@ -23,12 +23,14 @@ Notes old new P = (q v : List ℕ) → Contains (versions_at new q) v ↔ (Conta
 
 -- a usable atom on this name with this version in its bound
 abbrev pub IsAtomBound : Option (List ℕ) → List ℕ → List ℕ → Atom → Type 0
-IsAtomBound architecture name version atom = IsUsable architecture atom.qualifier × (atom.name ≡ name) × IsSomeAnd atom.bound (λ bound. bound.version ≡ version)
+IsAtomBound architecture name version atom = IsUsable architecture atom.qualifier × (atom.name ≡ name)
+    × IsSomeAnd atom.bound (λ bound. bound.version ≡ version)
 
 -- some atom of the package is one
 abbrev pub IsPackageBound : Option (List ℕ) → List ℕ → List ℕ → Package → Type 0
 IsPackageBound architecture name version p =
-    Any (λ item. Any (IsAtomBound architecture name version) item) p.depends ⊎ Any (IsAtomBound architecture name version) p.conflicts
+    Any (λ item. Any (IsAtomBound architecture name version) item) p.depends
+    ⊎ Any (IsAtomBound architecture name version) p.conflicts
 
 -- beside each name are the versions that the atoms of the repository have in their bounds on it
 abbrev pub IsTableOf : PackageList → Entries → Type 0

@@ -14,7 +14,10 @@ pub get_or-bits : (words : List ℕ) (n k : ℕ) (d : Bool) → k < n → get_or
 get_or-bits words n k d h = get_or-map-range_with_len (bit words) 0 n k k d h (omega arith)
 
 word-zero : (m j : ℕ) → get_or {A = ℕ} (replicate m 0) j 0 ≡ 0
-word-zero m j = elim (cases_lt j m) [ inl h ↦ get_or-replicate m j 0 0 h | inr h ↦ get_or_past (replicate m 0) j 0 (omega (arith, length-replicate {A = ℕ} m 0)) ]
+word-zero m j = elim (cases_lt j m) [
+  | inl h ↦ get_or-replicate m j 0 0 h
+  | inr h ↦ get_or_past (replicate m 0) j 0 (omega (arith, length-replicate {A = ℕ} m 0))
+]
 
 bit-zero : (m k : ℕ) → bit (replicate m 0) k ≡ false
 bit-zero m k =
@@ -36,7 +39,8 @@ bits-set old new place value n h within =
     let k_below : k < n = omega (arith, length-bits new n) in
     let place_within : place < length (bits old n) = omega (arith, length-bits old n) in
     get_or-bits new n k d k_below ∙ (elim (cases_eq k place) [
-      | inl same ↦ ap (bit new) same ∙ (h.changed ∙ sym (ap (λ j. get_or (set (bits old n) place value) j d) same ∙ get_or-set_same (bits old n) place value d place_within))
+      | inl same ↦ ap (bit new) same ∙ (h.changed ∙ sym (ap (λ j. get_or (set (bits old n) place value) j d) same
+          ∙ get_or-set_same (bits old n) place value d place_within))
       | inr other ↦ h.others k other ∙ sym (get_or-set_other (bits old n) place k value d other ∙ get_or-bits old n k d k_below)
     ]))
 
@@ -47,7 +51,8 @@ pub SetsBit-from_word : (words : List ℕ) (place word : ℕ) (value : Bool) →
     → SetsBit words (set words (place / 64) word) place value
 SetsBit-from_word words place word value within changed others = record {
   same_length = length-set words (place / 64) word;
-  changed = ap (λ w. eqb (bit_at w (place % 64)) 1) (get_or-set_same words (place / 64) word 0 (let h : place / 64 < length words = omega arith in h)) ∙ changed;
+  changed = ap (λ w. eqb (bit_at w (place % 64)) 1) (get_or-set_same words (place / 64) word 0 (let h : place / 64 < length words = omega arith in h))
+      ∙ changed;
   others = λ k other. elim (cases_eq (k / 64) (place / 64)) [
     | inl same ↦
         let apart : k % 64 ≢ place % 64 = λ e. other (omega arith) in

@@ -37,8 +37,10 @@ clustered-tied a b tied =
     let rest : versions_cmp a b ≡ Equal = then-second (slice_cmp nat_cmp a.source b.source) (versions_cmp a b) tied in
     record {
       source = same_names a.source b.source (then-first (slice_cmp nat_cmp a.source b.source) (versions_cmp a b) tied);
-      source_version = then-first (version_cmp a.source_version b.source_version) (version_cmp (without_rebuild_text a.version) (without_rebuild_text b.version)) rest;
-      version = then-second (version_cmp a.source_version b.source_version) (version_cmp (without_rebuild_text a.version) (without_rebuild_text b.version)) rest;
+      source_version = then-first (version_cmp a.source_version b.source_version)
+          (version_cmp (without_rebuild_text a.version) (without_rebuild_text b.version)) rest;
+      version = then-second (version_cmp a.source_version b.source_version) (version_cmp (without_rebuild_text a.version) (without_rebuild_text b.version))
+          rest;
     }
 
 pub tied-clustered : (a b : Member) → AreClustered a b → member_cmp a b ≡ Equal

@@ -1,5 +1,6 @@
 -- What one more member changes of what is found, and what is found of all members.
-use Rattle.std.proofs.Common.{◌≡◌, ◌≢◌, ◌↔◌, ◌⊎◌, ℕ, ◌+◌, ◌<◌, cond, List, [], ◌∷◌, ◌++◌, length, get_or, set, Some, None, Option, refl, sym, ap, subst, ◌∙◌, arith, inl, inr, slice_get}
+use Rattle.std.proofs.Common.{◌≡◌, ◌≢◌, ◌↔◌, ◌⊎◌, ℕ, ◌+◌, ◌<◌, cond, List, [], ◌∷◌, ◌++◌, length, get_or, set, Some, None, Option, refl, sym, ap, subst, ◌∙◌}
+use Rattle.std.proofs.Common.{arith, inl, inr, slice_get}
 use Rattle.std.specs.Prelude.{Contains, IsSomeAnd}
 use Rattle.std.specs.BTreeMap.{is_at}
 use Rattle.std.specs.List.Sorted.{IsStrictlyIncreasing}
@@ -33,7 +34,8 @@ found-none members = record {
 -- ---- the members so far
 
 -- a member of a cluster so far is below the next one
-below-next : (members : List Member) (n : ℕ) (numbers : List (Member × ℕ)) (clusters : List (List ℕ)) (cluster_of : List ℕ) → AreFound members n numbers clusters cluster_of →
+below-next : (members : List Member) (n : ℕ) (numbers : List (Member × ℕ)) (clusters : List (List ℕ)) (cluster_of : List ℕ)
+    → AreFound members n numbers clusters cluster_of →
     (c m : ℕ) → IsIn clusters c m → m < n
 below-next members n numbers clusters cluster_of found c m here =
     let short = slice_get_within cluster_of m c ((found.placed c m).0 here) in omega (arith, found.counted)
@@ -129,7 +131,8 @@ module _ (members : List Member) (n c : ℕ) (member : Member) (numbers : List (
         let second = least-joined j d inside in
         let less = found.in_order i j d before inside in
         omega arith;
-    some = All-set (λ (list : List ℕ). 0 < length list) clusters c (get_or clusters c [] ++ n ∷ []) (omega (arith, length_push (get_or clusters c []) n)) found.some;
+    some = All-set (λ (list : List ℕ). 0 < length list) clusters c (get_or clusters c [] ++ n ∷ []) (omega (arith, length_push (get_or clusters c []) n))
+        found.some;
     placed = placed-joined;
     numbered = λ m e other is numbered. elim (get-cases cluster_of c m e numbered) [
       | inl h ↦ found.numbered m e other is h
@@ -207,7 +210,8 @@ module _ (members : List Member) (n : ℕ) (member : Member) (before after : Lis
     rising = All-push IsStrictlyIncreasing clusters (n ∷ []) found.rising (increasing-one n);
     in_order = all_pairs_push (λ (c d : List ℕ). least c < least d) clusters (n ∷ []) found.in_order (λ k d short.
         let is : slice_get clusters k ≡ Some (get_or clusters k d) = slice_get-get_or clusters k d short in
-        below-next members n before clusters cluster_of found k (least (get_or clusters k d)) (is-in clusters k _ (get_or clusters k d) is (contains-least (get_or clusters k d) (found.some k d short))));
+        below-next members n before clusters cluster_of found k (least (get_or clusters k d))
+        (is-in clusters k _ (get_or clusters k d) is (contains-least (get_or clusters k d) (found.some k d short))));
     some = All-push (λ (list : List ℕ). 0 < length list) clusters (n ∷ []) found.some (omega arith);
     placed = placed-begun;
     numbered = λ m e other is numbered. elim (get-cases cluster_of (length clusters) m e numbered) [
@@ -216,7 +220,8 @@ module _ (members : List Member) (n : ℕ) (member : Member) (before after : Lis
           let last : m ≡ n = h.0 ∙ found.counted in
           let Stands : ℕ → Type 0 = λ k. slice_get members k ≡ Some other in
           let same : member ≡ other = same_Some _ _ (sym at ∙ subst Stands last is) in
-          ap (number_at after) (sym same) ∙ updates member ∙ ap (λ b. cond b (Some (length clusters)) (number_at before member)) (found-itself member) ∙ ap (λ k. Some k) h.1
+          ap (number_at after) (sym same) ∙ updates member ∙ ap (λ b. cond b (Some (length clusters)) (number_at before member)) (found-itself member)
+          ∙ ap (λ k. Some k) h.1
     ];
     apart = apart-begun;
     within = λ q e is. elim (number-cases q e is) [

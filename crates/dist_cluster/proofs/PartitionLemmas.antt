@@ -1,5 +1,6 @@
 -- What is found of all members is their partition, and there is one.
-use Rattle.std.proofs.Common.{◌≡◌, ◌↔◌, ◌⊎◌, ℕ, zero, suc, ◌+◌, ◌^◌, ◌<◌, ◌≤◌, List, [], ◌∷◌, length, get_or, Some, refl, sym, ap, subst, ◌∙◌, arith, inl, inr, slice_get}
+use Rattle.std.proofs.Common.{◌≡◌, ◌↔◌, ◌⊎◌, ℕ, zero, suc, ◌+◌, ◌^◌, ◌<◌, ◌≤◌, List, [], ◌∷◌, length, get_or, Some, refl, sym, ap, subst, ◌∙◌, arith, inl, inr}
+use Rattle.std.proofs.Common.{slice_get}
 use Rattle.std.specs.Prelude.{All, Any, Contains, IsSomeAnd}
 use Rattle.std.specs.List.Sorted.{IsStrictlyIncreasing}
 use Rattle.std.proofs.lemmas.Bool.{cases_lt}
@@ -23,7 +24,8 @@ together-parts members m n h =
     let second = some-of (λ (b : Member). AreClustered first.0 b) (slice_get members n) first.2 in
     (first.0, second.0, first.1, second.1, second.2)
 
-parts-together : (members : List Member) (m n : ℕ) (a b : Member) → slice_get members m ≡ Some a → slice_get members n ≡ Some b → AreClustered a b → AreTogether members m n
+parts-together : (members : List Member) (m n : ℕ) (a b : Member) → slice_get members m ≡ Some a → slice_get members n ≡ Some b → AreClustered a b
+    → AreTogether members m n
 parts-together members m n a b first second h =
     some-at (λ (x : Member). IsSomeAnd (slice_get members n) (λ y. AreClustered x y)) (slice_get members m) a first
     (some-at (λ (y : Member). AreClustered a y) (slice_get members n) b second h)
@@ -42,17 +44,20 @@ module _ (members : List Member) (n : ℕ) (numbers : List (Member × ℕ)) (clu
 
   whole-at : (c m : ℕ) (cluster : List ℕ) → slice_get clusters c ≡ Some cluster → Contains cluster m → IsClusterOf members cluster m
   whole-at c m cluster is there k =
-      let in_m : slice_get cluster_of m ≡ Some c = (found.placed c m).0 (some-at (λ (list : List ℕ). Contains list m) (slice_get clusters c) cluster is there) in
+      let in_m : slice_get cluster_of m ≡ Some c = (found.placed c m).0 (some-at (λ (list : List ℕ). Contains list m) (slice_get clusters c) cluster is there)
+      in
       let a = member-of c m in_m in
       let a_number : number_at numbers a.0 ≡ Some c = found.numbered m c a.0 a.1 in_m in (
         (λ other.
-            let in_k : slice_get cluster_of k ≡ Some c = (found.placed c k).0 (some-at (λ (list : List ℕ). Contains list k) (slice_get clusters c) cluster is other) in
+            let in_k : slice_get cluster_of k ≡ Some c = (found.placed c k).0
+            (some-at (λ (list : List ℕ). Contains list k) (slice_get clusters c) cluster is other) in
             let b = member-of c k in_k in
             parts-together members m k a.0 b.0 a.1 b.1 (found.apart a.0 b.0 c a_number (found.numbered k c b.0 b.1 in_k))),
         λ together.
             let parts = together-parts members m k together in
             let same : a.0 ≡ parts.0 = same_Some _ _ (sym a.1 ∙ parts.2) in
-            let number : number_at numbers parts.1 ≡ Some c = sym (number-same numbers parts.0 parts.1 parts.4) ∙ ap (number_at numbers) (sym same) ∙ a_number in
+            let number : number_at numbers parts.1 ≡ Some c = sym (number-same numbers parts.0 parts.1 parts.4) ∙ ap (number_at numbers) (sym same)
+            ∙ a_number in
             let short : k < length cluster_of = omega (arith, slice_get_within members k parts.1 parts.3, found.counted) in
             let e = standing cluster_of k short in
             let own : number_at numbers parts.1 ≡ Some e.0 = found.numbered k e.0 parts.1 parts.3 e.1 in
@@ -79,7 +84,8 @@ module _ (members : List Member) (n : ℕ) (numbers : List (Member × ℕ)) (clu
   found-within k d short j e inside =
       let m = get_or (get_or clusters k d) j e in
       let there = contains-at (get_or clusters k d) j m (slice_get-get_or (get_or clusters k d) j e inside) in
-      let is : slice_get cluster_of m ≡ Some k = (found.placed k m).0 (some-at (λ (list : List ℕ). Contains list m) (slice_get clusters k) (get_or clusters k d) (slice_get-get_or clusters k d short) there) in
+      let is : slice_get cluster_of m ≡ Some k = (found.placed k m).0
+      (some-at (λ (list : List ℕ). Contains list m) (slice_get clusters k) (get_or clusters k d) (slice_get-get_or clusters k d short) there) in
       let below = slice_get_within cluster_of m k is in
       omega (arith, found.counted)
 
@@ -125,7 +131,8 @@ least-of (y ∷ xs) x rising there = elim (contains-cases y x xs there.0 there.1
 abbrev HaveSame : List ℕ → List ℕ → Type 0
 HaveSame xs ys = (k : ℕ) → Contains xs k ↔ Contains ys k
 
-tail-same : (x y : ℕ) (xs ys : List ℕ) → x ≡ y → IsStrictlyIncreasing (x ∷ xs) → ((k : ℕ) → Contains (x ∷ xs) k → Contains (y ∷ ys) k) → (k : ℕ) → Contains xs k → Contains ys k
+tail-same : (x y : ℕ) (xs ys : List ℕ) → x ≡ y → IsStrictlyIncreasing (x ∷ xs) → ((k : ℕ) → Contains (x ∷ xs) k → Contains (y ∷ ys) k) → (k : ℕ) → Contains xs k
+    → Contains ys k
 tail-same x y xs ys heads rising into k there =
     let above = above-head x k xs rising there in
     let other = into k (tail-contains x k xs there) in
@@ -150,7 +157,8 @@ same-rising (x ∷ xs) (y ∷ ys) first second same =
 
 -- ---- one partition
 
-cluster-of : (members : List Member) (clusters : List (List ℕ)) → IsPartition members clusters → (c m : ℕ) → c < length clusters → Contains (get_or clusters c []) m → IsClusterOf members (get_or clusters c []) m
+cluster-of : (members : List Member) (clusters : List (List ℕ)) → IsPartition members clusters → (c m : ℕ) → c < length clusters
+    → Contains (get_or clusters c []) m → IsClusterOf members (get_or clusters c []) m
 cluster-of members clusters p c m short there = All-contains (IsClusterOf members (get_or clusters c [])) (get_or clusters c []) m (p.whole c [] short) there
 
 have-same : (members : List Member) (xs ys : List ℕ) (m : ℕ) → IsClusterOf members xs m → IsClusterOf members ys m → HaveSame xs ys
@@ -168,7 +176,8 @@ one-place : (members : List Member) (clusters : List (List ℕ)) → IsPartition
 one-place members clusters p c d m c_short d_short first second =
     let xs = get_or clusters c [] in
     let ys = get_or clusters d [] in
-    let same : HaveSame xs ys = have-same members xs ys m (cluster-of members clusters p c m c_short first) (cluster-of members clusters p d m d_short second) in
+    let same : HaveSame xs ys = have-same members xs ys m (cluster-of members clusters p c m c_short first)
+    (cluster-of members clusters p d m d_short second) in
     let low : least ys ≤ least xs = least-of ys (least xs) (p.rising d [] d_short) ((same (least xs)).0 (contains-least xs (p.some c [] c_short))) in
     let high : least xs ≤ least ys = least-of xs (least ys) (p.rising c [] c_short) ((same (least ys)).1 (contains-least ys (p.some d [] d_short))) in
     elim (cases_lt c d) [
@@ -179,7 +188,8 @@ one-place members clusters p c d m c_short d_short first second =
       ]
     ]
 
-pub one-cluster : (members : List Member) (clusters : List (List ℕ)) → IsPartition members clusters → (c d m : ℕ) → IsIn clusters c m → IsIn clusters d m → c ≡ d
+pub one-cluster : (members : List Member) (clusters : List (List ℕ)) → IsPartition members clusters → (c d m : ℕ) → IsIn clusters c m → IsIn clusters d m
+    → c ≡ d
 one-cluster members clusters p c d m first second =
     let a = in-place clusters c m first in
     let b = in-place clusters d m second in
@@ -193,7 +203,8 @@ agree-back : (a b : List (List ℕ)) (i : ℕ) → AgreeAt a b i → AgreeAt b a
 agree-back a b i agree = (agree.1, agree.0)
 
 -- where the clusters before agree, the next one of the other list begins no later
-no-later : (members : List Member) (a b : List (List ℕ)) → IsPartition members a → IsPartition members b → (i : ℕ) → ((j : ℕ) → j < i → AgreeAt a b j) → i < length a →
+no-later : (members : List Member) (a b : List (List ℕ)) → IsPartition members a → IsPartition members b → (i : ℕ) → ((j : ℕ) → j < i → AgreeAt a b j)
+    → i < length a →
     (i < length b) × (least (get_or b i []) ≤ least (get_or a i []))
 no-later members a b p q i before short =
     let x = least (get_or a i []) in
@@ -218,7 +229,8 @@ no-later members a b p q i before short =
       ]
     ]
 
-agree-next : (members : List Member) (a b : List (List ℕ)) → IsPartition members a → IsPartition members b → (i : ℕ) → ((j : ℕ) → j < i → AgreeAt a b j) → i < length a →
+agree-next : (members : List Member) (a b : List (List ℕ)) → IsPartition members a → IsPartition members b → (i : ℕ) → ((j : ℕ) → j < i → AgreeAt a b j)
+    → i < length a →
     (i < length b) × (get_or a i [] ≡ get_or b i [])
 agree-next members a b p q i before short =
     let first = no-later members a b p q i before short in
@@ -253,18 +265,22 @@ one-partition members a b p q =
 
 -- ---- clusters as they are kept
 
-pub listed-place : (clusters tops : List (List ℕ)) (cluster_of : List ℕ) → IsListed clusters tops cluster_of → (m : ℕ) → Any (λ cluster. Contains cluster m) clusters → m < length cluster_of
+pub listed-place : (clusters tops : List (List ℕ)) (cluster_of : List ℕ) → IsListed clusters tops cluster_of → (m : ℕ)
+    → Any (λ cluster. Contains cluster m) clusters → m < length cluster_of
 listed-place clusters tops cluster_of listed m any =
     let is : slice_get clusters any.0 ≡ Some any.1 = slice_get-get_or clusters any.0 any.1 any.2 ∙ ap (λ list. Some list) any.3 in
     slice_get_within cluster_of m any.0 ((listed.placed any.0 m).0 (some-at (λ (list : List ℕ). Contains list m) (slice_get clusters any.0) any.1 is any.4))
 
-pub listed-exact : (clusters tops : List (List ℕ)) (cluster_of : List ℕ) → IsListed clusters tops cluster_of → (m r : ℕ) → m < length cluster_of → r ≡ get_or cluster_of m r → (c : ℕ) → IsIn clusters c m ↔ (c ≡ r)
+pub listed-exact : (clusters tops : List (List ℕ)) (cluster_of : List ℕ) → IsListed clusters tops cluster_of → (m r : ℕ) → m < length cluster_of
+    → r ≡ get_or cluster_of m r → (c : ℕ) → IsIn clusters c m ↔ (c ≡ r)
 listed-exact clusters tops cluster_of listed m r short is c =
     let at : slice_get cluster_of m ≡ Some r = slice_get-get_or cluster_of m r short ∙ ap (λ k. Some k) (sym is) in (
       (λ here. same_Some _ _ (sym ((listed.placed c m).0 here) ∙ at)),
       λ same. (listed.placed c m).1 (at ∙ ap (λ k. Some k) (sym same)),
     )
 
-pub listed-from : (members : List Member) (n : ℕ) (numbers : List (Member × ℕ)) (clusters tops : List (List ℕ)) (cluster_of : List ℕ) → n < 2 ^ 32 → AreFound members n numbers clusters cluster_of →
+pub listed-from : (members : List Member) (n : ℕ) (numbers : List (Member × ℕ)) (clusters tops : List (List ℕ)) (cluster_of : List ℕ) → n < 2 ^ 32
+    → AreFound members n numbers clusters cluster_of →
     length tops ≡ length clusters → IsListed clusters tops cluster_of
-listed-from members n numbers clusters tops cluster_of small found aligned = record { aligned = aligned; few = let few = found.few in omega arith; placed = found.placed }
+listed-from members n numbers clusters tops cluster_of small found aligned =
+    record { aligned = aligned; few = let few = found.few in omega arith; placed = found.placed }

@@ -1,5 +1,6 @@
 -- The top of a cluster, member by member.
-use Rattle.std.proofs.Common.{◌≡◌, ◌≢◌, ◌↔◌, ◌⊎◌, ℕ, Bool, IsTrue, is_lt, ◌+◌, ◌<◌, List, [], ◌∷◌, ◌++◌, length, get_or, take, nat_cmp, Ordering, Less, Equal, Greater, Some, refl, sym, ap, subst, ◌∙◌, arith, inl, inr, slice_get}
+use Rattle.std.proofs.Common.{◌≡◌, ◌≢◌, ◌↔◌, ◌⊎◌, ℕ, Bool, IsTrue, is_lt, ◌+◌, ◌<◌, List, [], ◌∷◌, ◌++◌, length, get_or, take, nat_cmp, Ordering, Less, Equal}
+use Rattle.std.proofs.Common.{Greater, Some, refl, sym, ap, subst, ◌∙◌, arith, inl, inr, slice_get}
 use Rattle.std.specs.Prelude.{IsSomeAnd}
 use Rattle.std.specs.Cmp.{IsTotalOrder}
 use Rattle.std.specs.Cmp.Lexicographic.{slice_cmp}
@@ -67,15 +68,18 @@ one-top members cluster a b p q =
 
 -- ---- member by member
 
-version-at : (members : List Member) (n : ℕ) (member : Member) (v : List ℕ) → slice_get members n ≡ Some member → IsSomeAnd (slice_get members n) (λ m. m.version ≡ v) → member.version ≡ v
+version-at : (members : List Member) (n : ℕ) (member : Member) (v : List ℕ) → slice_get members n ≡ Some member
+    → IsSomeAnd (slice_get members n) (λ m. m.version ≡ v) → member.version ≡ v
 version-at members n member v at h =
     let one = some-of (λ (m : Member). m.version ≡ v) (slice_get members n) h in
     ap (λ (m : Member). m.version) (same_Some _ _ (sym at ∙ one.1)) ∙ one.2
 
 -- the first member
-pub highest-first : (members : List Member) (cluster : List ℕ) (n : ℕ) (member : Member) → slice_get cluster 0 ≡ Some n → slice_get members n ≡ Some member → IsHighest members (take 1 cluster) member.version
+pub highest-first : (members : List Member) (cluster : List ℕ) (n : ℕ) (member : Member) → slice_get cluster 0 ≡ Some n → slice_get members n ≡ Some member
+    → IsHighest members (take 1 cluster) member.version
 highest-first members cluster n member first at = (
-  take-any_here (λ k. IsSomeAnd (slice_get members k) (λ m. m.version ≡ member.version)) cluster 0 n first (some-at (λ (m : Member). m.version ≡ member.version) (slice_get members n) member at refl),
+  take-any_here (λ k. IsSomeAnd (slice_get members k) (λ m. m.version ≡ member.version)) cluster 0 n first
+      (some-at (λ (m : Member). m.version ≡ member.version) (slice_get members n) member at refl),
   λ v is less. elim (any-take (λ k. IsSomeAnd (slice_get members k) (λ m. m.version ≡ v)) cluster 0 n first is) [
     | inl h ↦ absurd (omega (arith, h.2))
     | inr h ↦
@@ -133,7 +137,8 @@ pub record AreTopsSoFar (members : List Member) (clusters tops : List (List ℕ)
 pub tops-none : (members : List Member) (clusters : List (List ℕ)) → AreTopsSoFar members clusters [] 0
 tops-none members clusters = record { counted = refl; each = λ c short. absurd (omega arith) }
 
-pub tops-more : (members : List Member) (clusters tops : List (List ℕ)) (count : ℕ) (cluster top : List ℕ) → count < length clusters → cluster ≡ get_or clusters count cluster → IsTop members cluster top →
+pub tops-more : (members : List Member) (clusters tops : List (List ℕ)) (count : ℕ) (cluster top : List ℕ) → count < length clusters
+    → cluster ≡ get_or clusters count cluster → IsTop members cluster top →
     AreTopsSoFar members clusters tops count → AreTopsSoFar members clusters (tops ++ top ∷ []) (count + 1)
 tops-more members clusters tops count cluster top short is highest before = record {
   counted = length_push tops top ∙ ap (λ k. k + 1) before.counted;
@@ -150,5 +155,6 @@ tops-more members clusters tops count cluster top short is highest before = reco
   ];
 }
 
-pub tops-all : (members : List Member) (clusters tops : List (List ℕ)) (count : ℕ) → count ≡ length clusters → AreTopsSoFar members clusters tops count → AreTops members (record { members = clusters; tops = tops })
+pub tops-all : (members : List Member) (clusters tops : List (List ℕ)) (count : ℕ) → count ≡ length clusters → AreTopsSoFar members clusters tops count
+    → AreTops members (record { members = clusters; tops = tops })
 tops-all members clusters tops count all so_far = record { aligned = so_far.counted ∙ all; each = λ c short. so_far.each c (omega arith) }

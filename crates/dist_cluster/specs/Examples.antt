@@ -1,5 +1,6 @@
 -- Worked examples: a package and a rebuild of another one of the same source, and one of another version.
-use Rattle.std.proofs.Common.{◌≡◌, ◌⊎◌, ℕ, zero, suc, ◌<◌, List, [], ◌∷◌, length, slice_get, lit<, inl, inr, nat_cmp, refl, sym, ap, subst, ◌∙◌, arith}
+use Rattle.std.proofs.Common.{◌≡◌, ◌⊎◌, ℕ, zero, suc, ◌<◌, List, [], ◌∷◌, length, slice_get, lit<, inl, inr, nat_cmp}
+use Rattle.std.proofs.Common.{refl, sym, ap, subst, ◌∙◌, arith}
 use Rattle.std.specs.Prelude.{All, Any, Contains, IsSomeAnd, codes, slice_index_or}
 use Rattle.std.specs.Cmp.Lexicographic.{slice_cmp}
 use Rattle.std.specs.List.Sorted.{IsStrictlyIncreasing}
@@ -24,7 +25,8 @@ newer = record { source = codes "s"; source_version = codes "2"; version = codes
 
 -- a rebuild stays in its cluster, whatever the text of the source's version
 rebuild_example : AreClustered library rebuilt
-unfolding without_rebuild_text fault_of epoch_digits after_epoch upstream_of revision_of version_cmp part_cmp weights_of epoch_of
+unfolding without_rebuild_text fault_of epoch_digits after_epoch upstream_of revision_of version_cmp part_cmp weights_of
+    epoch_of
 rebuild_example = record { source = refl; source_version = refl; version = refl }
 
 -- another version of the source is another cluster
@@ -47,26 +49,37 @@ number_cases n (suc zero) short is = inr is
 number_cases n (suc (suc k)) short is = absurd (omega arith)
 
 library_itself : AreClustered library library
-unfolding without_rebuild_text fault_of epoch_digits after_epoch upstream_of revision_of version_cmp part_cmp weights_of epoch_of
+unfolding without_rebuild_text fault_of epoch_digits after_epoch upstream_of revision_of version_cmp part_cmp weights_of
+    epoch_of
 library_itself = record { source = refl; source_version = refl; version = refl }
 
 rebuilt_itself : AreClustered rebuilt rebuilt
-unfolding without_rebuild_text fault_of epoch_digits after_epoch upstream_of revision_of version_cmp part_cmp weights_of epoch_of
+unfolding without_rebuild_text fault_of epoch_digits after_epoch upstream_of revision_of version_cmp part_cmp weights_of
+    epoch_of
 rebuilt_itself = record { source = refl; source_version = refl; version = refl }
 
 rebuild_back : AreClustered rebuilt library
-unfolding without_rebuild_text fault_of epoch_digits after_epoch upstream_of revision_of version_cmp part_cmp weights_of epoch_of
+unfolding without_rebuild_text fault_of epoch_digits after_epoch upstream_of revision_of version_cmp part_cmp weights_of
+    epoch_of
 rebuild_back = record { source = refl; source_version = refl; version = refl }
 
 first_whole : IsClusterOf both numbers 0
 first_whole zero = ((λ _. library_itself), λ _. (0, lit< tt, refl))
 first_whole (suc zero) = ((λ _. rebuild_example), λ _. (1, lit< tt, refl))
-first_whole (suc (suc n)) = ((λ there. absurd (elim (number_cases (suc (suc n)) there.0 there.1 there.2) [ inl h ↦ omega arith | inr h ↦ omega arith ])), λ h. absurd h)
+first_whole (suc (suc n)) = (
+  (λ there. absurd
+      (elim (number_cases (suc (suc n)) there.0 there.1 there.2) [ inl h ↦ omega arith | inr h ↦ omega arith ])),
+  λ h. absurd h,
+)
 
 second_whole : IsClusterOf both numbers 1
 second_whole zero = ((λ _. rebuild_back), λ _. (0, lit< tt, refl))
 second_whole (suc zero) = ((λ _. rebuilt_itself), λ _. (1, lit< tt, refl))
-second_whole (suc (suc n)) = ((λ there. absurd (elim (number_cases (suc (suc n)) there.0 there.1 there.2) [ inl h ↦ omega arith | inr h ↦ omega arith ])), λ h. absurd h)
+second_whole (suc (suc n)) = (
+  (λ there. absurd
+      (elim (number_cases (suc (suc n)) there.0 there.1 there.2) [ inl h ↦ omega arith | inr h ↦ omega arith ])),
+  λ h. absurd h,
+)
 
 every_number : (m : ℕ) → m < length both → Any (λ cluster. Contains cluster m) (numbers ∷ [])
 every_number zero short = (0, numbers, lit< tt, refl, (0, lit< tt, refl))
@@ -80,9 +93,11 @@ rises (suc k) short = absurd (omega arith)
 partition_example : IsPartition both (numbers ∷ [])
 partition_example = record {
   every = every_number;
-  some = All-cons (λ (cluster : List ℕ). 0 < length cluster) numbers [] (lit< tt) (All-nil (λ (cluster : List ℕ). 0 < length cluster));
+  some = All-cons (λ (cluster : List ℕ). 0 < length cluster) numbers [] (lit< tt)
+      (All-nil (λ (cluster : List ℕ). 0 < length cluster));
   whole = All-cons (λ (cluster : List ℕ). All (IsClusterOf both cluster) cluster) numbers []
-      (All-cons (IsClusterOf both numbers) 0 (1 ∷ []) first_whole (All-cons (IsClusterOf both numbers) 1 [] second_whole (All-nil (IsClusterOf both numbers))))
+      (All-cons (IsClusterOf both numbers) 0 (1 ∷ []) first_whole
+      (All-cons (IsClusterOf both numbers) 1 [] second_whole (All-nil (IsClusterOf both numbers))))
       (All-nil (λ (cluster : List ℕ). All (IsClusterOf both cluster) cluster));
   rising = All-cons IsStrictlyIncreasing numbers [] rises (All-nil IsStrictlyIncreasing);
   in_order = λ i j d before short. absurd (omega arith);

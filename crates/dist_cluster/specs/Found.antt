@@ -15,19 +15,23 @@ use Rattle.dist_cluster.specs.Total.{member_cmp}
 abbrev pub number_at : List (Member × ℕ) → Member → Option ℕ
 number_at numbers q = lookup (is_at (member_cmp q)) numbers
 
--- what a map of numbers of clusters, the clusters, and the number of the cluster of each member are, for so many first members
-pub record AreFound (members : List Member) (count : ℕ) (numbers : List (Member × ℕ)) (clusters : List (List ℕ)) (cluster_of : List ℕ) : Type 0 where
+-- what a map of numbers of clusters, the clusters, and the number of the cluster of each member are, for so many first
+-- members
+pub record AreFound (members : List Member) (count : ℕ) (numbers : List (Member × ℕ)) (clusters : List (List ℕ))
+    (cluster_of : List ℕ) : Type 0 where
   pub counted : length cluster_of ≡ count
   pub few : length clusters ≤ count
   pub rising : All IsStrictlyIncreasing clusters
   pub in_order : AllPairs (λ c d. least c < least d) clusters
   pub some : All (λ cluster. 0 < length cluster) clusters
   pub placed : (c m : ℕ) → IsIn clusters c m ↔ (slice_get cluster_of m ≡ Some c)
-  pub numbered : (m c : ℕ) (member : Member) → slice_get members m ≡ Some member → slice_get cluster_of m ≡ Some c → number_at numbers member ≡ Some c
+  pub numbered : (m c : ℕ) (member : Member) → slice_get members m ≡ Some member → slice_get cluster_of m ≡ Some c
+      → number_at numbers member ≡ Some c
   pub apart : (p q : Member) (c : ℕ) → number_at numbers p ≡ Some c → number_at numbers q ≡ Some c → AreClustered p q
   pub within : (q : Member) (c : ℕ) → number_at numbers q ≡ Some c → c < length clusters
 
--- clusters as they are kept: each has its top, their numbers fit in 32 bits, and each member has the number of its cluster
+-- clusters as they are kept: each has its top, their numbers fit in 32 bits, and each member has the number of its
+-- cluster
 pub record IsListed (clusters tops : List (List ℕ)) (cluster_of : List ℕ) : Type 0 where
   pub aligned : length tops ≡ length clusters
   pub few : length clusters < 2 ^ 32

@@ -14,7 +14,8 @@ IsVersionIn members cluster version = Any (λ n. IsSomeAnd (slice_get members n)
 pub record IsTop (members : List Member) (cluster top : List ℕ) : Type 0 where
   pub there : IsVersionIn members cluster top
   pub greatest : (version : List ℕ) → IsVersionIn members cluster version → ¬ IsBelow top version
-  pub least_text : (version : List ℕ) → IsVersionIn members cluster version → version_cmp top version ≡ Equal → slice_cmp nat_cmp version top ≢ Less
+  pub least_text : (version : List ℕ) → IsVersionIn members cluster version → version_cmp top version ≡ Equal
+      → slice_cmp nat_cmp version top ≢ Less
 
 -- What contracts see of clusters: for each its members, by their numbers, and its top.
 pub record ClusterList : Type 0 where
@@ -24,4 +25,5 @@ pub record ClusterList : Type 0 where
 -- each cluster has its top beside it
 pub record AreTops (members : List Member) (clusters : ClusterList) : Type 0 where
   pub aligned : length clusters.tops ≡ length clusters.members
-  pub each : (c : ℕ) → c < length clusters.members → IsTop members (slice_index_or clusters.members c []) (slice_index_or clusters.tops c [])
+  pub each : (c : ℕ) → c < length clusters.members
+      → IsTop members (slice_index_or clusters.members c []) (slice_index_or clusters.tops c [])

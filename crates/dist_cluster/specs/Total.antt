@@ -13,9 +13,11 @@ use Rattle.dist_cluster.specs.Relation.{Member}
 abbrev pub member_cmp : Member → Member → Ordering
 member_cmp a b =
     ordering_then (slice_cmp nat_cmp a.source b.source)
-    (ordering_then (version_cmp a.source_version b.source_version) (version_cmp (without_rebuild_text a.version) (without_rebuild_text b.version)))
+    (ordering_then (version_cmp a.source_version b.source_version)
+    (version_cmp (without_rebuild_text a.version) (without_rebuild_text b.version)))
 
 pub member_total : IsTotalOrder member_cmp
 member_total =
     then_total (on_total (λ (m : Member). m.source) nat_list_cmp_total)
-    (then_total (on_total (λ (m : Member). m.source_version) version_total) (on_total (λ (m : Member). without_rebuild_text m.version) version_total))
+    (then_total (on_total (λ (m : Member). m.source_version) version_total)
+    (on_total (λ (m : Member). without_rebuild_text m.version) version_total))

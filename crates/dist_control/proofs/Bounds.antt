@@ -33,8 +33,10 @@ le-second : (here left whole line others rest : ℕ) → here ≡ line + others 
 le-second here left whole line others rest b c d = omega arith
 
 within-step : (number : ℕ) (line : List ℕ) (rest : List (List ℕ)) (blank : Bool) → AreWithin (number + 1) rest →
-    (sizes (cond blank (raw_stanzas_from (number + 1) true rest) (record { line = number; lines = line ∷ run rest } ∷ raw_stanzas_from (number + 1) false rest)) ≤ total (line ∷ rest))
-    × (total (cond blank [] (line ∷ run rest)) + sizes (cond blank (raw_stanzas_from (number + 1) true rest) (raw_stanzas_from (number + 1) false rest)) ≤ total (line ∷ rest))
+    (sizes (cond blank (raw_stanzas_from (number + 1) true rest) (record { line = number; lines = line ∷ run rest } ∷ raw_stanzas_from (number + 1) false rest))
+    ≤ total (line ∷ rest))
+    × (total (cond blank [] (line ∷ run rest)) + sizes (cond blank (raw_stanzas_from (number + 1) true rest) (raw_stanzas_from (number + 1) false rest))
+    ≤ total (line ∷ rest))
 within-step number line rest true w = (omega (arith, w.apart, total-cons line rest), omega (arith, w.apart, total-cons line rest))
 within-step number line rest false w =
     let raw : RawStanza = record { line = number; lines = line ∷ run rest } in

@@ -1,5 +1,6 @@
 -- The pieces of a field.
-use Rattle.std.proofs.Common.{◌≡◌, ℕ, zero, suc, ◌+◌, ◌-◌, ◌<◌, ◌≤◌, true, false, not, List, [], ◌∷◌, ◌++◌, Option, Some, None, length, get_or, take, drop, refl, sym, ap, ◌∙◌, arith, inl, inr, append_assoc, length-append}
+use Rattle.std.proofs.Common.{◌≡◌, ℕ, zero, suc, ◌+◌, ◌-◌, ◌<◌, ◌≤◌, true, false, not, List, [], ◌∷◌, ◌++◌, Option, Some, None, length, get_or, take, drop}
+use Rattle.std.proofs.Common.{refl, sym, ap, ◌∙◌, arith, inl, inr, append_assoc, length-append}
 use Rattle.std.specs.List.{list_any, list_all, position_or_len, prefix_len, take_while, join_with_byte}
 use Rattle.std.proofs.lemmas.Bool.{false_from_ne_true, or_from, cases_Bool, cond-true, not_from_false}
 use Rattle.std.proofs.lemmas.List.{get_or_past, append-nil, append_cancel_right, drop-append-le, take_at, flat_map_more, length-drop}
@@ -34,7 +35,8 @@ named-from_first : (line : List ℕ) → is_field_name (take 1 line) ≡ true �
 named-from_first [] begins = absurd cc
 named-from_first (byte ∷ line) begins = grind (arith, take_while-cons is_name_byte byte line, all-taken line)
 
-first-from_named : (n : ℕ) (line : List ℕ) → is_field_name (take n line) ≡ true → (list_all is_name_byte (take n line) ≡ true) × (is_field_name (take 1 line) ≡ true)
+first-from_named : (n : ℕ) (line : List ℕ) → is_field_name (take n line) ≡ true → (list_all is_name_byte (take n line) ≡ true)
+    × (is_field_name (take 1 line) ≡ true)
 first-from_named zero line named = absurd cc
 first-from_named (suc n) [] named = absurd cc
 first-from_named (suc n) (byte ∷ line) named = (grind arith, grind arith)
@@ -48,7 +50,8 @@ colon-within : (line : List ℕ) → list_any is_colon line ≡ true → positio
 colon-within [] found = absurd cc
 colon-within (byte ∷ line) found = grind (arith, colon-within line)
 
-ends-at-colon : (line : List ℕ) → list_any is_colon line ≡ true → list_all is_name_byte (name_of line) ≡ true → prefix_len is_name_byte line ≡ position_or_len is_colon line
+ends-at-colon : (line : List ℕ) → list_any is_colon line ≡ true → list_all is_name_byte (name_of line) ≡ true
+    → prefix_len is_name_byte line ≡ position_or_len is_colon line
 ends-at-colon [] found all = absurd cc
 ends-at-colon (byte ∷ line) found all =
     elim (cases_Bool (is_colon byte)) [
@@ -59,12 +62,14 @@ ends-at-colon (byte ∷ line) found all =
     ]
 
 -- where the bytes of a name end at a colon, that is the first one, and they are the field name
-pub named-at_colon : (line : List ℕ) (place : ℕ) → place ≡ length (take_while is_name_byte line) → is_colon (get_or line place 0) ≡ true → is_field_name (take 1 line) ≡ true →
+pub named-at_colon : (line : List ℕ) (place : ℕ) → place ≡ length (take_while is_name_byte line) → is_colon (get_or line place 0) ≡ true
+    → is_field_name (take 1 line) ≡ true →
     IsFirstColon line place × (is_field_name (name_of line) ≡ true)
 named-at_colon line place is colon begins =
     let within : place < length line = grind (arith, get_or_past line place 0) in
     let run : place ≡ prefix_len is_name_byte line = is ∙ length-prefix_len is_name_byte line in
-    let at : position_or_len is_colon line ≡ place = position_or_len_is is_colon line place 0 (omega arith) (λ k h. colon-in-name _ (prefix_len_passes is_name_byte line k 0 (omega arith))) (λ _. colon) in (
+    let at : position_or_len is_colon line ≡ place = position_or_len_is is_colon line place 0 (omega arith)
+    (λ k h. colon-in-name _ (prefix_len_passes is_name_byte line k 0 (omega arith))) (λ _. colon) in (
       record {
         within = within;
         found = list_any_at is_colon line place 0 within colon;
@@ -75,7 +80,8 @@ named-at_colon line place is colon begins =
     )
 
 -- where a line has a colon and a field name before it, the bytes of a name end at a colon
-pub colon-from_named : (line : List ℕ) (place : ℕ) → place ≡ length (take_while is_name_byte line) → list_any is_colon line ≡ true → is_field_name (name_of line) ≡ true →
+pub colon-from_named : (line : List ℕ) (place : ℕ) → place ≡ length (take_while is_name_byte line) → list_any is_colon line ≡ true
+    → is_field_name (name_of line) ≡ true →
     (is_colon (get_or line place 0) ≡ true) × (is_field_name (take 1 line) ≡ true)
 colon-from_named line place is found named =
     let begun = first-from_named (position_or_len is_colon line) line named in
@@ -87,7 +93,8 @@ colon-from_named line place is found named =
 ended-push : (front : List (List ℕ)) (line : List ℕ) → ended (front ++ line ∷ []) ≡ ended front ++ (line ++ 10 ∷ [])
 ended-push front line = sym (flat_map_more (λ (line : List ℕ). line ++ 10 ∷ []) [] front line)
 
-in-front-cut : (text after taken : List ℕ) (front : List (List ℕ)) (rest line : List ℕ) → text ≡ taken ++ rest → taken ≡ ended front → IsCutAtLine rest line after →
+in-front-cut : (text after taken : List ℕ) (front : List (List ℕ)) (rest line : List ℕ) → text ≡ taken ++ rest → taken ≡ ended front
+    → IsCutAtLine rest line after →
     HasInFront text (front ++ line ∷ []) after
 in-front-cut text after taken front rest line is spelled (inl cut) = record {
   taken = taken ++ (line ++ 10 ∷ []);
@@ -156,12 +163,23 @@ value-spelled text line after more n has fits =
     let joined = join_with_byte 10 (drop n line ∷ more) in
     elim has.spelled [
       | inl spelled ↦
-          let long : length line ≤ length has.taken = omega (arith, ap length spelled, length-append (line ++ 10 ∷ []) (ended more), length-append line (10 ∷ [])) in
+          let long : length line ≤ length has.taken = omega (
+            arith,
+            ap length spelled,
+            length-append (line ++ 10 ∷ []) (ended more),
+            length-append line (10 ∷ []),
+          ) in
           let slice : take (length text - length after - n) (drop n text) ≡ joined ++ 10 ∷ [] =
           middle n text has.taken after has.cut (omega arith) ∙ ap (drop n) spelled ∙ drop-ended n line more fits ∙ ended-joined (drop n line) more in
           ap trim slice ∙ trim-end joined 10 refl
       | inr spelled ↦
-          let long : length line ≤ length has.taken = omega (arith, ap length spelled.1, length-append has.taken (10 ∷ []), length-append (line ++ 10 ∷ []) (ended more), length-append line (10 ∷ [])) in
+          let long : length line ≤ length has.taken = omega (
+            arith,
+            ap length spelled.1,
+            length-append has.taken (10 ∷ []),
+            length-append (line ++ 10 ∷ []) (ended more),
+            length-append line (10 ∷ []),
+          ) in
           let closed : drop n has.taken ++ 10 ∷ [] ≡ joined ++ 10 ∷ [] =
           sym (drop-append-le n has.taken (10 ∷ []) (omega arith)) ∙ ap (drop n) spelled.1 ∙ drop-ended n line more fits ∙ ended-joined (drop n line) more in
           ap trim (middle n text has.taken after has.cut (omega arith) ∙ append_cancel_right (drop n has.taken) joined (10 ∷ []) closed)

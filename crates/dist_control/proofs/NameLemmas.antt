@@ -1,5 +1,6 @@
 -- Names in a set, and among fields.
-use Rattle.std.proofs.Common.{◌≡◌, ℕ, zero, suc, ◌<◌, ◌≤◌, Bool, true, false, ◌||◌, cond, List, [], ◌∷◌, ◌++◌, Option, Some, None, length, take, drop, map, refl, sym, ap, ◌∙◌, arith, Vec, Bor, is_some, option_copied, find}
+use Rattle.std.proofs.Common.{◌≡◌, ℕ, zero, suc, ◌<◌, ◌≤◌, Bool, true, false, ◌||◌, cond, List, [], ◌∷◌, ◌++◌, Option, Some, None, length, take, drop, map}
+use Rattle.std.proofs.Common.{refl, sym, ap, ◌∙◌, arith, Vec, Bor, is_some, option_copied, find}
 use Rattle.std.specs.Option.{option_map}
 use Rattle.std.specs.declared.cmp.Ordering.{Ordering}
 use Rattle.std.specs.declared.cmp.Ordering.TheVariants.{Less, Equal, Greater}
@@ -59,7 +60,8 @@ module _ {Z : Type 0} where
   insert-step name first names other rest Less is later = refl
   insert-step name first names other rest Equal is later =
       let same : name.items ≡ first.items = (bytes_eq-Decides name.items first.items).0 (sym (is_eq-slice_cmp name.items first.items) ∙ ap is_eq is) in
-      or-twice (bytes_eq other first.items) _ ∙ ap (λ (t : List ℕ). bytes_eq other t || (bytes_eq other first.items || list_any (bytes_eq other) (texts names))) (sym same)
+      or-twice (bytes_eq other first.items) _ ∙ ap (λ (t : List ℕ). bytes_eq other t || (bytes_eq other first.items || list_any (bytes_eq other) (texts names)))
+      (sym same)
   insert-step name first names other rest Greater is later =
       ap (λ b. bytes_eq other first.items || b) later ∙ or-swap (bytes_eq other first.items) (bytes_eq other name.items) _
 
@@ -124,13 +126,15 @@ module _ (name : List ℕ) (fields : List FieldText) where
   -- no early field has the name: the late ones decide
   pub any-late : (names : List (List ℕ)) → AreLateNames fields names → HasName (take EARLY_FIELDS fields) ≡ false →
       HasName fields ≡ list_any (bytes_eq (folded name)) names
-  any-late names late none = any-split ∙ ap (λ b. b || list_any (bytes_eq (folded name)) (drop EARLY_FIELDS (folded_names fields))) none ∙ sym (late (folded name))
+  any-late names late none = any-split ∙ ap (λ b. b || list_any (bytes_eq (folded name)) (drop EARLY_FIELDS (folded_names fields))) none
+      ∙ sym (late (folded name))
 
   -- where there are early fields alone, they decide
   pub any-early : length fields < EARLY_FIELDS → HasName (take EARLY_FIELDS fields) ≡ false → HasName fields ≡ false
   any-early few none =
       any-split ∙ ap (λ b. b || list_any (bytes_eq (folded name)) (drop EARLY_FIELDS (folded_names fields))) none
-      ∙ ap (λ (l : List (List ℕ)). list_any (bytes_eq (folded name)) l) (drop_all EARLY_FIELDS (folded_names fields) (omega (arith, length-map fields (λ (field : FieldText). folded field.name))))
+      ∙ ap (λ (l : List (List ℕ)). list_any (bytes_eq (folded name)) l)
+      (drop_all EARLY_FIELDS (folded_names fields) (omega (arith, length-map fields (λ (field : FieldText). folded field.name))))
 
   pub any-found : HasName (take EARLY_FIELDS fields) ≡ true → HasName fields ≡ true
   any-found some = any-split ∙ or_left _ _ some
@@ -146,7 +150,8 @@ late-early fields field names late few other =
     late other
     ∙ ap (λ (l : List (List ℕ)). list_any (bytes_eq other) l) (
     drop_all EARLY_FIELDS (folded_names fields) (omega arith)
-    ∙ sym (drop_all EARLY_FIELDS (folded_names (fields ++ field ∷ [])) (omega (arith, ap length (names-push fields field), length-append (folded_names fields) (folded field.name ∷ [])))))
+    ∙ sym (drop_all EARLY_FIELDS (folded_names (fields ++ field ∷ []))
+    (omega (arith, ap length (names-push fields field), length-append (folded_names fields) (folded field.name ∷ [])))))
 
 -- a late field's name is one of them
 pub late-more : (fields : List FieldText) (field : FieldText) (names more : List (List ℕ)) → AreLateNames fields names → 24 ≤ length fields →
@@ -160,5 +165,6 @@ late-more fields field names more late many grown other =
     ∙ or-comm (bytes_eq other (folded field.name)) (Has old)
     ∙ ap (λ b. Has old || b) (or-comm false (bytes_eq other (folded field.name)))
     ∙ sym (list_any-append (bytes_eq other) old (folded field.name ∷ []))
-    ∙ ap Has (sym (drop-append-le EARLY_FIELDS (folded_names fields) (folded field.name ∷ []) (omega (arith, length-map fields (λ (field : FieldText). folded field.name)))))
+    ∙ ap Has (sym (drop-append-le EARLY_FIELDS (folded_names fields) (folded field.name ∷ [])
+    (omega (arith, length-map fields (λ (field : FieldText). folded field.name)))))
     ∙ ap (λ (l : List (List ℕ)). Has (drop EARLY_FIELDS l)) (sym (names-push fields field))

@@ -17,7 +17,8 @@ state line text refused = record { left = raw_stanzas_from line true (lines text
 
 some-line : (byte : ℕ) (bytes : List ℕ) → 0 < length (lines (byte ∷ bytes))
 some-line byte bytes =
-    let some : (ls : List (List ℕ)) → 0 < length (in_front byte ls) = λ ls. elim ls as (λ l. 0 < length (in_front byte l)) [ [] ↦ omega arith | first ∷ rest ↦ omega arith ] in
+    let some : (ls : List (List ℕ)) → 0 < length (in_front byte ls) =
+    λ ls. elim ls as (λ l. 0 < length (in_front byte l)) [ [] ↦ omega arith | first ∷ rest ↦ omega arith ] in
     elim (eqb byte 10) as (λ b. 0 < length (cond b ([] ∷ lines bytes) (in_front byte (lines bytes)))) [ true ↦ omega arith | false ↦ some (lines bytes) ]
 
 pub some-lines : (text : List ℕ) → 0 < length text → 0 < length (lines text)
@@ -72,7 +73,8 @@ takes old line text refused fields left after next is has at reads left_is =
     let went = goes old line text refused is has in
     record {
       raw = raw_here line text;
-      left = sym (ap (λ (reader : Unread). reader.left) is) ∙ left-here line text went.some at ∙ ap (λ (raws : List RawStanza). raw_here line text ∷ raws) (sym (left_is ∙ reads.stanzas));
+      left = sym (ap (λ (reader : Unread). reader.left) is) ∙ left-here line text went.some at
+          ∙ ap (λ (raws : List RawStanza). raw_here line text ∷ raws) (sym (left_is ∙ reads.stanzas));
       was_going = has.going;
       going = went.going;
       reading = record { sound = reads.sound; line = refl; fields = reads.spelled };

@@ -1,5 +1,6 @@
 -- The lines of one stanza, field by field, and the stanzas after it.
-use Rattle.std.proofs.Common.{◌≡◌, ℕ, suc, ◌+◌, ◌<◌, ◌^◌, true, false, not, ◌||◌, cond, eqb, List, [], ◌∷◌, ◌++◌, Some, None, length, get_or, take, map, filter, refl, sym, ap, ◌∙◌, arith, subst, inl, inr, append_assoc, length-append}
+use Rattle.std.proofs.Common.{◌≡◌, ℕ, suc, ◌+◌, ◌<◌, ◌^◌, true, false, not, ◌||◌, cond, eqb, List, [], ◌∷◌, ◌++◌, Some, None, length, get_or, take, map, filter}
+use Rattle.std.proofs.Common.{refl, sym, ap, ◌∙◌, arith, subst, inl, inr, append_assoc, length-append}
 use Rattle.std.specs.List.{list_any}
 use Rattle.std.proofs.lemmas.Bool.{cond-true, cond-false, not_from_true, not_from_false, ne_eqb, both_ways, cases_Bool}
 use Rattle.std.proofs.lemmas.List.{append-nil, take_at, get_or_at, map-append, length_push}
@@ -12,14 +13,16 @@ use Rattle.dist_control.specs.Fields.{name_of, continuations, field_spelled, fie
 use Rattle.dist_control.specs.FieldText.{FieldText}
 use Rattle.dist_control.specs.Lines.{lines}
 use Rattle.dist_control.specs.RawStanza.{RawStanza, run, raw_stanzas_from}
-use Rattle.dist_control.specs.Pieces.{IsAtStanza, IsAtField, IsAtNoField, EndsField, AreContinuations, ReadsField, IsFieldFault, ReadsFields, AreLateNames, raw_here}
+use Rattle.dist_control.specs.Pieces.{IsAtStanza, IsAtField, IsAtNoField, EndsField, AreContinuations, ReadsField, IsFieldFault, ReadsFields, AreLateNames}
+use Rattle.dist_control.specs.Pieces.{raw_here}
 
 -- ---- faults of a line
 
 pub orphan-line : (number : ℕ) (line : List ℕ) → is_continuation line ≡ true → line_fault number [] line ≡ Some (OrphanContinuation number)
 orphan-line number line is = cond-true (is_continuation line) _ _ is
 
-continuation-line : (number : ℕ) (before : List (List ℕ)) (line : List ℕ) → is_continuation line ≡ true → 0 < length before → line_fault number before line ≡ None
+continuation-line : (number : ℕ) (before : List (List ℕ)) (line : List ℕ) → is_continuation line ≡ true → 0 < length before
+    → line_fault number before line ≡ None
 continuation-line number before line is some =
     cond-true (is_continuation line) _ _ is ∙ cond-false (eqb (length before) 0) _ _ (ne_eqb (length before) 0 (λ none. absurd (omega arith)))
 
@@ -42,7 +45,8 @@ fault-here : (raw : RawStanza) (before : List (List ℕ)) (line : List ℕ) (res
     raw.lines ≡ before ++ line ∷ rest → number ≡ raw.line + length before → fault_at raw (length before) ≡ line_fault number before line
 fault-here raw before line rest number cut at =
     ap (λ n. line_fault n (take (length before) raw.lines) (get_or raw.lines (length before) [])) (sym at)
-    ∙ ap (λ b. line_fault number b (get_or raw.lines (length before) [])) (ap (λ l. take (length before) l) cut ∙ take_at before (line ∷ rest) (length before) refl)
+    ∙ ap (λ b. line_fault number b (get_or raw.lines (length before) []))
+    (ap (λ l. take (length before) l) cut ∙ take_at before (line ∷ rest) (length before) refl)
     ∙ ap (λ l. line_fault number before l) (ap (λ l. get_or l (length before) []) cut ∙ get_or_at before line rest [] (length before) refl)
 
 sound-more : (raw : RawStanza) (place : ℕ) → IsSoundBelow raw place → fault_at raw place ≡ None → IsSoundBelow raw (place + 1)
@@ -69,7 +73,8 @@ sound-continued raw (line ∷ more) before left cut some all sound =
 field_names-append : (lines more : List (List ℕ)) → field_names (lines ++ more) ≡ field_names lines ++ field_names more
 field_names-append [] more = refl
 field_names-append (line ∷ lines) more =
-    elim (not (is_continuation line)) as (λ b. map name_of (cond b (line ∷ filter (λ l. not (is_continuation l)) (lines ++ more)) (filter (λ l. not (is_continuation l)) (lines ++ more)))
+    elim (not (is_continuation line)) as (λ b. map name_of (cond b (line ∷ filter (λ l. not (is_continuation l)) (lines ++ more))
+    (filter (λ l. not (is_continuation l)) (lines ++ more)))
     ≡ map name_of (cond b (line ∷ filter (λ l. not (is_continuation l)) lines) (filter (λ l. not (is_continuation l)) lines)) ++ field_names more) [
       | true ↦ ap (λ (names : List (List ℕ)). name_of line ∷ names) (field_names-append lines more)
       | false ↦ field_names-append lines more
@@ -77,13 +82,17 @@ field_names-append (line ∷ lines) more =
 
 field_names-continued : (more : List (List ℕ)) → AreContinuations more → field_names more ≡ []
 field_names-continued [] all = refl
-field_names-continued (line ∷ more) all = ap (map name_of) (cond-false (not (is_continuation line)) _ _ (not_from_true _ all.0)) ∙ field_names-continued more all.2
+field_names-continued (line ∷ more) all = ap (map name_of) (cond-false (not (is_continuation line)) _ _ (not_from_true _ all.0))
+    ∙ field_names-continued more all.2
 
-field_names-field : (line : List ℕ) (more : List (List ℕ)) → is_continuation line ≡ false → AreContinuations more → field_names (line ∷ more) ≡ name_of line ∷ []
+field_names-field : (line : List ℕ) (more : List (List ℕ)) → is_continuation line ≡ false → AreContinuations more
+    → field_names (line ∷ more) ≡ name_of line ∷ []
 field_names-field line more field_line all =
-    ap (map name_of) (cond-true (not (is_continuation line)) _ _ (not_from_false _ field_line)) ∙ ap (λ (names : List (List ℕ)). name_of line ∷ names) (field_names-continued more all)
+    ap (map name_of) (cond-true (not (is_continuation line)) _ _ (not_from_false _ field_line))
+    ∙ ap (λ (names : List (List ℕ)). name_of line ∷ names) (field_names-continued more all)
 
-same-names : (name : List ℕ) (fields : List FieldText) → list_any (is_same_name name) (map (λ (field : FieldText). field.name) fields) ≡ list_any (λ field. is_same_name name field.name) fields
+same-names : (name : List ℕ) (fields : List FieldText) → list_any (is_same_name name) (map (λ (field : FieldText). field.name) fields)
+    ≡ list_any (λ field. is_same_name name field.name) fields
 same-names name [] = refl
 same-names name (field ∷ fields) = ap (λ b. is_same_name name field.name || b) (same-names name fields)
 
@@ -93,7 +102,8 @@ continuations-more [] (line ∷ left) all ends = cond-false (is_continuation lin
 continuations-more (line ∷ more) left all ends =
     cond-true (is_continuation line) _ _ all.0 ∙ ap (λ (l : List (List ℕ)). line ∷ l) (continuations-more more left all.2 ends)
 
-fields-continued : (number : ℕ) (more left : List (List ℕ)) → AreContinuations more → fields_from number (more ++ left) ≡ fields_from (number + length more) left
+fields-continued : (number : ℕ) (more left : List (List ℕ)) → AreContinuations more
+    → fields_from number (more ++ left) ≡ fields_from (number + length more) left
 fields-continued number [] left all = ap (λ n. fields_from n left) (let e : number ≡ number + 0 = omega arith in e)
 fields-continued number (line ∷ more) left all =
     cond-true (is_continuation line) _ _ all.0
@@ -113,7 +123,8 @@ run-continued : (more left : List (List ℕ)) → AreContinuations more → run 
 run-continued [] left all = refl
 run-continued (line ∷ more) left all = cond-false (is_blank line) _ _ all.1 ∙ ap (λ (l : List (List ℕ)). line ∷ l) (run-continued more left all.2)
 
-raw-continued : (number : ℕ) (more left : List (List ℕ)) → AreContinuations more → raw_stanzas_from number false (more ++ left) ≡ raw_stanzas_from (number + length more) false left
+raw-continued : (number : ℕ) (more left : List (List ℕ)) → AreContinuations more
+    → raw_stanzas_from number false (more ++ left) ≡ raw_stanzas_from (number + length more) false left
 raw-continued number [] left all = ap (λ n. raw_stanzas_from n false left) (let e : number ≡ number + 0 = omega arith in e)
 raw-continued number (line ∷ more) left all =
     cond-false (is_blank line) _ _ all.1
@@ -137,7 +148,8 @@ pub record IsPast (number : ℕ) (ls : List (List ℕ)) : Type 0 where
 past-blank : (number : ℕ) (line : List ℕ) (rest : List (List ℕ)) → is_blank line ≡ true → IsPast number (line ∷ rest)
 past-blank number line rest is = record {
   none = cond-true (is_blank line) _ _ is;
-  apart = cond-true (is_blank line) _ _ is ∙ sym (cond-true (is_blank line) (raw_stanzas_from (number + 1) true rest) (raw_stanzas_from (number + 1) false rest) is);
+  apart = cond-true (is_blank line) _ _ is ∙ sym (cond-true (is_blank line) (raw_stanzas_from (number + 1) true rest) (raw_stanzas_from (number + 1) false rest)
+      is);
 }
 
 past : (number : ℕ) (ls : List (List ℕ)) → IsAtNoField ls → EndsField (run ls) → IsPast number ls
@@ -146,7 +158,8 @@ past number (line ∷ rest) (inl blank) ends = past-blank number line rest blank
 past number (line ∷ rest) (inr continuation) ends =
     elim (cases_Bool (is_blank line)) [
       | inl blank ↦ past-blank number line rest blank
-      | inr not_blank ↦ absurd (both_ways (is_continuation line) (subst EndsField (cond-false (is_blank line) [] (line ∷ run rest) not_blank) ends) continuation)
+      | inr not_blank ↦ absurd (both_ways (is_continuation line) (subst EndsField (cond-false (is_blank line) [] (line ∷ run rest) not_blank) ends)
+          continuation)
     ]
 
 -- ---- where the loop over the fields of a stanza stands
@@ -219,7 +232,8 @@ module _ (number : ℕ) (text : List ℕ) (fields : List FieldText) (late : List
     left_is : run (lines rest) ≡ reads.line ∷ reads.more ++ run (lines after)
     left_is = ap run reads.pieces ∙ run-field reads.line reads.more (lines after) is_here.0 reads.continued
 
-    names-tested : list_any (is_same_name (name_of reads.line)) (field_names on.so_far.before) ≡ list_any (λ earlier. is_same_name field.name earlier.name) fields
+    names-tested : list_any (is_same_name (name_of reads.line)) (field_names on.so_far.before)
+        ≡ list_any (λ earlier. is_same_name field.name earlier.name) fields
     names-tested =
         ap (λ (names : List (List ℕ)). list_any (is_same_name (name_of reads.line)) names) on.so_far.names
         ∙ same-names (name_of reads.line) fields
@@ -237,7 +251,8 @@ module _ (number : ℕ) (text : List ℕ) (fields : List FieldText) (late : List
         let block = reads.line ∷ reads.more in
         let after_run = run (lines after) in
         let cut : raw.lines ≡ so_far.before ++ (block ++ after_run) = so_far.cut ∙ ap (λ l. so_far.before ++ l) left_is in
-        let none : line_fault line so_far.before reads.line ≡ None = sound-line line so_far.before reads.line is_here.1 reads.has_colon reads.named (names-tested ∙ fresh) in
+        let none : line_fault line so_far.before reads.line ≡ None =
+        sound-line line so_far.before reads.line is_here.1 reads.has_colon reads.named (names-tested ∙ fresh) in
         let P : List (List ℕ) → Type 0 = λ l. IsSoundBelow raw (length l) in
         record {
           so_far = record {
@@ -245,7 +260,8 @@ module _ (number : ℕ) (text : List ℕ) (fields : List FieldText) (late : List
             cut = cut ∙ sym (append_assoc so_far.before block after_run);
             at = omega (arith, so_far.at, reads.counted, length-append so_far.before block);
             sound = subst P (append_assoc so_far.before (reads.line ∷ []) reads.more)
-                (sound-continued raw reads.more (so_far.before ++ reads.line ∷ []) after_run (cut ∙ sym (append_assoc so_far.before (reads.line ∷ []) (reads.more ++ after_run)))
+                (sound-continued raw reads.more (so_far.before ++ reads.line ∷ []) after_run
+                (cut ∙ sym (append_assoc so_far.before (reads.line ∷ []) (reads.more ++ after_run)))
                 (omega (arith, length_push so_far.before reads.line)) reads.continued
                 (sound-push raw so_far.before reads.line (reads.more ++ after_run) line cut so_far.at none so_far.sound));
             names = field_names-append so_far.before block

@@ -1,7 +1,9 @@
 -- White space at both ends of a text, by the places of the bytes that are not white.
-use Rattle.std.proofs.Common.{◌≡◌, ℕ, zero, suc, ◌+◌, ◌-◌, ◌<◌, ◌≤◌, true, false, not, ◌||◌, cond, eqb, List, [], ◌∷◌, ◌++◌, length, get_or, take, drop, reverse, refl, sym, ap, ◌∙◌, arith, length-append}
+use Rattle.std.proofs.Common.{◌≡◌, ℕ, zero, suc, ◌+◌, ◌-◌, ◌<◌, ◌≤◌, true, false, not, ◌||◌, cond, eqb, List, [], ◌∷◌, ◌++◌, length, get_or, take, drop}
+use Rattle.std.proofs.Common.{reverse, refl, sym, ap, ◌∙◌, arith, length-append}
 use Rattle.std.proofs.lemmas.Bool.{cond-true, cond-false, not-true}
-use Rattle.std.proofs.lemmas.List.{get_or-reverse, get_or-take, reverse-append, reverse-reverse, length-reverse, length-drop, length-take-le, take-append-drop, get_or_append_left, get_or_push, drop_at}
+use Rattle.std.proofs.lemmas.List.{get_or-reverse, get_or-take, reverse-append, reverse-reverse, length-reverse, length-drop, length-take-le, take-append-drop}
+use Rattle.std.proofs.lemmas.List.{get_or_append_left, get_or_push, drop_at}
 use Rattle.std.proofs.Math.Seq.{take-append_seam}
 use Rattle.bstr.specs.Bytes.{is_in, not_in}
 use Rattle.dist_control.specs.Bytes.{is_white}
@@ -87,7 +89,8 @@ trim-end (first ∷ text) byte is =
     elim (is_white first) as (λ b. reverse (trim_start (reverse (cond b (trim_start (text ++ byte ∷ [])) (first ∷ text ++ byte ∷ []))))
     ≡ reverse (trim_start (reverse (cond b (trim_start text) (first ∷ text))))) [
       | true ↦ trim-end text byte is
-      | false ↦ ap reverse (ap trim_start (reverse-append (first ∷ text) (byte ∷ [])) ∙ cond-true (is_white byte) (trim_start (reverse (first ∷ text))) (byte ∷ reverse (first ∷ text)) is)
+      | false ↦ ap reverse (ap trim_start (reverse-append (first ∷ text) (byte ∷ []))
+          ∙ cond-true (is_white byte) (trim_start (reverse (first ∷ text))) (byte ∷ reverse (first ∷ text)) is)
     ]
 
 -- of a text that neither begins nor ends with white space, a space in front and a line feed behind are what is cut

@@ -19,7 +19,13 @@ trim_start-le (byte ∷ text) =
 
 trim-le : (text : List ℕ) → length (trim text) ≤ length text
 trim-le text =
-    omega (arith, length-reverse (trim_start (reverse (trim_start text))), trim_start-le (reverse (trim_start text)), length-reverse (trim_start text), trim_start-le text)
+    omega (
+      arith,
+      length-reverse (trim_start (reverse (trim_start text))),
+      trim_start-le (reverse (trim_start text)),
+      length-reverse (trim_start text),
+      trim_start-le text,
+    )
 
 joined-length : (line : List ℕ) (more : List (List ℕ)) → length (join_with_byte line_feed (line ∷ more)) ≡ length line + total more
 joined-length line [] = omega arith
@@ -28,7 +34,12 @@ joined-length line (next ∷ more) =
 
 spelled-le : (number : ℕ) (line : List ℕ) (more : List (List ℕ)) → length ((field_spelled number line more).value) ≤ length line + total more
 spelled-le number line more =
-    omega (arith, trim-le (join_with_byte line_feed (after_first is_colon line ∷ more)), joined-length (after_first is_colon line) more, length-drop (position_or_len is_colon line + 1) line)
+    omega (
+      arith,
+      trim-le (join_with_byte line_feed (after_first is_colon line ∷ more)),
+      joined-length (after_first is_colon line) more,
+      length-drop (position_or_len is_colon line + 1) line,
+    )
 
 values-cons : (field : FieldText) (fields : List FieldText) → value_bytes (field ∷ fields) ≡ length field.value + value_bytes fields
 values-cons field fields = sum_by-cons (λ (f : FieldText). length f.value) field fields

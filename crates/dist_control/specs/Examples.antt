@@ -22,7 +22,8 @@ blank_lines_alone_are_no_stanza = refl
 
 -- a value goes on over its continuation lines
 pub a_folded_value : fields_from 3 (codes "Tag:  b," ∷ codes " c:d " ∷ codes "E:" ∷ [])
-    ≡ record { name = codes "Tag"; value = codes "b,\n c:d"; line = 3 } ∷ record { name = codes "E"; value = []; line = 5 } ∷ []
+    ≡ record { name = codes "Tag"; value = codes "b,\n c:d"; line = 3 }
+    ∷ record { name = codes "E"; value = []; line = 5 } ∷ []
 a_folded_value = refl
 
 pub a_stanza_begins_with_no_continuation : line_fault 7 [] (codes " a: b") ≡ Some (OrphanContinuation 7)

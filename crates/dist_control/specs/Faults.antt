@@ -1,8 +1,10 @@
 -- The faults of the lines of a stanza (Debian Policy 5.1), and the first of them.
-use Rattle.std.specs.Prelude.{◌≡◌, ℕ, ◌+◌, ◌<◌, List, [], if◌then◌else◌, not, ◌==◌, Option, Some, None, length, take, slice_index_or}
+use Rattle.std.specs.Prelude.{◌≡◌, ℕ, ◌+◌, ◌<◌, List, [], if◌then◌else◌, not, ◌==◌, Option, Some, None, length, take}
+use Rattle.std.specs.Prelude.{slice_index_or}
 use Rattle.std.specs.List.{list_any}
 use Rattle.dist_control.specs.declared.error.ControlError.{ControlError}
-use Rattle.dist_control.specs.declared.error.ControlError.TheVariants.{NoColon, BadFieldName, OrphanContinuation, DoubleField}
+use Rattle.dist_control.specs.declared.error.ControlError.TheVariants.{NoColon, BadFieldName, OrphanContinuation}
+use Rattle.dist_control.specs.declared.error.ControlError.TheVariants.{DoubleField}
 use Rattle.dist_control.specs.Bytes.{is_colon, is_continuation, is_field_name}
 use Rattle.dist_control.specs.Fields.{name_of, is_same_name, field_names}
 use Rattle.dist_control.specs.RawStanza.{RawStanza}

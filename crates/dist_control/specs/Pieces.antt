@@ -1,5 +1,6 @@
 -- What the private functions of the reader say: how a text is cut into lines, fields and stanzas.
-use Rattle.std.specs.Prelude.{◌≡◌, ℕ, ◌+◌, ◌-◌, ◌*◌, ◌%◌, ◌^◌, ◌<◌, ◌⊎◌, Bool, true, false, List, [], ◌∷◌, ◌++◌, Some, length, map, take, drop, get_or}
+use Rattle.std.specs.Prelude.{◌≡◌, ℕ, ◌+◌, ◌-◌, ◌*◌, ◌%◌, ◌^◌, ◌<◌, ◌⊎◌, Bool, true, false, List, [], ◌∷◌, ◌++◌, Some}
+use Rattle.std.specs.Prelude.{length, map, take, drop, get_or}
 use Rattle.std.specs.List.{list_any, flat_map, after_first}
 use Rattle.std.specs.Str.{bytes_eq}
 use Rattle.dist_control.specs.Bytes.{line_feed, is_colon, is_blank, is_continuation, is_field_name}
@@ -127,7 +128,8 @@ folded_names fields = map (λ field. folded field.name) fields
 -- the names of the fields after the early ones are these, in lower case
 abbrev pub AreLateNames : List FieldText → List (List ℕ) → Type 0
 AreLateNames fields names =
-    (name : List ℕ) → list_any (bytes_eq name) names ≡ list_any (bytes_eq name) (drop EARLY_FIELDS (folded_names fields))
+    (name : List ℕ) → list_any (bytes_eq name) names
+    ≡ list_any (bytes_eq name) (drop EARLY_FIELDS (folded_names fields))
 
 -- the mark of a name in lower case: of its first byte, its last and its length
 abbrev pub mark_of : List ℕ → ℕ

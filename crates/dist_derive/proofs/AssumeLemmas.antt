@@ -26,7 +26,8 @@ pub record AssumesSoFar (start now : LiteralList) (literals : List Literal) : Ty
 pub assumes_none : (s : LiteralList) → AssumesSoFar s s []
 assumes_none s = record { same_variables = refl; kept = ContainsAll-itself s.literals; assumed = All-nil (Contains s.literals); least = λ trues all _. all }
 
-pub assumes_more : (start now next : LiteralList) (literals : List Literal) (l : Literal) → AssumesSoFar start now literals → Assumes now next l true → AssumesSoFar start next (literals ++ l ∷ [])
+pub assumes_more : (start now next : LiteralList) (literals : List Literal) (l : Literal) → AssumesSoFar start now literals → Assumes now next l true
+    → AssumesSoFar start next (literals ++ l ∷ [])
 assumes_more start now next literals l h step = ⊎_elim
     (λ x. subst (λ (s : LiteralList). AssumesSoFar start s (literals ++ l ∷ [])) (sym x.0) (record {
       same_variables = h.same_variables;
@@ -39,7 +40,8 @@ assumes_more start now next literals l h step = ⊎_elim
       kept = ContainsAll-then start.literals now.literals (now.literals ++ l ∷ []) h.kept (ContainsAll-push now.literals l);
       assumed = All-push (Contains (now.literals ++ l ∷ [])) literals l
           (ContainsAll-then literals now.literals (now.literals ++ l ∷ []) h.assumed (ContainsAll-push now.literals l)) (Contains-push now.literals l);
-      least = λ trues all assumed. All-push (Contains trues) now.literals l (h.least trues all (All-front (Contains trues) literals (l ∷ []) assumed)) (All-last (Contains trues) literals l assumed);
+      least = λ trues all assumed. All-push (Contains trues) now.literals l (h.least trues all (All-front (Contains trues) literals (l ∷ []) assumed))
+          (All-last (Contains trues) literals l assumed);
     }))
     step
 

@@ -1,6 +1,7 @@
 -- Lines that are new one after another are few: each gives every variable of the cone one of three signs, and no two of
 -- them give the same.
-use Rattle.std.proofs.Common.{◌≡◌, ◌≢◌, ℕ, ◌+◌, ◌*◌, ◌^◌, ◌<◌, ◌≤◌, ◌↔◌, ◌⊎◌, inl, inr, Bool, true, false, List, [], ◌∷◌, ◌++◌, length, get_or, take, map, refl, ap, sym, subst, ◌∙◌, arith}
+use Rattle.std.proofs.Common.{◌≡◌, ◌≢◌, ℕ, ◌+◌, ◌*◌, ◌^◌, ◌<◌, ◌≤◌, ◌↔◌, ◌⊎◌, inl, inr, Bool, true, false, List, [], ◌∷◌, ◌++◌, length, get_or, take, map, refl}
+use Rattle.std.proofs.Common.{ap, sym, subst, ◌∙◌, arith}
 use Rattle.std.specs.List.{All, AllPairs, Contains}
 use Rattle.std.proofs.Math.Nat.{pow-succ'}
 use Rattle.std.proofs.lemmas.Bool.{false≢true, cases_lt}
@@ -69,9 +70,11 @@ code_digit (v ∷ vs) line other e =
 -- a line in which no variable stands twice does not have a literal and its negation
 one_sign : (line : List Literal) (v : ℕ) → AllPairs (λ l m. l.variable ≢ m.variable) line → Contains line (literal v false) → ¬ Contains line (literal v true)
 one_sign line v distinct n p = elim (order n.0 p.0) [
-  | inl before ↦ distinct n.0 p.0 (literal v true) before p.1 (ap (λ (l : Literal). l.variable) (negative (literal v true)) ∙ sym (ap (λ (l : Literal). l.variable) p.2))
+  | inl before ↦ distinct n.0 p.0 (literal v true) before p.1
+      (ap (λ (l : Literal). l.variable) (negative (literal v true)) ∙ sym (ap (λ (l : Literal). l.variable) p.2))
   | inr rest ↦ elim rest [
-    | inl after ↦ distinct p.0 n.0 (literal v true) after n.1 (ap (λ (l : Literal). l.variable) p.2 ∙ sym (ap (λ (l : Literal). l.variable) (negative (literal v true))))
+    | inl after ↦ distinct p.0 n.0 (literal v true) after n.1
+        (ap (λ (l : Literal). l.variable) p.2 ∙ sym (ap (λ (l : Literal). l.variable) (negative (literal v true))))
     | inr same ↦ false≢true (ap (λ (l : Literal). l.positive) (sym (negative (literal v true)) ∙ (ap (λ k. get_or line k (literal v true)) same ∙ p.2)))
   ]
 ]
@@ -86,22 +89,28 @@ one_sign line v distinct n p = elim (order n.0 p.0) [
     ]
 
 -- a line with the digits of another has its literals
-same_digit : (v : ℕ) (b : Bool) (line other : List Literal) → AllPairs (λ l m. l.variable ≢ m.variable) line → digit v line ≡ digit v other → Contains line (literal v b) → Contains other (literal v b)
+same_digit : (v : ℕ) (b : Bool) (line other : List Literal) → AllPairs (λ l m. l.variable ≢ m.variable) line → digit v line ≡ digit v other
+    → Contains line (literal v b) → Contains other (literal v b)
 unfolding digit
-same_digit v true line other distinct e h = pick_first (contains_or_not line (literal v true)) (contains_or_not line (literal v false)) (contains_or_not other (literal v true)) (contains_or_not other (literal v false)) e h
-same_digit v false line other distinct e h = pick_second (contains_or_not line (literal v true)) (contains_or_not line (literal v false)) (contains_or_not other (literal v true)) (contains_or_not other (literal v false)) e (one_sign line v distinct h) h
+same_digit v true line other distinct e h = pick_first (contains_or_not line (literal v true)) (contains_or_not line (literal v false))
+    (contains_or_not other (literal v true)) (contains_or_not other (literal v false)) e h
+same_digit v false line other distinct e h = pick_second (contains_or_not line (literal v true)) (contains_or_not line (literal v false))
+    (contains_or_not other (literal v true)) (contains_or_not other (literal v false)) e (one_sign line v distinct h) h
 
-same_code : (vs : List ℕ) (line other : List Literal) → AllPairs (λ l m. l.variable ≢ m.variable) line → All (λ l. Contains vs l.variable) line → code vs line ≡ code vs other → ContainsAll other line
+same_code : (vs : List ℕ) (line other : List Literal) → AllPairs (λ l m. l.variable ≢ m.variable) line → All (λ l. Contains vs l.variable) line
+    → code vs line ≡ code vs other → ContainsAll other line
 same_code vs line other distinct within e = λ k d k_within.
     let l = get_or line k d in
     let same = All-contains (λ v. digit v line ≡ digit v other) vs l.variable (code_digit vs line other e) (within k d k_within) in
     same_digit l.variable l.positive line other distinct same (Contains-get_or line k d k_within)
 
-module _ (inputs : ℕ) (first : List (List Literal)) (assumptions : List Literal) (cone : List ℕ) (exact : (v : ℕ) → Contains cone v ↔ InCone first assumptions v) where
+module _ (inputs : ℕ) (first : List (List Literal)) (assumptions : List Literal) (cone : List ℕ)
+    (exact : (v : ℕ) → Contains cone v ↔ InCone first assumptions v) where
   within : (line : List Literal) → IsWithinCone first assumptions line → All (λ l. Contains cone l.variable) line
   within line h = λ k d k_within. (exact (get_or line k d).variable).1 (h k d k_within)
 
-  kept_inputs : (clauses : List (List Literal)) (line : List Literal) → inputs ≤ length clauses → take inputs clauses ≡ first → take inputs (clauses ++ line ∷ []) ≡ first
+  kept_inputs : (clauses : List (List Literal)) (line : List Literal) → inputs ≤ length clauses → take inputs clauses ≡ first
+      → take inputs (clauses ++ line ∷ []) ≡ first
   kept_inputs clauses line enough e = take-append-le inputs clauses (line ∷ []) enough ∙ e
 
   -- a clause that stands before has another code than each later line
@@ -112,9 +121,11 @@ module _ (inputs : ℕ) (first : List (List Literal)) (assumptions : List Litera
   later_apart clauses (next ∷ lines) line enough same distinct in_cone here each =
       All-cons (λ m. code cone line ≢ code cone m) next lines
       (λ e. no_copy clauses inputs assumptions next line each.0 here (same_code cone line next distinct in_cone e))
-      (later_apart (clauses ++ next ∷ []) lines line (omega (arith, length_push clauses next)) (kept_inputs clauses next enough same) distinct in_cone (Contains-append_left clauses (next ∷ []) line here) each.1)
+      (later_apart (clauses ++ next ∷ []) lines line (omega (arith, length_push clauses next)) (kept_inputs clauses next enough same) distinct in_cone
+      (Contains-append_left clauses (next ∷ []) line here) each.1)
 
-  codes_apart : (clauses lines : List (List Literal)) → inputs ≤ length clauses → take inputs clauses ≡ first → EachIsNew clauses inputs assumptions lines → AllPairs (λ l m. code cone l ≢ code cone m) lines
+  codes_apart : (clauses lines : List (List Literal)) → inputs ≤ length clauses → take inputs clauses ≡ first → EachIsNew clauses inputs assumptions lines
+      → AllPairs (λ l m. code cone l ≢ code cone m) lines
   codes_apart clauses [] enough same each = λ i j d before j_within. absurd (omega arith)
   codes_apart clauses (line ∷ lines) enough same each =
       let in_cone = within line (subst (λ cs. IsWithinCone cs assumptions line) same each.0.within_cone) in
@@ -123,7 +134,8 @@ module _ (inputs : ℕ) (first : List (List Literal)) (assumptions : List Litera
       (later_apart (clauses ++ line ∷ []) lines line longer (kept_inputs clauses line enough same) each.0.distinct in_cone (Contains-push clauses line) each.1)
       (codes_apart (clauses ++ line ∷ []) lines longer (kept_inputs clauses line enough same) each.1)
 
-pub few_lines : (clauses : List (List Literal)) (inputs : ℕ) (assumptions : List Literal) (lines : List (List Literal)) (cone : List ℕ) → inputs ≤ length clauses
+pub few_lines : (clauses : List (List Literal)) (inputs : ℕ) (assumptions : List Literal) (lines : List (List Literal)) (cone : List ℕ)
+    → inputs ≤ length clauses
     → ((v : ℕ) → Contains cone v ↔ InCone (take inputs clauses) assumptions v) → EachIsNew clauses inputs assumptions lines → length lines ≤ 3 ^ length cone
 few_lines clauses inputs assumptions lines cone enough exact each =
     let f : List Literal → ℕ = λ line. code cone line in

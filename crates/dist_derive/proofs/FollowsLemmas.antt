@@ -20,15 +20,18 @@ some_left : {X : Type 0} (x : X) (xs : List X) → x ∷ xs ≡ [] → ⊥
 some_left x xs e = cc
 
 module _ (clauses : List (List Literal)) (trues : List Literal) (hint : ℕ) (hints : List ℕ) where
-  pub ends_conflict : IsNumberOf clauses hint → AllFalse trues (clause_at clauses hint) → EndsFalse clauses trues (hint ∷ hints) ↔ EndsFrom clauses trues true hints
+  pub ends_conflict : IsNumberOf clauses hint → AllFalse trues (clause_at clauses hint) → EndsFalse clauses trues (hint ∷ hints)
+      ↔ EndsFrom clauses trues true hints
   ends_conflict number all = (
     λ h. ⊎_elim (λ x. ⊎_elim (λ none. inl (refl, none)) (λ more. inr more) x.1) (λ x. absurd (not_unit trues (clause_at clauses hint) all x.0 x.1)) h.1,
     λ h. (number, inl (all, ⊎_elim (λ x. inl x.1) (λ more. inr more) h)),
   )
 
-  pub ends_unit : (l : Literal) → IsNumberOf clauses hint → IsUnit trues (clause_at clauses hint) l → EndsFalse clauses trues (hint ∷ hints) ↔ EndsFrom clauses (trues ++ l ∷ []) false hints
+  pub ends_unit : (l : Literal) → IsNumberOf clauses hint → IsUnit trues (clause_at clauses hint) l → EndsFalse clauses trues (hint ∷ hints)
+      ↔ EndsFrom clauses (trues ++ l ∷ []) false hints
   ends_unit l number u = (
-    λ h. ⊎_elim (λ x. absurd (not_unit trues (clause_at clauses hint) x.0 l u)) (λ x. inr (subst (λ m. EndsFalse clauses (trues ++ m ∷ []) hints) (same_unit trues (clause_at clauses hint) x.0 l x.1 u) x.2)) h.1,
+    λ h. ⊎_elim (λ x. absurd (not_unit trues (clause_at clauses hint) x.0 l u))
+        (λ x. inr (subst (λ m. EndsFalse clauses (trues ++ m ∷ []) hints) (same_unit trues (clause_at clauses hint) x.0 l x.1 u) x.2)) h.1,
     λ h. (number, inr (l, u, ⊎_elim (λ x. absurd (false≢true x.0)) (λ more. more) h)),
   )
 
@@ -48,14 +51,16 @@ pub record HintsSoFar (clauses : List (List Literal)) (start : List Literal) (hi
 pub hints_none : (clauses : List (List Literal)) (start : List Literal) (hints : List ℕ) → HintsSoFar clauses start hints 0 start false
 hints_none clauses start hints = record { decides = (λ h. ⊎_elim (λ x. absurd (false≢true x.0)) (λ more. more) h, λ h. inr h) }
 
-pub hints_more : (clauses : List (List Literal)) (start : List Literal) (hints : List ℕ) (index : ℕ) (trues next : List Literal) (ended now : Bool) → index < length hints
+pub hints_more : (clauses : List (List Literal)) (start : List Literal) (hints : List ℕ) (index : ℕ) (trues next : List Literal) (ended now : Bool)
+    → index < length hints
     → (EndsFalse clauses trues (get_or hints index 0 ∷ drop (index + 1) hints) ↔ EndsFrom clauses next now (drop (index + 1) hints))
     → HintsSoFar clauses start hints index trues ended → HintsSoFar clauses start hints (index + 1) next now
 hints_more clauses start hints index trues next ended now within step h =
     let here = subst (λ left. EndsFrom clauses trues ended left ↔ EndsFalse clauses start hints) (drop_more hints index 0 within) h.decides in
     record { decides = (λ e. here.0 (inr (step.1 e)), λ e. step.0 (ends_from clauses trues (get_or hints index 0) (drop (index + 1) hints) ended (here.1 e))) }
 
-pub hints_refused : (clauses : List (List Literal)) (start : List Literal) (hints : List ℕ) (index : ℕ) (trues : List Literal) (ended : Bool) → index < length hints
+pub hints_refused : (clauses : List (List Literal)) (start : List Literal) (hints : List ℕ) (index : ℕ) (trues : List Literal) (ended : Bool)
+    → index < length hints
     → (¬ EndsFalse clauses trues (get_or hints index 0 ∷ drop (index + 1) hints))
     → HintsSoFar clauses start hints index trues ended → ¬ EndsFalse clauses start hints
 hints_refused clauses start hints index trues ended within step h e =
@@ -70,7 +75,8 @@ hints_all clauses start hints index trues ended past h =
     (λ e. here.0 (last.1 e), λ e. last.0 (here.1 e))
 
 -- a hint whose clause is not unit leaves the true literals as they are
-pub takes_hint_kept : (clauses : List (List Literal)) (old : LiteralList) (hint : ℕ) (o : Outcome) → IsNumberOf clauses hint → HasOutcome old.literals (clause_at clauses hint) o → ((l : Literal) → o ≡ UnitClause l → ⊥) → TakesHint clauses old old hint o
+pub takes_hint_kept : (clauses : List (List Literal)) (old : LiteralList) (hint : ℕ) (o : Outcome) → IsNumberOf clauses hint
+    → HasOutcome old.literals (clause_at clauses hint) o → ((l : Literal) → o ≡ UnitClause l → ⊥) → TakesHint clauses old old hint o
 takes_hint_kept clauses old hint Conflict number h not_unit = (refl, number, h)
 takes_hint_kept clauses old hint (UnitClause l) number h not_unit = absurd (not_unit l refl)
 takes_hint_kept clauses old hint Open number h not_unit = (refl, λ _. h)

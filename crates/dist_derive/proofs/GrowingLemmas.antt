@@ -1,9 +1,11 @@
 -- A set of variables that grows under the clauses.
-use Rattle.std.proofs.Common.{◌≡◌, ℕ, zero, suc, ◌↔◌, ⊎_elim, eqb, ◌+◌, ◌-◌, ◌<◌, ◌≤◌, Bool, true, false, ◌||◌, List, [], ◌∷◌, ◌++◌, length, get_or, take, refl, ap, sym, subst, ◌∙◌, arith}
+use Rattle.std.proofs.Common.{◌≡◌, ℕ, zero, suc, ◌↔◌, ⊎_elim, eqb, ◌+◌, ◌-◌, ◌<◌, ◌≤◌, Bool, true, false, ◌||◌, List, [], ◌∷◌, ◌++◌, length, get_or, take, refl}
+use Rattle.std.proofs.Common.{ap, sym, subst, ◌∙◌, arith}
 use Rattle.std.specs.List.{All, Contains}
 use Rattle.std.proofs.lemmas.Bool.{false≢true, true≢false, or_cases, or_left, or_right, eq-eqb, eqb-true}
 use Rattle.std.proofs.lemmas.List.{length_push, take_more}
-use Rattle.std.proofs.lemmas.List.Elements.{All-nil, All-cons, All-head, All-push, All-weaker, All-contains, All-contains_itself, Contains-append_left, Contains-push}
+use Rattle.std.proofs.lemmas.List.Elements.{All-nil, All-cons, All-head, All-push, All-weaker, All-contains, All-contains_itself, Contains-append_left}
+use Rattle.std.proofs.lemmas.List.Elements.{Contains-push}
 use Rattle.dist_clause.specs.Formula.{Literal}
 use Rattle.dist_clause.specs.ClauseList.{clause_at}
 use Rattle.dist_derive.proofs.ValuedLemmas.{All-front, All-last}
@@ -33,7 +35,8 @@ Grows-then a b c g h first second = record {
     still-then true h first second e = absurd (true≢false e)
     still-then false h first second e = second.still e ∙ first.still refl
 
-    more-then : {a b c : VariableList} (g h : Bool) → Grows a b g → Grows b c h → (g || h) ≡ true → (length a.members < length c.members) × (length c.members ≤ c.variables)
+    more-then : {a b c : VariableList} (g h : Bool) → Grows a b g → Grows b c h → (g || h) ≡ true → (length a.members < length c.members)
+        × (length c.members ≤ c.variables)
     more-then false h first second e =
         let same = ap (λ (s : VariableList). length s.members) (first.still refl) in
         let grown = second.more e in
@@ -55,7 +58,9 @@ Grows-included a b v true h =
     let members : b.members ≡ a.members ++ v ∷ [] = ap (λ (s : VariableList). s.members) h.0 in
     record {
       same_variables = ap (λ (s : VariableList). s.variables) h.0;
-      kept = subst (λ ms. ContainsAll ms a.members) (sym members) (All-weaker (Contains a.members) (Contains (a.members ++ v ∷ [])) (λ w e. Contains-append_left a.members (v ∷ []) w e) a.members (All-contains_itself a.members));
+      kept = subst (λ ms. ContainsAll ms a.members) (sym members)
+          (All-weaker (Contains a.members) (Contains (a.members ++ v ∷ [])) (λ w e. Contains-append_left a.members (v ∷ []) w e) a.members
+          (All-contains_itself a.members));
       still = λ e. absurd (true≢false e);
       more = λ _. (omega (arith, ap length members, length_push a.members v), h.1);
     }
@@ -64,9 +69,11 @@ pub Contains-included : (a b : VariableList) (v : ℕ) (grown : Bool) → Includ
 Contains-included a b v false h = subst (λ (s : VariableList). Contains s.members v) (sym h.0) h.1
 Contains-included a b v true h = subst (λ ms. Contains ms v) (sym (ap (λ (s : VariableList). s.members) h.0)) (Contains-push a.members v)
 
-pub HasAll-included : (has : ℕ → Bool) (a b : VariableList) (v : ℕ) (grown : Bool) → Includes a b v grown → HasAll has a.members → has v ≡ true → HasAll has b.members
+pub HasAll-included : (has : ℕ → Bool) (a b : VariableList) (v : ℕ) (grown : Bool) → Includes a b v grown → HasAll has a.members → has v ≡ true
+    → HasAll has b.members
 HasAll-included has a b v false h all this = subst (λ (s : VariableList). HasAll has s.members) (sym h.0) all
-HasAll-included has a b v true h all this = subst (λ ms. HasAll has ms) (sym (ap (λ (s : VariableList). s.members) h.0)) (All-push (λ w. has w ≡ true) a.members v all this)
+HasAll-included has a b v true h all this = subst (λ ms. HasAll has ms) (sym (ap (λ (s : VariableList). s.members) h.0))
+    (All-push (λ w. has w ≡ true) a.members v all this)
 
 -- the variables of a clause's first literals have been put in
 pub record IncludesSoFar (start now : VariableList) (grown : Bool) (clause : List Literal) : Type 0 where
@@ -77,22 +84,27 @@ pub record IncludesSoFar (start now : VariableList) (grown : Bool) (clause : Lis
 pub includes_none : (s : VariableList) → IncludesSoFar s s false []
 includes_none s = record { grows = Grows-none s; included = All-nil (λ l. Contains s.members l.variable); least = λ has all _. all }
 
-pub includes_more : (start now next : VariableList) (grown more : Bool) (clause : List Literal) (l : Literal) → IncludesSoFar start now grown clause → Includes now next l.variable more → IncludesSoFar start next (grown || more) (clause ++ l ∷ [])
+pub includes_more : (start now next : VariableList) (grown more : Bool) (clause : List Literal) (l : Literal) → IncludesSoFar start now grown clause
+    → Includes now next l.variable more → IncludesSoFar start next (grown || more) (clause ++ l ∷ [])
 includes_more start now next grown more clause l h step =
     let growth = Grows-included now next l.variable more step in
     record {
       grows = Grows-then start now next grown more h.grows growth;
       included = All-push (λ m. Contains next.members m.variable) clause l
-          (All-weaker (λ m. Contains now.members m.variable) (λ m. Contains next.members m.variable) (λ m e. All-contains (Contains next.members) now.members m.variable growth.kept e) clause h.included)
+          (All-weaker (λ m. Contains now.members m.variable) (λ m. Contains next.members m.variable)
+          (λ m e. All-contains (Contains next.members) now.members m.variable growth.kept e) clause h.included)
           (Contains-included now next l.variable more step);
-      least = λ has all in_clause. HasAll-included has now next l.variable more step (h.least has all (All-front (λ m. has m.variable ≡ true) clause (l ∷ []) in_clause)) (All-last (λ m. has m.variable ≡ true) clause l in_clause);
+      least = λ has all in_clause. HasAll-included has now next l.variable more step
+          (h.least has all (All-front (λ m. has m.variable ≡ true) clause (l ∷ []) in_clause)) (All-last (λ m. has m.variable ≡ true) clause l in_clause);
     }
 
 -- a closed set that contains the members has the variables of a clause of which the members have those of the negative literals
-pub closed_has : (has : ℕ → Bool) (members : List ℕ) (clause : List Literal) → HasAll has members → IsClosedUnder has (clause ∷ []) → All (λ l. l.positive ≡ false → Contains members l.variable) clause → All (λ l. has l.variable ≡ true) clause
+pub closed_has : (has : ℕ → Bool) (members : List ℕ) (clause : List Literal) → HasAll has members → IsClosedUnder has (clause ∷ [])
+    → All (λ l. l.positive ≡ false → Contains members l.variable) clause → All (λ l. has l.variable ≡ true) clause
 closed_has has members clause all closed negatives =
     All-head (λ c. All (λ l. l.positive ≡ false → has l.variable ≡ true) c → All (λ l. has l.variable ≡ true) c) clause [] closed
-    (All-weaker (λ l. l.positive ≡ false → Contains members l.variable) (λ l. l.positive ≡ false → has l.variable ≡ true) (λ l h e. All-contains (λ v. has v ≡ true) members l.variable all (h e)) clause negatives)
+    (All-weaker (λ l. l.positive ≡ false → Contains members l.variable) (λ l. l.positive ≡ false → has l.variable ≡ true)
+    (λ l h e. All-contains (λ v. has v ≡ true) members l.variable all (h e)) clause negatives)
 
 -- a walk over the first clauses that puts in what the cone has
 pub record WalksSoFar (clauses : List (List Literal)) (start now : VariableList) (grown : Bool) : Type 0 where
@@ -114,8 +126,10 @@ or-right true h e = absurd (true≢false e)
 ClosedTest : (ℕ → Bool) → List Literal → Type 0
 ClosedTest has c = All (λ l. l.positive ≡ false → has l.variable ≡ true) c → All (λ l. has l.variable ≡ true) c
 
-pub walks_more : (clauses : List (List Literal)) (clause : List Literal) (start now next : VariableList) (grown more : Bool) → WalksSoFar clauses start now grown
-    → Grows now next more → (more ≡ false → IsClosedAt next.members clause) → ((has : ℕ → Bool) → HasAll has now.members → IsClosedUnder has (clause ∷ []) → HasAll has next.members)
+pub walks_more : (clauses : List (List Literal)) (clause : List Literal) (start now next : VariableList) (grown more : Bool)
+    → WalksSoFar clauses start now grown
+    → Grows now next more → (more ≡ false → IsClosedAt next.members clause)
+    → ((has : ℕ → Bool) → HasAll has now.members → IsClosedUnder has (clause ∷ []) → HasAll has next.members)
     → WalksSoFar (clauses ++ clause ∷ []) start next (grown || more)
 unfolding ClosedTest
 walks_more clauses clause start now next grown more h grows closed least = record {
@@ -138,7 +152,8 @@ pub reaches_more : (clauses : List (List Literal)) (assumptions : List Literal) 
     → Grows now next grown → ((has : ℕ → Bool) → HasAll has now.members → IsClosedUnder has clauses → HasAll has next.members)
     → ReachesSoFar clauses assumptions next
 reaches_more clauses assumptions now next grown h grows least = record {
-  assumed = All-weaker (λ l. Contains now.members l.variable) (λ l. Contains next.members l.variable) (λ l e. All-contains (Contains next.members) now.members l.variable grows.kept e) assumptions h.assumed;
+  assumed = All-weaker (λ l. Contains now.members l.variable) (λ l. Contains next.members l.variable)
+      (λ l e. All-contains (Contains next.members) now.members l.variable grows.kept e) assumptions h.assumed;
   least = λ has assumed under. least has (h.least has assumed under) under;
 }
 
@@ -150,7 +165,8 @@ is_member (m ∷ ms) v = eqb m v || is_member ms v
 pub is_member-true : (members : List ℕ) (v : ℕ) → is_member members v ≡ true → Contains members v
 unfolding is_member
 is_member-true [] v e = absurd (false≢true e)
-is_member-true (m ∷ ms) v e = ⊎_elim (λ h. (0, omega arith, eqb-true m v h)) (λ h. let r = is_member-true ms v h in (suc r.0, omega (arith, r.1), r.2)) (or_cases (eqb m v) (is_member ms v) e)
+is_member-true (m ∷ ms) v e = ⊎_elim (λ h. (0, omega arith, eqb-true m v h)) (λ h. let r = is_member-true ms v h in (suc r.0, omega (arith, r.1), r.2))
+    (or_cases (eqb m v) (is_member ms v) e)
 
 pub is_member-at : (members : List ℕ) (v k : ℕ) → k < length members → get_or members k v ≡ v → is_member members v ≡ true
 unfolding is_member
@@ -159,19 +175,25 @@ is_member-at (m ∷ ms) v zero within at = or_left (eqb m v) (is_member ms v) (e
 is_member-at (m ∷ ms) v (suc k) within at = or_right (eqb m v) (is_member ms v) (is_member-at ms v k (omega arith) at)
 
 -- at the end the members are the cone
-pub InCone-members : (clauses : List (List Literal)) (assumptions : List Literal) (s : VariableList) (v : ℕ) → ReachesSoFar clauses assumptions s → All (IsClosedAt s.members) clauses → InCone clauses assumptions v ↔ Contains s.members v
+pub InCone-members : (clauses : List (List Literal)) (assumptions : List Literal) (s : VariableList) (v : ℕ) → ReachesSoFar clauses assumptions s
+    → All (IsClosedAt s.members) clauses → InCone clauses assumptions v ↔ Contains s.members v
 InCone-members clauses assumptions s v h closed = (
   λ cone. is_member-true s.members v (cone (is_member s.members)
-      (All-weaker (λ l. Contains s.members l.variable) (λ l. is_member s.members l.variable ≡ true) (λ l e. is_member-at s.members l.variable e.0 e.1 e.2) assumptions h.assumed)
-      (All-weaker (IsClosedAt s.members) (λ c. All (λ l. l.positive ≡ false → is_member s.members l.variable ≡ true) c → All (λ l. is_member s.members l.variable ≡ true) c)
-      (λ c at negatives. All-weaker (λ l. Contains s.members l.variable) (λ l. is_member s.members l.variable ≡ true) (λ l e. is_member-at s.members l.variable e.0 e.1 e.2) c
-      (at (All-weaker (λ l. l.positive ≡ false → is_member s.members l.variable ≡ true) (λ l. l.positive ≡ false → Contains s.members l.variable) (λ l g e. is_member-true s.members l.variable (g e)) c negatives)))
+      (All-weaker (λ l. Contains s.members l.variable) (λ l. is_member s.members l.variable ≡ true) (λ l e. is_member-at s.members l.variable e.0 e.1 e.2)
+      assumptions h.assumed)
+      (All-weaker (IsClosedAt s.members) (λ c. All (λ l. l.positive ≡ false → is_member s.members l.variable ≡ true) c
+      → All (λ l. is_member s.members l.variable ≡ true) c)
+      (λ c at negatives. All-weaker (λ l. Contains s.members l.variable) (λ l. is_member s.members l.variable ≡ true)
+      (λ l e. is_member-at s.members l.variable e.0 e.1 e.2) c
+      (at (All-weaker (λ l. l.positive ≡ false → is_member s.members l.variable ≡ true) (λ l. l.positive ≡ false → Contains s.members l.variable)
+      (λ l g e. is_member-true s.members l.variable (g e)) c negatives)))
       clauses closed)),
   λ e has assumed under. All-contains (λ w. has w ≡ true) s.members v (h.least has assumed under) e,
 )
 
 -- one clause more, as a loop over their places reads it
-pub clause_item : (clauses : List (List Literal)) (place : ℕ) (clause : List Literal) → place < length clauses → clause ≡ clause_at clauses (place + 1) → take (place + 1) clauses ≡ take place clauses ++ clause ∷ []
+pub clause_item : (clauses : List (List Literal)) (place : ℕ) (clause : List Literal) → place < length clauses → clause ≡ clause_at clauses (place + 1)
+    → take (place + 1) clauses ≡ take place clauses ++ clause ∷ []
 clause_item clauses place clause within is =
     let same : place + 1 - 1 ≡ place = omega arith in
     take_more clauses place [] within ∙ ap (λ c. take place clauses ++ c ∷ []) (sym (is ∙ ap (λ k. get_or clauses k []) same))

@@ -1,5 +1,6 @@
 -- Unit steps as hints, and hints over more clauses.
-use Rattle.std.proofs.Common.{◌≡◌, ◌≢◌, ℕ, ◌+◌, ◌-◌, ◌<◌, ◌≤◌, ◌⊎◌, ⊎_elim, inl, inr, Bool, true, false, not, List, [], ◌∷◌, ◌++◌, length, get_or, take, map, refl, ap, sym, subst, ◌∙◌, append_assoc, arith, length-append}
+use Rattle.std.proofs.Common.{◌≡◌, ◌≢◌, ℕ, ◌+◌, ◌-◌, ◌<◌, ◌≤◌, ◌⊎◌, ⊎_elim, inl, inr, Bool, true, false, not, List, [], ◌∷◌, ◌++◌, length, get_or, take, map}
+use Rattle.std.proofs.Common.{refl, ap, sym, subst, ◌∙◌, append_assoc, arith, length-append}
 use Rattle.std.specs.List.{All, Contains}
 use Rattle.std.proofs.lemmas.Bool.{cases_lt}
 use Rattle.std.proofs.lemmas.List.{length_push, length-map, get_or-map, get_or_append_left, get_or_at, take-append-le, take_at, append-nil}
@@ -13,7 +14,8 @@ use Rattle.dist_derive.specs.Follows.{IsNumberOf, EndsFalse, Follows, Step, AreU
 use Rattle.dist_derive.proofs.AssumeLemmas.{ContainsAll-then, ContainsAll-push, AllFalse-more, OthersFalse-more}
 use Rattle.dist_derive.proofs.FewLemmas.{few_from_one}
 
-pub steps_hints : (clauses : List (List Literal)) (trues : List Literal) (steps : List Step) (last : ℕ) → AreUnitSteps clauses trues steps → IsNumberOf clauses last
+pub steps_hints : (clauses : List (List Literal)) (trues : List Literal) (steps : List Step) (last : ℕ) → AreUnitSteps clauses trues steps
+    → IsNumberOf clauses last
     → AllFalse (trues ++ map (λ s. s.made_true) steps) (clause_at clauses last) → EndsFalse clauses trues (map (λ s. s.number) steps ++ last ∷ [])
 steps_hints clauses trues [] last h number all = (number, inl (subst (λ ts. AllFalse ts (clause_at clauses last)) (append-nil trues) all, inl refl))
 steps_hints clauses trues (step ∷ steps) last h number all = (
@@ -27,17 +29,28 @@ steps_hints clauses trues (step ∷ steps) last h number all = (
 )
 
 unset_same : (trues other : List Literal) (l : Literal) → ContainsAll trues other → IsUnset trues l → IsUnset other l
-unset_same trues other l within unset = (λ h. unset.0 (All-contains (Contains trues) other l within h), λ h. unset.1 (All-contains (Contains trues) other (negation l) within h))
+unset_same trues other l within unset = (
+  λ h. unset.0 (All-contains (Contains trues) other l within h),
+  λ h. unset.1 (All-contains (Contains trues) other (negation l) within h),
+)
 
-pub any_order : (clauses : List (List Literal)) (trues other : List Literal) (hints : List ℕ) → ContainsAll trues other → ContainsAll other trues → EndsFalse clauses trues hints → EndsFalse clauses other hints
+pub any_order : (clauses : List (List Literal)) (trues other : List Literal) (hints : List ℕ) → ContainsAll trues other → ContainsAll other trues
+    → EndsFalse clauses trues hints → EndsFalse clauses other hints
 any_order clauses trues other [] within kept h = h
 any_order clauses trues other (hint ∷ hints) within kept h = (
   h.0,
   ⊎_elim
-      (λ x. inl (AllFalse-more trues other (clause_at clauses hint) kept x.0, ⊎_elim (λ none. inl none) (λ more. inr (any_order clauses trues other hints within kept more)) x.1))
+      (λ x. inl (
+        AllFalse-more trues other (clause_at clauses hint) kept x.0,
+        ⊎_elim (λ none. inl none) (λ more. inr (any_order clauses trues other hints within kept more)) x.1,
+      ))
       (λ x. inr (
         x.0,
-        record { member = x.1.member; unset = unset_same trues other x.0 within x.1.unset; others = OthersFalse-more trues other (clause_at clauses hint) x.0 kept x.1.others },
+        record {
+          member = x.1.member;
+          unset = unset_same trues other x.0 within x.1.unset;
+          others = OthersFalse-more trues other (clause_at clauses hint) x.0 kept x.1.others;
+        },
         any_order clauses (trues ++ x.0 ∷ []) (other ++ x.0 ∷ []) hints (pushed trues other x.0 within) (pushed other trues x.0 kept) x.2,
       ))
       h.1,
@@ -59,10 +72,12 @@ unset_apart trues l unset m here e = elim (cases_sign m.positive l.positive) [
     cases_sign false true = inr refl
     cases_sign false false = inl refl
 
-over_push : (n : ℕ) (trues : List Literal) (l : Literal) → IsClauseOver n trues → (1 ≤ l.variable) × (l.variable ≤ n) → IsUnset trues l → IsClauseOver n (trues ++ l ∷ [])
+over_push : (n : ℕ) (trues : List Literal) (l : Literal) → IsClauseOver n trues → (1 ≤ l.variable) × (l.variable ≤ n) → IsUnset trues l
+    → IsClauseOver n (trues ++ l ∷ [])
 over_push n trues l over in_range unset = record {
   in_range = All-push (λ m. (1 ≤ m.variable) × (m.variable ≤ n)) trues l over.in_range in_range;
-  distinct = all_pairs_push (λ m x. m.variable ≢ x.variable) trues l over.distinct (λ k d within. unset_apart trues l unset (get_or trues k d) (Contains-get_or trues k d within));
+  distinct = all_pairs_push (λ m x. m.variable ≢ x.variable) trues l over.distinct
+      (λ k d within. unset_apart trues l unset (get_or trues k d) (Contains-get_or trues k d within));
 }
 
 over_few : (n : ℕ) (trues : List Literal) → IsClauseOver n trues → length trues ≤ n
@@ -81,7 +96,8 @@ over_few n trues over =
     subst (λ v. (1 ≤ v) × (v ≤ n)) (sym (get_or-map variable trues k l d k_in)) (over.in_range k l k_in)) in
     omega (arith, long, few)
 
-pub few_steps : (n : ℕ) (clauses : List (List Literal)) (trues : List Literal) (steps : List Step) → All (IsClauseOver n) clauses → IsClauseOver n trues → AreUnitSteps clauses trues steps → length trues + length steps ≤ n
+pub few_steps : (n : ℕ) (clauses : List (List Literal)) (trues : List Literal) (steps : List Step) → All (IsClauseOver n) clauses → IsClauseOver n trues
+    → AreUnitSteps clauses trues steps → length trues + length steps ≤ n
 few_steps n clauses trues [] all over h = omega (arith, over_few n trues over)
 few_steps n clauses trues (step ∷ steps) all over h =
     let l = step.made_true in
@@ -92,7 +108,8 @@ few_steps n clauses trues (step ∷ steps) all over h =
 clause_at-more : (clauses more : List (List Literal)) (number : ℕ) → IsNumberOf clauses number → clause_at (clauses ++ more) number ≡ clause_at clauses number
 clause_at-more clauses more number h = get_or_append_left clauses more [] (number - 1) (omega (arith, h.0, h.1))
 
-ends_false_more : (clauses more : List (List Literal)) (trues : List Literal) (hints : List ℕ) → EndsFalse clauses trues hints → EndsFalse (clauses ++ more) trues hints
+ends_false_more : (clauses more : List (List Literal)) (trues : List Literal) (hints : List ℕ) → EndsFalse clauses trues hints
+    → EndsFalse (clauses ++ more) trues hints
 ends_false_more clauses more trues [] h = h
 ends_false_more clauses more trues (hint ∷ hints) h =
     let same = sym (clause_at-more clauses more hint h.0) in (
@@ -103,20 +120,26 @@ ends_false_more clauses more trues (hint ∷ hints) h =
           h.1,
     )
 
-pub follows_more : (clauses more : List (List Literal)) (clause : List Literal) (hints : List ℕ) → Follows clauses clause hints → Follows (clauses ++ more) clause hints
+pub follows_more : (clauses more : List (List Literal)) (clause : List Literal) (hints : List ℕ) → Follows clauses clause hints
+    → Follows (clauses ++ more) clause hints
 follows_more clauses more clause hints h = ends_false_more clauses more (map negation clause) hints h
 
-pub each_line_more : (inputs : ℕ) (clauses : List (List Literal)) (clause : List Literal) (hints : List ℕ) → EachLineFollows inputs clauses → Follows clauses clause hints → EachLineFollows inputs (clauses ++ clause ∷ [])
+pub each_line_more : (inputs : ℕ) (clauses : List (List Literal)) (clause : List Literal) (hints : List ℕ) → EachLineFollows inputs clauses
+    → Follows clauses clause hints → EachLineFollows inputs (clauses ++ clause ∷ [])
 each_line_more inputs clauses clause hints each h = λ number above within.
     elim (cases_lt (length clauses) number) [
       | inl last ↦
           let place : number - 1 ≡ length clauses = omega (arith, length_push clauses clause) in
-          let front : take (number - 1) (clauses ++ clause ∷ []) ≡ clauses = ap (λ k. take k (clauses ++ clause ∷ [])) place ∙ take_at clauses (clause ∷ []) (length clauses) refl in
+          let front : take (number - 1) (clauses ++ clause ∷ []) ≡ clauses = ap (λ k. take k (clauses ++ clause ∷ [])) place
+          ∙ take_at clauses (clause ∷ []) (length clauses) refl in
           let here : clause_at (clauses ++ clause ∷ []) number ≡ clause = get_or_at clauses clause [] [] (number - 1) (sym place) in
           (hints, subst (λ cs. Follows cs (clause_at (clauses ++ clause ∷ []) number) hints) (sym front) (subst (λ c. Follows clauses c hints) (sym here) h))
       | inr before ↦
           let line = each number above before in
           let front = take-append-le (number - 1) clauses (clause ∷ []) (omega arith) in
-          let same = clause_at-more clauses (clause ∷ []) number (omega arith, before) in
-          (line.0, subst (λ cs. Follows cs (clause_at (clauses ++ clause ∷ []) number) line.0) (sym front) (subst (λ c. Follows (take (number - 1) clauses) c line.0) (sym same) line.1))
+          let same = clause_at-more clauses (clause ∷ []) number (omega arith, before) in (
+            line.0,
+            subst (λ cs. Follows cs (clause_at (clauses ++ clause ∷ []) number) line.0) (sym front)
+                (subst (λ c. Follows (take (number - 1) clauses) c line.0) (sym same) line.1),
+          )
     ]

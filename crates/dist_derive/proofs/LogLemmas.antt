@@ -10,7 +10,8 @@ use Rattle.dist_derive.specs.ClauseLog.{joined, lines_of, IsWithinLineLimits}
 pub lines_of-joined : (inputs lines : ClauseList) → lines_of (joined inputs lines) ≡ lines.clauses
 lines_of-joined inputs lines = drop_at inputs.clauses lines.clauses (length inputs.clauses) refl
 
-pub IsWithinLineLimits-joined : (inputs lines : ClauseList) → lines.variables ≡ inputs.variables → IsWithinLimits inputs → IsWithinLimits lines → IsWithinLineLimits (joined inputs lines)
+pub IsWithinLineLimits-joined : (inputs lines : ClauseList) → lines.variables ≡ inputs.variables → IsWithinLimits inputs → IsWithinLimits lines
+    → IsWithinLineLimits (joined inputs lines)
 IsWithinLineLimits-joined inputs lines same first second = record {
   inputs_within = omega (arith, length-append inputs.clauses lines.clauses);
   lines_within = omega (arith, ap length (lines_of-joined inputs lines), second.clauses_within);

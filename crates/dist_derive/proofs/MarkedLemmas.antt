@@ -1,5 +1,6 @@
 -- A set of variables kept as a list and marks: one more member, and no member.
-use Rattle.std.proofs.Common.{◌≡◌, ◌≢◌, ℕ, zero, suc, ◌+◌, ◌-◌, ◌<◌, ◌≤◌, Bool, true, false, not, cond, List, [], ◌∷◌, ◌++◌, length, get_or, set, replicate, refl, ap, sym, ◌∙◌, subst, inl, inr, arith, count_by, ⊎_elim}
+use Rattle.std.proofs.Common.{◌≡◌, ◌≢◌, ℕ, zero, suc, ◌+◌, ◌-◌, ◌<◌, ◌≤◌, Bool, true, false, not, cond, List, [], ◌∷◌, ◌++◌, length, get_or, set, replicate}
+use Rattle.std.proofs.Common.{refl, ap, sym, ◌∙◌, subst, inl, inr, arith, count_by, ⊎_elim}
 use Rattle.std.specs.List.{Contains}
 use Rattle.std.proofs.lemmas.Bool.{cases_eq, false≢true, false_from_ne_true}
 use Rattle.std.proofs.lemmas.List.{same_lists, length-set, length-replicate, get_or-replicate, get_or-set_same, get_or-set_other, get_or_default, length_push}
@@ -36,20 +37,25 @@ unmarked_counts : (b : Bool) → b ≡ false → ◌≡◌ {A = ℕ} (cond (not 
 unmarked_counts true e = absurd (false≢true (sym e))
 unmarked_counts false e = refl
 
-pub is_room : (marks : List Bool) (members : List ℕ) (capacity v : ℕ) → AreMarked marks members capacity → 1 ≤ v → v ≤ length marks → (¬ Contains members v) → length members < length marks
+pub is_room : (marks : List Bool) (members : List ℕ) (capacity v : ℕ) → AreMarked marks members capacity → 1 ≤ v → v ≤ length marks → (¬ Contains members v)
+    → length members < length marks
 is_room marks members capacity v h from to fresh =
     let value : get_or marks (v - 1) false ≡ false = false_from_ne_true (value_of marks v) (λ e. fresh ((h.marked v from to).0 e)) in
     let one = get_or-le-sum_by (λ b. cond (not b) 1 0) marks (v - 1) false (omega arith) in
     let at_one = unmarked_counts (get_or marks (v - 1) false) value in
     omega (arith, h.counted)
 
-pub AreMarked-add : (marks : List Bool) (members : List ℕ) (capacity more v : ℕ) → AreMarked marks members capacity → capacity ≤ more → 1 ≤ v → v ≤ length marks → (¬ Contains members v) → AreMarked (set marks (v - 1) true) (members ++ v ∷ []) more
+pub AreMarked-add : (marks : List Bool) (members : List ℕ) (capacity more v : ℕ) → AreMarked marks members capacity → capacity ≤ more → 1 ≤ v → v ≤ length marks
+    → (¬ Contains members v) → AreMarked (set marks (v - 1) true) (members ++ v ∷ []) more
 AreMarked-add marks members capacity more v h larger from to fresh =
     let long = length-set marks (v - 1) true in
     record {
       marked = λ w w_from w_to.
           elim (cases_eq w v) [
-            | inl same ↦ (λ _. subst (λ u. Contains (members ++ v ∷ []) u) (sym same) (Contains-push members v), λ _. ap (λ u. value_of (set marks (v - 1) true) u) same ∙ value_of-set_same marks v true from to)
+            | inl same ↦ (
+              λ _. subst (λ u. Contains (members ++ v ∷ []) u) (sym same) (Contains-push members v),
+              λ _. ap (λ u. value_of (set marks (v - 1) true) u) same ∙ value_of-set_same marks v true from to,
+            )
             | inr other ↦
                 let kept = value_of-set_other marks v w true from w_from other in
                 let was = h.marked w w_from (omega arith) in (
@@ -58,7 +64,8 @@ AreMarked-add marks members capacity more v h larger from to fresh =
                 )
           ];
       in_range = All-push (λ u. (1 ≤ u) × (u ≤ length (set marks (v - 1) true))) members v
-          (All-weaker (λ u. (1 ≤ u) × (u ≤ length marks)) (λ u. (1 ≤ u) × (u ≤ length (set marks (v - 1) true))) (λ u r. (r.0, omega (arith, r.1))) members h.in_range)
+          (All-weaker (λ u. (1 ≤ u) × (u ≤ length marks)) (λ u. (1 ≤ u) × (u ≤ length (set marks (v - 1) true))) (λ u r. (r.0, omega (arith, r.1))) members
+          h.in_range)
           (from, omega arith);
       distinct = all_pairs_push (λ u w. u ≢ w) members v h.distinct (λ k d within e. fresh (k, within, get_or_default members k v d within ∙ e));
       counted =
@@ -90,14 +97,17 @@ pub record AreLeft (marks : List Bool) (left : List ℕ) (variables : ℕ) : Typ
   pub long : length marks ≡ variables
   pub each : (v : ℕ) → 1 ≤ v → v ≤ length marks → value_of marks v ≡ true → Contains left v
 
-pub AreLeft-more : (marks : List Bool) (member : ℕ) (left : List ℕ) (variables : ℕ) → AreLeft marks (member ∷ left) variables → 1 ≤ member → member ≤ variables → AreLeft (set marks (member - 1) false) left variables
+pub AreLeft-more : (marks : List Bool) (member : ℕ) (left : List ℕ) (variables : ℕ) → AreLeft marks (member ∷ left) variables → 1 ≤ member → member ≤ variables
+    → AreLeft (set marks (member - 1) false) left variables
 AreLeft-more marks member left variables h from to =
     let long = length-set marks (member - 1) false in
     let same_long = h.long in
     record {
       long = long ∙ same_long;
       each = λ v v_from v_to e. elim (cases_eq v member) [
-        | inl same ↦ absurd (false≢true (sym (ap (λ u. value_of (set marks (member - 1) false) u) same ∙ value_of-set_same marks member false from (omega arith)) ∙ e))
-        | inr other ↦ Contains-tail member left v (h.each v v_from (omega arith) (sym (value_of-set_other marks member v false from v_from other) ∙ e)) (λ x. other (sym x))
+        | inl same ↦ absurd (false≢true (sym (ap (λ u. value_of (set marks (member - 1) false) u) same
+            ∙ value_of-set_same marks member false from (omega arith)) ∙ e))
+        | inr other ↦ Contains-tail member left v (h.each v v_from (omega arith) (sym (value_of-set_other marks member v false from v_from other) ∙ e))
+            (λ x. other (sym x))
       ];
     }

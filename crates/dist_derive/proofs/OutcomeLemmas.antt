@@ -42,7 +42,8 @@ module _ (trues clause : List Literal) (l : Literal) where
   conflict_unset all this = record {
     member = Contains-push clause l;
     unset = this;
-    others = All-push (λ m. m ≢ l → IsFalse trues m) clause l (All-weaker (IsFalse trues) (λ m. m ≢ l → IsFalse trues m) (λ m f _. f) clause all) (λ e. absurd (e refl));
+    others = All-push (λ m. m ≢ l → IsFalse trues m) clause l (All-weaker (IsFalse trues) (λ m. m ≢ l → IsFalse trues m) (λ m f _. f) clause all)
+        (λ e. absurd (e refl));
   }
 
   pub unit_false : (m : Literal) → IsUnit trues clause m → IsFalse trues l → IsUnit trues (clause ++ l ∷ []) m
@@ -68,7 +69,8 @@ module _ (trues clause : List Literal) (l : Literal) where
   two_unset_open m first this apart = (
     λ all. this.1 (All-last (IsFalse trues) clause l all),
     λ x u. elim (same_or_not l x) [
-      | inl same ↦ first.unset.1 (other_false trues (clause ++ l ∷ []) x m u.others (Contains-append_left clause (l ∷ []) m first.member) (λ e. apart (ap (λ (y : Literal). y.variable) (e ∙ sym same))))
+      | inl same ↦ first.unset.1 (other_false trues (clause ++ l ∷ []) x m u.others (Contains-append_left clause (l ∷ []) m first.member)
+          (λ e. apart (ap (λ (y : Literal). y.variable) (e ∙ sym same))))
       | inr other ↦ this.1 (last_false x u.others other)
     ],
   )

@@ -1,6 +1,7 @@
 -- What follows by hints is true in every model.
 use mathlib.Core.Bool.{beq}
-use Rattle.std.proofs.Common.{◌≡◌, ℕ, zero, suc, ◌+◌, ◌-◌, ◌≤◌, ◌⊎◌, ⊎_elim, inl, inr, Bool, List, [], ◌∷◌, ◌++◌, length, get_or, take, map, refl, sym, subst, ◌∙◌, arith}
+use Rattle.std.proofs.Common.{◌≡◌, ℕ, zero, suc, ◌+◌, ◌-◌, ◌≤◌, ◌⊎◌, ⊎_elim, inl, inr, Bool, List, [], ◌∷◌, ◌++◌, length, get_or, take, map, refl, sym, subst}
+use Rattle.std.proofs.Common.{◌∙◌, arith}
 use Rattle.std.specs.List.{All}
 use Rattle.std.proofs.lemmas.Bool.{cases_lt, cases_Bool}
 use Rattle.std.proofs.lemmas.List.{take_all}
@@ -25,7 +26,8 @@ module _ (value : ℕ → Bool) where
   not_all_false trues clause all made h =
       not_false trues made.1 all made.4 (subst (λ l. IsFalse trues l) made.3 (h made.0 made.1 made.2))
 
-  unit_true : (trues clause : List Literal) (l : Literal) → All (IsTrueLiteral value) trues → MakesTrue value clause → IsUnit trues clause l → IsTrueLiteral value l
+  unit_true : (trues clause : List Literal) (l : Literal) → All (IsTrueLiteral value) trues → MakesTrue value clause → IsUnit trues clause l
+      → IsTrueLiteral value l
   unit_true trues clause l all made u = elim (same_or_not made.1 l) [
     | inl same ↦ subst (λ m. IsTrueLiteral value m) same made.4
     | inr other ↦ absurd (not_false trues made.1 all made.4 (other_false trues clause l made.1 u.others (made.0, made.2, made.3) other))
@@ -34,7 +36,8 @@ module _ (value : ℕ → Bool) where
   made_true : (clauses : List (List Literal)) (number : ℕ) → IsModel value clauses → IsNumberOf clauses number → MakesTrue value (clause_at clauses number)
   made_true clauses number model is = All-get_or (MakesTrue value) clauses (number - 1) [] (omega (arith, is.0, is.1)) model
 
-  ends_false_sound : (clauses : List (List Literal)) (trues : List Literal) (hints : List ℕ) → IsModel value clauses → All (IsTrueLiteral value) trues → ¬ EndsFalse clauses trues hints
+  ends_false_sound : (clauses : List (List Literal)) (trues : List Literal) (hints : List ℕ) → IsModel value clauses → All (IsTrueLiteral value) trues
+      → ¬ EndsFalse clauses trues hints
   ends_false_sound clauses trues [] model all h = h
   ends_false_sound clauses trues (hint ∷ hints) model all h =
       let made = made_true clauses hint model h.0 in
@@ -48,16 +51,19 @@ module _ (value : ℕ → Bool) where
   made_or_denied (l ∷ rest) = elim (cases_Bool (beq (value l.variable) l.positive)) [
     | inl e ↦ inl (0, l, omega arith, refl, beq-true (value l.variable) l.positive e)
     | inr e ↦ ⊎_elim (λ made. inl (suc made.0, made.1, omega (arith, made.2), made.3, made.4))
-        (λ denied. inr (All-cons (λ m. IsTrueLiteral value (negation m)) l rest (other-is_not (value l.variable) l.positive (beq-false (value l.variable) l.positive e)) denied))
+        (λ denied. inr (All-cons (λ m. IsTrueLiteral value (negation m)) l rest
+        (other-is_not (value l.variable) l.positive (beq-false (value l.variable) l.positive e)) denied))
         (made_or_denied rest)
   ]
 
-  pub follows_sound : (clauses : List (List Literal)) (clause : List Literal) (hints : List ℕ) → Follows clauses clause hints → IsModel value clauses → MakesTrue value clause
+  pub follows_sound : (clauses : List (List Literal)) (clause : List Literal) (hints : List ℕ) → Follows clauses clause hints → IsModel value clauses
+      → MakesTrue value clause
   follows_sound clauses clause hints h model = ⊎_elim (λ made. made)
       (λ denied. absurd (ends_false_sound clauses (map negation clause) hints model (All-map (IsTrueLiteral value) negation clause denied) h))
       (made_or_denied clause)
 
-  models_up_to : (inputs : ℕ) (clauses : List (List Literal)) → EachLineFollows inputs clauses → IsModel value (take inputs clauses) → (more : ℕ) → inputs + more ≤ length clauses → IsModel value (take (inputs + more) clauses)
+  models_up_to : (inputs : ℕ) (clauses : List (List Literal)) → EachLineFollows inputs clauses → IsModel value (take inputs clauses) → (more : ℕ)
+      → inputs + more ≤ length clauses → IsModel value (take (inputs + more) clauses)
   models_up_to inputs clauses each model zero within = subst (λ n. IsModel value (take n clauses)) (let e : inputs ≡ inputs + 0 = omega arith in e) model
   models_up_to inputs clauses each model (suc more) within =
       let before = models_up_to inputs clauses each model more (omega arith) in
@@ -70,7 +76,8 @@ module _ (value : ℕ → Bool) where
       let all = All-more (MakesTrue value) clauses (inputs + more) [] (omega arith) before here in
       subst (λ n. IsModel value (take n clauses)) (let e : inputs + more + 1 ≡ inputs + suc more = omega arith in e) all
 
-  pub models_of_inputs : (inputs : ℕ) (clauses : List (List Literal)) → EachLineFollows inputs clauses → IsModel value (take inputs clauses) → IsModel value clauses
+  pub models_of_inputs : (inputs : ℕ) (clauses : List (List Literal)) → EachLineFollows inputs clauses → IsModel value (take inputs clauses)
+      → IsModel value clauses
   models_of_inputs inputs clauses each model = elim (cases_lt (length clauses) inputs) [
     | inl past ↦ subst (λ cs. IsModel value cs) (take_all inputs clauses (omega arith)) model
     | inr within ↦

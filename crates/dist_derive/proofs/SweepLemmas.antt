@@ -39,17 +39,22 @@ module _ (clauses : List (List Literal)) (clause : List Literal) (start now next
     kept = h.kept;
     forced = λ trues all propagated. h.forced trues all (All-front (IsPropagated trues) clauses (clause ∷ []) propagated);
     still = λ e.
-        let was = h.still e in
-        (was.0, All-push (λ c. HasOutcome start.literals c Open) clauses clause was.1 (subst (λ (s : LiteralList). HasOutcome s.literals clause Open) was.0 is_open));
+        let was = h.still e in (
+          was.0,
+          All-push (λ c. HasOutcome start.literals c Open) clauses clause was.1
+              (subst (λ (s : LiteralList). HasOutcome s.literals clause Open) was.0 is_open),
+        );
     more = h.more;
   })
 
-  pub sweeps_unit : (l : Literal) → next ≡ record now { literals = now.literals ++ l ∷ [] } → IsUnit now.literals clause l → length next.literals ≤ next.variables → SweepsSoFar (clauses ++ clause ∷ []) start next true
+  pub sweeps_unit : (l : Literal) → next ≡ record now { literals = now.literals ++ l ∷ [] } → IsUnit now.literals clause l
+      → length next.literals ≤ next.variables → SweepsSoFar (clauses ++ clause ∷ []) start next true
   sweeps_unit l same u few =
       let literals : next.literals ≡ now.literals ++ l ∷ [] = ap (λ (t : LiteralList). t.literals) same in
       record {
         same_variables = ap (λ (t : LiteralList). t.variables) same ∙ h.same_variables;
-        kept = subst (λ ts. ContainsAll ts start.literals) (sym literals) (ContainsAll-then start.literals now.literals (now.literals ++ l ∷ []) h.kept (ContainsAll-push now.literals l));
+        kept = subst (λ ts. ContainsAll ts start.literals) (sym literals)
+            (ContainsAll-then start.literals now.literals (now.literals ++ l ∷ []) h.kept (ContainsAll-push now.literals l));
         forced = λ trues all propagated.
             let before = h.forced trues all (All-front (IsPropagated trues) clauses (clause ∷ []) propagated) in
             let this = All-last (IsPropagated trues) clauses clause propagated l u.member (OthersFalse-more now.literals trues clause l before u.others) in
@@ -65,12 +70,14 @@ module _ (clauses : List (List Literal)) (clause : List Literal) (start now next
       at_least_one : (l : Literal) → next.literals ≡ now.literals ++ l ∷ [] → length start.literals < length next.literals
       at_least_one l e = omega (arith, ap length e, length_push now.literals l, before_length grown h)
 
-pub sweeps_conflict : (clauses : List (List Literal)) (place : ℕ) (start now : LiteralList) (grown : Bool) → SweepsSoFar (take place clauses) start now grown → place < length clauses → AllFalse now.literals (get_or clauses place []) → IsRefuted clauses start.literals
+pub sweeps_conflict : (clauses : List (List Literal)) (place : ℕ) (start now : LiteralList) (grown : Bool) → SweepsSoFar (take place clauses) start now grown
+    → place < length clauses → AllFalse now.literals (get_or clauses place []) → IsRefuted clauses start.literals
 sweeps_conflict clauses place start now grown h within all_false = λ trues all propagated no_conflict.
     let before = h.forced trues all (All-take (IsPropagated trues) place clauses propagated) in
     All-get_or (λ c. ¬ AllFalse trues c) clauses place [] within no_conflict (AllFalse-more now.literals trues (get_or clauses place []) before all_false)
 
-pub sweeps_to : (clauses : List (List Literal)) (place last : ℕ) (start now : LiteralList) (grown : Bool) → place ≡ last → SweepsSoFar (take place clauses) start now grown → SweepsSoFar (take last clauses) start now grown
+pub sweeps_to : (clauses : List (List Literal)) (place last : ℕ) (start now : LiteralList) (grown : Bool) → place ≡ last
+    → SweepsSoFar (take place clauses) start now grown → SweepsSoFar (take last clauses) start now grown
 sweeps_to clauses place last start now grown all h = subst (λ n. SweepsSoFar (take n clauses) start now grown) all h
 
 -- what walks over the clauses keep
@@ -82,14 +89,16 @@ pub record PropagatesSoFar (clauses : List (List Literal)) (start now : LiteralL
 pub propagates_none : (clauses : List (List Literal)) (s : LiteralList) → PropagatesSoFar clauses s s
 propagates_none clauses s = record { same_variables = refl; kept = ContainsAll-itself s.literals; forced = λ trues all _. all }
 
-pub propagates_more : (clauses : List (List Literal)) (start now next : LiteralList) → PropagatesSoFar clauses start now → next.variables ≡ now.variables → ContainsAll next.literals now.literals → IsForced clauses now.literals next.literals → PropagatesSoFar clauses start next
+pub propagates_more : (clauses : List (List Literal)) (start now next : LiteralList) → PropagatesSoFar clauses start now → next.variables ≡ now.variables
+    → ContainsAll next.literals now.literals → IsForced clauses now.literals next.literals → PropagatesSoFar clauses start next
 propagates_more clauses start now next h variables kept forced = record {
   same_variables = variables ∙ h.same_variables;
   kept = ContainsAll-then start.literals now.literals next.literals h.kept kept;
   forced = λ trues all propagated. forced trues (h.forced trues all propagated) propagated;
 }
 
-pub refuted_before : (clauses : List (List Literal)) (start now : LiteralList) → PropagatesSoFar clauses start now → IsRefuted clauses now.literals → IsRefuted clauses start.literals
+pub refuted_before : (clauses : List (List Literal)) (start now : LiteralList) → PropagatesSoFar clauses start now → IsRefuted clauses now.literals
+    → IsRefuted clauses start.literals
 refuted_before clauses start now h refuted = λ trues all propagated no_conflict. refuted trues (h.forced trues all propagated) propagated no_conflict
 
 -- where no clause is false or unit, all is propagated
@@ -103,22 +112,27 @@ open_propagated trues clause is_open = λ l here others.
       ]
     ]
 
-module _ (clauses : List (List Literal)) (assumptions : List Literal) (first : Literal) (rest denied assumed ended : List Literal) (start : denied ≡ map negation rest) where
+module _ (clauses : List (List Literal)) (assumptions : List Literal) (first : Literal) (rest denied assumed ended : List Literal)
+    (start : denied ≡ map negation rest) where
   holds_denied : (trues : List Literal) → LeavesUnset clauses assumptions first rest trues → ContainsAll trues denied
   holds_denied trues t = subst (λ ts. ContainsAll trues ts) (sym start) (All-map (Contains trues) negation rest t.denied)
 
-  pub unset_refused : ((trues : List Literal) → ContainsAll trues denied → ContainsAll trues assumptions → ¬ IsConsistent trues) → (trues : List Literal) → ¬ LeavesUnset clauses assumptions first rest trues
+  pub unset_refused : ((trues : List Literal) → ContainsAll trues denied → ContainsAll trues assumptions → ¬ IsConsistent trues) → (trues : List Literal)
+      → ¬ LeavesUnset clauses assumptions first rest trues
   unset_refused refused trues t = refused trues (holds_denied trues t) t.assumed t.settled.consistent
 
-  pub unset_refuted : ((trues : List Literal) → ContainsAll trues denied → ContainsAll trues assumptions → ContainsAll trues assumed) → IsRefuted clauses assumed → (trues : List Literal) → ¬ LeavesUnset clauses assumptions first rest trues
+  pub unset_refuted : ((trues : List Literal) → ContainsAll trues denied → ContainsAll trues assumptions → ContainsAll trues assumed)
+      → IsRefuted clauses assumed → (trues : List Literal) → ¬ LeavesUnset clauses assumptions first rest trues
   unset_refuted least refuted trues t = refuted trues (least trues (holds_denied trues t) t.assumed) t.settled.propagated t.settled.no_conflict
 
-  pub unset_at_end : ((trues : List Literal) → ContainsAll trues denied → ContainsAll trues assumptions → ContainsAll trues assumed) → IsForced clauses assumed ended → (trues : List Literal) → LeavesUnset clauses assumptions first rest trues → IsUnset ended first
+  pub unset_at_end : ((trues : List Literal) → ContainsAll trues denied → ContainsAll trues assumptions → ContainsAll trues assumed)
+      → IsForced clauses assumed ended → (trues : List Literal) → LeavesUnset clauses assumptions first rest trues → IsUnset ended first
   unset_at_end least forced trues t =
       let all = forced trues (least trues (holds_denied trues t) t.assumed) t.settled.propagated in
       (λ h. t.unset.0 (All-contains (Contains trues) ended first all h), λ h. t.unset.1 (All-contains (Contains trues) ended (negation first) all h))
 
-  pub leaves_unset_end : ContainsAll assumed denied → ContainsAll assumed assumptions → ContainsAll ended assumed → AllOpen ended clauses → IsConsistent ended → IsUnset ended first → LeavesUnset clauses assumptions first rest ended
+  pub leaves_unset_end : ContainsAll assumed denied → ContainsAll assumed assumptions → ContainsAll ended assumed → AllOpen ended clauses → IsConsistent ended
+      → IsUnset ended first → LeavesUnset clauses assumptions first rest ended
   leaves_unset_end kept assumptions_in kept_end all_open consistent unset = record {
     settled = record {
       consistent = consistent;

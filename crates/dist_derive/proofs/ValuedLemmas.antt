@@ -1,6 +1,7 @@
 -- True literals kept as a set of variables with their values.
 use mathlib.Core.Bool.{beq}
-use Rattle.std.proofs.Common.{◌≡◌, ◌≢◌, ℕ, suc, ◌+◌, ◌-◌, ◌<◌, ◌≤◌, Bool, true, false, not, List, [], ◌∷◌, ◌++◌, length, get_or, set, take, refl, ap, sym, ◌∙◌, subst, arith}
+use Rattle.std.proofs.Common.{◌≡◌, ◌≢◌, ℕ, suc, ◌+◌, ◌-◌, ◌<◌, ◌≤◌, Bool, true, false, not, List, [], ◌∷◌, ◌++◌, length, get_or, set, take, refl, ap, sym, ◌∙◌}
+use Rattle.std.proofs.Common.{subst, arith}
 use Rattle.std.specs.List.{All, Contains}
 use Rattle.std.proofs.lemmas.Bool.{false≢true, true≢false}
 use Rattle.std.proofs.lemmas.List.{length-map, get_or-map, get_or_at, length_push, take_at, take_more, map_push}
@@ -15,7 +16,8 @@ Contains-valued signs members v h =
     let f : ℕ → Literal = λ w. literal w (value_of signs w) in
     (h.0, omega (arith, h.1, length-map members f), get_or-map f members h.0 v (literal v (value_of signs v)) h.1 ∙ ap f h.2)
 
-pub valued-Contains : (signs : List Bool) (members : List ℕ) (l : Literal) → Contains (valued signs members) l → Contains members l.variable × (value_of signs l.variable ≡ l.positive)
+pub valued-Contains : (signs : List Bool) (members : List ℕ) (l : Literal) → Contains (valued signs members) l → Contains members l.variable
+    × (value_of signs l.variable ≡ l.positive)
 valued-Contains signs members l h =
     let f : ℕ → Literal = λ w. literal w (value_of signs w) in
     let within : h.0 < length members = omega (arith, h.1, length-map members f) in
@@ -33,16 +35,19 @@ other-is_not true false h = refl
 other-is_not false true h = refl
 other-is_not false false h = absurd (h refl)
 
-pub is_true : (signs : List Bool) (members : List ℕ) (l : Literal) → Contains members l.variable → value_of signs l.variable ≡ l.positive → Contains (valued signs members) l × (¬ IsFalse (valued signs members) l)
+pub is_true : (signs : List Bool) (members : List ℕ) (l : Literal) → Contains members l.variable → value_of signs l.variable ≡ l.positive
+    → Contains (valued signs members) l × (¬ IsFalse (valued signs members) l)
 is_true signs members l h e = (
   subst (λ b. Contains (valued signs members) (literal l.variable b)) e (Contains-valued signs members l.variable h),
   λ g. not-itself l.positive (sym (valued-Contains signs members (negation l) g).1 ∙ e),
 )
 
-pub is_false : (signs : List Bool) (members : List ℕ) (l : Literal) → Contains members l.variable → (value_of signs l.variable ≡ l.positive → ⊥) → (¬ Contains (valued signs members) l) × IsFalse (valued signs members) l
+pub is_false : (signs : List Bool) (members : List ℕ) (l : Literal) → Contains members l.variable → (value_of signs l.variable ≡ l.positive → ⊥)
+    → (¬ Contains (valued signs members) l) × IsFalse (valued signs members) l
 is_false signs members l h e = (
   λ g. e (valued-Contains signs members l g).1,
-  subst (λ b. Contains (valued signs members) (literal l.variable b)) (other-is_not (value_of signs l.variable) l.positive e) (Contains-valued signs members l.variable h),
+  subst (λ b. Contains (valued signs members) (literal l.variable b)) (other-is_not (value_of signs l.variable) l.positive e)
+      (Contains-valued signs members l.variable h),
 )
 
 -- a variable of the set is not unset
@@ -57,7 +62,8 @@ valued-consistent signs members l h g = not-itself l.positive (sym (valued-Conta
 Contains-cons : {X : Type 0} (x : X) (xs : List X) (y : X) → Contains xs y → Contains (x ∷ xs) y
 Contains-cons x xs y h = (suc h.0, omega (arith, h.1), h.2)
 
-valued-set_fresh : (signs : List Bool) (members : List ℕ) (v : ℕ) (b : Bool) → All (λ w. 1 ≤ w) members → 1 ≤ v → (¬ Contains members v) → valued (set signs (v - 1) b) members ≡ valued signs members
+valued-set_fresh : (signs : List Bool) (members : List ℕ) (v : ℕ) (b : Bool) → All (λ w. 1 ≤ w) members → 1 ≤ v → (¬ Contains members v)
+    → valued (set signs (v - 1) b) members ≡ valued signs members
 valued-set_fresh signs [] v b all from fresh = refl
 valued-set_fresh signs (w ∷ ws) v b all from fresh =
     let w_from = All-head (λ w. 1 ≤ w) w ws all in
@@ -69,12 +75,14 @@ valued-set_fresh signs (w ∷ ws) v b all from fresh =
 pub All-front : {X : Type 0} (P : X → Type 0) (xs ys : List X) → All P (xs ++ ys) → All P xs
 All-front P xs ys h = subst (λ zs. All P zs) (take_at xs ys (length xs) refl) (All-take P (length xs) (xs ++ ys) h)
 
-pub valued-add : (signs : List Bool) (members : List ℕ) (l : Literal) (n : ℕ) → All (λ w. (1 ≤ w) × (w ≤ n)) (members ++ l.variable ∷ []) → 1 ≤ l.variable → l.variable ≤ length signs → (¬ Contains members l.variable)
+pub valued-add : (signs : List Bool) (members : List ℕ) (l : Literal) (n : ℕ) → All (λ w. (1 ≤ w) × (w ≤ n)) (members ++ l.variable ∷ []) → 1 ≤ l.variable
+    → l.variable ≤ length signs → (¬ Contains members l.variable)
     → valued (set signs (l.variable - 1) l.positive) (members ++ l.variable ∷ []) ≡ valued signs members ++ l ∷ []
 valued-add signs members l n all from to fresh =
     let signs' = set signs (l.variable - 1) l.positive in
     let f : ℕ → Literal = λ w. literal w (value_of signs' w) in
-    let kept = valued-set_fresh signs members l.variable l.positive (All-weaker (λ w. (1 ≤ w) × (w ≤ n)) (λ w. 1 ≤ w) (λ w r. r.0) members (All-front (λ w. (1 ≤ w) × (w ≤ n)) members (l.variable ∷ []) all)) from fresh in
+    let kept = valued-set_fresh signs members l.variable l.positive
+    (All-weaker (λ w. (1 ≤ w) × (w ≤ n)) (λ w. 1 ≤ w) (λ w r. r.0) members (All-front (λ w. (1 ≤ w) × (w ≤ n)) members (l.variable ∷ []) all)) from fresh in
     let last : literal l.variable (value_of signs' l.variable) ≡ l = ap (literal l.variable) (value_of-set_same signs l.variable l.positive from to) in
     map_push f members l.variable ∙ (ap (λ front. front ++ f l.variable ∷ []) kept ∙ ap (λ m. valued signs members ++ m ∷ []) last)
 

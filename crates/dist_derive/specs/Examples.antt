@@ -1,5 +1,6 @@
 -- Worked examples of following by hints, of the cone and of new clauses.
-use Rattle.std.proofs.Common.{◌≡◌, ◌≢◌, ℕ, zero, suc, ◌<◌, ⊎_elim, inl, inr, Bool, true, false, not, nat_lt, List, [], ◌∷◌, length, get_or, refl, ap, sym, ◌∙◌, arith, lit<, lit≤}
+use Rattle.std.proofs.Common.{◌≡◌, ◌≢◌, ℕ, zero, suc, ◌<◌, ⊎_elim, inl, inr, Bool, true, false, not, nat_lt, List, []}
+use Rattle.std.proofs.Common.{◌∷◌, length, get_or, refl, ap, sym, ◌∙◌, arith, lit<, lit≤}
 use Rattle.std.specs.List.{All, AllPairs, Contains}
 use Rattle.std.proofs.lemmas.Bool.{false≢true, true≢false}
 use Rattle.std.proofs.lemmas.List.Elements.{All-contains}
@@ -53,7 +54,11 @@ follows_by_both = (
   (lit≤ tt, lit≤ tt),
   inr (
     yes 2,
-    record { member = (1, lit< tt, refl); unset = (only_one 2 true one_two, only_one 2 false one_two); others = first_false },
+    record {
+      member = (1, lit< tt, refl);
+      unset = (only_one 2 true one_two, only_one 2 false one_two);
+      others = first_false;
+    },
     ((lit≤ tt, lit≤ tt), inl (all_false, inl refl)),
   ),
 )
@@ -82,14 +87,16 @@ not_above_the_last h = omega (arith, h.0.1)
 
 -- ---- the cone of 1 under `three`
 
-negatives : (has : ℕ → Bool) → has 1 ≡ true → All (λ l. l.positive ≡ false → has l.variable ≡ true) (no 1 ∷ yes 2 ∷ yes 3 ∷ [])
+negatives : (has : ℕ → Bool) → has 1 ≡ true
+    → All (λ l. l.positive ≡ false → has l.variable ≡ true) (no 1 ∷ yes 2 ∷ yes 3 ∷ [])
 negatives has one zero d within e = one
 negatives has one (suc zero) d within e = absurd (true≢false e)
 negatives has one (suc (suc zero)) d within e = absurd (true≢false e)
 negatives has one (suc (suc (suc k))) d within e = absurd (omega arith)
 
 three_is_reached : InCone three (yes 1 ∷ []) 3
-three_is_reached has assumed closed = closed 0 [] (lit< tt) (negatives has (assumed 0 (yes 1) (lit< tt))) 2 (yes 1) (lit< tt)
+three_is_reached has assumed closed = closed 0 [] (lit< tt) (negatives has (assumed 0 (yes 1) (lit< tt))) 2 (yes 1)
+    (lit< tt)
 
 one_is_reached : InCone three (yes 1 ∷ []) 1
 one_is_reached has assumed closed = assumed 0 (yes 1) (lit< tt)
@@ -133,7 +140,8 @@ second_left trues x y h zero d within = λ _. h
 second_left trues x y h (suc zero) d within = λ other. absurd (other refl)
 second_left trues x y h (suc (suc k)) d within = absurd (omega arith)
 
-third_left : (trues : List Literal) (x y z : Literal) → IsFalse trues x → IsFalse trues y → OthersFalse trues (x ∷ y ∷ z ∷ []) z
+third_left : (trues : List Literal) (x y z : Literal) → IsFalse trues x → IsFalse trues y
+    → OthersFalse trues (x ∷ y ∷ z ∷ []) z
 third_left trues x y z h g zero d within = λ _. h
 third_left trues x y z h g (suc zero) d within = λ _. g
 third_left trues x y z h g (suc (suc zero)) d within = λ other. absurd (other refl)
@@ -144,7 +152,8 @@ propagated_already : ¬ IsNew chain 2 (yes 1 ∷ []) (yes 3 ∷ no 1 ∷ [])
 propagated_already h =
     let trues = h.adds.0 in
     let t = h.adds.1 in
-    let two = t.settled.propagated 0 [] (lit< tt) (yes 2) (1, lit< tt, refl) (second_left trues (no 1) (yes 2) (t.assumed 0 (yes 1) (lit< tt))) in
+    let two = t.settled.propagated 0 [] (lit< tt) (yes 2) (1, lit< tt, refl)
+    (second_left trues (no 1) (yes 2) (t.assumed 0 (yes 1) (lit< tt))) in
     t.unset.0 (t.settled.propagated 1 [] (lit< tt) (yes 3) (1, lit< tt, refl) (second_left trues (no 2) (yes 3) two))
 
 -- the clause `-1 2 3` gives it
@@ -152,14 +161,16 @@ copied : ¬ IsNew three 3 (yes 1 ∷ []) (yes 3 ∷ yes 2 ∷ no 1 ∷ [])
 copied h =
     let trues = h.adds.0 in
     let t = h.adds.1 in
-    t.unset.0 (t.settled.propagated 0 [] (lit< tt) (yes 3) (2, lit< tt, refl) (third_left trues (no 1) (yes 2) (yes 3) (t.assumed 0 (yes 1) (lit< tt)) (t.denied 0 (yes 2) (lit< tt))))
+    t.unset.0 (t.settled.propagated 0 [] (lit< tt) (yes 3) (2, lit< tt, refl)
+    (third_left trues (no 1) (yes 2) (yes 3) (t.assumed 0 (yes 1) (lit< tt)) (t.denied 0 (yes 2) (lit< tt))))
 
 -- the clause `-2 3` with one literal more
 lengthened : ¬ IsNew three 3 (yes 1 ∷ []) (yes 3 ∷ no 2 ∷ no 1 ∷ [])
 lengthened h =
     let trues = h.adds.0 in
     let t = h.adds.1 in
-    t.unset.0 (t.settled.propagated 1 [] (lit< tt) (yes 3) (1, lit< tt, refl) (second_left trues (no 2) (yes 3) (t.denied 0 (no 2) (lit< tt))))
+    t.unset.0 (t.settled.propagated 1 [] (lit< tt) (yes 3) (1, lit< tt, refl)
+    (second_left trues (no 2) (yes 3) (t.denied 0 (no 2) (lit< tt))))
 
 outside_the_cone : ¬ IsNew three 3 (yes 1 ∷ []) (no 4 ∷ no 1 ∷ [])
 outside_the_cone h = four_is_not_reached (h.within_cone 0 (no 4) (lit< tt))
@@ -174,7 +185,8 @@ leaves_three_unset = record {
 }
   where
     consistent : IsConsistent (yes 1 ∷ [])
-    consistent l h f = false≢true (ap (λ (m : Literal). not m.positive) (in_one (yes 1) l h) ∙ sym (ap (λ (m : Literal). m.positive) (in_one (yes 1) (negation l) f)))
+    consistent l h f = false≢true (ap (λ (m : Literal). not m.positive) (in_one (yes 1) l h)
+        ∙ sym (ap (λ (m : Literal). m.positive) (in_one (yes 1) (negation l) f)))
 
     assumed : All (Contains (yes 1 ∷ [])) (yes 1 ∷ [])
     assumed zero d within = (0, lit< tt, refl)
@@ -194,13 +206,19 @@ leaves_three_unset = record {
     two_left : (clause : List Literal) (x y : Literal) → Contains clause x → Contains clause y → x.variable ≢ y.variable
         → (¬ IsFalse (yes 1 ∷ []) x) → (¬ IsFalse (yes 1 ∷ []) y) → IsPropagated (yes 1 ∷ []) clause
     two_left clause x y here there apart x_not y_not = λ l member others.
-        let at : (z : Literal) → Contains clause z → z ≢ l → IsFalse (yes 1 ∷ []) z = λ z z_in. All-contains (λ m. m ≢ l → IsFalse (yes 1 ∷ []) m) clause z others z_in in
+        let at : (z : Literal) → Contains clause z → z ≢ l
+        → IsFalse (yes 1 ∷ []) z = λ z z_in. All-contains (λ m. m ≢ l → IsFalse (yes 1 ∷ []) m) clause z others
+        z_in in
         absurd (y_not (at y there (λ e. x_not (at x here (λ f. apart (ap (λ (m : Literal). m.variable) (f ∙ sym e)))))))
 
     propagated : All (IsPropagated (yes 1 ∷ [])) three
-    propagated zero d within = two_left (no 1 ∷ yes 2 ∷ yes 3 ∷ []) (yes 2) (yes 3) (1, lit< tt, refl) (2, lit< tt, refl) (λ e. omega (arith, e)) (only_one 2 false one_two) (only_one 3 false one_three)
-    propagated (suc zero) d within = two_left (no 2 ∷ yes 3 ∷ []) (no 2) (yes 3) (0, lit< tt, refl) (1, lit< tt, refl) (λ e. omega (arith, e)) (only_one 2 true one_two) (only_one 3 false one_three)
-    propagated (suc (suc zero)) d within = two_left (no 4 ∷ yes 5 ∷ []) (no 4) (yes 5) (0, lit< tt, refl) (1, lit< tt, refl) (λ e. omega (arith, e)) (only_one 4 true (λ e. omega (arith, e))) (only_one 5 false (λ e. omega (arith, e)))
+    propagated zero d within = two_left (no 1 ∷ yes 2 ∷ yes 3 ∷ []) (yes 2) (yes 3) (1, lit< tt, refl)
+        (2, lit< tt, refl) (λ e. omega (arith, e)) (only_one 2 false one_two) (only_one 3 false one_three)
+    propagated (suc zero) d within = two_left (no 2 ∷ yes 3 ∷ []) (no 2) (yes 3) (0, lit< tt, refl) (1, lit< tt, refl)
+        (λ e. omega (arith, e)) (only_one 2 true one_two) (only_one 3 false one_three)
+    propagated (suc (suc zero)) d within = two_left (no 4 ∷ yes 5 ∷ []) (no 4) (yes 5) (0, lit< tt, refl)
+        (1, lit< tt, refl) (λ e. omega (arith, e)) (only_one 4 true (λ e. omega (arith, e)))
+        (only_one 5 false (λ e. omega (arith, e)))
     propagated (suc (suc (suc k))) d within = absurd (omega arith)
 
 -- so `3 -1` is new

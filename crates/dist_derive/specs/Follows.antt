@@ -28,7 +28,8 @@ pub record Step : Type 0 where
 -- taken in order, the clause of each step is unit by the step's literal, which becomes true
 abbrev pub AreUnitSteps : List (List Literal) → List Literal → List Step → Type 0
 AreUnitSteps clauses trues [] = Unit {0}
-AreUnitSteps clauses trues (step ∷ steps) = IsNumberOf clauses step.number × IsUnit trues (clause_at clauses step.number) step.made_true
+AreUnitSteps clauses trues (step ∷ steps) = IsNumberOf clauses step.number
+    × IsUnit trues (clause_at clauses step.number) step.made_true
     × AreUnitSteps clauses (trues ++ step.made_true ∷ []) steps
 
 -- each clause after the inputs follows from the clauses before it, by some hints

@@ -9,8 +9,11 @@ use Rattle.dist_derive.specs.declared.true_literals.Outcome.{Outcome}
 use Rattle.dist_derive.specs.declared.true_literals.Outcome.TheVariants.{Conflict, Unit as UnitClause, Open}
 
 abbrev pub TakesHint : List (List Literal) → LiteralList → LiteralList → ℕ → Outcome → Type 0
-TakesHint clauses old new hint Conflict = (new ≡ old) × IsNumberOf clauses hint × AllFalse old.literals (clause_at clauses hint)
+TakesHint clauses old new hint Conflict = (new ≡ old) × IsNumberOf clauses hint
+    × AllFalse old.literals (clause_at clauses hint)
 TakesHint clauses old new hint (UnitClause l) =
-    (new ≡ record old { literals = old.literals ++ l ∷ [] }) × IsNumberOf clauses hint × IsUnit old.literals (clause_at clauses hint) l
+    (new ≡ record old { literals = old.literals ++ l ∷ [] }) × IsNumberOf clauses hint
+    × IsUnit old.literals (clause_at clauses hint) l
     × (length new.literals ≤ new.variables)
-TakesHint clauses old new hint Open = (new ≡ old) × (IsNumberOf clauses hint → HasOutcome old.literals (clause_at clauses hint) Open)
+TakesHint clauses old new hint Open = (new ≡ old)
+    × (IsNumberOf clauses hint → HasOutcome old.literals (clause_at clauses hint) Open)

@@ -1,5 +1,6 @@
 -- How a set of variables is kept, as a list of its members and a mark at each of them, and how it grows.
-use Rattle.std.specs.Prelude.{◌≡◌, ◌≢◌, ℕ, ◌+◌, ◌<◌, ◌≤◌, ◌↔◌, Bool, true, false, not, List, [], ◌∷◌, ◌++◌, length, All, AllPairs, Contains, count_by}
+use Rattle.std.specs.Prelude.{◌≡◌, ◌≢◌, ℕ, ◌+◌, ◌<◌, ◌≤◌, ◌↔◌, Bool, true, false, not, List, [], ◌∷◌, ◌++◌, length, All}
+use Rattle.std.specs.Prelude.{AllPairs, Contains, count_by}
 use Rattle.dist_clause.specs.Formula.{Literal, value_of}
 use Rattle.dist_derive.specs.Containment.{ContainsAll}
 use Rattle.dist_derive.specs.VariableSet.{VariableList}
@@ -19,7 +20,8 @@ HasAll has variables = All (λ v. has v ≡ true) variables
 -- a variable is put into a set, which grows by it or has it already
 abbrev pub Includes : VariableList → VariableList → ℕ → Bool → Type 0
 Includes old new variable false = (new ≡ old) × Contains old.members variable
-Includes old new variable true = (new ≡ record old { members = old.members ++ variable ∷ [] }) × (length new.members ≤ new.variables)
+Includes old new variable true = (new ≡ record old { members = old.members ++ variable ∷ [] })
+    × (length new.members ≤ new.variables)
 
 -- a set of variables has grown, or is the same
 pub record Grows (old new : VariableList) (grown : Bool) : Type 0 where
@@ -30,4 +32,5 @@ pub record Grows (old new : VariableList) (grown : Bool) : Type 0 where
 
 -- a set that has the variables of all negative literals of the clause has all its variables
 abbrev pub IsClosedAt : List ℕ → List Literal → Type 0
-IsClosedAt members clause = All (λ l. l.positive ≡ false → Contains members l.variable) clause → All (λ l. Contains members l.variable) clause
+IsClosedAt members clause = All (λ l. l.positive ≡ false → Contains members l.variable) clause
+    → All (λ l. Contains members l.variable) clause

@@ -7,7 +7,8 @@ use Rattle.dist_derive.specs.Cone.{IsWithinCone}
 
 -- True literals with which propagation under the assumptions and the negated rest of a clause may end, without a
 -- conflict and with the clause's first literal unset.
-pub record LeavesUnset (clauses : List (List Literal)) (assumptions : List Literal) (first : Literal) (rest trues : List Literal) : Type 0 where
+pub record LeavesUnset (clauses : List (List Literal)) (assumptions : List Literal) (first : Literal)
+    (rest trues : List Literal) : Type 0 where
   pub settled : IsSettled clauses trues
   pub assumed : All (Contains trues) assumptions
   pub denied : All (IsFalse trues) rest
@@ -16,7 +17,8 @@ pub record LeavesUnset (clauses : List (List Literal)) (assumptions : List Liter
 -- some true literals leave the clause's first literal unset
 abbrev pub LeavesFirstUnset : List (List Literal) → List Literal → List Literal → Type 0
 LeavesFirstUnset clauses assumptions [] = ⊥
-LeavesFirstUnset clauses assumptions (first ∷ rest) = (trues : List Literal) × LeavesUnset clauses assumptions first rest trues
+LeavesFirstUnset clauses assumptions (first ∷ rest) = (trues : List Literal)
+    × LeavesUnset clauses assumptions first rest trues
 
 -- A clause is new under assumptions. Of the clauses the first ones, up to the number `inputs`, are the input clauses.
 pub record IsNew (clauses : List (List Literal)) (inputs : ℕ) (assumptions clause : List Literal) : Type 0 where
@@ -27,4 +29,5 @@ pub record IsNew (clauses : List (List Literal)) (inputs : ℕ) (assumptions cla
 -- lines that are added one after another, each new under the same assumptions when it was added
 abbrev pub EachIsNew : List (List Literal) → ℕ → List Literal → List (List Literal) → Type 0
 EachIsNew clauses inputs assumptions [] = Unit {0}
-EachIsNew clauses inputs assumptions (line ∷ lines) = IsNew clauses inputs assumptions line × EachIsNew (clauses ++ line ∷ []) inputs assumptions lines
+EachIsNew clauses inputs assumptions (line ∷ lines) = IsNew clauses inputs assumptions line
+    × EachIsNew (clauses ++ line ∷ []) inputs assumptions lines

@@ -10,7 +10,8 @@ use Rattle.dist_derive.specs.declared.propagation.Sweep.TheVariants.{Conflict, G
 
 -- true literals that contain the old ones and are closed under propagation contain the new ones
 abbrev pub IsForced : List (List Literal) → List Literal → List Literal → Type 0
-IsForced clauses old new = (trues : List Literal) → ContainsAll trues old → All (IsPropagated trues) clauses → ContainsAll trues new
+IsForced clauses old new = (trues : List Literal) → ContainsAll trues old → All (IsPropagated trues) clauses
+    → ContainsAll trues new
 
 -- true literals that contain the old ones and are closed under propagation make some clause false
 abbrev pub IsRefuted : List (List Literal) → List Literal → Type 0

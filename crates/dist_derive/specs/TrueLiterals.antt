@@ -30,5 +30,6 @@ HasOutcome trues clause Open = (¬ AllFalse trues clause) × ((l : Literal) → 
 
 -- a literal is made true, or is true already, or is false
 abbrev pub Assumes : LiteralList → LiteralList → Literal → Bool → Type 0
-Assumes old new l true = ((new ≡ old) × Contains old.literals l) ⊎ (new ≡ record old { literals = old.literals ++ l ∷ [] })
+Assumes old new l true = ((new ≡ old) × Contains old.literals l)
+    ⊎ (new ≡ record old { literals = old.literals ++ l ∷ [] })
 Assumes old new l false = (new ≡ old) × IsFalse old.literals l

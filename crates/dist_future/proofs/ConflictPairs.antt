@@ -22,7 +22,8 @@ use Rattle.dist_space.specs.ClusterLaws.{names-apart}
 use Rattle.dist_future.proofs.VariableOrder.{key-less}
 
 module _ (s : SpaceView) (values : List Bool) (space : IsSpace s) where
-  abbrev apart-names : (m n : ℕ) (p q : Package) → slice_get s.repository.packages m ≡ Some p → slice_get s.repository.packages n ≡ Some q → p.name ≡ q.name → m ≡ n
+  abbrev apart-names : (m n : ℕ) (p q : Package) → slice_get s.repository.packages m ≡ Some p → slice_get s.repository.packages n ≡ Some q → p.name ≡ q.name
+      → m ≡ n
   apart-names m n p q is_p is_q same = names-apart s.repository.packages m n p q space.frame.flat is_p is_q same
 
   -- ---- variables of packages as they are today
@@ -32,7 +33,8 @@ module _ (s : SpaceView) (values : List Bool) (space : IsSpace s) where
     | inl up ↦ up
     | inr past ↦ elim (cases_lt q r) [
       | inl down ↦ absurd (let back = key-less s (Present q) (Present r) space is_q is_r (inr (refl, inl down)) in omega (arith, less, back))
-      | inr also ↦ let same : r ≡ q = omega (arith, past, also) in absurd (let equal = ap (λ (i : ℕ). variable_of s (Present i)) same in omega (arith, less, equal))
+      | inr also ↦ let same : r ≡ q = omega (arith, past, also) in
+          absurd (let equal = ap (λ (i : ℕ). variable_of s (Present i)) same in omega (arith, less, equal))
     ]
   ]
 
@@ -47,12 +49,14 @@ module _ (s : SpaceView) (values : List Bool) (space : IsSpace s) where
       let new = (space.frame.names.exact name).0 (contains-at s.names x name is) in
       new.unprovided (any-contained (λ (q : Package). _) s.repository.packages p (contains-at s.repository.packages r p is_p) (inl (sym same)))
 
-  named : (q : ℕ) (o : Package) (name : List ℕ) → slice_get s.repository.packages q ≡ Some o → o.name ≢ name → IsSomeAnd (option_map (λ (x : Package). x.name) (slice_get s.repository.packages q)) (λ n. n ≢ name)
+  named : (q : ℕ) (o : Package) (name : List ℕ) → slice_get s.repository.packages q ≡ Some o → o.name ≢ name
+      → IsSomeAnd (option_map (λ (x : Package). x.name) (slice_get s.repository.packages q)) (λ n. n ≢ name)
   named q o name is apart =
       let Differs : Option Package → Type 0 = λ x. IsSomeAnd (option_map (λ (y : Package). y.name) x) (λ n. n ≢ name) in
       subst Differs (sym is) apart
 
-  other-number : (q : ℕ) (o : Package) (name : List ℕ) → slice_get s.repository.packages q ≡ Some o → IsSomeAnd (option_map (λ (x : Package). x.name) (slice_get s.repository.packages q)) (λ n. n ≢ name) → o.name ≢ name
+  other-number : (q : ℕ) (o : Package) (name : List ℕ) → slice_get s.repository.packages q ≡ Some o
+      → IsSomeAnd (option_map (λ (x : Package). x.name) (slice_get s.repository.packages q)) (λ n. n ≢ name) → o.name ≢ name
   other-number q o name is other =
       let Differs : Option Package → Type 0 = λ x. IsSomeAnd (option_map (λ (y : Package). y.name) x) (λ n. n ≢ name) in
       subst Differs is other
@@ -64,25 +68,31 @@ module _ (s : SpaceView) (values : List Bool) (space : IsSpace s) where
   never-at atoms c k any = any.4.1
 
   kept-number : (q k j : ℕ) → IsMeaning s (Kept q k j) → q < length s.repository.packages
-  kept-number q k j is = within-from (λ (x : Package). IsSomeAnd (slice_get x.provides j) (λ entry. IsUsable s.repository.architecture entry.qualifier)) s.repository.packages q is.0
+  kept-number q k j is = within-from (λ (x : Package). IsSomeAnd (slice_get x.provides j) (λ entry. IsUsable s.repository.architecture entry.qualifier))
+      s.repository.packages q is.0
 
   -- ---- from what a package rejects to what is in conflict
 
   different : (r q : ℕ) (p o : Package) → r ≢ q → slice_get s.repository.packages r ≡ Some p → slice_get s.repository.packages q ≡ Some o → p.name ≢ o.name
   different r q p o apart is_p is_o same = apart (apart-names r q p o is_p is_o same)
 
-  package-matched : (q : ℕ) (o : Package) (atoms : List Atom) → slice_get s.repository.packages q ≡ Some o → IsMetBy s atoms (Present q) → Any (λ a. Matches s.repository.architecture a o) atoms
+  package-matched : (q : ℕ) (o : Package) (atoms : List Atom) → slice_get s.repository.packages q ≡ Some o → IsMetBy s atoms (Present q)
+      → Any (λ a. Matches s.repository.architecture a o) atoms
   package-matched q o atoms is met =
-      any-more (λ a. IsMatched s a (Present q)) (λ a. Matches s.repository.architecture a o) (λ a h. has-at (Matches s.repository.architecture a) s.repository.packages q o is h.1) atoms met
+      any-more (λ a. IsMatched s a (Present q)) (λ a. Matches s.repository.architecture a o)
+      (λ a h. has-at (Matches s.repository.architecture a) s.repository.packages q o is h.1) atoms met
 
-  matched-package : (q : ℕ) (o : Package) (atoms : List Atom) → slice_get s.repository.packages q ≡ Some o → Any (λ a. Matches s.repository.architecture a o) atoms → IsMetBy s atoms (Present q)
+  matched-package : (q : ℕ) (o : Package) (atoms : List Atom) → slice_get s.repository.packages q ≡ Some o
+      → Any (λ a. Matches s.repository.architecture a o) atoms → IsMetBy s atoms (Present q)
   matched-package q o atoms is any =
-      any-more (λ a. Matches s.repository.architecture a o) (λ a. IsMatched s a (Present q)) (λ a h. (h.usable, at-has (Matches s.repository.architecture a) s.repository.packages q o is h)) atoms any
+      any-more (λ a. Matches s.repository.architecture a o) (λ a. IsMatched s a (Present q))
+      (λ a h. (h.usable, at-has (Matches s.repository.architecture a) s.repository.packages q o is h)) atoms any
 
   some-other : (r q : ℕ) → Some r ≢ Some q → r ≢ q
   some-other r q other same = other (ap (λ (i : ℕ). Some i) same)
 
-  excludes : (r : ℕ) (p : Package) (m : Meaning) → slice_get s.repository.packages r ≡ Some p → IsMeaning s m → variable_of s (Present r) < variable_of s m → IsOther (Some r) m → IsMetBy s p.conflicts m → Excludes s r p m
+  excludes : (r : ℕ) (p : Package) (m : Meaning) → slice_get s.repository.packages r ≡ Some p → IsMeaning s m → variable_of s (Present r) < variable_of s m
+      → IsOther (Some r) m → IsMetBy s p.conflicts m → Excludes s r p m
   excludes r p Now is is_m less other met = absurd (never-met p.conflicts met)
   excludes r p (At c k) is is_m less other met = absurd (never-at p.conflicts c k met)
   excludes r p (Present q) is is_m less other met =
@@ -90,7 +100,10 @@ module _ (s : SpaceView) (values : List Bool) (space : IsSpace s) where
       let up = present-less r q (slice_get_within s.repository.packages r p is) is_m less in (
         up,
         at-has (AreInConflict s.repository.architecture p) s.repository.packages q o.element o.is
-            (record { different = λ same. different r q p o.element (some-other r q other) is o.is same.0; matched = inl (package-matched q o.element p.conflicts o.is met) }),
+            (record {
+              different = λ same. different r q p o.element (some-other r q other) is o.is same.0;
+              matched = inl (package-matched q o.element p.conflicts o.is met);
+            }),
       )
   excludes r p (New q k) is is_m less other met =
       let o = element-at s.repository.packages q is_m.0 in
@@ -124,15 +137,20 @@ module _ (s : SpaceView) (values : List Bool) (space : IsSpace s) where
       }
 
   -- what comes before a package as it is today is such a package
-  present-first : (r : ℕ) (m : Meaning) → IsMeaning s (Present r) → IsMeaning s m → variable_of s m < variable_of s (Present r) → (atoms : List Atom) → IsMetBy s atoms m → (q : ℕ) × (m ≡ Present q)
+  present-first : (r : ℕ) (m : Meaning) → IsMeaning s (Present r) → IsMeaning s m → variable_of s m < variable_of s (Present r) → (atoms : List Atom)
+      → IsMetBy s atoms m → (q : ℕ) × (m ≡ Present q)
   present-first r Now is is_m less atoms met = absurd (never-met atoms met)
   present-first r (Present q) is is_m less atoms met = (q, refl)
   present-first r (At c k) is is_m less atoms met = absurd (never-at atoms c k met)
-  present-first r (New q k) is is_m less atoms met = absurd (let back = key-less s (Present r) (New q k) space is is_m (inl (omega arith)) in omega (arith, less, back))
-  present-first r (Kept q k j) is is_m less atoms met = absurd (let back = key-less s (Present r) (Kept q k j) space is is_m (inl (omega arith)) in omega (arith, less, back))
-  present-first r (Fresh x k) is is_m less atoms met = absurd (let back = key-less s (Present r) (Fresh x k) space is is_m (inl (omega arith)) in omega (arith, less, back))
+  present-first r (New q k) is is_m less atoms met = absurd
+      (let back = key-less s (Present r) (New q k) space is is_m (inl (omega arith)) in omega (arith, less, back))
+  present-first r (Kept q k j) is is_m less atoms met = absurd
+      (let back = key-less s (Present r) (Kept q k j) space is is_m (inl (omega arith)) in omega (arith, less, back))
+  present-first r (Fresh x k) is is_m less atoms met = absurd
+      (let back = key-less s (Present r) (Fresh x k) space is is_m (inl (omega arith)) in omega (arith, less, back))
 
-  second-excluded : (r q : ℕ) (p : Package) → slice_get s.repository.packages r ≡ Some p → IsMeaning s (Present q) → variable_of s (Present q) < variable_of s (Present r) → IsMetBy s p.conflicts (Present q)
+  second-excluded : (r q : ℕ) (p : Package) → slice_get s.repository.packages r ≡ Some p → IsMeaning s (Present q)
+      → variable_of s (Present q) < variable_of s (Present r) → IsMetBy s p.conflicts (Present q)
       → IsPackageAnd s.repository.packages q (λ o. Excludes s q o (Present r))
   second-excluded r q p is is_q less met =
       let o = element-at s.repository.packages q is_q in
@@ -160,7 +178,8 @@ module _ (s : SpaceView) (values : List Bool) (space : IsSpace s) where
         second_is = first;
         installed = subst (Holds s values) before.1 one.holds;
         holds = f.installed;
-        excluded = second-excluded f.number before.0 f.p f.is (subst (IsMeaning s) before.1 one.holds.is_meaning) (omega (arith, less, first, at)) (subst (IsMetBy s f.p.conflicts) before.1 one.matched);
+        excluded = second-excluded f.number before.0 f.p f.is (subst (IsMeaning s) before.1 one.holds.is_meaning) (omega (arith, less, first, at))
+            (subst (IsMetBy s f.p.conflicts) before.1 one.matched);
       }
 
   -- ---- and back
@@ -168,18 +187,28 @@ module _ (s : SpaceView) (values : List Bool) (space : IsSpace s) where
   not-some : (r q : ℕ) → r ≢ q → Some r ≢ Some q
   not-some r q apart same = apart (same_Some r q same)
 
-  rejecting : (r v w : ℕ) (p : Package) (m : Meaning) → slice_get s.repository.packages r ≡ Some p → variable_of s (Present r) ≡ v → variable_of s m ≡ w → Holds s values (Present r) → Holds s values m → IsOther (Some r) m → IsMetBy s p.conflicts m
+  rejecting : (r v w : ℕ) (p : Package) (m : Meaning) → slice_get s.repository.packages r ≡ Some p → variable_of s (Present r) ≡ v → variable_of s m ≡ w
+      → Holds s values (Present r) → Holds s values m → IsOther (Some r) m → IsMetBy s p.conflicts m
       → IsRejectedFrom s values v w
   rejecting r v w p m is first second installed holds other met =
-      record { number = r; p = p; is = is; first_is = first; installed = installed; rejected = record { meaning = m; variable_is = second; holds = holds; other = other; matched = met } }
+      record {
+        number = r;
+        p = p;
+        is = is;
+        first_is = first;
+        installed = installed;
+        rejected = record { meaning = m; variable_is = second; holds = holds; other = other; matched = met };
+      }
 
-  differs : (r q : ℕ) (p : Package) → slice_get s.repository.packages r ≡ Some p → IsSomeAnd (option_map (λ (x : Package). x.name) (slice_get s.repository.packages q)) (λ n. n ≢ p.name) → q < length s.repository.packages → r ≢ q
+  differs : (r q : ℕ) (p : Package) → slice_get s.repository.packages r ≡ Some p
+      → IsSomeAnd (option_map (λ (x : Package). x.name) (slice_get s.repository.packages q)) (λ n. n ≢ p.name) → q < length s.repository.packages → r ≢ q
   differs r q p is other short same =
       let o = element-at s.repository.packages q short in
       let one : p ≡ o.element = same_Some p o.element (sym is ∙ ap (slice_get s.repository.packages) same ∙ o.is) in
       other-number q o.element p.name o.is other (ap (λ (x : Package). x.name) (sym one))
 
-  one-rejects : (r v w : ℕ) (p : Package) (m : Meaning) → slice_get s.repository.packages r ≡ Some p → variable_of s (Present r) ≡ v → variable_of s m ≡ w → Holds s values (Present r) → Holds s values m → Excludes s r p m
+  one-rejects : (r v w : ℕ) (p : Package) (m : Meaning) → slice_get s.repository.packages r ≡ Some p → variable_of s (Present r) ≡ v → variable_of s m ≡ w
+      → Holds s values (Present r) → Holds s values m → Excludes s r p m
       → IsRejectedFrom s values v w ⊎ IsRejectedFrom s values w v
   one-rejects r v w p Now is first second installed holds excluded = absurd excluded.0
   one-rejects r v w p (At c k) is first second installed holds excluded = absurd excluded.0
@@ -187,13 +216,16 @@ module _ (s : SpaceView) (values : List Bool) (space : IsSpace s) where
   one-rejects r v w p (New q k) is first second installed holds excluded =
       inl (rejecting r v w p (New q k) is first second installed holds (not-some r q (differs r q p is excluded.0 holds.is_meaning.0)) excluded.1)
   one-rejects r v w p (Kept q k j) is first second installed holds excluded =
-      inl (rejecting r v w p (Kept q k j) is first second installed holds (not-some r q (differs r q p is excluded.0 (kept-number q k j holds.is_meaning))) excluded.1)
+      inl (rejecting r v w p (Kept q k j) is first second installed holds (not-some r q (differs r q p is excluded.0 (kept-number q k j holds.is_meaning)))
+      excluded.1)
   one-rejects r v w p (Present q) is first second installed holds excluded =
       let o = here-at (AreInConflict s.repository.architecture p) s.repository.packages q excluded.1 in
       let up = excluded.0 in
       elim o.holds.matched [
-        | inl any ↦ inl (rejecting r v w p (Present q) is first second installed holds (not-some r q (λ same. omega (arith, up, same))) (matched-package q o.element p.conflicts o.is any))
-        | inr any ↦ inr (rejecting q w v o.element (Present r) o.is second first holds installed (not-some q r (λ same. omega (arith, up, same))) (matched-package r p o.element.conflicts is any))
+        | inl any ↦ inl (rejecting r v w p (Present q) is first second installed holds (not-some r q (λ same. omega (arith, up, same)))
+            (matched-package q o.element p.conflicts o.is any))
+        | inr any ↦ inr (rejecting q w v o.element (Present r) o.is second first holds installed (not-some q r (λ same. omega (arith, up, same)))
+            (matched-package r p o.element.conflicts is any))
       ]
 
   rejects-one : (a b : ℕ) → AreConflicting s values a b → IsRejectedFrom s values a b ⊎ IsRejectedFrom s values b a
@@ -266,7 +298,8 @@ module _ (s : SpaceView) (values : List Bool) (number : ℕ) where
     | inr h ↦ none n h.1
   ]
 
-  pub seen-none : (least : Option (ℕ × ℕ)) → IsLeastSeenIfAny s values number least → ((m : ℕ) → ¬ IsRejectedFrom s values number m) → IsLeastSeenIfAny s values (number + 1) least
+  pub seen-none : (least : Option (ℕ × ℕ)) → IsLeastSeenIfAny s values number least → ((m : ℕ) → ¬ IsRejectedFrom s values number m)
+      → IsLeastSeenIfAny s values (number + 1) least
   seen-none None none here = λ n k seen. elim (seen-split n k seen) [
     | inl h ↦ none n k h
     | inr h ↦ new-none n k here h
@@ -300,13 +333,15 @@ module _ (s : SpaceView) (values : List Bool) (number : ℕ) where
         ]
       ]
 
-  of-both : (first second : ℕ) (pair : ℕ × ℕ) → AreConflicting s values first second → (pair.0 ≡ first) × (pair.1 ≡ second) → AreConflicting s values pair.0 pair.1
+  of-both : (first second : ℕ) (pair : ℕ × ℕ) → AreConflicting s values first second → (pair.0 ≡ first) × (pair.1 ≡ second)
+      → AreConflicting s values pair.0 pair.1
   of-both first second pair holds both =
       let First : ℕ → Type 0 = λ a. AreConflicting s values a pair.1 in
       let Second : ℕ → Type 0 = λ b. AreConflicting s values first b in
       subst First (sym both.0) (subst Second (sym both.1) holds)
 
-  pub seen-some : (other first second : ℕ) (least : Option (ℕ × ℕ)) (pair : ℕ × ℕ) → IsLeastSeenIfAny s values number least → IsLeast (IsRejectedFrom s values number) other → IsOrdered other first second → AreConflicting s values first second
+  pub seen-some : (other first second : ℕ) (least : Option (ℕ × ℕ)) (pair : ℕ × ℕ) → IsLeastSeenIfAny s values number least
+      → IsLeast (IsRejectedFrom s values number) other → IsOrdered other first second → AreConflicting s values first second
       → IsLesserPair least first second pair → IsLeastSeen s values (number + 1) pair
   seen-some other first second None pair none row ordered holds lesser = record {
     holds = elim lesser.one [
@@ -330,7 +365,8 @@ module _ (s : SpaceView) (values : List Bool) (number : ℕ) where
   }
 
 -- all variables were gone through
-all-seen : (s : SpaceView) (values : List Bool) → IsSpace s → (count n k : ℕ) → length s.meanings < count → AreConflicting s values n k → IsSeen s values count n k
+all-seen : (s : SpaceView) (values : List Bool) → IsSpace s → (count n k : ℕ) → length s.meanings < count → AreConflicting s values n k
+    → IsSeen s values count n k
 all-seen s values space count n k past both = record {
   before = in-order s values space n k both;
   one = elim (rejects-one s values space n k both) [
@@ -339,9 +375,11 @@ all-seen s values space count n k past both = record {
   ];
 }
 
-pub least-conflict : (s : SpaceView) (values : List Bool) → IsSpace s → (count : ℕ) (found : Option (ℕ × ℕ)) → length s.meanings < count → IsLeastSeenIfAny s values count found → IsLeastPairIfAny (AreConflicting s values) found
+pub least-conflict : (s : SpaceView) (values : List Bool) → IsSpace s → (count : ℕ) (found : Option (ℕ × ℕ)) → length s.meanings < count
+    → IsLeastSeenIfAny s values count found → IsLeastPairIfAny (AreConflicting s values) found
 least-conflict s values space count None past none = λ n k both. none n k (all-seen s values space count n k past both)
-least-conflict s values space count (Some pair) past least = record { holds = least.holds; least = λ n k both. least.least n k (all-seen s values space count n k past both) }
+least-conflict s values space count (Some pair) past least =
+    record { holds = least.holds; least = λ n k both. least.least n k (all-seen s values space count n k past both) }
 
 pub below-from : (number other : ℕ) → other ≤ number → other ≢ number → other < number
 below-from number other most apart = elim (cases_lt other number) [
@@ -353,5 +391,6 @@ below-from number other most apart = elim (cases_lt other number) [
 pub never-itself : (s : SpaceView) (values : List Bool) → IsSpace s → (v : ℕ) → ¬ IsRejectedFrom s values v v
 never-itself s values space v f =
     let one = f.rejected in
-    let same : one.meaning ≡ Present f.number = one-meaning s one.meaning (Present f.number) space one.holds.is_meaning f.installed.is_meaning (one.variable_is ∙ sym f.first_is) in
+    let same : one.meaning ≡ Present f.number = one-meaning s one.meaning (Present f.number) space one.holds.is_meaning f.installed.is_meaning
+    (one.variable_is ∙ sym f.first_is) in
     (subst (IsOther (Some f.number)) same one.other) refl

@@ -13,7 +13,8 @@ use Rattle.dist_repo.specs.Healthy.{required_names}
 use Rattle.dist_repo.specs.Match.{IsUsable, Matches}
 use Rattle.dist_repo.specs.declared.package.Package.{Package}
 use Rattle.dist_space.specs.Space.{SpaceView, AreMeaningsOf, IsMatched, IsMeaning, IsMetBy, cluster_classes, fresh_classes, variable_of}
-use Rattle.dist_space_clauses.specs.SpaceClauses.{Demand, OneClass, Gone, Moved, Carried, OneFresh, Item, Apart, StaysNow, AbsentNow, Required, AreSpaceClauses, Excludes, IsBearer, IsClauseFor, IsDemand, no, yes}
+use Rattle.dist_space_clauses.specs.SpaceClauses.{Demand, OneClass, Gone, Moved, Carried, OneFresh, Item, Apart, StaysNow, AbsentNow, Required, AreSpaceClauses}
+use Rattle.dist_space_clauses.specs.SpaceClauses.{Excludes, IsBearer, IsClauseFor, IsDemand, no, yes}
 use Rattle.dist_space.specs.declared.meaning.Meaning.{Meaning}
 use Rattle.dist_space.specs.declared.meaning.Meaning.TheVariants.{Now, Present, At, New, Kept, Fresh}
 use Rattle.dist_space_clauses.specs.ItemLaws.{item-at, item-has}
@@ -31,7 +32,8 @@ pub record AreMet (s : SpaceView) (T : Meaning → Type 0) : Type 0 where
   pub moved : (r k : ℕ) → IsMeaning s (New r k) → T (New r k) → T (At (slice_index s.cluster_of r) k)
   pub carried : (r k j : ℕ) → IsMeaning s (Kept r k j) → T (Kept r k j) → T (New r k)
   pub one_fresh : (x k l : ℕ) → k < l → l < length (fresh_classes s x) → T (Fresh x k) → T (Fresh x l) → ⊥
-  pub met : (r place : ℕ) (p : Package) (item : List Atom) → slice_get s.repository.packages r ≡ Some p → slice_get p.depends place ≡ Some item → T (Present r) → IsMetIn s T (IsMetBy s item)
+  pub met : (r place : ℕ) (p : Package) (item : List Atom) → slice_get s.repository.packages r ≡ Some p → slice_get p.depends place ≡ Some item → T (Present r)
+      → IsMetIn s T (IsMetBy s item)
   pub apart : (r : ℕ) (p : Package) (m : Meaning) → slice_get s.repository.packages r ≡ Some p → IsMeaning s m → Excludes s r p m → T (Present r) → T m → ⊥
   pub stays : (c k : ℕ) → IsMeaning s (At c k) → T Now → T (At c k) → ⊥
   pub absent : (x k : ℕ) → IsMeaning s (Fresh x k) → T Now → T (Fresh x k) → ⊥
@@ -74,13 +76,18 @@ module _ (s : SpaceView) (values : List Bool) where
   some-true [] any = absurd (omega (arith, any.2))
   some-true (m ∷ meanings) any = elim (any-cases (IsTrueLiteral (value_of values)) (yes s m) (map (yes s) meanings) any) [
     | inl here ↦ record { meaning = m; there = (0, omega arith, refl); holds = here }
-    | inr later ↦ let rest = some-true meanings later in record { meaning = rest.meaning; there = (suc rest.there.0, omega (arith, rest.there.1), rest.there.2); holds = rest.holds }
+    | inr later ↦ let rest = some-true meanings later in record {
+      meaning = rest.meaning;
+      there = (suc rest.there.0, omega (arith, rest.there.1), rest.there.2);
+      holds = rest.holds;
+    }
   ]
 
   true-some : (meanings : List Meaning) (m : Meaning) → Contains meanings m → IsTrueMeaning m → Makes (map (yes s) meanings)
   true-some meanings m there holds =
       let at = place-of meanings m there in
-      any-at (IsTrueLiteral (value_of values)) (map (yes s) meanings) at.place (yes s m) (slice_get-map (yes s) meanings at.place ∙ ap (option_map (yes s)) at.is) holds
+      any-at (IsTrueLiteral (value_of values)) (map (yes s) meanings) at.place (yes s m)
+      (slice_get-map (yes s) meanings at.place ∙ ap (option_map (yes s)) at.is) holds
 
   -- a meaning holds or doesn't
   value-cases : (m : Meaning) → IsTrueMeaning m ⊎ (value_of values (variable_of s m) ≡ false)
@@ -136,7 +143,8 @@ module _ (s : SpaceView) (values : List Bool) where
             let at = place-of rows a there in
             contains-at (map (λ (b : Row). b.1) rows) at.place a.1 (slice_get-map (λ (b : Row). b.1) rows at.place ∙ ap (option_map (λ (b : Row). b.1)) at.is)
 
-    makes : IsModel (value_of values) clauses → (d : Demand) (clause : List Literal) → IsDemand s d → ((other : List Literal) → IsClauseFor s d other → other ≡ clause) → Makes clause
+    makes : IsModel (value_of values) clauses → (d : Demand) (clause : List Literal) → IsDemand s d
+        → ((other : List Literal) → IsClauseFor s d other → other ≡ clause) → Makes clause
     makes model d clause here only = let t = true-clause model d here in subst Makes (only t.clause t.is_clause) t.holds
 
     pub met-from-model : IsModel (value_of values) clauses → AreMet s IsTrueMeaning
@@ -147,7 +155,8 @@ module _ (s : SpaceView) (values : List Bool) where
       carried = λ r k j is. with-it (Kept r k j) (New r k) (makes model (Carried r k j) _ is (λ other is. is));
       one_fresh = λ x k l less short. never-both (Fresh x k) (Fresh x l) (makes model (OneFresh x k l) _ (less, short) (λ other is. is));
       met = met;
-      apart = λ r p m is is_meaning excludes. never-both (Present r) m (makes model (Apart r m) _ (is_meaning, at-has (λ q. Excludes s r q m) s.repository.packages r p is excludes) (λ other is. is));
+      apart = λ r p m is is_meaning excludes. never-both (Present r) m
+          (makes model (Apart r m) _ (is_meaning, at-has (λ q. Excludes s r q m) s.repository.packages r p is excludes) (λ other is. is));
       stays = λ c k is. never-both Now (At c k) (makes model (StaysNow c k) _ is (λ other is. is));
       absent = λ x k is. never-both Now (Fresh x k) (makes model (AbsentNow x k) _ is (λ other is. is));
       required = λ name there.
@@ -157,12 +166,14 @@ module _ (s : SpaceView) (values : List Bool) where
           record { meaning = some.meaning; is_meaning = has.0; holds = some.holds; has = has.1 };
     }
       where
-        met : (r place : ℕ) (p : Package) (item : List Atom) → slice_get s.repository.packages r ≡ Some p → slice_get p.depends place ≡ Some item → IsTrueMeaning (Present r) → IsMetIn s IsTrueMeaning (IsMetBy s item)
+        met : (r place : ℕ) (p : Package) (item : List Atom) → slice_get s.repository.packages r ≡ Some p → slice_get p.depends place ≡ Some item
+            → IsTrueMeaning (Present r) → IsMetIn s IsTrueMeaning (IsMetBy s item)
         met r place p item is is_item holds =
             elim (any-decided (λ atom. Matches s.repository.architecture atom p) (λ atom. matches-decided s.repository.architecture atom p) item) [
               | inl itself ↦ record { meaning = Present r; is_meaning = slice_get_within s.repository.packages r p is; holds = holds; has = itself-met itself }
               | inr other ↦
-                  let t = true-clause model (Item r place) (item-at s r place (λ q i. ¬ Any (λ atom. Matches s.repository.architecture atom q) i) p item is is_item other) in
+                  let t = true-clause model (Item r place) (item-at s r place (λ q i. ¬ Any (λ atom. Matches s.repository.architecture atom q) i) p item is
+                  is_item other) in
                   let matching : List Meaning = t.is_clause.0 in
                   let are_matching = item-has s r place (λ q i. AreMeaningsOf s (IsMetBy s i) matching) p item is is_item t.is_clause.1 in
                   elim (any-cases (IsTrueLiteral (value_of values)) (no s (Present r)) (map (yes s) matching) (subst Makes t.is_clause.2 t.holds)) [
@@ -185,8 +196,10 @@ module _ (s : SpaceView) (values : List Bool) where
     true-for are_met (OneClass c k l) clause here is = subst Makes (sym is) (not-both (At c k) (At c l) (are_met.one_class c k l here.0 here.1))
     true-for are_met (Gone r k) clause here is = subst Makes (sym is) (not-both (Present r) (At (slice_index s.cluster_of r) k) (are_met.gone r k here))
     true-for are_met (Moved r k) clause here is =
-        subst Makes (sym is) (when-it (New r k) (yes s (At (slice_index s.cluster_of r) k) ∷ []) (λ t. one-true (At (slice_index s.cluster_of r) k) (are_met.moved r k here t)))
-    true-for are_met (Carried r k j) clause here is = subst Makes (sym is) (when-it (Kept r k j) (yes s (New r k) ∷ []) (λ t. one-true (New r k) (are_met.carried r k j here t)))
+        subst Makes (sym is) (when-it (New r k) (yes s (At (slice_index s.cluster_of r) k) ∷ [])
+        (λ t. one-true (At (slice_index s.cluster_of r) k) (are_met.moved r k here t)))
+    true-for are_met (Carried r k j) clause here is = subst Makes (sym is)
+        (when-it (Kept r k j) (yes s (New r k) ∷ []) (λ t. one-true (New r k) (are_met.carried r k j here t)))
     true-for are_met (OneFresh x k l) clause here is = subst Makes (sym is) (not-both (Fresh x k) (Fresh x l) (are_met.one_fresh x k l here.0 here.1))
     true-for are_met (Item r place) clause here (matching, matches, is) =
         let Unmet : Package → List Atom → Type 0 = λ q i. ¬ Any (λ atom. Matches s.repository.architecture atom q) i in
@@ -209,22 +222,31 @@ module _ (s : SpaceView) (values : List Bool) where
     model-from-met are_met =
         subst (λ (xs : List (List Literal)). All Makes xs) (sym are.are)
         (All-map Makes (λ (a : Row). a.1) are.rows (all-contained (λ (a : Row). Makes a.1) are.rows
-        (λ a there. true-for are_met a.0 a.1 ((are.exact a.0).0 (there.0, a, there.1, there.2, refl)) (All-contains (λ (b : Row). IsClauseFor s b.0 b.1) are.rows a are.each there))))
+        (λ a there. true-for are_met a.0 a.1 ((are.exact a.0).0 (there.0, a, there.1, there.2, refl))
+        (All-contains (λ (b : Row). IsClauseFor s b.0 b.1) are.rows a are.each there))))
 
 -- ---- meanings that hold alike
 
 meets-more : (s : SpaceView) (T U P : Meaning → Type 0) → ((m : Meaning) → IsMeaning s m → T m → U m) → IsMetIn s T P → IsMetIn s U P
 meets-more s T U P to met = record { meaning = met.meaning; is_meaning = met.is_meaning; holds = to met.meaning met.is_meaning met.holds; has = met.has }
 
-pub met-alike : (s : SpaceView) (T U : Meaning → Type 0) → ((m : Meaning) → IsMeaning s m → T m → U m) → ((m : Meaning) → IsMeaning s m → U m → T m) → AreMet s T → AreMet s U
+pub met-alike : (s : SpaceView) (T U : Meaning → Type 0) → ((m : Meaning) → IsMeaning s m → T m → U m) → ((m : Meaning) → IsMeaning s m → U m → T m)
+    → AreMet s T → AreMet s U
 met-alike s T U to back met = record {
   one_class = λ c k l less short first second. met.one_class c k l less short (back (At c k) (omega (arith, less, short)) first) (back (At c l) short second);
   gone = λ r k is present at. met.gone r k is (back (Present r) is.0 present) (back (At (slice_index s.cluster_of r) k) is.1 at);
   moved = λ r k is holds. to (At (slice_index s.cluster_of r) k) is.1 (met.moved r k is (back (New r k) is holds));
-  carried = λ r k j is holds. to (New r k) (within-from (λ p. IsSomeAnd (slice_get p.provides j) (λ entry. IsUsable s.repository.architecture entry.qualifier)) s.repository.packages r is.0, is.1) (met.carried r k j is (back (Kept r k j) is holds));
-  one_fresh = λ x k l less short first second. met.one_fresh x k l less short (back (Fresh x k) (omega (arith, less, short)) first) (back (Fresh x l) short second);
-  met = λ r place p item is is_item holds. meets-more s T U (IsMetBy s item) to (met.met r place p item is is_item (back (Present r) (slice_get_within s.repository.packages r p is) holds));
-  apart = λ r p m is is_meaning excludes present holds. met.apart r p m is is_meaning excludes (back (Present r) (slice_get_within s.repository.packages r p is) present) (back m is_meaning holds);
+  carried = λ r k j is holds. to (New r k) (
+    within-from (λ p. IsSomeAnd (slice_get p.provides j) (λ entry. IsUsable s.repository.architecture entry.qualifier))
+        s.repository.packages r is.0,
+    is.1,
+  ) (met.carried r k j is (back (Kept r k j) is holds));
+  one_fresh = λ x k l less short first second. met.one_fresh x k l less short (back (Fresh x k) (omega (arith, less, short)) first)
+      (back (Fresh x l) short second);
+  met = λ r place p item is is_item holds. meets-more s T U (IsMetBy s item) to
+      (met.met r place p item is is_item (back (Present r) (slice_get_within s.repository.packages r p is) holds));
+  apart = λ r p m is is_meaning excludes present holds. met.apart r p m is is_meaning excludes
+      (back (Present r) (slice_get_within s.repository.packages r p is) present) (back m is_meaning holds);
   stays = λ c k is now at. met.stays c k is (back Now tt now) (back (At c k) is at);
   absent = λ x k is now holds. met.absent x k is (back Now tt now) (back (Fresh x k) is holds);
   required = λ name there. meets-more s T U (IsBearer s name) to (met.required name there);

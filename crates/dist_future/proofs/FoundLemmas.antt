@@ -1,5 +1,6 @@
 -- The variables that hold and that an atom matches: by meanings, by members and their classes, and by the providers of a name.
-use Rattle.std.proofs.Common.{◌≡◌, ◌≢◌, ◌⊎◌, ℕ, ◌<◌, ◌≤◌, Bool, true, false, List, Option, Some, length, get_or, refl, sym, ap, subst, ◌∙◌, inl, inr, arith, slice_get}
+use Rattle.std.proofs.Common.{◌≡◌, ◌≢◌, ◌⊎◌, ℕ, ◌<◌, ◌≤◌, Bool, true, false, List, Option, Some, length, get_or, refl, sym, ap, subst, ◌∙◌, inl, inr, arith}
+use Rattle.std.proofs.Common.{slice_get}
 use Rattle.std.specs.Prelude.{Contains, IsSomeAnd}
 use Rattle.std.proofs.lemmas.Bool.{false≢true}
 use Rattle.std.proofs.lemmas.List.{get_or_default}
@@ -23,10 +24,12 @@ use Rattle.dist_future.proofs.Leasts.{Before, least-shift, least-two}
 use Rattle.dist_future.proofs.VariableOrder.{key-less}
 
 -- what a test of a variable tells
-pub holds-from : (s : SpaceView) (values : List Bool) (m : Meaning) (v : ℕ) (b : Bool) → IsMeaning s m → v ≡ variable_of s m → b ≡ value_of values v → b ≡ true → Holds s values m
+pub holds-from : (s : SpaceView) (values : List Bool) (m : Meaning) (v : ℕ) (b : Bool) → IsMeaning s m → v ≡ variable_of s m → b ≡ value_of values v → b ≡ true
+    → Holds s values m
 holds-from s values m v b is variable told holds = record { is_meaning = is; is_true = ap (value_of values) (sym variable) ∙ sym told ∙ holds }
 
-pub fails-from : (s : SpaceView) (values : List Bool) (m : Meaning) (v : ℕ) (b : Bool) → v ≡ variable_of s m → b ≡ value_of values v → b ≡ false → holds_under s values m ≡ false
+pub fails-from : (s : SpaceView) (values : List Bool) (m : Meaning) (v : ℕ) (b : Bool) → v ≡ variable_of s m → b ≡ value_of values v → b ≡ false
+    → holds_under s values m ≡ false
 fails-from s values m v b variable told fails = ap (value_of values) (sym variable) ∙ sym told ∙ fails
 
 module _ (s : SpaceView) (values : List Bool) (atom : Atom) where
@@ -35,7 +38,13 @@ module _ (s : SpaceView) (values : List Bool) (atom : Atom) where
 
   -- the same under another word
   pub found-more : (P Q : Meaning → Type 0) (v : ℕ) → ((m : Meaning) → Holds s values m → IsMatchedBy s atom m → P m → Q m) → Found P v → Found Q v
-  found-more P Q v to f = record { meaning = f.meaning; variable_is = f.variable_is; holds = f.holds; matched = f.matched; kind = to f.meaning f.holds f.matched f.kind }
+  found-more P Q v to f = record {
+    meaning = f.meaning;
+    variable_is = f.variable_is;
+    holds = f.holds;
+    matched = f.matched;
+    kind = to f.meaning f.holds f.matched f.kind;
+  }
 
   -- ---- one meaning
 
@@ -60,28 +69,40 @@ module _ (s : SpaceView) (values : List Bool) (atom : Atom) where
   pub no-entry : (r k j v : ℕ) (p : Package) → slice_get s.repository.packages r ≡ Some p → length p.provides ≤ j → ¬ KeptFound r k j v
   no-entry r k j v p is past f =
       let is_meaning = subst (IsMeaning s) f.kind f.holds.is_meaning in
-      let there = has-at (λ (q : Package). IsSomeAnd (slice_get q.provides j) (λ entry. IsUsable s.repository.architecture entry.qualifier)) s.repository.packages r p is is_meaning.0 in
+      let there = has-at (λ (q : Package). IsSomeAnd (slice_get q.provides j) (λ entry. IsUsable s.repository.architecture entry.qualifier))
+      s.repository.packages r p is is_meaning.0 in
       let short = within-from (λ (entry : Provide). IsUsable s.repository.architecture entry.qualifier) p.provides j there in
       omega (arith, past, short)
 
-  kept-matched : (r k j : ℕ) (p : Package) (entry : Provide) → slice_get s.repository.packages r ≡ Some p → slice_get p.provides j ≡ Some entry → IsMatchedBy s atom (Kept r k j)
+  kept-matched : (r k j : ℕ) (p : Package) (entry : Provide) → slice_get s.repository.packages r ≡ Some p → slice_get p.provides j ≡ Some entry
+      → IsMatchedBy s atom (Kept r k j)
       → MatchesByEntry s.repository.architecture atom (moved_entry p.version (example_at (member_classes s r) k) entry)
   kept-matched r k j p entry is at matched =
-      has-at (λ (e : Provide). MatchesByEntry s.repository.architecture atom (moved_entry p.version (example_at (member_classes s r) k) e)) p.provides j entry at
-      (has-at (λ (q : Package). IsSomeAnd (slice_get q.provides j) (λ e. MatchesByEntry s.repository.architecture atom (moved_entry q.version (example_at (member_classes s r) k) e))) s.repository.packages r p is matched)
+      has-at (λ (e : Provide). MatchesByEntry s.repository.architecture atom (moved_entry p.version (example_at (member_classes s r) k) e)) p.provides j entry
+      at
+      (has-at (λ (q : Package). IsSomeAnd (slice_get q.provides j)
+      (λ e. MatchesByEntry s.repository.architecture atom (moved_entry q.version (example_at (member_classes s r) k) e))) s.repository.packages r p is
+      matched)
 
-  pub other-entry : (r k j v : ℕ) (p : Package) (entry : Provide) → slice_get s.repository.packages r ≡ Some p → slice_get p.provides j ≡ Some entry → ¬ (entry.name ≡ atom.name) → ¬ KeptFound r k j v
+  pub other-entry : (r k j v : ℕ) (p : Package) (entry : Provide) → slice_get s.repository.packages r ≡ Some p → slice_get p.provides j ≡ Some entry
+      → ¬ (entry.name ≡ atom.name) → ¬ KeptFound r k j v
   other-entry r k j v p entry is at other f = other (kept-matched r k j p entry is at (subst (IsMatchedBy s atom) f.kind f.matched)).name
 
-  pub unusable-entry : (r k j v : ℕ) (p : Package) (entry : Provide) → slice_get s.repository.packages r ≡ Some p → slice_get p.provides j ≡ Some entry → ¬ IsUsable s.repository.architecture entry.qualifier → ¬ KeptFound r k j v
+  pub unusable-entry : (r k j v : ℕ) (p : Package) (entry : Provide) → slice_get s.repository.packages r ≡ Some p → slice_get p.provides j ≡ Some entry
+      → ¬ IsUsable s.repository.architecture entry.qualifier → ¬ KeptFound r k j v
   unusable-entry r k j v p entry is at not f = not (kept-matched r k j p entry is at (subst (IsMatchedBy s atom) f.kind f.matched)).usable
 
-  pub kept-meaning : (r k j : ℕ) (p : Package) (entry : Provide) → slice_get s.repository.packages r ≡ Some p → slice_get p.provides j ≡ Some entry → IsUsable s.repository.architecture entry.qualifier → IsMeaning s (New r k)
+  pub kept-meaning : (r k j : ℕ) (p : Package) (entry : Provide) → slice_get s.repository.packages r ≡ Some p → slice_get p.provides j ≡ Some entry
+      → IsUsable s.repository.architecture entry.qualifier → IsMeaning s (New r k)
       → IsMeaning s (Kept r k j)
-  kept-meaning r k j p entry is at usable is_meaning =
-      (at-has (λ (q : Package). IsSomeAnd (slice_get q.provides j) (λ e. IsUsable s.repository.architecture e.qualifier)) s.repository.packages r p is (at-has (λ (e : Provide). IsUsable s.repository.architecture e.qualifier) p.provides j entry at usable), is_meaning.1)
+  kept-meaning r k j p entry is at usable is_meaning = (
+    at-has (λ (q : Package). IsSomeAnd (slice_get q.provides j) (λ e. IsUsable s.repository.architecture e.qualifier)) s.repository.packages r p is
+        (at-has (λ (e : Provide). IsUsable s.repository.architecture e.qualifier) p.provides j entry at usable),
+    is_meaning.1,
+  )
 
-  version-split : (r k count v : ℕ) (p : Package) → slice_get s.repository.packages r ≡ Some p → length p.provides ≤ count → (m : Meaning) → variable_of s m ≡ v → Holds s values m → IsMatchedBy s atom m → IsOfVersion r k m
+  version-split : (r k count v : ℕ) (p : Package) → slice_get s.repository.packages r ≡ Some p → length p.provides ≤ count → (m : Meaning) → variable_of s m ≡ v
+      → Holds s values m → IsMatchedBy s atom m → IsOfVersion r k m
       → Found (λ n. n ≡ New r k) v ⊎ Before (KeptFound r k) count v
   version-split r k count v p is past Now var holds matched of = absurd of
   version-split r k count v p is past (Present q) var holds matched of = absurd of
@@ -91,26 +112,41 @@ module _ (s : SpaceView) (values : List Bool) (atom : Atom) where
       inl (record { meaning = New q l; variable_is = var; holds = holds; matched = matched; kind = let a = of.0 in let b = of.1 in cc })
   version-split r k count v p is past (Kept q l j) var holds matched of =
       let same = of.0 in
-      let there = has-at (λ (x : Package). IsSomeAnd (slice_get x.provides j) (λ e. IsUsable s.repository.architecture e.qualifier)) s.repository.packages q p (ap (slice_get s.repository.packages) same ∙ is) holds.is_meaning.0 in
+      let there = has-at (λ (x : Package). IsSomeAnd (slice_get x.provides j) (λ e. IsUsable s.repository.architecture e.qualifier)) s.repository.packages q p
+      (ap (slice_get s.repository.packages) same ∙ is) holds.is_meaning.0 in
       let short = within-from (λ (e : Provide). IsUsable s.repository.architecture e.qualifier) p.provides j there in
-      inr (j, omega (arith, past, short), record { meaning = Kept q l j; variable_is = var; holds = holds; matched = matched; kind = let a = of.0 in let b = of.1 in cc })
+      inr (
+        j,
+        omega (arith, past, short),
+        record {
+          meaning = Kept q l j;
+          variable_is = var;
+          holds = holds;
+          matched = matched;
+          kind = let a = of.0 in let b = of.1 in cc;
+        },
+      )
 
   version-join : (r k count v : ℕ) → Found (λ n. n ≡ New r k) v ⊎ Before (KeptFound r k) count v → Found (IsOfVersion r k) v
   version-join r k count v (inl f) = found-more (λ n. n ≡ New r k) (IsOfVersion r k) v (λ m holds matched is. subst (IsOfVersion r k) (sym is) (refl, refl)) f
-  version-join r k count v (inr (j, short, f)) = found-more (λ n. n ≡ Kept r k j) (IsOfVersion r k) v (λ m holds matched is. subst (IsOfVersion r k) (sym is) (refl, refl)) f
+  version-join r k count v (inr (j, short, f)) = found-more (λ n. n ≡ Kept r k j) (IsOfVersion r k) v
+      (λ m holds matched is. subst (IsOfVersion r k) (sym is) (refl, refl)) f
 
-  pub version-all : (r k count : ℕ) (p : Package) (a b o : Option ℕ) → slice_get s.repository.packages r ≡ Some p → length p.provides ≤ count → IsLesserOf a b o → IsLeastIfAny (Found (λ n. n ≡ New r k)) a
+  pub version-all : (r k count : ℕ) (p : Package) (a b o : Option ℕ) → slice_get s.repository.packages r ≡ Some p → length p.provides ≤ count → IsLesserOf a b o
+      → IsLeastIfAny (Found (λ n. n ≡ New r k)) a
       → IsLeastIfAny (Before (KeptFound r k) count) b → IsLeastIfAny (Found (IsOfVersion r k)) o
   version-all r k count p a b o is past lesser first second =
       least-shift (λ v. Found (λ n. n ≡ New r k) v ⊎ Before (KeptFound r k) count v) (Found (IsOfVersion r k)) o (version-join r k count)
-      (λ v f. version-split r k count v p is past f.meaning f.variable_is f.holds f.matched f.kind) (least-two (Found (λ n. n ≡ New r k)) (Before (KeptFound r k) count) a b o lesser first second)
+      (λ v f. version-split r k count v p is past f.meaning f.variable_is f.holds f.matched f.kind)
+      (least-two (Found (λ n. n ≡ New r k)) (Before (KeptFound r k) count) a b o lesser first second)
 
   -- ---- all new versions of a member
 
   abbrev pub VersionFound : (r k v : ℕ) → Type 0
   VersionFound r k v = Found (IsOfVersion r k) v
 
-  member-split : (r count v : ℕ) → length (member_classes s r) ≤ count → (m : Meaning) → variable_of s m ≡ v → Holds s values m → IsMatchedBy s atom m → IsLaterOf r m → Before (VersionFound r) count v
+  member-split : (r count v : ℕ) → length (member_classes s r) ≤ count → (m : Meaning) → variable_of s m ≡ v → Holds s values m → IsMatchedBy s atom m
+      → IsLaterOf r m → Before (VersionFound r) count v
   member-split r count v past Now var holds matched of = absurd of
   member-split r count v past (Present q) var holds matched of = absurd of
   member-split r count v past (At c l) var holds matched of = absurd of
@@ -130,9 +166,11 @@ module _ (s : SpaceView) (values : List Bool) (atom : Atom) where
   version-of r k (New q l) of = of.0
   version-of r k (Kept q l j) of = of.0
 
-  pub member-all : (r count : ℕ) (o : Option ℕ) → length (member_classes s r) ≤ count → IsLeastIfAny (Before (VersionFound r) count) o → IsLeastIfAny (Found (IsLaterOf r)) o
+  pub member-all : (r count : ℕ) (o : Option ℕ) → length (member_classes s r) ≤ count → IsLeastIfAny (Before (VersionFound r) count) o
+      → IsLeastIfAny (Found (IsLaterOf r)) o
   member-all r count o past least =
-      least-shift (Before (VersionFound r) count) (Found (IsLaterOf r)) o (λ v f. found-more (IsOfVersion r f.0) (IsLaterOf r) v (λ m holds matched of. version-of r f.0 m of) f.2)
+      least-shift (Before (VersionFound r) count) (Found (IsLaterOf r)) o
+      (λ v f. found-more (IsOfVersion r f.0) (IsLaterOf r) v (λ m holds matched of. version-of r f.0 m of) f.2)
       (λ v f. member-split r count v past f.meaning f.variable_is f.holds f.matched f.kind) least
 
   -- ---- packages of a new name
@@ -140,7 +178,8 @@ module _ (s : SpaceView) (values : List Bool) (atom : Atom) where
   abbrev pub FreshFound : (x k v : ℕ) → Type 0
   FreshFound x k v = Found (λ m. m ≡ Fresh x k) v
 
-  fresh-split : (x count v : ℕ) → slice_get s.names x ≡ Some atom.name → ((y : ℕ) → slice_get s.names y ≡ Some atom.name → y ≡ x) → length (fresh_classes s x) ≤ count → (m : Meaning) → variable_of s m ≡ v → Holds s values m
+  fresh-split : (x count v : ℕ) → slice_get s.names x ≡ Some atom.name → ((y : ℕ) → slice_get s.names y ≡ Some atom.name → y ≡ x)
+      → length (fresh_classes s x) ≤ count → (m : Meaning) → variable_of s m ≡ v → Holds s values m
       → IsMatchedBy s atom m → IsFresh m → Before (FreshFound x) count v
   fresh-split x count v is one past Now var holds matched of = absurd of
   fresh-split x count v is one past (Present q) var holds matched of = absurd of
@@ -150,13 +189,24 @@ module _ (s : SpaceView) (values : List Bool) (atom : Atom) where
   fresh-split x count v is one past (Fresh y l) var holds matched of =
       let at = here-at (λ (name : List ℕ). (name ≡ atom.name) × MeetsBound atom (example_at (fresh_classes s y) l)) s.names y matched in
       let same : y ≡ x = one y (at.is ∙ ap (λ (n : List ℕ). Some n) at.holds.0) in
-      let short : l < length (fresh_classes s x) = subst (λ (z : ℕ). l < length (fresh_classes s z)) same holds.is_meaning in
-      (l, omega (arith, past, short), record { meaning = Fresh y l; variable_is = var; holds = holds; matched = matched; kind = ap (λ (z : ℕ). Fresh z l) same })
+      let short : l < length (fresh_classes s x) = subst (λ (z : ℕ). l < length (fresh_classes s z)) same holds.is_meaning in (
+        l,
+        omega (arith, past, short),
+        record {
+          meaning = Fresh y l;
+          variable_is = var;
+          holds = holds;
+          matched = matched;
+          kind = ap (λ (z : ℕ). Fresh z l) same;
+        },
+      )
 
-  pub fresh-all : (x count : ℕ) (o : Option ℕ) → slice_get s.names x ≡ Some atom.name → ((y : ℕ) → slice_get s.names y ≡ Some atom.name → y ≡ x) → length (fresh_classes s x) ≤ count → IsLeastIfAny (Before (FreshFound x) count) o
+  pub fresh-all : (x count : ℕ) (o : Option ℕ) → slice_get s.names x ≡ Some atom.name → ((y : ℕ) → slice_get s.names y ≡ Some atom.name → y ≡ x)
+      → length (fresh_classes s x) ≤ count → IsLeastIfAny (Before (FreshFound x) count) o
       → IsLeastIfAny (Found IsFresh) o
   fresh-all x count o is one past least =
-      least-shift (Before (FreshFound x) count) (Found IsFresh) o (λ v f. found-more (λ m. m ≡ Fresh x f.0) IsFresh v (λ m holds matched same. subst IsFresh (sym same) tt) f.2)
+      least-shift (Before (FreshFound x) count) (Found IsFresh) o
+      (λ v f. found-more (λ m. m ≡ Fresh x f.0) IsFresh v (λ m holds matched same. subst IsFresh (sym same) tt) f.2)
       (λ v f. fresh-split x count v is one past f.meaning f.variable_is f.holds f.matched f.kind) least
 
   pub fresh-none : ¬ Contains s.names atom.name → (v : ℕ) → ¬ Found IsFresh v
@@ -181,17 +231,28 @@ module _ (s : SpaceView) (values : List Bool) (atom : Atom) where
   abbrev pub OneOf : (K : ℕ → Meaning → Type 0) (C : Meaning → Type 0) (providers : List ℕ) (i v : ℕ) → Type 0
   OneOf K C providers i v = Found (λ m. K (get_or providers i 0) m × C m) v
 
-  pub providers-all : (K : ℕ → Meaning → Type 0) (C : Meaning → Type 0) (providers : List ℕ) (count : ℕ) (o : Option ℕ) → AreProviders s.repository atom.name providers → length providers ≤ count
+  pub providers-all : (K : ℕ → Meaning → Type 0) (C : Meaning → Type 0) (providers : List ℕ) (count : ℕ) (o : Option ℕ)
+      → AreProviders s.repository atom.name providers → length providers ≤ count
       → ((m : Meaning) → IsMatchedBy s atom m → C m → (n : ℕ) × IsPackageAnd s.repository.packages n (IsProvider s.repository.architecture atom.name) × K n m)
       → IsLeastIfAny (Before (OneOf K C providers) count) o → IsLeastIfAny (Found C) o
   providers-all K C providers count o are past provided least =
-      least-shift (Before (OneOf K C providers) count) (Found C) o (λ v f. found-more (λ m. K (get_or providers f.0 0) m × C m) C v (λ m holds matched both. both.1) f.2)
+      least-shift (Before (OneOf K C providers) count) (Found C) o
+      (λ v f. found-more (λ m. K (get_or providers f.0 0) m × C m) C v (λ m holds matched both. both.1) f.2)
       (λ v f.
       let by = provided f.meaning f.matched f.kind in
       let there : Contains providers by.0 = (are.exact by.0).1 by.1 in
       let at : get_or providers there.0 0 ≡ by.0 = get_or_default providers there.0 0 by.0 there.1 ∙ there.2 in
-      let Of : ℕ → Type 0 = λ n. K n f.meaning in
-      (there.0, omega (arith, past, there.1), record { meaning = f.meaning; variable_is = f.variable_is; holds = f.holds; matched = f.matched; kind = (subst Of (sym at) by.2, f.kind) }))
+      let Of : ℕ → Type 0 = λ n. K n f.meaning in (
+        there.0,
+        omega (arith, past, there.1),
+        record {
+          meaning = f.meaning;
+          variable_is = f.variable_is;
+          holds = f.holds;
+          matched = f.matched;
+          kind = (subst Of (sym at) by.2, f.kind);
+        },
+      ))
       least
 
   matches-provides : (p : Package) → Matches s.repository.architecture atom p → IsProvider s.repository.architecture atom.name p
@@ -204,24 +265,31 @@ module _ (s : SpaceView) (values : List Bool) (atom : Atom) where
   IsBy n = IsPackageAnd s.repository.packages n (IsProvider s.repository.architecture atom.name)
 
   pub present-by : (r : ℕ) → IsMatchedBy s atom (Present r) → IsBy r
-  present-by r matched = at-more (Matches s.repository.architecture atom) (IsProvider s.repository.architecture atom.name) matches-provides s.repository.packages r matched
+  present-by r matched = at-more (Matches s.repository.architecture atom) (IsProvider s.repository.architecture atom.name) matches-provides
+      s.repository.packages r matched
 
   new-by : (r k : ℕ) → IsMatchedBy s atom (New r k) → IsBy r
   new-by r k matched =
-      at-more (λ (p : Package). (p.name ≡ atom.name) × MeetsBound atom (example_at (member_classes s r) k)) (IsProvider s.repository.architecture atom.name) (λ p h. inl h.0) s.repository.packages r matched
+      at-more (λ (p : Package). (p.name ≡ atom.name) × MeetsBound atom (example_at (member_classes s r) k)) (IsProvider s.repository.architecture atom.name)
+      (λ p h. inl h.0) s.repository.packages r matched
 
   kept-by : (r k j : ℕ) → IsMatchedBy s atom (Kept r k j) → IsBy r
   kept-by r k j matched =
-      at-more (λ (p : Package). IsSomeAnd (slice_get p.provides j) (λ e. MatchesByEntry s.repository.architecture atom (moved_entry p.version (example_at (member_classes s r) k) e))) (IsProvider s.repository.architecture atom.name)
+      at-more (λ (p : Package). IsSomeAnd (slice_get p.provides j)
+      (λ e. MatchesByEntry s.repository.architecture atom (moved_entry p.version (example_at (member_classes s r) k) e)))
+      (IsProvider s.repository.architecture atom.name)
       (λ p h.
-      let at = here-at (λ (e : Provide). MatchesByEntry s.repository.architecture atom (moved_entry p.version (example_at (member_classes s r) k) e)) p.provides j h in
-      inr (any-at (λ (e : Provide). IsUsable s.repository.architecture e.qualifier × (e.name ≡ atom.name)) p.provides j at.element at.is (at.holds.usable, at.holds.name)))
+      let at = here-at (λ (e : Provide). MatchesByEntry s.repository.architecture atom (moved_entry p.version (example_at (member_classes s r) k) e)) p.provides
+      j h in
+      inr (any-at (λ (e : Provide). IsUsable s.repository.architecture e.qualifier × (e.name ≡ atom.name)) p.provides j at.element at.is
+      (at.holds.usable, at.holds.name)))
       s.repository.packages r matched
 
   abbrev pub IsPresentOf : ℕ → Meaning → Type 0
   IsPresentOf n m = m ≡ Present n
 
-  pub present-provided : (but : Option ℕ) (m : Meaning) → IsMatchedBy s atom m → IsPresentBut but m → (n : ℕ) × IsPackageAnd s.repository.packages n (IsProvider s.repository.architecture atom.name) × IsPresentOf n m
+  pub present-provided : (but : Option ℕ) (m : Meaning) → IsMatchedBy s atom m → IsPresentBut but m → (n : ℕ)
+      × IsPackageAnd s.repository.packages n (IsProvider s.repository.architecture atom.name) × IsPresentOf n m
   present-provided but Now matched of = absurd of
   present-provided but (Present q) matched of = (q, present-by q matched, refl)
   present-provided but (At c l) matched of = absurd of
@@ -229,7 +297,8 @@ module _ (s : SpaceView) (values : List Bool) (atom : Atom) where
   present-provided but (Kept q l j) matched of = absurd of
   present-provided but (Fresh x l) matched of = absurd of
 
-  pub moved-provided : (but : Option ℕ) (m : Meaning) → IsMatchedBy s atom m → IsMovedBut but m → (n : ℕ) × IsPackageAnd s.repository.packages n (IsProvider s.repository.architecture atom.name) × IsLaterOf n m
+  pub moved-provided : (but : Option ℕ) (m : Meaning) → IsMatchedBy s atom m → IsMovedBut but m → (n : ℕ)
+      × IsPackageAnd s.repository.packages n (IsProvider s.repository.architecture atom.name) × IsLaterOf n m
   moved-provided but Now matched of = absurd of
   moved-provided but (Present q) matched of = absurd of
   moved-provided but (At c l) matched of = absurd of
@@ -244,12 +313,14 @@ module _ (s : SpaceView) (values : List Bool) (atom : Atom) where
   pub none-left : (but : Option ℕ) (providers : List ℕ) (i v : ℕ) → but ≡ Some (get_or providers i 0) → ¬ OneOf IsPresentOf (IsPresentBut but) providers i v
   none-left but providers i v is f = left-present but (get_or providers i 0) f.meaning is f.kind.0 f.kind.1
 
-  pub present-one : (but : Option ℕ) (providers : List ℕ) (i : ℕ) (o : Option ℕ) → but ≢ Some (get_or providers i 0) → IsLeastIfAny (Found (λ m. m ≡ Present (get_or providers i 0))) o
+  pub present-one : (but : Option ℕ) (providers : List ℕ) (i : ℕ) (o : Option ℕ) → but ≢ Some (get_or providers i 0)
+      → IsLeastIfAny (Found (λ m. m ≡ Present (get_or providers i 0))) o
       → IsLeastIfAny (OneOf IsPresentOf (IsPresentBut but) providers i) o
   present-one but providers i o other least =
       let n = get_or providers i 0 in
       least-shift (Found (λ m. m ≡ Present n)) (OneOf IsPresentOf (IsPresentBut but) providers i) o
-      (λ v f. found-more (λ m. m ≡ Present n) (λ m. IsPresentOf n m × IsPresentBut but m) v (λ m holds matched is. (is, subst (IsPresentBut but) (sym is) other)) f)
+      (λ v f. found-more (λ m. m ≡ Present n) (λ m. IsPresentOf n m × IsPresentBut but m) v
+      (λ m holds matched is. (is, subst (IsPresentBut but) (sym is) other)) f)
       (λ v f. found-more (λ m. IsPresentOf n m × IsPresentBut but m) (λ m. m ≡ Present n) v (λ m holds matched both. both.0) f) least
 
   moved-other : (but : Option ℕ) (n : ℕ) (m : Meaning) → IsLaterOf n m → IsMovedBut but m → but ≢ Some n
@@ -271,7 +342,8 @@ module _ (s : SpaceView) (values : List Bool) (atom : Atom) where
   pub none-moved : (but : Option ℕ) (providers : List ℕ) (i v : ℕ) → but ≡ Some (get_or providers i 0) → ¬ OneOf IsLaterOf (IsMovedBut but) providers i v
   none-moved but providers i v is f = moved-other but (get_or providers i 0) f.meaning f.kind.0 f.kind.1 is
 
-  pub moved-one : (but : Option ℕ) (providers : List ℕ) (i : ℕ) (o : Option ℕ) → but ≢ Some (get_or providers i 0) → IsLeastIfAny (Found (IsLaterOf (get_or providers i 0))) o
+  pub moved-one : (but : Option ℕ) (providers : List ℕ) (i : ℕ) (o : Option ℕ) → but ≢ Some (get_or providers i 0)
+      → IsLeastIfAny (Found (IsLaterOf (get_or providers i 0))) o
       → IsLeastIfAny (OneOf IsLaterOf (IsMovedBut but) providers i) o
   moved-one but providers i o other least =
       let n = get_or providers i 0 in
@@ -313,7 +385,8 @@ module _ (s : SpaceView) (values : List Bool) (atom : Atom) where
   fresh-other but (Kept q l j) of = absurd of
   fresh-other but (Fresh x l) of = tt
 
-  present-before : (but : Option ℕ) (m n : Meaning) → IsSpace s → IsMeaning s m → IsMeaning s n → IsPresentBut but m → IsMovedBut but n ⊎ IsFresh n → variable_of s m < variable_of s n
+  present-before : (but : Option ℕ) (m n : Meaning) → IsSpace s → IsMeaning s m → IsMeaning s n → IsPresentBut but m → IsMovedBut but n ⊎ IsFresh n
+      → variable_of s m < variable_of s n
   present-before but Now n space is_m is_n of later = absurd of
   present-before but (At c k) n space is_m is_n of later = absurd of
   present-before but (New q k) n space is_m is_n of later = absurd of
@@ -329,7 +402,8 @@ module _ (s : SpaceView) (values : List Bool) (atom : Atom) where
   abbrev pub IsAny : Option ℕ → ℕ → Type 0
   IsAny but v = IsUsable s.repository.architecture atom.qualifier × Found (IsOther but) v
 
-  pub any-present : (but : Option ℕ) (v : ℕ) → IsSpace s → IsUsable s.repository.architecture atom.qualifier → IsLeast (Found (IsPresentBut but)) v → IsLeast (IsAny but) v
+  pub any-present : (but : Option ℕ) (v : ℕ) → IsSpace s → IsUsable s.repository.architecture atom.qualifier → IsLeast (Found (IsPresentBut but)) v
+      → IsLeast (IsAny but) v
   any-present but v space usable least = record {
     holds = (usable, found-more (IsPresentBut but) (IsOther but) v (λ m holds matched of. present-other but m of) least.holds);
     least = λ w any.
@@ -343,7 +417,8 @@ module _ (s : SpaceView) (values : List Bool) (atom : Atom) where
         ];
   }
 
-  pub any-later : (but : Option ℕ) (a b o : Option ℕ) → IsUsable s.repository.architecture atom.qualifier → ((v : ℕ) → ¬ Found (IsPresentBut but) v) → IsLesserOf a b o → IsLeastIfAny (Found (IsMovedBut but)) a
+  pub any-later : (but : Option ℕ) (a b o : Option ℕ) → IsUsable s.repository.architecture atom.qualifier → ((v : ℕ) → ¬ Found (IsPresentBut but) v)
+      → IsLesserOf a b o → IsLeastIfAny (Found (IsMovedBut but)) a
       → IsLeastIfAny (Found IsFresh) b → IsLeastIfAny (IsAny but) o
   any-later but a b o usable none lesser moved fresh =
       least-shift (λ v. Found (IsMovedBut but) v ⊎ Found IsFresh v) (IsAny but) o

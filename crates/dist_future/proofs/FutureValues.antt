@@ -1,5 +1,6 @@
 -- The model that a healthy installation of a future gives.
-use Rattle.std.proofs.Common.{◌≡◌, ℕ, Bool, true, false, List, Option, Some, None, Ordering, Less, Equal, Greater, length, map, refl, sym, ap, subst, ◌∙◌, inl, inr, arith, slice_get}
+use Rattle.std.proofs.Common.{◌≡◌, ℕ, Bool, true, false, List, Option, Some, None, Ordering, Less, Equal, Greater, length, map, refl, sym, ap, subst, ◌∙◌, inl}
+use Rattle.std.proofs.Common.{inr, arith, slice_get}
 use Rattle.std.specs.Prelude.{Any, Contains, slice_index}
 use Rattle.std.proofs.lemmas.Bool.{cases_lt}
 use Rattle.std.proofs.lemmas.List.{length-map}
@@ -87,10 +88,12 @@ contains-decided xs p =
 
 -- ---- values
 
-module _ (laws : ClassLaws) (s : SpaceView) (space : IsSpace s) (future members : List Package) (N : Type 0) (fate : ℕ → Option ℕ) (seen : IsSeen s future members N fate) where
+module _ (laws : ClassLaws) (s : SpaceView) (space : IsSpace s) (future members : List Package) (N : Type 0) (fate : ℕ → Option ℕ)
+    (seen : IsSeen s future members N fate) where
   named-decided : (r : ℕ) → IsDecided (IsPackageAnd s.repository.packages r (λ p. IsNamedIn members p.name))
   named-decided r =
-      some-decided (λ (p : Package). IsNamedIn members p.name) (λ p. any-decided (λ (n : Package). n.name ≡ p.name) (λ n. text-decided n.name p.name) members) (slice_get s.repository.packages r)
+      some-decided (λ (p : Package). IsNamedIn members p.name) (λ p. any-decided (λ (n : Package). n.name ≡ p.name) (λ n. text-decided n.name p.name) members)
+      (slice_get s.repository.packages r)
 
   holds-decided : (m : Meaning) → IsDecided (Holds laws s space future members N fate seen m)
   holds-decided Now = seen.now
@@ -99,7 +102,8 @@ module _ (laws : ClassLaws) (s : SpaceView) (space : IsSpace s) (future members 
   holds-decided (New r k) = both-decided (option-decided (fate (slice_index s.cluster_of r)) k) (named-decided r)
   holds-decided (Kept r k j) =
       same-as (λ h. (h.0.0, h.0.1, h.1)) (λ h. ((h.0, h.1), h.2))
-      (both-decided (both-decided (option-decided (fate (slice_index s.cluster_of r)) k) (named-decided r)) (flag-decided (slice_get (kept_of laws s space future members N fate seen r) j)))
+      (both-decided (both-decided (option-decided (fate (slice_index s.cluster_of r)) k) (named-decided r))
+      (flag-decided (slice_get (kept_of laws s space future members N fate seen r) j)))
   holds-decided (Fresh x k) =
       some-decided (λ (name : List ℕ). Any (λ (n : Package). (n.name ≡ name) × IsOfClassAt (fresh_classes s x) k n.version) members)
       (λ name. any-decided (λ (n : Package). (n.name ≡ name) × IsOfClassAt (fresh_classes s x) k n.version)
@@ -127,6 +131,7 @@ module _ (laws : ClassLaws) (s : SpaceView) (space : IsSpace s) (future members 
       record {
         values = values;
         one_each = length-map s.meanings value;
-        model = model-from-met s values clauses are (met-alike s (Holds laws s space future members N fate seen) (IsTrueMeaning s values) to back (met-by-future laws s space future members N fate seen));
+        model = model-from-met s values clauses are (met-alike s (Holds laws s space future members N fate seen) (IsTrueMeaning s values) to back
+            (met-by-future laws s space future members N fate seen));
         holds = to;
       }

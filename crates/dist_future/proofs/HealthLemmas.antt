@@ -26,7 +26,8 @@ use Rattle.dist_space.specs.RisingLaws.{contains-cons, contains-first, contains-
 -- ---- essential packages
 
 -- what is kept of a list has passed the test
-passed-cons : {X : Type 0} (test : X → Bool) (y : X) (xs : List X) (x : X) (b : Bool) → test y ≡ b → (Contains (filter test xs) x → Contains xs x × (test x ≡ true)) → Contains (cond b (y ∷ filter test xs) (filter test xs)) x
+passed-cons : {X : Type 0} (test : X → Bool) (y : X) (xs : List X) (x : X) (b : Bool) → test y ≡ b
+    → (Contains (filter test xs) x → Contains xs x × (test x ≡ true)) → Contains (cond b (y ∷ filter test xs) (filter test xs)) x
     → Contains (y ∷ xs) x × (test x ≡ true)
 passed-cons test y xs x false is rest there = let h = rest there in (contains-later y x xs h.0, h.1)
 passed-cons {X} test y xs x true is rest there = elim (contains-cons y x (filter test xs) there) [
@@ -70,7 +71,8 @@ required-essential true packages name there =
     let at = place-of packages from.source passed.0 in
     record { is_mode = refl; number = at.place; p = from.source; is = at.is; essential = passed.1; named = from.gives }
 
-essential-required : (mode : Bool) (packages : List Package) (p : Package) → mode ≡ true → Contains packages p → p.essential ≡ true → Contains (required_names mode packages) p.name
+essential-required : (mode : Bool) (packages : List Package) (p : Package) → mode ≡ true → Contains packages p → p.essential ≡ true
+    → Contains (required_names mode packages) p.name
 essential-required false packages p is there essential = absurd (false≢true is)
 essential-required true packages p is there essential =
     map-in (λ (q : Package). q.name) (filter (λ q. q.essential) packages) p (passes-kept (λ (q : Package). q.essential) packages p there essential)
@@ -90,10 +92,16 @@ module _ (s : SpaceView) (values : List Bool) where
 
   -- some meaning with a property holds, or none does
   some-decided : IsSpace s → (P : Meaning → Type 0) → ((m : Meaning) → IsDecided (P m)) → IsDecided (SomeHolds s values P)
-  some-decided space P each = elim (any-decided (λ m. (holds_under s values m ≡ true) × P m) (λ m. both-decided (bool-decided (holds_under s values m)) (each m)) s.meanings) [
-    | inl any ↦ inl (record { meaning = any.1; holds = record { is_meaning = ((space.meanings.exact any.1).0 (any.0, any.2, any.3)).0; is_true = any.4.0 }; has = any.4.1 })
-    | inr none ↦ inr (λ some. none (any-contained (λ m. (holds_under s values m ≡ true) × P m) s.meanings some.meaning ((space.meanings.exact some.meaning).1 (some.holds.is_meaning, tt)) (some.holds.is_true, some.has)))
-  ]
+  some-decided space P each = elim (any-decided (λ m. (holds_under s values m ≡ true) × P m)
+      (λ m. both-decided (bool-decided (holds_under s values m)) (each m)) s.meanings) [
+        | inl any ↦ inl (record {
+          meaning = any.1;
+          holds = record { is_meaning = ((space.meanings.exact any.1).0 (any.0, any.2, any.3)).0; is_true = any.4.0 };
+          has = any.4.1;
+        })
+        | inr none ↦ inr (λ some. none (any-contained (λ m. (holds_under s values m ≡ true) × P m) s.meanings some.meaning
+            ((space.meanings.exact some.meaning).1 (some.holds.is_meaning, tt)) (some.holds.is_true, some.has)))
+      ]
 
   met-of : (P : Meaning → Type 0) → SomeHolds s values P → IsMetIn s (IsTrueMeaning s values) P
   met-of P some = record { meaning = some.meaning; is_meaning = some.holds.is_meaning; holds = some.holds.is_true; has = some.has }
@@ -106,8 +114,17 @@ module _ (s : SpaceView) (values : List Bool) where
   apart-broken m n first second apart =
       record { one = m; other = n; first_is = refl; second_is = refl; holds = first; is_other = second.is_meaning; broken = inl (apart, second.is_true) }
 
-  needs-broken : (m n : Meaning) → Holds s values m → IsMeaning s n → holds_under s values n ≡ false → Needs s m n → AreNoFuture s values (variable_of s m) (variable_of s n)
-  needs-broken m n first is fails needs = record { one = m; other = n; first_is = refl; second_is = refl; holds = first; is_other = is; broken = inr (needs, fails) }
+  needs-broken : (m n : Meaning) → Holds s values m → IsMeaning s n → holds_under s values n ≡ false → Needs s m n
+      → AreNoFuture s values (variable_of s m) (variable_of s n)
+  needs-broken m n first is fails needs = record {
+    one = m;
+    other = n;
+    first_is = refl;
+    second_is = refl;
+    holds = first;
+    is_other = is;
+    broken = inr (needs, fails);
+  }
 
   pub with-it : (m n : Meaning) → IsNoPair (AreNoFuture s values) → Holds s values m → IsMeaning s n → Needs s m n → holds_under s values n ≡ true
   with-it m n none first is needs = by (holds_under s values n) refl
@@ -120,9 +137,12 @@ module _ (s : SpaceView) (values : List Bool) where
 
   -- the demands of a future are met where no pair of variables is none
   pub met-with : IsNoPair (AreNoFuture s values)
-      → ((r place : ℕ) (p : Package) (item : List Atom) → slice_get s.repository.packages r ≡ Some p → slice_get p.depends place ≡ Some item → IsTrueMeaning s values (Present r) → IsMetIn s (IsTrueMeaning s values) (IsMetBy s item))
-      → ((r : ℕ) (p : Package) (m : Meaning) → slice_get s.repository.packages r ≡ Some p → IsMeaning s m → Excludes s r p m → IsTrueMeaning s values (Present r) → IsTrueMeaning s values m → ⊥)
-      → ((name : List ℕ) → Contains (required_names s.essential s.repository.packages) name → IsMetIn s (IsTrueMeaning s values) (IsBearer s name)) → AreMet s (IsTrueMeaning s values)
+      → ((r place : ℕ) (p : Package) (item : List Atom) → slice_get s.repository.packages r ≡ Some p → slice_get p.depends place ≡ Some item
+      → IsTrueMeaning s values (Present r) → IsMetIn s (IsTrueMeaning s values) (IsMetBy s item))
+      → ((r : ℕ) (p : Package) (m : Meaning) → slice_get s.repository.packages r ≡ Some p → IsMeaning s m → Excludes s r p m
+      → IsTrueMeaning s values (Present r) → IsTrueMeaning s values m → ⊥)
+      → ((name : List ℕ) → Contains (required_names s.essential s.repository.packages) name → IsMetIn s (IsTrueMeaning s values) (IsBearer s name))
+      → AreMet s (IsTrueMeaning s values)
   met-with never items conflicts required =
       let apart : (m n : Meaning) → IsMeaning s m → IsMeaning s n → AreApart s m n → IsTrueMeaning s values m → IsTrueMeaning s values n → ⊥ =
       λ m n is_m is_n are first second. never (variable_of s m) (variable_of s n) (apart-broken m n (held m is_m first) (held n is_n second) are) in
@@ -173,7 +193,8 @@ module _ (s : SpaceView) (values : List Bool) where
 
   -- ---- and back
 
-  never-apart : AreMet s (IsTrueMeaning s values) → (m n : Meaning) → IsMeaning s m → IsMeaning s n → AreApart s m n → IsTrueMeaning s values m → IsTrueMeaning s values n → ⊥
+  never-apart : AreMet s (IsTrueMeaning s values) → (m n : Meaning) → IsMeaning s m → IsMeaning s n → AreApart s m n → IsTrueMeaning s values m
+      → IsTrueMeaning s values n → ⊥
   never-apart met (At c k) (At d l) is_m is_n apart first second =
       let At' : ℕ → Type 0 = λ e. IsTrueMeaning s values (At e l) in
       met.one_class c k l apart.1 (subst (λ (e : ℕ). l < length (cluster_classes s e)) (sym apart.0) is_n) first (subst At' (sym apart.0) second)
@@ -187,7 +208,8 @@ module _ (s : SpaceView) (values : List Bool) where
   never-apart met Now (Fresh x k) is_m is_n apart first second = met.absent x k is_n first second
   never-apart met m n is_m is_n apart first second = absurd apart
 
-  never-lacks : AreMet s (IsTrueMeaning s values) → (m n : Meaning) → IsMeaning s m → Needs s m n → IsTrueMeaning s values m → holds_under s values n ≡ false → ⊥
+  never-lacks : AreMet s (IsTrueMeaning s values) → (m n : Meaning) → IsMeaning s m → Needs s m n → IsTrueMeaning s values m → holds_under s values n ≡ false
+      → ⊥
   never-lacks met (New r k) (At c l) is_m needs first fails =
       let same : At (slice_index s.cluster_of r) k ≡ At c l = let a = needs.0 in let b = needs.1 in cc in
       false≢true (sym fails ∙ subst (IsTrueMeaning s values) same (met.moved r k is_m first))
@@ -212,7 +234,8 @@ module _ (s : SpaceView) (values : List Bool) where
         met.apart f.number p.element f.other p.is f.holds.is_meaning p.holds f.installed.is_true f.holds.is_true,
     λ n missing.
         let p = here-at (λ (q : Package). (q.essential ≡ true) × (¬ SomeHolds s values (IsBearer s q.name))) s.repository.packages n missing.1 in
-        p.holds.1 (of-met (IsBearer s p.element.name) (met.required p.element.name (essential-required s.essential s.repository.packages p.element missing.0 (contains-at s.repository.packages n p.element p.is) p.holds.0))),
+        p.holds.1 (of-met (IsBearer s p.element.name) (met.required p.element.name
+        (essential-required s.essential s.repository.packages p.element missing.0 (contains-at s.repository.packages n p.element p.is) p.holds.0))),
   )
 
 -- ---- one health
@@ -233,26 +256,30 @@ at-most-both n k a b (inr low) (inr high) = record { first = high.0; second = om
 one-pair : (P : ℕ → ℕ → Type 0) (n k a b : ℕ) → IsLeastPair P n k → IsLeastPair P a b → AreSame n k a b
 one-pair P n k a b first second = at-most-both n k a b (first.least a b second.holds) (second.least n k first.holds)
 
-pub one-health : (s : SpaceView) (values : List Bool) (health other : FutureHealth) → IsFutureHealth s values health → IsFutureHealth s values other → other ≡ health
+pub one-health : (s : SpaceView) (values : List Bool) (health other : FutureHealth) → IsFutureHealth s values health → IsFutureHealth s values other
+    → other ≡ health
 one-health s values Healthy Healthy is also = refl
 one-health s values Healthy (NotAFuture a b) is also = absurd (is.0 a b also.holds)
 one-health s values Healthy (Unmet a b) is also = absurd (is.1 a b also.1.holds)
 one-health s values Healthy (Conflict a b) is also = absurd (is.2 a b also.2.holds)
 one-health s values Healthy (EssentialMissing a) is also = absurd (is.3 a also.3.holds)
 one-health s values (NotAFuture n k) Healthy is also = absurd (also.0 n k is.holds)
-one-health s values (NotAFuture n k) (NotAFuture a b) is also = let same = one-pair (AreNoFuture s values) n k a b is also in let first = same.first in let second = same.second in cc
+one-health s values (NotAFuture n k) (NotAFuture a b) is also = let same = one-pair (AreNoFuture s values) n k a b is also in let first = same.first in
+    let second = same.second in cc
 one-health s values (NotAFuture n k) (Unmet a b) is also = absurd (also.0 n k is.holds)
 one-health s values (NotAFuture n k) (Conflict a b) is also = absurd (also.0 n k is.holds)
 one-health s values (NotAFuture n k) (EssentialMissing a) is also = absurd (also.0 n k is.holds)
 one-health s values (Unmet n k) Healthy is also = absurd (also.1 n k is.1.holds)
 one-health s values (Unmet n k) (NotAFuture a b) is also = absurd (is.0 a b also.holds)
-one-health s values (Unmet n k) (Unmet a b) is also = let same = one-pair (IsUnmetAt s values) n k a b is.1 also.1 in let first = same.first in let second = same.second in cc
+one-health s values (Unmet n k) (Unmet a b) is also = let same = one-pair (IsUnmetAt s values) n k a b is.1 also.1 in let first = same.first in
+    let second = same.second in cc
 one-health s values (Unmet n k) (Conflict a b) is also = absurd (also.1 n k is.1.holds)
 one-health s values (Unmet n k) (EssentialMissing a) is also = absurd (also.1 n k is.1.holds)
 one-health s values (Conflict n k) Healthy is also = absurd (also.2 n k is.2.holds)
 one-health s values (Conflict n k) (NotAFuture a b) is also = absurd (is.0 a b also.holds)
 one-health s values (Conflict n k) (Unmet a b) is also = absurd (is.1 a b also.1.holds)
-one-health s values (Conflict n k) (Conflict a b) is also = let same = one-pair (AreConflicting s values) n k a b is.2 also.2 in let first = same.first in let second = same.second in cc
+one-health s values (Conflict n k) (Conflict a b) is also = let same = one-pair (AreConflicting s values) n k a b is.2 also.2 in let first = same.first in
+    let second = same.second in cc
 one-health s values (Conflict n k) (EssentialMissing a) is also = absurd (also.2 n k is.2.holds)
 one-health s values (EssentialMissing n) Healthy is also = absurd (also.3 n is.3.holds)
 one-health s values (EssentialMissing n) (NotAFuture a b) is also = absurd (is.0 a b also.holds)

@@ -68,7 +68,8 @@ module _ (laws : ClassLaws) (s : SpaceView) (space : IsSpace s) (values : List B
       record {
         name = refl;
         version = is;
-        provides = kept-carried p.version (examples_of s (slice_index s.cluster_of r) k) (kept_of r k p) p.provides is (length-flags s.repository.architecture (λ j. holds_under s values (Kept r k j)) p.provides);
+        provides = kept-carried p.version (examples_of s (slice_index s.cluster_of r) k) (kept_of r k p) p.provides is
+            (length-flags s.repository.architecture (λ j. holds_under s values (Kept r k j)) p.provides);
       }
 
   class-of : (r k : ℕ) (p : Package) → k < length (member_classes s r) → IsOfClassAt (member_classes s r) k (newer r k p).version
@@ -81,17 +82,20 @@ module _ (laws : ClassLaws) (s : SpaceView) (space : IsSpace s) (values : List B
 
   old-in : (r : ℕ) (p : Package) → slice_get s.repository.packages r ≡ Some p → T (Present r) → Contains installed p
   old-in r p is holds =
-      in-list (Present r) p (slice_get_within s.repository.packages r p is) (if-true (holds_under s values (Present r)) (slice_get s.repository.packages r) None holds ∙ is)
+      in-list (Present r) p (slice_get_within s.repository.packages r p is)
+      (if-true (holds_under s values (Present r)) (slice_get s.repository.packages r) None holds ∙ is)
 
   new-in : (r k : ℕ) (p : Package) → slice_get s.repository.packages r ≡ Some p → IsMeaning s (New r k) → T (New r k) → Contains installed (newer r k p)
   new-in r k p is is_meaning holds =
       in-list (New r k) (newer r k p) is_meaning
-      (if-true (holds_under s values (New r k)) (option_map (λ (q : Package). newer r k q) (slice_get s.repository.packages r)) None holds ∙ ap (option_map (λ (q : Package). newer r k q)) is)
+      (if-true (holds_under s values (New r k)) (option_map (λ (q : Package). newer r k q) (slice_get s.repository.packages r)) None holds
+      ∙ ap (option_map (λ (q : Package). newer r k q)) is)
 
   fresh-in : (x k : ℕ) (name : List ℕ) → slice_get s.names x ≡ Some name → IsMeaning s (Fresh x k) → T (Fresh x k) → Contains installed (fresher x k name)
   fresh-in x k name is is_meaning holds =
       in-list (Fresh x k) (fresher x k name) is_meaning
-      (if-true (holds_under s values (Fresh x k)) (option_map (λ (n : List ℕ). fresher x k n) (slice_get s.names x)) None holds ∙ ap (option_map (λ (n : List ℕ). fresher x k n)) is)
+      (if-true (holds_under s values (Fresh x k)) (option_map (λ (n : List ℕ). fresher x k n) (slice_get s.names x)) None holds
+      ∙ ap (option_map (λ (n : List ℕ). fresher x k n)) is)
 
   -- the meaning that a package of the installation comes of
   data IsFrom (n : Package) : Meaning → Type 0 where
@@ -129,25 +133,34 @@ module _ (laws : ClassLaws) (s : SpaceView) (space : IsSpace s) (values : List B
 
   -- ---- from a healthy installation to the demands
 
-  module _ (healthy : IsInstallationOf s.essential s.repository (future_of s (holds_under s values) (examples_of s)) (installation_of s (holds_under s values) (examples_of s))) where
+  module _ (healthy : IsInstallationOf s.essential s.repository (future_of s (holds_under s values) (examples_of s))
+      (installation_of s (holds_under s values) (examples_of s))) where
     -- a meaning that holds, and that an atom matches
     abbrev IsFound : Atom → Type 0
     IsFound atom = IsMetIn s T (IsMatched s atom)
 
-    found-of : (atom : Atom) → IsAtomOf s.repository atom → (n : Package) (m : Meaning) → IsMeaning s m → IsFrom n m → Matches s.repository.architecture atom n → IsFound atom
+    found-of : (atom : Atom) → IsAtomOf s.repository atom → (n : Package) (m : Meaning) → IsMeaning s m → IsFrom n m → Matches s.repository.architecture atom n
+        → IsFound atom
     found-of atom of n _ is_meaning (from_old r is holds) matches =
-        record { meaning = Present r; is_meaning = is_meaning; holds = holds; has = (matches.usable, at-has (Matches s.repository.architecture atom) s.repository.packages r n is matches) }
+        record {
+          meaning = Present r;
+          is_meaning = is_meaning;
+          holds = holds;
+          has = (matches.usable, at-has (Matches s.repository.architecture atom) s.repository.packages r n is matches);
+        }
     found-of atom of n _ is_meaning (from_name x k name is holds same) matches =
         let example = space.frame.name_examples x k is_meaning in
         record {
           meaning = Fresh x k;
           is_meaning = is_meaning;
           holds = holds;
-          has = to-fresh s x k name (fresh-at laws s space.frame x k name is is_meaning) atom of (fresher x k name) (fresh-new name (example_at (fresh_classes s x) k) example.0) example.1
+          has = to-fresh s x k name (fresh-at laws s space.frame x k name is is_meaning) atom of (fresher x k name)
+              (fresh-new name (example_at (fresh_classes s x) k) example.0) example.1
               (subst (λ (y : Package). Matches s.repository.architecture atom y) same matches);
         }
     found-of atom of n _ is_meaning (from_new r k q is holds same) matches =
-        elim (to-new s r k q (member-of-class laws s space r k q is is_meaning.1) atom of (newer r k q) (kept_of r k q) (new-of r k q is_meaning.1) (class-of r k q is_meaning.1) (subst (λ (y : Package). Matches s.repository.architecture atom y) same matches)) [
+        elim (to-new s r k q (member-of-class laws s space r k q is is_meaning.1) atom of (newer r k q) (kept_of r k q) (new-of r k q is_meaning.1)
+        (class-of r k q is_meaning.1) (subst (λ (y : Package). Matches s.repository.architecture atom y) same matches)) [
           | inl by_name ↦ record { meaning = New r k; is_meaning = is_meaning; holds = holds; has = by_name }
           | inr kept ↦ record {
             meaning = Kept r k kept.0;
@@ -157,7 +170,8 @@ module _ (laws : ClassLaws) (s : SpaceView) (space : IsSpace s) (values : List B
           }
         ]
 
-    items-met : (r place : ℕ) (p : Package) (item : List Atom) → slice_get s.repository.packages r ≡ Some p → slice_get p.depends place ≡ Some item → T (Present r) → IsMetIn s T (IsMetBy s item)
+    items-met : (r place : ℕ) (p : Package) (item : List Atom) → slice_get s.repository.packages r ≡ Some p → slice_get p.depends place ≡ Some item
+        → T (Present r) → IsMetIn s T (IsMetBy s item)
     items-met r place p item is is_item holds =
         let Met : List Atom → Type 0 = IsMet s.repository.architecture installed in
         let each : All Met p.depends = All-contains (λ (q : Package). All Met q.depends) installed p healthy.met (old-in r p is holds) in
@@ -166,19 +180,30 @@ module _ (laws : ClassLaws) (s : SpaceView) (space : IsSpace s) (values : List B
         let n : Package = at.holds.1 in
         let matches : Matches s.repository.architecture at.element n = at.holds.4 in
         let dependency : IsDependencyAtom s.repository.packages at.element =
-        any-at (λ (q : Package). Any (λ i. Contains i at.element) q.depends) s.repository.packages r p is (any-at (λ i. Contains i at.element) p.depends place item is_item (contains-at item at.place at.element at.is)) in
+        any-at (λ (q : Package). Any (λ i. Contains i at.element) q.depends) s.repository.packages r p is
+        (any-at (λ i. Contains i at.element) p.depends place item is_item (contains-at item at.place at.element at.is)) in
         let from = comes-of n (at.holds.0, at.holds.2, at.holds.3) in
         let found = found-of at.element (record { usable = matches.usable; there = inl dependency }) n from.meaning from.is_meaning from.given matches in
-        record { meaning = found.meaning; is_meaning = found.is_meaning; holds = found.holds; has = any-at (λ atom. IsMatched s atom found.meaning) item at.place at.element at.is found.has }
+        record {
+          meaning = found.meaning;
+          is_meaning = found.is_meaning;
+          holds = found.holds;
+          has = any-at (λ atom. IsMatched s atom found.meaning) item at.place at.element at.is found.has;
+        }
 
     -- no conflict atom of a package matches another one
-    rejects : (r : ℕ) (p n : Package) (place : ℕ) (atom : Atom) → slice_get s.repository.packages r ≡ Some p → T (Present r) → Contains installed n → p.name ≢ n.name → slice_get p.conflicts place ≡ Some atom
+    rejects : (r : ℕ) (p n : Package) (place : ℕ) (atom : Atom) → slice_get s.repository.packages r ≡ Some p → T (Present r) → Contains installed n
+        → p.name ≢ n.name → slice_get p.conflicts place ≡ Some atom
         → Matches s.repository.architecture atom n → ⊥
     rejects r p n place atom is holds there names is_atom matches =
         never-conflict s.repository.architecture installed p n healthy.no_conflict (old-in r p is holds) there names
-        (record { different = λ same. names same.0; matched = inl (any-at (λ a. Matches s.repository.architecture a n) p.conflicts place atom is_atom matches) })
+        (record {
+          different = λ same. names same.0;
+          matched = inl (any-at (λ a. Matches s.repository.architecture a n) p.conflicts place atom is_atom matches);
+        })
 
-    never-excluded : IsNoPair (AreNoFuture s values) → (r : ℕ) (p : Package) (m : Meaning) → slice_get s.repository.packages r ≡ Some p → IsMeaning s m → Excludes s r p m → T (Present r) → T m → ⊥
+    never-excluded : IsNoPair (AreNoFuture s values) → (r : ℕ) (p : Package) (m : Meaning) → slice_get s.repository.packages r ≡ Some p → IsMeaning s m
+        → Excludes s r p m → T (Present r) → T m → ⊥
     never-excluded stands r p Now is is_meaning excludes present holds = excludes.0
     never-excluded stands r p (At c k) is is_meaning excludes present holds = excludes.0
     never-excluded stands r p (Present o) is is_meaning excludes present holds =
@@ -189,42 +214,60 @@ module _ (laws : ClassLaws) (s : SpaceView) (space : IsSpace s) (values : List B
         let q = element-at s.repository.packages o is_meaning.0 in
         let at = found-at (λ atom. IsMatched s atom (New o k)) p.conflicts excludes.1 in
         let of = conflict-atom s r p at.place at.element is at.is at.holds.0 in
-        rejects r p (newer o k q.element) at.place at.element is present (new-in o k q.element q.is is_meaning holds) (λ same. other-name s o q.element p.name q.is excludes.0 (sym same)) at.is
-        (from-new s o k q.element (member-of-class laws s space o k q.element q.is is_meaning.1) at.element of (newer o k q.element) (kept_of o k q.element) (new-of o k q.element is_meaning.1) (class-of o k q.element is_meaning.1) at.holds)
+        rejects r p (newer o k q.element) at.place at.element is present (new-in o k q.element q.is is_meaning holds)
+        (λ same. other-name s o q.element p.name q.is excludes.0 (sym same)) at.is
+        (from-new s o k q.element (member-of-class laws s space o k q.element q.is is_meaning.1) at.element of (newer o k q.element) (kept_of o k q.element)
+        (new-of o k q.element is_meaning.1) (class-of o k q.element is_meaning.1) at.holds)
     never-excluded stands r p (Kept o k j) is is_meaning excludes present holds =
         let is_new = kept-new s o k j is_meaning in
         let q = element-at s.repository.packages o is_new.0 in
         let entry = here-at (λ (e : Provide). IsUsable s.repository.architecture e.qualifier) q.element.provides j
-        (has-at (λ (x : Package). IsSomeAnd (slice_get x.provides j) (λ e. IsUsable s.repository.architecture e.qualifier)) s.repository.packages o q.element q.is is_meaning.0) in
+        (has-at (λ (x : Package). IsSomeAnd (slice_get x.provides j) (λ e. IsUsable s.repository.architecture e.qualifier)) s.repository.packages o q.element
+        q.is is_meaning.0) in
         let at = found-at (λ atom. IsMatched s atom (Kept o k j)) p.conflicts excludes.1 in
         let of = conflict-atom s r p at.place at.element is at.is at.holds.0 in
-        let flag = flag-is s.repository.architecture (λ i. holds_under s values (Kept o k i)) q.element.provides j entry.element entry.is (usable-is s.repository.architecture entry.element.qualifier entry.holds) holds in
+        let flag = flag-is s.repository.architecture (λ i. holds_under s values (Kept o k i)) q.element.provides j entry.element entry.is
+        (usable-is s.repository.architecture entry.element.qualifier entry.holds) holds in
         let new = with-it s values (Kept o k j) (New o k) stands (record { is_meaning = is_meaning; is_true = holds }) is_new (refl, refl) in
-        rejects r p (newer o k q.element) at.place at.element is present (new-in o k q.element q.is is_new new) (λ same. other-name s o q.element p.name q.is excludes.0 (sym same)) at.is
-        (from-kept s o k q.element (member-of-class laws s space o k q.element q.is is_meaning.1) at.element of (newer o k q.element) (kept_of o k q.element) j (new-of o k q.element is_meaning.1) (class-of o k q.element is_meaning.1) flag at.holds)
+        rejects r p (newer o k q.element) at.place at.element is present (new-in o k q.element q.is is_new new)
+        (λ same. other-name s o q.element p.name q.is excludes.0 (sym same)) at.is
+        (from-kept s o k q.element (member-of-class laws s space o k q.element q.is is_meaning.1) at.element of (newer o k q.element) (kept_of o k q.element) j
+        (new-of o k q.element is_meaning.1) (class-of o k q.element is_meaning.1) flag at.holds)
     never-excluded stands r p (Fresh x k) is is_meaning excludes present holds =
         let at = found-at (λ atom. IsMatched s atom (Fresh x k)) p.conflicts excludes.1 in
         let of = conflict-atom s r p at.place at.element is at.is at.holds.0 in
         let name = here-at (λ (n : List ℕ). (n ≡ at.element.name) × MeetsBound at.element (example_at (fresh_classes s x) k)) s.names x at.holds.1 in
         let example = space.frame.name_examples x k is_meaning in
-        rejects r p (fresher x k name.element) at.place at.element is present (fresh-in x k name.element name.is is_meaning holds) (λ same. has-at (λ (n : List ℕ). n ≢ p.name) s.names x name.element name.is excludes.0 (sym same)) at.is
-        (from-fresh s x k name.element (fresh-at laws s space.frame x k name.element name.is is_meaning) at.element of (fresher x k name.element) (fresh-new name.element (example_at (fresh_classes s x) k) example.0) example.1 at.holds)
+        rejects r p (fresher x k name.element) at.place at.element is present (fresh-in x k name.element name.is is_meaning holds)
+        (λ same. has-at (λ (n : List ℕ). n ≢ p.name) s.names x name.element name.is excludes.0 (sym same)) at.is
+        (from-fresh s x k name.element (fresh-at laws s space.frame x k name.element name.is is_meaning) at.element of (fresher x k name.element)
+        (fresh-new name.element (example_at (fresh_classes s x) k) example.0) example.1 at.holds)
 
-    bearer-from : (name : List ℕ) (r : ℕ) (p : Package) → slice_get s.repository.packages r ≡ Some p → p.name ≡ name → (n : Package) → n.name ≡ name → (m : Meaning) → IsMeaning s m → IsFrom n m → IsMetIn s T (IsBearer s name)
+    bearer-from : (name : List ℕ) (r : ℕ) (p : Package) → slice_get s.repository.packages r ≡ Some p → p.name ≡ name → (n : Package) → n.name ≡ name
+        → (m : Meaning) → IsMeaning s m → IsFrom n m → IsMetIn s T (IsBearer s name)
     bearer-from name r p is named n same _ is_meaning (from_old o at holds) =
         record { meaning = Present o; is_meaning = is_meaning; holds = holds; has = at-has (λ (q : Package). q.name ≡ name) s.repository.packages o n at same }
     bearer-from name r p is named n same _ is_meaning (from_new o k q at holds equal) =
-        record { meaning = New o k; is_meaning = is_meaning; holds = holds; has = at-has (λ (x : Package). x.name ≡ name) s.repository.packages o q at (sym (ap (λ (x : Package). x.name) equal) ∙ same) }
+        record {
+          meaning = New o k;
+          is_meaning = is_meaning;
+          holds = holds;
+          has = at-has (λ (x : Package). x.name ≡ name) s.repository.packages o q at (sym (ap (λ (x : Package). x.name) equal) ∙ same);
+        }
     bearer-from name r p is named n same _ is_meaning (from_name x k own at holds equal) =
         let new = (space.frame.names.exact own).0 (contains-at s.names x own at) in
-        absurd (new.unprovided (any-at (λ (q : Package). IsProvider s.repository.architecture own q) s.repository.packages r p is (inl (named ∙ sym same ∙ ap (λ (x : Package). x.name) equal))))
+        absurd (new.unprovided (any-at (λ (q : Package). IsProvider s.repository.architecture own q) s.repository.packages r p is
+        (inl (named ∙ sym same ∙ ap (λ (x : Package). x.name) equal))))
 
     bearers : (name : List ℕ) → Contains (required_names s.essential s.repository.packages) name → IsMetIn s T (IsBearer s name)
     bearers name there =
-        let any : Any (λ (q : Package). q.name ≡ name) installed = All-contains (λ (x : List ℕ). Any (λ (q : Package). q.name ≡ x) installed) (required_names s.essential s.repository.packages) name healthy.has_required there in
+        let any : Any (λ (q : Package). q.name ≡ name) installed =
+        All-contains (λ (x : List ℕ). Any (λ (q : Package). q.name ≡ x) installed) (required_names s.essential s.repository.packages) name
+        healthy.has_required there in
         let of = required-package s.essential s.repository.packages name there in
         let from = comes-of any.1 (any.0, any.2, any.3) in
         bearer-from name of.place of.element of.is of.holds any.1 any.4 from.meaning from.is_meaning from.given
 
   pub healthy-back : StandsForHealthy s values → IsHealthyIn s values
-  healthy-back both = health-from-met s values (met-with s values both.stands (items-met both.healthy) (never-excluded both.healthy both.stands) (bearers both.healthy))
+  healthy-back both = health-from-met s values (met-with s values both.stands (items-met both.healthy) (never-excluded both.healthy both.stands)
+      (bearers both.healthy))

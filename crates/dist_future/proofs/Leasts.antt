@@ -57,8 +57,10 @@ split-more : (F : ℕ → ℕ → Type 0) (n v : ℕ) → Before F n v ⊎ F n v
 split-more F n v (inl (i, short, holds)) = (i, omega (arith, short), holds)
 split-more F n v (inr holds) = (n, omega arith, holds)
 
-pub least-more : (F : ℕ → ℕ → Type 0) (n : ℕ) (a b r : Option ℕ) → IsLesserOf a b r → IsLeastIfAny (Before F n) a → IsLeastIfAny (F n) b → IsLeastIfAny (Before F (n + 1)) r
-least-more F n a b r is first second = least-shift (λ v. Before F n v ⊎ F n v) (Before F (n + 1)) r (split-more F n) (more-split F n) (least-two (Before F n) (F n) a b r is first second)
+pub least-more : (F : ℕ → ℕ → Type 0) (n : ℕ) (a b r : Option ℕ) → IsLesserOf a b r → IsLeastIfAny (Before F n) a → IsLeastIfAny (F n) b
+    → IsLeastIfAny (Before F (n + 1)) r
+least-more F n a b r is first second = least-shift (λ v. Before F n v ⊎ F n v) (Before F (n + 1)) r (split-more F n) (more-split F n)
+    (least-two (Before F n) (F n) a b r is first second)
 
 pub least-skip : (F : ℕ → ℕ → Type 0) (n : ℕ) (a : Option ℕ) → ((v : ℕ) → ¬ F n v) → IsLeastIfAny (Before F n) a → IsLeastIfAny (Before F (n + 1)) a
 least-skip F n a none first = least-shift (Before F n) (Before F (n + 1)) a (λ v h. split-more F n v (inl h)) (λ v h. elim (more-split F n v h) [

@@ -91,7 +91,8 @@ module _ (s : SpaceView) (values : List Bool) where
 
     pub not-essential : p.essential ≡ false → ¬ IsMissing s values number
     not-essential not missing =
-        false≢true (sym not ∙ (has-at (λ (x : Package). (x.essential ≡ true) × (¬ SomeHolds s values (IsBearer s x.name))) s.repository.packages number p is missing.1).0)
+        false≢true (sym not ∙ (has-at (λ (x : Package). (x.essential ≡ true) × (¬ SomeHolds s values (IsBearer s x.name))) s.repository.packages number p is
+        missing.1).0)
 
     pub not-missing : SomeHolds s values (IsInstalled number) → ¬ IsMissing s values number
     not-missing some missing =

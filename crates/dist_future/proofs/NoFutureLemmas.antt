@@ -25,7 +25,8 @@ IsNoneHeld s values numbered start count = (k : ℕ) → start ≤ k → k < cou
 abbrev pub AreRising : SpaceView → (ℕ → Meaning) → Type 0
 AreRising s numbered = (k l : ℕ) → IsMeaning s (numbered k) → IsMeaning s (numbered l) → k < l → variable_of s (numbered k) < variable_of s (numbered l)
 
-pub held-least : (s : SpaceView) (values : List Bool) (numbered : ℕ → Meaning) (start k v : ℕ) → AreRising s numbered → start ≤ k → v ≡ variable_of s (numbered k) → Holds s values (numbered k) → IsNoneHeld s values numbered start k
+pub held-least : (s : SpaceView) (values : List Bool) (numbered : ℕ → Meaning) (start k v : ℕ) → AreRising s numbered → start ≤ k
+    → v ≡ variable_of s (numbered k) → Holds s values (numbered k) → IsNoneHeld s values numbered start k
     → IsLeast (IsHeldFrom s values numbered start) v
 held-least s values numbered start k v rising from is holds none = record {
   holds = record { number = k; from = from; variable_is = sym is; holds = holds };
@@ -40,10 +41,12 @@ held-least s values numbered start k v rising from is holds none = record {
   ];
 }
 
-pub held-none : (s : SpaceView) (values : List Bool) (numbered : ℕ → Meaning) (start count : ℕ) → ((k : ℕ) → IsMeaning s (numbered k) → k < count) → IsNoneHeld s values numbered start count → (v : ℕ) → ¬ IsHeldFrom s values numbered start v
+pub held-none : (s : SpaceView) (values : List Bool) (numbered : ℕ → Meaning) (start count : ℕ) → ((k : ℕ) → IsMeaning s (numbered k) → k < count)
+    → IsNoneHeld s values numbered start count → (v : ℕ) → ¬ IsHeldFrom s values numbered start v
 held-none s values numbered start count short none v f = none f.number f.from (short f.number f.holds.is_meaning) f.holds
 
-pub held-more : (s : SpaceView) (values : List Bool) (numbered : ℕ → Meaning) (start k : ℕ) → ¬ Holds s values (numbered k) → IsNoneHeld s values numbered start k → IsNoneHeld s values numbered start (k + 1)
+pub held-more : (s : SpaceView) (values : List Bool) (numbered : ℕ → Meaning) (start k : ℕ) → ¬ Holds s values (numbered k)
+    → IsNoneHeld s values numbered start k → IsNoneHeld s values numbered start (k + 1)
 held-more s values numbered start k not none l from short holds = elim (cases_lt l k) [
   | inl less ↦ none l from less holds
   | inr past ↦ let same : l ≡ k = omega (arith, past, short) in not (let At' : ℕ → Type 0 = λ i. Holds s values (numbered i) in subst At' same holds)
@@ -51,7 +54,8 @@ held-more s values numbered start k not none l from short holds = elim (cases_lt
 
 -- ---- today's archive
 
-pub change-least : (s : SpaceView) (values : List Bool) (m : Meaning) (v : ℕ) → IsMeaningOf s v m → Holds s values m → IsChange m → IsNoneTo (IsChangeAt s values) v → IsLeast (IsChangeAt s values) v
+pub change-least : (s : SpaceView) (values : List Bool) (m : Meaning) (v : ℕ) → IsMeaningOf s v m → Holds s values m → IsChange m
+    → IsNoneTo (IsChangeAt s values) v → IsLeast (IsChangeAt s values) v
 change-least s values m v of holds change none = record {
   holds = record { meaning = m; variable_is = of.variable_is; holds = holds; change = change };
   least = λ w f. elim (cases_lt w v) [
@@ -60,13 +64,16 @@ change-least s values m v of holds change none = record {
   ];
 }
 
-pub change-more : (s : SpaceView) (values : List Bool) (v : ℕ) → ¬ IsChangeAt s values v → IsNoneTo (IsChangeAt s values) v → IsNoneTo (IsChangeAt s values) (v + 1)
+pub change-more : (s : SpaceView) (values : List Bool) (v : ℕ) → ¬ IsChangeAt s values v → IsNoneTo (IsChangeAt s values) v
+    → IsNoneTo (IsChangeAt s values) (v + 1)
 change-more s values v not none = below_more (λ n. ¬ IsChangeAt s values n) v none not
 
 pub no-change : (s : SpaceView) (values : List Bool) (m : Meaning) (v : ℕ) → IsMeaningOf s v m → ¬ IsChange m → ¬ IsChangeAt s values v
-no-change s values m v of not f = not (subst IsChange (one-meaning s f.meaning m of.space f.holds.is_meaning of.is_meaning (f.variable_is ∙ sym of.variable_is)) f.change)
+no-change s values m v of not f = not (subst IsChange (one-meaning s f.meaning m of.space f.holds.is_meaning of.is_meaning (f.variable_is ∙ sym of.variable_is))
+    f.change)
 
-pub change-none : (s : SpaceView) (values : List Bool) (count : ℕ) → IsSpace s → length s.meanings < count → IsNoneTo (IsChangeAt s values) count → (v : ℕ) → ¬ IsChangeAt s values v
+pub change-none : (s : SpaceView) (values : List Bool) (count : ℕ) → IsSpace s → length s.meanings < count → IsNoneTo (IsChangeAt s values) count → (v : ℕ)
+    → ¬ IsChangeAt s values v
 change-none s values count space past none v f =
     let range = variable-range s f.meaning space f.holds.is_meaning in
     let is = f.variable_is in
@@ -78,13 +85,15 @@ change-none s values count space past none v f =
 pub meaning-holds : (s : SpaceView) (values : List Bool) (m n : Meaning) (v : ℕ) → IsMeaningOf s v m → Holds s values n → variable_of s n ≡ v → n ≡ m
 meaning-holds s values m n v of holds is = one-meaning s n m of.space holds.is_meaning of.is_meaning (is ∙ sym of.variable_is)
 
-pub never-holds : (s : SpaceView) (values : List Bool) (n : Meaning) (v : ℕ) (b : Bool) → b ≡ value_of values v → b ≡ false → Holds s values n → variable_of s n ≡ v → ⊥
+pub never-holds : (s : SpaceView) (values : List Bool) (n : Meaning) (v : ℕ) (b : Bool) → b ≡ value_of values v → b ≡ false → Holds s values n
+    → variable_of s n ≡ v → ⊥
 never-holds s values n v b told fails holds is = false≢true (sym fails ∙ told ∙ ap (value_of values) (sym is) ∙ holds.is_true)
 
 pub no-row : (s : SpaceView) (values : List Bool) (v : ℕ) (b : Bool) → b ≡ value_of values v → b ≡ false → (w : ℕ) → ¬ AreNoFuture s values v w
 no-row s values v b told fails w f = never-holds s values f.one v b told fails f.holds f.first_is
 
-pub all-rows : (s : SpaceView) (values : List Bool) (count : ℕ) → IsSpace s → length s.meanings < count → IsNoneBelow (AreNoFuture s values) count → (n k : ℕ) → ¬ AreNoFuture s values n k
+pub all-rows : (s : SpaceView) (values : List Bool) (count : ℕ) → IsSpace s → length s.meanings < count → IsNoneBelow (AreNoFuture s values) count → (n k : ℕ)
+    → ¬ AreNoFuture s values n k
 all-rows s values count space past none n k f =
     let range = variable-range s f.one space f.holds.is_meaning in
     let is = f.first_is in
@@ -99,21 +108,35 @@ pub record IsBrokenBy (s : SpaceView) (values : List Bool) (m : Meaning) (w : �
 
 module _ (s : SpaceView) (values : List Bool) (v : ℕ) (m : Meaning) (of : IsMeaningOf s v m) (holds : Holds s values m) where
   row-from : (w : ℕ) → IsBrokenBy s values m w → AreNoFuture s values v w
-  row-from w f = record { one = m; other = f.other; first_is = of.variable_is; second_is = f.second_is; holds = holds; is_other = f.is_other; broken = f.broken }
+  row-from w f = record {
+    one = m;
+    other = f.other;
+    first_is = of.variable_is;
+    second_is = f.second_is;
+    holds = holds;
+    is_other = f.is_other;
+    broken = f.broken;
+  }
 
   from-row : (w : ℕ) → AreNoFuture s values v w → IsBrokenBy s values m w
   from-row w f =
       let same : f.one ≡ m = meaning-holds s values m f.one v of f.holds f.first_is in
-      let Broken : Meaning → Type 0 = λ x. (AreApart s x f.other × (holds_under s values f.other ≡ true)) ⊎ (Needs s x f.other × (holds_under s values f.other ≡ false)) in
+      let Broken : Meaning → Type 0 = λ x. (AreApart s x f.other × (holds_under s values f.other ≡ true))
+      ⊎ (Needs s x f.other × (holds_under s values f.other ≡ false)) in
       record { other = f.other; second_is = f.second_is; is_other = f.is_other; broken = subst Broken same f.broken }
 
   -- the row of a variable, by another word for what breaks its meaning
-  pub row-is : (P : ℕ → Type 0) (o : Option ℕ) → ((w : ℕ) → P w → IsBrokenBy s values m w) → ((w : ℕ) → IsBrokenBy s values m w → P w) → IsLeastIfAny P o → IsLeastIfAny (AreNoFuture s values v) o
+  pub row-is : (P : ℕ → Type 0) (o : Option ℕ) → ((w : ℕ) → P w → IsBrokenBy s values m w) → ((w : ℕ) → IsBrokenBy s values m w → P w) → IsLeastIfAny P o
+      → IsLeastIfAny (AreNoFuture s values v) o
   row-is P o to from least = least-shift P (AreNoFuture s values v) o (λ w p. row-from w (to w p)) (λ w f. from w (from-row w f)) least
 
 -- the new version of an entry
 pub new-of : (s : SpaceView) (r k j : ℕ) → IsMeaning s (Kept r k j) → IsMeaning s (New r k)
-new-of s r k j is = (within-from (λ (p : Package). IsSomeAnd (slice_get p.provides j) (λ entry. IsUsable s.repository.architecture entry.qualifier)) s.repository.packages r is.0, is.1)
+new-of s r k j is = (
+  within-from (λ (p : Package). IsSomeAnd (slice_get p.provides j) (λ entry. IsUsable s.repository.architecture entry.qualifier))
+      s.repository.packages r is.0,
+  is.1,
+)
 
 -- ---- by kinds
 
@@ -144,27 +167,49 @@ module _ (s : SpaceView) (values : List Bool) where
   now-needs (Fresh x k) is = is
 
   pub now-to : (w : ℕ) → IsChangeAt s values w → IsBrokenBy s values Now w
-  now-to w f = record { other = f.meaning; second_is = f.variable_is; is_other = f.holds.is_meaning; broken = inl (change-apart f.meaning f.change, f.holds.is_true) }
+  now-to w f = record {
+    other = f.meaning;
+    second_is = f.variable_is;
+    is_other = f.holds.is_meaning;
+    broken = inl (change-apart f.meaning f.change, f.holds.is_true);
+  }
 
   pub now-from : (w : ℕ) → IsBrokenBy s values Now w → IsChangeAt s values w
   now-from w f = elim f.broken [
-    | inl h ↦ record { meaning = f.other; variable_is = f.second_is; holds = record { is_meaning = f.is_other; is_true = h.1 }; change = apart-change f.other h.0 }
+    | inl h ↦ record {
+      meaning = f.other;
+      variable_is = f.second_is;
+      holds = record { is_meaning = f.is_other; is_true = h.1 };
+      change = apart-change f.other h.0;
+    }
     | inr h ↦ absurd (now-needs f.other h.0)
   ]
 
   -- numbered meanings that exclude one
-  pub held-to : (m : Meaning) (numbered : ℕ → Meaning) (start : ℕ) → ((k : ℕ) → start ≤ k → AreApart s m (numbered k)) → (w : ℕ) → IsHeldFrom s values numbered start w → IsBrokenBy s values m w
-  held-to m numbered start apart w f = record { other = numbered f.number; second_is = f.variable_is; is_other = f.holds.is_meaning; broken = inl (apart f.number f.from, f.holds.is_true) }
+  pub held-to : (m : Meaning) (numbered : ℕ → Meaning) (start : ℕ) → ((k : ℕ) → start ≤ k → AreApart s m (numbered k)) → (w : ℕ)
+      → IsHeldFrom s values numbered start w → IsBrokenBy s values m w
+  held-to m numbered start apart w f = record {
+    other = numbered f.number;
+    second_is = f.variable_is;
+    is_other = f.holds.is_meaning;
+    broken = inl (apart f.number f.from, f.holds.is_true);
+  }
 
   abbrev IsOneFrom : (ℕ → Meaning) → ℕ → Meaning → Type 0
   IsOneFrom numbered start other = (k : ℕ) × (start ≤ k) × (other ≡ numbered k)
 
-  pub held-from : (m : Meaning) (numbered : ℕ → Meaning) (start : ℕ) → ((other : Meaning) → ¬ Needs s m other) → ((other : Meaning) → AreApart s m other → IsOneFrom numbered start other) → (w : ℕ) → IsBrokenBy s values m w
+  pub held-from : (m : Meaning) (numbered : ℕ → Meaning) (start : ℕ) → ((other : Meaning) → ¬ Needs s m other)
+      → ((other : Meaning) → AreApart s m other → IsOneFrom numbered start other) → (w : ℕ) → IsBrokenBy s values m w
       → IsHeldFrom s values numbered start w
   held-from m numbered start never one w f = elim f.broken [
     | inl h ↦
         let is = one f.other h.0 in
-        record { number = is.0; from = is.1; variable_is = sym (ap (variable_of s) is.2) ∙ f.second_is; holds = subst (Holds s values) is.2 (record { is_meaning = f.is_other; is_true = h.1 }) }
+        record {
+          number = is.0;
+          from = is.1;
+          variable_is = sym (ap (variable_of s) is.2) ∙ f.second_is;
+          holds = subst (Holds s values) is.2 (record { is_meaning = f.is_other; is_true = h.1 });
+        }
     | inr h ↦ absurd (never f.other h.0)
   ]
 
@@ -172,7 +217,8 @@ module _ (s : SpaceView) (values : List Bool) where
   pub lacking-to : (m n : Meaning) → IsMeaning s n → Needs s m n → (w : ℕ) → IsLacking s values n w → IsBrokenBy s values m w
   lacking-to m n is needs w f = record { other = n; second_is = f.0; is_other = is; broken = inr (needs, f.1) }
 
-  pub lacking-from : (m n : Meaning) → ((other : Meaning) → ¬ AreApart s m other) → ((other : Meaning) → Needs s m other → other ≡ n) → (w : ℕ) → IsBrokenBy s values m w → IsLacking s values n w
+  pub lacking-from : (m n : Meaning) → ((other : Meaning) → ¬ AreApart s m other) → ((other : Meaning) → Needs s m other → other ≡ n) → (w : ℕ)
+      → IsBrokenBy s values m w → IsLacking s values n w
   lacking-from m n never one w f = elim f.broken [
     | inl h ↦ absurd (never f.other h.0)
     | inr h ↦ let is = one f.other h.0 in (sym (ap (variable_of s) is) ∙ f.second_is, sym (ap (holds_under s values) is) ∙ h.1)

@@ -1,5 +1,6 @@
 -- Lists of the packages that meanings give.
-use Rattle.std.proofs.Common.{◌≡◌, ℕ, zero, suc, ◌<◌, Bool, true, false, List, [], ◌∷◌, Option, Some, None, length, get_or, refl, ap, subst, ◌∙◌, inl, inr, arith, slice_get}
+use Rattle.std.proofs.Common.{◌≡◌, ℕ, zero, suc, ◌<◌, Bool, true, false, List, [], ◌∷◌, Option, Some, None, length, get_or, refl, ap, subst, ◌∙◌, inl, inr}
+use Rattle.std.proofs.Common.{arith, slice_get}
 use Rattle.std.specs.Prelude.{All, AllPairs, Contains, filter_map, ◌&&◌, if◌then◌else◌}
 use Rattle.std.proofs.lemmas.Bool.{cases_lt, false≢true}
 use Rattle.std.proofs.lemmas.Option.{same_Some}
@@ -26,7 +27,8 @@ module _ {X Y : Type 0} (h : X → Option Y) where
   later : (x : X) (xs : List X) (y : Y) → IsMadeOf xs y → IsMadeOf (x ∷ xs) y
   later x xs y made = record { place = suc made.place; source = made.source; is = made.is; gives = made.gives }
 
-  from-cons : (x : X) (xs : List X) (y : Y) (o : Option Y) → h x ≡ o → (Contains (filter_map h xs) y → IsMadeOf xs y) → Contains (cons_option o (filter_map h xs)) y → IsMadeOf (x ∷ xs) y
+  from-cons : (x : X) (xs : List X) (y : Y) (o : Option Y) → h x ≡ o → (Contains (filter_map h xs) y → IsMadeOf xs y)
+      → Contains (cons_option o (filter_map h xs)) y → IsMadeOf (x ∷ xs) y
   from-cons x xs y None is rest there = later x xs y (rest there)
   from-cons x xs y (Some z) is rest (zero, short, same) = record { place = 0; source = x; is = refl; gives = is ∙ ap (λ (w : Y). Some w) same }
   from-cons x xs y (Some z) is rest (suc k, short, same) = later x xs y (rest (k, omega (arith, short), same))
@@ -66,7 +68,8 @@ module _ {X Y : Type 0} (h : X → Option Y) where
   made-pairs R [] related = λ i j d less short. absurd (omega (arith, short))
   made-pairs R (x ∷ xs) related =
       pairs-cons R (h x) (filter_map h xs)
-      (λ y gives. all-contained (R y) (filter_map h xs) (λ q there. let made = made-of xs q there in related 0 (suc made.place) x made.source y q (omega arith) refl made.is gives made.gives))
+      (λ y gives. all-contained (R y) (filter_map h xs) (λ q there. let made = made-of xs q there in
+      related 0 (suc made.place) x made.source y q (omega arith) refl made.is gives made.gives))
       (made-pairs R xs (λ i j a b p q less. related (suc i) (suc j) a b p q (omega (arith, less))))
 
 -- ---- choices
@@ -115,27 +118,37 @@ and-both : (a b : Bool) → a ≡ true → b ≡ true → (a && b) ≡ true
 and-both true b first second = second
 and-both false b first second = first
 
-pub flag-at : (architecture : Option (List ℕ)) (test : ℕ → Bool) (entries : List Provide) (j : ℕ) → slice_get (flags_from architecture test entries) j ≡ Some true → test j ≡ true
+pub flag-at : (architecture : Option (List ℕ)) (test : ℕ → Bool) (entries : List Provide) (j : ℕ)
+    → slice_get (flags_from architecture test entries) j ≡ Some true → test j ≡ true
 flag-at architecture test [] j is = absurd (let none : None ≡ Some true = is in cc)
-flag-at architecture test (entry ∷ entries) zero is = and-right (is_usable architecture entry.qualifier) (test 0) (same_Some (is_usable architecture entry.qualifier && test 0) true is)
+flag-at architecture test (entry ∷ entries) zero is = and-right (is_usable architecture entry.qualifier) (test 0)
+    (same_Some (is_usable architecture entry.qualifier && test 0) true is)
 flag-at architecture test (entry ∷ entries) (suc j) is = flag-at architecture (λ k. test (suc k)) entries j is
 
-pub flag-is : (architecture : Option (List ℕ)) (test : ℕ → Bool) (entries : List Provide) (j : ℕ) (entry : Provide) → slice_get entries j ≡ Some entry → is_usable architecture entry.qualifier ≡ true → test j ≡ true
+pub flag-is : (architecture : Option (List ℕ)) (test : ℕ → Bool) (entries : List Provide) (j : ℕ) (entry : Provide) → slice_get entries j ≡ Some entry
+    → is_usable architecture entry.qualifier ≡ true → test j ≡ true
     → slice_get (flags_from architecture test entries) j ≡ Some true
 flag-is architecture test [] j entry at usable is = absurd (let none : None ≡ Some entry = at in cc)
 flag-is architecture test (first ∷ entries) zero entry at usable is =
     let same : entry ≡ first = cc in
-    ap (λ (b : Bool). Some b) (and-both (is_usable architecture first.qualifier) (test 0) (subst (λ (e : Provide). is_usable architecture e.qualifier ≡ true) same usable) is)
+    ap (λ (b : Bool). Some b) (and-both (is_usable architecture first.qualifier) (test 0)
+    (subst (λ (e : Provide). is_usable architecture e.qualifier ≡ true) same usable) is)
 flag-is architecture test (first ∷ entries) (suc j) entry at usable is = flag-is architecture (λ k. test (suc k)) entries j entry at usable is
 
 pub length-flags : (architecture : Option (List ℕ)) (test : ℕ → Bool) (entries : List Provide) → length (flags_from architecture test entries) ≡ length entries
 length-flags architecture test [] = refl
 length-flags architecture test (entry ∷ entries) = ap suc (length-flags architecture (λ k. test (suc k)) entries)
 
-pub kept-carried : (old new : List ℕ) (flags : List Bool) (entries : List Provide) → IsVersion new → length flags ≡ length entries → AreCarried old new flags entries (kept_entries old new flags entries)
+pub kept-carried : (old new : List ℕ) (flags : List Bool) (entries : List Provide) → IsVersion new → length flags ≡ length entries
+    → AreCarried old new flags entries (kept_entries old new flags entries)
 kept-carried old new [] [] is same = refl
 kept-carried old new [] (entry ∷ entries) is same = absurd (omega (arith, same))
 kept-carried old new (flag ∷ flags) [] is same = absurd (omega (arith, same))
-kept-carried old new (true ∷ flags) (entry ∷ entries) is same =
-    (moved_entry old new entry, kept_entries old new flags entries, refl, moved-carried old new entry is, kept-carried old new flags entries is (omega (arith, same)))
+kept-carried old new (true ∷ flags) (entry ∷ entries) is same = (
+  moved_entry old new entry,
+  kept_entries old new flags entries,
+  refl,
+  moved-carried old new entry is,
+  kept-carried old new flags entries is (omega (arith, same)),
+)
 kept-carried old new (false ∷ flags) (entry ∷ entries) is same = kept-carried old new flags entries is (omega (arith, same))

@@ -27,12 +27,14 @@ module _ (s : SpaceView) (values : List Bool) where
     pub is : slice_get atoms place ≡ Some atom
     pub found : IsAny s values atom (Some number) v
 
-  pub rejected-one : (number : ℕ) (atoms : List Atom) (place : ℕ) (atom : Atom) (o : Option ℕ) → slice_get atoms place ≡ Some atom → IsLeastIfAny (IsAny s values atom (Some number)) o → IsLeastIfAny (RejectedAt number atoms place) o
+  pub rejected-one : (number : ℕ) (atoms : List Atom) (place : ℕ) (atom : Atom) (o : Option ℕ) → slice_get atoms place ≡ Some atom
+      → IsLeastIfAny (IsAny s values atom (Some number)) o → IsLeastIfAny (RejectedAt number atoms place) o
   rejected-one number atoms place atom o is least =
       least-shift (IsAny s values atom (Some number)) (RejectedAt number atoms place) o (λ v any. record { atom = atom; is = is; found = any })
       (λ v f. let same : f.atom ≡ atom = same_Some f.atom atom (sym f.is ∙ is) in subst (λ (a : Atom). IsAny s values a (Some number) v) same f.found) least
 
-  pub rejected-all : (number : ℕ) (atoms : List Atom) (count : ℕ) (o : Option ℕ) → length atoms ≤ count → IsLeastIfAny (Before (RejectedAt number atoms) count) o → IsLeastIfAny (IsRejectedBy s values number atoms) o
+  pub rejected-all : (number : ℕ) (atoms : List Atom) (count : ℕ) (o : Option ℕ) → length atoms ≤ count
+      → IsLeastIfAny (Before (RejectedAt number atoms) count) o → IsLeastIfAny (IsRejectedBy s values number atoms) o
   rejected-all number atoms count o past least =
       least-shift (Before (RejectedAt number atoms) count) (IsRejectedBy s values number atoms) o
       (λ v f.
@@ -50,7 +52,14 @@ module _ (s : SpaceView) (values : List Bool) where
       let inside = slice_get_within atoms at.place at.element at.is in (
         at.place,
         omega (arith, past, inside),
-        record { atom = at.element; is = at.is; found = (at.holds.0, record { meaning = f.meaning; variable_is = f.variable_is; holds = f.holds; matched = at.holds.1; kind = f.other }) },
+        record {
+          atom = at.element;
+          is = at.is;
+          found = (
+            at.holds.0,
+            record { meaning = f.meaning; variable_is = f.variable_is; holds = f.holds; matched = at.holds.1; kind = f.other },
+          );
+        },
       ))
       least
 
@@ -62,7 +71,8 @@ module _ (s : SpaceView) (values : List Bool) where
   pub other-rejected : (v : ℕ) (m : Meaning) → IsMeaningOf s v m → ((n : ℕ) → ¬ (m ≡ Present n)) → (k : ℕ) → ¬ IsRejectedFrom s values v k
   other-rejected v m of not k f = not f.number (sym (meaning-holds s values m (Present f.number) v of f.installed f.first_is))
 
-  pub rejected-row : (v n : ℕ) (p : Package) (o : Option ℕ) → IsMeaningOf s v (Present n) → Holds s values (Present n) → slice_get s.repository.packages n ≡ Some p → IsLeastIfAny (IsRejectedBy s values n p.conflicts) o
+  pub rejected-row : (v n : ℕ) (p : Package) (o : Option ℕ) → IsMeaningOf s v (Present n) → Holds s values (Present n)
+      → slice_get s.repository.packages n ≡ Some p → IsLeastIfAny (IsRejectedBy s values n p.conflicts) o
       → IsLeastIfAny (IsRejectedFrom s values v) o
   rejected-row v n p o of holds is least =
       least-shift (IsRejectedBy s values n p.conflicts) (IsRejectedFrom s values v) o

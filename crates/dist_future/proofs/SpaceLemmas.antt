@@ -35,7 +35,8 @@ class_at-same classes k v w same is =
 
 -- ---- one package of a name
 
-pub one-of-name : (packages : List Package) (p q : Package) → AllPairs (λ (a b : Package). a.name ≢ b.name) packages → Contains packages p → Contains packages q → p.name ≡ q.name → p ≡ q
+pub one-of-name : (packages : List Package) (p q : Package) → AllPairs (λ (a b : Package). a.name ≢ b.name) packages → Contains packages p → Contains packages q
+    → p.name ≡ q.name → p ≡ q
 one-of-name packages p q apart first second same =
     let a = place-of packages p first in
     let b = place-of packages q second in
@@ -44,7 +45,8 @@ one-of-name packages p q apart first second same =
     let also = b.is in cc
 
 module _ (s : SpaceView) (frame : IsFrame s) where
-  pub clustered-same : (m n : ℕ) (p q : Package) → slice_get s.repository.packages m ≡ Some p → slice_get s.repository.packages n ≡ Some q → AreClustered (member_of p) (member_of q)
+  pub clustered-same : (m n : ℕ) (p q : Package) → slice_get s.repository.packages m ≡ Some p → slice_get s.repository.packages n ≡ Some q
+      → AreClustered (member_of p) (member_of q)
       → slice_index s.cluster_of n ≡ slice_index s.cluster_of m
   clustered-same m n p q is_p is_q clustered =
       let c = slice_index s.cluster_of m in
@@ -54,9 +56,11 @@ module _ (s : SpaceView) (frame : IsFrame s) where
       at-has Second (map member_of s.repository.packages) m (member_of p) (member-at s frame m p is_p)
       (at-has (λ b. AreClustered (member_of p) b) (map member_of s.repository.packages) n (member_of q) (member-at s frame n q is_q) clustered) in
       let there = (whole-at s frame c m has.within has.there n).1 together in
-      placed-in s frame c n (at-has (λ (cluster : List ℕ). Contains cluster n) s.clusters.members c (get_or s.clusters.members c []) (slice_get-get_or s.clusters.members c [] has.within) there)
+      placed-in s frame c n (at-has (λ (cluster : List ℕ). Contains cluster n) s.clusters.members c (get_or s.clusters.members c [])
+      (slice_get-get_or s.clusters.members c [] has.within) there)
 
-  pub same-clustered : (m n : ℕ) (p q : Package) → slice_get s.repository.packages m ≡ Some p → slice_get s.repository.packages n ≡ Some q → slice_index s.cluster_of n ≡ slice_index s.cluster_of m
+  pub same-clustered : (m n : ℕ) (p q : Package) → slice_get s.repository.packages m ≡ Some p → slice_get s.repository.packages n ≡ Some q
+      → slice_index s.cluster_of n ≡ slice_index s.cluster_of m
       → AreClustered (member_of p) (member_of q)
   same-clustered m n p q is_p is_q same =
       let c = slice_index s.cluster_of m in
@@ -73,17 +77,25 @@ module _ (s : SpaceView) (frame : IsFrame s) where
   top-is : (c : ℕ) → c < length s.clusters.members → IsTop (map member_of s.repository.packages) (get_or s.clusters.members c []) (get_or s.clusters.tops c [])
   top-is c short = frame.clusters.tops.each c short
 
-  pub above-top : (m : ℕ) (p : Package) (v : List ℕ) → slice_get s.repository.packages m ≡ Some p → IsBelow (get_or s.clusters.tops (slice_index s.cluster_of m) []) v → IsBelow p.version v
+  pub above-top : (m : ℕ) (p : Package) (v : List ℕ) → slice_get s.repository.packages m ≡ Some p
+      → IsBelow (get_or s.clusters.tops (slice_index s.cluster_of m) []) v → IsBelow p.version v
   above-top m p v is above =
       let c = slice_index s.cluster_of m in
       let has = has-cluster s frame m (slice_get_within s.repository.packages m p is) in
       let at = place-of (get_or s.clusters.members c []) m has.there in
       let Has : ℕ → Type 0 = λ n. IsSomeAnd (slice_get (map member_of s.repository.packages) n) (λ (a : Member). a.version ≡ p.version) in
-      let in_cluster : IsVersionIn (map member_of s.repository.packages) (get_or s.clusters.members c []) p.version =
-      (has.there.0, m, has.there.1, has.there.2, at-has (λ (a : Member). a.version ≡ p.version) (map member_of s.repository.packages) m (member_of p) (member-at s frame m p is) refl) in
+      let in_cluster : IsVersionIn (map member_of s.repository.packages) (get_or s.clusters.members c []) p.version = (
+        has.there.0,
+        m,
+        has.there.1,
+        has.there.2,
+        at-has (λ (a : Member). a.version ≡ p.version) (map member_of s.repository.packages) m (member_of p)
+            (member-at s frame m p is) refl,
+      ) in
       not-above_below (get_or s.clusters.tops c []) p.version v ((top-is c has.within).greatest p.version in_cluster) above
 
-  pub top-below : (m : ℕ) (p : Package) (v : List ℕ) → slice_get s.repository.packages m ≡ Some p → IsAboveCluster s.repository p v → IsBelow (get_or s.clusters.tops (slice_index s.cluster_of m) []) v
+  pub top-below : (m : ℕ) (p : Package) (v : List ℕ) → slice_get s.repository.packages m ≡ Some p → IsAboveCluster s.repository p v
+      → IsBelow (get_or s.clusters.tops (slice_index s.cluster_of m) []) v
   top-below m p v is above =
       let c = slice_index s.cluster_of m in
       let has = has-cluster s frame m (slice_get_within s.repository.packages m p is) in
@@ -92,10 +104,14 @@ module _ (s : SpaceView) (frame : IsFrame s) where
       let there = (top-is c has.within).there in
       let in_cluster : Contains (get_or s.clusters.members c []) there.1 = (there.0, there.2, there.3) in
       let q = in-package s frame c there.1 has.within in_cluster in
-      let version : (member_of q.package_is).version ≡ top = has-at (λ (a : Member). a.version ≡ top) (map member_of s.repository.packages) there.1 (member_of q.package_is) (member-at s frame there.1 q.package_is q.is) there.4 in
-      let is_in : IsIn s.clusters.members c there.1 = at-has (λ (cluster : List ℕ). Contains cluster there.1) s.clusters.members c (get_or s.clusters.members c []) (slice_get-get_or s.clusters.members c [] has.within) in_cluster in
+      let version : (member_of q.package_is).version ≡ top =
+      has-at (λ (a : Member). a.version ≡ top) (map member_of s.repository.packages) there.1 (member_of q.package_is)
+      (member-at s frame there.1 q.package_is q.is) there.4 in
+      let is_in : IsIn s.clusters.members c there.1 = at-has (λ (cluster : List ℕ). Contains cluster there.1) s.clusters.members c
+      (get_or s.clusters.members c []) (slice_get-get_or s.clusters.members c [] has.within) in_cluster in
       let clustered = same-clustered m there.1 p q.package_is is q.is (placed-in s frame c there.1 is_in) in
-      subst (λ (t : List ℕ). IsBelow t v) version (above.above q.package_is (record { there = contains-at s.repository.packages there.1 q.package_is q.is; clustered = clustered }))
+      subst (λ (t : List ℕ). IsBelow t v) version (above.above q.package_is
+      (record { there = contains-at s.repository.packages there.1 q.package_is q.is; clustered = clustered }))
 
 -- ---- classes of a cluster
 
@@ -117,7 +133,8 @@ module _ (laws : ClassLaws) (s : SpaceView) (frame : IsFrame s) where
       let are = frame.classes c short in
       laws.below (get_or s.clusters.tops c []) are.cuts are.rising v k (subst (λ (classes : List Class). IsOfClassAt classes k v) are.are is)
 
-  pub one-class : (c k l : ℕ) (v : List ℕ) → c < length s.clusters.members → IsOfClassAt (cluster_classes s c) k v → IsOfClassAt (cluster_classes s c) l v → k ≡ l
+  pub one-class : (c k l : ℕ) (v : List ℕ) → c < length s.clusters.members → IsOfClassAt (cluster_classes s c) k v → IsOfClassAt (cluster_classes s c) l v
+      → k ≡ l
   one-class c k l v short first second =
       let one = one-of c v short (class-above c k v short first) in
       one.alone k first ∙ sym (one.alone l second)

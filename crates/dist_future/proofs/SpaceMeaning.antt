@@ -1,5 +1,6 @@
 -- The models of a space's clauses stand for futures.
-use Rattle.std.proofs.Common.{◌≡◌, ℕ, ◌<◌, Bool, true, List, [], ◌∷◌, Option, Some, None, Equal, length, get_or, refl, sym, ap, subst, ◌∙◌, inl, inr, arith, slice_get}
+use Rattle.std.proofs.Common.{◌≡◌, ℕ, ◌<◌, Bool, true, List, [], ◌∷◌, Option, Some, None, Equal, length, get_or, refl, sym, ap, subst, ◌∙◌, inl, inr, arith}
+use Rattle.std.proofs.Common.{slice_get}
 use Rattle.std.specs.Prelude.{All, Contains, slice_index}
 use Rattle.std.proofs.lemmas.Bool.{cases_lt}
 use Rattle.std.proofs.lemmas.List.Elements.{All-cons, All-head, All-nil, All-tail}
@@ -33,16 +34,22 @@ use Rattle.dist_classes.specs.VersionOrder.{equal-back}
 module _ (laws : ClassLaws) (s : SpaceView) (space : IsSpace s) where
   -- ---- the fates of clusters in a future
 
-  in-cluster : (m n : ℕ) (p q : Package) → slice_get s.repository.packages m ≡ Some p → slice_get s.repository.packages n ≡ Some q → slice_index s.cluster_of n ≡ slice_index s.cluster_of m → IsInClusterOf s.repository p q
-  in-cluster m n p q is_p is_q same = record { there = contains-at s.repository.packages n q is_q; clustered = same-clustered s space.frame m n p q is_p is_q same }
+  in-cluster : (m n : ℕ) (p q : Package) → slice_get s.repository.packages m ≡ Some p → slice_get s.repository.packages n ≡ Some q
+      → slice_index s.cluster_of n ≡ slice_index s.cluster_of m → IsInClusterOf s.repository p q
+  in-cluster m n p q is_p is_q same = record {
+    there = contains-at s.repository.packages n q is_q;
+    clustered = same-clustered s space.frame m n p q is_p is_q same;
+  }
 
   abbrev HasFate : List Package → ℕ → Type 0
   HasFate future c = (o : Option ℕ) × IsFate s future c o
 
-  stays-fate : (future : List Package) (m : ℕ) (p : Package) → slice_get s.repository.packages m ≡ Some p → Stays s.repository future p → HasFate future (slice_index s.cluster_of m)
+  stays-fate : (future : List Package) (m : ℕ) (p : Package) → slice_get s.repository.packages m ≡ Some p → Stays s.repository future p
+      → HasFate future (slice_index s.cluster_of m)
   stays-fate future m p is stays = (None, λ n q x is_q same there name. stays q x (in-cluster m n p q is is_q same) there name)
 
-  moves-fate : (future : List Package) (m : ℕ) (p : Package) → slice_get s.repository.packages m ≡ Some p → Moves s.repository future p → HasFate future (slice_index s.cluster_of m)
+  moves-fate : (future : List Package) (m : ℕ) (p : Package) → slice_get s.repository.packages m ≡ Some p → Moves s.repository future p
+      → HasFate future (slice_index s.cluster_of m)
   moves-fate future m p is moves =
       let c = slice_index s.cluster_of m in
       let has = has-cluster s space.frame m (slice_get_within s.repository.packages m p is) in
@@ -61,9 +68,11 @@ module _ (laws : ClassLaws) (s : SpaceView) (space : IsSpace s) where
         let there = contains-at (get_or s.clusters.members c []) 0 first.element first.is in
         let p = in-package s space.frame c first.element short there in
         let is_in : IsIn s.clusters.members c first.element =
-        at-has (λ (cluster : List ℕ). Contains cluster first.element) s.clusters.members c (get_or s.clusters.members c []) (slice_get-get_or s.clusters.members c [] short) there in
+        at-has (λ (cluster : List ℕ). Contains cluster first.element) s.clusters.members c (get_or s.clusters.members c [])
+        (slice_get-get_or s.clusters.members c [] short) there in
         let same : slice_index s.cluster_of first.element ≡ c = placed-in s space.frame c first.element is_in in
-        let fate : HasFate future (slice_index s.cluster_of first.element) = elim (is_future.clusters p.package_is (contains-at s.repository.packages first.element p.package_is p.is)) [
+        let fate : HasFate future (slice_index s.cluster_of first.element) =
+        elim (is_future.clusters p.package_is (contains-at s.repository.packages first.element p.package_is p.is)) [
           | inl stays ↦ stays-fate future first.element p.package_is p.is stays
           | inr moves ↦ moves-fate future first.element p.package_is p.is moves
         ] in
@@ -72,7 +81,8 @@ module _ (laws : ClassLaws) (s : SpaceView) (space : IsSpace s) where
 
   -- ---- from a future to a model
 
-  seen-by : (future members : List Package) (is_future : IsFuture s.repository future) → IsInstallationOf s.essential s.repository future members → IsSeen s future members ⊥ (λ c. (fate-of future is_future c).0)
+  seen-by : (future members : List Package) (is_future : IsFuture s.repository future) → IsInstallationOf s.essential s.repository future members
+      → IsSeen s future members ⊥ (λ c. (fate-of future is_future c).0)
   seen-by future members is_future healthy = record {
     flat = is_future.one_of_a_name;
     healthy = healthy;
@@ -86,7 +96,13 @@ module _ (laws : ClassLaws) (s : SpaceView) (space : IsSpace s) where
   seen-today : (members : List Package) → IsInstallation s.essential s.repository members → IsSeen s s.repository.packages members (Unit {0}) (λ c. None)
   seen-today members healthy = record {
     flat = space.frame.flat;
-    healthy = record { chosen = healthy.chosen; one_of_a_name = healthy.one_of_a_name; met = healthy.met; no_conflict = healthy.no_conflict; has_required = healthy.has_required };
+    healthy = record {
+      chosen = healthy.chosen;
+      one_of_a_name = healthy.one_of_a_name;
+      met = healthy.met;
+      no_conflict = healthy.no_conflict;
+      has_required = healthy.has_required;
+    };
     fates = λ c short m q n is same there name. one-of-name s.repository.packages n q space.frame.flat there (contains-at s.repository.packages m q is) name;
     fresh = λ n there not_taken. absurd (not_taken (any-contained (λ (q : Package). q.name ≡ n.name) s.repository.packages n there refl));
     now = inl tt;
@@ -101,7 +117,8 @@ module _ (laws : ClassLaws) (s : SpaceView) (space : IsSpace s) where
     abbrev two-true : (P : Meaning → Type 0) (m n : Meaning) → P m → P n → All P (m ∷ n ∷ [])
     two-true P m n first second = All-cons P m (n ∷ []) first (one-true P n second)
 
-    model-later : (n : ℕ) (p : Package) → slice_get s.repository.packages n ≡ Some p → IsInstallableLater s.essential s.repository p → HasModelWith s clauses (Present n ∷ [])
+    model-later : (n : ℕ) (p : Package) → slice_get s.repository.packages n ≡ Some p → IsInstallableLater s.essential s.repository p
+        → HasModelWith s clauses (Present n ∷ [])
     model-later n p is later =
         let seen = seen-by later.future later.installable.members later.is_future later.installable.healthy in
         let fate : ℕ → Option ℕ = λ c. (fate-of later.future later.is_future c).0 in
@@ -111,11 +128,14 @@ module _ (laws : ClassLaws) (s : SpaceView) (space : IsSpace s) where
           one_each = made.one_each;
           model = made.model;
           true_meanings = one-true (IsTrueMeaning s made.values) (Present n)
-              (made.holds (Present n) (slice_get_within s.repository.packages n p is) (at-has (λ (q : Package). Contains later.installable.members q) s.repository.packages n p is later.installable.holds));
+              (made.holds (Present n) (slice_get_within s.repository.packages n p is)
+              (at-has (λ (q : Package). Contains later.installable.members q) s.repository.packages n p is later.installable.holds));
         }
 
-    model-at : (n : ℕ) (p : Package) → slice_get s.repository.packages n ≡ Some p → (c k m : ℕ) (q : Package) → IsIn s.clusters.members c m → slice_get s.repository.packages m ≡ Some q
-        → (version : List ℕ) → IsOfClassAt (cluster_classes s c) k version → IsInstallableAt s.essential s.repository q version p → HasModelWith s clauses (Present n ∷ At c k ∷ [])
+    model-at : (n : ℕ) (p : Package) → slice_get s.repository.packages n ≡ Some p → (c k m : ℕ) (q : Package) → IsIn s.clusters.members c m
+        → slice_get s.repository.packages m ≡ Some q
+        → (version : List ℕ) → IsOfClassAt (cluster_classes s c) k version → IsInstallableAt s.essential s.repository q version p
+        → HasModelWith s clauses (Present n ∷ At c k ∷ [])
     model-at n p is c k m q is_in is_q version class later =
         let seen = seen-by later.future later.installable.members later.is_future later.installable.healthy in
         let fate : ℕ → Option ℕ = λ x. (fate-of later.future later.is_future x).0 in
@@ -131,23 +151,28 @@ module _ (laws : ClassLaws) (s : SpaceView) (space : IsSpace s) where
           | inl none ↦
               let stays : IsFate s later.future c None = subst (IsFate s later.future c) none fates in
               let same : x ≡ q = stays m q x is_q at there here.4.0 in
-              let equal : version_cmp version q.version ≡ Equal = equal-back q.version version (subst (λ (y : Package). version_cmp y.version version ≡ Equal) same here.4.1) in
-              absurd (never-at laws s space.frame m k q is_q (subst (λ (y : ℕ). IsOfClassAt (cluster_classes s y) k q.version) (sym at) (class_at-same (cluster_classes s c) k version q.version equal class)))
+              let equal : version_cmp version q.version ≡ Equal = equal-back q.version version
+              (subst (λ (y : Package). version_cmp y.version version ≡ Equal) same here.4.1) in
+              absurd (never-at laws s space.frame m k q is_q (subst (λ (y : ℕ). IsOfClassAt (cluster_classes s y) k q.version) (sym at)
+              (class_at-same (cluster_classes s c) k version q.version equal class)))
           | inr some ↦
               let moves : IsFate s later.future c (Some some.0) = subst (IsFate s later.future c) some.1 fates in
               let its = (moves m q x is_q at there here.4.0).1 in
-              some.1 ∙ ap (λ (y : ℕ). Some y) (one-class laws s space.frame c some.0 k version short (class_at-same (cluster_classes s c) some.0 x.version version here.4.1 its) class)
+              some.1 ∙ ap (λ (y : ℕ). Some y) (one-class laws s space.frame c some.0 k version short
+              (class_at-same (cluster_classes s c) some.0 x.version version here.4.1 its) class)
         ] in
         record {
           values = made.values;
           one_each = made.one_each;
           model = made.model;
           true_meanings = two-true (IsTrueMeaning s made.values) (Present n) (At c k)
-              (made.holds (Present n) (slice_get_within s.repository.packages n p is) (at-has (λ (y : Package). Contains later.installable.members y) s.repository.packages n p is later.installable.holds))
+              (made.holds (Present n) (slice_get_within s.repository.packages n p is)
+              (at-has (λ (y : Package). Contains later.installable.members y) s.repository.packages n p is later.installable.holds))
               (made.holds (At c k) (within-from (λ class. IsOfClass class version) (cluster_classes s c) k class) fate_is);
         }
 
-    model-today : (n : ℕ) (p : Package) → slice_get s.repository.packages n ≡ Some p → IsInstallable s.essential s.repository p → HasModelWith s clauses (Now ∷ Present n ∷ [])
+    model-today : (n : ℕ) (p : Package) → slice_get s.repository.packages n ≡ Some p → IsInstallable s.essential s.repository p
+        → HasModelWith s clauses (Now ∷ Present n ∷ [])
     model-today n p is today =
         let seen = seen-today today.members today.healthy in
         let made = future-model laws s space s.repository.packages today.members (Unit {0}) (λ c. None) seen clauses are in
@@ -157,7 +182,8 @@ module _ (laws : ClassLaws) (s : SpaceView) (space : IsSpace s) where
           model = made.model;
           true_meanings = two-true (IsTrueMeaning s made.values) Now (Present n)
               (made.holds Now tt tt)
-              (made.holds (Present n) (slice_get_within s.repository.packages n p is) (at-has (λ (y : Package). Contains today.members y) s.repository.packages n p is today.holds));
+              (made.holds (Present n) (slice_get_within s.repository.packages n p is)
+              (at-has (λ (y : Package). Contains today.members y) s.repository.packages n p is today.holds));
         }
 
     -- ---- from a model to a future
@@ -165,7 +191,8 @@ module _ (laws : ClassLaws) (s : SpaceView) (space : IsSpace s) where
     abbrev example_version : ℕ → ℕ → List ℕ
     example_version c k = example_at (cluster_classes s c) k
 
-    later-model : (n : ℕ) (p : Package) → slice_get s.repository.packages n ≡ Some p → HasModelWith s clauses (Present n ∷ []) → IsInstallableLater s.essential s.repository p
+    later-model : (n : ℕ) (p : Package) → slice_get s.repository.packages n ≡ Some p → HasModelWith s clauses (Present n ∷ [])
+        → IsInstallableLater s.essential s.repository p
     later-model n p is has =
         let holds : Meaning → Bool = λ m. value_of has.values (variable_of s m) in
         let met = met-from-model s has.values clauses are has.model in
@@ -180,12 +207,14 @@ module _ (laws : ClassLaws) (s : SpaceView) (space : IsSpace s) where
           };
         }
 
-    today-model : (n : ℕ) (p : Package) → slice_get s.repository.packages n ≡ Some p → HasModelWith s clauses (Now ∷ Present n ∷ []) → IsInstallable s.essential s.repository p
+    today-model : (n : ℕ) (p : Package) → slice_get s.repository.packages n ≡ Some p → HasModelWith s clauses (Now ∷ Present n ∷ [])
+        → IsInstallable s.essential s.repository p
     today-model n p is has =
         let holds : Meaning → Bool = λ m. value_of has.values (variable_of s m) in
         let met = met-from-model s has.values clauses are has.model in
         let now : holds Now ≡ true = All-head (IsTrueMeaning s has.values) Now (Present n ∷ []) has.true_meanings in
-        let present : holds (Present n) ≡ true = All-head (IsTrueMeaning s has.values) (Present n) [] (All-tail (IsTrueMeaning s has.values) Now (Present n ∷ []) has.true_meanings) in
+        let present : holds (Present n) ≡ true = All-head (IsTrueMeaning s has.values) (Present n) []
+        (All-tail (IsTrueMeaning s has.values) Now (Present n ∷ []) has.true_meanings) in
         record {
           members = installation_of s holds example_version;
           healthy = today-is laws s space holds example_version space.frame.examples met now;
@@ -209,10 +238,16 @@ module _ (laws : ClassLaws) (s : SpaceView) (space : IsSpace s) where
       version_for : ℕ → ℕ → List ℕ
       version_for d l = taken (is-asked d l) version (example_at (cluster_classes s d) l)
 
-      of-taken : (d l : ℕ) (o : IsDecided ((d ≡ c) × (l ≡ k))) → IsVersion version → IsOfClassAt (cluster_classes s c) k version → l < length (cluster_classes s d)
-          → IsVersion (taken o version (example_at (cluster_classes s d) l)) × IsOfClassAt (cluster_classes s d) l (taken o version (example_at (cluster_classes s d) l))
+      of-taken : (d l : ℕ) (o : IsDecided ((d ≡ c) × (l ≡ k))) → IsVersion version → IsOfClassAt (cluster_classes s c) k version
+          → l < length (cluster_classes s d)
+          → IsVersion (taken o version (example_at (cluster_classes s d) l))
+          × IsOfClassAt (cluster_classes s d) l (taken o version (example_at (cluster_classes s d) l))
       unfolding taken
-      of-taken d l (inl same) is class short = (is, subst (λ (x : ℕ). IsOfClassAt (cluster_classes s x) l version) (sym same.0) (subst (λ (x : ℕ). IsOfClassAt (cluster_classes s c) x version) (sym same.1) class))
+      of-taken d l (inl same) is class short = (
+        is,
+        subst (λ (x : ℕ). IsOfClassAt (cluster_classes s x) l version) (sym same.0)
+            (subst (λ (x : ℕ). IsOfClassAt (cluster_classes s c) x version) (sym same.1) class),
+      )
       of-taken d l (inr other) is class short = space.frame.examples d l short
 
       are-versions : IsVersion version → IsOfClassAt (cluster_classes s c) k version → AreVersions s version_for
@@ -223,14 +258,17 @@ module _ (laws : ClassLaws) (s : SpaceView) (space : IsSpace s) where
       unfolding version_for
       version-asked = taken-is (is-asked c k) version (example_at (cluster_classes s c) k) (refl, refl)
 
-      at-model : (n : ℕ) (p : Package) → slice_get s.repository.packages n ≡ Some p → (m : ℕ) (q : Package) → IsIn s.clusters.members c m → slice_get s.repository.packages m ≡ Some q
-          → IsVersion version → IsOfClassAt (cluster_classes s c) k version → HasModelWith s clauses (Present n ∷ At c k ∷ []) → IsInstallableAt s.essential s.repository q version p
+      at-model : (n : ℕ) (p : Package) → slice_get s.repository.packages n ≡ Some p → (m : ℕ) (q : Package) → IsIn s.clusters.members c m
+          → slice_get s.repository.packages m ≡ Some q
+          → IsVersion version → IsOfClassAt (cluster_classes s c) k version → HasModelWith s clauses (Present n ∷ At c k ∷ [])
+          → IsInstallableAt s.essential s.repository q version p
       at-model n p is m q is_in is_q is_version class has =
           let holds : Meaning → Bool = λ x. value_of has.values (variable_of s x) in
           let met = met-from-model s has.values clauses are has.model in
           let versions = are-versions is_version class in
           let present : holds (Present n) ≡ true = All-head (IsTrueMeaning s has.values) (Present n) (At c k ∷ []) has.true_meanings in
-          let at : holds (At c k) ≡ true = All-head (IsTrueMeaning s has.values) (At c k) [] (All-tail (IsTrueMeaning s has.values) (Present n) (At c k ∷ []) has.true_meanings) in
+          let at : holds (At c k) ≡ true = All-head (IsTrueMeaning s has.values) (At c k) []
+          (All-tail (IsTrueMeaning s has.values) (Present n) (At c k ∷ []) has.true_meanings) in
           let short = within-from (λ x. IsOfClass x version) (cluster_classes s c) k class in
           record {
             future = future_of s holds version_for;
@@ -247,7 +285,8 @@ module _ (laws : ClassLaws) (s : SpaceView) (space : IsSpace s) where
     pub stand-for-futures : StandForFutures s clauses
     stand-for-futures = record {
       later = λ n p is. (later-model n p is, model-later n p is);
-      at_version = λ n p is c k m q is_in is_q version is_version class. (at-model c k version n p is m q is_in is_q is_version class, model-at n p is c k m q is_in is_q version class);
+      at_version = λ n p is c k m q is_in is_q version is_version class.
+          (at-model c k version n p is m q is_in is_q is_version class, model-at n p is c k m q is_in is_q version class);
       today = λ n p is. (today-model n p is, model-today n p is);
     }
 

@@ -13,15 +13,23 @@ use Rattle.dist_space.specs.Space.{IsSpace, SpaceView, member_classes}
 use Rattle.dist_future.specs.Future.{IsTaken}
 use Rattle.dist_future.proofs.ClassMatch.{ClassLaws, IsMemberAt, member-at}
 
-pub member-of-class : (laws : ClassLaws) (s : SpaceView) (space : IsSpace s) (r k : ℕ) (q : Package) → slice_get s.repository.packages r ≡ Some q → k < length (member_classes s r) → IsMemberAt s r k q
-member-of-class laws s space r k q is short = member-at laws s space.frame r k q (has-cluster s space.frame r (slice_get_within s.repository.packages r q is)) is short
+pub member-of-class : (laws : ClassLaws) (s : SpaceView) (space : IsSpace s) (r k : ℕ) (q : Package) → slice_get s.repository.packages r ≡ Some q
+    → k < length (member_classes s r) → IsMemberAt s r k q
+member-of-class laws s space r k q is short = member-at laws s space.frame r k q (has-cluster s space.frame r (slice_get_within s.repository.packages r q is))
+    is short
 
-pub conflict-atom : (s : SpaceView) (r : ℕ) (p : Package) (place : ℕ) (atom : Atom) → slice_get s.repository.packages r ≡ Some p → slice_get p.conflicts place ≡ Some atom → IsUsable s.repository.architecture atom.qualifier → IsAtomOf s.repository atom
+pub conflict-atom : (s : SpaceView) (r : ℕ) (p : Package) (place : ℕ) (atom : Atom) → slice_get s.repository.packages r ≡ Some p
+    → slice_get p.conflicts place ≡ Some atom → IsUsable s.repository.architecture atom.qualifier → IsAtomOf s.repository atom
 conflict-atom s r p place atom is is_atom usable =
-    record { usable = usable; there = inr (any-at (λ (q : Package). Contains q.conflicts atom) s.repository.packages r p is (contains-at p.conflicts place atom is_atom)) }
+    record {
+      usable = usable;
+      there = inr (any-at (λ (q : Package). Contains q.conflicts atom) s.repository.packages r p is
+          (contains-at p.conflicts place atom is_atom));
+    }
 
 -- another name than that of a member
-pub other-name : (s : SpaceView) (o : ℕ) (q : Package) (name : List ℕ) → slice_get s.repository.packages o ≡ Some q → IsSomeAnd (option_map (λ (x : Package). x.name) (slice_get s.repository.packages o)) (λ n. n ≢ name) → q.name ≢ name
+pub other-name : (s : SpaceView) (o : ℕ) (q : Package) (name : List ℕ) → slice_get s.repository.packages o ≡ Some q
+    → IsSomeAnd (option_map (λ (x : Package). x.name) (slice_get s.repository.packages o)) (λ n. n ≢ name) → q.name ≢ name
 other-name s o q name is other =
     let Differs : Option Package → Type 0 = λ x. IsSomeAnd (option_map (λ (y : Package). y.name) x) (λ n. n ≢ name) in
     subst Differs is other

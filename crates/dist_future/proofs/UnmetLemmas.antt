@@ -1,5 +1,6 @@
 -- Which items of packages nothing meets.
-use Rattle.std.proofs.Common.{◌≡◌, ℕ, ◌+◌, ◌<◌, ◌≤◌, ◌^◌, Bool, false, List, Option, None, Some, length, sum_by, take, refl, sym, ap, subst, ◌∙◌, inl, inr, arith, slice_get}
+use Rattle.std.proofs.Common.{◌≡◌, ℕ, ◌+◌, ◌<◌, ◌≤◌, ◌^◌, Bool, false, List, Option, None, Some, length, sum_by, take, refl, sym, ap, subst, ◌∙◌, inl, inr}
+use Rattle.std.proofs.Common.{arith, slice_get}
 use Rattle.std.specs.Prelude.{IsSomeAnd}
 use Rattle.std.proofs.lemmas.Bool.{cases_lt}
 use Rattle.std.proofs.lemmas.List.Sums.{sum_by_more, sum_by-take-le, get_or-le-sum_by}
@@ -40,10 +41,16 @@ module _ (s : SpaceView) (values : List Bool) where
   abbrev pub IsNoneMet : List Atom → ℕ → Type 0
   IsNoneMet item count = (k : ℕ) (atom : Atom) → k < count → slice_get item k ≡ Some atom → (m : Meaning) → Holds s values m → ¬ IsMatched s atom m
 
-  pub any-met : (item : List Atom) (place v : ℕ) (atom : Atom) → slice_get item place ≡ Some atom → IsAny s values atom None v → SomeHolds s values (IsMetBy s item)
-  any-met item place v atom is found = record { meaning = found.1.meaning; holds = found.1.holds; has = any-at (λ a. IsMatched s a found.1.meaning) item place atom is (found.0, found.1.matched) }
+  pub any-met : (item : List Atom) (place v : ℕ) (atom : Atom) → slice_get item place ≡ Some atom → IsAny s values atom None v
+      → SomeHolds s values (IsMetBy s item)
+  any-met item place v atom is found = record {
+    meaning = found.1.meaning;
+    holds = found.1.holds;
+    has = any-at (λ a. IsMatched s a found.1.meaning) item place atom is (found.0, found.1.matched);
+  }
 
-  pub none-more : (item : List Atom) (place : ℕ) (atom : Atom) → slice_get item place ≡ Some atom → ((v : ℕ) → ¬ IsAny s values atom None v) → IsNoneMet item place → IsNoneMet item (place + 1)
+  pub none-more : (item : List Atom) (place : ℕ) (atom : Atom) → slice_get item place ≡ Some atom → ((v : ℕ) → ¬ IsAny s values atom None v)
+      → IsNoneMet item place → IsNoneMet item (place + 1)
   none-more item place atom is none before k other short at m holds matched = elim (cases_lt k place) [
     | inl less ↦ before k other less at m holds matched
     | inr past ↦
@@ -61,10 +68,12 @@ module _ (s : SpaceView) (values : List Bool) where
 
   -- ---- the items of a package
 
-  pub unmet-none : (items : List (List Atom)) (place : ℕ) (item : List Atom) → slice_get items place ≡ Some item → SomeHolds s values (IsMetBy s item) → ¬ IsUnmetItem s values items place
+  pub unmet-none : (items : List (List Atom)) (place : ℕ) (item : List Atom) → slice_get items place ≡ Some item → SomeHolds s values (IsMetBy s item)
+      → ¬ IsUnmetItem s values items place
   unmet-none items place item is met unmet = has-at (λ i. ¬ SomeHolds s values (IsMetBy s i)) items place item is unmet met
 
-  pub unmet-past : (items : List (List Atom)) (count : ℕ) → length items ≤ count → ((n : ℕ) → n < count → ¬ IsUnmetItem s values items n) → (n : ℕ) → ¬ IsUnmetItem s values items n
+  pub unmet-past : (items : List (List Atom)) (count : ℕ) → length items ≤ count → ((n : ℕ) → n < count → ¬ IsUnmetItem s values items n) → (n : ℕ)
+      → ¬ IsUnmetItem s values items n
   unmet-past items count past none n unmet =
       let at = here-at (λ i. ¬ SomeHolds s values (IsMetBy s i)) items n unmet in
       let inside = slice_get_within items n at.element at.is in
@@ -78,7 +87,8 @@ module _ (s : SpaceView) (values : List Bool) where
   pub other-unmet : (v : ℕ) (m : Meaning) → IsMeaningOf s v m → ((n : ℕ) → ¬ (m ≡ Present n)) → (k : ℕ) → ¬ IsUnmetAt s values v k
   other-unmet v m of not k f = not f.number (sym (meaning-holds s values m (Present f.number) v of f.installed f.variable_is))
 
-  pub unmet-row : (v n : ℕ) (p : Package) (o : Option ℕ) → IsMeaningOf s v (Present n) → Holds s values (Present n) → slice_get s.repository.packages n ≡ Some p → IsLeastIfAny (IsUnmetItem s values p.depends) o
+  pub unmet-row : (v n : ℕ) (p : Package) (o : Option ℕ) → IsMeaningOf s v (Present n) → Holds s values (Present n) → slice_get s.repository.packages n ≡ Some p
+      → IsLeastIfAny (IsUnmetItem s values p.depends) o
       → IsLeastIfAny (IsUnmetAt s values v) o
   unmet-row v n p o of holds is least =
       let Unmet : Package → List Atom → Type 0 = λ q item. ¬ SomeHolds s values (IsMetBy s item) in
@@ -105,12 +115,14 @@ module _ (s : SpaceView) (values : List Bool) where
 abbrev pub atom_count : List (List Atom) → ℕ
 atom_count items = sum_by (λ item. length item) items
 
-pub count-more : (items : List (List Atom)) (place : ℕ) (item : List Atom) → slice_get items place ≡ Some item → 0 < length item → place ≤ atom_count (take place items) → place + 1 ≤ atom_count (take (place + 1) items)
+pub count-more : (items : List (List Atom)) (place : ℕ) (item : List Atom) → slice_get items place ≡ Some item → 0 < length item
+    → place ≤ atom_count (take place items) → place + 1 ≤ atom_count (take (place + 1) items)
 count-more items place item is some few =
     let size : List Atom → ℕ = λ item. length item in
     omega (arith, few, some, sum_by_more size items place item (slice_get_within items place item is), ap size (get_or_from_slice_get items place item item is))
 
-pub place-fits : (r : PackageList) (number : ℕ) (p : Package) (place : ℕ) → IsWithinSize r → slice_get r.packages number ≡ Some p → place ≤ atom_count (take place p.depends) → place < 2 ^ 32
+pub place-fits : (r : PackageList) (number : ℕ) (p : Package) (place : ℕ) → IsWithinSize r → slice_get r.packages number ≡ Some p
+    → place ≤ atom_count (take place p.depends) → place < 2 ^ 32
 place-fits r number p place size is few =
     let within = slice_get_within r.packages number p is in
     omega (

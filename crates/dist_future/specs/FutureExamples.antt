@@ -1,5 +1,6 @@
 -- Worked examples of futures: a and b come from one source, b provides a menu and the interface abi at its own version.
-use Rattle.std.specs.Prelude.{◌≡◌, ◌≢◌, ◌⊎◌, ℕ, zero, suc, true, false, List, [], ◌∷◌, None, Some, AllPairs, Contains, codes, slice_index_or, refl}
+use Rattle.std.specs.Prelude.{◌≡◌, ◌≢◌, ◌⊎◌, ℕ, zero, suc, true, false, List, [], ◌∷◌, None, Some, AllPairs, Contains}
+use Rattle.std.specs.Prelude.{codes, slice_index_or, refl}
 use Rattle.std.specs.declared.cmp.Ordering.TheVariants.{Equal}
 use Rattle.std.proofs.Common.{ap, arith, inl, inr, lit<, subst, sym, ◌∙◌}
 use Rattle.std.proofs.lemmas.Cmp.{tied_back, tied_itself}
@@ -109,7 +110,13 @@ kept-second = (
   abi (codes "2"),
   [],
   refl,
-  record { name = refl; qualifier = refl; moved = λ at. abi-at-two; spelled = λ at. two-is-version; stays = λ other. absurd (other abi-at-one) },
+  record {
+    name = refl;
+    qualifier = refl;
+    moved = λ at. abi-at-two;
+    spelled = λ at. two-is-version;
+    stays = λ other. absurd (other abi-at-one);
+  },
   refl,
 )
 
@@ -119,15 +126,19 @@ new-a = ([], record { name = refl; version = two-is-version; provides = refl })
 new-b : IsNewOf b later_b
 new-b = (false ∷ true ∷ [], record { name = refl; version = two-is-version; provides = kept-second })
 
-both-are-new : (q n : Package) → Contains two.packages q → Contains (later_a ∷ later_b ∷ []) n → n.name ≡ q.name → IsNewOf q n × (version_cmp n.version (codes "2") ≡ Equal)
+both-are-new : (q n : Package) → Contains two.packages q → Contains (later_a ∷ later_b ∷ []) n → n.name ≡ q.name
+    → IsNewOf q n × (version_cmp n.version (codes "2") ≡ Equal)
 both-are-new q n there inside name = elim (one-of a b q there) [
   | inl old ↦ elim (one-of later_a later_b n inside) [
-    | inl new ↦ subst (λ (x : Package). IsNewOf x n × (version_cmp n.version (codes "2") ≡ Equal)) old (subst (λ (x : Package). IsNewOf a x × (version_cmp x.version (codes "2") ≡ Equal)) new (new-a, two-is-two))
-    | inr new ↦ absurd (a_is_not_b (ap (λ (x : Package). x.name) old ∙ sym name ∙ sym (ap (λ (x : Package). x.name) new)))
+    | inl new ↦ subst (λ (x : Package). IsNewOf x n × (version_cmp n.version (codes "2") ≡ Equal)) old
+        (subst (λ (x : Package). IsNewOf a x × (version_cmp x.version (codes "2") ≡ Equal)) new (new-a, two-is-two))
+    | inr new ↦ absurd (a_is_not_b (ap (λ (x : Package). x.name) old ∙ sym name
+        ∙ sym (ap (λ (x : Package). x.name) new)))
   ]
   | inr old ↦ elim (one-of later_a later_b n inside) [
     | inl new ↦ absurd (a_is_not_b (ap (λ (x : Package). x.name) new ∙ name ∙ sym (ap (λ (x : Package). x.name) old)))
-    | inr new ↦ subst (λ (x : Package). IsNewOf x n × (version_cmp n.version (codes "2") ≡ Equal)) old (subst (λ (x : Package). IsNewOf b x × (version_cmp x.version (codes "2") ≡ Equal)) new (new-b, two-is-two))
+    | inr new ↦ subst (λ (x : Package). IsNewOf x n × (version_cmp n.version (codes "2") ≡ Equal)) old
+        (subst (λ (x : Package). IsNewOf b x × (version_cmp x.version (codes "2") ≡ Equal)) new (new-b, two-is-two))
   ]
 ]
 
@@ -155,10 +166,24 @@ itself : (version : List ℕ) → version_cmp version version ≡ Equal
 itself version = tied_itself version_total version
 
 a-and-a : IsInClusterOf two a a
-a-and-a = record { there = (0, lit< tt, refl); clustered = record { source = refl; source_version = itself (codes "1"); version = itself (without_rebuild_text (codes "1")) } }
+a-and-a = record {
+  there = (0, lit< tt, refl);
+  clustered = record {
+    source = refl;
+    source_version = itself (codes "1");
+    version = itself (without_rebuild_text (codes "1"));
+  };
+}
 
 a-and-b : IsInClusterOf two a b
-a-and-b = record { there = (1, lit< tt, refl); clustered = record { source = refl; source_version = itself (codes "1"); version = itself (without_rebuild_text (codes "1")) } }
+a-and-b = record {
+  there = (1, lit< tt, refl);
+  clustered = record {
+    source = refl;
+    source_version = itself (codes "1");
+    version = itself (without_rebuild_text (codes "1"));
+  };
+}
 
 one_is_not_two : codes "2" ≢ codes "1"
 one_is_not_two e = let differ : 50 ≡ 49 = ap (λ (s : List ℕ). slice_index_or s 0 0) e in omega (arith, differ)
@@ -166,22 +191,27 @@ one_is_not_two e = let differ : 50 ≡ 49 = ap (λ (s : List ℕ). slice_index_o
 never-both : (v : List ℕ) → version_cmp (codes "2") v ≡ Equal → ¬ (version_cmp (codes "1") v ≡ Equal)
 never-both v two_is one_is =
     let back = tied_back version_total (codes "2") v two_is in
-    let equal : version_cmp (codes "1") (codes "2") ≡ Equal = version_total.congr (codes "1") v (codes "2") one_is ∙ back in
+    let equal : version_cmp (codes "1") (codes "2") ≡ Equal = version_total.congr (codes "1") v (codes "2") one_is
+    ∙ back in
     let less = one-below-two in cc
 
--- a at 2 beside b at 1 is none: neither do all packages with names of the cluster stay, nor are all at one later version.
+-- a at 2 beside b at 1 is none: neither do all packages with names of the cluster stay, nor are all at one later
+-- version.
 moved_alone : ¬ IsFuture two (later_a ∷ b ∷ [])
 moved_alone future = elim (future.clusters a (0, lit< tt, refl)) [
   | inl stays ↦ one_is_not_two (ap (λ (x : Package). x.version) (stays a later_a a-and-a (0, lit< tt, refl) refl))
-  | inr moves ↦ never-both moves.version (moves.moved a later_a a-and-a (0, lit< tt, refl) refl).1 (moves.moved b b a-and-b (1, lit< tt, refl) refl).1
+  | inr moves ↦ never-both moves.version (moves.moved a later_a a-and-a (0, lit< tt, refl) refl).1
+      (moves.moved b b a-and-b (1, lit< tt, refl) refl).1
 ]
 
 -- ---- a virtual name stays virtual
 
 no-package-is-menu : ¬ IsTaken two (codes "menu")
 no-package-is-menu taken_by = elim (one-of a b taken_by.1 (taken_by.0, taken_by.2, taken_by.3)) [
-  | inl is ↦ let differ : 97 ≡ 109 = ap (λ (s : List ℕ). slice_index_or s 0 0) (ap (λ (x : Package). x.name) is ∙ taken_by.4) in omega (arith, differ)
-  | inr is ↦ let differ : 98 ≡ 109 = ap (λ (s : List ℕ). slice_index_or s 0 0) (ap (λ (x : Package). x.name) is ∙ taken_by.4) in omega (arith, differ)
+  | inl is ↦ let differ : 97 ≡ 109 = ap (λ (s : List ℕ). slice_index_or s 0 0)
+      (ap (λ (x : Package). x.name) is ∙ taken_by.4) in omega (arith, differ)
+  | inr is ↦ let differ : 98 ≡ 109 = ap (λ (s : List ℕ). slice_index_or s 0 0)
+      (ap (λ (x : Package). x.name) is ∙ taken_by.4) in omega (arith, differ)
 ]
 
 -- No future has a package of the name menu, which b provides and no package has.

@@ -15,4 +15,5 @@ IsHealthyIn s values = IsFutureHealth s values Healthy
 -- The assignment stands for a future, and the installation that it stands for is a healthy one of that.
 pub record StandsForHealthy (s : SpaceView) (values : List Bool) : Type 0 where
   pub stands : IsNoPair (AreNoFuture s values)
-  pub healthy : IsInstallationOf s.essential s.repository (future_of s (holds_under s values) (examples_of s)) (installation_of s (holds_under s values) (examples_of s))
+  pub healthy : IsInstallationOf s.essential s.repository (future_of s (holds_under s values) (examples_of s))
+      (installation_of s (holds_under s values) (examples_of s))

@@ -15,12 +15,13 @@ IsLesserOf (Some a) None least = least ≡ Some a
 IsLesserOf (Some a) (Some b) least = IsSomeAnd least (λ n. (n ≤ a) × (n ≤ b) × ((n ≡ a) ⊎ (n ≡ b)))
 
 -- the variable of a meaning of some kind that holds, and that an atom matches
-pub record IsFound (s : SpaceView) (values : List Bool) (atom : Atom) (P : Meaning → Type 0) (variable : ℕ) : Type 0 where
-  pub meaning : Meaning
-  pub variable_is : variable_of s meaning ≡ variable
-  pub holds : Holds s values meaning
-  pub matched : IsMatchedBy s atom meaning
-  pub kind : P meaning
+pub record IsFound (s : SpaceView) (values : List Bool) (atom : Atom) (P : Meaning → Type 0) (variable : ℕ) : Type 0
+  where
+    pub meaning : Meaning
+    pub variable_is : variable_of s meaning ≡ variable
+    pub holds : Holds s values meaning
+    pub matched : IsMatchedBy s atom meaning
+    pub kind : P meaning
 
 -- the new versions of members, and their kept entries, but for those of one
 abbrev pub IsMovedBut : Option ℕ → Meaning → Type 0
@@ -79,12 +80,13 @@ abbrev pub IsUnmetItem : SpaceView → List Bool → List (List Atom) → ℕ �
 IsUnmetItem s values items place = IsSomeAnd (slice_get items place) (λ item. ¬ SomeHolds s values (IsMetBy s item))
 
 -- the variable of another package's meaning that holds, and that one of the atoms matches
-pub record IsRejectedBy (s : SpaceView) (values : List Bool) (number : ℕ) (atoms : List Atom) (variable : ℕ) : Type 0 where
-  pub meaning : Meaning
-  pub variable_is : variable_of s meaning ≡ variable
-  pub holds : Holds s values meaning
-  pub other : IsOther (Some number) meaning
-  pub matched : IsMetBy s atoms meaning
+pub record IsRejectedBy (s : SpaceView) (values : List Bool) (number : ℕ) (atoms : List Atom) (variable : ℕ) : Type 0
+  where
+    pub meaning : Meaning
+    pub variable_is : variable_of s meaning ≡ variable
+    pub holds : Holds s values meaning
+    pub other : IsOther (Some number) meaning
+    pub matched : IsMetBy s atoms meaning
 
 -- a package as it is today rejects what holds beside it
 pub record IsRejectedFrom (s : SpaceView) (values : List Bool) (first second : ℕ) : Type 0 where

@@ -1,4 +1,5 @@
--- Outdated packages, and versions that challenge packages (after Abate, Di Cosmo, Treinen and Zacchiroli, "Learning from the
+-- Outdated packages, and versions that challenge packages (after Abate, Di Cosmo, Treinen and Zacchiroli, "Learning
+-- from the
 -- future of component repositories", 2012), at mode essential or plain, for a flat repository.
 use Rattle.std.specs.Prelude.{◌≡◌, ℕ, Bool, List, Any, Contains}
 use Rattle.std.specs.declared.cmp.Ordering.TheVariants.{Equal}
@@ -13,7 +14,8 @@ use Rattle.dist_future.specs.Future.{IsInClusterOf, IsAboveCluster, IsFuture}
 
 -- a healthy installation of a future: at mode essential it has the names of the repository's essential packages
 abbrev pub IsInstallationOf : Bool → PackageList → (future members : List Package) → Type 0
-IsInstallationOf essential r future members = Healthy r.architecture (required_names essential r.packages) future members
+IsInstallationOf essential r future members =
+    Healthy r.architecture (required_names essential r.packages) future members
 
 -- Some healthy installation of the future holds the package itself.
 pub record IsInstallableIn (essential : Bool) (r : PackageList) (future : List Package) (p : Package) : Type 0 where
@@ -34,16 +36,19 @@ pub record IsOutdated (essential : Bool) (r : PackageList) (p : Package) : Type 
 
 -- a future holds the cluster of c at a version: each name of the cluster is in it, at an equal version
 abbrev pub HoldsCluster : PackageList → (future : List Package) → (c : Package) → (version : List ℕ) → Type 0
-HoldsCluster r future c version = (q : Package) → IsInClusterOf r c q → Any (λ n. (n.name ≡ q.name) × (version_cmp n.version version ≡ Equal)) future
+HoldsCluster r future c version = (q : Package) → IsInClusterOf r c q
+    → Any (λ n. (n.name ≡ q.name) × (version_cmp n.version version ≡ Equal)) future
 
 -- Some future that holds the cluster of c at a version has a healthy installation that holds the package itself.
-pub record IsInstallableAt (essential : Bool) (r : PackageList) (c : Package) (version : List ℕ) (p : Package) : Type 0 where
-  pub future : List Package
-  pub is_future : IsFuture r future
-  pub holds : HoldsCluster r future c version
-  pub installable : IsInstallableIn essential r future p
+pub record IsInstallableAt (essential : Bool) (r : PackageList) (c : Package) (version : List ℕ) (p : Package) : Type 0
+  where
+    pub future : List Package
+    pub is_future : IsFuture r future
+    pub holds : HoldsCluster r future c version
+    pub installable : IsInstallableIn essential r future p
 
--- A version above the top of the cluster of c challenges a package outside of that cluster: the package is installable today,
+-- A version above the top of the cluster of c challenges a package outside of that cluster: the package is installable
+-- today,
 -- and in no future that holds the cluster at that version. Other clusters may move in such a future too.
 pub record Challenges (essential : Bool) (r : PackageList) (c : Package) (version : List ℕ) (p : Package) : Type 0 where
   pub cluster : Contains r.packages c

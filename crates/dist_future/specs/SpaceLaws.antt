@@ -20,7 +20,8 @@ pub record HasModelWith (s : SpaceView) (clauses : List (List Literal)) (meaning
   pub model : IsModel (value_of values) clauses
   pub true_meanings : All (λ m. value_of values (variable_of s m) ≡ true) meanings
 
--- The models of the clauses stand for futures, for the futures that hold a cluster at a version, and for today's archive.
+-- The models of the clauses stand for futures, for the futures that hold a cluster at a version, and for today's
+-- archive.
 pub record StandForFutures (s : SpaceView) (clauses : List (List Literal)) : Type 0 where
   pub later : (n : ℕ) (p : Package) → slice_get s.repository.packages n ≡ Some p
       → HasModelWith s clauses (Present n ∷ []) ↔ IsInstallableLater s.essential s.repository p
@@ -42,4 +43,5 @@ examples_of s c k = example_at (cluster_classes s c) k
 -- The future and the installation that an assignment stands for are one, and a healthy installation in it.
 pub record StandsForFuture (s : SpaceView) (values : List Bool) : Type 0 where
   pub is_future : IsFuture s.repository (future_of s (holds_under s values) (examples_of s))
-  pub healthy : IsInstallationOf s.essential s.repository (future_of s (holds_under s values) (examples_of s)) (installation_of s (holds_under s values) (examples_of s))
+  pub healthy : IsInstallationOf s.essential s.repository (future_of s (holds_under s values) (examples_of s))
+      (installation_of s (holds_under s values) (examples_of s))

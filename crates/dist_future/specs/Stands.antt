@@ -1,5 +1,6 @@
 -- What an assignment stands for: a future, and an installation in it. New versions of a class are at one version of it.
-use Rattle.std.specs.Prelude.{ℕ, zero, suc, Bool, true, false, ◌&&◌, List, [], ◌∷◌, Option, None, Some, filter_map, length, slice_get, slice_index, if◌then◌else◌}
+use Rattle.std.specs.Prelude.{ℕ, zero, suc, Bool, true, false, ◌&&◌, List, [], ◌∷◌, Option, None, Some, filter_map}
+use Rattle.std.specs.Prelude.{length, slice_get, slice_index, if◌then◌else◌}
 use Rattle.std.specs.Option.{option_map}
 use Rattle.dist_relation.specs.declared.atom.Provide.{Provide}
 use Rattle.dist_repo.specs.declared.package.Package.{Package}
@@ -17,7 +18,12 @@ kept_entries old new (false ∷ flags) (entry ∷ entries) = kept_entries old ne
 
 -- a new version of a package, which depends on nothing and conflicts with nothing
 abbrev pub new_package : Package → List ℕ → List Bool → Package
-new_package p version flags = record p { version = version; depends = []; conflicts = []; provides = kept_entries p.version version flags p.provides }
+new_package p version flags = record p {
+  version = version;
+  depends = [];
+  conflicts = [];
+  provides = kept_entries p.version version flags p.provides;
+}
 
 -- a package of a new name
 abbrev pub fresh_package : (name version : List ℕ) → Package
@@ -44,7 +50,8 @@ first_true test (suc n) = or_else (first_true test n) (if test n then Some n els
 -- for each entry whether it is kept: it is usable, and a test of its place gives true
 abbrev pub flags_from : Option (List ℕ) → (ℕ → Bool) → List Provide → List Bool
 flags_from architecture test [] = []
-flags_from architecture test (entry ∷ entries) = (is_usable architecture entry.qualifier && test 0) ∷ flags_from architecture (λ j. test (suc j)) entries
+flags_from architecture test (entry ∷ entries) = (is_usable architecture entry.qualifier && test 0)
+    ∷ flags_from architecture (λ j. test (suc j)) entries
 
 -- the class that a cluster is at
 abbrev pub class_chosen : SpaceView → (Meaning → Bool) → ℕ → Option ℕ
@@ -52,7 +59,8 @@ class_chosen s holds c = first_true (λ k. holds (At c k)) (length (cluster_clas
 
 -- a member's new version of a class, with the entries that are kept; `version` has one for each cluster and class
 abbrev pub new_version : SpaceView → (Meaning → Bool) → (version : ℕ → ℕ → List ℕ) → (r k : ℕ) → Package → Package
-new_version s holds version r k p = new_package p (version (slice_index s.cluster_of r) k) (flags_from s.repository.architecture (λ j. holds (Kept r k j)) p.provides)
+new_version s holds version r k p = new_package p (version (slice_index s.cluster_of r) k)
+    (flags_from s.repository.architecture (λ j. holds (Kept r k j)) p.provides)
 
 abbrev pub moved_package : SpaceView → (Meaning → Bool) → (version : ℕ → ℕ → List ℕ) → ℕ → Package → Option ℕ → Package
 moved_package s holds version r p None = p
@@ -62,11 +70,15 @@ moved_package s holds version r p (Some k) = new_version s holds version r k p
 -- a new name where it holds.
 abbrev pub later_package : SpaceView → (Meaning → Bool) → (version : ℕ → ℕ → List ℕ) → Meaning → Option Package
 later_package s holds version Now = None
-later_package s holds version (Present r) = option_map (λ p. moved_package s holds version r p (class_chosen s holds (slice_index s.cluster_of r))) (slice_get s.repository.packages r)
+later_package s holds version (Present r) =
+    option_map (λ p. moved_package s holds version r p (class_chosen s holds (slice_index s.cluster_of r)))
+    (slice_get s.repository.packages r)
 later_package s holds version (At c k) = None
 later_package s holds version (New r k) = None
 later_package s holds version (Kept r k j) = None
-later_package s holds version (Fresh x k) = if holds (Fresh x k) then option_map (λ name. fresh_package name (example_at (fresh_classes s x) k)) (slice_get s.names x) else None
+later_package s holds version (Fresh x k) =
+    if holds (Fresh x k) then option_map (λ name. fresh_package name (example_at (fresh_classes s x) k))
+    (slice_get s.names x) else None
 
 abbrev pub future_of : SpaceView → (Meaning → Bool) → (version : ℕ → ℕ → List ℕ) → List Package
 future_of s holds version = filter_map (later_package s holds version) s.meanings
@@ -76,9 +88,13 @@ abbrev pub installed_package : SpaceView → (Meaning → Bool) → (version : �
 installed_package s holds version Now = None
 installed_package s holds version (Present r) = if holds (Present r) then slice_get s.repository.packages r else None
 installed_package s holds version (At c k) = None
-installed_package s holds version (New r k) = if holds (New r k) then option_map (λ p. new_version s holds version r k p) (slice_get s.repository.packages r) else None
+installed_package s holds version (New r k) =
+    if holds (New r k) then option_map (λ p. new_version s holds version r k p) (slice_get s.repository.packages r)
+    else None
 installed_package s holds version (Kept r k j) = None
-installed_package s holds version (Fresh x k) = if holds (Fresh x k) then option_map (λ name. fresh_package name (example_at (fresh_classes s x) k)) (slice_get s.names x) else None
+installed_package s holds version (Fresh x k) =
+    if holds (Fresh x k) then option_map (λ name. fresh_package name (example_at (fresh_classes s x) k))
+    (slice_get s.names x) else None
 
 abbrev pub installation_of : SpaceView → (Meaning → Bool) → (version : ℕ → ℕ → List ℕ) → List Package
 installation_of s holds version = filter_map (installed_package s holds version) s.meanings

@@ -1,10 +1,12 @@
 -- What was drawn and stands there, step by step.
-use Rattle.std.proofs.Common.{◌≡◌, ℕ, ◌+◌, ◌<◌, ◌≤◌, Bool, true, false, ◌==◌, List, [], ◌∷◌, ◌++◌, append_assoc, append-nil, add-one, length, Some, None, ap, sym, ◌∙◌, arith, ne_eqb, eq-eqb}
+use Rattle.std.proofs.Common.{◌≡◌, ℕ, ◌+◌, ◌<◌, ◌≤◌, Bool, true, false, ◌==◌, List, [], ◌∷◌, ◌++◌, append_assoc, append-nil, add-one, length, Some, None, ap}
+use Rattle.std.proofs.Common.{sym, ◌∙◌, arith, ne_eqb, eq-eqb}
 use Rattle.std.specs.Prelude.{codes, if◌then◌else◌}
 use Rattle.std.specs.List.{flat_map, join_by}
 use Rattle.std.proofs.lemmas.List.Concat.{flat_map-append}
 use Rattle.dist_generate.specs.Draws.{Drawing, next_state, draw, give, ◌>>=◌, many}
-use Rattle.dist_generate.specs.Generator.{Alternative, Drawn, item, items, item_text, conflict, depends_lines, conflicts_lines, head_lines, text_of_lines, drawn, stanza_text}
+use Rattle.dist_generate.specs.Generator.{Alternative, Drawn, item, items, item_text, conflict, depends_lines, conflicts_lines, head_lines, text_of_lines}
+use Rattle.dist_generate.specs.Generator.{drawn, stanza_text}
 use Rattle.dist_generate.specs.Steps.{Adds}
 use Rattle.dist_generate.proofs.Joins.{joined-first, joined-more}
 use Rattle.dist_generate.proofs.SmallDraws.{length-many}
@@ -23,8 +25,10 @@ pub next-moved : {X : Type 0} (each : ℕ → Drawing X) (start place state afte
     after ≡ (many each (place + 1) start).1
 next-moved each start place state after was moved = rw add-one (moved ∙ ap (λ s. (each place s).1) was)
 
-module _ {X : Type 0} (each : ℕ → Drawing X) (text_of : X → List ℕ) (between : List ℕ) (old : List ℕ) (start place : ℕ) (text : List ℕ) (state : ℕ) (new : List ℕ) where
-  pub next-first : place ≡ 0 → text ≡ old ++ join_by text_of between (many each place start).0 → state ≡ (many each place start).1 → new ≡ text ++ text_of (each place state).0 →
+module _ {X : Type 0} (each : ℕ → Drawing X) (text_of : X → List ℕ) (between : List ℕ) (old : List ℕ) (start place : ℕ) (text : List ℕ) (state : ℕ)
+    (new : List ℕ) where
+  pub next-first : place ≡ 0 → text ≡ old ++ join_by text_of between (many each place start).0 → state ≡ (many each place start).1
+      → new ≡ text ++ text_of (each place state).0 →
       new ≡ old ++ join_by text_of between (many each (place + 1) start).0
   next-first none before was here =
       rw add-one (joined-first text_of between old text new (many each place start).0 (each place (many each place start).1).0
@@ -74,7 +78,8 @@ lines-joined a b = flat_map-append (λ (line : List ℕ). line ++ 10 ∷ []) a b
 
 -- the pieces of a stanza, one behind the other
 pieces : (old : List ℕ) (head depends conflicts : List (List ℕ)) →
-    old ++ text_of_lines ((head ++ (depends ++ conflicts)) ++ [] ∷ []) ≡ (((old ++ text_of_lines head) ++ text_of_lines depends) ++ text_of_lines conflicts) ++ 10 ∷ []
+    old ++ text_of_lines ((head ++ (depends ++ conflicts)) ++ [] ∷ []) ≡ (((old ++ text_of_lines head) ++ text_of_lines depends) ++ text_of_lines conflicts)
+    ++ 10 ∷ []
 pieces old head depends conflicts =
     let h = text_of_lines head in
     let d = text_of_lines depends in
@@ -95,7 +100,8 @@ drawn_where is_zero number = do
 abbrev bare : (number digit : ℕ) → Drawn
 bare number digit = record { number = number; digit = digit; items = []; conflict = None }
 
-module _ (number state first : ℕ) (moved : first ≡ next_state state) (old text : List ℕ) (head : text ≡ old ++ text_of_lines (head_lines (bare number (draw 3 state).0))) where
+module _ (number state first : ℕ) (moved : first ≡ next_state state) (old text : List ℕ)
+    (head : text ≡ old ++ text_of_lines (head_lines (bare number (draw 3 state).0))) where
   -- the stanza of number 0
   pub stanza-first : (new : List ℕ) (after : ℕ) → number ≤ 0 → after ≡ first → new ≡ text ++ 10 ∷ [] → Adds (drawn number) stanza_text old state new after
   stanza-first new after none same here =
@@ -126,14 +132,16 @@ module _ (number state first : ℕ) (moved : first ≡ next_state state) (old te
       ∙ conflicts.text
       ∙ ap (λ r. second ++ text_of_lines (conflicts_lines r.0)) then_conflict
       ∙ ap (λ (t : List ℕ). t ++ text_of_lines (conflicts_lines drawn_conflict.0))
-      (depends.text ∙ ap (λ r. text ++ text_of_lines (depends_lines r.0)) first_items ∙ ap (λ (t : List ℕ). t ++ text_of_lines (depends_lines drawn_items.0)) head)
+      (depends.text ∙ ap (λ r. text ++ text_of_lines (depends_lines r.0)) first_items
+      ∙ ap (λ (t : List ℕ). t ++ text_of_lines (depends_lines drawn_items.0)) head)
       )
       ∙ sym (pieces old (head_lines (bare number (draw 3 state).0)) (depends_lines drawn_items.0) (conflicts_lines drawn_conflict.0)))
       (same ∙ conflicts.moved ∙ ap (λ r. r.1) then_conflict)
 
 -- ---- one more stanza
 
-pub next-stanza : (seed number : ℕ) (text : List ℕ) (state : ℕ) (new : List ℕ) → text ≡ flat_map stanza_text (many drawn number seed).0 → state ≡ (many drawn number seed).1 →
+pub next-stanza : (seed number : ℕ) (text : List ℕ) (state : ℕ) (new : List ℕ) → text ≡ flat_map stanza_text (many drawn number seed).0
+    → state ≡ (many drawn number seed).1 →
     new ≡ text ++ stanza_text (drawn number state).0 → new ≡ flat_map stanza_text (many drawn (number + 1) seed).0
 next-stanza seed number text state new before was here =
     let last = (drawn number (many drawn number seed).1).0 in
@@ -141,5 +149,6 @@ next-stanza seed number text state new before was here =
     here
     ∙ ap (λ s. text ++ stanza_text (drawn number s).0) was
     ∙ ap (λ (t : List ℕ). t ++ stanza_text last) before
-    ∙ sym (flat_map-append stanza_text (many drawn number seed).0 (last ∷ []) ∙ ap (λ (t : List ℕ). flat_map stanza_text (many drawn number seed).0 ++ t) (append-nil (stanza_text last)))
+    ∙ sym (flat_map-append stanza_text (many drawn number seed).0 (last ∷ [])
+    ∙ ap (λ (t : List ℕ). flat_map stanza_text (many drawn number seed).0 ++ t) (append-nil (stanza_text last)))
     )

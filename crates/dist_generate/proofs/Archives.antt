@@ -70,7 +70,12 @@ unfolding read_of reads_from IsEarlier AreEarlier
 reads-drawn earlier line number [] small numbered are = tt
 reads-drawn earlier line number (d ∷ all) small numbered are = (
   record {
-    has = record { stanza = stanza_of line d; reading = reading-drawn line d; is_package = package-drawn line d small.0 (architecture_of earlier); line_is = refl };
+    has = record {
+      stanza = stanza_of line d;
+      reading = reading-drawn line d;
+      is_package = package-drawn line d small.0 (architecture_of earlier);
+      line_is = refl;
+    };
     free = no-clash earlier d small.0.number (subst (λ n. AreEarlier n earlier) (sym numbered.0) are);
   },
   reads-drawn (earlier ++ read_of line d ∷ []) (next_line line d) (number + 1) all small.1 numbered.1
@@ -105,7 +110,8 @@ contains-reads reads k d short = (
 
 -- ---- all packages are apart
 
-apart-from : (p : Drawn) (number : ℕ) (all : List Drawn) → p.number < number → p.number < 10000 → AreSmall all → AreNumbered number all → AllByRecursion (IsApart (package_of p)) (map package_of all)
+apart-from : (p : Drawn) (number : ℕ) (all : List Drawn) → p.number < number → p.number < 10000 → AreSmall all → AreNumbered number all
+    → AllByRecursion (IsApart (package_of p)) (map package_of all)
 apart-from p number [] before few small numbered = tt
 apart-from p number (d ∷ all) before few small numbered = (
   apart-by_name (package_of p) (package_of d) (λ same. omega (arith, same-number p.number d.number few small.0.number same, numbered.0)),
@@ -115,7 +121,8 @@ apart-from p number (d ∷ all) before few small numbered = (
 are-apart : (number : ℕ) (all : List Drawn) → AreSmall all → AreNumbered number all → AreApart (map package_of all)
 are-apart number [] small numbered = tt
 are-apart number (d ∷ all) small numbered = (
-  All-from_recursion (IsApart (package_of d)) (map package_of all) (apart-from d (number + 1) all (omega (arith, numbered.0)) small.0.number small.1 numbered.1),
+  All-from_recursion (IsApart (package_of d)) (map package_of all)
+      (apart-from d (number + 1) all (omega (arith, numbered.0)) small.0.number small.1 numbered.1),
   are-apart (number + 1) all small.1 numbered.1,
 )
 
@@ -136,7 +143,8 @@ module _ (size seed : ℕ) (few : size ≤ MAX_SIZE) where
   same-count : length (reads_from 1 (generated_packages size seed)) ≡ size
   same-count =
       let all = generated_packages size seed in
-      sym (length-map (reads_from 1 all) (λ (r : Read). r.package_)) ∙ ap length (reads-packages 1 all) ∙ length-map all package_of ∙ length-many drawn size seed
+      sym (length-map (reads_from 1 all) (λ (r : Read). r.package_)) ∙ ap length (reads-packages 1 all) ∙ length-map all package_of
+      ∙ length-many drawn size seed
 
   all-read : AreReadAfter [] (raw_stanzas (generated size seed)) (reads_from 1 (generated_packages size seed))
   unfolding AreEarlier
@@ -147,7 +155,8 @@ module _ (size seed : ℕ) (few : size ≤ MAX_SIZE) where
   pub over : (limit : ℕ) → limit < size → IsTooMany (raw_stanzas (generated size seed)) limit
   over limit past = too-many (raw_stanzas (generated size seed)) (reads_from 1 (generated_packages size seed)) limit all-read (omega (arith, same-count))
 
-  pub archive : ((text : List ℕ) (limit : ℕ) (repository : PackageList) → IsRepositoryOf text limit repository → relation_count repository.packages ≤ length text) →
+  pub archive : ((text : List ℕ) (limit : ℕ) (repository : PackageList) → IsRepositoryOf text limit repository
+      → relation_count repository.packages ≤ length text) →
       (limit : ℕ) → size ≤ limit → IsArchive size seed limit
   unfolding IsRead
   archive relations limit within =
@@ -165,7 +174,8 @@ module _ (size seed : ℕ) (few : size ≤ MAX_SIZE) where
         read = all-read;
         within = omega (arith, same-count, within);
         in_order = sorted-in_order packages (are-apart 0 all all-small (packages-numbered size seed));
-        from_stanzas = All-permutation (IsRead reads) packages (sorted packages) permutes (subst (All (IsRead reads)) (reads-packages 1 all) (from-reads reads));
+        from_stanzas = All-permutation (IsRead reads) packages (sorted packages) permutes
+            (subst (All (IsRead reads)) (reads-packages 1 all) (from-reads reads));
         all_stanzas = All-weaker (λ (read : Read). Contains packages read.package_) (λ (read : Read). Contains (sorted packages) read.package_)
             (λ read there. Contains-permutation packages (sorted packages) read.package_ permutes there) reads contains;
         architecture = refl;
@@ -175,5 +185,8 @@ module _ (size seed : ℕ) (few : size ≤ MAX_SIZE) where
         is_repository = is;
         packages = permutes;
         count = count;
-        within_size = record { packages = omega (arith, count, few); relations = omega (arith, relations (generated size seed) limit repository is, short, few) };
+        within_size = record {
+          packages = omega (arith, count, few);
+          relations = omega (arith, relations (generated size seed) limit repository is, short, few);
+        };
       }

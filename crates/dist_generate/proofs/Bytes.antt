@@ -1,10 +1,12 @@
 -- How long the text of a drawn package is, and that its lines have no line feed.
-use Rattle.std.proofs.Common.{◌≡◌, ℕ, ◌+◌, ◌*◌, ◌/◌, ◌<◌, ◌≤◌, Bool, true, false, ◌==◌, List, [], ◌∷◌, ◌++◌, length, Option, Some, None, refl, ap, ◌∙◌, arith, length-append}
+use Rattle.std.proofs.Common.{◌≡◌, ℕ, ◌+◌, ◌*◌, ◌/◌, ◌<◌, ◌≤◌, Bool, true, false, ◌==◌, List, [], ◌∷◌, ◌++◌, length, Option, Some, None, refl, ap, ◌∙◌, arith}
+use Rattle.std.proofs.Common.{length-append}
 use Rattle.std.specs.Prelude.{codes, decimal, if◌then◌else◌}
 use Rattle.std.specs.List.{list_all, flat_map, join_by}
 use Rattle.std.proofs.lemmas.List.{append-nil}
 use Rattle.std.proofs.lemmas.Fmt.{length-decimal-le}
-use Rattle.dist_generate.specs.Generator.{Alternative, Drawn, bound_text, alternative_text, item_text, depends_lines, conflicts_lines, field_lines, stanza_lines, stanza_text, text_of_lines}
+use Rattle.dist_generate.specs.Generator.{Alternative, Drawn, bound_text, alternative_text, item_text, depends_lines, conflicts_lines, field_lines}
+use Rattle.dist_generate.specs.Generator.{stanza_lines, stanza_text, text_of_lines}
 use Rattle.dist_generate.proofs.Small.{AreTargets, IsItem, AreItems, IsTarget, IsSmall, small}
 use Rattle.dist_generate.proofs.Digits.{decimal-passes, all-append}
 use Rattle.dist_generate.proofs.SmallDraws.{AreSmall}
@@ -21,20 +23,37 @@ bound-short false true = omega arith
 bound-short false false = omega arith
 
 alternative-short : (c : Alternative) → c.target < 10000 → length (alternative_text c) ≤ 12
-alternative-short c h = omega (arith, length-append (decimal c.target) (bound_text c.bound), decimal-short c.target h, bound-short (c.bound == 2) (c.bound == 3))
+alternative-short c h = omega (
+  arith,
+  length-append (decimal c.target) (bound_text c.bound),
+  decimal-short c.target h,
+  bound-short (c.bound == 2) (c.bound == 3),
+)
 
 item-short : (item : List Alternative) → IsItem item → length (item_text item) ≤ 27
 item-short [] is = omega arith
 item-short (c ∷ []) is = omega (arith, ap length (append-nil (alternative_text c)), alternative-short c is.2.0)
 item-short (c ∷ d ∷ []) is =
-    omega (arith, length-append (alternative_text c) (32 ∷ 124 ∷ 32 ∷ item_text (d ∷ [])), ap length (append-nil (alternative_text d)), alternative-short c is.2.0, alternative-short d is.2.1.0)
+    omega (
+      arith,
+      length-append (alternative_text c) (32 ∷ 124 ∷ 32 ∷ item_text (d ∷ [])),
+      ap length (append-nil (alternative_text d)),
+      alternative-short c is.2.0,
+      alternative-short d is.2.1.0,
+    )
 item-short (c ∷ d ∷ e ∷ more) is = absurd (omega (arith, is.1))
 
 items-short : (items : List (List Alternative)) → length items ≤ 2 → AreItems items → length (join_by item_text (codes ", ") items) ≤ 56
 items-short [] few is = omega arith
 items-short (item ∷ []) few is = omega (arith, ap length (append-nil (item_text item)), item-short item is.0)
 items-short (item ∷ next ∷ []) few is =
-    omega (arith, length-append (item_text item) (44 ∷ 32 ∷ join_by item_text (codes ", ") (next ∷ [])), ap length (append-nil (item_text next)), item-short item is.0, item-short next is.1.0)
+    omega (
+      arith,
+      length-append (item_text item) (44 ∷ 32 ∷ join_by item_text (codes ", ") (next ∷ [])),
+      ap length (append-nil (item_text next)),
+      item-short item is.0,
+      item-short next is.1.0,
+    )
 items-short (item ∷ next ∷ third ∷ more) few is = absurd (omega arith)
 
 length-line : (line : List ℕ) (ls : List (List ℕ)) → length (text_of_lines (line ∷ ls)) ≡ length line + 1 + length (text_of_lines ls)
@@ -94,7 +113,8 @@ inner-alternative c h = all-append is_inner (decimal c.target) (bound_text c.bou
 inner-item : (item : List Alternative) → AreTargets item → list_all is_inner (item_text item) ≡ true
 inner-item [] are = refl
 inner-item (c ∷ []) are = all-append is_inner (alternative_text c) [] (inner-alternative c are.0) refl
-inner-item (c ∷ d ∷ cs) are = all-append is_inner (alternative_text c) (32 ∷ 124 ∷ 32 ∷ item_text (d ∷ cs)) (inner-alternative c are.0) (inner-item (d ∷ cs) are.1)
+inner-item (c ∷ d ∷ cs) are = all-append is_inner (alternative_text c) (32 ∷ 124 ∷ 32 ∷ item_text (d ∷ cs)) (inner-alternative c are.0)
+    (inner-item (d ∷ cs) are.1)
 
 inner-items : (items : List (List Alternative)) → AreItems items → list_all is_inner (join_by item_text (codes ", ") items) ≡ true
 inner-items [] are = refl

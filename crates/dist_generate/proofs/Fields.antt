@@ -1,5 +1,6 @@
 -- The fields of the stanza of a drawn package give that package.
-use Rattle.std.proofs.Common.{◌≡◌, ℕ, ◌+◌, ◌/◌, ◌<◌, ◌==◌, Bool, true, false, List, [], ◌∷◌, ◌++◌, append-nil, map, Option, Some, None, refl, ap, sym, subst, ◌∙◌, arith, inl, inr}
+use Rattle.std.proofs.Common.{◌≡◌, ℕ, ◌+◌, ◌/◌, ◌<◌, ◌==◌, Bool, true, false, List, [], ◌∷◌, ◌++◌, append-nil, map, Option, Some, None, refl, ap, sym, subst}
+use Rattle.std.proofs.Common.{◌∙◌, arith, inl, inr}
 use Rattle.std.specs.Prelude.{codes, decimal, if◌then◌else◌}
 use Rattle.std.specs.List.{join_by, join_with_byte}
 use Rattle.std.proofs.lemmas.Bool.{false≢true}
@@ -26,11 +27,13 @@ ends-bound digits e false true = ends-append digits (codes " (<< 2)") (record { 
 ends-bound digits e false false = subst Ends (sym (append-nil digits)) e
 
 ends-alternative : (c : Alternative) → c.target < 10000 → Ends (alternative_text c)
-ends-alternative c h = ends-append (codes "g") (decimal c.target ++ bound_text c.bound) (ends-bound (decimal c.target) (ends-decimal c.target (small c.target h)) (c.bound == 2) (c.bound == 3))
+ends-alternative c h = ends-append (codes "g") (decimal c.target ++ bound_text c.bound)
+    (ends-bound (decimal c.target) (ends-decimal c.target (small c.target h)) (c.bound == 2) (c.bound == 3))
 
 ends-item : (c : Alternative) (cs : List Alternative) → AreTargets (c ∷ cs) → Ends (item_text (c ∷ cs))
 ends-item c [] h = subst Ends (sym (append-nil (alternative_text c))) (ends-alternative c h.0)
-ends-item c (d ∷ cs) h = ends-append (alternative_text c) (32 ∷ 124 ∷ 32 ∷ item_text (d ∷ cs)) (ends-append (codes " | ") (item_text (d ∷ cs)) (ends-item d cs h.1))
+ends-item c (d ∷ cs) h = ends-append (alternative_text c) (32 ∷ 124 ∷ 32 ∷ item_text (d ∷ cs))
+    (ends-append (codes " | ") (item_text (d ∷ cs)) (ends-item d cs h.1))
 
 ends-spelled : (item : List Alternative) → IsItem item → Ends (item_text item)
 ends-spelled [] is = absurd (omega (arith, is.0))
@@ -39,7 +42,8 @@ ends-spelled (c ∷ cs) is = ends-item c cs is.2
 ends-items : (item : List Alternative) (items : List (List Alternative)) → AreItems (item ∷ items) → Ends (join_by item_text (codes ", ") (item ∷ items))
 ends-items item [] h = subst Ends (sym (append-nil (item_text item))) (ends-spelled item h.0)
 ends-items item (next ∷ items) h =
-    ends-append (item_text item) (44 ∷ 32 ∷ join_by item_text (codes ", ") (next ∷ items)) (ends-append (codes ", ") (join_by item_text (codes ", ") (next ∷ items)) (ends-items next items h.1))
+    ends-append (item_text item) (44 ∷ 32 ∷ join_by item_text (codes ", ") (next ∷ items))
+    (ends-append (codes ", ") (join_by item_text (codes ", ") (next ∷ items)) (ends-items next items h.1))
 
 -- a byte and a decimal number, of which nothing is cut off
 trimmed-number : (first n : ℕ) → is_white first ≡ false → n < 10000 → trim (first ∷ decimal n) ≡ first ∷ decimal n
@@ -73,7 +77,12 @@ module _ (number : ℕ) (d : Drawn) (is : IsSmall d) where
   unfolding stanza_of
   reads-name = record {
     line = number;
-    field = record { field = field_spelled number (codes "Package: g" ++ decimal d.number) []; found = refl; value_is = trimmed-number 103 d.number refl is.number; line_is = refl };
+    field = record {
+      field = field_spelled number (codes "Package: g" ++ decimal d.number) [];
+      found = refl;
+      value_is = trimmed-number 103 d.number refl is.number;
+      line_is = refl;
+    };
     is_name = is-name d.number is.number;
   }
 
@@ -82,7 +91,12 @@ module _ (number : ℕ) (d : Drawn) (is : IsSmall d) where
   reads-version = record {
     value = version_of d;
     line = number + 1;
-    field = record { field = field_spelled (number + 1) (codes "Version: 1." ++ decimal d.digit) []; found = refl; value_is = trimmed-version d.digit is.digit; line_is = refl };
+    field = record {
+      field = field_spelled (number + 1) (codes "Version: 1." ++ decimal d.digit) [];
+      found = refl;
+      value_is = trimmed-version d.digit is.digit;
+      line_is = refl;
+    };
     reads = (refl, is-version d.digit is.digit);
   }
 
@@ -107,7 +121,16 @@ module _ (number : ℕ) (d : Drawn) (is : IsSmall d) where
   reads-architecture : (earlier : Option (List ℕ)) → ReadsArchitecture earlier (stanza_of number d) all
   unfolding stanza_of
   reads-architecture earlier = record {
-    given = inr (number + 1 + 1, record { field = field_spelled (number + 1 + 1) (codes "Architecture: all") []; found = refl; value_is = refl; line_is = refl }, refl);
+    given = inr (
+      number + 1 + 1,
+      record {
+        field = field_spelled (number + 1 + 1) (codes "Architecture: all") [];
+        found = refl;
+        value_is = refl;
+        line_is = refl;
+      },
+      refl,
+    );
     agrees = inl refl;
   }
 
@@ -138,7 +161,8 @@ record LacksOthers (stanza : Stanza) : Type 0 where
   provides : value_of stanza (codes "Provides") ≡ []
   essential : value_of stanza (codes "Essential") ≡ []
 
-lacks-others : (number : ℕ) (d : Drawn) (items : List (List Alternative)) (conflict : Option ℕ) → LacksOthers (stanza_of number (record d { items = items; conflict = conflict }))
+lacks-others : (number : ℕ) (d : Drawn) (items : List (List Alternative)) (conflict : Option ℕ)
+    → LacksOthers (stanza_of number (record d { items = items; conflict = conflict }))
 unfolding stanza_of
 lacks-others number d [] None = record { pre_depends = refl; breaks = refl; provides = refl; essential = refl }
 lacks-others number d [] (Some other) = record { pre_depends = refl; breaks = refl; provides = refl; essential = refl }

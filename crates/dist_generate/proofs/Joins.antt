@@ -28,7 +28,8 @@ module _ {X : Type 0} (f : X → List ℕ) (between : List ℕ) where
       ∙ ap (λ (t : List ℕ). t ++ f x) (before ∙ ap (λ (t : List ℕ). old ++ t) (join-none xs none) ∙ append-nil old)
       ∙ ap (λ (t : List ℕ). old ++ t) (sym (join-first xs x none))
 
-  pub joined-more : (old text mid new : List ℕ) (xs : List X) (x : X) → 0 < length xs → text ≡ old ++ join_by f between xs → mid ≡ text ++ between → new ≡ mid ++ f x →
+  pub joined-more : (old text mid new : List ℕ) (xs : List X) (x : X) → 0 < length xs → text ≡ old ++ join_by f between xs → mid ≡ text ++ between
+      → new ≡ mid ++ f x →
       new ≡ old ++ join_by f between (xs ++ x ∷ [])
   joined-more old text mid new xs x some before gap here =
       here

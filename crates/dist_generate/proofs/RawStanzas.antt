@@ -35,7 +35,8 @@ raw-first : (number : ℕ) (line : List ℕ) (front rest : List (List ℕ)) → 
 raw-first number line front rest first full =
     cond-false (is_blank line) (raw_stanzas_from (number + 1) true (front ++ [] ∷ rest))
     (record { line = number; lines = line ∷ run (front ++ [] ∷ rest) } ∷ raw_stanzas_from (number + 1) false (front ++ [] ∷ rest)) first
-    ∙ ap (λ (t : List (List ℕ)). record { line = number; lines = line ∷ t } ∷ raw_stanzas_from (number + 1) false (front ++ [] ∷ rest)) (run-ended front rest full)
+    ∙ ap (λ (t : List (List ℕ)). record { line = number; lines = line ∷ t } ∷ raw_stanzas_from (number + 1) false (front ++ [] ∷ rest))
+    (run-ended front rest full)
     ∙ ap (λ (t : List RawStanza). record { line = number; lines = line ∷ front } ∷ t) (raw-ended (number + 1) front rest full)
     ∙ ap (λ n. record { line = number; lines = line ∷ front } ∷ raw_stanzas_from n true rest)
     (let e : number + 1 + (length front + 1) ≡ number + (length (line ∷ front) + 1) = omega arith in e)
@@ -70,7 +71,8 @@ raw-drawn number (d ∷ all) =
 
 -- ---- no line has a fault
 
-sound-from : (number : ℕ) (d : Drawn) (items : List (List Alternative)) (conflict : Option ℕ) → IsSound (raw_of number (record d { items = items; conflict = conflict }))
+sound-from : (number : ℕ) (d : Drawn) (items : List (List Alternative)) (conflict : Option ℕ)
+    → IsSound (raw_of number (record d { items = items; conflict = conflict }))
 sound-from number d [] None zero h = refl
 sound-from number d [] None (suc zero) h = refl
 sound-from number d [] None (suc (suc zero)) h = refl

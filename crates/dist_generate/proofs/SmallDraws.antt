@@ -1,5 +1,6 @@
 -- What is drawn: packages of small numbers, numbered from 0.
-use Rattle.std.proofs.Common.{◌≡◌, ℕ, zero, suc, ◌+◌, ◌%◌, ◌/◌, ◌<◌, ◌≤◌, Bool, true, false, ◌==◌, List, [], ◌∷◌, ◌++◌, length, Some, None, refl, ap, ◌∙◌, arith, length-append}
+use Rattle.std.proofs.Common.{◌≡◌, ℕ, zero, suc, ◌+◌, ◌%◌, ◌/◌, ◌<◌, ◌≤◌, Bool, true, false, ◌==◌, List, [], ◌∷◌, ◌++◌, length, Some, None, refl, ap, ◌∙◌}
+use Rattle.std.proofs.Common.{arith, length-append}
 use Rattle.std.specs.Prelude.{if◌then◌else◌}
 use Rattle.std.specs.List.{AllByRecursion}
 use Rattle.dist_generate.specs.Draws.{Drawing, next_state, draw, give, ◌>>=◌, many}
@@ -18,7 +19,8 @@ length-many each (suc count) state =
     length-append (many each count state).0 ((each count (many each count state).1).0 ∷ [])
     ∙ ap (λ n. n + 1) (length-many each count state) ∙ (omega arith)
 
-all-many : {X : Type 0} (P : X → Type 0) (each : ℕ → Drawing X) → ((k state : ℕ) → P (each k state).0) → (count state : ℕ) → AllByRecursion P (many each count state).0
+all-many : {X : Type 0} (P : X → Type 0) (each : ℕ → Drawing X) → ((k state : ℕ) → P (each k state).0) → (count state : ℕ)
+    → AllByRecursion P (many each count state).0
 all-many P each holds zero state = tt
 all-many P each holds (suc count) state =
     all-push P (many each count state).0 (each count (many each count state).1).0 (all-many P each holds count state) (holds count (many each count state).1)
@@ -31,8 +33,12 @@ module _ (number : ℕ) (some : 0 < number) (few : number < 10000) where
 
   item-small : (k state : ℕ) → IsItem (item number state).0
   item-small k state =
-      let long = length-many (λ _. alternative number) (suc (next_state state / 65536 % 2)) (next_state state) in
-      (omega (arith, long), omega (arith, long), all-many (λ (c : Alternative). c.target < 10000) (λ _. alternative number) alternative-small (suc (next_state state / 65536 % 2)) (next_state state))
+      let long = length-many (λ _. alternative number) (suc (next_state state / 65536 % 2)) (next_state state) in (
+        omega (arith, long),
+        omega (arith, long),
+        all-many (λ (c : Alternative). c.target < 10000) (λ _. alternative number) alternative-small
+            (suc (next_state state / 65536 % 2)) (next_state state),
+      )
 
   items-few : (state : ℕ) → length (items number state).0 ≤ 2
   items-few state = omega (arith, length-many (λ _. item number) (next_state state / 65536 % 3) (next_state state))
@@ -89,7 +95,8 @@ numbered-push number (first ∷ all) d numbered is = (numbered.0, numbered-push 
 pub packages-small : (size seed : ℕ) → size ≤ 10000 → AreSmall (generated_packages size seed)
 packages-small zero seed few = tt
 packages-small (suc size) seed few =
-    all-push IsSmall (many drawn size seed).0 (drawn size (many drawn size seed).1).0 (packages-small size seed (omega arith)) (drawn-small size (many drawn size seed).1 (omega arith))
+    all-push IsSmall (many drawn size seed).0 (drawn size (many drawn size seed).1).0 (packages-small size seed (omega arith))
+    (drawn-small size (many drawn size seed).1 (omega arith))
 
 pub packages-numbered : (size seed : ℕ) → AreNumbered 0 (generated_packages size seed)
 packages-numbered zero seed = tt

@@ -39,8 +39,10 @@ sorted (p ∷ ps) = insert p (sorted ps)
 put-permutes : (o : Ordering) (p q : Package) (qs later : List Package) → IsPermutation (p ∷ qs) later → IsPermutation (p ∷ q ∷ qs) (put o p q qs later)
 unfolding put
 put-permutes Less p q qs later h = IsPermutation-refl (p ∷ q ∷ qs)
-put-permutes Equal p q qs later h = IsPermutation-trans (p ∷ q ∷ qs) (q ∷ p ∷ qs) (q ∷ later) (IsPermutation-middle (p ∷ []) q qs) (IsPermutation-cons q (p ∷ qs) later h)
-put-permutes Greater p q qs later h = IsPermutation-trans (p ∷ q ∷ qs) (q ∷ p ∷ qs) (q ∷ later) (IsPermutation-middle (p ∷ []) q qs) (IsPermutation-cons q (p ∷ qs) later h)
+put-permutes Equal p q qs later h = IsPermutation-trans (p ∷ q ∷ qs) (q ∷ p ∷ qs) (q ∷ later) (IsPermutation-middle (p ∷ []) q qs)
+    (IsPermutation-cons q (p ∷ qs) later h)
+put-permutes Greater p q qs later h = IsPermutation-trans (p ∷ q ∷ qs) (q ∷ p ∷ qs) (q ∷ later) (IsPermutation-middle (p ∷ []) q qs)
+    (IsPermutation-cons q (p ∷ qs) later h)
 
 insert-permutes : (p : Package) (qs : List Package) → IsPermutation (p ∷ qs) (insert p qs)
 unfolding insert
@@ -51,7 +53,8 @@ pub sorted-permutes : (ps : List Package) → IsPermutation ps (sorted ps)
 unfolding sorted
 sorted-permutes [] = IsPermutation-refl []
 sorted-permutes (p ∷ ps) =
-    IsPermutation-trans (p ∷ ps) (p ∷ sorted ps) (insert p (sorted ps)) (IsPermutation-cons p ps (sorted ps) (sorted-permutes ps)) (insert-permutes p (sorted ps))
+    IsPermutation-trans (p ∷ ps) (p ∷ sorted ps) (insert p (sorted ps)) (IsPermutation-cons p ps (sorted ps) (sorted-permutes ps))
+    (insert-permutes p (sorted ps))
 
 -- ---- in order
 
@@ -67,7 +70,8 @@ all-below p q qs below all k d short = package_total.trans p q (get_or qs k d) b
 turned : (p q : Package) → package_cmp p q ≡ Greater → Below q p
 turned p q is = package_total.antisymm q p ∙ ap ordering_reverse is
 
-put-in_order : (o : Ordering) (p q : Package) (qs : List Package) → package_cmp p q ≡ o → IsApart p q → IsInOrder (q ∷ qs) → IsInOrder (insert p qs) → IsInOrder (put o p q qs (insert p qs))
+put-in_order : (o : Ordering) (p q : Package) (qs : List Package) → package_cmp p q ≡ o → IsApart p q → IsInOrder (q ∷ qs) → IsInOrder (insert p qs)
+    → IsInOrder (put o p q qs (insert p qs))
 unfolding put
 put-in_order Less p q qs is apart ordered later =
     AllPairs-cons Below p (q ∷ qs) (All-cons (Below p) q qs is (all-below p q qs is (head-below q qs ordered))) ordered

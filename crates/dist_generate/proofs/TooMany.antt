@@ -13,7 +13,8 @@ record Cut (earlier : List Read) (raws : List RawStanza) (count : ℕ) : Type 0 
   read : AreReadAfter earlier before reads
   long : length reads ≡ count
 
-cut-at : (count : ℕ) (earlier : List Read) (raws : List RawStanza) (reads : List Read) → AreReadAfter earlier raws reads → count < length reads → Cut earlier raws count
+cut-at : (count : ℕ) (earlier : List Read) (raws : List RawStanza) (reads : List Read) → AreReadAfter earlier raws reads → count < length reads
+    → Cut earlier raws count
 cut-at count earlier [] [] are short = absurd (omega arith)
 cut-at count earlier [] (read ∷ reads) are short = absurd are
 cut-at count earlier (raw ∷ raws) [] are short = absurd are
@@ -34,4 +35,9 @@ cut-at (suc count) earlier (raw ∷ raws) (read ∷ reads) are short =
 pub too-many : (raws : List RawStanza) (reads : List Read) (limit : ℕ) → AreReadAfter [] raws reads → limit < length reads → IsTooMany raws limit
 too-many raws reads limit are short =
     let cut = cut-at limit [] raws reads are short in
-    record { raw = cut.raw; reads = cut.reads; up_to = record { before = cut.before; after = cut.after; pieces = cut.pieces; read = cut.read }; at_limit = cut.long }
+    record {
+      raw = cut.raw;
+      reads = cut.reads;
+      up_to = record { before = cut.before; after = cut.after; pieces = cut.pieces; read = cut.read };
+      at_limit = cut.long;
+    }

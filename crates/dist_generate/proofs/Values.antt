@@ -1,5 +1,6 @@
 -- What the values of the fields of a drawn package spell.
-use Rattle.std.proofs.Common.{◌≡◌, ℕ, zero, suc, ◌+◌, ◌<◌, Bool, true, false, not, ◌==◌, List, [], ◌∷◌, ◌++◌, append_assoc, append-nil, length, take, drop, map, Option, Some, None, refl, ap, sym, subst, ◌∙◌, arith, inl, inr}
+use Rattle.std.proofs.Common.{◌≡◌, ℕ, zero, suc, ◌+◌, ◌<◌, Bool, true, false, not, ◌==◌, List, [], ◌∷◌, ◌++◌, append_assoc, append-nil, length, take, drop, map}
+use Rattle.std.proofs.Common.{Option, Some, None, refl, ap, sym, subst, ◌∙◌, arith, inl, inr}
 use Rattle.std.specs.Prelude.{codes, decimal, if◌then◌else◌, filter_map}
 use Rattle.std.specs.List.{list_all, join_by, prefix_len}
 use Rattle.std.proofs.lemmas.Bool.{and_parts, cond-true, false≢true}
@@ -82,7 +83,12 @@ module _ (lead trail : List ℕ) (n : ℕ) (blank_lead : IsBlank lead) (blank_tr
 
   alternative-case : (x y : Bool) →
       SpellsOne (lead ++ ((codes "g" ++ (decimal n ++ (if x then codes " (>= 1)" else if y then codes " (<< 2)" else []))) ++ trail))
-      (record { name = name_of n; qualifier = Plain; bound = if x then Some (record { op = Ge; version = codes "1" }) else if y then Some (record { op = Lt; version = codes "2" }) else None })
+      (record {
+        name = name_of n;
+        qualifier = Plain;
+        bound = if x then Some (record { op = Ge; version = codes "1" }) else if y then Some
+            (record { op = Lt; version = codes "2" }) else None;
+      })
   alternative-case true y = record {
     before = lead;
     between = codes " ";
@@ -147,7 +153,8 @@ module _ (lead trail : List ℕ) (n : ℕ) (blank_lead : IsBlank lead) (blank_tr
     is_bound = refl;
   }
 
-spells-alternative : (lead trail : List ℕ) (c : Alternative) → IsBlank lead → IsBlank trail → c.target < 10000 → SpellsOne (lead ++ (alternative_text c ++ trail)) (atom_of c)
+spells-alternative : (lead trail : List ℕ) (c : Alternative) → IsBlank lead → IsBlank trail → c.target < 10000
+    → SpellsOne (lead ++ (alternative_text c ++ trail)) (atom_of c)
 spells-alternative lead trail c blank_lead blank_trail h = alternative-case lead trail c.target blank_lead blank_trail h (c.bound == 2) (c.bound == 3)
 
 spells-item : (lead : List ℕ) (c : Alternative) (cs : List Alternative) → IsBlank lead → AreTargets (c ∷ cs) →
@@ -181,8 +188,13 @@ unfolding pieces_of
 spells-items lead item [] blank h =
     subst (λ (t : List ℕ). SpellsAlternatives (lead ++ t) (map atom_of item)) (sym (append-nil (item_text item))) (item-spelled lead item blank h.0)
 spells-items lead item (next ∷ items) blank h =
-    let rest = join_by item_text (codes ", ") (next ∷ items) in
-    (lead ++ item_text item, 32 ∷ rest, item-spelled lead item blank h.0, spells-items (codes " ") next items refl h.1, sym (append_assoc lead (item_text item) (44 ∷ 32 ∷ rest)))
+    let rest = join_by item_text (codes ", ") (next ∷ items) in (
+      lead ++ item_text item,
+      32 ∷ rest,
+      item-spelled lead item blank h.0,
+      spells-items (codes " ") next items refl h.1,
+      sym (append_assoc lead (item_text item) (44 ∷ 32 ∷ rest)),
+    )
 
 pub reads-depends : (item : List Alternative) (items : List (List Alternative)) → AreItems (item ∷ items) →
     ReadsDepends (join_by item_text (codes ", ") (item ∷ items)) (map (map atom_of) (item ∷ items))

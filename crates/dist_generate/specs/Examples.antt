@@ -16,13 +16,19 @@ one_of target bound = record { target = target; bound = bound }
 -- what these draws make: the first package takes one of them, the second one the others
 pub two_packages : generated_packages 2 0
     ≡ record { number = 0; digit = 2; items = []; conflict = None }
-    ∷ record { number = 1; digit = 1; items = (one_of 0 2 ∷ one_of 0 1 ∷ []) ∷ (one_of 0 2 ∷ one_of 0 3 ∷ []) ∷ []; conflict = None }
+    ∷ record {
+      number = 1;
+      digit = 1;
+      items = (one_of 0 2 ∷ one_of 0 1 ∷ []) ∷ (one_of 0 2 ∷ one_of 0 3 ∷ []) ∷ [];
+      conflict = None;
+    }
     ∷ []
 unfolding next_state
 two_packages = refl
 
 pub their_text : generated 2 0
-    ≡ codes "Package: g0\nVersion: 1.2\nArchitecture: all\nSource: s0\n\nPackage: g1\nVersion: 1.1\nArchitecture: all\nSource: s0\nDepends: g0 (>= 1) | g0, g0 (>= 1) | g0 (<< 2)\n\n"
+    ≡ codes
+    "Package: g0\nVersion: 1.2\nArchitecture: all\nSource: s0\n\nPackage: g1\nVersion: 1.1\nArchitecture: all\nSource: s0\nDepends: g0 (>= 1) | g0, g0 (>= 1) | g0 (<< 2)\n\n"
 unfolding next_state digits
 their_text = refl
 

@@ -1,5 +1,6 @@
 -- The packages that a generated archive has, as a Packages file means them.
-use Rattle.std.specs.Prelude.{ℕ, false, ◌/◌, ◌==◌, List, [], ◌∷◌, ◌++◌, Option, None, Some, if◌then◌else◌, map, codes, decimal}
+use Rattle.std.specs.Prelude.{ℕ, false, ◌/◌, ◌==◌, List, [], ◌∷◌, ◌++◌, Option, None, Some, if◌then◌else◌, map, codes}
+use Rattle.std.specs.Prelude.{decimal}
 use Rattle.dist_relation.specs.declared.atom.Atom.{Atom}
 use Rattle.dist_relation.specs.declared.atom.Bound.{Bound}
 use Rattle.dist_relation.specs.declared.atom.Op.TheVariants.{Lt, Ge}
@@ -18,7 +19,11 @@ bound_of bound =
     else None
 
 abbrev pub atom_of : Alternative → Atom
-atom_of alternative = record { name = name_of alternative.target; qualifier = Plain; bound = bound_of alternative.bound }
+atom_of alternative = record {
+  name = name_of alternative.target;
+  qualifier = Plain;
+  bound = bound_of alternative.bound;
+}
 
 abbrev pub conflicts_of : Option ℕ → List Atom
 conflicts_of None = []

@@ -1,5 +1,6 @@
 -- Rising lists, what they have, and tests of them.
-use Rattle.std.proofs.Common.{◌≡◌, inl, inr, ℕ, ◌+◌, ◌-◌, ◌<◌, ◌≤◌, ◌↔◌, Bool, true, false, List, length, get_or, Result, Ok, Err, refl, sym, ap, ◌∙◌, arith, nat_cmp}
+use Rattle.std.proofs.Common.{◌≡◌, inl, inr, ℕ, ◌+◌, ◌-◌, ◌<◌, ◌≤◌, ◌↔◌, Bool, true, false, List, length, get_or, Result, Ok, Err, refl, sym, ap, ◌∙◌, arith}
+use Rattle.std.proofs.Common.{nat_cmp}
 use Rattle.std.specs.List.{Contains}
 use Rattle.std.specs.List.Sorted.{IsBinarySearchResult}
 use Rattle.std.specs.Result.{is_ok}
@@ -19,7 +20,8 @@ not-falling numbers rising i j upto within = elim (cases_order i j) [
   | inr (inr more) ↦ absurd (omega arith)
 ]
 
-searched-has : (numbers : List ℕ) (number : ℕ) (r : Result ℕ ℕ) → AreRising numbers → IsBinarySearchResult (λ y. nat_cmp y number) numbers r → IsTrue (is_ok r) ↔ Contains numbers number
+searched-has : (numbers : List ℕ) (number : ℕ) (r : Result ℕ ℕ) → AreRising numbers → IsBinarySearchResult (λ y. nat_cmp y number) numbers r → IsTrue (is_ok r)
+    ↔ Contains numbers number
 searched-has numbers number (Ok i) rising result =
     let found = searched numbers number (Ok i) result (not-falling numbers rising) in
     ((λ yes. (i, found.0, get_or_default numbers i number 0 found.0 ∙ found.1)), λ there. refl)
@@ -39,7 +41,8 @@ searched-has numbers number (Err i) rising result =
 pub rising-from : (numbers : List ℕ) → ((k : ℕ) → k + 1 < length numbers → get_or numbers k 0 < get_or numbers (k + 1) 0) → AreRising numbers
 rising-from numbers next = AllPairs-from_increasing numbers next
 
-pub never-rising : (numbers : List ℕ) (place : ℕ) → 1 ≤ place → place < length numbers → get_or numbers place 0 ≤ get_or numbers (place - 1) 0 → ¬ AreRising numbers
+pub never-rising : (numbers : List ℕ) (place : ℕ) → 1 ≤ place → place < length numbers → get_or numbers place 0 ≤ get_or numbers (place - 1) 0
+    → ¬ AreRising numbers
 never-rising numbers place from within falls rising = let less = rising (place - 1) place 0 (omega arith) within in omega arith
 
 -- ---- tests
@@ -52,5 +55,6 @@ same-answer false numbers number iff = sym (none (is_among numbers number) refl)
     none false is = refl
     none true is = absurd (false≢true (iff.1 (from-any number numbers is)))
 
-pub searched-among : (numbers : List ℕ) (number : ℕ) (r : Result ℕ ℕ) → AreRising numbers → IsBinarySearchResult (λ y. nat_cmp y number) numbers r → is_ok r ≡ is_among numbers number
+pub searched-among : (numbers : List ℕ) (number : ℕ) (r : Result ℕ ℕ) → AreRising numbers → IsBinarySearchResult (λ y. nat_cmp y number) numbers r
+    → is_ok r ≡ is_among numbers number
 searched-among numbers number r rising result = same-answer (is_ok r) numbers number (searched-has numbers number r rising result)

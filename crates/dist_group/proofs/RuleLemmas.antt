@@ -1,5 +1,6 @@
 -- Lists that are narrowed by tests, and the rules of a claim.
-use Rattle.std.proofs.Common.{◌≡◌, ℕ, ◌+◌, ◌<◌, ◌↔◌, ◌==◌, ◌&&◌, ◌||◌, Bool, true, false, not, List, [], ◌∷◌, ◌++◌, inl, inr, Option, None, filter, length, get_or, refl, sym, ap, ◌∙◌, arith, take, if◌then◌else◌}
+use Rattle.std.proofs.Common.{◌≡◌, ℕ, ◌+◌, ◌<◌, ◌↔◌, ◌==◌, ◌&&◌, ◌||◌, Bool, true, false, not, List, [], ◌∷◌, ◌++◌, inl, inr, Option, None, filter, length}
+use Rattle.std.proofs.Common.{get_or, refl, sym, ap, ◌∙◌, arith, take, if◌then◌else◌}
 use Rattle.std.proofs.Math.Path.{fun_ext}
 use Rattle.std.specs.List.{Contains, list_all, list_any}
 use Rattle.std.proofs.lemmas.Bool.{eqb-true, and_parts, and_from}
@@ -93,7 +94,8 @@ each-all f (x ∷ xs) each = and_from (f x) (list_all f xs) (each x (0, omega ar
 -- the same numbers, in any order and however often
 pub same-all : (f : ℕ → Bool) (xs ys : List ℕ) → ((q : ℕ) → Contains ys q ↔ Contains xs q) → list_all f ys ≡ list_all f xs
 same-all f xs ys same =
-    both-flags (list_all f ys) (list_all f xs) (λ e. each-all f xs (λ n there. all-each f ys e n ((same n).1 there))) (λ e. each-all f ys (λ n there. all-each f xs e n ((same n).0 there)))
+    both-flags (list_all f ys) (list_all f xs) (λ e. each-all f xs (λ n there. all-each f ys e n ((same n).1 there)))
+    (λ e. each-all f ys (λ n there. all-each f xs e n ((same n).0 there)))
 
 -- ---- what is in all installations that are named
 
@@ -103,10 +105,13 @@ kept-more w named xs kept i within is =
     ap (λ (ys : List ℕ). filter (has_member (kept_at w (get_or named i 0))) ys) is
     ∙ filter-twice (in_each w (take i named)) (has_member (kept_at w (get_or named i 0))) xs
     ∙ filter-ext (λ q. in_each w (take i named) q && has_member (kept_at w (get_or named i 0)) q) (in_each w (take (i + 1) named)) xs
-    (λ q. sym (ap (λ (ns : List ℕ). in_each w ns q) (take_more named i 0 within) ∙ all-push (λ number. has_member (kept_at w number) q) (take i named) (get_or named i 0)))
+    (λ q. sym (ap (λ (ns : List ℕ). in_each w ns q) (take_more named i 0 within)
+    ∙ all-push (λ number. has_member (kept_at w number) q) (take i named) (get_or named i 0)))
 
-pub named-once : (w : WindowView) (named sorted xs : List ℕ) → ((q : ℕ) → Contains sorted q ↔ Contains named q) → filter (in_each w sorted) xs ≡ filter (in_each w named) xs
-named-once w named sorted xs same = filter-ext (in_each w sorted) (in_each w named) xs (λ q. same-all (λ number. has_member (kept_at w number) q) named sorted same)
+pub named-once : (w : WindowView) (named sorted xs : List ℕ) → ((q : ℕ) → Contains sorted q ↔ Contains named q)
+    → filter (in_each w sorted) xs ≡ filter (in_each w named) xs
+named-once w named sorted xs same = filter-ext (in_each w sorted) (in_each w named) xs
+    (λ q. same-all (λ number. has_member (kept_at w number) q) named sorted same)
 
 -- ---- the rules
 

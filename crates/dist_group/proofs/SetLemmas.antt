@@ -17,7 +17,8 @@ twice-or false c = refl
 among-match : (k x : ℕ) (xs more : List ℕ) (q : ℕ) (o : Ordering) → (o ≡ Equal → k ≡ x) → is_among more q ≡ ((q == k) || is_among xs q)
     → is_among (match_ordering o (k ∷ x ∷ xs) (x ∷ xs) (x ∷ more)) q ≡ ((q == k) || is_among (x ∷ xs) q)
 among-match k x xs more q Less same rest = refl
-among-match k x xs more q Equal same rest = subst (λ n. is_among (x ∷ xs) q ≡ ((q == n) || is_among (x ∷ xs) q)) (sym (same refl)) (twice-or (q == x) (is_among xs q))
+among-match k x xs more q Equal same rest = subst (λ n. is_among (x ∷ xs) q ≡ ((q == n) || is_among (x ∷ xs) q)) (sym (same refl))
+    (twice-or (q == x) (is_among xs q))
 among-match k x xs more q Greater same rest = ap (λ (b : Bool). (q == x) || b) rest ∙ swap-or (q == x) (q == k) (is_among xs q)
 
 pub among-insert : (k : ℕ) (xs : List ℕ) (q : ℕ) → is_among (insert_key nat_cmp xs k) q ≡ ((q == k) || is_among xs q)

@@ -1,5 +1,6 @@
 -- What is kept of a group, and the tests of a strong claim.
-use Rattle.std.specs.Prelude.{◌≡◌, ◌==◌, ◌&&◌, ℕ, Bool, true, false, List, [], ◌∷◌, Option, Some, None, filter, not, nat_le, unwrap_or, if◌then◌else◌}
+use Rattle.std.specs.Prelude.{◌≡◌, ◌==◌, ◌&&◌, ℕ, Bool, true, false, List, [], ◌∷◌, Option, Some, None, filter, not}
+use Rattle.std.specs.Prelude.{nat_le, unwrap_or, if◌then◌else◌}
 use Rattle.std.specs.List.{list_all, list_any}
 use Rattle.dist_cert.specs.declared.faults.CertCause.{CertCause}
 use Rattle.dist_cert.specs.declared.faults.CertCause.TheVariants.{WrongClaim, Incomplete}
@@ -7,7 +8,8 @@ use Rattle.dist_cert.specs.Rising.{AreRising, is_among}
 use Rattle.dist_group.specs.Window.{WindowView, kept_at, has_member}
 use Rattle.dist_group.specs.Closed.{ClosedView}
 
--- The questions of a group that were refuted, those that were closed as undecided, and the packages that are in all of its
+-- The questions of a group that were refuted, those that were closed as undecided, and the packages that are in all of
+-- its
 -- installations that have the claim's package, if there are any.
 pub record GroupView : Type 0 where
   pub refuted : ClosedView
@@ -41,30 +43,37 @@ is_always w common named q = is_among (candidates w common named) q && in_each w
 abbrev pub always : WindowView → Option (List ℕ) → List ℕ → List ℕ
 always w common named = filter (in_each w named) (candidates w common named)
 
--- The rules of a claim that p strongly depends on some packages and perhaps on others, as tests of what is kept: those of
+-- The rules of a claim that p strongly depends on some packages and perhaps on others, as tests of what is kept: those
+-- of
 -- its lists alone, and all of them.
-pub record AreListsRight (w : WindowView) (group : GroupView) (packages p : ℕ) (named on undecided : List ℕ) : Type 0 where
-  pub names : in_each w named p ≡ true
-  pub rising : AreRising on
-  pub undecided_rising : AreRising undecided
-  pub apart : list_any (is_among undecided) on ≡ false
-  pub others : list_all (λ q. not (q == p) && nat_le q packages) on ≡ true
-  pub undecided_others : list_all (λ q. not (q == p) && nat_le q packages) undecided ≡ true
-  pub refuted : list_all (is_among group.refuted.without) on ≡ true
-  pub open_still : list_all (is_among group.undecided.without) undecided ≡ true
+pub record AreListsRight (w : WindowView) (group : GroupView) (packages p : ℕ) (named on undecided : List ℕ) : Type 0
+  where
+    pub names : in_each w named p ≡ true
+    pub rising : AreRising on
+    pub undecided_rising : AreRising undecided
+    pub apart : list_any (is_among undecided) on ≡ false
+    pub others : list_all (λ q. not (q == p) && nat_le q packages) on ≡ true
+    pub undecided_others : list_all (λ q. not (q == p) && nat_le q packages) undecided ≡ true
+    pub refuted : list_all (is_among group.refuted.without) on ≡ true
+    pub open_still : list_all (is_among group.undecided.without) undecided ≡ true
 
-pub record PassesStrong (w : WindowView) (group : GroupView) (packages p : ℕ) (named on undecided : List ℕ) : Type 0 where
-  pub lists : AreListsRight w group packages p named on undecided
-  pub always : list_all (is_always w group.common named) undecided ≡ true
+pub record PassesStrong (w : WindowView) (group : GroupView) (packages p : ℕ) (named on undecided : List ℕ) : Type 0
+  where
+    pub lists : AreListsRight w group packages p named on undecided
+    pub always : list_all (is_always w group.common named) undecided ≡ true
 
 -- a package other than p is in all of the claim's installations and is not listed
 abbrev pub omits_package : WindowView → GroupView → ℕ → List ℕ → List ℕ → List ℕ → Bool
 omits_package w group p named on undecided =
-    list_any (λ q. not (q == p) && not (is_among on q) && not (is_among undecided q) && in_each w named q) (candidates w group.common named)
+    list_any (λ q. not (q == p) && not (is_among on q) && not (is_among undecided q) && in_each w named q)
+    (candidates w group.common named)
 
 -- what is told of a claim on the next package: its first fault, or none
 abbrev pub TellsRules : WindowView → GroupView → ℕ → ℕ → List ℕ → List ℕ → List ℕ → Option CertCause → Type 0
-TellsRules w group packages p named on undecided None = PassesStrong w group packages p named on undecided × (omits_package w group p named on undecided ≡ false)
-TellsRules w group packages p named on undecided (Some WrongClaim) = ¬ PassesStrong w group packages p named on undecided
-TellsRules w group packages p named on undecided (Some Incomplete) = PassesStrong w group packages p named on undecided × (omits_package w group p named on undecided ≡ true)
+TellsRules w group packages p named on undecided None = PassesStrong w group packages p named on undecided
+    × (omits_package w group p named on undecided ≡ false)
+TellsRules w group packages p named on undecided (Some WrongClaim) =
+    ¬ PassesStrong w group packages p named on undecided
+TellsRules w group packages p named on undecided (Some Incomplete) = PassesStrong w group packages p named on undecided
+    × (omits_package w group p named on undecided ≡ true)
 TellsRules w group packages p named on undecided (Some cause) = ⊥

@@ -1,5 +1,6 @@
 -- What is kept of the installations before a line.
-use Rattle.std.specs.Prelude.{ℕ, ◌-◌, Bool, false, List, Option, Some, None, length, drop, nat_le, slice_get, if◌then◌else◌}
+use Rattle.std.specs.Prelude.{ℕ, ◌-◌, Bool, false, List, Option, Some, None, length, drop, nat_le, slice_get}
+use Rattle.std.specs.Prelude.{if◌then◌else◌}
 use Rattle.dist_cert.specs.declared.TheConstants.{REACH}
 use Rattle.dist_cert.specs.Rising.{is_among}
 
@@ -14,7 +15,8 @@ latest installations = drop (length installations - REACH) installations
 
 -- the members of the installation of a number, where it is kept
 abbrev pub kept_at : WindowView → ℕ → Option (List ℕ)
-kept_at w number = if nat_le number (w.count - length w.kept) then None else slice_get w.kept (number - (w.count - length w.kept) - 1)
+kept_at w number = if nat_le number (w.count - length w.kept) then None else slice_get w.kept
+    (number - (w.count - length w.kept) - 1)
 
 -- the package is a member of an installation that is kept
 abbrev pub has_member : Option (List ℕ) → ℕ → Bool

@@ -1,5 +1,6 @@
 -- Reading LIST line by line.
-use Rattle.std.proofs.Common.{◌≡◌, ◌≢◌, ℕ, suc, ◌+◌, ◌-◌, ◌<◌, Bool, true, false, Option, Some, None, List, [], ◌∷◌, ◌++◌, inl, inr, length, replicate, get_or, set, refl, sym, ap, subst, ◌∙◌, arith, append_assoc, length-append, length-set, get_or-set_same, get_or-set_other}
+use Rattle.std.proofs.Common.{◌≡◌, ◌≢◌, ℕ, suc, ◌+◌, ◌-◌, ◌<◌, Bool, true, false, Option, Some, None, List, [], ◌∷◌, ◌++◌, inl, inr, length, replicate, get_or}
+use Rattle.std.proofs.Common.{set, refl, sym, ap, subst, ◌∙◌, arith, append_assoc, length-append, length-set, get_or-set_same, get_or-set_other}
 use Rattle.std.specs.Prelude.{All, slice_get, slice_set, ◌↔◌}
 use Rattle.std.proofs.lemmas.Bool.{false≢true, cases_eq, cases_lt}
 use Rattle.std.proofs.lemmas.List.{append-nil, get_or_append_left, length-replicate}
@@ -40,7 +41,8 @@ flag_unset flags n m other is =
     let f = flag_from (set flags n true) m is in
     flag_to flags m (omega (arith, length-set flags n true, f.0)) (sym (get_or-set_other flags n m true true other) ∙ f.1)
 
-same_flag : (x y : Bool) → (◌≡◌ {A = Option Bool} (Some x) (Some true) → ◌≡◌ {A = Option Bool} (Some y) (Some true)) → (◌≡◌ {A = Option Bool} (Some y) (Some true) → ◌≡◌ {A = Option Bool} (Some x) (Some true)) → x ≡ y
+same_flag : (x y : Bool) → (◌≡◌ {A = Option Bool} (Some x) (Some true) → ◌≡◌ {A = Option Bool} (Some y) (Some true))
+    → (◌≡◌ {A = Option Bool} (Some y) (Some true) → ◌≡◌ {A = Option Bool} (Some x) (Some true)) → x ≡ y
 same_flag true true to from = refl
 same_flag false false to from = refl
 same_flag true false to from = let e = to refl in cc
@@ -101,7 +103,8 @@ ReadSoFar-blank packages text rest after line number members so_far next blank =
       | inr here ↦ absurd (blank_names_none packages line m blank (let N : List ℕ → Type 0 = λ l. Names packages l m in subst N (sym here) named.2))
     ])
 
-pub ReadSoFar-named : (packages : List Package) (text rest after line : List ℕ) (number found : ℕ) (members : List Bool) → ReadSoFar packages text rest number members
+pub ReadSoFar-named : (packages : List Package) (text rest after line : List ℕ) (number found : ℕ) (members : List Bool)
+    → ReadSoFar packages text rest number members
     → lines rest ≡ line ∷ lines after → Names packages line found → ((other : ℕ) → Names packages line other → other ≡ found) → found < length members
     → ReadSoFar packages text after (number + 1) (slice_set members found true)
 ReadSoFar-named packages text rest after line number found members so_far next names only within =
@@ -120,7 +123,8 @@ ReadSoFar-named packages text rest after line number found members so_far next n
       ]
     ])
 
-pub ReadSoFar-end : (packages : List Package) (text : List ℕ) (number : ℕ) (members : List Bool) → ReadSoFar packages text [] number members → NamesSet packages text members
+pub ReadSoFar-end : (packages : List Package) (text : List ℕ) (number : ℕ) (members : List Bool) → ReadSoFar packages text [] number members
+    → NamesSet packages text members
 ReadSoFar-end packages text number members so_far =
     let all : lines text ≡ so_far.done = so_far.pieces ∙ append-nil so_far.done in
     let N : List (List ℕ) → Type 0 = λ ls. NameSet packages ls members in
@@ -141,21 +145,25 @@ ReadSoFar-bad packages text rest after line number members so_far next bad = rec
 -- a text names one set at most
 pub NamesSet-one : (packages : List Package) (text : List ℕ) (a b : List Bool) → NamesSet packages text a → NamesSet packages text b → b ≡ a
 NamesSet-one packages text a b first second =
-    same_flags b a (second.one_each ∙ sym first.one_each) (λ n is. (first.named n).1 ((second.named n).0 is)) (λ n is. (second.named n).1 ((first.named n).0 is))
+    same_flags b a (second.one_each ∙ sym first.one_each) (λ n is. (first.named n).1 ((second.named n).0 is))
+    (λ n is. (second.named n).1 ((first.named n).0 is))
 
 -- the line at the place of a bad one
-bad_line : (packages : List Package) (text : List ℕ) (number : ℕ) (bad : IsBadAt packages text number) → get_or (lines text) (length bad.before) bad.line ≡ bad.line
+bad_line : (packages : List Package) (text : List ℕ) (number : ℕ) (bad : IsBadAt packages text number)
+    → get_or (lines text) (length bad.before) bad.line ≡ bad.line
 bad_line packages text number bad =
     ap (λ (ls : List (List ℕ)). get_or ls (length bad.before) bad.line) bad.split ∙ get_or-append_seam bad.before bad.line bad.after bad.line
 
 -- a text with a bad line names no set
-pub NamesSet-not_bad : (packages : List Package) (text : List ℕ) (members : List Bool) (number : ℕ) → NamesSet packages text members → ¬ IsBadAt packages text number
+pub NamesSet-not_bad : (packages : List Package) (text : List ℕ) (members : List Bool) (number : ℕ) → NamesSet packages text members
+    → ¬ IsBadAt packages text number
 NamesSet-not_bad packages text members number set bad =
     bad.bad (subst (IsListLine packages) (bad_line packages text number bad)
     (set.each (length bad.before) bad.line (let e = ap length bad.split in omega (arith, e, length-append bad.before (bad.line ∷ bad.after)))))
 
 -- no bad line stands before another
-not_before : (packages : List Package) (text : List ℕ) (n m : ℕ) (first : IsBadAt packages text n) (second : IsBadAt packages text m) → ¬ (length first.before < length second.before)
+not_before : (packages : List Package) (text : List ℕ) (n m : ℕ) (first : IsBadAt packages text n) (second : IsBadAt packages text m)
+    → ¬ (length first.before < length second.before)
 not_before packages text n m first second less =
     let at : get_or (lines text) (length first.before) first.line ≡ get_or second.before (length first.before) first.line =
     ap (λ (ls : List (List ℕ)). get_or ls (length first.before) first.line) second.split
@@ -221,7 +229,8 @@ Names-within packages line number names =
     within-from P packages number names.found
 
 -- a line that names a package marks it
-pub Marks-one : (packages : List Package) (line : List ℕ) (result : Line) (number : ℕ) (old new : List Bool) → IsLine packages line result → result ≡ lines_of.Package number
+pub Marks-one : (packages : List Package) (line : List ℕ) (result : Line) (number : ℕ) (old new : List Bool) → IsLine packages line result
+    → result ≡ lines_of.Package number
     → length old ≡ length packages → new ≡ slice_set old ((number + 1) - 1) true → Marks packages line old new true
 Marks-one packages line result number old new is_line is same set_is =
     let P : Line → Type 0 = IsLine packages line in
@@ -234,15 +243,18 @@ Marks-one packages line result number old new is_line is same set_is =
       marked = set_is ∙ ap (λ (n : ℕ). slice_set old n true) (omega arith);
     })
 
-pub IsLine-within : (packages : List Package) (line : List ℕ) (result : Line) (number : ℕ) → IsLine packages line result → result ≡ lines_of.Package number → number < length packages
+pub IsLine-within : (packages : List Package) (line : List ℕ) (result : Line) (number : ℕ) → IsLine packages line result → result ≡ lines_of.Package number
+    → number < length packages
 IsLine-within packages line result number is_line is =
     let P : Line → Type 0 = IsLine packages line in
     Names-within packages line number (subst P is is_line).0
 
-pub Marks-true : (packages : List Package) (line : List ℕ) (old new : List Bool) (result : Bool) → Marks packages line old new result → result ≡ true → Marks packages line old new true
+pub Marks-true : (packages : List Package) (line : List ℕ) (old new : List Bool) (result : Bool) → Marks packages line old new result → result ≡ true
+    → Marks packages line old new true
 Marks-true packages line old new result marks is = subst (λ (b : Bool). Marks packages line old new b) is marks
 
-pub Marks-false : (packages : List Package) (line : List ℕ) (old new : List Bool) (result : Bool) → Marks packages line old new result → result ≡ false → ¬ IsListLine packages line
+pub Marks-false : (packages : List Package) (line : List ℕ) (old new : List Bool) (result : Bool) → Marks packages line old new result → result ≡ false
+    → ¬ IsListLine packages line
 Marks-false packages line old new result marks is = subst (λ (b : Bool). Marks packages line old new b) is marks
 
 pub Marks-length : (packages : List Package) (line : List ℕ) (old new : List Bool) → Marks packages line old new true → length new ≡ length old

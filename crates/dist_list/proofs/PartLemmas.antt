@@ -61,10 +61,12 @@ take-none b bs h = ap (λ (n : ℕ). take n (b ∷ bs)) (prefix-cons stays b bs 
 part_step : (t : Bool) (b c : ℕ) (cs : List ℕ) → is_padding c ≡ t → (is_padding c ≡ false → parts_of (c ∷ cs) ≡ (c ∷ front cs) ∷ parts_of (past cs))
     → in_part b (not (is_padding c)) (parts_of (c ∷ cs)) ≡ (b ∷ front (c ∷ cs)) ∷ parts_of (past (c ∷ cs))
 part_step true b c cs h rest = ap (λ (v : Bool). in_part b (not v) (parts_of (c ∷ cs))) h
-    ∙ sym (ap (λ (w : List ℕ). (b ∷ w) ∷ parts_of (past (c ∷ cs))) (take-none c cs h) ∙ ap (λ (w : List ℕ). (b ∷ []) ∷ parts_of w) (drop-none stays c cs (ap not h)))
+    ∙ sym (ap (λ (w : List ℕ). (b ∷ w) ∷ parts_of (past (c ∷ cs))) (take-none c cs h)
+    ∙ ap (λ (w : List ℕ). (b ∷ []) ∷ parts_of w) (drop-none stays c cs (ap not h)))
 part_step false b c cs h rest = ap (λ (v : Bool). in_part b (not v) (parts_of (c ∷ cs))) h
     ∙ ap (λ (w : List (List ℕ)). in_part b true w) (rest h)
-    ∙ sym (ap (λ (w : List ℕ). (b ∷ w) ∷ parts_of (past (c ∷ cs))) (take-front c cs h) ∙ ap (λ (w : List ℕ). (b ∷ c ∷ front cs) ∷ parts_of w) (drop-front stays c cs (ap not h)))
+    ∙ sym (ap (λ (w : List ℕ). (b ∷ w) ∷ parts_of (past (c ∷ cs))) (take-front c cs h)
+    ∙ ap (λ (w : List ℕ). (b ∷ c ∷ front cs) ∷ parts_of w) (drop-front stays c cs (ap not h)))
 
 -- the part that a text begins with
 part_at : (b : ℕ) (bs : List ℕ) → is_padding b ≡ false → parts_of (b ∷ bs) ≡ (b ∷ front bs) ∷ parts_of (past bs)
@@ -74,4 +76,5 @@ part_at b (c ∷ cs) h = parts-cons b (c ∷ cs) false h ∙ part_step (is_paddi
 pub parts-at_part : (text : List ℕ) → IsAtPart text → parts_of text ≡ with_part (front text) (parts_of (past text))
 parts-at_part [] at = refl
 parts-at_part (b ∷ bs) at = part_at b bs at
-    ∙ sym (ap (λ (w : List ℕ). with_part w (parts_of (past (b ∷ bs)))) (take-front b bs at) ∙ ap (λ (w : List ℕ). (b ∷ front bs) ∷ parts_of w) (drop-front stays b bs (ap not at)))
+    ∙ sym (ap (λ (w : List ℕ). with_part w (parts_of (past (b ∷ bs)))) (take-front b bs at)
+    ∙ ap (λ (w : List ℕ). (b ∷ front bs) ∷ parts_of w) (drop-front stays b bs (ap not at)))

@@ -18,7 +18,8 @@ IsShape text shape.Other = (parts_of text ≢ []) × ((first second : List ℕ) 
 -- what one line is
 abbrev pub IsLine : List Package → List ℕ → Line → Type 0
 IsLine packages text line.Blank = parts_of text ≡ []
-IsLine packages text (line.Package number) = Names packages text number × ((other : ℕ) → Names packages text other → other ≡ number)
+IsLine packages text (line.Package number) = Names packages text number
+    × ((other : ℕ) → Names packages text other → other ≡ number)
 IsLine packages text line.Bad = ¬ IsListLine packages text
 
 -- the package that the line names was marked, and it names no other

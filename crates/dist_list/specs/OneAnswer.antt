@@ -4,6 +4,7 @@ use Rattle.dist_repo.specs.declared.package.Package.{Package}
 use Rattle.dist_list.specs.PackageSet.{NamesSet, IsBadAt}
 
 pub record HasOneAnswer (packages : List Package) (text : List ℕ) : Type 0 where
-  pub one_set : (members other : List Bool) → NamesSet packages text members → NamesSet packages text other → other ≡ members
+  pub one_set : (members other : List Bool) → NamesSet packages text members → NamesSet packages text other
+      → other ≡ members
   pub one_bad_line : (line other : ℕ) → IsBadAt packages text line → IsBadAt packages text other → other ≡ line
   pub never_both : (members : List Bool) (line : ℕ) → NamesSet packages text members → ¬ IsBadAt packages text line

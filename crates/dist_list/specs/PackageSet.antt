@@ -1,5 +1,6 @@
 -- LIST: a text whose lines name packages of a repository.
-use Rattle.std.specs.Prelude.{◌≡◌, ◌⊎◌, ◌↔◌, ℕ, ◌+◌, true, Bool, List, [], ◌∷◌, ◌++◌, length, All, Contains, Some, slice_get}
+use Rattle.std.specs.Prelude.{◌≡◌, ◌⊎◌, ◌↔◌, ℕ, ◌+◌, true, Bool, List, [], ◌∷◌, ◌++◌, length, All, Contains, Some}
+use Rattle.std.specs.Prelude.{slice_get}
 use Rattle.dist_control.specs.Lines.{lines}
 use Rattle.dist_version.specs.Spelling.{IsVersion}
 use Rattle.dist_repo.specs.Providers.{IsPackageAt}

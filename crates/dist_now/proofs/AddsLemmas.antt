@@ -21,7 +21,8 @@ adds-none xs P count none x = (
   ],
 )
 
-pub adds-more : {X : Type 0} (old mid new : List X) (P : ℕ → X → Type 0) (count : ℕ) → AddsUpTo old mid P count → Adds mid new (P count) → AddsUpTo old new P (count + 1)
+pub adds-more : {X : Type 0} (old mid new : List X) (P : ℕ → X → Type 0) (count : ℕ) → AddsUpTo old mid P count → Adds mid new (P count)
+    → AddsUpTo old new P (count + 1)
 adds-more old mid new P count before step x = (
   (λ there. elim ((step x).0 there) [
     | inl earlier ↦ elim ((before x).0 earlier) [

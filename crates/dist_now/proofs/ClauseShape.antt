@@ -28,7 +28,8 @@ Apart l m = l.variable ≢ m.variable
 -- rising numbers, and one that is not among them
 apart-each : (n : ℕ) (numbers : List ℕ) → ¬ Contains numbers n → (positive : Literal) → positive.variable ≡ n + 1 → All (Apart positive) (map installed numbers)
 apart-each n numbers other l is =
-    All-map (Apart l) installed numbers (all-contained (λ k. l.variable ≢ k + 1) numbers (λ k there same. other (subst (Contains numbers) (let e : k ≡ n = omega (arith, is, same) in e) there)))
+    All-map (Apart l) installed numbers (all-contained (λ k. l.variable ≢ k + 1) numbers
+    (λ k there same. other (subst (Contains numbers) (let e : k ≡ n = omega (arith, is, same) in e) there)))
 
 pairs-apart : (numbers : List ℕ) → AllPairs (λ x y. x < y) numbers → AllPairs Apart (map installed numbers)
 pairs-apart [] rising = pairs-none Apart
@@ -38,21 +39,27 @@ pairs-apart (n ∷ numbers) rising =
     (All-map (Apart (installed n)) installed numbers (λ i d short. let h = less i d short in λ same. omega arith))
     (pairs-apart numbers (pairs-tail (λ x y. x < y) n numbers rising))
 
-pub installed-clause : (r : PackageList) (P : Package → Type 0) (numbers : List ℕ) → AreNumbersOf r P numbers → IsClauseOver (length r.packages) (map installed numbers)
+pub installed-clause : (r : PackageList) (P : Package → Type 0) (numbers : List ℕ) → AreNumbersOf r P numbers
+    → IsClauseOver (length r.packages) (map installed numbers)
 installed-clause r P numbers are = record {
   in_range = installed-range (length r.packages) numbers (numbers-below r P numbers are);
   distinct = pairs-apart numbers (AllPairs-from_increasing numbers are.rising);
 }
 
-pub item-clause : (r : PackageList) (P : Package → Type 0) (n : ℕ) (numbers : List ℕ) → n < length r.packages → AreNumbersOf r P numbers → ¬ Contains numbers n → IsClauseOver (length r.packages) (not_installed n ∷ map installed numbers)
+pub item-clause : (r : PackageList) (P : Package → Type 0) (n : ℕ) (numbers : List ℕ) → n < length r.packages → AreNumbersOf r P numbers → ¬ Contains numbers n
+    → IsClauseOver (length r.packages) (not_installed n ∷ map installed numbers)
 item-clause r P n numbers short are other = record {
-  in_range = All-cons (InRange (length r.packages)) (not_installed n) (map installed numbers) (omega arith, omega (arith, short)) (installed-range (length r.packages) numbers (numbers-below r P numbers are));
-  distinct = AllPairs-cons Apart (not_installed n) (map installed numbers) (apart-each n numbers other (not_installed n) refl) (pairs-apart numbers (AllPairs-from_increasing numbers are.rising));
+  in_range = All-cons (InRange (length r.packages)) (not_installed n) (map installed numbers) (omega arith, omega (arith, short))
+      (installed-range (length r.packages) numbers (numbers-below r P numbers are));
+  distinct = AllPairs-cons Apart (not_installed n) (map installed numbers) (apart-each n numbers other (not_installed n) refl)
+      (pairs-apart numbers (AllPairs-from_increasing numbers are.rising));
 }
 
 pub pair-clause : (n first second : ℕ) → first < second → second < n → IsClauseOver n (not_installed first ∷ not_installed second ∷ [])
 pair-clause n first second less short = record {
-  in_range = All-cons (InRange n) (not_installed first) (not_installed second ∷ []) (omega arith, omega arith) (All-cons (InRange n) (not_installed second) [] (omega arith, omega arith) (All-nil (InRange n)));
-  distinct = AllPairs-cons Apart (not_installed first) (not_installed second ∷ []) (All-cons (Apart (not_installed first)) (not_installed second) [] (λ same. omega arith) (All-nil (Apart (not_installed first))))
+  in_range = All-cons (InRange n) (not_installed first) (not_installed second ∷ []) (omega arith, omega arith)
+      (All-cons (InRange n) (not_installed second) [] (omega arith, omega arith) (All-nil (InRange n)));
+  distinct = AllPairs-cons Apart (not_installed first) (not_installed second ∷ [])
+      (All-cons (Apart (not_installed first)) (not_installed second) [] (λ same. omega arith) (All-nil (Apart (not_installed first))))
       (AllPairs-cons Apart (not_installed second) [] (All-nil (Apart (not_installed second))) (pairs-none Apart));
 }

@@ -1,5 +1,6 @@
 -- The least two members in conflict, by what each member rejects.
-use Rattle.std.proofs.Common.{◌≡◌, ◌≢◌, ◌⊎◌, ℕ, ◌+◌, ◌<◌, ◌≤◌, Bool, true, List, length, get_or, Some, None, Option, Less, Equal, refl, sym, ap, ◌∙◌, subst, arith, inl, inr, slice_get}
+use Rattle.std.proofs.Common.{◌≡◌, ◌≢◌, ◌⊎◌, ℕ, ◌+◌, ◌<◌, ◌≤◌, Bool, true, List, length, get_or, Some, None, Option, Less, Equal, refl, sym, ap, ◌∙◌, subst}
+use Rattle.std.proofs.Common.{arith, inl, inr, slice_get}
 use Rattle.std.specs.Prelude.{Any, MatchOption}
 use Rattle.std.specs.Cmp.Lexicographic.{slice_cmp}
 use Rattle.std.specs.Ordering.{nat_cmp, ordering_then}
@@ -21,19 +22,23 @@ use Rattle.dist_now.specs.Rejected.{IsRejected}
 -- ---- conflicts
 
 -- packages at two places are different
-pub never-same : (packages : List Package) (a b : ℕ) (p q : Package) → IsInOrder packages → a < b → slice_get packages a ≡ Some p → slice_get packages b ≡ Some q → ¬ IsSamePackage p q
+pub never-same : (packages : List Package) (a b : ℕ) (p q : Package) → IsInOrder packages → a < b → slice_get packages a ≡ Some p
+    → slice_get packages b ≡ Some q → ¬ IsSamePackage p q
 never-same packages a b p q ordered before is_p is_q same =
     let first : get_or packages a p ≡ p = get_or_from_slice_get packages a p p is_p in
     let second : get_or packages b p ≡ q = get_or_from_slice_get packages b q p is_q in
     let less : package_cmp (get_or packages a p) (get_or packages b p) ≡ Less = ordered a b p before (slice_get_within packages b q is_q) in
-    let less' : package_cmp p q ≡ Less = sym (ap (λ (x : Package). package_cmp x (get_or packages b p)) first ∙ ap (λ (x : Package). package_cmp p x) second) ∙ less in
+    let less' : package_cmp p q ≡ Less = sym (ap (λ (x : Package). package_cmp x (get_or packages b p)) first ∙ ap (λ (x : Package). package_cmp p x) second)
+    ∙ less in
     let names : slice_cmp nat_cmp p.name q.name ≡ Equal = ap (slice_cmp nat_cmp p.name) (sym same.0) ∙ tied_itself nat_list_cmp_total p.name in
     let tied : package_cmp p q ≡ Equal = ap (λ o. ordering_then o (version_cmp p.version q.version)) names ∙ same.1 in
     cc
 
-conflicting : (r : PackageList) (flags : List Bool) (a b : ℕ) (p q : Package) → IsInOrder r.packages → a < b → slice_get r.packages a ≡ Some p → slice_get r.packages b ≡ Some q
+conflicting : (r : PackageList) (flags : List Bool) (a b : ℕ) (p q : Package) → IsInOrder r.packages → a < b → slice_get r.packages a ≡ Some p
+    → slice_get r.packages b ≡ Some q
     → slice_get flags a ≡ Some true → slice_get flags b ≡ Some true
-    → Any (λ (atom : Atom). Matches r.architecture atom q) p.conflicts ⊎ Any (λ (atom : Atom). Matches r.architecture atom p) q.conflicts → AreConflicting r flags a b
+    → Any (λ (atom : Atom). Matches r.architecture atom q) p.conflicts ⊎ Any (λ (atom : Atom). Matches r.architecture atom p) q.conflicts
+    → AreConflicting r flags a b
 conflicting r flags a b p q ordered before is_p is_q member_a member_b matched =
     let conflict : AreInConflict r.architecture p q = record { different = never-same r.packages a b p q ordered before is_p is_q; matched = matched } in
     let Second : Package → Type 0 = λ x. IsPackageAnd r.packages b (AreInConflict r.architecture x) in
@@ -49,7 +54,8 @@ conflicting-first r flags a b ordered before rejects =
     let q = some-element Of r.packages b rejects.rejected.1.has in
     let is_q = element-is Of r.packages b rejects.rejected.1.has in
     conflicting r flags a b rejects.p q ordered before rejects.is is_q rejects.member rejects.rejected.1.member
-    (inl (any-at (λ (atom : Atom). Matches r.architecture atom q) rejects.p.conflicts rejects.place rejects.atom rejects.is_atom (has-at Of r.packages b q is_q rejects.rejected.1.has)))
+    (inl (any-at (λ (atom : Atom). Matches r.architecture atom q) rejects.p.conflicts rejects.place rejects.atom rejects.is_atom
+    (has-at Of r.packages b q is_q rejects.rejected.1.has)))
 
 pub conflicting-second : (r : PackageList) (flags : List Bool) (a b : ℕ) → IsInOrder r.packages → a < b → IsRejected r flags b a → AreConflicting r flags a b
 conflicting-second r flags a b ordered before rejects =
@@ -57,9 +63,11 @@ conflicting-second r flags a b ordered before rejects =
     let p = some-element Of r.packages a rejects.rejected.1.has in
     let is_p = element-is Of r.packages a rejects.rejected.1.has in
     conflicting r flags a b p rejects.p ordered before is_p rejects.is rejects.rejected.1.member rejects.member
-    (inr (any-at (λ (atom : Atom). Matches r.architecture atom p) rejects.p.conflicts rejects.place rejects.atom rejects.is_atom (has-at Of r.packages a p is_p rejects.rejected.1.has)))
+    (inr (any-at (λ (atom : Atom). Matches r.architecture atom p) rejects.p.conflicts rejects.place rejects.atom rejects.is_atom
+    (has-at Of r.packages a p is_p rejects.rejected.1.has)))
 
-rejects-from : (r : PackageList) (flags : List Bool) (a b : ℕ) (p q : Package) → b ≢ a → slice_get r.packages a ≡ Some p → slice_get r.packages b ≡ Some q → slice_get flags a ≡ Some true → slice_get flags b ≡ Some true
+rejects-from : (r : PackageList) (flags : List Bool) (a b : ℕ) (p q : Package) → b ≢ a → slice_get r.packages a ≡ Some p → slice_get r.packages b ≡ Some q
+    → slice_get flags a ≡ Some true → slice_get flags b ≡ Some true
     → Any (λ (atom : Atom). Matches r.architecture atom q) p.conflicts → IsRejected r flags a b
 rejects-from r flags a b p q apart is_p is_q member_a member_b any = record {
   p = p;
@@ -131,7 +139,8 @@ new-none r flags number n k none new = elim new.one [
   | inr h ↦ none n h.1
 ]
 
-pub seen-none : (r : PackageList) (flags : List Bool) (number : ℕ) (least : Option (ℕ × ℕ)) → IsLeastSeenIfAny r flags number least → ((m : ℕ) → ¬ IsRejected r flags number m) → IsLeastSeenIfAny r flags (number + 1) least
+pub seen-none : (r : PackageList) (flags : List Bool) (number : ℕ) (least : Option (ℕ × ℕ)) → IsLeastSeenIfAny r flags number least
+    → ((m : ℕ) → ¬ IsRejected r flags number m) → IsLeastSeenIfAny r flags (number + 1) least
 seen-none r flags number None none here = λ n k seen. elim (seen-split r flags number n k seen) [
   | inl h ↦ none n k h
   | inr h ↦ new-none r flags number n k here h
@@ -148,7 +157,8 @@ seen-none r flags number (Some pair) least here = record {
 abbrev pub IsOrdered : (number other first second : ℕ) → Type 0
 IsOrdered number other first second = ((number < other) × (first ≡ number) × (second ≡ other)) ⊎ ((other < number) × (first ≡ other) × (second ≡ number))
 
-new-least : (r : PackageList) (flags : List Bool) (number other first second n k : ℕ) → IsOrdered number other first second → ((m : ℕ) → IsRejected r flags number m → other ≤ m) → IsNew r flags number n k → IsAtMost first second n k
+new-least : (r : PackageList) (flags : List Bool) (number other first second n k : ℕ) → IsOrdered number other first second
+    → ((m : ℕ) → IsRejected r flags number m → other ≤ m) → IsNew r flags number n k → IsAtMost first second n k
 new-least r flags number other first second n k ordered above new =
     let before = new.before in
     elim ordered [
@@ -165,13 +175,15 @@ new-least r flags number other first second n k ordered above new =
       ]
     ]
 
-of-both : (r : PackageList) (flags : List Bool) (first second : ℕ) (pair : ℕ × ℕ) → AreConflicting r flags first second → (pair.0 ≡ first) × (pair.1 ≡ second) → AreConflicting r flags pair.0 pair.1
+of-both : (r : PackageList) (flags : List Bool) (first second : ℕ) (pair : ℕ × ℕ) → AreConflicting r flags first second → (pair.0 ≡ first) × (pair.1 ≡ second)
+    → AreConflicting r flags pair.0 pair.1
 of-both r flags first second pair holds both =
     let First : ℕ → Type 0 = λ a. AreConflicting r flags a pair.1 in
     let Second : ℕ → Type 0 = λ b. AreConflicting r flags first b in
     subst First (sym both.0) (subst Second (sym both.1) holds)
 
-pub seen-some : (r : PackageList) (flags : List Bool) (number other first second : ℕ) (least : Option (ℕ × ℕ)) (pair : ℕ × ℕ) → IsLeastSeenIfAny r flags number least → IsLeast (IsRejected r flags number) other
+pub seen-some : (r : PackageList) (flags : List Bool) (number other first second : ℕ) (least : Option (ℕ × ℕ)) (pair : ℕ × ℕ)
+    → IsLeastSeenIfAny r flags number least → IsLeast (IsRejected r flags number) other
     → IsOrdered number other first second → AreConflicting r flags first second → IsLesserPair least first second pair → IsLeastSeen r flags (number + 1) pair
 seen-some r flags number other first second None pair none row ordered holds lesser = record {
   holds = elim lesser.one [
@@ -206,7 +218,8 @@ all-seen r flags count n k past both =
       ];
     }
 
-pub least-conflict : (r : PackageList) (flags : List Bool) (count : ℕ) (found : Option (ℕ × ℕ)) → length r.packages ≤ count → IsLeastSeenIfAny r flags count found → IsLeastPairIfAny (AreConflicting r flags) found
+pub least-conflict : (r : PackageList) (flags : List Bool) (count : ℕ) (found : Option (ℕ × ℕ)) → length r.packages ≤ count
+    → IsLeastSeenIfAny r flags count found → IsLeastPairIfAny (AreConflicting r flags) found
 least-conflict r flags count None past none = λ n k both. none n k (all-seen r flags count n k past both)
 least-conflict r flags count (Some pair) past least = record { holds = least.holds; least = λ n k both. least.least n k (all-seen r flags count n k past both) }
 

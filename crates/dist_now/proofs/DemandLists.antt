@@ -1,5 +1,6 @@
 -- Clauses of demands: one list for a repository, its fronts, and what adds a clause to a front.
-use Rattle.std.proofs.Common.{◌≡◌, ◌⊎◌, ℕ, ◌<◌, Bool, List, [], ◌∷◌, ◌++◌, length, get_or, map, nat_cmp, Less, refl, sym, ap, subst, ◌∙◌, arith, inl, inr, Some, slice_get}
+use Rattle.std.proofs.Common.{◌≡◌, ◌⊎◌, ℕ, ◌<◌, Bool, List, [], ◌∷◌, ◌++◌, length, get_or, map, nat_cmp, Less, refl, sym, ap, subst, ◌∙◌, arith, inl, inr, Some}
+use Rattle.std.proofs.Common.{slice_get}
 use Rattle.std.specs.Prelude.{Any, IsSomeAnd}
 use Rattle.std.specs.Cmp.Lexicographic.{slice_cmp}
 use Rattle.std.proofs.lemmas.Cmp.{nat_list_cmp_total}
@@ -12,7 +13,8 @@ use Rattle.dist_clause.specs.Formula.{Literal}
 use Rattle.dist_relation.specs.declared.atom.Atom.{Atom}
 use Rattle.dist_repo.specs.PackageList.{PackageList}
 use Rattle.dist_repo.specs.declared.package.Package.{Package}
-use Rattle.dist_now.specs.PresentClauses.{Demand, Item, Apart, Required, AreClausesOf, AreNumbersOf, ArePresentClauses, AreClausesBefore, IsBefore, IsClauseFor, IsDemand, IsLesser, IsItemAnd, IsMetBy, installed, not_installed}
+use Rattle.dist_now.specs.PresentClauses.{Demand, Item, Apart, Required, AreClausesOf, AreNumbersOf, ArePresentClauses, AreClausesBefore, IsBefore, IsClauseFor}
+use Rattle.dist_now.specs.PresentClauses.{IsDemand, IsLesser, IsItemAnd, IsMetBy, installed, not_installed}
 use Rattle.dist_now.specs.PresentLaws.{GoesOn}
 use Rattle.dist_now.proofs.HealthyLemmas.{pairs-none}
 
@@ -44,7 +46,8 @@ demands-asymmetric (Required a) (Required b) less more = names-asymmetric a b le
 -- numbers of the packages with a property are one list
 pub one-numbers : (r : PackageList) (P : Package → Type 0) (numbers others : List ℕ) → AreNumbersOf r P numbers → AreNumbersOf r P others → numbers ≡ others
 one-numbers r P numbers others are also =
-    same-numbers others numbers also.rising are.rising (λ k there. (are.exact k).1 ((also.exact k).0 there)) (λ k there. (also.exact k).1 ((are.exact k).0 there))
+    same-numbers others numbers also.rising are.rising (λ k there. (are.exact k).1 ((also.exact k).0 there))
+    (λ k there. (also.exact k).1 ((are.exact k).0 there))
 
 -- the item at a place, and what it has
 pub record FoundItem (r : PackageList) (number place : ℕ) (P : Package → List Atom → Type 0) : Type 0 where
@@ -64,7 +67,8 @@ found-item r number place P here =
     let is_item = element-is (P p) p.depends place inner in
     record { package_is = p; is_package = is_p; item = item; is_item = is_item; holds = has-at (P p) p.depends place item is_item inner }
 
-pub one-item : (r : PackageList) (number place : ℕ) (P Q : Package → List Atom → Type 0) (a : FoundItem r number place P) (b : FoundItem r number place Q) → a.item ≡ b.item
+pub one-item : (r : PackageList) (number place : ℕ) (P Q : Package → List Atom → Type 0) (a : FoundItem r number place P) (b : FoundItem r number place Q)
+    → a.item ≡ b.item
 one-item r number place P Q a b =
     let first = a.is_package in let second = b.is_package in
     let same : a.package_is ≡ b.package_is = cc in
@@ -91,30 +95,43 @@ one-image : (r : PackageList) → HasOneImage (λ (a : Row). a.0) (λ a. IsClaus
 one-image r x y same first second =
     let Of : Demand → Type 0 = λ d. IsClauseFor r d x.1 in one-clause r y.0 x.1 y.1 (subst Of same first) second
 
-pub one-list : (r : PackageList) (P : Demand → Type 0) (clauses other : List (List Literal)) → AreClausesOf r P clauses → AreClausesOf r P other → other ≡ clauses
+pub one-list : (r : PackageList) (P : Demand → Type 0) (clauses other : List (List Literal)) → AreClausesOf r P clauses → AreClausesOf r P other
+    → other ≡ clauses
 one-list r P clauses other are also =
-    also.are ∙ rows-same (λ (a : Row). a.0) IsBefore (λ a. IsClauseFor r a.0 a.1) (λ a. a.1) demands-asymmetric (one-image r) are.rows also.rows are.rising also.rising are.each also.each
+    also.are ∙ rows-same (λ (a : Row). a.0) IsBefore (λ a. IsClauseFor r a.0 a.1) (λ a. a.1) demands-asymmetric (one-image r) are.rows also.rows are.rising
+    also.rising are.each also.each
     (λ d has. (also.exact d).1 ((are.exact d).0 has)) (λ d has. (are.exact d).1 ((also.exact d).0 has))
     ∙ sym are.are
 
 -- the clauses go on behind those of the demands before one, with the clause of that one
-pub goes-on-of : (r : PackageList) (P : Demand → Type 0) (d : Demand) (whole front : List (List Literal)) (clause : List Literal) → AreClausesOf r P whole → AreClausesOf r (λ e. P e × IsBefore e d) front → P d → IsClauseFor r d clause
+pub goes-on-of : (r : PackageList) (P : Demand → Type 0) (d : Demand) (whole front : List (List Literal)) (clause : List Literal) → AreClausesOf r P whole
+    → AreClausesOf r (λ e. P e × IsBefore e d) front → P d → IsClauseFor r d clause
     → GoesOn whole front clause
 goes-on-of r P d whole front clause are before here is_clause =
-    let on = rows-front (λ (a : Row). a.0) IsBefore (λ a. IsClauseFor r a.0 a.1) (λ a. a.1) demands-asymmetric (one-image r) (d, clause) is_clause are.rows before.rows are.rising before.rising are.each before.each
-    ((are.exact d).1 here) (λ e has below. (before.exact e).1 ((are.exact e).0 has, below)) (λ e has. (are.exact e).1 ((before.exact e).0 has).0) (λ e has. ((before.exact e).0 has).1) in
+    let on = rows-front (λ (a : Row). a.0) IsBefore (λ a. IsClauseFor r a.0 a.1) (λ a. a.1) demands-asymmetric (one-image r) (d, clause) is_clause are.rows
+    before.rows are.rising before.rising are.each before.each
+    ((are.exact d).1 here) (λ e has below. (before.exact e).1 ((are.exact e).0 has, below)) (λ e has. (are.exact e).1 ((before.exact e).0 has).0)
+    (λ e has. ((before.exact e).0 has).1) in
     record { rest = on.rest; is = are.are ∙ on.is ∙ ap (λ (xs : List (List Literal)). xs ++ clause ∷ on.rest) (sym before.are) }
 
-pub goes-on : (r : PackageList) (essential : Bool) (d : Demand) (whole front : List (List Literal)) (clause : List Literal) → ArePresentClauses r essential whole → AreClausesBefore r essential d front
+pub goes-on : (r : PackageList) (essential : Bool) (d : Demand) (whole front : List (List Literal)) (clause : List Literal)
+    → ArePresentClauses r essential whole → AreClausesBefore r essential d front
     → IsDemand r essential d → IsClauseFor r d clause → GoesOn whole front clause
 goes-on r essential d = goes-on-of r (IsDemand r essential) d
 
 -- ---- fronts
 
 -- the same clauses, of demands with a property that comes to the same
-pub clauses-shift : (r : PackageList) (P Q : Demand → Type 0) (clauses : List (List Literal)) → ((d : Demand) → P d → Q d) → ((d : Demand) → Q d → P d) → AreClausesOf r P clauses → AreClausesOf r Q clauses
+pub clauses-shift : (r : PackageList) (P Q : Demand → Type 0) (clauses : List (List Literal)) → ((d : Demand) → P d → Q d) → ((d : Demand) → Q d → P d)
+    → AreClausesOf r P clauses → AreClausesOf r Q clauses
 clauses-shift r P Q clauses to from of =
-    record { rows = of.rows; rising = of.rising; exact = λ d. ((λ has. to d ((of.exact d).0 has)), λ q. (of.exact d).1 (from d q)); each = of.each; are = of.are }
+    record {
+      rows = of.rows;
+      rising = of.rising;
+      exact = λ d. ((λ has. to d ((of.exact d).0 has)), λ q. (of.exact d).1 (from d q));
+      each = of.each;
+      are = of.are;
+    }
 
 pub clauses-none : (r : PackageList) (P : Demand → Type 0) → ((d : Demand) → ¬ P d) → AreClausesOf r P []
 clauses-none r P none = record {
@@ -146,7 +163,8 @@ any-push-left P (x ∷ xs) y any = elim (any-cases P x xs any) [
 ]
 
 -- one more clause behind the others, of a demand that is behind theirs
-pub clauses-more : (r : PackageList) (P Q : Demand → Type 0) (clauses : List (List Literal)) (d : Demand) (clause : List Literal) → AreClausesOf r P clauses → IsClauseFor r d clause
+pub clauses-more : (r : PackageList) (P Q : Demand → Type 0) (clauses : List (List Literal)) (d : Demand) (clause : List Literal) → AreClausesOf r P clauses
+    → IsClauseFor r d clause
     → ((e : Demand) → P e → IsBefore e d) → ((e : Demand) → Q e → P e ⊎ (d ≡ e)) → ((e : Demand) → P e → Q e) → Q d → AreClausesOf r Q (clauses ++ clause ∷ [])
 clauses-more r P Q clauses d clause of is below cases wider here =
     let row : Row = (d, clause) in

@@ -1,5 +1,6 @@
 -- Each refusal of the clauses of the present comes exactly where its cause is there.
-use Rattle.std.proofs.Common.{◌≡◌, ℕ, ◌+◌, ◌<◌, ◌≤◌, Bool, List, ◌∷◌, ◌++◌, length, nat_cmp, Ordering, Less, Equal, Greater, refl, sym, ap, subst, ◌∙◌, arith, inl, inr, length-append}
+use Rattle.std.proofs.Common.{◌≡◌, ℕ, ◌+◌, ◌<◌, ◌≤◌, Bool, List, ◌∷◌, ◌++◌, length, nat_cmp, Ordering, Less, Equal, Greater, refl, sym, ap, subst, ◌∙◌, arith}
+use Rattle.std.proofs.Common.{inl, inr, length-append}
 use Rattle.std.specs.Prelude.{IfErr, IfOk, Result, Ok, Err}
 use Rattle.std.specs.Cmp.Lexicographic.{slice_cmp}
 use Rattle.std.specs.Ordering.{ordering_reverse}
@@ -102,12 +103,14 @@ longer whole front clause on =
 fuller : (whole front : List (List Literal)) (clause : List Literal) → GoesOn whole front clause → literal_count front + length clause ≤ literal_count whole
 fuller whole front clause on =
     let e = ap literal_count on.is in
-    let f : literal_count (front ++ clause ∷ on.rest) ≡ literal_count front + literal_count (clause ∷ on.rest) = sum_by-append (λ c. length c) front (clause ∷ on.rest) in
+    let f : literal_count (front ++ clause ∷ on.rest) ≡ literal_count front + literal_count (clause ∷ on.rest) =
+    sum_by-append (λ c. length c) front (clause ∷ on.rest) in
     let g : literal_count (clause ∷ on.rest) ≡ length clause + literal_count on.rest = sum_by-cons (λ c. length c) clause on.rest in
     omega (arith, e, f, g)
 
 -- the clauses before a later demand go on behind those before an earlier one
-front-goes-on : (r : PackageList) (essential : Bool) (d e : Demand) (whole front : List (List Literal)) (clause : List Literal) → IsBefore d e → AreClausesOf r (λ x. IsDemand r essential x × IsBefore x e) whole
+front-goes-on : (r : PackageList) (essential : Bool) (d e : Demand) (whole front : List (List Literal)) (clause : List Literal) → IsBefore d e
+    → AreClausesOf r (λ x. IsDemand r essential x × IsBefore x e) whole
     → AreClausesOf r (λ x. IsDemand r essential x × IsBefore x d) front → IsDemand r essential d → IsClauseFor r d clause → GoesOn whole front clause
 front-goes-on r essential d e whole front clause less are those demand is =
     goes-on-of r (λ x. IsDemand r essential x × IsBefore x e) d whole front clause are
@@ -121,38 +124,46 @@ never-both r essential c l first second = by (compared first.demand second.deman
   where
     by : Compared first.demand second.demand → ⊥
     by (before less) =
-        let on = front-goes-on r essential first.demand second.demand second.front first.front first.clause less second.before first.before first.is_demand first.is_clause in
+        let on = front-goes-on r essential first.demand second.demand second.front first.front first.clause less second.before first.before first.is_demand
+        first.is_clause in
         let h = longer second.front first.front first.clause on in omega (arith, h, first.passes, second.passes.0)
     by (same is) =
         let Of : Demand → Type 0 = λ d. AreClausesOf r (λ x. IsDemand r essential x × IsBefore x d) first.front in
         let one = one-list r (λ x. IsDemand r essential x × IsBefore x second.demand) first.front second.front (subst Of is first.before) second.before in
         let h = ap length one in omega (arith, h, first.passes, second.passes.0)
     by (behind less) =
-        let on = front-goes-on r essential second.demand first.demand first.front second.front second.clause less first.before second.before second.is_demand second.is_clause in
+        let on = front-goes-on r essential second.demand first.demand first.front second.front second.clause less first.before second.before second.is_demand
+        second.is_clause in
         let h = fuller first.front second.front second.clause on in omega (arith, h, first.literals_kept, second.passes.1)
 
 -- a whole list that keeps both numbers passes none
-stop-goes-on : (r : PackageList) (essential : Bool) (c l : ℕ) (Passes : List (List Literal) → List Literal → Type 0) (set : ClauseList) → IsSetOf r (IsDemand r essential) c l set → (stop : IsStopped r essential c l Passes) → GoesOn set.clauses stop.front stop.clause
-stop-goes-on r essential c l Passes set of stop = goes-on r essential stop.demand set.clauses stop.front stop.clause of.clauses stop.before stop.is_demand stop.is_clause
+stop-goes-on : (r : PackageList) (essential : Bool) (c l : ℕ) (Passes : List (List Literal) → List Literal → Type 0) (set : ClauseList)
+    → IsSetOf r (IsDemand r essential) c l set → (stop : IsStopped r essential c l Passes) → GoesOn set.clauses stop.front stop.clause
+stop-goes-on r essential c l Passes set of stop = goes-on r essential stop.demand set.clauses stop.front stop.clause of.clauses stop.before stop.is_demand
+    stop.is_clause
 
-none-clauses : (r : PackageList) (essential : Bool) (c l : ℕ) (set : ClauseList) → IsSetOf r (IsDemand r essential) c l set → IsWithinLimits set → ¬ PassesClauses r essential c l
+none-clauses : (r : PackageList) (essential : Bool) (c l : ℕ) (set : ClauseList) → IsSetOf r (IsDemand r essential) c l set → IsWithinLimits set
+    → ¬ PassesClauses r essential c l
 none-clauses r essential c l set of within stop =
     let h = longer set.clauses stop.front stop.clause (stop-goes-on r essential c l _ set of stop) in
     omega (arith, h, stop.passes, within.clauses_within, of.clause_limit_is)
 
-none-literals : (r : PackageList) (essential : Bool) (c l : ℕ) (set : ClauseList) → IsSetOf r (IsDemand r essential) c l set → IsWithinLimits set → ¬ PassesLiterals r essential c l
+none-literals : (r : PackageList) (essential : Bool) (c l : ℕ) (set : ClauseList) → IsSetOf r (IsDemand r essential) c l set → IsWithinLimits set
+    → ¬ PassesLiterals r essential c l
 none-literals r essential c l set of within stop =
     let h = fuller set.clauses stop.front stop.clause (stop-goes-on r essential c l _ set of stop) in
     omega (arith, h, stop.passes.1, within.literals_within, of.literal_limit_is)
 
-pub exactly-clauses : {X : Type 0} (r : PackageList) (essential : Bool) (c l : ℕ) (view : X → ClauseList) (result : Result X PushError) → IfOk result (λ x. IsSetOf r (IsDemand r essential) c l (view x)) → IfOk result (λ x. IsWithinLimits (view x))
+pub exactly-clauses : {X : Type 0} (r : PackageList) (essential : Bool) (c l : ℕ) (view : X → ClauseList) (result : Result X PushError)
+    → IfOk result (λ x. IsSetOf r (IsDemand r essential) c l (view x)) → IfOk result (λ x. IsWithinLimits (view x))
     → IfErr result (IsCause r essential c l) → IsExactly NoMemory result TooManyClauses (PassesClauses r essential c l)
 exactly-clauses r essential c l view (Ok x) ok within err = λ memory. ((λ is. cc), λ passes. absurd (none-clauses r essential c l (view x) ok within passes))
 exactly-clauses r essential c l view (Err TooManyClauses) ok within err = λ memory. ((λ is. err), λ passes. refl)
 exactly-clauses r essential c l view (Err TooManyLiterals) ok within err = λ memory. ((λ is. cc), λ passes. absurd (never-both r essential c l passes err))
 exactly-clauses r essential c l view (Err NoMemory) ok within err = λ memory. absurd (memory refl)
 
-pub exactly-literals : {X : Type 0} (r : PackageList) (essential : Bool) (c l : ℕ) (view : X → ClauseList) (result : Result X PushError) → IfOk result (λ x. IsSetOf r (IsDemand r essential) c l (view x)) → IfOk result (λ x. IsWithinLimits (view x))
+pub exactly-literals : {X : Type 0} (r : PackageList) (essential : Bool) (c l : ℕ) (view : X → ClauseList) (result : Result X PushError)
+    → IfOk result (λ x. IsSetOf r (IsDemand r essential) c l (view x)) → IfOk result (λ x. IsWithinLimits (view x))
     → IfErr result (IsCause r essential c l) → IsExactly NoMemory result TooManyLiterals (PassesLiterals r essential c l)
 exactly-literals r essential c l view (Ok x) ok within err = λ memory. ((λ is. cc), λ passes. absurd (none-literals r essential c l (view x) ok within passes))
 exactly-literals r essential c l view (Err TooManyClauses) ok within err = λ memory. ((λ is. cc), λ passes. absurd (never-both r essential c l err passes))

@@ -1,5 +1,6 @@
 -- Fronts of the clauses of the present, up to an item or a pair, and why a set stops there.
-use Rattle.std.proofs.Common.{◌≡◌, ◌⊎◌, ℕ, ◌+◌, ◌<◌, ◌≤◌, Bool, false, List, [], ◌∷◌, ◌++◌, length, refl, sym, ap, ap₂, subst, ◌∙◌, arith, inl, inr, Some, slice_get}
+use Rattle.std.proofs.Common.{◌≡◌, ◌⊎◌, ℕ, ◌+◌, ◌<◌, ◌≤◌, Bool, false, List, [], ◌∷◌, ◌++◌, length, refl, sym, ap, ap₂, subst, ◌∙◌, arith, inl, inr, Some}
+use Rattle.std.proofs.Common.{slice_get}
 use Rattle.std.specs.Prelude.{IsSomeAnd}
 use Rattle.std.proofs.lemmas.Bool.{cases_lt}
 use Rattle.dist_base.specs.ListLaws.{has-at, within-from}
@@ -19,7 +20,8 @@ abbrev pub Before : PackageList → Demand → Demand → Type 0
 Before r d e = IsDemand r false e × IsBefore e d
 
 -- a set of the same clauses, of demands with a property that comes to the same
-pub set-shift : (r : PackageList) (P Q : Demand → Type 0) (c l : ℕ) (set : ClauseList) → ((d : Demand) → P d → Q d) → ((d : Demand) → Q d → P d) → IsSetOf r P c l set → IsSetOf r Q c l set
+pub set-shift : (r : PackageList) (P Q : Demand → Type 0) (c l : ℕ) (set : ClauseList) → ((d : Demand) → P d → Q d) → ((d : Demand) → Q d → P d)
+    → IsSetOf r P c l set → IsSetOf r Q c l set
 set-shift r P Q c l set to from of = record {
   clauses = clauses-shift r P Q set.clauses to from of.clauses;
   variables = of.variables;
@@ -28,8 +30,10 @@ set-shift r P Q c l set to from of = record {
 }
 
 -- one more clause in the set
-pub set-more : (r : PackageList) (P Q : Demand → Type 0) (c l : ℕ) (set : ClauseList) (d : Demand) (clause : List Literal) → IsSetOf r P c l set → IsClauseFor r d clause
-    → ((e : Demand) → P e → IsBefore e d) → ((e : Demand) → Q e → P e ⊎ (d ≡ e)) → ((e : Demand) → P e → Q e) → Q d → IsSetOf r Q c l (record set { clauses = set.clauses ++ clause ∷ [] })
+pub set-more : (r : PackageList) (P Q : Demand → Type 0) (c l : ℕ) (set : ClauseList) (d : Demand) (clause : List Literal) → IsSetOf r P c l set
+    → IsClauseFor r d clause
+    → ((e : Demand) → P e → IsBefore e d) → ((e : Demand) → Q e → P e ⊎ (d ≡ e)) → ((e : Demand) → P e → Q e) → Q d
+    → IsSetOf r Q c l (record set { clauses = set.clauses ++ clause ∷ [] })
 set-more r P Q c l set d clause of is below cases wider here = record {
   clauses = clauses-more r P Q set.clauses d clause of.clauses is below cases wider here;
   variables = of.variables;
@@ -40,7 +44,8 @@ set-more r P Q c l set d clause of is below cases wider here = record {
 -- ---- why a set stops at a clause
 
 pub stops : (r : PackageList) (essential : Bool) (set limits : ClauseList) (d : Demand) (clause : List Literal) (error : PushError)
-    → IsSetOf r (λ e. IsDemand r essential e × IsBefore e d) limits.clause_limit limits.literal_limit set → IsDemand r essential d → IsClauseFor r d clause → IsRefused set clause error → IsCauseAt r essential limits error
+    → IsSetOf r (λ e. IsDemand r essential e × IsBefore e d) limits.clause_limit limits.literal_limit set → IsDemand r essential d → IsClauseFor r d clause
+    → IsRefused set clause error → IsCauseAt r essential limits error
 stops r essential set limits d clause TooManyClauses of demand is refused =
     let c = of.clause_limit_is in let l = of.literal_limit_is in
     record {
@@ -98,12 +103,15 @@ item-cases r n k (Item a b) (demand, inr less) = elim (cases_lt b k) [
 item-cases r n k (Apart a b) (demand, before) = absurd before
 item-cases r n k (Required name) (demand, before) = absurd before
 
-pub item-pushed : (r : PackageList) (n k : ℕ) (limits set : ClauseList) (clause : List Literal) → IsFront r (Item n k) limits set → IsDemand r false (Item n k) → IsClauseFor r (Item n k) clause
+pub item-pushed : (r : PackageList) (n k : ℕ) (limits set : ClauseList) (clause : List Literal) → IsFront r (Item n k) limits set → IsDemand r false (Item n k)
+    → IsClauseFor r (Item n k) clause
     → IsFront r (Item n (k + 1)) limits (record set { clauses = set.clauses ++ clause ∷ [] })
 item-pushed r n k limits set clause of demand is =
-    set-more r (Before r (Item n k)) (Before r (Item n (k + 1))) limits.clause_limit limits.literal_limit set (Item n k) clause of is (λ e before. before.1) (item-cases r n k) (item-wider r n k) (demand, inr (refl, omega arith))
+    set-more r (Before r (Item n k)) (Before r (Item n (k + 1))) limits.clause_limit limits.literal_limit set (Item n k) clause of is (λ e before. before.1)
+    (item-cases r n k) (item-wider r n k) (demand, inr (refl, omega arith))
 
-pub item-skipped : (r : PackageList) (n k : ℕ) (limits set : ClauseList) → IsFront r (Item n k) limits set → ¬ IsDemand r false (Item n k) → IsFront r (Item n (k + 1)) limits set
+pub item-skipped : (r : PackageList) (n k : ℕ) (limits set : ClauseList) → IsFront r (Item n k) limits set → ¬ IsDemand r false (Item n k)
+    → IsFront r (Item n (k + 1)) limits set
 item-skipped r n k limits set of none =
     set-shift r (Before r (Item n k)) (Before r (Item n (k + 1))) limits.clause_limit limits.literal_limit set (item-wider r n k)
     (λ e before. elim (item-cases r n k e before) [
@@ -111,7 +119,8 @@ item-skipped r n k limits set of none =
       | inr same ↦ absurd (none (subst (IsDemand r false) (sym same) before.0))
     ]) of
 
-pub items-end : (r : PackageList) (n k : ℕ) (p : Package) (limits set : ClauseList) → slice_get r.packages n ≡ Some p → length p.depends ≤ k → IsFront r (Item n k) limits set → IsFront r (Item (n + 1) 0) limits set
+pub items-end : (r : PackageList) (n k : ℕ) (p : Package) (limits set : ClauseList) → slice_get r.packages n ≡ Some p → length p.depends ≤ k
+    → IsFront r (Item n k) limits set → IsFront r (Item (n + 1) 0) limits set
 items-end r n k p limits set is past of = set-shift r (Before r (Item n k)) (Before r (Item (n + 1) 0)) limits.clause_limit limits.literal_limit set to from of
   where
     to : (d : Demand) → Before r (Item n k) d → Before r (Item (n + 1) 0) d
@@ -152,7 +161,8 @@ all-items r n limits set past of = set-shift r (Before r (Item n 0)) (Before r (
 
 -- ---- pairs
 
-pub pair-shifted : (r : PackageList) (n k m : ℕ) (limits set : ClauseList) → k ≤ m → ((i : ℕ) → k ≤ i → i < m → ¬ IsDemand r false (Apart n i)) → IsFront r (Apart n k) limits set → IsFront r (Apart n m) limits set
+pub pair-shifted : (r : PackageList) (n k m : ℕ) (limits set : ClauseList) → k ≤ m → ((i : ℕ) → k ≤ i → i < m → ¬ IsDemand r false (Apart n i))
+    → IsFront r (Apart n k) limits set → IsFront r (Apart n m) limits set
 pair-shifted r n k m limits set up none of = set-shift r (Before r (Apart n k)) (Before r (Apart n m)) limits.clause_limit limits.literal_limit set to from of
   where
     to : (d : Demand) → Before r (Apart n k) d → Before r (Apart n m) d
@@ -170,10 +180,12 @@ pair-shifted r n k m limits set up none of = set-shift r (Before r (Apart n k)) 
     ]
     from (Required name) (demand, before) = absurd before
 
-pub pair-pushed : (r : PackageList) (n k : ℕ) (limits set : ClauseList) (clause : List Literal) → IsFront r (Apart n k) limits set → IsDemand r false (Apart n k) → IsClauseFor r (Apart n k) clause
+pub pair-pushed : (r : PackageList) (n k : ℕ) (limits set : ClauseList) (clause : List Literal) → IsFront r (Apart n k) limits set
+    → IsDemand r false (Apart n k) → IsClauseFor r (Apart n k) clause
     → IsFront r (Apart n (k + 1)) limits (record set { clauses = set.clauses ++ clause ∷ [] })
 pair-pushed r n k limits set clause of demand is =
-    set-more r (Before r (Apart n k)) (Before r (Apart n (k + 1))) limits.clause_limit limits.literal_limit set (Apart n k) clause of is (λ e before. before.1) cases wider (demand, inr (refl, omega arith))
+    set-more r (Before r (Apart n k)) (Before r (Apart n (k + 1))) limits.clause_limit limits.literal_limit set (Apart n k) clause of is (λ e before. before.1)
+    cases wider (demand, inr (refl, omega arith))
   where
     cases : (d : Demand) → Before r (Apart n (k + 1)) d → Before r (Apart n k) d ⊎ (Apart n k ≡ d)
     cases (Item a b) (demand, before) = inl (demand, tt)
@@ -190,7 +202,8 @@ pair-pushed r n k limits set clause of demand is =
     wider (Apart a b) (demand, inr less) = (demand, inr (less.0, omega (arith, less.1)))
     wider (Required name) (demand, before) = absurd before
 
-pub pairs-end : (r : PackageList) (n k : ℕ) (limits set : ClauseList) → ((i : ℕ) → k ≤ i → ¬ IsDemand r false (Apart n i)) → IsFront r (Apart n k) limits set → IsFront r (Apart (n + 1) 0) limits set
+pub pairs-end : (r : PackageList) (n k : ℕ) (limits set : ClauseList) → ((i : ℕ) → k ≤ i → ¬ IsDemand r false (Apart n i)) → IsFront r (Apart n k) limits set
+    → IsFront r (Apart (n + 1) 0) limits set
 pairs-end r n k limits set none of = set-shift r (Before r (Apart n k)) (Before r (Apart (n + 1) 0)) limits.clause_limit limits.literal_limit set to from of
   where
     to : (d : Demand) → Before r (Apart n k) d → Before r (Apart (n + 1) 0) d
@@ -214,7 +227,8 @@ pairs-end r n k limits set none of = set-shift r (Before r (Apart n k)) (Before 
     from (Required name) (demand, before) = absurd before
 
 pub all-pairs : (r : PackageList) (n : ℕ) (limits set : ClauseList) → length r.packages ≤ n → IsFront r (Apart n 0) limits set → IsPlainSet r limits set
-all-pairs r n limits set past of = set-shift r (Before r (Apart n 0)) (IsDemand r false) limits.clause_limit limits.literal_limit set (λ d before. before.0) from of
+all-pairs r n limits set past of = set-shift r (Before r (Apart n 0)) (IsDemand r false) limits.clause_limit limits.literal_limit set (λ d before. before.0)
+    from of
   where
     from : (d : Demand) → IsDemand r false d → Before r (Apart n 0) d
     from (Item a b) demand = (demand, tt)
@@ -235,7 +249,8 @@ before-relation r essential (Item n k) (Required name) is demand before = absurd
 before-relation r essential (Apart n k) (Required name) is demand before = absurd before
 before-relation r essential (Required other) (Required name) is demand before = absurd (not-required r other is)
 
-stopped-too : (r : PackageList) (essential : Bool) (c l : ℕ) (Passes : List (List Literal) → List Literal → Type 0) → IsStopped r false c l Passes → IsStopped r essential c l Passes
+stopped-too : (r : PackageList) (essential : Bool) (c l : ℕ) (Passes : List (List Literal) → List Literal → Type 0) → IsStopped r false c l Passes
+    → IsStopped r essential c l Passes
 stopped-too r essential c l Passes stop = record {
   demand = stop.demand;
   is_demand = relation-demand r essential stop.demand stop.is_demand;
@@ -243,7 +258,8 @@ stopped-too r essential c l Passes stop = record {
   is_clause = stop.is_clause;
   front = stop.front;
   before = clauses-shift r (λ e. IsDemand r false e × IsBefore e stop.demand) (λ e. IsDemand r essential e × IsBefore e stop.demand) stop.front
-      (λ e before. (relation-demand r essential e before.0, before.1)) (λ e before. (before-relation r essential stop.demand e stop.is_demand before.0 before.1, before.1)) stop.before;
+      (λ e before. (relation-demand r essential e before.0, before.1))
+      (λ e before. (before-relation r essential stop.demand e stop.is_demand before.0 before.1, before.1)) stop.before;
   clauses_kept = stop.clauses_kept;
   literals_kept = stop.literals_kept;
   passes = stop.passes;
@@ -259,7 +275,8 @@ cause-too r essential c l NoMemory cause = tt
 pub set-own : (r : PackageList) (P : Demand → Type 0) (c l : ℕ) (set : ClauseList) → IsSetOf r P c l set → IsSetOf r P set.clause_limit set.literal_limit set
 set-own r P c l set of = record { clauses = of.clauses; variables = of.variables; clause_limit_is = refl; literal_limit_is = refl }
 
-pub set-chain : (r : PackageList) (P Q : Demand → Type 0) (c l : ℕ) (set new : ClauseList) → IsSetOf r P c l set → IsSetOf r Q set.clause_limit set.literal_limit new → IsSetOf r Q c l new
+pub set-chain : (r : PackageList) (P Q : Demand → Type 0) (c l : ℕ) (set new : ClauseList) → IsSetOf r P c l set
+    → IsSetOf r Q set.clause_limit set.literal_limit new → IsSetOf r Q c l new
 set-chain r P Q c l set new of then = record {
   clauses = then.clauses;
   variables = then.variables;
@@ -267,7 +284,8 @@ set-chain r P Q c l set new of then = record {
   literal_limit_is = then.literal_limit_is ∙ of.literal_limit_is;
 }
 
-pub cause-chain : (r : PackageList) (essential : Bool) (P : Demand → Type 0) (c l : ℕ) (set : ClauseList) (error : PushError) → IsSetOf r P c l set → IsCauseAt r essential set error → IsCause r essential c l error
+pub cause-chain : (r : PackageList) (essential : Bool) (P : Demand → Type 0) (c l : ℕ) (set : ClauseList) (error : PushError) → IsSetOf r P c l set
+    → IsCauseAt r essential set error → IsCause r essential c l error
 cause-chain r essential P c l set error of cause =
     let First : ℕ → Type 0 = λ n. IsCause r essential n set.literal_limit error in
     let Second : ℕ → Type 0 = λ n. IsCause r essential c n error in

@@ -1,5 +1,6 @@
 -- An installation is healthy exactly where it has none of the four kinds of fault.
-use Rattle.std.proofs.Common.{◌≡◌, ℕ, zero, suc, ◌<◌, Bool, true, false, cond, List, [], ◌∷◌, get_or, Some, None, Option, refl, subst, arith, inl, inr, slice_get}
+use Rattle.std.proofs.Common.{◌≡◌, ℕ, zero, suc, ◌<◌, Bool, true, false, cond, List, [], ◌∷◌, get_or, Some, None, Option, refl, subst, arith, inl, inr}
+use Rattle.std.proofs.Common.{slice_get}
 use Rattle.std.specs.Prelude.{All, AllPairs, Any, Contains, IsSomeAnd, filter, map}
 use Rattle.std.proofs.lemmas.List.Elements.{All-cons, All-contains, All-map, All-nil, All-tail}
 use Rattle.std.proofs.lemmas.List.Kept.{AllPairs-cons}
@@ -41,7 +42,8 @@ pairs-none R i j d in_order short = absurd (omega arith)
 abbrev pub EachPassed : {X : Type 0} → (X → Bool) → (X → Type 0) → List X → Type 0
 EachPassed {X} test P xs = (k : ℕ) (x : X) → slice_get xs k ≡ Some x → test x ≡ true → P x
 
-passed-more : {X : Type 0} (test : X → Bool) (P : X → Type 0) (x : X) (xs : List X) (answer : Bool) → test x ≡ answer → (test x ≡ true → P x) → All P (filter test xs) → All P (cond answer (x ∷ filter test xs) (filter test xs))
+passed-more : {X : Type 0} (test : X → Bool) (P : X → Type 0) (x : X) (xs : List X) (answer : Bool) → test x ≡ answer → (test x ≡ true → P x)
+    → All P (filter test xs) → All P (cond answer (x ∷ filter test xs) (filter test xs))
 passed-more test P x xs true passes here later = All-cons P x (filter test xs) (here passes) later
 passed-more test P x xs false fails here later = later
 
@@ -50,11 +52,13 @@ all-passed test P [] each = All-nil P
 all-passed test P (x ∷ xs) each =
     passed-more test P x xs (test x) refl (each 0 x refl) (all-passed test P xs (λ k y is. each (suc k) y is))
 
-passed-head : {X : Type 0} (test : X → Bool) (P : X → Type 0) (x : X) (xs : List X) (answer : Bool) → test x ≡ answer → All P (cond answer (x ∷ filter test xs) (filter test xs)) → test x ≡ true → P x
+passed-head : {X : Type 0} (test : X → Bool) (P : X → Type 0) (x : X) (xs : List X) (answer : Bool) → test x ≡ answer
+    → All P (cond answer (x ∷ filter test xs) (filter test xs)) → test x ≡ true → P x
 passed-head test P x xs true told all passes = all 0 x (omega arith)
 passed-head test P x xs false told all passes = cc
 
-passed-later : {X : Type 0} (test : X → Bool) (P : X → Type 0) (x : X) (xs : List X) (answer : Bool) → All P (cond answer (x ∷ filter test xs) (filter test xs)) → All P (filter test xs)
+passed-later : {X : Type 0} (test : X → Bool) (P : X → Type 0) (x : X) (xs : List X) (answer : Bool) → All P (cond answer (x ∷ filter test xs) (filter test xs))
+    → All P (filter test xs)
 passed-later test P x xs true all = All-tail P x (filter test xs) all
 passed-later test P x xs false all = all
 
@@ -100,7 +104,8 @@ each-member P (p ∷ packages) (true ∷ flags) all (suc k) q m =
 each-member P (p ∷ packages) (false ∷ flags) all (suc k) q m =
     each-member P packages flags all k q (record { member = m.member; there = m.there })
 
-pub all-two : (R : Package → Package → Type 0) (packages : List Package) (flags : List Bool) → EachTwoMembers R packages flags → AllPairs R (members_of packages flags)
+pub all-two : (R : Package → Package → Type 0) (packages : List Package) (flags : List Bool) → EachTwoMembers R packages flags
+    → AllPairs R (members_of packages flags)
 all-two R [] flags each = pairs-none R
 all-two R (p ∷ packages) [] each = pairs-none R
 all-two R (p ∷ packages) (true ∷ flags) each =
@@ -108,19 +113,23 @@ all-two R (p ∷ packages) (true ∷ flags) each =
     (all-members (R p) packages flags
     (λ k q m. each 0 (suc k) p q (omega arith) (record { member = refl; there = refl }) (record { member = m.member; there = m.there })))
     (all-two R packages flags
-    (λ i j q s in_order m n. each (suc i) (suc j) q s (omega arith) (record { member = m.member; there = m.there }) (record { member = n.member; there = n.there })))
+    (λ i j q s in_order m n. each (suc i) (suc j) q s (omega arith) (record { member = m.member; there = m.there })
+    (record { member = n.member; there = n.there })))
 all-two R (p ∷ packages) (false ∷ flags) each =
     all-two R packages flags
-    (λ i j q s in_order m n. each (suc i) (suc j) q s (omega arith) (record { member = m.member; there = m.there }) (record { member = n.member; there = n.there }))
+    (λ i j q s in_order m n. each (suc i) (suc j) q s (omega arith) (record { member = m.member; there = m.there })
+    (record { member = n.member; there = n.there }))
 
-pub each-two : (R : Package → Package → Type 0) (packages : List Package) (flags : List Bool) → AllPairs R (members_of packages flags) → EachTwoMembers R packages flags
+pub each-two : (R : Package → Package → Type 0) (packages : List Package) (flags : List Bool) → AllPairs R (members_of packages flags)
+    → EachTwoMembers R packages flags
 each-two R [] flags pairs i j p q in_order m n = let there = m.there in cc
 each-two R (y ∷ packages) [] pairs i j p q in_order m n = let member = m.member in cc
 each-two R (y ∷ packages) (b ∷ flags) pairs i zero p q in_order m n = absurd (omega arith)
 each-two R (y ∷ packages) (true ∷ flags) pairs zero (suc j) p q in_order m n =
     let there : Some y ≡ Some p = m.there in let same : y ≡ p = cc in
     let first : Package → Type 0 = λ x. R x q in
-    subst first same (each-member (R y) packages flags (all-contained (R y) (members_of packages flags) (pairs-head R y (members_of packages flags) pairs)) j q (record { member = n.member; there = n.there }))
+    subst first same (each-member (R y) packages flags (all-contained (R y) (members_of packages flags) (pairs-head R y (members_of packages flags) pairs)) j q
+    (record { member = n.member; there = n.there }))
 each-two R (y ∷ packages) (false ∷ flags) pairs zero (suc j) p q in_order m n = let member : Some false ≡ Some true = m.member in cc
 each-two R (y ∷ packages) (true ∷ flags) pairs (suc i) (suc j) p q in_order m n =
     each-two R packages flags (pairs-tail R y (members_of packages flags) pairs) i j p q (omega arith)
@@ -131,15 +140,21 @@ each-two R (y ∷ packages) (false ∷ flags) pairs (suc i) (suc j) p q in_order
 
 -- ---- pairs of members in a relation
 
-pub two-from : (r : PackageList) (flags : List Bool) (R : Package → Package → Type 0) → IsNoPair (AreMembers r flags R) → AllPairs (λ p q. ¬ R p q) (members_of r.packages flags)
+pub two-from : (r : PackageList) (flags : List Bool) (R : Package → Package → Type 0) → IsNoPair (AreMembers r flags R)
+    → AllPairs (λ p q. ¬ R p q) (members_of r.packages flags)
 two-from r flags R none = all-two (λ p q. ¬ R p q) r.packages flags
     (λ i j p q in_order m n related. none i j (record {
       in_order = in_order;
       second_member = n.member;
-      related = record { member = m.member; has = at-has (λ x. IsPackageAnd r.packages j (R x)) r.packages i p m.there (at-has (R p) r.packages j q n.there related) };
+      related = record {
+        member = m.member;
+        has = at-has (λ x. IsPackageAnd r.packages j (R x)) r.packages i p m.there
+            (at-has (R p) r.packages j q n.there related);
+      };
     }))
 
-pub no-two : (r : PackageList) (flags : List Bool) (R : Package → Package → Type 0) → AllPairs (λ p q. ¬ R p q) (members_of r.packages flags) → IsNoPair (AreMembers r flags R)
+pub no-two : (r : PackageList) (flags : List Bool) (R : Package → Package → Type 0) → AllPairs (λ p q. ¬ R p q) (members_of r.packages flags)
+    → IsNoPair (AreMembers r flags R)
 no-two r flags R pairs i j are =
     let first = found (λ x. IsPackageAnd r.packages j (R x)) (slice_get r.packages i) are.related.has in
     let second = found (R first.value) (slice_get r.packages j) first.holds in
@@ -148,7 +163,8 @@ no-two r flags R pairs i j are =
 
 -- ---- dependencies
 
-met-from : (r : PackageList) (flags : List Bool) → IsNoPair (IsUnmetAt r flags) → All (λ p. All (IsMet r.architecture (members_of r.packages flags)) p.depends) (members_of r.packages flags)
+met-from : (r : PackageList) (flags : List Bool) → IsNoPair (IsUnmetAt r flags)
+    → All (λ p. All (IsMet r.architecture (members_of r.packages flags)) p.depends) (members_of r.packages flags)
 met-from r flags none = all-members (λ p. All (IsMet r.architecture (members_of r.packages flags)) p.depends) r.packages flags
     (λ n p m. all-from (IsMet r.architecture (members_of r.packages flags)) p.depends
     (λ k item is. elim (met-decided r.architecture (members_of r.packages flags) item) [
@@ -166,7 +182,8 @@ met-from r flags none = all-members (λ p. All (IsMet r.architecture (members_of
 abbrev pub HasName : PackageList → List Bool → List ℕ → Type 0
 HasName r flags name = Any (λ q. q.name ≡ name) (members_of r.packages flags)
 
-pub names-from : (r : PackageList) (flags : List Bool) (essential : Bool) → (essential ≡ true → (n : ℕ) → ¬ IsMissing r flags n) → All (HasName r flags) (required_names essential r.packages)
+pub names-from : (r : PackageList) (flags : List Bool) (essential : Bool) → (essential ≡ true → (n : ℕ) → ¬ IsMissing r flags n)
+    → All (HasName r flags) (required_names essential r.packages)
 names-from r flags false none = All-nil (HasName r flags)
 names-from r flags true none =
     All-map (HasName r flags) (λ p. p.name) (filter (λ p. p.essential) r.packages)
@@ -178,7 +195,8 @@ names-from r flags true none =
 
 -- ---- from none of the four, and back
 
-pub healthy-from : (r : PackageList) (flags : List Bool) (essential : Bool) → IsNoPair (AreTwoVersions r flags) → IsNoPair (IsUnmetAt r flags) → IsNoPair (AreConflicting r flags) → (essential ≡ true → (n : ℕ) → ¬ IsMissing r flags n) →
+pub healthy-from : (r : PackageList) (flags : List Bool) (essential : Bool) → IsNoPair (AreTwoVersions r flags) → IsNoPair (IsUnmetAt r flags)
+    → IsNoPair (AreConflicting r flags) → (essential ≡ true → (n : ℕ) → ¬ IsMissing r flags n) →
     Healthy r.architecture (required_names essential r.packages) r.packages (members_of r.packages flags)
 healthy-from r flags essential versions unmet conflict missing = record {
   chosen = all-members (Contains r.packages) r.packages flags (λ k p m. contains-at r.packages k p m.there);
@@ -188,18 +206,23 @@ healthy-from r flags essential versions unmet conflict missing = record {
   has_required = names-from r flags essential missing;
 }
 
-pub no-two_versions : (r : PackageList) (flags : List Bool) (essential : Bool) → Healthy r.architecture (required_names essential r.packages) r.packages (members_of r.packages flags) → IsNoPair (AreTwoVersions r flags)
+pub no-two_versions : (r : PackageList) (flags : List Bool) (essential : Bool)
+    → Healthy r.architecture (required_names essential r.packages) r.packages (members_of r.packages flags) → IsNoPair (AreTwoVersions r flags)
 no-two_versions r flags essential healthy = no-two r flags (λ p q. p.name ≡ q.name) healthy.one_of_a_name
 
-pub no-conflict : (r : PackageList) (flags : List Bool) (essential : Bool) → Healthy r.architecture (required_names essential r.packages) r.packages (members_of r.packages flags) → IsNoPair (AreConflicting r flags)
+pub no-conflict : (r : PackageList) (flags : List Bool) (essential : Bool)
+    → Healthy r.architecture (required_names essential r.packages) r.packages (members_of r.packages flags) → IsNoPair (AreConflicting r flags)
 no-conflict r flags essential healthy = no-two r flags (AreInConflict r.architecture) healthy.no_conflict
 
-pub no-unmet : (r : PackageList) (flags : List Bool) (essential : Bool) → Healthy r.architecture (required_names essential r.packages) r.packages (members_of r.packages flags) → IsNoPair (IsUnmetAt r flags)
+pub no-unmet : (r : PackageList) (flags : List Bool) (essential : Bool)
+    → Healthy r.architecture (required_names essential r.packages) r.packages (members_of r.packages flags) → IsNoPair (IsUnmetAt r flags)
 no-unmet r flags essential healthy n k unmet =
-    let holder = found (λ q. IsSomeAnd (slice_get q.depends k) (λ x. ¬ IsMet r.architecture (members_of r.packages flags) x)) (slice_get r.packages n) unmet.has in
+    let holder = found (λ q. IsSomeAnd (slice_get q.depends k) (λ x. ¬ IsMet r.architecture (members_of r.packages flags) x)) (slice_get r.packages n)
+    unmet.has in
     let item = found (λ x. ¬ IsMet r.architecture (members_of r.packages flags) x) (slice_get holder.value.depends k) holder.holds in
     let each : All (IsMet r.architecture (members_of r.packages flags)) holder.value.depends =
-    each-member (λ p. All (IsMet r.architecture (members_of r.packages flags)) p.depends) r.packages flags healthy.met n holder.value (record { member = unmet.member; there = holder.is_value }) in
+    each-member (λ p. All (IsMet r.architecture (members_of r.packages flags)) p.depends) r.packages flags healthy.met n holder.value
+    (record { member = unmet.member; there = holder.is_value }) in
     item.holds (all-at (IsMet r.architecture (members_of r.packages flags)) holder.value.depends each k item.value item.is_value)
 
 -- what holds of each image holds of each element's
@@ -208,7 +231,8 @@ all-before_map P f [] all = All-nil (λ x. P (f x))
 all-before_map P f (x ∷ xs) all =
     All-cons (λ y. P (f y)) x xs (all 0 (f x) (omega arith)) (all-before_map P f xs (All-tail P (f x) (map f xs) all))
 
-pub no-missing : (r : PackageList) (flags : List Bool) (essential : Bool) → Healthy r.architecture (required_names essential r.packages) r.packages (members_of r.packages flags) → essential ≡ true → (n : ℕ) → ¬ IsMissing r flags n
+pub no-missing : (r : PackageList) (flags : List Bool) (essential : Bool)
+    → Healthy r.architecture (required_names essential r.packages) r.packages (members_of r.packages flags) → essential ≡ true → (n : ℕ) → ¬ IsMissing r flags n
 no-missing r flags false healthy is n missing = cc
 no-missing r flags true healthy is n missing =
     let lost = found (λ p. (p.essential ≡ true) × (¬ HasName r flags p.name)) (slice_get r.packages n) missing in

@@ -10,11 +10,13 @@ use Rattle.dist_now.proofs.LeastLemmas.{IsNoneTo}
 use Rattle.dist_now.proofs.NameLemmas.{between-named}
 
 -- no member behind one, where none so far is and the numbers have ended
-pub none-later : (r : PackageList) (flags : List Bool) (first count : ℕ) (Q : Package → Type 0) → length r.packages ≤ count → IsNoneTo (IsLater r flags first Q) count → (n : ℕ) → ¬ IsLater r flags first Q n
+pub none-later : (r : PackageList) (flags : List Bool) (first count : ℕ) (Q : Package → Type 0) → length r.packages ≤ count
+    → IsNoneTo (IsLater r flags first Q) count → (n : ℕ) → ¬ IsLater r flags first Q n
 none-later r flags first count Q past none n later = none n (omega (arith, past, within-from Q r.packages n later.1.has)) later
 
 -- no member of one name behind a package of another
-pub none-of-name : (r : PackageList) (flags : List Bool) (first count : ℕ) (p q : Package) → IsInOrder r.packages → first < count → slice_get r.packages first ≡ Some p → slice_get r.packages count ≡ Some q → q.name ≢ p.name
+pub none-of-name : (r : PackageList) (flags : List Bool) (first count : ℕ) (p q : Package) → IsInOrder r.packages → first < count
+    → slice_get r.packages first ≡ Some p → slice_get r.packages count ≡ Some q → q.name ≢ p.name
     → IsNoneTo (IsLater r flags first (λ z. p.name ≡ z.name)) count → (n : ℕ) → ¬ IsLater r flags first (λ z. p.name ≡ z.name) n
 none-of-name r flags first count p q ordered behind is_p is_q other none n later =
     elim (cases_lt n count) [

@@ -1,5 +1,6 @@
 -- The members of an installation, and what they meet.
-use Rattle.std.proofs.Common.{◌≡◌, ℕ, zero, suc, ◌<◌, ◌≤◌, Bool, true, false, List, [], ◌∷◌, length, get_or, Some, Option, refl, sym, subst, ◌∙◌, arith, inl, inr, slice_get}
+use Rattle.std.proofs.Common.{◌≡◌, ℕ, zero, suc, ◌<◌, ◌≤◌, Bool, true, false, List, [], ◌∷◌, length, get_or, Some, Option, refl, sym, subst, ◌∙◌, arith, inl}
+use Rattle.std.proofs.Common.{inr, slice_get}
 use Rattle.std.specs.Prelude.{Any, Contains}
 use Rattle.std.proofs.lemmas.List.{get_or_default}
 use Rattle.dist_base.specs.ListLaws.{any-cases, any-head, any-later, at-has, at-weaker}
@@ -10,7 +11,8 @@ use Rattle.dist_repo.specs.Providers.{AreProviders, IsProvider}
 use Rattle.dist_repo.specs.declared.package.Package.{Package}
 use Rattle.dist_now.specs.Members.{IsMemberAnd, members_of}
 
-pub member-any : (P : Package → Type 0) (packages : List Package) (flags : List Bool) (k : ℕ) → slice_get flags k ≡ Some true → IsPackageAnd packages k P → Any P (members_of packages flags)
+pub member-any : (P : Package → Type 0) (packages : List Package) (flags : List Bool) (k : ℕ) → slice_get flags k ≡ Some true → IsPackageAnd packages k P
+    → Any P (members_of packages flags)
 member-any P [] flags k member here = absurd here
 member-any P (p ∷ packages) [] k member here = cc
 member-any P (p ∷ packages) (true ∷ flags) zero member here = any-head P p (members_of packages flags) here
@@ -24,7 +26,8 @@ pub record SomeMember (P : Package → Type 0) (packages : List Package) (flags 
   pub member : slice_get flags number ≡ Some true
   pub has : IsPackageAnd packages number P
 
-next-member : (P : Package → Type 0) (p : Package) (packages : List Package) (b : Bool) (flags : List Bool) → SomeMember P packages flags → SomeMember P (p ∷ packages) (b ∷ flags)
+next-member : (P : Package → Type 0) (p : Package) (packages : List Package) (b : Bool) (flags : List Bool) → SomeMember P packages flags
+    → SomeMember P (p ∷ packages) (b ∷ flags)
 next-member P p packages b flags m = record { number = suc m.number; member = m.member; has = m.has }
 
 pub any-member : (P : Package → Type 0) (packages : List Package) (flags : List Bool) → Any P (members_of packages flags) → SomeMember P packages flags
@@ -51,7 +54,8 @@ abbrev pub IsNoneOf : PackageList → List Bool → (Package → Type 0) → Lis
 IsNoneOf r flags Q providers count = (k : ℕ) → k < count → ¬ IsMemberAnd r.packages flags (get_or providers k 0) Q
 
 -- no member has a property that only providers of the name have
-pub none-of : (r : PackageList) (flags : List Bool) (name : List ℕ) (Q : Package → Type 0) (providers : List ℕ) (count : ℕ) → length providers ≤ count → AreProviders r name providers
+pub none-of : (r : PackageList) (flags : List Bool) (name : List ℕ) (Q : Package → Type 0) (providers : List ℕ) (count : ℕ) → length providers ≤ count
+    → AreProviders r name providers
     → ((p : Package) → Q p → IsProvider r.architecture name p) → IsNoneOf r flags Q providers count → ¬ Any Q (members_of r.packages flags)
 none-of r flags name Q providers count past are provides none any =
     let m = any-member Q r.packages flags any in
@@ -64,20 +68,24 @@ none-of r flags name Q providers count past are provides none any =
 abbrev pub IsNoneMatched : PackageList → List Bool → Atom → List ℕ → ℕ → Type 0
 IsNoneMatched r flags atom = IsNoneOf r flags (Matches r.architecture atom)
 
-pub none-matched : (r : PackageList) (flags : List Bool) (atom : Atom) (providers : List ℕ) (count : ℕ) → length providers ≤ count → AreProviders r atom.name providers → IsNoneMatched r flags atom providers count →
+pub none-matched : (r : PackageList) (flags : List Bool) (atom : Atom) (providers : List ℕ) (count : ℕ) → length providers ≤ count
+    → AreProviders r atom.name providers → IsNoneMatched r flags atom providers count →
     ¬ Any (Matches r.architecture atom) (members_of r.packages flags)
-none-matched r flags atom providers count past are none = none-of r flags atom.name (Matches r.architecture atom) providers count past are (matched-provides r.architecture atom) none
+none-matched r flags atom providers count past are none =
+    none-of r flags atom.name (Matches r.architecture atom) providers count past are (matched-provides r.architecture atom) none
 
 -- of this name
 abbrev pub IsNamed : List ℕ → Package → Type 0
 IsNamed name q = q.name ≡ name
 
-pub none-named : (r : PackageList) (flags : List Bool) (name : List ℕ) (providers : List ℕ) (count : ℕ) → length providers ≤ count → AreProviders r name providers → IsNoneOf r flags (IsNamed name) providers count →
+pub none-named : (r : PackageList) (flags : List Bool) (name : List ℕ) (providers : List ℕ) (count : ℕ) → length providers ≤ count
+    → AreProviders r name providers → IsNoneOf r flags (IsNamed name) providers count →
     ¬ Any (IsNamed name) (members_of r.packages flags)
 none-named r flags name providers count past are none = none-of r flags name (IsNamed name) providers count past are (λ p is. inl is) none
 
 -- a provider that is a member and that the atom matches
-pub provider-any : (r : PackageList) (flags : List Bool) (atom : Atom) (number : ℕ) (p : Package) → slice_get flags number ≡ Some true → slice_get r.packages number ≡ Some p
+pub provider-any : (r : PackageList) (flags : List Bool) (atom : Atom) (number : ℕ) (p : Package) → slice_get flags number ≡ Some true
+    → slice_get r.packages number ≡ Some p
     → Matches r.architecture atom p → Any (Matches r.architecture atom) (members_of r.packages flags)
 provider-any r flags atom number p member here matches =
     member-any (Matches r.architecture atom) r.packages flags number member (at-has (Matches r.architecture atom) r.packages number p here matches)
@@ -87,7 +95,8 @@ abbrev pub IsMetBy : PackageList → List Bool → Atom → Type 0
 IsMetBy r flags atom = Any (Matches r.architecture atom) (members_of r.packages flags)
 
 -- a member of a name
-pub named-any : (r : PackageList) (flags : List Bool) (name : List ℕ) (number : ℕ) (p : Package) → slice_get flags number ≡ Some true → slice_get r.packages number ≡ Some p
+pub named-any : (r : PackageList) (flags : List Bool) (name : List ℕ) (number : ℕ) (p : Package) → slice_get flags number ≡ Some true
+    → slice_get r.packages number ≡ Some p
     → p.name ≡ name → Any (IsNamed name) (members_of r.packages flags)
 named-any r flags name number p member here is =
     member-any (IsNamed name) r.packages flags number member (at-has (IsNamed name) r.packages number p here is)

@@ -1,5 +1,6 @@
 -- Fronts of the clauses of mode essential, up to a name.
-use Rattle.std.proofs.Common.{◌≡◌, ◌≢◌, ◌⊎◌, ℕ, ◌+◌, ◌<◌, ◌≤◌, true, false, List, [], ◌∷◌, ◌++◌, length, get_or, nat_cmp, Ordering, Less, Equal, Greater, refl, sym, ap, subst, ◌∙◌, arith, inl, inr, Some, slice_get}
+use Rattle.std.proofs.Common.{◌≡◌, ◌≢◌, ◌⊎◌, ℕ, ◌+◌, ◌<◌, ◌≤◌, true, false, List, [], ◌∷◌, ◌++◌, length, get_or, nat_cmp, Ordering, Less, Equal, Greater, refl}
+use Rattle.std.proofs.Common.{sym, ap, subst, ◌∙◌, arith, inl, inr, Some, slice_get}
 use Rattle.std.specs.Cmp.Lexicographic.{slice_cmp}
 use Rattle.std.specs.Ordering.{ordering_reverse}
 use Rattle.std.proofs.lemmas.Bool.{cases_lt, false≢true}
@@ -25,12 +26,14 @@ HasNoneFrom r number name before = (k : ℕ) → before ≤ k → k < number →
 
 -- ---- the order of names
 
-pub names-in-order : (packages : List Package) (i j : ℕ) (p q : Package) → IsInOrder packages → i < j → slice_get packages i ≡ Some p → slice_get packages j ≡ Some q → slice_cmp nat_cmp p.name q.name ≢ Greater
+pub names-in-order : (packages : List Package) (i j : ℕ) (p q : Package) → IsInOrder packages → i < j → slice_get packages i ≡ Some p
+    → slice_get packages j ≡ Some q → slice_cmp nat_cmp p.name q.name ≢ Greater
 names-in-order packages i j p q ordered before is_p is_q =
     let first : get_or packages i p ≡ p = get_or_from_slice_get packages i p p is_p in
     let second : get_or packages j p ≡ q = get_or_from_slice_get packages j q p is_q in
     let less : package_cmp (get_or packages i p) (get_or packages j p) ≡ Less = ordered i j p before (slice_get_within packages j q is_q) in
-    let less' : package_cmp p q ≡ Less = sym (ap (λ (x : Package). package_cmp x (get_or packages j p)) first ∙ ap (λ (x : Package). package_cmp p x) second) ∙ less in
+    let less' : package_cmp p q ≡ Less = sym (ap (λ (x : Package). package_cmp x (get_or packages j p)) first ∙ ap (λ (x : Package). package_cmp p x) second)
+    ∙ less in
     then-less (slice_cmp nat_cmp p.name q.name) (version_cmp p.version q.version) less'
 
 less-or-same : (a b : List ℕ) → slice_cmp nat_cmp a b ≢ Greater → (slice_cmp nat_cmp a b ≡ Less) ⊎ (a ≡ b)
@@ -63,7 +66,8 @@ essential-at r k name here =
     let holds : IsEssentialOf name q = has-at (IsEssentialOf name) r.packages k q is_q here in
     record { it = q; is = is_q; essential = holds.0; named = holds.1 }
 
-pub none-more : (r : PackageList) (number : ℕ) (name : List ℕ) (before : ℕ) (q : Package) → slice_get r.packages before ≡ Some q → q.essential ≡ false → HasNoneFrom r number name (before + 1) → HasNoneFrom r number name before
+pub none-more : (r : PackageList) (number : ℕ) (name : List ℕ) (before : ℕ) (q : Package) → slice_get r.packages before ≡ Some q → q.essential ≡ false
+    → HasNoneFrom r number name (before + 1) → HasNoneFrom r number name before
 none-more r number name before q is plain none k low high here =
     elim (cases_lt before k) [
       | inl later ↦ none k (omega arith) high here
@@ -76,14 +80,16 @@ none-more r number name before q is plain none k low high here =
           false≢true (sym plain ∙ ap (λ (x : Package). x.essential) (sym it) ∙ e.essential)
     ]
 
-pub none-named : (r : PackageList) (number before : ℕ) (p q : Package) → IsInOrder r.packages → before < number → slice_get r.packages number ≡ Some p → slice_get r.packages before ≡ Some q → q.name ≢ p.name
+pub none-named : (r : PackageList) (number before : ℕ) (p q : Package) → IsInOrder r.packages → before < number → slice_get r.packages number ≡ Some p
+    → slice_get r.packages before ≡ Some q → q.name ≢ p.name
     → HasNoneFrom r number p.name (before + 1) → ¬ IsNamedBelow r number p.name
 none-named r number before p q ordered short is_p is_q other none below =
     let e = essential-at r below.0 p.name below.2 in
     elim (cases_lt before below.0) [
       | inl later ↦ none below.0 (omega arith) below.1 below.2
       | inr earlier ↦ elim (cases_lt below.0 before) [
-        | inl less ↦ other (between-named r.packages below.0 before number e.it q p ordered less (omega arith) (slice_get_within r.packages number p is_p) e.is is_q is_p e.named)
+        | inl less ↦ other (between-named r.packages below.0 before number e.it q p ordered less (omega arith) (slice_get_within r.packages number p is_p) e.is
+            is_q is_p e.named)
         | inr more ↦
             let same : below.0 ≡ before = omega arith in
             let first = e.is in
@@ -96,7 +102,8 @@ none-named r number before p q ordered short is_p is_q other none below =
 pub none-below : (r : PackageList) (number : ℕ) (name : List ℕ) → HasNoneFrom r number name 0 → ¬ IsNamedBelow r number name
 none-below r number name none below = none below.0 (omega arith) below.1 below.2
 
-pub some-below : (r : PackageList) (number before : ℕ) (name : List ℕ) (q : Package) → before < number → slice_get r.packages before ≡ Some q → q.essential ≡ true → q.name ≡ name → IsNamedBelow r number name
+pub some-below : (r : PackageList) (number before : ℕ) (name : List ℕ) (q : Package) → before < number → slice_get r.packages before ≡ Some q
+    → q.essential ≡ true → q.name ≡ name → IsNamedBelow r number name
 some-below r number before name q short is essential same = (before, short, at-has (IsEssentialOf name) r.packages before q is (essential, same))
 
 -- ---- fronts
@@ -117,8 +124,10 @@ named-start r limits set of = set-shift r (IsDemand r false) (NamedBefore r 0) l
     from (Apart a b) before = before.0
     from (Required name) before = absurd (omega (arith, before.1.1))
 
-pub named-end : (r : PackageList) (number : ℕ) (limits set : ClauseList) → length r.packages ≤ number → IsNamedFront r number limits set → IsEssentialSet r limits set
-named-end r number limits set past of = set-shift r (NamedBefore r number) (IsDemand r true) limits.clause_limit limits.literal_limit set (λ d before. before.0) from of
+pub named-end : (r : PackageList) (number : ℕ) (limits set : ClauseList) → length r.packages ≤ number → IsNamedFront r number limits set
+    → IsEssentialSet r limits set
+named-end r number limits set past of = set-shift r (NamedBefore r number) (IsDemand r true) limits.clause_limit limits.literal_limit set (λ d before. before.0)
+    from of
   where
     from : (d : Demand) → IsDemand r true d → NamedBefore r number d
     from (Item a b) demand = (demand, tt)
@@ -130,7 +139,8 @@ named-end r number limits set past of = set-shift r (NamedBefore r number) (IsDe
 below-wider : (r : PackageList) (number : ℕ) (name : List ℕ) → IsNamedBelow r number name → IsNamedBelow r (number + 1) name
 below-wider r number name below = (below.0, omega (arith, below.1), below.2)
 
-below-cases : (r : PackageList) (number : ℕ) (p : Package) (name : List ℕ) → slice_get r.packages number ≡ Some p → IsNamedBelow r (number + 1) name → IsNamedBelow r number name ⊎ ((p.essential ≡ true) × (p.name ≡ name))
+below-cases : (r : PackageList) (number : ℕ) (p : Package) (name : List ℕ) → slice_get r.packages number ≡ Some p → IsNamedBelow r (number + 1) name
+    → IsNamedBelow r number name ⊎ ((p.essential ≡ true) × (p.name ≡ name))
 below-cases r number p name is below =
     elim (cases_lt below.0 number) [
       | inl less ↦ inl (below.0, less, below.2)
@@ -145,9 +155,11 @@ named-wider r number (Apart a b) before = before
 named-wider r number (Required name) before = (before.0, below-wider r number name before.1)
 
 -- a package that is not the first essential one of its name
-pub named-skipped : (r : PackageList) (number : ℕ) (p : Package) (limits set : ClauseList) → slice_get r.packages number ≡ Some p → (p.essential ≡ false) ⊎ IsNamedBelow r number p.name → IsNamedFront r number limits set
+pub named-skipped : (r : PackageList) (number : ℕ) (p : Package) (limits set : ClauseList) → slice_get r.packages number ≡ Some p → (p.essential ≡ false)
+    ⊎ IsNamedBelow r number p.name → IsNamedFront r number limits set
     → IsNamedFront r (number + 1) limits set
-named-skipped r number p limits set is skipped of = set-shift r (NamedBefore r number) (NamedBefore r (number + 1)) limits.clause_limit limits.literal_limit set (named-wider r number) from of
+named-skipped r number p limits set is skipped of = set-shift r (NamedBefore r number) (NamedBefore r (number + 1)) limits.clause_limit limits.literal_limit set
+    (named-wider r number) from of
   where
     from : (d : Demand) → NamedBefore r (number + 1) d → NamedBefore r number d
     from (Item a b) before = before
@@ -164,7 +176,8 @@ named-skipped r number p limits set is skipped of = set-shift r (NamedBefore r n
     )
 
 -- names of essential packages before a number are those below the name of its package
-name-before : (r : PackageList) (number : ℕ) (p : Package) (name : List ℕ) → IsInOrder r.packages → slice_get r.packages number ≡ Some p → ¬ IsNamedBelow r number p.name → IsNamedBelow r number name → slice_cmp nat_cmp name p.name ≡ Less
+name-before : (r : PackageList) (number : ℕ) (p : Package) (name : List ℕ) → IsInOrder r.packages → slice_get r.packages number ≡ Some p
+    → ¬ IsNamedBelow r number p.name → IsNamedBelow r number name → slice_cmp nat_cmp name p.name ≡ Less
 name-before r number p name ordered is first below =
     let e = essential-at r below.0 name below.2 in
     let up : slice_cmp nat_cmp e.it.name p.name ≢ Greater = names-in-order r.packages below.0 number e.it p ordered below.1 e.is is in
@@ -173,7 +186,8 @@ name-before r number p name ordered is first below =
       | inr same ↦ absurd (first (subst (IsNamedBelow r number) (sym e.named ∙ same) below))
     ]
 
-before-name : (r : PackageList) (number : ℕ) (p : Package) (name : List ℕ) → IsInOrder r.packages → slice_get r.packages number ≡ Some p → IsDemand r true (Required name) → slice_cmp nat_cmp name p.name ≡ Less → IsNamedBelow r number name
+before-name : (r : PackageList) (number : ℕ) (p : Package) (name : List ℕ) → IsInOrder r.packages → slice_get r.packages number ≡ Some p
+    → IsDemand r true (Required name) → slice_cmp nat_cmp name p.name ≡ Less → IsNamedBelow r number name
 before-name r number p name ordered is demand less =
     let some = required-at r.packages name demand in
     let e = essential-at r some.number name some.has in
@@ -193,9 +207,11 @@ before-name r number p name ordered is demand less =
       ]
     ]
 
-pub named-before : (r : PackageList) (number : ℕ) (p : Package) (c l : ℕ) (set : ClauseList) → IsInOrder r.packages → slice_get r.packages number ≡ Some p → ¬ IsNamedBelow r number p.name → IsSetOf r (NamedBefore r number) c l set
+pub named-before : (r : PackageList) (number : ℕ) (p : Package) (c l : ℕ) (set : ClauseList) → IsInOrder r.packages → slice_get r.packages number ≡ Some p
+    → ¬ IsNamedBelow r number p.name → IsSetOf r (NamedBefore r number) c l set
     → IsSetOf r (λ e. IsDemand r true e × IsBefore e (Required p.name)) c l set
-named-before r number p c l set ordered is first of = set-shift r (NamedBefore r number) (λ e. IsDemand r true e × IsBefore e (Required p.name)) c l set to from of
+named-before r number p c l set ordered is first of = set-shift r (NamedBefore r number) (λ e. IsDemand r true e × IsBefore e (Required p.name)) c l set to from
+    of
   where
     to : (d : Demand) → NamedBefore r number d → IsDemand r true d × IsBefore d (Required p.name)
     to (Item a b) before = (before.0, tt)
@@ -207,10 +223,13 @@ named-before r number p c l set ordered is first of = set-shift r (NamedBefore r
     from (Apart a b) before = (before.0, tt)
     from (Required name) before = (before.0, before-name r number p name ordered is before.0 before.1)
 
-pub named-pushed : (r : PackageList) (number : ℕ) (p : Package) (limits set : ClauseList) (clause : List Literal) → IsInOrder r.packages → slice_get r.packages number ≡ Some p → p.essential ≡ true → ¬ IsNamedBelow r number p.name
-    → IsNamedFront r number limits set → IsClauseFor r (Required p.name) clause → IsNamedFront r (number + 1) limits (record set { clauses = set.clauses ++ clause ∷ [] })
+pub named-pushed : (r : PackageList) (number : ℕ) (p : Package) (limits set : ClauseList) (clause : List Literal) → IsInOrder r.packages
+    → slice_get r.packages number ≡ Some p → p.essential ≡ true → ¬ IsNamedBelow r number p.name
+    → IsNamedFront r number limits set → IsClauseFor r (Required p.name) clause
+    → IsNamedFront r (number + 1) limits (record set { clauses = set.clauses ++ clause ∷ [] })
 named-pushed r number p limits set clause ordered is essential first of is_clause =
-    set-more r (NamedBefore r number) (NamedBefore r (number + 1)) limits.clause_limit limits.literal_limit set (Required p.name) clause of is_clause below cases (named-wider r number)
+    set-more r (NamedBefore r number) (NamedBefore r (number + 1)) limits.clause_limit limits.literal_limit set (Required p.name) clause of is_clause below
+    cases (named-wider r number)
     (required-from r.packages number p is essential, some-below r (number + 1) number p.name p (omega arith) is essential refl)
   where
     below : (d : Demand) → NamedBefore r number d → IsBefore d (Required p.name)

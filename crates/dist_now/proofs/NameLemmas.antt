@@ -1,5 +1,6 @@
 -- Packages in order: those of one name stand together.
-use Rattle.std.proofs.Common.{◌≡◌, ◌≢◌, ℕ, ◌<◌, ◌≤◌, List, length, get_or, nat_cmp, Ordering, Less, Equal, Greater, refl, sym, ap, ◌∙◌, arith, inl, inr, Some, slice_get, is_eq, true, not}
+use Rattle.std.proofs.Common.{◌≡◌, ◌≢◌, ℕ, ◌<◌, ◌≤◌, List, length, get_or, nat_cmp, Ordering, Less, Equal, Greater, refl, sym, ap, ◌∙◌, arith, inl, inr, Some}
+use Rattle.std.proofs.Common.{slice_get, is_eq, true, not}
 use Rattle.std.specs.Prelude.{bytes_eq}
 use Rattle.std.specs.Cmp.Lexicographic.{slice_cmp}
 use Rattle.std.specs.Ordering.{ordering_then, ordering_reverse}
@@ -36,7 +37,8 @@ between-equal a b c first second same = decide (slice_cmp nat_cmp b c) refl
     decide Greater is = absurd (second is)
 
 -- a package between two of one name has it too
-pub between-named : (packages : List Package) (first second later : ℕ) (p q z : Package) → IsInOrder packages → first < second → second ≤ later → later < length packages
+pub between-named : (packages : List Package) (first second later : ℕ) (p q z : Package) → IsInOrder packages → first < second → second ≤ later
+    → later < length packages
     → slice_get packages first ≡ Some p → slice_get packages second ≡ Some q → slice_get packages later ≡ Some z → p.name ≡ z.name → q.name ≡ z.name
 between-named packages first second later p q z ordered before past within is_p is_q is_z same =
     elim (cases_lt second later) [
@@ -45,9 +47,11 @@ between-named packages first second later p q z ordered before past within is_p 
           let b = get_or_from_slice_get packages second q p is_q in
           let c = get_or_from_slice_get packages later z p is_z in
           let cmp = slice_cmp nat_cmp in
-          let ab : cmp (get_or packages first p).name (get_or packages second p).name ≢ Greater = then-less _ _ (ordered first second p before (omega (arith, h, within))) in
+          let ab : cmp (get_or packages first p).name (get_or packages second p).name ≢ Greater =
+          then-less _ _ (ordered first second p before (omega (arith, h, within))) in
           let bc : cmp (get_or packages second p).name (get_or packages later p).name ≢ Greater = then-less _ _ (ordered second later p h within) in
-          let ac : (get_or packages first p).name ≡ (get_or packages later p).name = ap (λ (x : Package). x.name) a ∙ same ∙ ap (λ (x : Package). x.name) (sym c) in
+          let ac : (get_or packages first p).name ≡ (get_or packages later p).name = ap (λ (x : Package). x.name) a ∙ same
+          ∙ ap (λ (x : Package). x.name) (sym c) in
           let bc-same = same_names _ _ (between-equal _ _ _ ab bc ac) in
           ap (λ (x : Package). x.name) (sym b) ∙ bc-same ∙ ap (λ (x : Package). x.name) c
       | inr h ↦ let here : second ≡ later = omega arith in

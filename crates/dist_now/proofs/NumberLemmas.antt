@@ -17,7 +17,8 @@ use Rattle.dist_now.proofs.AddsLemmas.{UpTo, AddsUpTo, adds-exact, adds-nothing,
 pub contains-index : (xs : List ℕ) (k : ℕ) → k < length xs → Contains xs (get_or xs k 0)
 contains-index xs k short = (k, short, get_or_default xs k (get_or xs k 0) 0 short)
 
-pub provider-within : (r : PackageList) (name : List ℕ) (providers : List ℕ) (k : ℕ) → AreProviders r name providers → k < length providers → get_or providers k 0 < length r.packages
+pub provider-within : (r : PackageList) (name : List ℕ) (providers : List ℕ) (k : ℕ) → AreProviders r name providers → k < length providers
+    → get_or providers k 0 < length r.packages
 provider-within r name providers k are short =
     within-from (IsProvider r.architecture name) r.packages (get_or providers k 0) ((are.exact (get_or providers k 0)).0 (contains-index providers k short))
 
@@ -25,19 +26,23 @@ provider-within r name providers k are short =
 abbrev pub IsAtAnd : (r : PackageList) (providers : List ℕ) (P : Package → Type 0) → ℕ → ℕ → Type 0
 IsAtAnd r providers P i x = (get_or providers i 0 ≡ x) × IsPackageAnd r.packages x P
 
-pub adds-at : (r : PackageList) (providers : List ℕ) (P : Package → Type 0) (i : ℕ) (p : Package) (numbers : List ℕ) → slice_get r.packages (get_or providers i 0) ≡ Some p → P p
+pub adds-at : (r : PackageList) (providers : List ℕ) (P : Package → Type 0) (i : ℕ) (p : Package) (numbers : List ℕ)
+    → slice_get r.packages (get_or providers i 0) ≡ Some p → P p
     → Adds numbers (numbers ++ get_or providers i 0 ∷ []) (IsAtAnd r providers P i)
 adds-at r providers P i p numbers is holds =
     adds-one numbers (get_or providers i 0) (IsAtAnd r providers P i) (refl, at-has P r.packages (get_or providers i 0) p is holds) (λ x at. at.0)
 
-pub adds-not : (r : PackageList) (providers : List ℕ) (P : Package → Type 0) (i : ℕ) (p : Package) (numbers : List ℕ) → slice_get r.packages (get_or providers i 0) ≡ Some p → ¬ P p
+pub adds-not : (r : PackageList) (providers : List ℕ) (P : Package → Type 0) (i : ℕ) (p : Package) (numbers : List ℕ)
+    → slice_get r.packages (get_or providers i 0) ≡ Some p → ¬ P p
     → Adds numbers numbers (IsAtAnd r providers P i)
 adds-not r providers P i p numbers is none =
     adds-nothing numbers (IsAtAnd r providers P i) (λ x at. none (has-at P r.packages x p (ap (λ (n : ℕ). slice_get r.packages n) (sym at.0) ∙ is) at.1))
 
 -- all providers were gone through
-pub adds-all : (r : PackageList) (name : List ℕ) (providers : List ℕ) (P : Package → Type 0) (count : ℕ) (old new : List ℕ) → length providers ≤ count → AreProviders r name providers
-    → ((p : Package) → P p → IsProvider r.architecture name p) → AddsUpTo old new (IsAtAnd r providers P) count → Adds old new (λ k. IsPackageAnd r.packages k P)
+pub adds-all : (r : PackageList) (name : List ℕ) (providers : List ℕ) (P : Package → Type 0) (count : ℕ) (old new : List ℕ) → length providers ≤ count
+    → AreProviders r name providers
+    → ((p : Package) → P p → IsProvider r.architecture name p) → AddsUpTo old new (IsAtAnd r providers P) count
+    → Adds old new (λ k. IsPackageAnd r.packages k P)
 adds-all r name providers P count old new past are provides adds =
     adds-same old new (UpTo (IsAtAnd r providers P) count) (λ k. IsPackageAnd r.packages k P) (λ k up. up.2.1)
     (λ k here.
@@ -51,13 +56,15 @@ adds-all r name providers P count old new past are provides adds =
 abbrev pub IsMatchedAt : (r : PackageList) (item : List Atom) → ℕ → ℕ → Type 0
 IsMatchedAt r item i k = IsSomeAnd (slice_get item i) (λ atom. IsPackageAnd r.packages k (Matches r.architecture atom))
 
-pub matched-at : (r : PackageList) (item : List Atom) (i : ℕ) (atom : Atom) (old new : List ℕ) → slice_get item i ≡ Some atom → Adds old new (λ k. IsPackageAnd r.packages k (Matches r.architecture atom)) → Adds old new (IsMatchedAt r item i)
+pub matched-at : (r : PackageList) (item : List Atom) (i : ℕ) (atom : Atom) (old new : List ℕ) → slice_get item i ≡ Some atom
+    → Adds old new (λ k. IsPackageAnd r.packages k (Matches r.architecture atom)) → Adds old new (IsMatchedAt r item i)
 matched-at r item i atom old new is adds =
     adds-same old new (λ k. IsPackageAnd r.packages k (Matches r.architecture atom)) (IsMatchedAt r item i)
     (λ k here. at-has (λ (a : Atom). IsPackageAnd r.packages k (Matches r.architecture a)) item i atom is here)
     (λ k here. has-at (λ (a : Atom). IsPackageAnd r.packages k (Matches r.architecture a)) item i atom is here) adds
 
-pub meeting-all : (r : PackageList) (item : List Atom) (count : ℕ) (old new : List ℕ) → length item ≤ count → IsStrictlyIncreasing new → ((k : ℕ) → Contains new k ↔ Contains old k) → AddsUpTo [] old (IsMatchedAt r item) count
+pub meeting-all : (r : PackageList) (item : List Atom) (count : ℕ) (old new : List ℕ) → length item ≤ count → IsStrictlyIncreasing new
+    → ((k : ℕ) → Contains new k ↔ Contains old k) → AddsUpTo [] old (IsMatchedAt r item) count
     → AreNumbersOf r (IsMetBy r.architecture item) new
 meeting-all r item count old new past rising same adds = record {
   rising = rising;
@@ -72,7 +79,8 @@ meeting-all r item count old new past rising same adds = record {
         let Here : Atom → Type 0 = λ a. IsPackageAnd r.packages k (Matches r.architecture a) in
         let atom = some-element Here item up.0 up.2 in
         let is = element-is Here item up.0 up.2 in
-        at-more (Matches r.architecture atom) (IsMetBy r.architecture item) (λ q matches. any-at (λ a. Matches r.architecture a q) item up.0 atom is matches) r.packages k (has-at Here item up.0 atom is up.2)
+        at-more (Matches r.architecture atom) (IsMetBy r.architecture item) (λ q matches. any-at (λ a. Matches r.architecture a q) item up.0 atom is matches)
+        r.packages k (has-at Here item up.0 atom is up.2)
 
     from : (k : ℕ) → IsPackageAnd r.packages k (IsMetBy r.architecture item) → UpTo (IsMatchedAt r item) count k
     from k here =
@@ -81,12 +89,17 @@ meeting-all r item count old new past rising same adds = record {
         let is_q = element-is By r.packages k here in
         let any : By q = has-at By r.packages k q is_q here in
         let atom : Atom = any.1 in
-        let is : slice_get item any.0 ≡ Some atom = slice_get-get_or item any.0 atom any.2 ∙ ap (λ (a : Atom). Some a) any.3 in
-        (any.0, omega (arith, any.2, past), at-has (λ (a : Atom). IsPackageAnd r.packages k (Matches r.architecture a)) item any.0 atom is (at-has (Matches r.architecture atom) r.packages k q is_q any.4))
+        let is : slice_get item any.0 ≡ Some atom = slice_get-get_or item any.0 atom any.2 ∙ ap (λ (a : Atom). Some a) any.3 in (
+          any.0,
+          omega (arith, any.2, past),
+          at-has (λ (a : Atom). IsPackageAnd r.packages k (Matches r.architecture a)) item any.0 atom is
+              (at-has (Matches r.architecture atom) r.packages k q is_q any.4),
+        )
 
 -- ---- the packages of a name
 
-pub numbers-from : (r : PackageList) (P : Package → Type 0) (old new : List ℕ) → IsStrictlyIncreasing new → ((k : ℕ) → Contains new k ↔ Contains old k) → Adds [] old (λ k. IsPackageAnd r.packages k P) → AreNumbersOf r P new
+pub numbers-from : (r : PackageList) (P : Package → Type 0) (old new : List ℕ) → IsStrictlyIncreasing new → ((k : ℕ) → Contains new k ↔ Contains old k)
+    → Adds [] old (λ k. IsPackageAnd r.packages k P) → AreNumbersOf r P new
 numbers-from r P old new rising same adds = record {
   rising = rising;
   exact = λ k. (

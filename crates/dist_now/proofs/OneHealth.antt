@@ -23,7 +23,8 @@ at-most-both n k a b (inr low) (inr high) = record { first = high.0; second = om
 one-pair : (P : ℕ → ℕ → Type 0) (n k a b : ℕ) → IsLeastPair P n k → IsLeastPair P a b → AreSame n k a b
 one-pair P n k a b first second = at-most-both n k a b (first.least a b second.holds) (second.least n k first.holds)
 
-pub one-health : (r : PackageList) (essential : Bool) (flags : List Bool) (health other : Health) → IsHealth r essential flags health → IsHealth r essential flags other → other ≡ health
+pub one-health : (r : PackageList) (essential : Bool) (flags : List Bool) (health other : Health) → IsHealth r essential flags health
+    → IsHealth r essential flags other → other ≡ health
 one-health r essential flags Healthy Healthy is also = refl
 one-health r essential flags Healthy (TwoVersions a b) is also = absurd (no-two_versions r flags essential is a b also.holds)
 one-health r essential flags Healthy (Unmet a b) is also = absurd (no-unmet r flags essential is a b also.1.holds)

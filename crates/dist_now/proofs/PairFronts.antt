@@ -30,8 +30,14 @@ pub record IsPairFront (r : PackageList) (first : ℕ) (seconds : List ℕ) (cou
   pub high : (k : ℕ) → count ≤ k → k < length seconds → bound ≤ get_or seconds k 0
   pub front : IsFront r (Apart first bound) limits set
 
-pub pairs-start : (r : PackageList) (first : ℕ) (seconds : List ℕ) (limits set : ClauseList) → IsFront r (Apart first 0) limits set → IsPairFront r first seconds 0 limits set
-pairs-start r first seconds limits set front = record { bound = 0; low = λ k less short. absurd (omega arith); high = λ k more short. omega arith; front = front }
+pub pairs-start : (r : PackageList) (first : ℕ) (seconds : List ℕ) (limits set : ClauseList) → IsFront r (Apart first 0) limits set
+    → IsPairFront r first seconds 0 limits set
+pairs-start r first seconds limits set front = record {
+  bound = 0;
+  low = λ k less short. absurd (omega arith);
+  high = λ k more short. omega arith;
+  front = front;
+}
 
 rises : (seconds : List ℕ) (i j : ℕ) → IsStrictlyIncreasing seconds → i < j → j < length seconds → get_or seconds i 0 < get_or seconds j 0
 rises seconds i j rising less short = AllPairs-from_increasing seconds rising i j 0 less short
@@ -40,7 +46,8 @@ at-index : (seconds : List ℕ) (k : ℕ) (there : Contains seconds k) → get_o
 at-index seconds k there = get_or_default seconds there.0 0 k there.1 ∙ there.2
 
 -- the front up to the next number
-pub pair-next : (r : PackageList) (first : ℕ) (seconds : List ℕ) (count : ℕ) (limits set : ClauseList) → IsStrictlyIncreasing seconds → AreSeconds r first seconds → count < length seconds → IsPairFront r first seconds count limits set
+pub pair-next : (r : PackageList) (first : ℕ) (seconds : List ℕ) (count : ℕ) (limits set : ClauseList) → IsStrictlyIncreasing seconds
+    → AreSeconds r first seconds → count < length seconds → IsPairFront r first seconds count limits set
     → IsFront r (Apart first (get_or seconds count 0)) limits set
 pair-next r first seconds count limits set rising are short of =
     pair-shifted r first of.bound (get_or seconds count 0) limits set (of.high count (omega arith) short)
@@ -51,27 +58,34 @@ pair-next r first seconds count limits set rising are short of =
       | inl less ↦ let h = of.low there.0 less there.1 in omega arith
       | inr more ↦ elim (cases_lt count there.0) [
         | inl less ↦ let h = rises seconds count there.0 rising less there.1 in omega arith
-        | inr most ↦ let same : there.0 ≡ count = omega arith in let also : get_or seconds there.0 0 ≡ get_or seconds count 0 = ap (λ (n : ℕ). get_or seconds n 0) same in omega arith
+        | inr most ↦ let same : there.0 ≡ count = omega arith in let also : get_or seconds there.0 0 ≡ get_or seconds count 0 =
+            ap (λ (n : ℕ). get_or seconds n 0) same in omega arith
       ]
     ])
     of.front
 
-pub second-demand : (r : PackageList) (first : ℕ) (seconds : List ℕ) (count : ℕ) → AreSeconds r first seconds → count < length seconds → IsDemand r false (Apart first (get_or seconds count 0))
+pub second-demand : (r : PackageList) (first : ℕ) (seconds : List ℕ) (count : ℕ) → AreSeconds r first seconds → count < length seconds
+    → IsDemand r false (Apart first (get_or seconds count 0))
 second-demand r first seconds count are short = (are (get_or seconds count 0)).0 (count, short, get_or_default seconds count (get_or seconds count 0) 0 short)
 
-pub pair-more : (r : PackageList) (first : ℕ) (seconds : List ℕ) (count : ℕ) (limits set : ClauseList) (clause : List Literal) → IsStrictlyIncreasing seconds → AreSeconds r first seconds → count < length seconds → IsPairFront r first seconds count limits set
-    → clause ≡ not_installed first ∷ not_installed (get_or seconds count 0) ∷ [] → IsPairFront r first seconds (count + 1) limits (record set { clauses = set.clauses ++ clause ∷ [] })
+pub pair-more : (r : PackageList) (first : ℕ) (seconds : List ℕ) (count : ℕ) (limits set : ClauseList) (clause : List Literal) → IsStrictlyIncreasing seconds
+    → AreSeconds r first seconds → count < length seconds → IsPairFront r first seconds count limits set
+    → clause ≡ not_installed first ∷ not_installed (get_or seconds count 0) ∷ []
+    → IsPairFront r first seconds (count + 1) limits (record set { clauses = set.clauses ++ clause ∷ [] })
 pair-more r first seconds count limits set clause rising are short of is = record {
   bound = get_or seconds count 0 + 1;
   low = λ k less within. elim (cases_lt k count) [
     | inl early ↦ let h = rises seconds k count rising early short in omega arith
-    | inr most ↦ let same : k ≡ count = omega arith in let also : get_or seconds k 0 ≡ get_or seconds count 0 = ap (λ (n : ℕ). get_or seconds n 0) same in omega arith
+    | inr most ↦ let same : k ≡ count = omega arith in let also : get_or seconds k 0 ≡ get_or seconds count 0 = ap (λ (n : ℕ). get_or seconds n 0) same in
+        omega arith
   ];
   high = λ k more within. let h = rises seconds count k rising (omega arith) within in omega arith;
-  front = pair-pushed r first (get_or seconds count 0) limits set clause (pair-next r first seconds count limits set rising are short of) (second-demand r first seconds count are short) is;
+  front = pair-pushed r first (get_or seconds count 0) limits set clause (pair-next r first seconds count limits set rising are short of)
+      (second-demand r first seconds count are short) is;
 }
 
-pub pairs-done : (r : PackageList) (first : ℕ) (seconds : List ℕ) (count : ℕ) (limits set : ClauseList) → AreSeconds r first seconds → length seconds ≤ count → IsPairFront r first seconds count limits set → IsFront r (Apart (first + 1) 0) limits set
+pub pairs-done : (r : PackageList) (first : ℕ) (seconds : List ℕ) (count : ℕ) (limits set : ClauseList) → AreSeconds r first seconds → length seconds ≤ count
+    → IsPairFront r first seconds count limits set → IsFront r (Apart (first + 1) 0) limits set
 pairs-done r first seconds count limits set are past of =
     pairs-end r first of.bound limits set
     (λ i up demand.
@@ -115,8 +129,10 @@ rejecting-conflict r first second ordered rejecting =
 abbrev Apart-either : PackageList → Package → Package → Type 0
 Apart-either r x y = (x.name ≡ y.name) ⊎ AreInConflict r.architecture x y
 
-pub seconds-are : (r : PackageList) (first : ℕ) (p : Package) (pairs : List (ℕ × ℕ)) (mid old new : List ℕ) → IsInOrder r.packages → slice_get r.packages first ≡ Some p → ((k : ℕ) → Contains pairs (first, k) ↔ IsRejectingPair r (first, k))
-    → Adds [] mid (IsVersion r first p.name) → Adds mid old (λ k. Contains pairs (first, k)) → ((k : ℕ) → Contains new k ↔ Contains old k) → AreSeconds r first new
+pub seconds-are : (r : PackageList) (first : ℕ) (p : Package) (pairs : List (ℕ × ℕ)) (mid old new : List ℕ) → IsInOrder r.packages
+    → slice_get r.packages first ≡ Some p → ((k : ℕ) → Contains pairs (first, k) ↔ IsRejectingPair r (first, k))
+    → Adds [] mid (IsVersion r first p.name) → Adds mid old (λ k. Contains pairs (first, k)) → ((k : ℕ) → Contains new k ↔ Contains old k)
+    → AreSeconds r first new
 seconds-are r first p pairs mid old new ordered is_p exact versions partners same second = (
   (λ there. elim ((partners second).0 ((same second).0 there)) [
     | inl version ↦ from-version ((adds-exact mid (IsVersion r first p.name) versions second).0 version)
@@ -126,27 +142,40 @@ seconds-are r first p pairs mid old new ordered is_p exact versions partners sam
 )
   where
     from-version : IsVersion r first p.name second → IsDemand r false (Apart first second)
-    from-version version =
-        (version.0, at-has (λ (x : Package). IsPackageAnd r.packages second (Apart-either r x)) r.packages first p is_p (at-more (λ (q : Package). p.name ≡ q.name) (Apart-either r p) (λ q named. inl named) r.packages second version.1))
+    from-version version = (
+      version.0,
+      at-has (λ (x : Package). IsPackageAnd r.packages second (Apart-either r x)) r.packages first p is_p
+          (at-more (λ (q : Package). p.name ≡ q.name) (Apart-either r p) (λ q named. inl named) r.packages second version.1),
+    )
 
     to : IsDemand r false (Apart first second) → Contains old second
     to demand =
-        let inner : IsPackageAnd r.packages second (Apart-either r p) = has-at (λ (x : Package). IsPackageAnd r.packages second (Apart-either r x)) r.packages first p is_p demand.1 in
+        let inner : IsPackageAnd r.packages second (Apart-either r p) =
+        has-at (λ (x : Package). IsPackageAnd r.packages second (Apart-either r x)) r.packages first p is_p demand.1 in
         let q = some-element (Apart-either r p) r.packages second inner in
         let is_q = element-is (Apart-either r p) r.packages second inner in
         let either : Apart-either r p q = has-at (Apart-either r p) r.packages second q is_q inner in
         elim either [
-          | inl named ↦ (partners second).1 (inl ((adds-exact mid (IsVersion r first p.name) versions second).1 (demand.0, at-has (λ (z : Package). p.name ≡ z.name) r.packages second q is_q named)))
+          | inl named ↦ (partners second).1 (inl ((adds-exact mid (IsVersion r first p.name) versions second).1
+              (demand.0, at-has (λ (z : Package). p.name ≡ z.name) r.packages second q is_q named)))
           | inr conflict ↦ (partners second).1 (inr ((exact second).1 (elim conflict.matched [
             | inl rejects ↦ (
               first,
               at-has (λ (x : Package). IsPairWith r first (Rejects r x) (first, second)) r.packages first p is_p
-                  (record { other = second; is_pair = record { are = inl (refl, refl); rising = demand.0 }; has = at-has (Rejects r p) r.packages second q is_q rejects }),
+                  (record {
+                    other = second;
+                    is_pair = record { are = inl (refl, refl); rising = demand.0 };
+                    has = at-has (Rejects r p) r.packages second q is_q rejects;
+                  }),
             )
             | inr rejects ↦ (
               second,
               at-has (λ (x : Package). IsPairWith r second (Rejects r x) (first, second)) r.packages second q is_q
-                  (record { other = first; is_pair = record { are = inr (refl, refl); rising = demand.0 }; has = at-has (Rejects r q) r.packages first p is_p rejects }),
+                  (record {
+                    other = first;
+                    is_pair = record { are = inr (refl, refl); rising = demand.0 };
+                    has = at-has (Rejects r q) r.packages first p is_p rejects;
+                  }),
             )
           ])))
         ]
@@ -157,5 +186,6 @@ pair-within r first second demand =
     let p = some-element Inner r.packages first demand.1 in
     within-from (Apart-either r p) r.packages second (has-at Inner r.packages first p (element-is Inner r.packages first demand.1) demand.1)
 
-pub pair-written : (r : PackageList) (first second : ℕ) (a b : Literal) → a ≡ not_installed first → b ≡ not_installed second → (a ∷ b ∷ []) ≡ (not_installed first ∷ not_installed second ∷ [])
+pub pair-written : (r : PackageList) (first second : ℕ) (a b : Literal) → a ≡ not_installed first → b ≡ not_installed second
+    → (a ∷ b ∷ []) ≡ (not_installed first ∷ not_installed second ∷ [])
 pair-written r first second a b one two = ap₂ (λ x y. x ∷ y ∷ []) one two

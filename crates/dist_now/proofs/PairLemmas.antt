@@ -34,21 +34,26 @@ never-itself n pair is = elim is.are [
   | inr h ↦ let less = is.rising in omega (arith, h.0, h.1)
 ]
 
-pub pair-added : (r : PackageList) (start end number other : ℕ) (P : Package → Type 0) (p : Package) (pairs : List (ℕ × ℕ)) (pair : ℕ × ℕ) → IsPairOf number other pair → IsPairIn start end pair
+pub pair-added : (r : PackageList) (start end number other : ℕ) (P : Package → Type 0) (p : Package) (pairs : List (ℕ × ℕ)) (pair : ℕ × ℕ)
+    → IsPairOf number other pair → IsPairIn start end pair
     → slice_get r.packages other ≡ Some p → P p → Adds pairs (pairs ++ pair ∷ []) (IsPairWithin r start end number other P)
 pair-added r start end number other P p pairs pair is_pair is_in is holds =
     adds-one pairs pair (IsPairWithin r start end number other P) (record { is_pair = is_pair; is_in = is_in; has = at-has P r.packages other p is holds })
     (λ x at. one-pair number other pair x is_pair at.is_pair)
 
-pub pair-itself : (r : PackageList) (start end number other : ℕ) (P : Package → Type 0) (pairs : List (ℕ × ℕ)) → other ≡ number → Adds pairs pairs (IsPairWithin r start end number other P)
+pub pair-itself : (r : PackageList) (start end number other : ℕ) (P : Package → Type 0) (pairs : List (ℕ × ℕ)) → other ≡ number
+    → Adds pairs pairs (IsPairWithin r start end number other P)
 pair-itself r start end number other P pairs same =
     adds-nothing pairs (IsPairWithin r start end number other P) (λ x at. never-itself number x (subst (λ (k : ℕ). IsPairOf number k x) same at.is_pair))
 
-pub pair-not-in : (r : PackageList) (start end number other : ℕ) (P : Package → Type 0) (pairs : List (ℕ × ℕ)) (pair : ℕ × ℕ) → IsPairOf number other pair → ¬ IsPairIn start end pair → Adds pairs pairs (IsPairWithin r start end number other P)
+pub pair-not-in : (r : PackageList) (start end number other : ℕ) (P : Package → Type 0) (pairs : List (ℕ × ℕ)) (pair : ℕ × ℕ) → IsPairOf number other pair
+    → ¬ IsPairIn start end pair → Adds pairs pairs (IsPairWithin r start end number other P)
 pair-not-in r start end number other P pairs pair is_pair outside =
-    adds-nothing pairs (IsPairWithin r start end number other P) (λ x at. outside (subst (IsPairIn start end) (sym (one-pair number other pair x is_pair at.is_pair)) at.is_in))
+    adds-nothing pairs (IsPairWithin r start end number other P)
+    (λ x at. outside (subst (IsPairIn start end) (sym (one-pair number other pair x is_pair at.is_pair)) at.is_in))
 
-pub pair-not : (r : PackageList) (start end number other : ℕ) (P : Package → Type 0) (p : Package) (pairs : List (ℕ × ℕ)) → slice_get r.packages other ≡ Some p → ¬ P p → Adds pairs pairs (IsPairWithin r start end number other P)
+pub pair-not : (r : PackageList) (start end number other : ℕ) (P : Package → Type 0) (p : Package) (pairs : List (ℕ × ℕ)) → slice_get r.packages other ≡ Some p
+    → ¬ P p → Adds pairs pairs (IsPairWithin r start end number other P)
 pair-not r start end number other P p pairs is none =
     adds-nothing pairs (IsPairWithin r start end number other P) (λ x at. none (has-at P r.packages other p is at.has))
 
@@ -60,8 +65,10 @@ IsPairAt r start end number providers P i = IsPairWithin r start end number (get
 abbrev pub IsWith : (r : PackageList) (start end number : ℕ) (P : Package → Type 0) → ℕ × ℕ → Type 0
 IsWith r start end number P pair = IsPairIn start end pair × IsPairWith r number P pair
 
-pub pairs-all : (r : PackageList) (start end number : ℕ) (atom : Atom) (providers : List ℕ) (count : ℕ) (old new : List (ℕ × ℕ)) → length providers ≤ count → AreProviders r atom.name providers
-    → AddsUpTo old new (IsPairAt r start end number providers (Matches r.architecture atom)) count → Adds old new (IsWith r start end number (Matches r.architecture atom))
+pub pairs-all : (r : PackageList) (start end number : ℕ) (atom : Atom) (providers : List ℕ) (count : ℕ) (old new : List (ℕ × ℕ)) → length providers ≤ count
+    → AreProviders r atom.name providers
+    → AddsUpTo old new (IsPairAt r start end number providers (Matches r.architecture atom)) count
+    → Adds old new (IsWith r start end number (Matches r.architecture atom))
 pairs-all r start end number atom providers count old new past are adds =
     let P : Package → Type 0 = Matches r.architecture atom in
     adds-same old new (UpTo (IsPairAt r start end number providers P) count) (IsWith r start end number P)
@@ -85,14 +92,16 @@ pairs-all r start end number atom providers count old new past are adds =
 abbrev pub IsRejectedAt : (r : PackageList) (start end number : ℕ) (atoms : List Atom) → ℕ → ℕ × ℕ → Type 0
 IsRejectedAt r start end number atoms i pair = IsSomeAnd (slice_get atoms i) (λ atom. IsWith r start end number (Matches r.architecture atom) pair)
 
-pub rejected-at : (r : PackageList) (start end number : ℕ) (atoms : List Atom) (i : ℕ) (atom : Atom) (old new : List (ℕ × ℕ)) → slice_get atoms i ≡ Some atom → Adds old new (IsWith r start end number (Matches r.architecture atom))
+pub rejected-at : (r : PackageList) (start end number : ℕ) (atoms : List Atom) (i : ℕ) (atom : Atom) (old new : List (ℕ × ℕ)) → slice_get atoms i ≡ Some atom
+    → Adds old new (IsWith r start end number (Matches r.architecture atom))
     → Adds old new (IsRejectedAt r start end number atoms i)
 rejected-at r start end number atoms i atom old new is adds =
     adds-same old new (IsWith r start end number (Matches r.architecture atom)) (IsRejectedAt r start end number atoms i)
     (λ x here. at-has (λ (a : Atom). IsWith r start end number (Matches r.architecture a) x) atoms i atom is here)
     (λ x here. has-at (λ (a : Atom). IsWith r start end number (Matches r.architecture a) x) atoms i atom is here) adds
 
-pub rejected-all : (r : PackageList) (start end number : ℕ) (p : Package) (count : ℕ) (old new : List (ℕ × ℕ)) → length p.conflicts ≤ count → AddsUpTo old new (IsRejectedAt r start end number p.conflicts) count
+pub rejected-all : (r : PackageList) (start end number : ℕ) (p : Package) (count : ℕ) (old new : List (ℕ × ℕ)) → length p.conflicts ≤ count
+    → AddsUpTo old new (IsRejectedAt r start end number p.conflicts) count
     → Adds old new (IsWith r start end number (Rejects r p))
 rejected-all r start end number p count old new past adds =
     adds-same old new (UpTo (IsRejectedAt r start end number p.conflicts) count) (IsWith r start end number (Rejects r p))
@@ -101,8 +110,15 @@ rejected-all r start end number p count old new past adds =
     let atom = some-element Here p.conflicts up.0 up.2 in
     let is = element-is Here p.conflicts up.0 up.2 in
     let both = has-at Here p.conflicts up.0 atom is up.2 in
-    let with = both.1 in
-    (both.0, record { other = with.other; is_pair = with.is_pair; has = at-more (Matches r.architecture atom) (Rejects r p) (λ q matches. any-at (λ a. Matches r.architecture a q) p.conflicts up.0 atom is matches) r.packages with.other with.has }))
+    let with = both.1 in (
+      both.0,
+      record {
+        other = with.other;
+        is_pair = with.is_pair;
+        has = at-more (Matches r.architecture atom) (Rejects r p) (λ q matches. any-at (λ a. Matches r.architecture a q) p.conflicts up.0 atom is matches)
+            r.packages with.other with.has;
+      },
+    ))
     (λ x both.
     let with = both.1 in
     let Of : Package → Type 0 = Rejects r p in
@@ -123,13 +139,15 @@ rejected-all r start end number p count old new past adds =
 abbrev pub IsPairOfPackage : (r : PackageList) (start end : ℕ) → ℕ → ℕ × ℕ → Type 0
 IsPairOfPackage r start end n pair = IsPackageAnd r.packages n (λ p. IsWith r start end n (Rejects r p) pair)
 
-pub pairs-of : (r : PackageList) (start end n : ℕ) (p : Package) (old new : List (ℕ × ℕ)) → slice_get r.packages n ≡ Some p → Adds old new (IsWith r start end n (Rejects r p)) → Adds old new (IsPairOfPackage r start end n)
+pub pairs-of : (r : PackageList) (start end n : ℕ) (p : Package) (old new : List (ℕ × ℕ)) → slice_get r.packages n ≡ Some p
+    → Adds old new (IsWith r start end n (Rejects r p)) → Adds old new (IsPairOfPackage r start end n)
 pairs-of r start end n p old new is adds =
     adds-same old new (IsWith r start end n (Rejects r p)) (IsPairOfPackage r start end n)
     (λ x here. at-has (λ (q : Package). IsWith r start end n (Rejects r q) x) r.packages n p is here)
     (λ x here. has-at (λ (q : Package). IsWith r start end n (Rejects r q) x) r.packages n p is here) adds
 
-pub rejecting-all : (r : PackageList) (start end count : ℕ) (old new : List (ℕ × ℕ)) → length r.packages ≤ count → AddsUpTo [] old (IsPairOfPackage r start end) count → ((x : ℕ × ℕ) → Contains new x → Contains old x) → ((x : ℕ × ℕ) → Contains old x → Contains new x)
+pub rejecting-all : (r : PackageList) (start end count : ℕ) (old new : List (ℕ × ℕ)) → length r.packages ≤ count
+    → AddsUpTo [] old (IsPairOfPackage r start end) count → ((x : ℕ × ℕ) → Contains new x → Contains old x) → ((x : ℕ × ℕ) → Contains old x → Contains new x)
     → (pair : ℕ × ℕ) → Contains new pair ↔ (IsPairIn start end pair × IsRejectingPair r pair)
 rejecting-all r start end count old new past adds from to pair = (
   (λ there.

@@ -19,7 +19,8 @@ pub record ArePassed (pairs : List (ℕ × ℕ)) (number start place : ℕ) : Ty
 pub passed-none : (pairs : List (ℕ × ℕ)) (number start : ℕ) → ArePassed pairs number start start
 passed-none pairs number start = record { from = omega arith; have = λ i low high short. absurd (omega arith) }
 
-pub passed-more : (pairs : List (ℕ × ℕ)) (number start place : ℕ) → ArePassed pairs number start place → (get_or pairs place (0, 0)).0 ≡ number → ArePassed pairs number start (place + 1)
+pub passed-more : (pairs : List (ℕ × ℕ)) (number start place : ℕ) → ArePassed pairs number start place → (get_or pairs place (0, 0)).0 ≡ number
+    → ArePassed pairs number start (place + 1)
 passed-more pairs number start place before is = record {
   from = let h = before.from in omega arith;
   have = λ i low high short. elim (cases_lt i place) [
@@ -44,7 +45,8 @@ first-at : (pairs : List (ℕ × ℕ)) (i : ℕ) (d : ℕ × ℕ) → i < length
 first-at pairs i d short = ap (λ (x : ℕ × ℕ). x.0) (get_or_default pairs i d (0, 0) short)
 
 -- from the end on the first numbers are greater
-greater-from : (pairs : List (ℕ × ℕ)) (number start place : ℕ) → IsNonDecreasingBy (λ pair. pair.0) pairs → AreSplitAt pairs number start → ArePassed pairs number start place → IsEnd pairs number place
+greater-from : (pairs : List (ℕ × ℕ)) (number start place : ℕ) → IsNonDecreasingBy (λ pair. pair.0) pairs → AreSplitAt pairs number start
+    → ArePassed pairs number start place → IsEnd pairs number place
     → (i : ℕ) → place ≤ i → i < length pairs → number < (get_or pairs i (0, 0)).0
 greater-from pairs number start place sorted split passed end i low short =
     elim end [
@@ -56,16 +58,19 @@ greater-from pairs number start place sorted split passed end i low short =
           omega arith
     ]
 
-pub split-next : (pairs : List (ℕ × ℕ)) (number start place : ℕ) → IsNonDecreasingBy (λ pair. pair.0) pairs → AreSplitAt pairs number start → ArePassed pairs number start place → IsEnd pairs number place → AreSplitAt pairs (number + 1) place
+pub split-next : (pairs : List (ℕ × ℕ)) (number start place : ℕ) → IsNonDecreasingBy (λ pair. pair.0) pairs → AreSplitAt pairs number start
+    → ArePassed pairs number start place → IsEnd pairs number place → AreSplitAt pairs (number + 1) place
 split-next pairs number start place sorted split passed end = record {
   before = λ k d less short. let same = first-at pairs k d short in elim (cases_lt k start) [
     | inl early ↦ let h = split.before k d early short in omega arith
     | inr late ↦ let h = passed.have k late less short in omega arith
   ];
-  behind = λ k d low short. let same = first-at pairs k d short in let h = greater-from pairs number start place sorted split passed end k low short in omega arith;
+  behind = λ k d low short. let same = first-at pairs k d short in let h = greater-from pairs number start place sorted split passed end k low short in
+      omega arith;
 }
 
-pub partners-all : (pairs : List (ℕ × ℕ)) (number start place : ℕ) (old new : List ℕ) → IsNonDecreasingBy (λ pair. pair.0) pairs → AreSplitAt pairs number start → ArePassed pairs number start place → IsEnd pairs number place
+pub partners-all : (pairs : List (ℕ × ℕ)) (number start place : ℕ) (old new : List ℕ) → IsNonDecreasingBy (λ pair. pair.0) pairs → AreSplitAt pairs number start
+    → ArePassed pairs number start place → IsEnd pairs number place
     → AddsUpTo old new (IsPartnerAt pairs start) place → Adds old new (λ k. Contains pairs (number, k))
 partners-all pairs number start place old new sorted split passed end adds =
     adds-same old new (UpTo (IsPartnerAt pairs start) place) (λ k. Contains pairs (number, k))

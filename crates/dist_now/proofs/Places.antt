@@ -15,5 +15,6 @@ none-at-more P xs place x is none here k d from short =
     ]
 
 -- no element up to a place past the end has a property
-pub none-any : {X : Type 0} (P : X → Type 0) (xs : List X) (place : ℕ) → length xs ≤ place → ((k : ℕ) (d : X) → 0 ≤ k → k < place → ¬ P (get_or xs k d)) → ¬ Any P xs
+pub none-any : {X : Type 0} (P : X → Type 0) (xs : List X) (place : ℕ) → length xs ≤ place → ((k : ℕ) (d : X) → 0 ≤ k → k < place → ¬ P (get_or xs k d))
+    → ¬ Any P xs
 none-any P xs place past none any = none any.0 any.1 (omega arith) (omega (arith, any.2, past)) (subst P (sym any.3) any.4)

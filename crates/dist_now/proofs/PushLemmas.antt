@@ -1,5 +1,6 @@
 -- What one call that adds a clause does to a front.
-use Rattle.std.proofs.Common.{◌≡◌, ℕ, ◌<◌, ◌≤◌, Bool, true, false, List, [], ◌∷◌, ◌++◌, length, get_or, map, sym, subst, ◌∙◌, arith, slice_get, eqb, eqb-true, eq-eqb}
+use Rattle.std.proofs.Common.{◌≡◌, ℕ, ◌<◌, ◌≤◌, Bool, true, false, List, [], ◌∷◌, ◌++◌, length, get_or, map, sym, subst, ◌∙◌, arith, slice_get, eqb, eqb-true}
+use Rattle.std.proofs.Common.{eq-eqb}
 use Rattle.std.specs.Prelude.{Contains, IsSomeAnd, IfErr, OnOk, Result}
 use Rattle.std.proofs.lemmas.Bool.{false≢true}
 use Rattle.std.proofs.lemmas.Option.{slice_get_within}
@@ -27,23 +28,32 @@ contains-false xs x none there = false≢true (sym (none there.0 x (omega arith)
 
 -- ---- items
 
-pub itself-meets : (r : PackageList) (n k : ℕ) (item : List Atom) → IsItemAt r.packages n k item → IsPackageAnd r.packages n (IsMetBy r.architecture item) → ¬ IsDemand r false (Item n k)
+pub itself-meets : (r : PackageList) (n k : ℕ) (item : List Atom) → IsItemAt r.packages n k item → IsPackageAnd r.packages n (IsMetBy r.architecture item)
+    → ¬ IsDemand r false (Item n k)
 itself-meets r n k item at here demand =
     let Other : Package → List Atom → Type 0 = λ p i. ¬ IsMetBy r.architecture i p in
-    let inner : IsSomeAnd (slice_get at.holder.depends k) (Other at.holder) = has-at (λ (p : Package). IsSomeAnd (slice_get p.depends k) (Other p)) r.packages n at.holder at.is_holder demand in
+    let inner : IsSomeAnd (slice_get at.holder.depends k) (Other at.holder) =
+    has-at (λ (p : Package). IsSomeAnd (slice_get p.depends k) (Other p)) r.packages n at.holder at.is_holder demand in
     has-at (Other at.holder) at.holder.depends k item at.is_item inner (has-at (IsMetBy r.architecture item) r.packages n at.holder at.is_holder here)
 
-pub item-demand : (r : PackageList) (n k : ℕ) (item : List Atom) → IsItemAt r.packages n k item → ¬ IsPackageAnd r.packages n (IsMetBy r.architecture item) → IsDemand r false (Item n k)
+pub item-demand : (r : PackageList) (n k : ℕ) (item : List Atom) → IsItemAt r.packages n k item → ¬ IsPackageAnd r.packages n (IsMetBy r.architecture item)
+    → IsDemand r false (Item n k)
 item-demand r n k item at none =
     let Other : Package → List Atom → Type 0 = λ p i. ¬ IsMetBy r.architecture i p in
     at-has (λ (p : Package). IsSomeAnd (slice_get p.depends k) (Other p)) r.packages n at.holder at.is_holder
-    (at-has (Other at.holder) at.holder.depends k item at.is_item (λ meets. none (at-has (IsMetBy r.architecture item) r.packages n at.holder at.is_holder meets)))
+    (at-has (Other at.holder) at.holder.depends k item at.is_item
+    (λ meets. none (at-has (IsMetBy r.architecture item) r.packages n at.holder at.is_holder meets)))
 
-pub item-is-clause : (r : PackageList) (n k : ℕ) (item : List Atom) (numbers : List ℕ) (clause : List Literal) → IsItemAt r.packages n k item → AreNumbersOf r (IsMetBy r.architecture item) numbers
+pub item-is-clause : (r : PackageList) (n k : ℕ) (item : List Atom) (numbers : List ℕ) (clause : List Literal) → IsItemAt r.packages n k item
+    → AreNumbersOf r (IsMetBy r.architecture item) numbers
     → clause ≡ not_installed n ∷ map installed numbers → IsClauseFor r (Item n k) clause
 item-is-clause r n k item numbers clause at are is =
-    let Numbers : Package → List Atom → Type 0 = λ p i. AreNumbersOf r (IsMetBy r.architecture i) numbers in
-    (numbers, at-has (λ (p : Package). IsSomeAnd (slice_get p.depends k) (Numbers p)) r.packages n at.holder at.is_holder (at-has (Numbers at.holder) at.holder.depends k item at.is_item are), is)
+    let Numbers : Package → List Atom → Type 0 = λ p i. AreNumbersOf r (IsMetBy r.architecture i) numbers in (
+      numbers,
+      at-has (λ (p : Package). IsSomeAnd (slice_get p.depends k) (Numbers p)) r.packages n at.holder at.is_holder
+          (at-has (Numbers at.holder) at.holder.depends k item at.is_item are),
+      is,
+    )
 
 pub item-within : (r : PackageList) (n k : ℕ) (item : List Atom) → IsItemAt r.packages n k item → n < length r.packages
 item-within r n k item at = slice_get_within r.packages n at.holder at.is_holder
@@ -56,7 +66,8 @@ over-set variables n clause made same is over =
 -- ---- the set after a call
 
 -- what a call promises that adds a clause
-pub pushed-ok : (result : Result (Unit {0}) PushError) (set new : ClauseList) (clause : List Literal) (After : ClauseList → Type 0) → OnOk result (new ≡ record set { clauses = set.clauses ++ clause ∷ [] })
+pub pushed-ok : (result : Result (Unit {0}) PushError) (set new : ClauseList) (clause : List Literal) (After : ClauseList → Type 0)
+    → OnOk result (new ≡ record set { clauses = set.clauses ++ clause ∷ [] })
     → After (record set { clauses = set.clauses ++ clause ∷ [] }) → OnOk result (After new)
 pushed-ok result set new clause After ok holds = on_ok_weaker result (λ is. subst After (sym is) holds) ok
 
@@ -64,4 +75,5 @@ pub pushed-err : (r : PackageList) (essential : Bool) (result : Result (Unit {0}
     → IsSetOf r (λ e. IsDemand r essential e × IsBefore e d) limits.clause_limit limits.literal_limit set → IsDemand r essential d → IsClauseFor r d clause
     → IfErr result (IsRefused set clause) → IfErr result (IsCauseAt r essential limits)
 pushed-err r essential result set limits d clause of demand is err =
-    IfErr-weaker result (IsRefused set clause) (IsCauseAt r essential limits) (λ error refused. stops r essential set limits d clause error of demand is refused) err
+    IfErr-weaker result (IsRefused set clause) (IsCauseAt r essential limits)
+    (λ error refused. stops r essential set limits d clause error of demand is refused) err

@@ -1,5 +1,6 @@
 -- The least member that the conflict atoms of another one match.
-use Rattle.std.proofs.Common.{◌≡◌, ◌⊎◌, ℕ, ◌+◌, ◌<◌, ◌≤◌, Bool, true, List, length, get_or, Some, None, Option, refl, sym, ap, ◌∙◌, subst, arith, inl, inr, slice_get}
+use Rattle.std.proofs.Common.{◌≡◌, ◌⊎◌, ℕ, ◌+◌, ◌<◌, ◌≤◌, Bool, true, List, length, get_or, Some, None, Option, refl, sym, ap, ◌∙◌, subst, arith, inl, inr}
+use Rattle.std.proofs.Common.{slice_get}
 use Rattle.std.specs.Prelude.{Contains, IsSomeAnd}
 use Rattle.std.proofs.lemmas.Bool.{cases_lt}
 use Rattle.std.proofs.lemmas.List.{get_or_default}
@@ -22,11 +23,14 @@ abbrev pub IsNoneRejected : PackageList → List Bool → ℕ → Atom → List 
 IsNoneRejected r flags number atom providers count = (k : ℕ) → k < count → ¬ IsRejectedBy r flags number atom (get_or providers k 0)
 
 -- a member that the atom matches is among the providers of its name
-provider-place : (r : PackageList) (flags : List Bool) (number : ℕ) (atom : Atom) (providers : List ℕ) → AreProviders r atom.name providers → (n : ℕ) → IsRejectedBy r flags number atom n → Contains providers n
+provider-place : (r : PackageList) (flags : List Bool) (number : ℕ) (atom : Atom) (providers : List ℕ) → AreProviders r atom.name providers → (n : ℕ)
+    → IsRejectedBy r flags number atom n → Contains providers n
 provider-place r flags number atom providers are n rejected =
-    (are.exact n).1 (at-weaker (Matches r.architecture atom) (IsProvider r.architecture atom.name) r.packages n (matched-provides r.architecture atom) rejected.1.has)
+    (are.exact n).1 (at-weaker (Matches r.architecture atom) (IsProvider r.architecture atom.name) r.packages n (matched-provides r.architecture atom)
+    rejected.1.has)
 
-pub none-rejected : (r : PackageList) (flags : List Bool) (number : ℕ) (atom : Atom) (providers : List ℕ) (count : ℕ) → length providers ≤ count → AreProviders r atom.name providers
+pub none-rejected : (r : PackageList) (flags : List Bool) (number : ℕ) (atom : Atom) (providers : List ℕ) (count : ℕ) → length providers ≤ count
+    → AreProviders r atom.name providers
     → IsNoneRejected r flags number atom providers count → (n : ℕ) → ¬ IsRejectedBy r flags number atom n
 none-rejected r flags number atom providers count past are none n rejected =
     let there : Contains providers n = provider-place r flags number atom providers are n rejected in
@@ -35,7 +39,8 @@ none-rejected r flags number atom providers count past are none n rejected =
     none there.0 (omega (arith, past, there.1)) (subst Of (sym is) rejected)
 
 pub least-rejected : (r : PackageList) (flags : List Bool) (number : ℕ) (atom : Atom) (providers : List ℕ) (index : ℕ) → AreProviders r atom.name providers
-    → IsNoneRejected r flags number atom providers index → IsRejectedBy r flags number atom (get_or providers index 0) → IsLeast (IsRejectedBy r flags number atom) (get_or providers index 0)
+    → IsNoneRejected r flags number atom providers index → IsRejectedBy r flags number atom (get_or providers index 0)
+    → IsLeast (IsRejectedBy r flags number atom) (get_or providers index 0)
 least-rejected r flags number atom providers index are none here = record {
   holds = here;
   least = λ n rejected.
@@ -67,16 +72,20 @@ before-split r flags number atoms count atom is k before =
           inr (has-at By atoms before.0 atom (ap (λ (i : ℕ). slice_get atoms i) same ∙ is) before.2)
     ]
 
-before-wider : (r : PackageList) (flags : List Bool) (number : ℕ) (atoms : List Atom) (count k : ℕ) → IsRejectedBefore r flags number atoms count k → IsRejectedBefore r flags number atoms (count + 1) k
+before-wider : (r : PackageList) (flags : List Bool) (number : ℕ) (atoms : List Atom) (count k : ℕ) → IsRejectedBefore r flags number atoms count k
+    → IsRejectedBefore r flags number atoms (count + 1) k
 before-wider r flags number atoms count k before = (before.0, omega (arith, before.1), before.2)
 
-before-here : (r : PackageList) (flags : List Bool) (number : ℕ) (atoms : List Atom) (count : ℕ) (atom : Atom) (k : ℕ) → slice_get atoms count ≡ Some atom → IsRejectedBy r flags number atom k
+before-here : (r : PackageList) (flags : List Bool) (number : ℕ) (atoms : List Atom) (count : ℕ) (atom : Atom) (k : ℕ) → slice_get atoms count ≡ Some atom
+    → IsRejectedBy r flags number atom k
     → IsRejectedBefore r flags number atoms (count + 1) k
 before-here r flags number atoms count atom k is rejected =
     let By : Atom → Type 0 = λ a. IsRejectedBy r flags number a k in (count, omega arith, at-has By atoms count atom is rejected)
 
-pub before-none : (r : PackageList) (flags : List Bool) (number : ℕ) (atoms : List Atom) (count : ℕ) (atom : Atom) (least : Option ℕ) → slice_get atoms count ≡ Some atom
-    → IsLeastIfAny (IsRejectedBefore r flags number atoms count) least → ((n : ℕ) → ¬ IsRejectedBy r flags number atom n) → IsLeastIfAny (IsRejectedBefore r flags number atoms (count + 1)) least
+pub before-none : (r : PackageList) (flags : List Bool) (number : ℕ) (atoms : List Atom) (count : ℕ) (atom : Atom) (least : Option ℕ)
+    → slice_get atoms count ≡ Some atom
+    → IsLeastIfAny (IsRejectedBefore r flags number atoms count) least → ((n : ℕ) → ¬ IsRejectedBy r flags number atom n)
+    → IsLeastIfAny (IsRejectedBefore r flags number atoms (count + 1)) least
 before-none r flags number atoms count atom None is none here =
     λ n before. elim (before-split r flags number atoms count atom is n before) [
       | inl h ↦ none n h
@@ -90,13 +99,16 @@ before-none r flags number atoms count atom (Some m) is least here = record {
   ];
 }
 
-pub before-some : (r : PackageList) (flags : List Bool) (number : ℕ) (atoms : List Atom) (count : ℕ) (atom : Atom) (least : Option ℕ) (other lesser : ℕ) → slice_get atoms count ≡ Some atom
+pub before-some : (r : PackageList) (flags : List Bool) (number : ℕ) (atoms : List Atom) (count : ℕ) (atom : Atom) (least : Option ℕ) (other lesser : ℕ)
+    → slice_get atoms count ≡ Some atom
     → IsLeastIfAny (IsRejectedBefore r flags number atoms count) least → IsLeast (IsRejectedBy r flags number atom) other
-    → (least ≡ Some lesser) ⊎ (lesser ≡ other) → lesser ≤ other → ((n : ℕ) → least ≡ Some n → lesser ≤ n) → IsLeast (IsRejectedBefore r flags number atoms (count + 1)) lesser
+    → (least ≡ Some lesser) ⊎ (lesser ≡ other) → lesser ≤ other → ((n : ℕ) → least ≡ Some n → lesser ≤ n)
+    → IsLeast (IsRejectedBefore r flags number atoms (count + 1)) lesser
 before-some r flags number atoms count atom None other lesser is none here one at_most_other at_most_least = record {
   holds = elim one [
     | inl h ↦ cc
-    | inr h ↦ let Of : ℕ → Type 0 = λ k. IsRejectedBefore r flags number atoms (count + 1) k in subst Of (sym h) (before-here r flags number atoms count atom other is here.holds)
+    | inr h ↦ let Of : ℕ → Type 0 = λ k. IsRejectedBefore r flags number atoms (count + 1) k in
+        subst Of (sym h) (before-here r flags number atoms count atom other is here.holds)
   ];
   least = λ n before. elim (before-split r flags number atoms count atom is n before) [
     | inl h ↦ absurd (none n h)
@@ -119,7 +131,8 @@ least-same P Q to from None none = λ n holds. none n (from n holds)
 least-same P Q to from (Some m) least = record { holds = to m least.holds; least = λ n holds. least.least n (from n holds) }
 
 -- all atoms of a member were gone through
-pub rejected-all : (r : PackageList) (flags : List Bool) (number : ℕ) (p : Package) (count : ℕ) (found : Option ℕ) → slice_get r.packages number ≡ Some p → slice_get flags number ≡ Some true → length p.conflicts ≤ count
+pub rejected-all : (r : PackageList) (flags : List Bool) (number : ℕ) (p : Package) (count : ℕ) (found : Option ℕ) → slice_get r.packages number ≡ Some p
+    → slice_get flags number ≡ Some true → length p.conflicts ≤ count
     → IsLeastIfAny (IsRejectedBefore r flags number p.conflicts count) found → IsLeastIfAny (IsRejected r flags number) found
 rejected-all r flags number p count found is member past least =
     least-same (IsRejectedBefore r flags number p.conflicts count) (IsRejected r flags number)
@@ -134,6 +147,10 @@ rejected-all r flags number p count found is member past least =
     })
     (λ k rejected. let By : Atom → Type 0 = λ a. IsRejectedBy r flags number a k in
     let same : rejected.p ≡ p = cc in
-    let there : slice_get p.conflicts rejected.place ≡ Some rejected.atom = ap (λ (q : Package). slice_get q.conflicts rejected.place) (sym same) ∙ rejected.is_atom in
-    (rejected.place, omega (arith, past, slice_get_within p.conflicts rejected.place rejected.atom there), at-has By p.conflicts rejected.place rejected.atom there rejected.rejected))
+    let there : slice_get p.conflicts rejected.place ≡ Some rejected.atom = ap (λ (q : Package). slice_get q.conflicts rejected.place) (sym same)
+    ∙ rejected.is_atom in (
+      rejected.place,
+      omega (arith, past, slice_get_within p.conflicts rejected.place rejected.atom there),
+      at-has By p.conflicts rejected.place rejected.atom there rejected.rejected,
+    ))
     found least

@@ -1,5 +1,6 @@
 -- There is a list of the clauses of the present: what a demand asks is decided, and each demand has a clause.
-use Rattle.std.proofs.Common.{◌≡◌, ◌⊎◌, ◌↔◌, ℕ, zero, suc, ◌+◌, ◌<◌, ◌≤◌, Bool, true, false, List, [], ◌∷◌, ◌++◌, length, get_or, map, refl, sym, subst, ◌∙◌, arith, inl, inr, Some, slice_get, length-append}
+use Rattle.std.proofs.Common.{◌≡◌, ◌⊎◌, ◌↔◌, ℕ, zero, suc, ◌+◌, ◌<◌, ◌≤◌, Bool, true, false, List, [], ◌∷◌, ◌++◌, length, get_or, map, refl, sym, subst, ◌∙◌}
+use Rattle.std.proofs.Common.{arith, inl, inr, Some, slice_get, length-append}
 use Rattle.std.specs.Prelude.{Contains, IsSomeAnd}
 use Rattle.std.specs.List.Sorted.{IsStrictlyIncreasing}
 use Rattle.std.proofs.lemmas.Bool.{cases_lt, false≢true}
@@ -16,7 +17,8 @@ use Rattle.dist_repo.specs.Order.{IsInOrder}
 use Rattle.dist_repo.specs.PackageList.{PackageList, IsPackageAnd}
 use Rattle.dist_repo.specs.declared.package.Package.{Package}
 use Rattle.dist_now.specs.Gathering.{IsFront, IsNamedBelow, IsNamedFront, IsPlainSet}
-use Rattle.dist_now.specs.PresentClauses.{Demand, Item, Apart, Required, AreNumbersOf, ArePresentClauses, IsClauseFor, IsDemand, IsMetBy, installed, not_installed}
+use Rattle.dist_now.specs.PresentClauses.{Demand, Item, Apart, Required, AreNumbersOf, ArePresentClauses, IsClauseFor, IsDemand, IsMetBy, installed}
+use Rattle.dist_now.specs.PresentClauses.{not_installed}
 use Rattle.dist_now.proofs.FrontLemmas.{all-items, all-pairs, front-start, item-pushed, item-skipped, items-end, pair-pushed, pair-shifted, pairs-end}
 use Rattle.dist_now.proofs.ModelLemmas.{IsEssentialOf}
 use Rattle.dist_now.proofs.NameFronts.{named-end, named-pushed, named-skipped, named-start}
@@ -36,7 +38,8 @@ apart-decided r n k = elim (cases_lt n k) [
   | inr past ↦ inr (λ demand. omega (arith, past, demand.0))
   | inl less ↦
       elim (at-decided (λ p. IsPackageAnd r.packages k (λ q. (p.name ≡ q.name) ⊎ AreInConflict r.architecture p q))
-      (λ p. at-decided (λ q. (p.name ≡ q.name) ⊎ AreInConflict r.architecture p q) (λ q. either-decided (text-decided p.name q.name) (conflict-decided r.architecture p q)) r.packages k) r.packages n) [
+      (λ p. at-decided (λ q. (p.name ≡ q.name) ⊎ AreInConflict r.architecture p q)
+      (λ q. either-decided (text-decided p.name q.name) (conflict-decided r.architecture p q)) r.packages k) r.packages n) [
         | inl here ↦ inl (less, here)
         | inr none ↦ inr (λ demand. none demand.1)
       ]
@@ -67,9 +70,14 @@ rises-push xs y rising bound k short =
     ]
 
 numbers-none : (r : PackageList) (P : Package → Type 0) → NumbersBelow r P 0
-numbers-none r P = record { numbers = []; rising = λ k short. absurd (omega arith); exact = λ k. ((λ there. absurd (omega (arith, there.1))), λ both. absurd (omega (arith, both.0))) }
+numbers-none r P = record {
+  numbers = [];
+  rising = λ k short. absurd (omega arith);
+  exact = λ k. ((λ there. absurd (omega (arith, there.1))), λ both. absurd (omega (arith, both.0)));
+}
 
-numbers-more : (r : PackageList) (P : Package → Type 0) → ((p : Package) → IsDecided (P p)) → (count : ℕ) → NumbersBelow r P count → NumbersBelow r P (count + 1)
+numbers-more : (r : PackageList) (P : Package → Type 0) → ((p : Package) → IsDecided (P p)) → (count : ℕ) → NumbersBelow r P count
+    → NumbersBelow r P (count + 1)
 numbers-more r P each count before = elim (at-decided P each r.packages count) [
   | inl here ↦ record {
     numbers = before.numbers ++ count ∷ [];
@@ -112,7 +120,10 @@ some-numbers r P each =
     let all = numbers-below r P each (length r.packages) in
     record {
       numbers = all.numbers;
-      are = record { rising = all.rising; exact = λ k. ((λ there. ((all.exact k).0 there).1), λ here. (all.exact k).1 (within-from P r.packages k here, here)) };
+      are = record {
+        rising = all.rising;
+        exact = λ k. ((λ there. ((all.exact k).0 there).1), λ here. (all.exact k).1 (within-from P r.packages k here, here));
+      };
     }
 
 -- ---- a clause for each demand
@@ -134,7 +145,12 @@ item-has-clause r n k demand =
     let Numbers : Package → List Atom → Type 0 = λ q i. AreNumbersOf r (IsMetBy r.architecture i) some.numbers in
     record {
       clause = not_installed n ∷ map installed some.numbers;
-      is_clause = (some.numbers, at-has (λ (q : Package). IsSomeAnd (slice_get q.depends k) (Numbers q)) r.packages n p is_p (at-has (Numbers p) p.depends k item is_item some.are), refl);
+      is_clause = (
+        some.numbers,
+        at-has (λ (q : Package). IsSomeAnd (slice_get q.depends k) (Numbers q)) r.packages n p is_p
+            (at-has (Numbers p) p.depends k item is_item some.are),
+        refl,
+      );
     }
 
 name-has-clause : (r : PackageList) (name : List ℕ) → SomeClause r (Required name)
@@ -156,7 +172,10 @@ item-step : (r : PackageList) (n k : ℕ) → Some-set (IsFront r (Item n k) (em
 item-step r n k before = elim (item-decided r n k) [
   | inr none ↦ record { set = before.set; has = item-skipped r n k (empty r) before.set before.has none }
   | inl demand ↦ let some = item-has-clause r n k demand in
-      record { set = record before.set { clauses = before.set.clauses ++ some.clause ∷ [] }; has = item-pushed r n k (empty r) before.set some.clause before.has demand some.is_clause }
+      record {
+        set = record before.set { clauses = before.set.clauses ++ some.clause ∷ [] };
+        has = item-pushed r n k (empty r) before.set some.clause before.has demand some.is_clause;
+      }
 ]
 
 items-to : (r : PackageList) (n k : ℕ) → Some-set (IsFront r (Item n 0) (empty r)) → Some-set (IsFront r (Item n k) (empty r))
@@ -181,7 +200,10 @@ items-of r n short start =
     record { set = at.set; has = items-end r n (length p.value.depends) p.value (empty r) at.set p.is (omega arith) at.has }
 
 packages-to : (r : PackageList) (n : ℕ) → n ≤ length r.packages → Some-set (IsFront r (Item n 0) (empty r))
-packages-to r zero within = record { set = empty r; has = record { clauses = front-start r; variables = refl; clause_limit_is = refl; literal_limit_is = refl } }
+packages-to r zero within = record {
+  set = empty r;
+  has = record { clauses = front-start r; variables = refl; clause_limit_is = refl; literal_limit_is = refl };
+}
 packages-to r (suc n) within =
     let next : n + 1 ≡ suc n = omega arith in
     subst (λ (i : ℕ). Some-set (IsFront r (Item i 0) (empty r))) next (items-of r n (omega arith) (packages-to r n (omega arith)))
@@ -190,11 +212,15 @@ pair-step : (r : PackageList) (n k : ℕ) → Some-set (IsFront r (Apart n k) (e
 pair-step r n k before = elim (apart-decided r n k) [
   | inr none ↦ record {
     set = before.set;
-    has = pair-shifted r n k (k + 1) (empty r) before.set (omega arith) (λ i low high demand. none (let same : i ≡ k = omega arith in subst (λ (j : ℕ). IsDemand r false (Apart n j)) same demand)) before.has;
+    has = pair-shifted r n k (k + 1) (empty r) before.set (omega arith)
+        (λ i low high demand. none (let same : i ≡ k = omega arith in subst (λ (j : ℕ). IsDemand r false (Apart n j)) same demand)) before.has;
   }
   | inl demand ↦
       let clause : List Literal = not_installed n ∷ not_installed k ∷ [] in
-      record { set = record before.set { clauses = before.set.clauses ++ clause ∷ [] }; has = pair-pushed r n k (empty r) before.set clause before.has demand refl }
+      record {
+        set = record before.set { clauses = before.set.clauses ++ clause ∷ [] };
+        has = pair-pushed r n k (empty r) before.set clause before.has demand refl;
+      }
 ]
 
 pairs-to : (r : PackageList) (n k : ℕ) → Some-set (IsFront r (Apart n 0) (empty r)) → Some-set (IsFront r (Apart n k) (empty r))
@@ -242,7 +268,8 @@ below-decided r name (suc n) = elim (below-decided r name n) [
   ]
 ]
 
-name-step : (r : PackageList) (n : ℕ) → IsInOrder r.packages → n < length r.packages → Some-set (IsNamedFront r n (empty r)) → Some-set (IsNamedFront r (n + 1) (empty r))
+name-step : (r : PackageList) (n : ℕ) → IsInOrder r.packages → n < length r.packages → Some-set (IsNamedFront r n (empty r))
+    → Some-set (IsNamedFront r (n + 1) (empty r))
 name-step r n ordered short before = by at.value.essential refl (below-decided r at.value.name n)
   where
     at : At r.packages n
@@ -252,7 +279,10 @@ name-step r n ordered short before = by at.value.essential refl (below-decided r
     by false is decided = record { set = before.set; has = named-skipped r n at.value (empty r) before.set at.is (inl is) before.has }
     by true is (inl below) = record { set = before.set; has = named-skipped r n at.value (empty r) before.set at.is (inr below) before.has }
     by true is (inr first) = let some = name-has-clause r at.value.name in
-        record { set = record before.set { clauses = before.set.clauses ++ some.clause ∷ [] }; has = named-pushed r n at.value (empty r) before.set some.clause ordered at.is is first before.has some.is_clause }
+        record {
+          set = record before.set { clauses = before.set.clauses ++ some.clause ∷ [] };
+          has = named-pushed r n at.value (empty r) before.set some.clause ordered at.is is first before.has some.is_clause;
+        }
 
 names-to : (r : PackageList) (n : ℕ) → IsInOrder r.packages → n ≤ length r.packages → Some-set (IsNamedFront r n (empty r))
 names-to r zero ordered within = let start = plain r in record { set = start.set; has = named-start r (empty r) start.set start.has }

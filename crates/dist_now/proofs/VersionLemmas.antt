@@ -1,5 +1,6 @@
 -- The packages of one name, which stand together.
-use Rattle.std.proofs.Common.{◌≡◌, ◌≢◌, ℕ, ◌+◌, ◌<◌, ◌≤◌, Bool, true, false, not, List, [], ◌∷◌, ◌++◌, length, refl, sym, ap, ◌∙◌, arith, inl, inr, Some, slice_get}
+use Rattle.std.proofs.Common.{◌≡◌, ◌≢◌, ℕ, ◌+◌, ◌<◌, ◌≤◌, Bool, true, false, not, List, [], ◌∷◌, ◌++◌, length, refl, sym, ap, ◌∙◌, arith, inl, inr, Some}
+use Rattle.std.proofs.Common.{slice_get}
 use Rattle.std.specs.Prelude.{bytes_eq}
 use Rattle.std.proofs.lemmas.Bool.{cases_lt, false≢true}
 use Rattle.std.proofs.lemmas.Slice.Eq.{bytes_eq-Decides}
@@ -22,19 +23,24 @@ IsVersion r first name k = (first < k) × IsPackageAnd r.packages k (λ q. name 
 pub versions-none : (r : PackageList) (first : ℕ) (name : List ℕ) (numbers : List ℕ) → AddsUpTo numbers numbers (IsVersionAt r first name) (first + 1)
 versions-none r first name numbers = adds-none numbers (IsVersionAt r first name) (first + 1) (λ i x short at. omega (arith, at.0, at.1))
 
-pub versions-more : (r : PackageList) (first second : ℕ) (name : List ℕ) (q : Package) (numbers : List ℕ) → first < second → slice_get r.packages second ≡ Some q → name ≡ q.name → Adds numbers (numbers ++ second ∷ []) (IsVersionAt r first name second)
+pub versions-more : (r : PackageList) (first second : ℕ) (name : List ℕ) (q : Package) (numbers : List ℕ) → first < second
+    → slice_get r.packages second ≡ Some q → name ≡ q.name → Adds numbers (numbers ++ second ∷ []) (IsVersionAt r first name second)
 versions-more r first second name q numbers behind is same =
     adds-one numbers second (IsVersionAt r first name second) (refl, behind, at-has (λ (z : Package). name ≡ z.name) r.packages second q is same) (λ x at. at.0)
 
-versions-from : (r : PackageList) (first count : ℕ) (name : List ℕ) (old new : List ℕ) → ((k : ℕ) → IsVersion r first name k → k < count) → AddsUpTo old new (IsVersionAt r first name) count → Adds old new (IsVersion r first name)
+versions-from : (r : PackageList) (first count : ℕ) (name : List ℕ) (old new : List ℕ) → ((k : ℕ) → IsVersion r first name k → k < count)
+    → AddsUpTo old new (IsVersionAt r first name) count → Adds old new (IsVersion r first name)
 versions-from r first count name old new below adds =
-    adds-same old new (UpTo (IsVersionAt r first name) count) (IsVersion r first name) (λ k up. (up.2.1, up.2.2)) (λ k is. (k, below k is, (refl, is.0, is.1))) adds
+    adds-same old new (UpTo (IsVersionAt r first name) count) (IsVersion r first name) (λ k up. (up.2.1, up.2.2)) (λ k is. (k, below k is, (refl, is.0, is.1)))
+    adds
 
-pub versions-all : (r : PackageList) (first count : ℕ) (name : List ℕ) (old new : List ℕ) → length r.packages ≤ count → AddsUpTo old new (IsVersionAt r first name) count → Adds old new (IsVersion r first name)
+pub versions-all : (r : PackageList) (first count : ℕ) (name : List ℕ) (old new : List ℕ) → length r.packages ≤ count
+    → AddsUpTo old new (IsVersionAt r first name) count → Adds old new (IsVersion r first name)
 versions-all r first count name old new past adds =
     versions-from r first count name old new (λ k is. omega (arith, past, within-from (λ (z : Package). name ≡ z.name) r.packages k is.1)) adds
 
-pub versions-end : (r : PackageList) (first count : ℕ) (p q : Package) (old new : List ℕ) → IsInOrder r.packages → first < count → slice_get r.packages first ≡ Some p → slice_get r.packages count ≡ Some q → q.name ≢ p.name
+pub versions-end : (r : PackageList) (first count : ℕ) (p q : Package) (old new : List ℕ) → IsInOrder r.packages → first < count
+    → slice_get r.packages first ≡ Some p → slice_get r.packages count ≡ Some q → q.name ≢ p.name
     → AddsUpTo old new (IsVersionAt r first p.name) count → Adds old new (IsVersion r first p.name)
 versions-end r first count p q old new ordered behind is_p is_q other adds =
     versions-from r first count p.name old new

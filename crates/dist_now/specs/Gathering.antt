@@ -1,5 +1,6 @@
 -- What is gathered on the way to the clauses of the present.
-use Rattle.std.specs.Prelude.{◌≡◌, ◌⊎◌, ◌↔◌, ℕ, ◌+◌, ◌<◌, ◌≤◌, Bool, true, false, List, Any, Contains, length, slice_index_or}
+use Rattle.std.specs.Prelude.{◌≡◌, ◌⊎◌, ◌↔◌, ℕ, ◌+◌, ◌<◌, ◌≤◌, Bool, true, false, List, Any, Contains, length}
+use Rattle.std.specs.Prelude.{slice_index_or}
 use Rattle.dist_clause.specs.ClauseList.{ClauseList, literal_count}
 use Rattle.dist_clause.specs.Formula.{Literal}
 use Rattle.dist_clause.specs.declared.clause_set.PushError.{PushError}
@@ -30,10 +31,11 @@ abbrev pub IsPairIn : (start end : ℕ) → ℕ × ℕ → Type 0
 IsPairIn start end pair = (start ≤ pair.0) × (pair.0 < end)
 
 -- such a pair of a package and another one that has a property
-pub record IsPairWithin (r : PackageList) (start end number other : ℕ) (P : Package → Type 0) (pair : ℕ × ℕ) : Type 0 where
-  pub is_pair : IsPairOf number other pair
-  pub is_in : IsPairIn start end pair
-  pub has : IsPackageAnd r.packages other P
+pub record IsPairWithin (r : PackageList) (start end number other : ℕ) (P : Package → Type 0) (pair : ℕ × ℕ) : Type 0
+  where
+    pub is_pair : IsPairOf number other pair
+    pub is_in : IsPairIn start end pair
+    pub has : IsPackageAnd r.packages other P
 
 -- a conflict atom of the first package matches the second
 abbrev pub Rejects : PackageList → (p q : Package) → Type 0
@@ -50,12 +52,15 @@ pub record AreSplitAt (pairs : List (ℕ × ℕ)) (number place : ℕ) : Type 0 
 
 -- why a clause was refused by a set within its limits
 abbrev pub IsRefused : ClauseList → List Literal → PushError → Type 0
-IsRefused set clause TooManyClauses = (literal_count set.clauses ≤ set.literal_limit) × (length set.clauses ≡ set.clause_limit)
+IsRefused set clause TooManyClauses = (literal_count set.clauses ≤ set.literal_limit)
+    × (length set.clauses ≡ set.clause_limit)
 IsRefused set clause TooManyLiterals =
-    (literal_count set.clauses ≤ set.literal_limit) × (length set.clauses < set.clause_limit) × (set.literal_limit < literal_count set.clauses + length clause)
+    (literal_count set.clauses ≤ set.literal_limit) × (length set.clauses < set.clause_limit)
+    × (set.literal_limit < literal_count set.clauses + length clause)
 IsRefused set clause NoMemory = Unit {0}
 
--- the set has a variable for each package and the limits of another set, and holds the clauses before a demand's at mode plain
+-- the set has a variable for each package and the limits of another set, and holds the clauses before a demand's at
+-- mode plain
 abbrev pub IsFront : PackageList → Demand → (limits set : ClauseList) → Type 0
 IsFront r d limits set = IsSetOf r (λ e. IsDemand r false e × IsBefore e d) limits.clause_limit limits.literal_limit set
 
@@ -65,7 +70,8 @@ IsPlainSet r limits set = IsSetOf r (IsDemand r false) limits.clause_limit limit
 
 -- an essential package of the name has a lesser number
 abbrev pub IsNamedBelow : PackageList → ℕ → List ℕ → Type 0
-IsNamedBelow r number name = (k : ℕ) × (k < number) × IsPackageAnd r.packages k (λ p. (p.essential ≡ true) × (p.name ≡ name))
+IsNamedBelow r number name = (k : ℕ) × (k < number)
+    × IsPackageAnd r.packages k (λ p. (p.essential ≡ true) × (p.name ≡ name))
 
 -- a demand other than a name, or the name of an essential package with a lesser number
 abbrev pub IsNamedSoFar : PackageList → ℕ → Demand → Type 0
@@ -75,7 +81,8 @@ IsNamedSoFar r number (Required name) = IsNamedBelow r number name
 
 -- the same with the clauses at mode essential, but for those of names that only packages from a number on have
 abbrev pub IsNamedFront : PackageList → ℕ → (limits set : ClauseList) → Type 0
-IsNamedFront r number limits set = IsSetOf r (λ e. IsDemand r true e × IsNamedSoFar r number e) limits.clause_limit limits.literal_limit set
+IsNamedFront r number limits set = IsSetOf r (λ e. IsDemand r true e × IsNamedSoFar r number e) limits.clause_limit
+    limits.literal_limit set
 
 -- the same with all clauses of mode essential
 abbrev pub IsEssentialSet : PackageList → (limits set : ClauseList) → Type 0

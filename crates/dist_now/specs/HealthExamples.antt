@@ -1,5 +1,6 @@
 -- A worked example of health: package a depends on b, and b conflicts with a.
-use Rattle.std.specs.Prelude.{◌≡◌, ℕ, zero, suc, ◌<◌, true, false, Bool, List, [], ◌∷◌, None, Option, Any, unwrap_or, codes, length, refl}
+use Rattle.std.specs.Prelude.{◌≡◌, ℕ, zero, suc, ◌<◌, true, false, Bool, List, [], ◌∷◌, None, Option, Any, unwrap_or}
+use Rattle.std.specs.Prelude.{codes, length, refl}
 use Rattle.std.proofs.Common.{ap, arith, get_or, inl, inr, lit<, subst, sym}
 use Rattle.std.proofs.lemmas.Bool.{false≢true}
 use Rattle.std.proofs.lemmas.Option.{none-some}
@@ -21,7 +22,8 @@ first_of_all (suc n) k = inl (omega arith)
 the_only_one : (atom : Atom) → Any (Matches None atom) (needing ∷ []) → Matches None atom needing
 the_only_one atom any = at any.0 any.1 any.2 any.3 any.4
   where
-    at : (k : ℕ) (p : Package) → k < length (needing ∷ []) → get_or (needing ∷ []) k p ≡ p → Matches None atom p → Matches None atom needing
+    at : (k : ℕ) (p : Package) → k < length (needing ∷ []) → get_or (needing ∷ []) k p ≡ p → Matches None atom p
+        → Matches None atom needing
     at zero p short is matches = subst (λ (q : Package). Matches None atom q) (sym is) matches
     at (suc k) p short is matches = absurd (omega (arith, short))
 
@@ -31,7 +33,13 @@ not_met met = never-itself (met.0, met.1, met.2, met.3, the_only_one met.1 met.4
 
 -- The first item of a alone is unmet.
 alone_is_unmet : IsHealth two false (true ∷ false ∷ []) (Unmet 0 0)
-alone_is_unmet = (one_member, record { holds = record { member = refl; has = not_met }; least = λ n k unmet. first_of_all n k })
+alone_is_unmet = (
+  one_member,
+  record {
+    holds = record { member = refl; has = not_met };
+    least = λ n k unmet. first_of_all n k;
+  },
+)
   where
     one_member : (n k : ℕ) → ¬ AreTwoVersions two (true ∷ false ∷ []) n k
     one_member n zero members = omega (arith, members.in_order)

@@ -1,6 +1,8 @@
--- The clauses of the present, with a variable for each package: what a healthy installation must meet, a clause for each
+-- The clauses of the present, with a variable for each package: what a healthy installation must meet, a clause for
+-- each
 -- demand.
-use Rattle.std.specs.Prelude.{◌≡◌, ◌⊎◌, ◌↔◌, ℕ, ◌+◌, ◌<◌, Bool, true, false, List, [], ◌∷◌, Option, All, AllPairs, Any, Contains, IsSomeAnd, map, slice_get}
+use Rattle.std.specs.Prelude.{◌≡◌, ◌⊎◌, ◌↔◌, ℕ, ◌+◌, ◌<◌, Bool, true, false, List, [], ◌∷◌, Option, All, AllPairs, Any}
+use Rattle.std.specs.Prelude.{Contains, IsSomeAnd, map, slice_get}
 use Rattle.std.specs.Cmp.Lexicographic.{slice_cmp}
 use Rattle.std.specs.List.Sorted.{IsStrictlyIncreasing}
 use Rattle.std.specs.Ordering.{nat_cmp}
@@ -40,12 +42,14 @@ pub data Demand : Type 0 where
   Apart : (first second : ℕ) → Demand
   Required : (name : List ℕ) → Demand
 
--- The demands of a repository: each item that its own package doesn't meet, two packages of one name or in conflict, and
+-- The demands of a repository: each item that its own package doesn't meet, two packages of one name or in conflict,
+-- and
 -- at mode essential the names of the essential packages.
 abbrev pub IsDemand : PackageList → Bool → Demand → Type 0
 IsDemand r essential (Item number place) = IsItemAnd r number place (λ p item. ¬ IsMetBy r.architecture item p)
 IsDemand r essential (Apart first second) =
-    (first < second) × IsPackageAnd r.packages first (λ p. IsPackageAnd r.packages second (λ q. (p.name ≡ q.name) ⊎ AreInConflict r.architecture p q))
+    (first < second) × IsPackageAnd r.packages first
+    (λ p. IsPackageAnd r.packages second (λ q. (p.name ≡ q.name) ⊎ AreInConflict r.architecture p q))
 IsDemand r essential (Required name) = Contains (required_names essential r.packages) name
 
 -- the lesser of two pairs of numbers, by the first and then by the second
@@ -64,13 +68,16 @@ IsBefore (Required name) (Item n k) = ⊥
 IsBefore (Required name) (Apart n k) = ⊥
 IsBefore (Required name) (Required other) = slice_cmp nat_cmp name other ≡ Less
 
--- The clause of a demand: without the package, or with one that meets the item; without the first, or without the second;
+-- The clause of a demand: without the package, or with one that meets the item; without the first, or without the
+-- second;
 -- with a package of the name.
 abbrev pub IsClauseFor : PackageList → Demand → List Literal → Type 0
 IsClauseFor r (Item number place) clause =
-    (numbers : List ℕ) × IsItemAnd r number place (λ p item. AreNumbersOf r (IsMetBy r.architecture item) numbers) × (clause ≡ not_installed number ∷ map installed numbers)
+    (numbers : List ℕ) × IsItemAnd r number place (λ p item. AreNumbersOf r (IsMetBy r.architecture item) numbers)
+    × (clause ≡ not_installed number ∷ map installed numbers)
 IsClauseFor r (Apart first second) clause = clause ≡ not_installed first ∷ not_installed second ∷ []
-IsClauseFor r (Required name) clause = (numbers : List ℕ) × AreNumbersOf r (λ p. p.name ≡ name) numbers × (clause ≡ map installed numbers)
+IsClauseFor r (Required name) clause = (numbers : List ℕ) × AreNumbersOf r (λ p. p.name ≡ name) numbers
+    × (clause ≡ map installed numbers)
 
 -- The clauses of the demands with a property: one for each demand, in the order of demands.
 pub record AreClausesOf (r : PackageList) (P : Demand → Type 0) (clauses : List (List Literal)) : Type 0 where

@@ -46,7 +46,8 @@ never-itself met = at met.0 met.1 met.2 met.3 met.4
       | inr any ↦ omega (arith, any.2)
     ]
 
-    at : (k : ℕ) (atom : Atom) → k < length (any_version (codes "b") ∷ []) → get_or (any_version (codes "b") ∷ []) k atom ≡ atom → Matches None atom needing → ⊥
+    at : (k : ℕ) (atom : Atom) → k < length (any_version (codes "b") ∷ [])
+        → get_or (any_version (codes "b") ∷ []) k atom ≡ atom → Matches None atom needing → ⊥
     at zero atom short is matches = never (subst (λ (a : Atom). Matches None a needing) (sym is) matches)
     at (suc k) atom short is matches = omega arith
 
@@ -58,22 +59,36 @@ one = 1 ∷ []
 item_is_demand : IsDemand two false (Item 0 0)
 item_is_demand = never-itself
 
-met-by : (number : ℕ) → IsPackageAnd two.packages number (IsMetBy None (any_version (codes "b") ∷ [])) → Contains one number
+met-by : (number : ℕ) → IsPackageAnd two.packages number (IsMetBy None (any_version (codes "b") ∷ []))
+    → Contains one number
 met-by zero met = absurd (never-itself met)
 met-by (suc zero) met = (0, lit< tt, refl)
 met-by (suc (suc k)) met = absurd met
 
 item_clause : IsClauseFor two (Item 0 0) (literal 1 false ∷ literal 2 true ∷ [])
-item_clause = (one, record { rising = λ k short. absurd (omega arith); exact = λ number. (to number, met-by number) }, refl)
+item_clause = (
+  one,
+  record { rising = λ k short. absurd (omega arith); exact = λ number. (to number, met-by number) },
+  refl,
+)
   where
     by_name : IsMetBy None (any_version (codes "b") ∷ []) rejecting
-    by_name = (0, any_version (codes "b"), lit< tt, refl, record { usable = tt; matched = inl (record { name = refl; bound = tt }) })
+    by_name = (
+      0,
+      any_version (codes "b"),
+      lit< tt,
+      refl,
+      record { usable = tt; matched = inl (record { name = refl; bound = tt }) },
+    )
 
-    to : (number : ℕ) → Contains one number → IsPackageAnd two.packages number (IsMetBy None (any_version (codes "b") ∷ []))
+    to : (number : ℕ) → Contains one number → IsPackageAnd two.packages number
+        (IsMetBy None (any_version (codes "b") ∷ []))
     to number there = at there.0 there.1 there.2
       where
-        at : (k : ℕ) → k < length one → get_or one k number ≡ number → IsPackageAnd two.packages number (IsMetBy None (any_version (codes "b") ∷ []))
-        at zero short is = subst (λ (n : ℕ). IsPackageAnd two.packages n (IsMetBy None (any_version (codes "b") ∷ []))) is by_name
+        at : (k : ℕ) → k < length one → get_or one k number ≡ number
+            → IsPackageAnd two.packages number (IsMetBy None (any_version (codes "b") ∷ []))
+        at zero short is = subst (λ (n : ℕ). IsPackageAnd two.packages n (IsMetBy None (any_version (codes "b") ∷ [])))
+            is by_name
         at (suc k) short is = absurd (omega arith)
 
 -- b rejects a, so the two are apart, by the clause `-1 -2`
@@ -82,7 +97,13 @@ two_are_apart = (
   lit< tt,
   inr (record {
     different = λ same. different same.0;
-    matched = inr (0, any_version (codes "a"), lit< tt, refl, record { usable = tt; matched = inl (record { name = refl; bound = tt }) });
+    matched = inr (
+      0,
+      any_version (codes "a"),
+      lit< tt,
+      refl,
+      record { usable = tt; matched = inl (record { name = refl; bound = tt }) },
+    );
   }),
 )
 

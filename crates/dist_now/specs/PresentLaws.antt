@@ -17,7 +17,8 @@ pub record IsModelOf (r : PackageList) (clauses : List (List Literal)) (values :
 
 -- The models of the clauses are exactly the healthy installations.
 pub record AreModelsInstallations (r : PackageList) (essential : Bool) (clauses : List (List Literal)) : Type 0 where
-  pub healthy : (values : List Bool) → IsModelOf r clauses values → IsInstallation essential r (members_of r.packages values)
+  pub healthy : (values : List Bool) → IsModelOf r clauses values
+      → IsInstallation essential r (members_of r.packages values)
   pub all : (members : List Package) → IsInstallation essential r members
       → (values : List Bool) × IsModelOf r clauses values × AreSamePackages members (members_of r.packages values)
 

@@ -12,4 +12,5 @@ IsLater r flags first Q k = (first < k) × IsMemberAnd r.packages flags k Q
 
 -- an item that no member meets
 abbrev pub IsUnmetItem : PackageList → List Bool → List (List Atom) → ℕ → Type 0
-IsUnmetItem r flags items place = IsSomeAnd (slice_get items place) (λ item. ¬ IsMet r.architecture (members_of r.packages flags) item)
+IsUnmetItem r flags items place = IsSomeAnd (slice_get items place)
+    (λ item. ¬ IsMet r.architecture (members_of r.packages flags) item)

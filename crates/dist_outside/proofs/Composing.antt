@@ -49,7 +49,8 @@ files_stay old new grew = grew.appended ∙ with_more_nothing old.files old.mode
 pub FileGrewByFront-whole : (bytes : List ℕ) (old new : DeskView) → FileGrew bytes old new → FileGrewByFront bytes old new
 FileGrewByFront-whole bytes old new grew = record { front = bytes; is_front = IsFrontOf-whole bytes; grew = grew }
 
-pub FileGrewByFront-cut : (first second : List ℕ) (old mid new : DeskView) → FileGrew first old mid → FileGrewByFront second mid new → FileGrewByFront (first ++ second) old new
+pub FileGrewByFront-cut : (first second : List ℕ) (old mid new : DeskView) → FileGrew first old mid → FileGrewByFront second mid new
+    → FileGrewByFront (first ++ second) old new
 FileGrewByFront-cut first second old mid new before cut = record {
   front = first ++ cut.front;
   is_front = IsFrontOf-cut first second cut.front cut.is_front;
@@ -73,7 +74,8 @@ file-more (Some files) name s t = ap Some (
     ap (λ found. appended_to (insert files name s) name found t) (get-insert_same files name s)
     ∙ insert-insert files name s (s ++ t))
 
-pub Holds-more : (name first second : List ℕ) (old mid new : DeskView) → Holds name first (Writing (where_told old.files name)) old mid → FileGrew second mid new
+pub Holds-more : (name first second : List ℕ) (old mid new : DeskView) → Holds name first (Writing (where_told old.files name)) old mid
+    → FileGrew second mid new
     → Holds name (first ++ second) (Writing (where_told old.files name)) old new
 Holds-more name first second old mid new held grew = record {
   files = grew.appended

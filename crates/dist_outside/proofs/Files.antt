@@ -39,7 +39,8 @@ insert-same files name x h = same_files _ _ (λ q.
 
 -- what a file just put there has
 pub get-insert_same : (files : Files) (name x : List ℕ) → get (insert files name x) name ≡ Some x
-get-insert_same files name x = get-insert nat_list_cmp_total files name x name ∙ ap (λ same. cond same (Some x) (get files name)) ((eq_by_cmp_equiv nat_list_cmp_total).refl name)
+get-insert_same files name x = get-insert nat_list_cmp_total files name x name
+    ∙ ap (λ same. cond same (Some x) (get files name)) ((eq_by_cmp_equiv nat_list_cmp_total).refl name)
 
 appended-nothing : (files : Files) (name : List ℕ) (had : Option (List ℕ)) → get files name ≡ had → appended_to files name had [] ≡ files
 appended-nothing files name None h = refl

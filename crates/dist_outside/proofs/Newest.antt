@@ -1,5 +1,6 @@
 -- The newest file of a name, found from the front, and the newest of all, which grows.
-use Rattle.std.proofs.Common.{◌≡◌, ℕ, ◌+◌, ◌<◌, cond, List, [], ◌∷◌, ◌++◌, length, get_or, set, drop, Some, Result, Ok, Err, OnOk, is_ok, Vec, Global, string_bytes, ap, sym, ◌∙◌, arith}
+use Rattle.std.proofs.Common.{◌≡◌, ℕ, ◌+◌, ◌<◌, cond, List, [], ◌∷◌, ◌++◌, length, get_or, set, drop, Some, Result, Ok, Err, OnOk, is_ok, Vec, Global}
+use Rattle.std.proofs.Common.{string_bytes, ap, sym, ◌∙◌, arith}
 use Rattle.std.proofs.lemmas.List.{drop_more}
 use Rattle.std.proofs.lemmas.Map.Text.{is_eq-slice_cmp}
 use Rattle.std.proofs.lemmas.Cmp.{nat_list_cmp_total}
@@ -23,7 +24,8 @@ newest_from files place file name within is =
 -- the newest of the files took a piece
 pub appended_newest : (files : List NamedFile) (file : NamedFile) (bytes : Vec ℕ Global) (piece : List ℕ) (done : Result (Unit {0}) AllocError)
     → 0 < length files → file ≡ get_or files 0 file → bytes.items ≡ cond (is_ok done) (file.bytes.items ++ piece) file.bytes.items
-    → OnOk done (Some (files_of (set files 0 (record { name = file.name; bytes = bytes }))) ≡ with_more (Some (files_of files)) (Writing (Some (newest_name files))) piece)
+    → OnOk done (Some (files_of (set files 0 (record { name = file.name; bytes = bytes })))
+    ≡ with_more (Some (files_of files)) (Writing (Some (newest_name files))) piece)
 appended_newest [] file bytes piece done some first taken = absurd (omega arith)
 appended_newest (newest ∷ files) file bytes piece (Ok value) some first taken =
     let older = files_of files in

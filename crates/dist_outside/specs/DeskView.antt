@@ -3,7 +3,8 @@ use Rattle.std.specs.Prelude.{◌≡◌, ℕ, ◌≤◌, ◌⊎◌, List, [], Op
 use Rattle.dist_base.specs.Front.{IsFrontOf}
 use Rattle.dist_outside.specs.Files.{Files, Mode, Idle, IsNotWriting, with_file, with_more}
 
--- a desk: its files, where it tells them, what it is doing, and how often the calls that read, and those that write, failed
+-- a desk: its files, where it tells them, what it is doing, and how often the calls that read, and those that write,
+-- failed
 pub record DeskView : Type 0 where
   pub files : Option Files
   pub mode : Mode

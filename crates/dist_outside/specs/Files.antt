@@ -53,7 +53,8 @@ IsFile (Some files) name bytes = file_bytes (Some files) name ≡ Some bytes
 -- the file has more bytes than the limit, where the desk tells its files
 abbrev pub IsLonger : Option Files → List ℕ → ℕ → Type 0
 IsLonger None name limit = Unit {0}
-IsLonger (Some files) name limit = (bytes : List ℕ) × (file_bytes (Some files) name ≡ Some bytes) × (limit < length bytes)
+IsLonger (Some files) name limit = (bytes : List ℕ) × (file_bytes (Some files) name ≡ Some bytes)
+    × (limit < length bytes)
 
 -- the files once the file of that name has these bytes; all others are as before
 abbrev pub with_file : Option Files → List ℕ → List ℕ → Option Files

@@ -1,5 +1,6 @@
 -- A sink and a desk in memory, for tests: what contracts see of them.
-use Rattle.std.specs.Prelude.{◌≡◌, ◌≢◌, ℕ, ◌≤◌, ◌⊎◌, ◌↔◌, List, Option, None, Some, Result, Err, IfOk, IsErrOf, Contains, min, length, refl}
+use Rattle.std.specs.Prelude.{◌≡◌, ◌≢◌, ℕ, ◌≤◌, ◌⊎◌, ◌↔◌, List, Option, None, Some, Result, Err, IfOk, IsErrOf}
+use Rattle.std.specs.Prelude.{Contains, min, length, refl}
 use Rattle.std.proofs.Common.{inl, inr}
 use Rattle.std.specs.Coded.{Coded, code_by, coded×, coded⊎, coded_ℕ, coded_list, coded_option}
 use Rattle.std.specs.FinMap.{code}
@@ -44,7 +45,12 @@ pub record DeskState : Type 0 where
   pub fails : List ℕ
 
 abbrev pub desk_view : DeskState → DeskView
-desk_view desk = record { files = Some desk.files; mode = desk.mode; read_faults = desk.read_faults; write_faults = desk.write_faults }
+desk_view desk = record {
+  files = Some desk.files;
+  mode = desk.mode;
+  read_faults = desk.read_faults;
+  write_faults = desk.write_faults;
+}
 
 -- the desk's next call is one that fails
 abbrev pub IsListed : DeskState → Type 0
@@ -95,7 +101,16 @@ mode_code = code_by (Option (Option (List ℕ × ℕ) ⊎ Option (List ℕ)))
 
 abbrev pub state_code : Coded DeskState
 state_code = code_by (Files × (Mode × (ℕ × (ℕ × (ℕ × (ℕ × List ℕ))))))
-    (coded× (code (coded_list coded_ℕ) (coded_list coded_ℕ)) (coded× mode_code (coded× coded_ℕ (coded× coded_ℕ (coded× coded_ℕ (coded× coded_ℕ (coded_list coded_ℕ)))))))
+    (coded× (code (coded_list coded_ℕ) (coded_list coded_ℕ))
+    (coded× mode_code (coded× coded_ℕ (coded× coded_ℕ (coded× coded_ℕ (coded× coded_ℕ (coded_list coded_ℕ)))))))
     (λ s. (s.files, (s.mode, (s.read_faults, (s.write_faults, (s.calls, (s.step, s.fails)))))))
-    (λ t. record { files = t.0; mode = t.1.0; read_faults = t.1.1.0; write_faults = t.1.1.1.0; calls = t.1.1.1.1.0; step = t.1.1.1.1.1.0; fails = t.1.1.1.1.1.1 })
+    (λ t. record {
+      files = t.0;
+      mode = t.1.0;
+      read_faults = t.1.1.0;
+      write_faults = t.1.1.1.0;
+      calls = t.1.1.1.1.0;
+      step = t.1.1.1.1.1.0;
+      fails = t.1.1.1.1.1.1;
+    })
     (λ _. refl)

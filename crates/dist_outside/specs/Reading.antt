@@ -30,7 +30,8 @@ bytes_left files (Writing name) = None
 -- and none only at their end
 abbrev pub GivesNext : Option (List ℕ) → ℕ → List ℕ → Type 0
 GivesNext None count buffer = Unit {0}
-GivesNext (Some left) count buffer = (count ≤ length left) × (take count buffer ≡ take count left) × (count ≡ 0 → left ≡ [])
+GivesNext (Some left) count buffer = (count ≤ length left) × (take count buffer ≡ take count left)
+    × (count ≡ 0 → left ≡ [])
 
 -- A read put that many of the file's next bytes into the buffer's front, and moved the place behind them.
 pub record ReadsNext (read : ℕ) (buffer : List ℕ) (old new : DeskView) : Type 0 where

@@ -33,7 +33,12 @@ pub record RealState : Type 0 where
   pub contents : Option (List ℕ)
 
 abbrev pub real_view : RealState → DeskView
-real_view desk = record { files = None; mode = desk.mode; read_faults = desk.read_faults; write_faults = desk.write_faults }
+real_view desk = record {
+  files = None;
+  mode = desk.mode;
+  read_faults = desk.read_faults;
+  write_faults = desk.write_faults;
+}
 
 -- A call that reads counts a fault of reading exactly where it fails.
 pub record RealReadCall {A : Type 0} (result : Result A Trouble) (old new : RealState) : Type 0 where
@@ -47,7 +52,14 @@ pub record RealWriteCall {A : Type 0} (result : Result A Trouble) (old new : Rea
 
 abbrev pub real_code : Coded RealState
 real_code = code_by (Mode × (ℕ × (ℕ × (Option (List ℕ) × Option (List ℕ)))))
-    (coded× mode_code (coded× coded_ℕ (coded× coded_ℕ (coded× (coded_option (coded_list coded_ℕ)) (coded_option (coded_list coded_ℕ))))))
+    (coded× mode_code (coded× coded_ℕ (coded× coded_ℕ
+    (coded× (coded_option (coded_list coded_ℕ)) (coded_option (coded_list coded_ℕ))))))
     (λ s. (s.mode, (s.read_faults, (s.write_faults, (s.remaining, s.contents)))))
-    (λ t. record { mode = t.0; read_faults = t.1.0; write_faults = t.1.1.0; remaining = t.1.1.1.0; contents = t.1.1.1.1 })
+    (λ t. record {
+      mode = t.0;
+      read_faults = t.1.0;
+      write_faults = t.1.1.0;
+      remaining = t.1.1.1.0;
+      contents = t.1.1.1.1;
+    })
     (λ _. refl)

@@ -1,5 +1,6 @@
 -- The packages of a file have together at most as many atoms and entries as the file has bytes.
-use Rattle.std.proofs.Common.{◌≡◌, ℕ, ◌+◌, ◌≤◌, Bool, true, false, cond, List, [], ◌∷◌, ◌++◌, Some, length, get_or, map, sum_by, refl, ap, ◌∙◌, subst, arith, length-append}
+use Rattle.std.proofs.Common.{◌≡◌, ℕ, ◌+◌, ◌≤◌, Bool, true, false, cond, List, [], ◌∷◌, ◌++◌, Some, length, get_or, map, sum_by, refl, ap, ◌∙◌, subst, arith}
+use Rattle.std.proofs.Common.{length-append}
 use Rattle.std.specs.Prelude.{All, Any, Contains, find}
 use Rattle.std.specs.Option.{option_map_or}
 use Rattle.std.specs.Str.{bytes_eq}
@@ -42,29 +43,43 @@ AreApart (name ∷ names) = IsApart name names × AreApart names
 abbrev hit : FieldText → List ℕ → ℕ
 hit field name = cond (is_same_name name field.name) (length field.value) 0
 
-hits-none : (field : FieldText) (name : List ℕ) (others : List (List ℕ)) → IsApart name others → is_same_name name field.name ≡ true → sum_by (hit field) others ≡ 0
+hits-none : (field : FieldText) (name : List ℕ) (others : List (List ℕ)) → IsApart name others → is_same_name name field.name ≡ true
+    → sum_by (hit field) others ≡ 0
 hits-none field name [] apart same = refl
 hits-none field name (other ∷ others) apart same =
     let is : folded name ≡ folded field.name = (bytes_eq-Decides (folded name) (folded field.name)).0 same in
     let differs : is_same_name other field.name ≡ false = subst (λ (n : List ℕ). bytes_eq (folded other) n ≡ false) is apart.0 in
-    omega (arith, sum_by-cons (hit field) other others, cond-false (is_same_name other field.name) (length field.value) 0 differs, hits-none field name others apart.1 same)
+    omega (
+      arith,
+      sum_by-cons (hit field) other others,
+      cond-false (is_same_name other field.name) (length field.value) 0 differs,
+      hits-none field name others apart.1 same,
+    )
 
 hits-one : (field : FieldText) (names : List (List ℕ)) → AreApart names → sum_by (hit field) names ≤ length field.value
 hits-one field [] apart = omega arith
 hits-one field (name ∷ names) apart =
     let rest = hits-one field names apart.1 in
-    let step : (b : Bool) → is_same_name name field.name ≡ b → sum_by (hit field) (name ∷ names) ≤ length field.value = λ b. elim b as (λ b. is_same_name name field.name ≡ b → sum_by (hit field) (name ∷ names) ≤ length field.value) [
-      | true ↦ λ same. omega (arith, sum_by-cons (hit field) name names, cond-true (is_same_name name field.name) (length field.value) 0 same, hits-none field name names apart.0 same)
+    let step : (b : Bool) → is_same_name name field.name ≡ b → sum_by (hit field) (name ∷ names) ≤ length field.value =
+    λ b. elim b as (λ b. is_same_name name field.name ≡ b → sum_by (hit field) (name ∷ names) ≤ length field.value) [
+      | true ↦ λ same. omega (
+        arith,
+        sum_by-cons (hit field) name names,
+        cond-true (is_same_name name field.name) (length field.value) 0 same,
+        hits-none field name names apart.0 same,
+      )
       | false ↦ λ other. omega (arith, sum_by-cons (hit field) name names, cond-false (is_same_name name field.name) (length field.value) 0 other, rest)
     ] in
     step (is_same_name name field.name) refl
 
 -- the value of one name, with one field more in front
-value-step : (field : FieldText) (fields : List FieldText) (name : List ℕ) → length (value_in (field ∷ fields) name) ≤ hit field name + length (value_in fields name)
+value-step : (field : FieldText) (fields : List FieldText) (name : List ℕ)
+    → length (value_in (field ∷ fields) name) ≤ hit field name + length (value_in fields name)
 value-step field fields name =
     let rest = find (λ (f : FieldText). is_same_name name f.name) fields in
     let value : FieldText → List ℕ = λ f. f.value in
-    elim (is_same_name name field.name) as (λ b. length (option_map_or value (cond b (Some field) rest) []) ≤ cond b (length field.value) 0 + length (option_map_or value rest [])) [
+    elim (is_same_name name field.name) as (λ b. length (option_map_or value (cond b (Some field) rest) []) ≤ cond b (length field.value) 0
+    + length (option_map_or value rest [])) [
       | true ↦ omega arith
       | false ↦ omega arith
     ]
@@ -89,7 +104,13 @@ values-none (name ∷ names) = omega (arith, sum_by-cons (λ name. length (value
 values-within : (fields : List FieldText) (names : List (List ℕ)) → AreApart names → sum_by (λ name. length (value_in fields name)) names ≤ value_bytes fields
 values-within [] names apart = omega (arith, values-none names)
 values-within (field ∷ fields) names apart =
-    omega (arith, sum_by-cons (λ (f : FieldText). length f.value) field fields, values-step field fields names, hits-one field names apart, values-within fields names apart)
+    omega (
+      arith,
+      sum_by-cons (λ (f : FieldText). length f.value) field fields,
+      values-step field fields names,
+      hits-one field names apart,
+      values-within fields names apart,
+    )
 
 -- ---- what stands in them
 
@@ -97,16 +118,26 @@ values-within (field ∷ fields) names apart =
 abbrev packages_read : List Read → List Package
 packages_read reads = map (λ (read : Read). read.package_) reads
 
-all-read : (packages : List Package) (reads : List Read) → All (λ p. Any (λ read. read.package_ ≡ p) reads) packages → All (Contains (packages_read reads)) packages
+all-read : (packages : List Package) (reads : List Read) → All (λ p. Any (λ read. read.package_ ≡ p) reads) packages
+    → All (Contains (packages_read reads)) packages
 all-read packages reads from k d within =
     let p = get_or packages k d in
-    let a = from k d within in
-    (a.0, omega (arith, a.2, length-map reads (λ (read : Read). read.package_)), get_or-map (λ (read : Read). read.package_) reads a.0 a.1 p a.2 ∙ ap (λ (read : Read). read.package_) a.3 ∙ a.4)
+    let a = from k d within in (
+      a.0,
+      omega (arith, a.2, length-map reads (λ (read : Read). read.package_)),
+      get_or-map (λ (read : Read). read.package_) reads a.0 a.1 p a.2
+          ∙ ap (λ (read : Read). read.package_) a.3 ∙ a.4,
+    )
 
 count-read : (reads : List Read) → relation_count (packages_read reads) ≡ sum_by (λ read. relations_of read.package_) reads
 count-read [] = refl
 count-read (read ∷ reads) =
-    omega (arith, sum_by-cons relations_of read.package_ (packages_read reads), sum_by-cons (λ (read : Read). relations_of read.package_) read reads, count-read reads)
+    omega (
+      arith,
+      sum_by-cons relations_of read.package_ (packages_read reads),
+      sum_by-cons (λ (read : Read). relations_of read.package_) read reads,
+      count-read reads,
+    )
 
 module _ (depends : (value : List ℕ) (items : List (List Atom)) → ReadsDepends value items → sum_by (λ item. length item) items ≤ length value)
     (atoms : (value : List ℕ) (atoms : List Atom) → ReadsAtoms value atoms → length atoms ≤ length value)
@@ -149,4 +180,10 @@ module _ (depends : (value : List ℕ) (items : List (List Atom)) → ReadsDepen
 
   pub bounded : (text : List ℕ) (limit : ℕ) (repository : PackageList) → IsRepositoryOf text limit repository → relation_count repository.packages ≤ length text
   bounded text limit repository is =
-      omega (arith, relations repository.packages (packages_read is.reads) is.in_order (all-read repository.packages is.reads is.from_stanzas), count-read is.reads, reads-within [] (raw_stanzas text) is.reads is.read, texts text)
+      omega (
+        arith,
+        relations repository.packages (packages_read is.reads) is.in_order (all-read repository.packages is.reads is.from_stanzas),
+        count-read is.reads,
+        reads-within [] (raw_stanzas text) is.reads is.read,
+        texts text,
+      )

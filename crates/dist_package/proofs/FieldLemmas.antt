@@ -1,5 +1,6 @@
 -- Fields of a stanza that were found, and the parts of a source.
-use Rattle.std.proofs.Common.{◌≡◌, ◌≢◌, ◌↔◌, ◌⊎◌, ℕ, ◌-◌, ◌≤◌, true, false, Bool, IsTrue, List, Option, None, Some, MatchOption, length, take, drop, refl, sym, ap, ◌∙◌, inl, inr}
+use Rattle.std.proofs.Common.{◌≡◌, ◌≢◌, ◌↔◌, ◌⊎◌, ℕ, ◌-◌, ◌≤◌, true, false, Bool, IsTrue, List, Option, None, Some, MatchOption, length, take, drop, refl, sym}
+use Rattle.std.proofs.Common.{ap, ◌∙◌, inl, inr}
 use Rattle.std.specs.List.{position_or_len}
 use Rattle.std.proofs.lemmas.Bool.{both_ways}
 use Rattle.std.proofs.lemmas.List.{take_rest, length-take-le}
@@ -14,7 +15,8 @@ use Rattle.dist_package.specs.declared.error.PackagesError.TheVariants.{Bad, Too
 use Rattle.dist_package.specs.Named.{field_named, IsFieldOf}
 use Rattle.dist_package.specs.Source.{ends_name, version_part}
 
-pub field-of : (stanza : Stanza) (name : List ℕ) (field : Field) → field_named stanza name ≡ Some (field_text field) → IsFieldOf stanza name field.value.now field.line
+pub field-of : (stanza : Stanza) (name : List ℕ) (field : Field) → field_named stanza name ≡ Some (field_text field)
+    → IsFieldOf stanza name field.value.now field.line
 field-of stanza name field found = record { field = field_text field; found = found; value_is = refl; line_is = refl }
 
 pub field-is : (stanza : Stanza) (name value : List ℕ) (field : Field) → field_named stanza name ≡ Some (field_text field) → value ≡ field.value.now →

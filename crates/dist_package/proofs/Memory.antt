@@ -15,7 +15,8 @@ use Rattle.dist_package.specs.PackageOf.{HasRelationFault}
 use Rattle.dist_package.specs.FirstFault.{IsLineFault, HasFirstRelationFault, relation_fields, HasFieldFault, HasFirstFault, CarriesNoMemory, IsFreeOfMemory}
 use Rattle.dist_package.specs.declared.error.Fault.{Fault}
 use Rattle.dist_package.specs.declared.error.Kind.{Kind}
-use Rattle.dist_package.specs.declared.error.Kind.TheVariants.{NoPackage, BadPackageName, NoVersion, BadVersionText, BadSource, BadArchitecture, TwoArchitectures, Relation, Clash}
+use Rattle.dist_package.specs.declared.error.Kind.TheVariants.{NoPackage, BadPackageName, NoVersion, BadVersionText, BadSource, BadArchitecture}
+use Rattle.dist_package.specs.declared.error.Kind.TheVariants.{TwoArchitectures, Relation, Clash}
 use Rattle.dist_package.specs.declared.error.RelationField.{RelationField}
 use Rattle.dist_package.specs.declared.error.RelationField.TheVariants.{PreDepends, Depends, Conflicts, Breaks, Provides}
 

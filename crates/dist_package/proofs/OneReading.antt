@@ -103,7 +103,8 @@ module _ (one_read : (earlier : List Read) (raw : RawStanza) (a b : Read) → Re
   same_reads raws a b all other = same-after [] raws a b all other
 
   -- a stanza that has a fault after those before it is none of the stanzas that read
-  not-read : (before : List RawStanza) (raw : RawStanza) (after : List RawStanza) (reads : List Read) (fault : Fault) → AreRead before reads → HasStanzaFault reads raw fault →
+  not-read : (before : List RawStanza) (raw : RawStanza) (after : List RawStanza) (reads : List Read) (fault : Fault) → AreRead before reads
+      → HasStanzaFault reads raw fault →
       (raws : List RawStanza) (others : List Read) → raws ≡ before ++ raw ∷ after → ¬ AreRead raws others
   not-read before raw after reads fault all faulty raws others pieces other =
       let P : List RawStanza → Type 0 = λ l. AreRead l others in
@@ -153,7 +154,8 @@ module _ (one_read : (earlier : List Read) (raw : RawStanza) (a b : Read) → Re
   one_error raws limit TooMany NoMemory first second = absurd second
   one_error raws limit NoMemory f first second = absurd first
 
-  pub one_repository : ((packages others : List Package) → IsInOrder packages → IsInOrder others → All (Contains others) packages → All (Contains packages) others → packages ≡ others) →
+  pub one_repository : ((packages others : List Package) → IsInOrder packages → IsInOrder others → All (Contains others) packages
+      → All (Contains packages) others → packages ≡ others) →
       (text : List ℕ) (limit : ℕ) (r s : PackageList) → IsRepositoryOf text limit r → IsRepositoryOf text limit s → s ≡ r
   one_repository one_list text limit r s is also =
       let reads : also.reads ≡ is.reads = same_reads (raw_stanzas text) is.reads also.reads is.read also.read in

@@ -1,5 +1,6 @@
 -- A stanza reads as one package or has one first fault, and never both.
-use Rattle.std.proofs.Common.{◌≡◌, ◌≢◌, ◌⊎◌, ◌↔◌, ℕ, ◌<◌, Bool, true, false, IsTrue, List, [], ◌∷◌, ◌++◌, Option, None, Some, length, get_or, refl, sym, ap, ◌∙◌, subst, inl, inr, unwrap_or, codes, arith}
+use Rattle.std.proofs.Common.{◌≡◌, ◌≢◌, ◌⊎◌, ◌↔◌, ℕ, ◌<◌, Bool, true, false, IsTrue, List, [], ◌∷◌, ◌++◌, Option, None, Some, length, get_or, refl, sym, ap}
+use Rattle.std.proofs.Common.{◌∙◌, subst, inl, inr, unwrap_or, codes, arith}
 use Rattle.std.proofs.lemmas.Bool.{cases_lt}
 use Rattle.std.proofs.lemmas.List.{get_or_append_left}
 use Rattle.std.proofs.Math.Seq.{get_or-append_seam}
@@ -22,9 +23,11 @@ use Rattle.dist_repo.specs.declared.package.Package.{Package}
 use Rattle.dist_version.specs.Faults.{HasFault}
 use Rattle.dist_version.specs.Spelling.{ReadsVersion}
 use Rattle.dist_version.specs.declared.error.VersionError.{VersionError}
-use Rattle.dist_package.specs.FirstFault.{Read, architecture_of, IsLineFault, IsRelated, HasFirstRelationFault, relation_fields, HasFieldFault, IsClash, HasPackage, ReadsAs, HasStanzaFault}
+use Rattle.dist_package.specs.FirstFault.{Read, architecture_of, IsLineFault, IsRelated, HasFirstRelationFault, relation_fields, HasFieldFault, IsClash}
+use Rattle.dist_package.specs.FirstFault.{HasPackage, ReadsAs, HasStanzaFault}
 use Rattle.dist_package.specs.Named.{field_named, value_of, line_of, IsFieldOf, fault_at, name_of}
-use Rattle.dist_package.specs.PackageOf.{ReadsName, HasNameFault, ReadsVersionField, HasVersionFault, ReadsSource, HasSourceFault, ReadsArchitecture, HasArchitectureFault, all, HasFirstValueFault, HasRelationFault, ReadsRelations, IsPackageOf}
+use Rattle.dist_package.specs.PackageOf.{ReadsName, HasNameFault, ReadsVersionField, HasVersionFault, ReadsSource, HasSourceFault, ReadsArchitecture}
+use Rattle.dist_package.specs.PackageOf.{HasArchitectureFault, all, HasFirstValueFault, HasRelationFault, ReadsRelations, IsPackageOf}
 use Rattle.dist_package.specs.Source.{name_part, version_part, IsInParentheses, ReadsVersionPart, SpellsSource, IsNoVersionPart, IsNoSource}
 use Rattle.dist_package.specs.declared.error.Fault.{Fault}
 use Rattle.dist_package.specs.declared.error.Kind.TheVariants.{BadPackageName, BadVersionText, BadSource, BadArchitecture, TwoArchitectures, Relation, Clash}
@@ -91,7 +94,8 @@ not_empty_part part a f empty = let p = f.parts in cc
 same_read : (earlier : List Read) (a b : Read) → b.line ≡ a.line → b.package_ ≡ a.package_ → b.architecture ≡ a.architecture → b ≡ a
 same_read earlier a b line same architecture =
     let mk : ℕ → Package → List ℕ → Read = λ l p x. record { line = l; package_ = p; architecture = x } in
-    ap (λ (l : ℕ). mk l b.package_ b.architecture) line ∙ ap (λ (p : Package). mk a.line p b.architecture) same ∙ ap (λ (x : List ℕ). mk a.line a.package_ x) architecture
+    ap (λ (l : ℕ). mk l b.package_ b.architecture) line ∙ ap (λ (p : Package). mk a.line p b.architecture) same
+    ∙ ap (λ (x : List ℕ). mk a.line a.package_ x) architecture
 
 same_flag : (a b : Bool) (P : Type 0) → (IsTrue a ↔ P) → (IsTrue b ↔ P) → b ≡ a
 same_flag true true P f g = refl
@@ -118,7 +122,8 @@ module _ (texts : (text : List ℕ) → IsExact (ReadsVersion text) (HasFault te
   version_apart : (stanza : Stanza) (a : List ℕ) (b : Fault) → ReadsVersionField stanza a → ¬ HasVersionFault stanza b
   version_apart stanza a b f (inl (none, is)) = no_field stanza _ f.value f.line none f.field
   version_apart stanza a b f (inr g) =
-      (texts f.value).never_both a g.error f.reads (subst (λ (t : List ℕ). HasFault t g.error) (same_value stanza _ f.value g.value f.line g.line f.field g.field) g.has)
+      (texts f.value).never_both a g.error f.reads (subst (λ (t : List ℕ). HasFault t g.error)
+      (same_value stanza _ f.value g.value f.line g.line f.field g.field) g.has)
 
   -- ---- the source
 
@@ -136,15 +141,19 @@ module _ (texts : (text : List ℕ) → IsExact (ReadsVersion text) (HasFault te
   part_apart part (Some v) (text, inside, reads) (inr (text', inside', (error, has))) =
       (texts text).never_both v error reads (subst (λ (t : List ℕ). HasFault t error) (inner_one part text text' inside inside') has)
 
-  source_one : (stanza : Stanza) (name version s t sv tv : List ℕ) → ReadsSource stanza name version s sv → ReadsSource stanza name version t tv → (t ≡ s) × (tv ≡ sv)
+  source_one : (stanza : Stanza) (name version s t sv tv : List ℕ) → ReadsSource stanza name version s sv → ReadsSource stanza name version t tv → (t ≡ s)
+      × (tv ≡ sv)
   source_one stanza name version s t sv tv (inl (none, is, vis)) (inl (none', is', vis')) = (is' ∙ sym is, vis' ∙ sym vis)
   source_one stanza name version s t sv tv (inl (none, is, vis)) (inr (value, line, field, of)) = absurd (no_field stanza _ value line none field)
   source_one stanza name version s t sv tv (inr (value, line, field, of)) (inl (none, is, vis)) = absurd (no_field stanza _ value line none field)
   source_one stanza name version s t sv tv (inr (value, line, field, of)) (inr (value', line', field', of')) =
       let same = same_value stanza _ value value' line line' field field' in
       let part = part_one (version_part value) of.written of'.written of.spells.version_is
-      (subst (λ (x : List ℕ). ReadsVersionPart (version_part x) of'.written) same of'.spells.version_is) in
-      (of'.spells.name_is ∙ ap name_part same ∙ sym of.spells.name_is, of'.version_is ∙ ap (λ (w : Option (List ℕ)). unwrap_or w version) part ∙ sym of.version_is)
+      (subst (λ (x : List ℕ). ReadsVersionPart (version_part x) of'.written) same of'.spells.version_is) in (
+        of'.spells.name_is ∙ ap name_part same ∙ sym of.spells.name_is,
+        of'.version_is ∙ ap (λ (w : Option (List ℕ)). unwrap_or w version) part
+            ∙ sym of.version_is,
+      )
 
   source_fault_one : (stanza : Stanza) (a b : Fault) → HasSourceFault stanza a → HasSourceFault stanza b → b ≡ a
   source_fault_one stanza a b f g =
@@ -170,7 +179,8 @@ given_one stanza a b (inl (none, is)) (inr (line, field, name)) = absurd (no_fie
 given_one stanza a b (inr (line, field, name)) (inl (none, is)) = absurd (no_field stanza _ a line none field)
 given_one stanza a b (inr (line, field, name)) (inr (line', field', name')) = same_value stanza _ a b line line' field field'
 
-architecture_one : (earlier : Option (List ℕ)) (stanza : Stanza) (a b : List ℕ) → ReadsArchitecture earlier stanza a → ReadsArchitecture earlier stanza b → b ≡ a
+architecture_one : (earlier : Option (List ℕ)) (stanza : Stanza) (a b : List ℕ) → ReadsArchitecture earlier stanza a → ReadsArchitecture earlier stanza b
+    → b ≡ a
 architecture_one earlier stanza a b f g = given_one stanza a b f.given g.given
 
 abbrev IsCause : (earlier : Option (List ℕ)) (value : List ℕ) (line : ℕ) → Fault → Type 0
@@ -183,25 +193,30 @@ cause_one earlier value line a b (inl (none, is)) (inr other) = absurd (none oth
 cause_one earlier value line a b (inr other) (inl (none, is)) = absurd (none other.0)
 cause_one earlier value line a b (inr f) (inr g) = g.3 ∙ sym f.3
 
-architecture_fault_one : (earlier : Option (List ℕ)) (stanza : Stanza) (a b : Fault) → HasArchitectureFault earlier stanza a → HasArchitectureFault earlier stanza b → b ≡ a
+architecture_fault_one : (earlier : Option (List ℕ)) (stanza : Stanza) (a b : Fault) → HasArchitectureFault earlier stanza a
+    → HasArchitectureFault earlier stanza b → b ≡ a
 architecture_fault_one earlier stanza a b f g =
     cause_one earlier f.value f.line a b f.cause
     (subst (λ (v : List ℕ). IsCause earlier v f.line b) (same_value stanza _ f.value g.value f.line g.line f.field g.field)
     (subst (λ (l : ℕ). IsCause earlier g.value l b) (same_line stanza _ f.value g.value f.line g.line f.field g.field) g.cause))
 
-cause_apart : (earlier : Option (List ℕ)) (a : List ℕ) (line : ℕ) (b : Fault) → IsName a → ((a ≡ all) ⊎ ((earlier ≡ None) ⊎ (earlier ≡ Some a))) → ¬ IsCause earlier a line b
+cause_apart : (earlier : Option (List ℕ)) (a : List ℕ) (line : ℕ) (b : Fault) → IsName a → ((a ≡ all) ⊎ ((earlier ≡ None) ⊎ (earlier ≡ Some a)))
+    → ¬ IsCause earlier a line b
 cause_apart earlier a line b name agrees (inl (none, is)) = none name
 cause_apart earlier a line b name (inl is_all) (inr other) = other.1 is_all
 cause_apart earlier a line b name (inr (inl none)) (inr (named, differs, (x, some, not_same), is)) = no_some x earlier none some
 cause_apart earlier a line b name (inr (inr same)) (inr (named, differs, (x, some, not_same), is)) = not_same (same_some a x earlier same some)
 
-architecture_apart_at : (earlier : Option (List ℕ)) (stanza : Stanza) (a : List ℕ) (b : Fault) → IsGiven stanza a → ((a ≡ all) ⊎ ((earlier ≡ None) ⊎ (earlier ≡ Some a)))
+architecture_apart_at : (earlier : Option (List ℕ)) (stanza : Stanza) (a : List ℕ) (b : Fault) → IsGiven stanza a
+    → ((a ≡ all) ⊎ ((earlier ≡ None) ⊎ (earlier ≡ Some a)))
     → ¬ HasArchitectureFault earlier stanza b
 architecture_apart_at earlier stanza a b (inl (none, is)) agrees g = no_field stanza _ g.value g.line none g.field
 architecture_apart_at earlier stanza a b (inr (line, field, name)) agrees g =
-    cause_apart earlier a g.line b name agrees (subst (λ (v : List ℕ). IsCause earlier v g.line b) (same_value stanza _ a g.value line g.line field g.field) g.cause)
+    cause_apart earlier a g.line b name agrees (subst (λ (v : List ℕ). IsCause earlier v g.line b) (same_value stanza _ a g.value line g.line field g.field)
+    g.cause)
 
-architecture_apart : (earlier : Option (List ℕ)) (stanza : Stanza) (a : List ℕ) (b : Fault) → ReadsArchitecture earlier stanza a → ¬ HasArchitectureFault earlier stanza b
+architecture_apart : (earlier : Option (List ℕ)) (stanza : Stanza) (a : List ℕ) (b : Fault) → ReadsArchitecture earlier stanza a
+    → ¬ HasArchitectureFault earlier stanza b
 architecture_apart earlier stanza a b f = architecture_apart_at earlier stanza a b f.given f.agrees
 
 -- ---- relations, by the laws of their values
@@ -214,58 +229,68 @@ IsRelatedTo Conflicts value = (atoms : List Atom) × ReadsAtoms value atoms
 IsRelatedTo Breaks value = (atoms : List Atom) × ReadsAtoms value atoms
 IsRelatedTo Provides value = (entries : List Provide) × ReadsProvides value entries
 
-module _ (depends : (value : List ℕ) → IsExact (ReadsDepends value) (FirstDependsFault value)) (atoms : (value : List ℕ) → IsExact (ReadsAtoms value) (FirstAtomsFault value))
+module _ (depends : (value : List ℕ) → IsExact (ReadsDepends value) (FirstDependsFault value))
+    (atoms : (value : List ℕ) → IsExact (ReadsAtoms value) (FirstAtomsFault value))
     (provides : (value : List ℕ) → IsExact (ReadsProvides value) (FirstProvidesFault value)) where
-  error_one : (relation : RelationField) (value : List ℕ) (a b : RelationError) → HasFirstValueFault relation value a → HasFirstValueFault relation value b → b ≡ a
+  error_one : (relation : RelationField) (value : List ℕ) (a b : RelationError) → HasFirstValueFault relation value a → HasFirstValueFault relation value b
+      → b ≡ a
   error_one PreDepends value a b f g = (depends value).one_fault b a g f
   error_one Depends value a b f g = (depends value).one_fault b a g f
   error_one Conflicts value a b f g = (atoms value).one_fault b a g f
   error_one Breaks value a b f g = (atoms value).one_fault b a g f
   error_one Provides value a b f g = (provides value).one_fault b a g f
 
-  related_apart : (relation : RelationField) (stanza : Stanza) (error : RelationError) → IsRelated relation stanza → ¬ HasFirstValueFault relation (value_of stanza (name_of relation)) error
+  related_apart : (relation : RelationField) (stanza : Stanza) (error : RelationError) → IsRelated relation stanza
+      → ¬ HasFirstValueFault relation (value_of stanza (name_of relation)) error
   related_apart PreDepends stanza error (items, reads) has = (depends _).never_both items error reads has
   related_apart Depends stanza error (items, reads) has = (depends _).never_both items error reads has
   related_apart Conflicts stanza error (items, reads) has = (atoms _).never_both items error reads has
   related_apart Breaks stanza error (items, reads) has = (atoms _).never_both items error reads has
   related_apart Provides stanza error (items, reads) has = (provides _).never_both items error reads has
 
-  relation_fault_one : (stanza : Stanza) (relation : RelationField) (a b : Fault) → HasRelationFault stanza relation a → HasRelationFault stanza relation b → b ≡ a
+  relation_fault_one : (stanza : Stanza) (relation : RelationField) (a b : Fault) → HasRelationFault stanza relation a → HasRelationFault stanza relation b
+      → b ≡ a
   relation_fault_one stanza relation a b (error, has, some, is) (error', has', some', is') =
       is' ∙ ap (λ (e : RelationError). fault_at (line_of stanza (name_of relation)) (Relation relation e)) (error_one relation _ error error' has has') ∙ sym is
 
-  first_relation_one : (relations : List RelationField) (stanza : Stanza) (a b : Fault) → HasFirstRelationFault relations stanza a → HasFirstRelationFault relations stanza b → b ≡ a
+  first_relation_one : (relations : List RelationField) (stanza : Stanza) (a b : Fault) → HasFirstRelationFault relations stanza a
+      → HasFirstRelationFault relations stanza b → b ≡ a
   first_relation_one [] stanza a b f g = absurd f
   first_relation_one (relation ∷ relations) stanza a b (inl f) (inl g) = relation_fault_one stanza relation a b f g
   first_relation_one (relation ∷ relations) stanza a b (inl f) (inr (related, g)) = absurd (related_apart relation stanza f.0 related f.1)
   first_relation_one (relation ∷ relations) stanza a b (inr (related, f)) (inl g) = absurd (related_apart relation stanza g.0 related g.1)
   first_relation_one (relation ∷ relations) stanza a b (inr (related, f)) (inr (related', g)) = first_relation_one relations stanza a b f g
 
-  first_relation_apart : (relations : List RelationField) (stanza : Stanza) (b : Fault) → ((relation : RelationField) → IsRelated relation stanza) → ¬ HasFirstRelationFault relations stanza b
+  first_relation_apart : (relations : List RelationField) (stanza : Stanza) (b : Fault) → ((relation : RelationField) → IsRelated relation stanza)
+      → ¬ HasFirstRelationFault relations stanza b
   first_relation_apart [] stanza b related g = g
   first_relation_apart (relation ∷ relations) stanza b related (inl g) = related_apart relation stanza g.0 (related relation) g.1
   first_relation_apart (relation ∷ relations) stanza b related (inr (this, g)) = first_relation_apart relations stanza b related g
 
-  all_related : (stanza : Stanza) (d : List (List Atom)) (c : List Atom) (p : List Provide) → ReadsRelations stanza d c p → (relation : RelationField) → IsRelated relation stanza
+  all_related : (stanza : Stanza) (d : List (List Atom)) (c : List Atom) (p : List Provide) → ReadsRelations stanza d c p → (relation : RelationField)
+      → IsRelated relation stanza
   all_related stanza d c p reads PreDepends = (reads.pre_depends, reads.reads_pre_depends)
   all_related stanza d c p reads Depends = (reads.other_depends, reads.reads_depends)
   all_related stanza d c p reads Conflicts = (reads.conflicts_alone, reads.reads_conflicts)
   all_related stanza d c p reads Breaks = (reads.breaks, reads.reads_breaks)
   all_related stanza d c p reads Provides = (p, reads.reads_provides)
 
-  depends_one : (stanza : Stanza) (d e : List (List Atom)) (c k : List Atom) (p q : List Provide) → ReadsRelations stanza d c p → ReadsRelations stanza e k q → e ≡ d
+  depends_one : (stanza : Stanza) (d e : List (List Atom)) (c k : List Atom) (p q : List Provide) → ReadsRelations stanza d c p → ReadsRelations stanza e k q
+      → e ≡ d
   depends_one stanza d e c k p q f g =
       let one = (depends _).one_reading g.pre_depends f.pre_depends g.reads_pre_depends f.reads_pre_depends in
       let two = (depends _).one_reading g.other_depends f.other_depends g.reads_depends f.reads_depends in
       g.depends_is ∙ ap (λ (x : List (List Atom)). x ++ g.other_depends) one ∙ ap (λ (x : List (List Atom)). f.pre_depends ++ x) two ∙ sym f.depends_is
 
-  conflicts_one : (stanza : Stanza) (d e : List (List Atom)) (c k : List Atom) (p q : List Provide) → ReadsRelations stanza d c p → ReadsRelations stanza e k q → k ≡ c
+  conflicts_one : (stanza : Stanza) (d e : List (List Atom)) (c k : List Atom) (p q : List Provide) → ReadsRelations stanza d c p → ReadsRelations stanza e k q
+      → k ≡ c
   conflicts_one stanza d e c k p q f g =
       let one = (atoms _).one_reading g.conflicts_alone f.conflicts_alone g.reads_conflicts f.reads_conflicts in
       let two = (atoms _).one_reading g.breaks f.breaks g.reads_breaks f.reads_breaks in
       g.conflicts_is ∙ ap (λ (x : List Atom). x ++ g.breaks) one ∙ ap (λ (x : List Atom). f.conflicts_alone ++ x) two ∙ sym f.conflicts_is
 
-  provides_one : (stanza : Stanza) (d e : List (List Atom)) (c k : List Atom) (p q : List Provide) → ReadsRelations stanza d c p → ReadsRelations stanza e k q → q ≡ p
+  provides_one : (stanza : Stanza) (d e : List (List Atom)) (c k : List Atom) (p q : List Provide) → ReadsRelations stanza d c p → ReadsRelations stanza e k q
+      → q ≡ p
   provides_one stanza d e c k p q f g = (provides _).one_reading q p g.reads_provides f.reads_provides
 
 -- ---- faults that are looked for one after another
@@ -305,7 +330,8 @@ not_earlier earlier p l m f g less =
     ap (λ (rs : List Read). get_or rs (length f.before) f.kept) g.pieces ∙ get_or_append_left g.before (g.kept ∷ g.after) f.kept (length f.before) less in
     g.first (length f.before) f.kept less (subst (λ (r : Read). IsSamePackage r.package_ p) (sym (kept_at earlier p l f) ∙ at) f.same)
 
-same_kept : (earlier : List Read) (p : Package) (l m : ℕ) (f : IsClash earlier p l) (g : IsClash earlier p m) → length g.before ≡ length f.before → g.kept ≡ f.kept
+same_kept : (earlier : List Read) (p : Package) (l m : ℕ) (f : IsClash earlier p l) (g : IsClash earlier p m) → length g.before ≡ length f.before
+    → g.kept ≡ f.kept
 same_kept earlier p l m f g same =
     let seam : get_or earlier (length g.before) f.kept ≡ g.kept =
     ap (λ (rs : List Read). get_or rs (length g.before) f.kept) g.pieces ∙ get_or-append_seam g.before g.kept g.after f.kept in
@@ -334,28 +360,36 @@ line_fault_one (errors.DoubleField line) a b f g = g ∙ sym f
 line_fault_one errors.NoMemory a b f g = absurd f
 
 module _ (stanzas : (raw : RawStanza) → IsExactStanza raw) (texts : (text : List ℕ) → IsExact (ReadsVersion text) (HasFault text))
-    (depends : (value : List ℕ) → IsExact (ReadsDepends value) (FirstDependsFault value)) (atoms : (value : List ℕ) → IsExact (ReadsAtoms value) (FirstAtomsFault value))
+    (depends : (value : List ℕ) → IsExact (ReadsDepends value) (FirstDependsFault value))
+    (atoms : (value : List ℕ) → IsExact (ReadsAtoms value) (FirstAtomsFault value))
     (provides : (value : List ℕ) → IsExact (ReadsProvides value) (FirstProvidesFault value)) where
   field_fault_one : (earlier : Option (List ℕ)) (stanza : Stanza) (a b : Fault) → HasFieldFault earlier stanza a → HasFieldFault earlier stanza b → b ≡ a
   field_fault_one earlier stanza =
       chain_one (HasNameFault stanza) _ ((name : List ℕ) × ReadsName stanza name) (name_fault_one stanza) (λ a r. name_apart stanza r.0 a r.1)
-      (chain_one (HasVersionFault stanza) _ ((version : List ℕ) × ReadsVersionField stanza version) (version_fault_one texts stanza) (λ a r. version_apart texts stanza r.0 a r.1)
-      (chain_one (HasSourceFault stanza) _ ((name version source source_version : List ℕ) × ReadsSource stanza name version source source_version) (source_fault_one texts stanza)
+      (chain_one (HasVersionFault stanza) _ ((version : List ℕ) × ReadsVersionField stanza version) (version_fault_one texts stanza)
+      (λ a r. version_apart texts stanza r.0 a r.1)
+      (chain_one (HasSourceFault stanza) _ ((name version source source_version : List ℕ) × ReadsSource stanza name version source source_version)
+      (source_fault_one texts stanza)
       (λ a r. source_apart texts stanza r.0 r.1 r.2 r.3 a r.4)
-      (chain_one (HasArchitectureFault earlier stanza) (HasFirstRelationFault relation_fields stanza) ((architecture : List ℕ) × ReadsArchitecture earlier stanza architecture)
+      (chain_one (HasArchitectureFault earlier stanza) (HasFirstRelationFault relation_fields stanza)
+      ((architecture : List ℕ) × ReadsArchitecture earlier stanza architecture)
       (architecture_fault_one earlier stanza) (λ a r. architecture_apart earlier stanza r.0 a r.1)
       (first_relation_one depends atoms provides relation_fields stanza))))
 
-  field_fault_apart : (earlier : Option (List ℕ)) (stanza : Stanza) (p : Package) (architecture : List ℕ) (b : Fault) → IsPackageOf earlier stanza p architecture
+  field_fault_apart : (earlier : Option (List ℕ)) (stanza : Stanza) (p : Package) (architecture : List ℕ) (b : Fault)
+      → IsPackageOf earlier stanza p architecture
       → ¬ HasFieldFault earlier stanza b
   field_fault_apart earlier stanza p architecture b of (inl name) = name_apart stanza p.name b of.name name
   field_fault_apart earlier stanza p architecture b of (inr (r, inl version)) = version_apart texts stanza p.version b of.version version
-  field_fault_apart earlier stanza p architecture b of (inr (r, inr (s, inl source))) = source_apart texts stanza p.name p.version p.source p.source_version b of.source source
+  field_fault_apart earlier stanza p architecture b of (inr (r, inr (s, inl source))) =
+      source_apart texts stanza p.name p.version p.source p.source_version b of.source source
   field_fault_apart earlier stanza p architecture b of (inr (r, inr (s, inr (t, inl place)))) = architecture_apart earlier stanza architecture b of.place place
   field_fault_apart earlier stanza p architecture b of (inr (r, inr (s, inr (t, inr (u, relations))))) =
-      first_relation_apart depends atoms provides relation_fields stanza b (all_related depends atoms provides stanza p.depends p.conflicts p.provides of.relations) relations
+      first_relation_apart depends atoms provides relation_fields stanza b
+      (all_related depends atoms provides stanza p.depends p.conflicts p.provides of.relations) relations
 
-  package_one : (earlier : Option (List ℕ)) (stanza : Stanza) (p q : Package) (a b : List ℕ) → IsPackageOf earlier stanza p a → IsPackageOf earlier stanza q b → q ≡ p
+  package_one : (earlier : Option (List ℕ)) (stanza : Stanza) (p q : Package) (a b : List ℕ) → IsPackageOf earlier stanza p a → IsPackageOf earlier stanza q b
+      → q ≡ p
   package_one earlier stanza p q a b f g =
       let name = name_one stanza p.name q.name f.name g.name in
       let version = version_one texts stanza p.version q.version f.version g.version in
@@ -394,9 +428,11 @@ module _ (stanzas : (raw : RawStanza) → IsExactStanza raw) (texts : (text : Li
   one_fault earlier raw a b (inl (error, has, is)) (inl (error', has', is')) =
       line_fault_one error a b is (subst (λ (e : ControlError). IsLineFault e b) ((stanzas raw).one_fault error' error has' has) is')
   one_fault earlier raw a b (inl (error, has, is)) (inr (inl (stanza, reading, fault))) = absurd ((stanzas raw).never_both stanza error reading has)
-  one_fault earlier raw a b (inl (error, has, is)) (inr (inr (read, line, stands, clash, is'))) = absurd ((stanzas raw).never_both stands.stanza error stands.reading has)
+  one_fault earlier raw a b (inl (error, has, is)) (inr (inr (read, line, stands, clash, is'))) =
+      absurd ((stanzas raw).never_both stands.stanza error stands.reading has)
   one_fault earlier raw a b (inr (inl (stanza, reading, fault))) (inl (error, has, is)) = absurd ((stanzas raw).never_both stanza error reading has)
-  one_fault earlier raw a b (inr (inr (read, line, stands, clash, is'))) (inl (error, has, is)) = absurd ((stanzas raw).never_both stands.stanza error stands.reading has)
+  one_fault earlier raw a b (inr (inr (read, line, stands, clash, is'))) (inl (error, has, is)) =
+      absurd ((stanzas raw).never_both stands.stanza error stands.reading has)
   one_fault earlier raw a b (inr (inl (stanza, reading, fault))) (inr (inl (stanza', reading', fault'))) =
       field_fault_one (architecture_of earlier) stanza a b fault
       (subst (λ (s : Stanza). HasFieldFault (architecture_of earlier) s b) ((stanzas raw).one_reading stanza' stanza reading' reading) fault')

@@ -1,5 +1,6 @@
 -- Where the loop over the stanzas of a file stands.
-use Rattle.std.proofs.Common.{◌≡◌, ◌≢◌, ℕ, suc, ◌+◌, ◌≤◌, false, not, cond, List, [], ◌∷◌, ◌++◌, Option, None, Some, length, get_or, map, find, refl, sym, ap, ◌∙◌, subst, arith, inl, inr, append_assoc, unwrap_or}
+use Rattle.std.proofs.Common.{◌≡◌, ◌≢◌, ℕ, suc, ◌+◌, ◌≤◌, false, not, cond, List, [], ◌∷◌, ◌++◌, Option, None, Some, length, get_or, map, find, refl, sym, ap}
+use Rattle.std.proofs.Common.{◌∙◌, subst, arith, inl, inr, append_assoc, unwrap_or}
 use Rattle.std.specs.List.{All, Any, Contains}
 use Rattle.std.specs.List.Sorted.{IsPermutation}
 use Rattle.std.specs.Option.{option_or}
@@ -24,7 +25,8 @@ use Rattle.dist_package.specs.declared.error.Kind.TheVariants.{Clash}
 use Rattle.dist_package.specs.declared.package.Described.{Described}
 use Rattle.dist_package.specs.Named.{fault_at}
 use Rattle.dist_package.specs.PackageOf.{IsPackageOf, all}
-use Rattle.dist_package.specs.FirstFault.{Read, architecture_of, IsClash, HasPackage, ReadsAs, HasFieldFault, AreReadAfter, AreRead, HasFirstFault, IsTooMany, IsBad, IsRefused}
+use Rattle.dist_package.specs.FirstFault.{Read, architecture_of, IsClash, HasPackage, ReadsAs, HasFieldFault, AreReadAfter, AreRead, HasFirstFault, IsTooMany}
+use Rattle.dist_package.specs.FirstFault.{IsBad, IsRefused}
 use Rattle.dist_package.specs.declared.error.PackagesError.{PackagesError}
 use Rattle.dist_package.specs.declared.error.PackagesError.TheVariants.{Bad, TooMany, NoMemory}
 use Rattle.dist_package.specs.RepositoryOf.{IsRepositoryOf}
@@ -108,7 +110,8 @@ kept-more reads old new read kept adds =
           let here : Held = (read.package_, read.line) in
           let alone : All (λ r. ¬ IsSamePackage r.package_ read.package_) reads =
           All-weaker (λ r. Any (λ h. h.0 ≡ r.package_) old) (λ r. ¬ IsSamePackage r.package_ read.package_)
-          (λ r a same. let Q : Package → Type 0 = λ q. IsSamePackage q read.package_ in fresh.0 (a.0, a.1, a.2, a.3, subst Q (sym a.4) same)) reads kept.complete in
+          (λ r a same. let Q : Package → Type 0 = λ q. IsSamePackage q read.package_ in fresh.0 (a.0, a.1, a.2, a.3, subst Q (sym a.4) same)) reads
+          kept.complete in
           let first : IsFirstRead (reads ++ read ∷ []) here = record {
             before = reads;
             read = read;
@@ -120,9 +123,11 @@ kept-more reads old new read kept adds =
           } in
           let front = Contains-permutation (here ∷ old) new here fresh.1 (0, omega arith, refl) in
           record {
-            firsts = All-permutation (IsFirstRead (reads ++ read ∷ [])) (here ∷ old) new fresh.1 (All-cons (IsFirstRead (reads ++ read ∷ [])) here old first pushed);
+            firsts = All-permutation (IsFirstRead (reads ++ read ∷ [])) (here ∷ old) new fresh.1
+                (All-cons (IsFirstRead (reads ++ read ∷ [])) here old first pushed);
             complete = All-push (λ r. Any (λ h. h.0 ≡ r.package_) new) reads read
-                (All-weaker (λ r. Any (λ h. h.0 ≡ r.package_) old) (λ r. Any (λ h. h.0 ≡ r.package_) new) (λ r a. grown old new here r.package_ fresh.1 a) reads kept.complete)
+                (All-weaker (λ r. Any (λ h. h.0 ≡ r.package_) old) (λ r. Any (λ h. h.0 ≡ r.package_) new) (λ r a. grown old new here r.package_ fresh.1 a) reads
+                kept.complete)
                 (front.0, here, front.1, front.2, refl);
           }
     ]
@@ -143,7 +148,8 @@ clash-of reads held p line kept at =
       kept = is.read;
       after = is.after;
       pieces = is.pieces;
-      first = All-weaker (λ r. ¬ IsSamePackage r.package_ h.0) (λ r. ¬ IsSamePackage r.package_ p) (λ r none also. none (same-both r.package_ h.0 p also same.0)) is.before is.first;
+      first = All-weaker (λ r. ¬ IsSamePackage r.package_ h.0) (λ r. ¬ IsSamePackage r.package_ p)
+          (λ r none also. none (same-both r.package_ h.0 p also same.0)) is.before is.first;
       same = subst Q (sym is.package_is) same.0;
       differs = λ e. same.1 (sym is.package_is ∙ e);
       line_is = sym same.2 ∙ sym is.line_is;
@@ -157,7 +163,8 @@ at-middle before read after reads pieces = (
 )
 
 -- where no held package clashes, no read does
-free-of : (reads : List Read) (held : List Held) (p : Package) → IsKept reads held → ((line : ℕ) → ¬ IsClashAt held p line) → (line : ℕ) → ¬ IsClash reads p line
+free-of : (reads : List Read) (held : List Held) (p : Package) → IsKept reads held → ((line : ℕ) → ¬ IsClashAt held p line) → (line : ℕ)
+    → ¬ IsClash reads p line
 free-of reads held p kept alone line clash =
     let P : Read → Type 0 = λ read. Any (λ h. h.0 ≡ read.package_) held in
     let there = at-middle clash.before clash.kept clash.after reads clash.pieces in
@@ -197,7 +204,8 @@ pub record IsFileSoFar (text : List ℕ) (limit : ℕ) (reader : Unread) (held :
   pub going : reader.refused ≡ false
   pub few : length held ≤ count
 
-pub file-none : (text : List ℕ) (limit : ℕ) (reader : Unread) → reader ≡ record { left = raw_stanzas text; refused = false } → IsFileSoFar text limit reader [] None 0
+pub file-none : (text : List ℕ) (limit : ℕ) (reader : Unread) → reader ≡ record { left = raw_stanzas text; refused = false }
+    → IsFileSoFar text limit reader [] None 0
 file-none text limit reader is = record {
   reads = [];
   done = [];
@@ -251,7 +259,8 @@ module _ (text : List ℕ) (limit : ℕ) (old : Unread) (held : List Held) (arch
     has-package = record {
       stanza = gives.stanza;
       reading = gives.reading;
-      is_package = let P : Option (List ℕ) → Type 0 = λ a. IsPackageOf a gives.stanza d.package_ (unwrap_or d.architecture all) in subst P so_far.architecture_is gives.is_package;
+      is_package = let P : Option (List ℕ) → Type 0 = λ a. IsPackageOf a gives.stanza d.package_ (unwrap_or d.architecture all) in
+          subst P so_far.architecture_is gives.is_package;
       line_is = gives.line_is;
     }
 
@@ -270,15 +279,18 @@ module _ (text : List ℕ) (limit : ℕ) (old : Unread) (held : List Held) (arch
       ));
     }
 
-    pub file-more : (more : List Held) (now : Option (List ℕ)) → ¬ (count ≡ limit) → Adds held more d.package_ d.line → now ≡ option_or architecture d.architecture →
+    pub file-more : (more : List Held) (now : Option (List ℕ)) → ¬ (count ≡ limit) → Adds held more d.package_ d.line
+        → now ≡ option_or architecture d.architecture →
         IsFileSoFar text limit new more now (count + 1)
     file-more more now other adds now_is = record {
       reads = so_far.reads ++ read_of d ∷ [];
       done = so_far.done ++ gives.raw ∷ [];
       cut = so_far.cut ∙ ap (λ l. so_far.done ++ l) gives.left ∙ sym (append_assoc so_far.done (gives.raw ∷ []) new.left);
-      read = read-snoc [] so_far.done so_far.reads gives.raw (read_of d) so_far.read (record { has = has-package; free = free-of so_far.reads held d.package_ so_far.kept adds.alone });
+      read = read-snoc [] so_far.done so_far.reads gives.raw (read_of d) so_far.read
+          (record { has = has-package; free = free-of so_far.reads held d.package_ so_far.kept adds.alone });
       kept = kept-more so_far.reads held more (read_of d) so_far.kept adds;
-      architecture_is = now_is ∙ ap (λ a. option_or a d.architecture) so_far.architecture_is ∙ sym (architecture-more so_far.reads (read_of d) d.architecture refl gives.not_all);
+      architecture_is = now_is ∙ ap (λ a. option_or a d.architecture) so_far.architecture_is
+          ∙ sym (architecture-more so_far.reads (read_of d) d.architecture refl gives.not_all);
       counted = omega (arith, so_far.counted, length_push so_far.reads (read_of d));
       within = omega (arith, so_far.within, other);
       going = gives.going;
@@ -288,7 +300,8 @@ module _ (text : List ℕ) (limit : ℕ) (old : Unread) (held : List Held) (arch
       ];
     }
 
-  pub file-all : (repository : PackageList) → ¬ HasNext old → repository.packages ≡ packages_of held → repository.architecture ≡ architecture → IsInOrder (packages_of held) →
+  pub file-all : (repository : PackageList) → ¬ HasNext old → repository.packages ≡ packages_of held → repository.architecture ≡ architecture
+      → IsInOrder (packages_of held) →
       IsRepositoryOf text limit repository
   file-all repository none packages_is architecture_is in_order =
       let empty : old.left ≡ [] = none-left old.left (λ some. none (record { left = some; going = so_far.going })) in
@@ -304,7 +317,8 @@ module _ (text : List ℕ) (limit : ℕ) (old : Unread) (held : List Held) (arch
         in_order = subst I (sym packages_is) in_order;
         from_stanzas = subst From (sym packages_is) (All-map (λ p. Any (λ read. read.package_ ≡ p) so_far.reads) (λ (h : Held). h.0) held
             (All-weaker (IsFirstRead so_far.reads) (λ h. Any (λ read. read.package_ ≡ h.0) so_far.reads) (first-any so_far.reads) held so_far.kept.firsts));
-        all_stanzas = subst There (sym packages_is) (All-weaker (λ read. Any (λ h. h.0 ≡ read.package_) held) (λ read. Contains (packages_of held) read.package_)
+        all_stanzas = subst There (sym packages_is) (All-weaker (λ read. Any (λ h. h.0 ≡ read.package_) held)
+            (λ read. Contains (packages_of held) read.package_)
             (λ read a. held-contains held read.package_ a) so_far.reads so_far.kept.complete);
         architecture = architecture_is ∙ so_far.architecture_is;
       }

@@ -15,17 +15,23 @@ use Rattle.dist_relation.specs.declared.atom.Provide.{Provide}
 use Rattle.dist_repo.specs.Order.{IsSamePackage}
 use Rattle.dist_repo.specs.declared.package.Package.{Package}
 use Rattle.dist_package.specs.Named.{value_of, fault_at, name_of}
-use Rattle.dist_package.specs.PackageOf.{ReadsName, HasNameFault, ReadsVersionField, HasVersionFault, ReadsSource, HasSourceFault, ReadsArchitecture, HasArchitectureFault, HasRelationFault, IsPackageOf, all}
+use Rattle.dist_package.specs.PackageOf.{ReadsName, HasNameFault, ReadsVersionField, HasVersionFault, ReadsSource}
+use Rattle.dist_package.specs.PackageOf.{HasSourceFault, ReadsArchitecture, HasArchitectureFault, HasRelationFault}
+use Rattle.dist_package.specs.PackageOf.{IsPackageOf, all}
 use Rattle.dist_package.specs.declared.error.Fault.{Fault}
 use Rattle.dist_package.specs.declared.error.Kind.{Kind}
-use Rattle.dist_package.specs.declared.error.Kind.TheVariants.{NoColon, BadFieldName, OrphanContinuation, DoubleField, NoPackage, BadPackageName, NoVersion, BadVersionText, BadSource, BadArchitecture, TwoArchitectures, Relation, Clash}
+use Rattle.dist_package.specs.declared.error.Kind.TheVariants.{NoColon, BadFieldName, OrphanContinuation, DoubleField}
+use Rattle.dist_package.specs.declared.error.Kind.TheVariants.{NoPackage, BadPackageName, NoVersion, BadVersionText}
+use Rattle.dist_package.specs.declared.error.Kind.TheVariants.{BadSource, BadArchitecture, TwoArchitectures, Relation}
+use Rattle.dist_package.specs.declared.error.Kind.TheVariants.{Clash}
 use Rattle.dist_relation.specs.declared.error.RelationError.{RelationError}
 use Rattle.dist_relation.specs.declared.error.RelationError.TheVariants as relations
 use Rattle.dist_version.specs.declared.error.VersionError.TheVariants as versions
 use Rattle.dist_package.specs.declared.error.PackagesError.{PackagesError}
 use Rattle.dist_package.specs.declared.error.PackagesError.TheVariants.{Bad, TooMany, NoMemory}
 use Rattle.dist_package.specs.declared.error.RelationField.{RelationField}
-use Rattle.dist_package.specs.declared.error.RelationField.TheVariants.{PreDepends, Depends, Conflicts, Breaks, Provides}
+use Rattle.dist_package.specs.declared.error.RelationField.TheVariants.{PreDepends, Depends, Conflicts, Breaks}
+use Rattle.dist_package.specs.declared.error.RelationField.TheVariants.{Provides}
 
 -- what one stanza reads as: its line, its package, and its architecture
 pub record Read : Type 0 where
@@ -103,14 +109,16 @@ abbrev pub HasStanzaFault : (earlier : List Read) → RawStanza → Fault → Ty
 HasStanzaFault earlier raw fault =
     ((error : ControlError) × control.HasFault raw error × IsLineFault error fault)
     ⊎ (((stanza : Stanza) × IsReading raw stanza × HasFieldFault (architecture_of earlier) stanza fault)
-    ⊎ ((read : Read) × (line : ℕ) × HasPackage earlier raw read × IsClash earlier read.package_ line × (fault ≡ fault_at raw.line (Clash line))))
+    ⊎ ((read : Read) × (line : ℕ) × HasPackage earlier raw read × IsClash earlier read.package_ line
+    × (fault ≡ fault_at raw.line (Clash line))))
 
 -- each raw stanza reads as the entry of its place, after the earlier ones and those before it
 abbrev pub AreReadAfter : (earlier : List Read) → List RawStanza → List Read → Type 0
 AreReadAfter earlier [] [] = Unit {0}
 AreReadAfter earlier [] (read ∷ reads) = ⊥
 AreReadAfter earlier (raw ∷ raws) [] = ⊥
-AreReadAfter earlier (raw ∷ raws) (read ∷ reads) = ReadsAs earlier raw read × AreReadAfter (earlier ++ read ∷ []) raws reads
+AreReadAfter earlier (raw ∷ raws) (read ∷ reads) = ReadsAs earlier raw read
+    × AreReadAfter (earlier ++ read ∷ []) raws reads
 
 abbrev pub AreRead : List RawStanza → List Read → Type 0
 AreRead raws reads = AreReadAfter [] raws reads

@@ -7,7 +7,8 @@ use Rattle.dist_control.specs.declared.field_list.Stanza.{Stanza}
 use Rattle.dist_package.specs.declared.error.Fault.{Fault}
 use Rattle.dist_package.specs.declared.error.Kind.{Kind}
 use Rattle.dist_package.specs.declared.error.RelationField.{RelationField}
-use Rattle.dist_package.specs.declared.error.RelationField.TheVariants.{PreDepends, Depends, Conflicts, Breaks, Provides}
+use Rattle.dist_package.specs.declared.error.RelationField.TheVariants.{PreDepends, Depends, Conflicts, Breaks}
+use Rattle.dist_package.specs.declared.error.RelationField.TheVariants.{Provides}
 
 -- the field of a name, ASCII case apart
 abbrev pub field_named : Stanza → List ℕ → Option FieldText

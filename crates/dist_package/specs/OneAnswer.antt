@@ -7,6 +7,9 @@ use Rattle.dist_package.specs.RepositoryOf.{IsRepositoryOf}
 use Rattle.dist_package.specs.declared.error.PackagesError.{PackagesError}
 
 pub record HasOneAnswer (text : List ℕ) (limit : ℕ) : Type 0 where
-  pub one_repository : (repository other : PackageList) → IsRepositoryOf text limit repository → IsRepositoryOf text limit other → other ≡ repository
-  pub one_error : (error other : PackagesError) → IsRefused (raw_stanzas text) limit error → IsRefused (raw_stanzas text) limit other → other ≡ error
-  pub never_both : (repository : PackageList) (error : PackagesError) → IsRepositoryOf text limit repository → ¬ IsRefused (raw_stanzas text) limit error
+  pub one_repository : (repository other : PackageList) → IsRepositoryOf text limit repository
+      → IsRepositoryOf text limit other → other ≡ repository
+  pub one_error : (error other : PackagesError) → IsRefused (raw_stanzas text) limit error
+      → IsRefused (raw_stanzas text) limit other → other ≡ error
+  pub never_both : (repository : PackageList) (error : PackagesError) → IsRepositoryOf text limit repository
+      → ¬ IsRefused (raw_stanzas text) limit error

@@ -15,9 +15,11 @@ use Rattle.dist_version.specs.declared.error.VersionError.{VersionError}
 use Rattle.dist_package.specs.Named.{field_named, value_of, line_of, IsFieldOf, fault_at, name_of}
 use Rattle.dist_package.specs.Source.{SpellsSource, IsNoSource}
 use Rattle.dist_package.specs.declared.error.Fault.{Fault}
-use Rattle.dist_package.specs.declared.error.Kind.TheVariants.{NoPackage, BadPackageName, NoVersion, BadVersionText, BadSource, BadArchitecture, TwoArchitectures, Relation}
+use Rattle.dist_package.specs.declared.error.Kind.TheVariants.{NoPackage, BadPackageName, NoVersion, BadVersionText}
+use Rattle.dist_package.specs.declared.error.Kind.TheVariants.{BadSource, BadArchitecture, TwoArchitectures, Relation}
 use Rattle.dist_package.specs.declared.error.RelationField.{RelationField}
-use Rattle.dist_package.specs.declared.error.RelationField.TheVariants.{PreDepends, Depends, Conflicts, Breaks, Provides}
+use Rattle.dist_package.specs.declared.error.RelationField.TheVariants.{PreDepends, Depends, Conflicts, Breaks}
+use Rattle.dist_package.specs.declared.error.RelationField.TheVariants.{Provides}
 
 -- ---- Package and Version
 
@@ -57,7 +59,8 @@ pub record IsNoVersion (stanza : Stanza) (fault : Fault) : Type 0 where
 -- there is no field Version, or its value is no version
 abbrev pub HasVersionFault : Stanza → Fault → Type 0
 HasVersionFault stanza fault =
-    ((field_named stanza (codes "Version") ≡ None) × (fault ≡ fault_at stanza.line NoVersion)) ⊎ IsNoVersion stanza fault
+    ((field_named stanza (codes "Version") ≡ None) × (fault ≡ fault_at stanza.line NoVersion))
+    ⊎ IsNoVersion stanza fault
 
 -- ---- Source
 
@@ -71,7 +74,8 @@ pub record IsSourceOf (name version source source_version : List ℕ) (value : L
 abbrev pub ReadsSource : Stanza → (name version source source_version : List ℕ) → Type 0
 ReadsSource stanza name version source source_version =
     ((field_named stanza (codes "Source") ≡ None) × (source ≡ name) × (source_version ≡ version))
-    ⊎ ((value : List ℕ) × (line : ℕ) × IsFieldOf stanza (codes "Source") value line × IsSourceOf name version source source_version value)
+    ⊎ ((value : List ℕ) × (line : ℕ) × IsFieldOf stanza (codes "Source") value line
+    × IsSourceOf name version source source_version value)
 
 -- the value of the field Source is no source
 pub record HasSourceFault (stanza : Stanza) (fault : Fault) : Type 0 where
@@ -103,7 +107,8 @@ pub record HasArchitectureFault (earlier : Option (List ℕ)) (stanza : Stanza) 
   pub field : IsFieldOf stanza (codes "Architecture") value line
   -- the value is no name, or another than that of the earlier stanzas
   pub cause : ((¬ IsName value) × (fault ≡ fault_at line BadArchitecture))
-      ⊎ (IsName value × (value ≢ all) × ((other : List ℕ) × (earlier ≡ Some other) × (other ≢ value)) × (fault ≡ fault_at line TwoArchitectures))
+      ⊎ (IsName value × (value ≢ all) × ((other : List ℕ) × (earlier ≡ Some other) × (other ≢ value))
+      × (fault ≡ fault_at line TwoArchitectures))
 
 -- ---- relations
 
@@ -127,7 +132,8 @@ HasRelationFault stanza relation fault = IsRelationFault (HasFirstValueFault rel
 
 -- What the fields of relations give: first the items of Pre-Depends and then those of Depends, first the atoms of
 -- Conflicts and then those of Breaks, and the entries of Provides. A missing field gives nothing.
-pub record ReadsRelations (stanza : Stanza) (depends : List (List Atom)) (conflicts : List Atom) (provides : List Provide) : Type 0 where
+pub record ReadsRelations (stanza : Stanza) (depends : List (List Atom)) (conflicts : List Atom)
+    (provides : List Provide) : Type 0 where
   pub pre_depends : List (List Atom)
   pub other_depends : List (List Atom)
   pub conflicts_alone : List Atom
@@ -143,10 +149,11 @@ pub record ReadsRelations (stanza : Stanza) (depends : List (List Atom)) (confli
 -- ---- the package
 
 -- A stanza is the description of this package, of an architecture that agrees with that of the earlier ones.
-pub record IsPackageOf (earlier : Option (List ℕ)) (stanza : Stanza) (p : Package) (architecture : List ℕ) : Type 0 where
-  pub name : ReadsName stanza p.name
-  pub version : ReadsVersionField stanza p.version
-  pub source : ReadsSource stanza p.name p.version p.source p.source_version
-  pub place : ReadsArchitecture earlier stanza architecture
-  pub relations : ReadsRelations stanza p.depends p.conflicts p.provides
-  pub essential : IsTrue p.essential ↔ (value_of stanza (codes "Essential") ≡ codes "yes")
+pub record IsPackageOf (earlier : Option (List ℕ)) (stanza : Stanza) (p : Package) (architecture : List ℕ) : Type 0
+  where
+    pub name : ReadsName stanza p.name
+    pub version : ReadsVersionField stanza p.version
+    pub source : ReadsSource stanza p.name p.version p.source p.source_version
+    pub place : ReadsArchitecture earlier stanza architecture
+    pub relations : ReadsRelations stanza p.depends p.conflicts p.provides
+    pub essential : IsTrue p.essential ↔ (value_of stanza (codes "Essential") ≡ codes "yes")

@@ -16,7 +16,8 @@ use Rattle.dist_relation.specs.Bytes.{is_space, is_operator_byte, is_word_byte, 
 use Rattle.dist_relation.specs.Grammar.{allows_operator, SpellsOperator}
 use Rattle.dist_relation.specs.Reading.{◌>>=◌, refuse, skip, operator_at, version_at, closing_at, bound_at}
 use Rattle.dist_relation.proofs.Runs.{past-append, take_while-past, take_while_all, past_stops}
-use Rattle.dist_relation.proofs.Words.{operator_facts, operator_again, operator_missing, operator_forbidden, OperatorRead, OperatorFault, operator_cases, version_again, version_refused, VersionRead, version_cases, version_no_blank}
+use Rattle.dist_relation.proofs.Words.{operator_facts, operator_again, operator_missing, operator_forbidden, OperatorRead, OperatorFault, operator_cases}
+use Rattle.dist_relation.proofs.Words.{version_again, version_refused, VersionRead, version_cases, version_no_blank}
 
 -- what follows is left
 abbrev pub follows : List ℕ → Result (List ℕ) Fault
@@ -75,16 +76,20 @@ version_with op x = x >>= λ version. closing_at (skip version.1) >>= λ rest. O
 abbrev pub operator_with : Result (Op × List ℕ) Fault → Result (Bound × List ℕ) Fault
 operator_with x = x >>= λ op. version_at (skip op.1) >>= λ version. closing_at (skip version.1) >>= λ rest. Ok (record { op = op.0; version = version.0 }, rest)
 
-pub start_again : (kind : Kind) (text : List ℕ) (op : Op) (rest : List ℕ) → BoundStart kind text op rest → bound_at kind text ≡ version_with op (version_at (skip rest))
+pub start_again : (kind : Kind) (text : List ℕ) (op : Op) (rest : List ℕ) → BoundStart kind text op rest
+    → bound_at kind text ≡ version_with op (version_at (skip rest))
 unfolding bound_at
 start_again kind text op rest h =
-    let skipped : skip text ≡ h.operator ++ rest = ap skip h.parts ∙ past-append is_space h.space (h.operator ++ rest) h.blank ((operator_facts op h.operator h.is_operator).no_blank rest) in
+    let skipped : skip text ≡ h.operator ++ rest = ap skip h.parts
+    ∙ past-append is_space h.space (h.operator ++ rest) h.blank ((operator_facts op h.operator h.is_operator).no_blank rest) in
     ap (λ (t : List ℕ). operator_with (operator_at kind t)) skipped
     ∙ ap operator_with (operator_again kind h.operator op rest h.is_operator h.allowed h.whole)
 
-pub version_read : (kind : Kind) (text : List ℕ) (bound : Bound) (rest : List ℕ) → BoundVersion kind text bound rest → bound_at kind text ≡ close_with bound.op bound.version (closing_at (skip rest))
+pub version_read : (kind : Kind) (text : List ℕ) (bound : Bound) (rest : List ℕ) → BoundVersion kind text bound rest
+    → bound_at kind text ≡ close_with bound.op bound.version (closing_at (skip rest))
 version_read kind text bound rest h =
-    let skipped : skip h.after ≡ bound.version ++ rest = ap skip h.parts ∙ past-append is_space h.space (bound.version ++ rest) h.blank (version_no_blank bound.version rest h.is_version) in
+    let skipped : skip h.after ≡ bound.version ++ rest = ap skip h.parts
+    ∙ past-append is_space h.space (bound.version ++ rest) h.blank (version_no_blank bound.version rest h.is_version) in
     start_again kind text bound.op h.after h.start
     ∙ ap (λ (t : List ℕ). version_with bound.op (version_at t)) skipped
     ∙ ap (version_with bound.op) (version_again bound.version rest h.is_version h.whole)
@@ -186,8 +191,22 @@ spaces_parts : (text : List ℕ) → text ≡ spaces text ++ skip text
 unfolding spaces
 spaces_parts text = sym (take_while-past is_space text)
 
-end_cases : (kind : Kind) (text : List ℕ) (bound : Bound) (after here : List ℕ) → BoundVersion kind text bound after → here ≡ skip after → BoundRead kind text ⊎ BoundFault kind text
-end_cases kind text bound after [] v e = inr (record { here = []; problem = Unclosed; has = record { bound = bound; after = after; space = spaces after; version = v; blank = spaces_blank after; parts = spaces_parts after ∙ ap (λ (t : List ℕ). spaces after ++ t) (sym e); skipped = tt; missing = tt } })
+end_cases : (kind : Kind) (text : List ℕ) (bound : Bound) (after here : List ℕ) → BoundVersion kind text bound after → here ≡ skip after → BoundRead kind text
+    ⊎ BoundFault kind text
+end_cases kind text bound after [] v e = inr (record {
+  here = [];
+  problem = Unclosed;
+  has = record {
+    bound = bound;
+    after = after;
+    space = spaces after;
+    version = v;
+    blank = spaces_blank after;
+    parts = spaces_parts after ∙ ap (λ (t : List ℕ). spaces after ++ t) (sym e);
+    skipped = tt;
+    missing = tt;
+  };
+})
 end_cases kind text bound after (b ∷ bs) v e = by_first (eqb b closing) refl
   where
     parts : after ≡ spaces after ++ (b ∷ bs)
@@ -197,24 +216,105 @@ end_cases kind text bound after (b ∷ bs) v e = by_first (eqb b closing) refl
     skipped = subst (Stops is_space) (sym e) (past_stops is_space after)
 
     by_first : (t : Bool) → eqb b closing ≡ t → BoundRead kind text ⊎ BoundFault kind text
-    by_first false f = inr (record { here = b ∷ bs; problem = Unclosed; has = record { bound = bound; after = after; space = spaces after; version = v; blank = spaces_blank after; parts = parts; skipped = skipped; missing = f } })
+    by_first false f = inr (record {
+      here = b ∷ bs;
+      problem = Unclosed;
+      has = record {
+        bound = bound;
+        after = after;
+        space = spaces after;
+        version = v;
+        blank = spaces_blank after;
+        parts = parts;
+        skipped = skipped;
+        missing = f;
+      };
+    })
     by_first true f =
-        inl (record { bound = bound; rest = skip bs; whole = record { after = after; version = v; gap = spaces after; space = spaces bs; blank_gap = spaces_blank after; blank = spaces_blank bs; parts = parts ∙ ap (λ (c : ℕ). spaces after ++ (c ∷ bs)) (eqb-true b closing f) ∙ ap (λ (t : List ℕ). spaces after ++ (closing ∷ t)) (spaces_parts bs); skipped = past_stops is_space bs } })
+        inl (record {
+          bound = bound;
+          rest = skip bs;
+          whole = record {
+            after = after;
+            version = v;
+            gap = spaces after;
+            space = spaces bs;
+            blank_gap = spaces_blank after;
+            blank = spaces_blank bs;
+            parts = parts ∙ ap (λ (c : ℕ). spaces after ++ (c ∷ bs)) (eqb-true b closing f)
+                ∙ ap (λ (t : List ℕ). spaces after ++ (closing ∷ t)) (spaces_parts bs);
+            skipped = past_stops is_space bs;
+          };
+        })
 
-word_cases : (kind : Kind) (text : List ℕ) (op : Op) (after : List ℕ) → BoundStart kind text op after → VersionRead (skip after) ⊎ ((fault : VersionError) × (fault_of (take_while is_word_byte (skip after)) ≡ Some fault)) → BoundRead kind text ⊎ BoundFault kind text
+word_cases : (kind : Kind) (text : List ℕ) (op : Op) (after : List ℕ) → BoundStart kind text op after → VersionRead (skip after)
+    ⊎ ((fault : VersionError) × (fault_of (take_while is_word_byte (skip after)) ≡ Some fault)) → BoundRead kind text ⊎ BoundFault kind text
 word_cases kind text op after start (inl v) =
-    end_cases kind text (record { op = op; version = v.version }) v.rest (skip v.rest) (record { after = after; start = start; space = spaces after; blank = spaces_blank after; is_version = v.is_version; parts = spaces_parts after ∙ ap (λ (t : List ℕ). spaces after ++ t) v.parts; whole = v.ends }) refl
+    end_cases kind text (record { op = op; version = v.version }) v.rest (skip v.rest)
+    (record {
+      after = after;
+      start = start;
+      space = spaces after;
+      blank = spaces_blank after;
+      is_version = v.is_version;
+      parts = spaces_parts after ∙ ap (λ (t : List ℕ). spaces after ++ t) v.parts;
+      whole = v.ends;
+    }) refl
 word_cases kind text op after start (inr f) =
-    inr (record { here = skip after; problem = BadVersion f.0; has = record { op = op; after = after; space = spaces after; start = start; blank = spaces_blank after; parts = spaces_parts after; skipped = past_stops is_space after; missing = f.1 } })
+    inr (record {
+      here = skip after;
+      problem = BadVersion f.0;
+      has = record {
+        op = op;
+        after = after;
+        space = spaces after;
+        start = start;
+        blank = spaces_blank after;
+        parts = spaces_parts after;
+        skipped = past_stops is_space after;
+        missing = f.1;
+      };
+    })
 
-start_cases : (kind : Kind) (text : List ℕ) → (OperatorRead kind (skip text) ⊎ OperatorFault kind (skip text)) ⊎ ((op : Op) → SpellsOperator (take_while is_operator_byte (skip text)) op → ⊥) → BoundRead kind text ⊎ BoundFault kind text
+start_cases : (kind : Kind) (text : List ℕ) → (OperatorRead kind (skip text) ⊎ OperatorFault kind (skip text))
+    ⊎ ((op : Op) → SpellsOperator (take_while is_operator_byte (skip text)) op → ⊥) → BoundRead kind text ⊎ BoundFault kind text
 start_cases kind text (inl (inl o)) =
-    let start : BoundStart kind text o.op o.rest = record { space = spaces text; operator = o.operator; blank = spaces_blank text; is_operator = o.is_operator; allowed = o.allowed; parts = spaces_parts text ∙ ap (λ (t : List ℕ). spaces text ++ t) o.parts; whole = o.ends } in
+    let start : BoundStart kind text o.op o.rest = record {
+      space = spaces text;
+      operator = o.operator;
+      blank = spaces_blank text;
+      is_operator = o.is_operator;
+      allowed = o.allowed;
+      parts = spaces_parts text ∙ ap (λ (t : List ℕ). spaces text ++ t) o.parts;
+      whole = o.ends;
+    } in
     word_cases kind text o.op o.rest start (version_cases (skip o.rest))
 start_cases kind text (inl (inr f)) =
-    inr (record { here = skip text; problem = OpInProvides; has = record { space = spaces text; op = f.op; blank = spaces_blank text; parts = spaces_parts text; skipped = past_stops is_space text; is_operator = f.is_operator; forbidden = f.forbidden } })
+    inr (record {
+      here = skip text;
+      problem = OpInProvides;
+      has = record {
+        space = spaces text;
+        op = f.op;
+        blank = spaces_blank text;
+        parts = spaces_parts text;
+        skipped = past_stops is_space text;
+        is_operator = f.is_operator;
+        forbidden = f.forbidden;
+      };
+    })
 start_cases kind text (inr never) =
-    inr (record { here = skip text; problem = BadOp; has = record { space = spaces text; blank = spaces_blank text; parts = spaces_parts text; skipped = past_stops is_space text; missing = never } })
+    inr (record {
+      here = skip text;
+      problem = BadOp;
+      has = record {
+        space = spaces text;
+        blank = spaces_blank text;
+        parts = spaces_parts text;
+        skipped = past_stops is_space text;
+        missing = never;
+      };
+    })
 
 pub bound_cases : (kind : Kind) (text : List ℕ) → BoundRead kind text ⊎ BoundFault kind text
 bound_cases kind text = start_cases kind text (operator_cases kind (skip text))

@@ -21,7 +21,8 @@ canonical_operator Eq = refl
 canonical_operator Ge = inl refl
 canonical_operator Gt = refl
 
-canonical_bound : (bound : Bound) → IsVersion bound.version → SpellsBound Depends (opening ∷ (operator_text bound.op ++ (codes " " ++ (bound.version ++ codes ")")))) bound
+canonical_bound : (bound : Bound) → IsVersion bound.version
+    → SpellsBound Depends (opening ∷ (operator_text bound.op ++ (codes " " ++ (bound.version ++ codes ")")))) bound
 canonical_bound bound is_version = record {
   before = [];
   operator = operator_text bound.op;
@@ -37,8 +38,10 @@ canonical_bound bound is_version = record {
 }
 
 -- an atom's text with white space round it
-padded : (name : List ℕ) (qualifier : Qualifier) (bound : Option Bound) (before after : List ℕ) → IsName name → IsQualifier qualifier → IsBound bound → IsBlank before → IsBlank after
-    → SpellsAtom Depends (before ++ ((name ++ (qualifier_text qualifier ++ bound_text bound)) ++ after)) (record { name = name; qualifier = qualifier; bound = bound })
+padded : (name : List ℕ) (qualifier : Qualifier) (bound : Option Bound) (before after : List ℕ) → IsName name → IsQualifier qualifier → IsBound bound
+    → IsBlank before → IsBlank after
+    → SpellsAtom Depends (before ++ ((name ++ (qualifier_text qualifier ++ bound_text bound)) ++ after))
+    (record { name = name; qualifier = qualifier; bound = bound })
 padded name qualifier None before after is_name is_qualifier is_bound b a = record {
   before = before;
   between = [];
@@ -66,10 +69,12 @@ padded name qualifier (Some bound) before after is_name is_qualifier is_bound b 
   is_bound = canonical_bound bound is_bound;
 }
 
-pub padded_atom : (atom : Atom) (before after : List ℕ) → IsAtom atom → IsBlank before → IsBlank after → SpellsAtom Depends (before ++ (atom_text atom ++ after)) atom
+pub padded_atom : (atom : Atom) (before after : List ℕ) → IsAtom atom → IsBlank before → IsBlank after
+    → SpellsAtom Depends (before ++ (atom_text atom ++ after)) atom
 padded_atom atom before after h b a = padded atom.name atom.qualifier atom.bound before after h.name h.qualifier h.bound b a
 
-joined_text : (atom : Atom) (atoms : List Atom) (before : List ℕ) → IsAtom atom → AreAtoms atoms → IsBlank before → SpellsAlternatives (before ++ (atom_text atom ++ flat_map behind_bar atoms)) (atom ∷ atoms)
+joined_text : (atom : Atom) (atoms : List Atom) (before : List ℕ) → IsAtom atom → AreAtoms atoms → IsBlank before
+    → SpellsAlternatives (before ++ (atom_text atom ++ flat_map behind_bar atoms)) (atom ∷ atoms)
 joined_text atom [] before h more b = padded_atom atom before [] h b refl
 joined_text atom (next ∷ atoms) before h more b =
     let first : List ℕ = before ++ (atom_text atom ++ codes " ") in

@@ -40,7 +40,8 @@ behind_nothing ys = refl
 
 -- ---- from the steps to the whole
 
-flat_bare : (kind : Kind) (text name : List ℕ) (qualifier : Qualifier) → Bare text name qualifier → SpellsAtom kind text (record { name = name; qualifier = qualifier; bound = None })
+flat_bare : (kind : Kind) (text name : List ℕ) (qualifier : Qualifier) → Bare text name qualifier
+    → SpellsAtom kind text (record { name = name; qualifier = qualifier; bound = None })
 flat_bare kind text name qualifier h = record {
   before = h.is_head.space;
   between = h.space;
@@ -55,7 +56,8 @@ flat_bare kind text name qualifier h = record {
   is_bound = refl;
 }
 
-flat_closed : (kind : Kind) (text name : List ℕ) (qualifier : Qualifier) (bound : Bound) → Closed kind text name qualifier bound → SpellsAtom kind text (record { name = name; qualifier = qualifier; bound = Some bound })
+flat_closed : (kind : Kind) (text name : List ℕ) (qualifier : Qualifier) (bound : Bound) → Closed kind text name qualifier bound
+    → SpellsAtom kind text (record { name = name; qualifier = qualifier; bound = Some bound })
 flat_closed kind text name qualifier bound h =
     let v = h.is_versioned in
     let c = v.is_compared in
@@ -80,7 +82,9 @@ flat_closed kind text name qualifier bound h =
       bound = inner;
       after = h.space;
       whole = h.parts
-          ∙ ap (λ (t : List ℕ). t ++ closing ∷ h.space) (v.parts ∙ ap (λ (t : List ℕ). t ++ (bound.version ++ v.space)) (c.parts ∙ ap (λ (t : List ℕ). t ++ (c.operator ++ c.space)) (o.parts ∙ ap (λ (t : List ℕ). t ++ (o.gap ++ opening ∷ o.space)) o.is_head.parts)))
+          ∙ ap (λ (t : List ℕ). t ++ closing ∷ h.space) (v.parts
+          ∙ ap (λ (t : List ℕ). t ++ (bound.version ++ v.space))
+          (c.parts ∙ ap (λ (t : List ℕ). t ++ (c.operator ++ c.space)) (o.parts ∙ ap (λ (t : List ℕ). t ++ (o.gap ++ opening ∷ o.space)) o.is_head.parts)))
           ∙ simp (append_assoc, behind, behind_nothing);
       blank_before = o.is_head.blank;
       blank_between = o.blank_gap;
@@ -90,16 +94,24 @@ flat_closed kind text name qualifier bound h =
       is_bound = is_bound;
     }
 
-pub flat : (kind : Kind) (text name : List ℕ) (qualifier : Qualifier) (bound : Option Bound) → SpellsBounded kind text name qualifier bound → SpellsAtom kind text (record { name = name; qualifier = qualifier; bound = bound })
+pub flat : (kind : Kind) (text name : List ℕ) (qualifier : Qualifier) (bound : Option Bound) → SpellsBounded kind text name qualifier bound
+    → SpellsAtom kind text (record { name = name; qualifier = qualifier; bound = bound })
 flat kind text name qualifier None h = flat_bare kind text name qualifier h
 flat kind text name qualifier (Some bound) h = flat_closed kind text name qualifier bound h
 
 -- ---- and back
 
-pub in_steps : (kind : Kind) (text name : List ℕ) (qualifier : Qualifier) (bound : Option Bound) → SpellsAtom kind text (record { name = name; qualifier = qualifier; bound = bound }) → SpellsBounded kind text name qualifier bound
+pub in_steps : (kind : Kind) (text name : List ℕ) (qualifier : Qualifier) (bound : Option Bound)
+    → SpellsAtom kind text (record { name = name; qualifier = qualifier; bound = bound }) → SpellsBounded kind text name qualifier bound
 in_steps kind text name qualifier None h =
     let head : List ℕ = h.before ++ (name ++ qualifier_text qualifier) in
-    let is_head : Head head name qualifier = record { space = h.before; blank = h.blank_before; is_name = h.is_name; is_qualifier = h.is_qualifier; parts = refl } in
+    let is_head : Head head name qualifier = record {
+      space = h.before;
+      blank = h.blank_before;
+      is_name = h.is_name;
+      is_qualifier = h.is_qualifier;
+      parts = refl;
+    } in
     record {
       head = head;
       space = h.between ++ h.after;
@@ -110,17 +122,43 @@ in_steps kind text name qualifier None h =
 in_steps kind text name qualifier (Some bound) h =
     let b = h.is_bound in
     let head : List ℕ = h.before ++ (name ++ qualifier_text qualifier) in
-    let is_head : Head head name qualifier = record { space = h.before; blank = h.blank_before; is_name = h.is_name; is_qualifier = h.is_qualifier; parts = refl } in
+    let is_head : Head head name qualifier = record {
+      space = h.before;
+      blank = h.blank_before;
+      is_name = h.is_name;
+      is_qualifier = h.is_qualifier;
+      parts = refl;
+    } in
     let opened : List ℕ = head ++ (h.between ++ (opening ∷ b.before)) in
-    let is_opened : Opened opened name qualifier = record { head = head; gap = h.between; space = b.before; is_head = is_head; blank_gap = h.blank_between; blank = b.blank_before; parts = refl } in
+    let is_opened : Opened opened name qualifier = record {
+      head = head;
+      gap = h.between;
+      space = b.before;
+      is_head = is_head;
+      blank_gap = h.blank_between;
+      blank = b.blank_before;
+      parts = refl;
+    } in
     let compared : List ℕ = opened ++ (b.operator ++ b.between) in
-    let is_compared : Compared kind compared name qualifier bound.op = record { opened = opened; operator = b.operator; space = b.between; is_opened = is_opened; is_operator = b.is_operator; allowed = b.allowed; blank = b.blank_between; parts = refl } in
+    let is_compared : Compared kind compared name qualifier bound.op =
+    record {
+      opened = opened;
+      operator = b.operator;
+      space = b.between;
+      is_opened = is_opened;
+      is_operator = b.is_operator;
+      allowed = b.allowed;
+      blank = b.blank_between;
+      parts = refl;
+    } in
     let versioned : List ℕ = compared ++ (bound.version ++ b.after) in
-    let is_versioned : Versioned kind versioned name qualifier bound = record { compared = compared; space = b.after; is_compared = is_compared; is_version = b.is_version; blank = b.blank_after; parts = refl } in
+    let is_versioned : Versioned kind versioned name qualifier bound =
+    record { compared = compared; space = b.after; is_compared = is_compared; is_version = b.is_version; blank = b.blank_after; parts = refl } in
     record {
       versioned = versioned;
       space = h.after;
       is_versioned = is_versioned;
       blank = h.blank_after;
-      parts = h.whole ∙ ap (λ (t : List ℕ). h.before ++ (name ++ (qualifier_text qualifier ++ (h.between ++ (t ++ h.after))))) b.whole ∙ simp (append_assoc, behind, behind_nothing);
+      parts = h.whole ∙ ap (λ (t : List ℕ). h.before ++ (name ++ (qualifier_text qualifier ++ (h.between ++ (t ++ h.after))))) b.whole
+          ∙ simp (append_assoc, behind, behind_nothing);
     }

@@ -32,7 +32,8 @@ name_again (b ∷ bs) r h stops =
     let all = name_bytes b bs h in
     let text : List ℕ = b ∷ (bs ++ r) in
     ap (λ (t : Bool). cond t (Ok (take_while is_name_byte text, past is_name_byte text)) (refuse BadName text)) (name_starts b bs h)
-    ∙ ok_pair (take_while is_name_byte text) (b ∷ bs) (past is_name_byte text) r (take_while-append is_name_byte (b ∷ bs) r all stops) (past-append is_name_byte (b ∷ bs) r all stops)
+    ∙ ok_pair (take_while is_name_byte text) (b ∷ bs) (past is_name_byte text) r (take_while-append is_name_byte (b ∷ bs) r all stops)
+    (past-append is_name_byte (b ∷ bs) r all stops)
 
 pub name_refused : (here : List ℕ) → Stops is_ascii_alphanumeric here → name_at here ≡ refuse BadName here
 unfolding name_at
@@ -49,7 +50,8 @@ pub record NameRead (text : List ℕ) : Type 0 where
 
 pub IsName-run : (b : ℕ) (bs : List ℕ) → is_ascii_alphanumeric b ≡ true → IsName (take_while is_name_byte (b ∷ bs))
 IsName-run b bs h =
-    subst IsName (sym (take_while-yes is_name_byte b bs (or_true (is_ascii_alphanumeric b) _ h))) (true_both (is_ascii_alphanumeric b) (list_all is_name_byte (take_while is_name_byte bs)) h (take_while_all is_name_byte bs))
+    subst IsName (sym (take_while-yes is_name_byte b bs (or_true (is_ascii_alphanumeric b) _ h)))
+    (true_both (is_ascii_alphanumeric b) (list_all is_name_byte (take_while is_name_byte bs)) h (take_while_all is_name_byte bs))
 
 name_cases_by : (t : Bool) (b : ℕ) (bs : List ℕ) → is_ascii_alphanumeric b ≡ t → NameRead (b ∷ bs) ⊎ (t ≡ false)
 name_cases_by false b bs h = inr refl
@@ -60,7 +62,14 @@ name_cases_by true b bs h =
     let parts : name ++ rest ≡ b ∷ bs = take_while-past is_name_byte (b ∷ bs) in
     let ends : Stops is_name_byte rest = past_stops is_name_byte (b ∷ bs) in
     let again : name_at (name ++ rest) ≡ Ok (name, rest) = name_again name rest is_name ends in
-    inl (record { name = name; rest = rest; is_name = is_name; parts = sym parts; ends = ends; read = subst (λ (text : List ℕ). name_at text ≡ Ok (name, rest)) parts again })
+    inl (record {
+      name = name;
+      rest = rest;
+      is_name = is_name;
+      parts = sym parts;
+      ends = ends;
+      read = subst (λ (text : List ℕ). name_at text ≡ Ok (name, rest)) parts again;
+    })
 
 pub name_cases : (text : List ℕ) → NameRead text ⊎ Stops is_ascii_alphanumeric text
 name_cases [] = inr tt
@@ -97,7 +106,14 @@ pub record QualifierFault (text : List ℕ) : Type 0 where
 colon_cases : (bs : List ℕ) → NameRead bs ⊎ Stops is_ascii_alphanumeric bs → QualifierRead (colon ∷ bs) ⊎ QualifierFault (colon ∷ bs)
 colon_cases bs (inl n) =
     let again : qualifier_at (colon ∷ (n.name ++ n.rest)) ≡ Ok (Named n.name, n.rest) = qualifier_again (Named n.name) n.rest n.is_name n.ends in
-    inl (record { qualifier = Named n.name; rest = n.rest; is_qualifier = n.is_name; parts = ap (λ (t : List ℕ). colon ∷ t) n.parts; ends = n.ends; read = subst (λ (t : List ℕ). qualifier_at (colon ∷ t) ≡ Ok (Named n.name, n.rest)) (sym n.parts) again })
+    inl (record {
+      qualifier = Named n.name;
+      rest = n.rest;
+      is_qualifier = n.is_name;
+      parts = ap (λ (t : List ℕ). colon ∷ t) n.parts;
+      ends = n.ends;
+      read = subst (λ (t : List ℕ). qualifier_at (colon ∷ t) ≡ Ok (Named n.name, n.rest)) (sym n.parts) again;
+    })
 colon_cases bs (inr h) = inr (record { here = bs; parts = refl; missing = h })
 
 qualifier_cases_by : (t : Bool) (b : ℕ) (bs : List ℕ) → eqb b colon ≡ t → Stops is_name_byte (b ∷ bs) → QualifierRead (b ∷ bs) ⊎ QualifierFault (b ∷ bs)
@@ -108,7 +124,14 @@ qualifier_cases_by true b bs e h =
     subst (λ (c : ℕ). QualifierRead (c ∷ bs) ⊎ QualifierFault (c ∷ bs)) (sym (eqb-true b colon e)) (colon_cases bs (name_cases bs))
 
 pub qualifier_cases : (text : List ℕ) → Stops is_name_byte text → QualifierRead text ⊎ QualifierFault text
-qualifier_cases [] h = inl (record { qualifier = Plain; rest = []; is_qualifier = tt; parts = refl; ends = (tt, tt); read = qualifier_again Plain [] tt (tt, tt) })
+qualifier_cases [] h = inl (record {
+  qualifier = Plain;
+  rest = [];
+  is_qualifier = tt;
+  parts = refl;
+  ends = (tt, tt);
+  read = qualifier_again Plain [] tt (tt, tt);
+})
 qualifier_cases (b ∷ bs) h = qualifier_cases_by (eqb b colon) b bs refl h
 
 -- ---- heads
@@ -132,7 +155,8 @@ pub head_again : (head name : List ℕ) (q : Qualifier) (r : List ℕ) → Head 
 unfolding head_at
 head_again head name q r h ends =
     let whole : head ++ r ≡ h.space ++ (name ++ (qualifier_text q ++ r)) = ap (λ (t : List ℕ). t ++ r) h.parts ∙ simp append_assoc in
-    let skipped : skip (head ++ r) ≡ name ++ (qualifier_text q ++ r) = ap skip whole ∙ past-append is_space h.space (name ++ (qualifier_text q ++ r)) h.blank (Stops-name name (qualifier_text q ++ r) h.is_name) in
+    let skipped : skip (head ++ r) ≡ name ++ (qualifier_text q ++ r) = ap skip whole
+    ∙ past-append is_space h.space (name ++ (qualifier_text q ++ r)) h.blank (Stops-name name (qualifier_text q ++ r) h.is_name) in
     ap (λ (t : List ℕ). from_name (name_at t)) skipped
     ∙ ap from_name (name_again name (qualifier_text q ++ r) h.is_name (Stops-qualifier q r ends))
     ∙ ap (from_qualifier name) (qualifier_again q r h.is_qualifier ends)
@@ -146,8 +170,11 @@ head_lacks_name text here h =
 pub head_lacks_qualifier : (text here : List ℕ) → QualifierMissing text here → head_at text ≡ refuse BadName here
 unfolding head_at
 head_lacks_qualifier text here h =
-    let whole : text ≡ h.is_head.space ++ (h.name ++ (colon ∷ here)) = h.parts ∙ ap (λ (t : List ℕ). t ++ (colon ∷ here)) (h.is_head.parts ∙ ap (λ (t : List ℕ). h.is_head.space ++ t) (append-nil h.name)) ∙ append_assoc h.is_head.space h.name (colon ∷ here) in
-    let skipped : skip text ≡ h.name ++ (colon ∷ here) = ap skip whole ∙ past-append is_space h.is_head.space (h.name ++ (colon ∷ here)) h.is_head.blank (Stops-name h.name (colon ∷ here) h.is_head.is_name) in
+    let whole : text ≡ h.is_head.space ++ (h.name ++ (colon ∷ here)) = h.parts
+    ∙ ap (λ (t : List ℕ). t ++ (colon ∷ here)) (h.is_head.parts ∙ ap (λ (t : List ℕ). h.is_head.space ++ t) (append-nil h.name))
+    ∙ append_assoc h.is_head.space h.name (colon ∷ here) in
+    let skipped : skip text ≡ h.name ++ (colon ∷ here) = ap skip whole
+    ∙ past-append is_space h.is_head.space (h.name ++ (colon ∷ here)) h.is_head.blank (Stops-name h.name (colon ∷ here) h.is_head.is_name) in
     ap (λ (t : List ℕ). from_name (name_at t)) skipped
     ∙ ap from_name (name_again h.name (colon ∷ here) h.is_head.is_name refl)
     ∙ ap (from_qualifier h.name) (qualifier_refused here h.missing)
@@ -167,20 +194,32 @@ pub record HeadFault (text : List ℕ) : Type 0 where
   pub has : NameMissing text here ⊎ QualifierMissing text here
   pub read : head_at text ≡ refuse BadName here
 
-named_cases : (text space : List ℕ) (n : NameRead (skip text)) → IsBlank space → text ≡ space ++ skip text → QualifierRead n.rest ⊎ QualifierFault n.rest → HeadRead text ⊎ HeadFault text
+named_cases : (text space : List ℕ) (n : NameRead (skip text)) → IsBlank space → text ≡ space ++ skip text → QualifierRead n.rest ⊎ QualifierFault n.rest
+    → HeadRead text ⊎ HeadFault text
 named_cases text space n blank split (inl q) =
     let head : List ℕ = space ++ (n.name ++ qualifier_text q.qualifier) in
     let is_head : Head head n.name q.qualifier = record { space = space; blank = blank; is_name = n.is_name; is_qualifier = q.is_qualifier; parts = refl } in
     let parts : text ≡ head ++ q.rest = split ∙ ap (λ (t : List ℕ). space ++ t) (n.parts ∙ ap (λ (t : List ℕ). n.name ++ t) q.parts) ∙ simp append_assoc in
-    inl (record { head = head; name = n.name; qualifier = q.qualifier; rest = q.rest; is_head = is_head; parts = parts; ends = q.ends; read = ap head_at parts ∙ head_again head n.name q.qualifier q.rest is_head q.ends })
+    inl (record {
+      head = head;
+      name = n.name;
+      qualifier = q.qualifier;
+      rest = q.rest;
+      is_head = is_head;
+      parts = parts;
+      ends = q.ends;
+      read = ap head_at parts ∙ head_again head n.name q.qualifier q.rest is_head q.ends;
+    })
 named_cases text space n blank split (inr f) =
     let head : List ℕ = space ++ (n.name ++ []) in
     let is_head : Head head n.name Plain = record { space = space; blank = blank; is_name = n.is_name; is_qualifier = tt; parts = refl } in
-    let parts : text ≡ head ++ (colon ∷ f.here) = split ∙ ap (λ (t : List ℕ). space ++ t) (n.parts ∙ ap (λ (t : List ℕ). n.name ++ t) f.parts) ∙ simp append_assoc in
+    let parts : text ≡ head ++ (colon ∷ f.here) = split ∙ ap (λ (t : List ℕ). space ++ t) (n.parts ∙ ap (λ (t : List ℕ). n.name ++ t) f.parts)
+    ∙ simp append_assoc in
     let missing : QualifierMissing text f.here = record { name = n.name; head = head; is_head = is_head; parts = parts; missing = f.missing } in
     inr (record { here = f.here; has = inr missing; read = head_lacks_qualifier text f.here missing })
 
-skipped_cases : (text space : List ℕ) → IsBlank space → text ≡ space ++ skip text → NameRead (skip text) ⊎ Stops is_ascii_alphanumeric (skip text) → HeadRead text ⊎ HeadFault text
+skipped_cases : (text space : List ℕ) → IsBlank space → text ≡ space ++ skip text → NameRead (skip text) ⊎ Stops is_ascii_alphanumeric (skip text)
+    → HeadRead text ⊎ HeadFault text
 skipped_cases text space blank split (inl n) = named_cases text space n blank split (qualifier_cases n.rest n.ends)
 skipped_cases text space blank split (inr h) =
     let missing : NameMissing text (skip text) = record { space = space; blank = blank; parts = split; skipped = past_stops is_space text; missing = h } in

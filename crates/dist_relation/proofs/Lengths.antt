@@ -28,11 +28,19 @@ atom-takes kind text atom spells =
     let rest : List ℕ = qualifier_text atom.qualifier ++ (spells.between ++ (spells.bound ++ spells.after)) in
     omega (arith, name-some atom.name spells.is_name, ap length spells.whole, length-append spells.before (atom.name ++ rest), length-append atom.name rest)
 
-pub joined-takes : {X : Type 0} (weight : X → ℕ) (between : ℕ) (Spells : List ℕ → X → Type 0) → TakesBytes weight Spells → TakesBytes (sum_by weight) (Joined between Spells)
+pub joined-takes : {X : Type 0} (weight : X → ℕ) (between : ℕ) (Spells : List ℕ → X → Type 0) → TakesBytes weight Spells
+    → TakesBytes (sum_by weight) (Joined between Spells)
 joined-takes weight between Spells takes text [] joined = absurd (false≢true joined)
 joined-takes weight between Spells takes text (x ∷ []) joined = omega (arith, sum_by-cons weight x [], takes text x joined)
 joined-takes weight between Spells takes text (x ∷ y ∷ ys) joined =
-    omega (arith, sum_by-cons weight x (y ∷ ys), takes joined.0 x joined.2, joined-takes weight between Spells takes joined.1 (y ∷ ys) joined.3, ap length joined.4, length-append joined.0 (between ∷ joined.1))
+    omega (
+      arith,
+      sum_by-cons weight x (y ∷ ys),
+      takes joined.0 x joined.2,
+      joined-takes weight between Spells takes joined.1 (y ∷ ys) joined.3,
+      ap length joined.4,
+      length-append joined.0 (between ∷ joined.1),
+    )
 
 joined-some : {X : Type 0} (between : ℕ) (Spells : List ℕ → X → Type 0) (text : List ℕ) (xs : List X) → Joined between Spells text xs → 0 < length xs
 joined-some between Spells text [] joined = absurd (false≢true joined)
@@ -47,7 +55,8 @@ piece-takes : {X : Type 0} (weight : X → ℕ) (Spells : List ℕ → X → Typ
 piece-takes weight Spells takes text None spells = omega arith
 piece-takes weight Spells takes text (Some x) spells = takes text x spells
 
-pieces-weight : {X : Type 0} (weight : X → ℕ) (pieces : List (Option X)) → sum_by weight (filter_map (λ piece. piece) pieces) ≡ sum_by (piece_weight weight) pieces
+pieces-weight : {X : Type 0} (weight : X → ℕ) (pieces : List (Option X))
+    → sum_by weight (filter_map (λ piece. piece) pieces) ≡ sum_by (piece_weight weight) pieces
 pieces-weight weight [] = refl
 pieces-weight weight (None ∷ pieces) = omega (arith, sum_by-cons (piece_weight weight) None pieces, pieces-weight weight pieces)
 pieces-weight weight (Some x ∷ pieces) =
@@ -55,7 +64,12 @@ pieces-weight weight (Some x ∷ pieces) =
 
 pub reads-takes : {X : Type 0} (weight : X → ℕ) (Spells : List ℕ → X → Type 0) → TakesBytes weight Spells → TakesBytes (sum_by weight) (Reads Spells)
 reads-takes weight Spells takes value items reads =
-    omega (arith, joined-takes (piece_weight weight) comma (SpellsPiece Spells) (piece-takes weight Spells takes) value reads.pieces reads.joined, pieces-weight weight reads.pieces, ap (sum_by weight) reads.given)
+    omega (
+      arith,
+      joined-takes (piece_weight weight) comma (SpellsPiece Spells) (piece-takes weight Spells takes) value reads.pieces reads.joined,
+      pieces-weight weight reads.pieces,
+      ap (sum_by weight) reads.given,
+    )
 
 pub alternatives-take : TakesBytes (λ atoms. length atoms) SpellsAlternatives
 alternatives-take text atoms spells =
@@ -64,7 +78,8 @@ alternatives-take text atoms spells =
 pub provide-takes : TakesBytes (λ provide. 1) SpellsProvide
 provide-takes text provide spells = atom-takes kinds.Provides text _ spells
 
-pub counted : {X : Type 0} (Spells : List ℕ → X → Type 0) → TakesBytes (λ x. 1) Spells → (value : List ℕ) (items : List X) → Reads Spells value items → length items ≤ length value
+pub counted : {X : Type 0} (Spells : List ℕ → X → Type 0) → TakesBytes (λ x. 1) Spells → (value : List ℕ) (items : List X) → Reads Spells value items
+    → length items ≤ length value
 counted Spells takes value items reads = omega (arith, count-is items, reads-takes (λ x. 1) Spells takes value items reads)
 
 -- ---- each item has an atom
@@ -80,5 +95,6 @@ pieces-all P between Spells has text (Some x ∷ y ∷ ys) joined = (has joined.
 pub items-some : (value : List ℕ) (items : List (List Atom)) → ReadsDepends value items → All (λ item. 0 < length item) items
 items-some value items reads =
     let Some : List Atom → Type 0 = λ item. 0 < length item in
-    let all = All-from_recursion Some _ (pieces-all Some comma SpellsAlternatives (joined-some bar (SpellsAtom kinds.Depends)) value reads.pieces reads.joined) in
+    let all = All-from_recursion Some _ (pieces-all Some comma SpellsAlternatives (joined-some bar (SpellsAtom kinds.Depends)) value reads.pieces reads.joined)
+    in
     subst (All Some) (sym reads.given) all

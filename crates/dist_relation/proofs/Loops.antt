@@ -1,5 +1,6 @@
 -- Loops that read several things one after the other, with a byte between each two.
-use Rattle.std.proofs.Common.{◌≡◌, ℕ, zero, suc, ◌<◌, ◌≤◌, Bool, true, false, eqb, cond, List, [], ◌∷◌, ◌++◌, length, refl, sym, ap, ◌∙◌, append_assoc, append-nil, length-append, Option, None, Some, eq-eqb, arith}
+use Rattle.std.proofs.Common.{◌≡◌, ℕ, zero, suc, ◌<◌, ◌≤◌, Bool, true, false, eqb, cond, List, [], ◌∷◌, ◌++◌, length, refl, sym, ap, ◌∙◌, append_assoc}
+use Rattle.std.proofs.Common.{append-nil, length-append, Option, None, Some, eq-eqb, arith}
 use Rattle.std.proofs.lemmas.Bool.{eqb-true}
 use Rattle.std.specs.List.{filter_map, take_while}
 use Rattle.std.specs.Option.{option_to_list}
@@ -21,7 +22,8 @@ with_entries front read = read >>= λ y. Ok (front ++ filter_map (λ piece. piec
 skip_shorter : (text : List ℕ) → length (skip text) ≤ length text
 skip_shorter text = omega (arith, ap length (take_while-past is_space text), length-append (take_while is_space text) (skip text))
 
-module _ {X : Type 0} (between : ℕ) (one : List ℕ → Result (X × List ℕ) Fault) (shorter : (text : List ℕ) (x : X) (rest : List ℕ) → one text ≡ Ok (x, rest) → length rest ≤ length text) where
+module _ {X : Type 0} (between : ℕ) (one : List ℕ → Result (X × List ℕ) Fault)
+    (shorter : (text : List ℕ) (x : X) (rest : List ℕ) → one text ≡ Ok (x, rest) → length rest ≤ length text) where
   abbrev next : ℕ → X × List ℕ → Result (List X × List ℕ) Fault
   next n x = then_more between x.0 x.1 (joined_at between one n)
 
@@ -34,7 +36,8 @@ module _ {X : Type 0} (between : ℕ) (one : List ℕ → Result (X × List ℕ)
   abbrev stop_at : X → List ℕ → Result (List X × List ℕ) Fault
   stop_at x rest = Ok (x ∷ [], rest)
 
-  next_same : (n m : ℕ) (x : X) (rest : List ℕ) → ((bs : List ℕ) → length bs < length rest → joined_at between one n bs ≡ joined_at between one m bs) → next n (x, rest) ≡ next m (x, rest)
+  next_same : (n m : ℕ) (x : X) (rest : List ℕ) → ((bs : List ℕ) → length bs < length rest → joined_at between one n bs ≡ joined_at between one m bs)
+      → next n (x, rest) ≡ next m (x, rest)
   next_same n m x [] ih = refl
   next_same n m x (b ∷ bs) ih = ap (λ (r : Result (List X × List ℕ) Fault). cond (eqb b between) (onto x r) (stop_at x (b ∷ bs))) (ih bs (omega arith))
 
@@ -45,7 +48,9 @@ module _ {X : Type 0} (between : ℕ) (one : List ℕ → Result (X × List ℕ)
   same_count (suc n) zero text p q = absurd (omega arith)
   same_count (suc n) (suc m) text p q = by_one (one text) refl (same_count n)
     where
-      by_one : (x : Result (X × List ℕ) Fault) → one text ≡ x → ((m : ℕ) (bs : List ℕ) → length bs < n → length bs < m → joined_at between one n bs ≡ joined_at between one m bs) → after_one n (one text) ≡ after_one m (one text)
+      by_one : (x : Result (X × List ℕ) Fault) → one text ≡ x
+          → ((m : ℕ) (bs : List ℕ) → length bs < n → length bs < m → joined_at between one n bs ≡ joined_at between one m bs)
+          → after_one n (one text) ≡ after_one m (one text)
       by_one (Err f) e ih = ap (after_one n) e ∙ sym (ap (after_one m) e)
       by_one (Ok x) e ih =
           let less : length x.1 ≤ length text = shorter text x.0 x.1 e in
@@ -91,11 +96,13 @@ module _ {X : Type 0} (between : ℕ) (one : List ℕ → Result (X × List ℕ)
           rest_more text x bs (e ∙ ap (λ (k : ℕ). with_rest (k ∷ bs)) (eqb-true b between is))
       by_byte false is = rest_last text x (b ∷ bs) e is
 
-  pub others_fail : (e : ReadError) (text : List ℕ) (x : X) (rest : List ℕ) → one text ≡ Ok (x, rest) → Fails e (others_at between rest_of rest) → Fails e (rest_of text)
+  pub others_fail : (e : ReadError) (text : List ℕ) (x : X) (rest : List ℕ) → one text ≡ Ok (x, rest) → Fails e (others_at between rest_of rest)
+      → Fails e (rest_of text)
   others_fail stops.NoMemory text x rest read h = tt
   others_fail (stops.Fault f) text x rest read h = first_and_others text x rest read ∙ ap (onto x) h
 
-  pub with_others : (text : List ℕ) (x : X) (rest : List ℕ) (others : List X × List ℕ) → one text ≡ Ok (x, rest) → others_at between rest_of rest ≡ Ok others → rest_of text ≡ Ok (x ∷ others.0, others.1)
+  pub with_others : (text : List ℕ) (x : X) (rest : List ℕ) (others : List X × List ℕ) → one text ≡ Ok (x, rest) → others_at between rest_of rest ≡ Ok others
+      → rest_of text ≡ Ok (x ∷ others.0, others.1)
   with_others text x rest others read h = first_and_others text x rest read ∙ ap (onto x) h
 
   -- ---- a list of them
@@ -114,19 +121,23 @@ module _ {X : Type 0} (between : ℕ) (one : List ℕ → Result (X × List ℕ)
   onto_front front x (Ok y) = ap (λ (items : List X). done items y.1) (sym (append_assoc front (x ∷ []) y.0))
   onto_front front x (Err f) = refl
 
-  pub loop_more : (front : List X) (text : List ℕ) (x : X) (tail : List ℕ) (total : Result (List X × List ℕ) Fault) → one text ≡ Ok (x, between ∷ tail) → with_front front (rest_of text) ≡ total → with_front (front ++ x ∷ []) (rest_of tail) ≡ total
+  pub loop_more : (front : List X) (text : List ℕ) (x : X) (tail : List ℕ) (total : Result (List X × List ℕ) Fault) → one text ≡ Ok (x, between ∷ tail)
+      → with_front front (rest_of text) ≡ total → with_front (front ++ x ∷ []) (rest_of tail) ≡ total
   loop_more front text x tail total e so_far = sym (ap (with_front front) (rest_more text x tail e) ∙ onto_front front x (rest_of tail)) ∙ so_far
 
-  pub loop_last : (front : List X) (text : List ℕ) (x : X) (rest : List ℕ) (total : Result (List X × List ℕ) Fault) → one text ≡ Ok (x, rest) → Stops (λ b. eqb b between) rest → with_front front (rest_of text) ≡ total → total ≡ Ok (front ++ x ∷ [], rest)
+  pub loop_last : (front : List X) (text : List ℕ) (x : X) (rest : List ℕ) (total : Result (List X × List ℕ) Fault) → one text ≡ Ok (x, rest)
+      → Stops (λ b. eqb b between) rest → with_front front (rest_of text) ≡ total → total ≡ Ok (front ++ x ∷ [], rest)
   loop_last front text x rest total e h so_far = sym so_far ∙ ap (with_front front) (rest_last text x rest e h)
 
-  pub loop_fails : (e : ReadError) (front : List X) (text : List ℕ) (total : Result (List X × List ℕ) Fault) → Fails e (one text) → with_front front (rest_of text) ≡ total → Fails e total
+  pub loop_fails : (e : ReadError) (front : List X) (text : List ℕ) (total : Result (List X × List ℕ) Fault) → Fails e (one text)
+      → with_front front (rest_of text) ≡ total → Fails e total
   loop_fails stops.NoMemory front text total h so_far = tt
   loop_fails (stops.Fault f) front text total h so_far = sym so_far ∙ ap (with_front front) (rest_fails text f h)
 
 -- ---- the entries of pieces, of which some have none
 
-module _ {X : Type 0} (one : List ℕ → Result (X × List ℕ) Fault) (shorter : (text : List ℕ) (piece : Option X) (rest : List ℕ) → piece_at one text ≡ Ok (piece, rest) → length rest ≤ length text) where
+module _ {X : Type 0} (one : List ℕ → Result (X × List ℕ) Fault)
+    (shorter : (text : List ℕ) (piece : Option X) (rest : List ℕ) → piece_at one text ≡ Ok (piece, rest) → length rest ≤ length text) where
   abbrev pieces_of : List ℕ → Result (List (Option X) × List ℕ) Fault
   pieces_of text = joined_at comma (piece_at one) (suc (length text)) text
 
@@ -141,22 +152,29 @@ module _ {X : Type 0} (one : List ℕ → Result (X × List ℕ) Fault) (shorter
       by_read (Ok y) = refl
       by_read (Err f) = refl
 
-  onto_entries : (front : List X) (piece : Option X) (read : Result (List (Option X) × List ℕ) Fault) → with_entries front (read >>= λ y. Ok (piece ∷ y.0, y.1)) ≡ with_entries (front ++ option_to_list piece) read
+  onto_entries : (front : List X) (piece : Option X) (read : Result (List (Option X) × List ℕ) Fault)
+      → with_entries front (read >>= λ y. Ok (piece ∷ y.0, y.1)) ≡ with_entries (front ++ option_to_list piece) read
   onto_entries front None (Ok y) = ap (λ (items : List X). entries_done (items ++ filter_map (λ piece. piece) y.0)) (sym (append-nil front))
   onto_entries front (Some x) (Ok y) = ap entries_done (sym (append_assoc front (x ∷ []) (filter_map (λ piece. piece) y.0)))
   onto_entries front piece (Err f) = refl
 
-  pub entries_more : (front : List X) (text : List ℕ) (piece : Option X) (tail : List ℕ) (total : Result (List X) Fault) → piece_at one text ≡ Ok (piece, comma ∷ tail) → with_entries front (pieces_of text) ≡ total → with_entries (front ++ option_to_list piece) (pieces_of tail) ≡ total
-  entries_more front text piece tail total e so_far = sym (ap (with_entries front) (rest_more comma (piece_at one) shorter text piece tail e) ∙ onto_entries front piece (pieces_of tail)) ∙ so_far
+  pub entries_more : (front : List X) (text : List ℕ) (piece : Option X) (tail : List ℕ) (total : Result (List X) Fault)
+      → piece_at one text ≡ Ok (piece, comma ∷ tail) → with_entries front (pieces_of text) ≡ total
+      → with_entries (front ++ option_to_list piece) (pieces_of tail) ≡ total
+  entries_more front text piece tail total e so_far = sym (ap (with_entries front) (rest_more comma (piece_at one) shorter text piece tail e)
+      ∙ onto_entries front piece (pieces_of tail)) ∙ so_far
 
   last_entries : (front : List X) (piece : Option X) → front ++ filter_map (λ piece. piece) (piece ∷ []) ≡ front ++ option_to_list piece
   last_entries front None = refl
   last_entries front (Some x) = refl
 
-  pub entries_last : (front : List X) (text : List ℕ) (piece : Option X) (rest : List ℕ) (total : Result (List X) Fault) → piece_at one text ≡ Ok (piece, rest) → Stops (λ b. eqb b comma) rest → with_entries front (pieces_of text) ≡ total → total ≡ Ok (front ++ option_to_list piece)
-  entries_last front text piece rest total e h so_far = sym so_far ∙ ap (with_entries front) (rest_last comma (piece_at one) shorter text piece rest e h) ∙ ap entries_done (last_entries front piece)
+  pub entries_last : (front : List X) (text : List ℕ) (piece : Option X) (rest : List ℕ) (total : Result (List X) Fault) → piece_at one text ≡ Ok (piece, rest)
+      → Stops (λ b. eqb b comma) rest → with_entries front (pieces_of text) ≡ total → total ≡ Ok (front ++ option_to_list piece)
+  entries_last front text piece rest total e h so_far = sym so_far ∙ ap (with_entries front) (rest_last comma (piece_at one) shorter text piece rest e h)
+      ∙ ap entries_done (last_entries front piece)
 
-  pub entries_fail : (e : ReadError) (front : List X) (text : List ℕ) (total : Result (List X) Fault) → Fails e (piece_at one text) → with_entries front (pieces_of text) ≡ total → Fails e total
+  pub entries_fail : (e : ReadError) (front : List X) (text : List ℕ) (total : Result (List X) Fault) → Fails e (piece_at one text)
+      → with_entries front (pieces_of text) ≡ total → Fails e total
   entries_fail stops.NoMemory front text total h so_far = tt
   entries_fail (stops.Fault f) front text total h so_far = sym so_far ∙ ap (with_entries front) (rest_fails comma (piece_at one) shorter text f h)
 
@@ -169,12 +187,16 @@ left_of (Ok y) = y.1
 left_of (Err f) = []
 
 -- a piece leaves no more than was there where an entry does
-piece_shorter_by : {X : Type 0} (t : Bool) (one : List ℕ → Result (X × List ℕ) Fault) (text : List ℕ) (read : Result (X × List ℕ) Fault) (piece : Option X) (rest : List ℕ)
-    → ((x : X) (rest : List ℕ) → read ≡ Ok (x, rest) → length rest ≤ length text) → cond t (piece_done None (skip text)) (read >>= λ x. piece_done (Some x.0) x.1) ≡ piece_done piece rest → length rest ≤ length text
+piece_shorter_by : {X : Type 0} (t : Bool) (one : List ℕ → Result (X × List ℕ) Fault) (text : List ℕ) (read : Result (X × List ℕ) Fault) (piece : Option X)
+    (rest : List ℕ)
+    → ((x : X) (rest : List ℕ) → read ≡ Ok (x, rest) → length rest ≤ length text)
+    → cond t (piece_done None (skip text)) (read >>= λ x. piece_done (Some x.0) x.1) ≡ piece_done piece rest → length rest ≤ length text
 piece_shorter_by true one text read piece rest h e = omega (arith, ap (λ r. length (left_of r)) e, skip_shorter text)
 piece_shorter_by false one text (Ok x) piece rest h e = omega (arith, ap (λ r. length (left_of r)) e, h x.0 x.1 refl)
 piece_shorter_by false one text (Err f) piece rest h e = absurd cc
 
-pub piece_shorter : {X : Type 0} (one : List ℕ → Result (X × List ℕ) Fault) → ((text : List ℕ) (x : X) (rest : List ℕ) → one text ≡ Ok (x, rest) → length rest ≤ length text) → (text : List ℕ) (piece : Option X) (rest : List ℕ) → piece_at one text ≡ Ok (piece, rest) → length rest ≤ length text
+pub piece_shorter : {X : Type 0} (one : List ℕ → Result (X × List ℕ) Fault)
+    → ((text : List ℕ) (x : X) (rest : List ℕ) → one text ≡ Ok (x, rest) → length rest ≤ length text) → (text : List ℕ) (piece : Option X) (rest : List ℕ)
+    → piece_at one text ≡ Ok (piece, rest) → length rest ≤ length text
 unfolding piece_at
 piece_shorter one h text piece rest e = piece_shorter_by (ends_piece (skip text)) one text (one text) piece rest (h text) e

@@ -1,5 +1,6 @@
 -- The reader of a piece, which is white space alone or one item, and the reader of a value, which is pieces with commas between them.
-use Rattle.std.proofs.Common.{◌≡◌, ℕ, suc, Bool, true, false, true≢false, ◌⊎◌, inl, inr, cond, List, [], ◌∷◌, ◌++◌, length, refl, sym, ap, ◌∙◌, subst, append-nil, Option, None, Some}
+use Rattle.std.proofs.Common.{◌≡◌, ℕ, suc, Bool, true, false, true≢false, ◌⊎◌, inl, inr, cond, List, [], ◌∷◌, ◌++◌, length, refl, sym, ap, ◌∙◌, subst}
+use Rattle.std.proofs.Common.{append-nil, Option, None, Some}
 use Rattle.std.specs.List.{filter_map, take_while}
 use Rattle.std.specs.Prelude.{Result, Ok, Err}
 use Rattle.dist_relation.specs.declared.error.Fault.{Fault}
@@ -24,7 +25,13 @@ ends_from (b ∷ bs) h = h
 
 -- white space up to a comma or the end is what is passed over
 pub passed_over : (text : List ℕ) → ends_piece (skip text) ≡ true → PassedOver text
-passed_over text h = record { space = take_while is_space text; rest = skip text; blank = take_while_all is_space text; parts = sym (take_while-past is_space text); ends = passes_over (skip text) h }
+passed_over text h = record {
+  space = take_while is_space text;
+  rest = skip text;
+  blank = take_while_all is_space text;
+  parts = sym (take_while-past is_space text);
+  ends = passes_over (skip text) h;
+}
 
 comma_stops : (rest : List ℕ) → Meets is_comma rest → Stops is_space rest
 comma_stops rest h = Stops-meets is_space is_comma rest (fails_at is_space comma refl) h
@@ -46,14 +53,16 @@ pub record PieceFaulty (Faulty : List ℕ → Fault → Type 0) (text : List ℕ
 
 -- A whole value spells items, which are read, or has a fault, for which it is refused.
 pub record ValueLaws {X : Type 0} (Spells : List ℕ → X → Type 0) (Faulty : List ℕ → Fault → Type 0) (one : List ℕ → Result (X × List ℕ) Fault) : Type 0 where
-  pub cases : (value : List ℕ) → ((items : List X) × Reads Spells value items) ⊎ ((fault : Fault) × JoinedFaulty comma (SpellsPiece Spells) (PieceFaulty Faulty) value fault)
+  pub cases : (value : List ℕ) → ((items : List X) × Reads Spells value items)
+      ⊎ ((fault : Fault) × JoinedFaulty comma (SpellsPiece Spells) (PieceFaulty Faulty) value fault)
   pub again : (value : List ℕ) (items : List X) → Reads Spells value items → items_of one value ≡ Ok items
   pub refused : (value : List ℕ) (fault : Fault) → JoinedFaulty comma (SpellsPiece Spells) (PieceFaulty Faulty) value fault → items_of one value ≡ Err fault
 
 abbrev pub finished : {X : Type 0} → List X → Result (List X) Fault
 finished items = Ok items
 
-module _ {X : Type 0} (Spells : List ℕ → X → Type 0) (Faulty : List ℕ → Fault → Type 0) (one : List ℕ → Result (X × List ℕ) Fault) (reader : Reader Spells is_comma Faulty one) (needed : (text : List ℕ) → PassedOver text → (fault : Fault) × (one text ≡ Err fault)) where
+module _ {X : Type 0} (Spells : List ℕ → X → Type 0) (Faulty : List ℕ → Fault → Type 0) (one : List ℕ → Result (X × List ℕ) Fault)
+    (reader : Reader Spells is_comma Faulty one) (needed : (text : List ℕ) → PassedOver text → (fault : Fault) × (one text ≡ Err fault)) where
   abbrev given : Result (X × List ℕ) Fault → Result (Option X × List ℕ) Fault
   given x = x >>= λ y. Ok (Some y.0, y.1)
 
@@ -68,7 +77,8 @@ module _ {X : Type 0} (Spells : List ℕ → X → Type 0) (Faulty : List ℕ �
   piece_cases : (text : List ℕ) → Found (SpellsPiece Spells) is_comma text ⊎ ((fault : Fault) × PieceFaulty Faulty text fault)
   piece_cases text = by_test (ends_piece (skip text)) refl
     where
-      by_item : (ends_piece (skip text) ≡ false) → Found Spells is_comma text ⊎ ((fault : Fault) × Faulty text fault) → Found (SpellsPiece Spells) is_comma text ⊎ ((fault : Fault) × PieceFaulty Faulty text fault)
+      by_item : (ends_piece (skip text) ≡ false) → Found Spells is_comma text ⊎ ((fault : Fault) × Faulty text fault) → Found (SpellsPiece Spells) is_comma text
+          ⊎ ((fault : Fault) × PieceFaulty Faulty text fault)
       by_item e (inl f) = inl (record { front = f.front; item = Some f.item; rest = f.rest; spelled = f.spelled; parts = f.parts; stops = f.stops })
       by_item e (inr (fault, f)) = inr (fault, record { not_passed_over = λ p. true≢false (sym (ends_passed text p) ∙ e); faulty = f })
 
@@ -85,7 +95,8 @@ module _ {X : Type 0} (Spells : List ℕ → X → Type 0) (Faulty : List ℕ �
       let clash : done item rest ≡ Err refused.0 = sym (reader.again front item rest h stops) ∙ refused.1 in
       absurd cc)
 
-  piece_again : (front : List ℕ) (piece : Option X) (rest : List ℕ) → SpellsPiece Spells front piece → Meets is_comma rest → piece_at one (front ++ rest) ≡ done piece rest
+  piece_again : (front : List ℕ) (piece : Option X) (rest : List ℕ) → SpellsPiece Spells front piece → Meets is_comma rest
+      → piece_at one (front ++ rest) ≡ done piece rest
   piece_again front None rest h stops =
       let skipped : skip (front ++ rest) ≡ rest = skipped_to front rest h stops in
       piece_none (front ++ rest) (ap ends_piece skipped ∙ ends_from rest stops) ∙ ap (done None) skipped
@@ -107,7 +118,8 @@ module _ {X : Type 0} (Spells : List ℕ → X → Type 0) (Faulty : List ℕ �
   comma_between : EndsBetween is_comma never comma
   comma_between = record { one_ends = refl; goes_on = refl; both = λ b h. absurd (true≢false (sym h)); last = λ b h e. absurd (true≢false (sym h ∙ e)) }
 
-  pieces_reader : Reader (Joined comma (SpellsPiece Spells)) never (JoinedFaulty comma (SpellsPiece Spells) (PieceFaulty Faulty)) (λ text. joined_at comma (piece_at one) (suc (length text)) text)
+  pieces_reader : Reader (Joined comma (SpellsPiece Spells)) never (JoinedFaulty comma (SpellsPiece Spells) (PieceFaulty Faulty))
+      (λ text. joined_at comma (piece_at one) (suc (length text)) text)
   pieces_reader = joined_reader (SpellsPiece Spells) is_comma never comma (PieceFaulty Faulty) (piece_at one) piece_reader comma_between
 
   abbrev items_given : Result (List (Option X) × List ℕ) Fault → Result (List X) Fault
@@ -128,14 +140,23 @@ module _ {X : Type 0} (Spells : List ℕ → X → Type 0) (Faulty : List ℕ �
   unfolding items_of
   value_refused value fault h = ap items_given (pieces_reader.refused value fault h)
 
-  value_cases : (value : List ℕ) → ((items : List X) × Reads Spells value items) ⊎ ((fault : Fault) × JoinedFaulty comma (SpellsPiece Spells) (PieceFaulty Faulty) value fault)
+  value_cases : (value : List ℕ) → ((items : List X) × Reads Spells value items)
+      ⊎ ((fault : Fault) × JoinedFaulty comma (SpellsPiece Spells) (PieceFaulty Faulty) value fault)
   value_cases value = by_pieces (pieces_reader.cases value)
     where
-      by_pieces : Found (Joined comma (SpellsPiece Spells)) never value ⊎ ((fault : Fault) × JoinedFaulty comma (SpellsPiece Spells) (PieceFaulty Faulty) value fault)
+      by_pieces : Found (Joined comma (SpellsPiece Spells)) never value
+          ⊎ ((fault : Fault) × JoinedFaulty comma (SpellsPiece Spells) (PieceFaulty Faulty) value fault)
           → ((items : List X) × Reads Spells value items) ⊎ ((fault : Fault) × JoinedFaulty comma (SpellsPiece Spells) (PieceFaulty Faulty) value fault)
       by_pieces (inl f) =
           let whole : f.front ≡ value = sym (f.parts ∙ ap (λ (t : List ℕ). f.front ++ t) (nothing_left f.rest f.stops) ∙ append-nil f.front) in
-          inl (filter_map (λ piece. piece) f.item, record { pieces = f.item; joined = subst (λ (t : List ℕ). Joined comma (SpellsPiece Spells) t f.item) whole f.spelled; given = refl })
+          inl (
+            filter_map (λ piece. piece) f.item,
+            record {
+              pieces = f.item;
+              joined = subst (λ (t : List ℕ). Joined comma (SpellsPiece Spells) t f.item) whole f.spelled;
+              given = refl;
+            },
+          )
       by_pieces (inr f) = inr f
 
   pub value_laws : ValueLaws Spells Faulty one

@@ -30,7 +30,8 @@ past-append test (b ∷ a) r all stops =
     let q = p.0 in
     rw q (past-append test a r p.1 stops)
 
-take_while_then : (test : ℕ → Bool) (b : ℕ) (bs : List ℕ) (t : Bool) → cond t (b ∷ take_while test bs) [] ++ cond t (past test bs) (b ∷ bs) ≡ cond t (b ∷ (take_while test bs ++ past test bs)) (b ∷ bs)
+take_while_then : (test : ℕ → Bool) (b : ℕ) (bs : List ℕ) (t : Bool)
+    → cond t (b ∷ take_while test bs) [] ++ cond t (past test bs) (b ∷ bs) ≡ cond t (b ∷ (take_while test bs ++ past test bs)) (b ∷ bs)
 unfolding past
 take_while_then test b bs true = refl
 take_while_then test b bs false = refl

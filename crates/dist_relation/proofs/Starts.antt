@@ -8,7 +8,8 @@ use Rattle.dist_relation.specs.Bytes.{is_name_byte, IsName}
 use Rattle.dist_relation.specs.Reading.{past}
 use Rattle.dist_relation.proofs.Heads.{IsName-run}
 
-past_by : (t : Bool) (test : ℕ → Bool) (b : ℕ) (bs : List ℕ) → past test bs ≡ drop (prefix_len test bs) bs → cond t (past test bs) (b ∷ bs) ≡ drop (cond t (1 + prefix_len test bs) 0) (b ∷ bs)
+past_by : (t : Bool) (test : ℕ → Bool) (b : ℕ) (bs : List ℕ) → past test bs ≡ drop (prefix_len test bs) bs
+    → cond t (past test bs) (b ∷ bs) ≡ drop (cond t (1 + prefix_len test bs) 0) (b ∷ bs)
 past_by true test b bs h =
     let one : 1 + prefix_len test bs ≡ suc (prefix_len test bs) = omega arith in
     h ∙ ap (λ (n : ℕ). drop n (b ∷ bs)) (sym one)

@@ -1,5 +1,6 @@
 -- The three kinds of values: what is read is spelled, what is refused has that first fault, and each value has one answer.
-use Rattle.std.proofs.Common.{◌≡◌, ◌≢◌, ℕ, suc, ◌-◌, Bool, true, false, true≢false, ◌||◌, ◌&&◌, ◌⊎◌, inl, inr, eqb, List, [], ◌∷◌, ◌++◌, length, length-append, ◌≤◌, arith, refl, sym, ap, ◌∙◌, subst, Option, None, Some, option_map}
+use Rattle.std.proofs.Common.{◌≡◌, ◌≢◌, ℕ, suc, ◌-◌, Bool, true, false, true≢false, ◌||◌, ◌&&◌, ◌⊎◌, inl, inr, eqb, List, [], ◌∷◌, ◌++◌, length, length-append}
+use Rattle.std.proofs.Common.{◌≤◌, arith, refl, sym, ap, ◌∙◌, subst, Option, None, Some, option_map}
 use Rattle.std.specs.List.{take_while}
 use Rattle.std.specs.Char.{is_ascii_alphanumeric}
 use Rattle.std.specs.Prelude.{Result, Ok, Err}
@@ -22,7 +23,8 @@ use Rattle.dist_version.specs.declared.error.VersionError.{VersionError}
 use Rattle.dist_version.specs.TextLaws.{no_memory_fault}
 use Rattle.dist_relation.specs.declared.error.RelationError.{RelationError}
 use Rattle.dist_relation.specs.Bytes.{is_space, is_word_byte, is_comma, comma, bar, Meets}
-use Rattle.dist_relation.specs.Grammar.{allows_operator, SpellsBound, SpellsBoundOf, SpellsAtom, Ended, SpellsPiece, Reads, SpellsAlternatives, atom_of, SpellsProvide}
+use Rattle.dist_relation.specs.Grammar.{allows_operator, SpellsBound, SpellsBoundOf, SpellsAtom, Ended, SpellsPiece, Reads, SpellsAlternatives, atom_of}
+use Rattle.dist_relation.specs.Grammar.{SpellsProvide}
 use Rattle.dist_relation.specs.Faults.{NameMissing, AfterAtom, Has, Comes, PassedOver, allows_bar, error_at, FirstFault}
 use Rattle.dist_relation.specs.Reading.{version_of, ◌>>=◌, Fails, FitsIn, error_in, atom_at, joined_at, alternatives_at, provide_of, provide_at, items_of}
 use Rattle.dist_relation.proofs.ByteFacts.{or_true, or_cases, Stops-meets, fails_at}
@@ -42,14 +44,26 @@ meets_as f g (b ∷ bs) k h = k b h
 ending_at : {X : Type 0} (Spells : List ℕ → X → Type 0) (f g : ℕ → Bool) (Faulty : List ℕ → Fault → Type 0) (one : List ℕ → Result (X × List ℕ) Fault)
     → ((b : ℕ) → f b ≡ true → g b ≡ true) → ((b : ℕ) → g b ≡ true → f b ≡ true) → Reader Spells f Faulty one → Reader Spells g Faulty one
 ending_at {X} Spells f g Faulty one to from r =
-    record { cases = λ text. by_cases text (r.cases text); again = λ front item rest h stops. r.again front item rest h (meets_as g f rest from stops); refused = r.refused }
+    record {
+      cases = λ text. by_cases text (r.cases text);
+      again = λ front item rest h stops. r.again front item rest h (meets_as g f rest from stops);
+      refused = r.refused;
+    }
   where
     by_cases : (text : List ℕ) → Found Spells f text ⊎ ((fault : Fault) × Faulty text fault) → Found Spells g text ⊎ ((fault : Fault) × Faulty text fault)
-    by_cases text (inl h) = inl (record { front = h.front; item = h.item; rest = h.rest; spelled = h.spelled; parts = h.parts; stops = meets_as f g h.rest to h.stops })
+    by_cases text (inl h) = inl (record {
+      front = h.front;
+      item = h.item;
+      rest = h.rest;
+      spelled = h.spelled;
+      parts = h.parts;
+      stops = meets_as f g h.rest to h.stops;
+    })
     by_cases text (inr h) = inr h
 
 refusing : {X : Type 0} (Spells : List ℕ → X → Type 0) (ends : ℕ → Bool) (F G : List ℕ → Fault → Type 0) (one : List ℕ → Result (X × List ℕ) Fault)
-    → ((text : List ℕ) (fault : Fault) → F text fault → G text fault) → ((text : List ℕ) (fault : Fault) → G text fault → F text fault) → Reader Spells ends F one → Reader Spells ends G one
+    → ((text : List ℕ) (fault : Fault) → F text fault → G text fault) → ((text : List ℕ) (fault : Fault) → G text fault → F text fault)
+    → Reader Spells ends F one → Reader Spells ends G one
 refusing {X} Spells ends F G one to from r =
     record { cases = λ text. by_cases text (r.cases text); again = r.again; refused = λ text fault h. r.refused text fault (from text fault h) }
   where
@@ -79,14 +93,21 @@ atom_reader kind =
       refused = λ text fault h. atom_refused kind text h.here h.problem h.has ∙ ap failed (sym h.is_fault);
     }
   where
-    by_cases : (text : List ℕ) → AtomRead kind text ⊎ AtomFault kind text → Found (SpellsAtom kind) (ends_atom kind) text ⊎ ((fault : Fault) × AtomFaulty kind text fault)
+    by_cases : (text : List ℕ) → AtomRead kind text ⊎ AtomFault kind text → Found (SpellsAtom kind) (ends_atom kind) text
+        ⊎ ((fault : Fault) × AtomFaulty kind text fault)
     by_cases text (inl r) = inl (record { front = r.front; item = r.atom; rest = r.rest; spelled = r.spelled; parts = r.parts; stops = r.ends })
     by_cases text (inr f) = inr (fault_at f.problem f.here, record { here = f.here; problem = f.problem; has = f.has; is_fault = refl })
 
 -- no atom is passed over
 atom_needed : (kind : Kind) (text : List ℕ) → PassedOver text → (fault : Fault) × AtomFaulty kind text fault
 atom_needed kind text p =
-    let missing : NameMissing text p.rest = record { space = p.space; blank = p.blank; parts = p.parts; skipped = Stops-meets is_space is_comma p.rest (fails_at is_space comma refl) p.ends; missing = Stops-meets is_ascii_alphanumeric is_comma p.rest (fails_at is_ascii_alphanumeric comma refl) p.ends } in
+    let missing : NameMissing text p.rest = record {
+      space = p.space;
+      blank = p.blank;
+      parts = p.parts;
+      skipped = Stops-meets is_space is_comma p.rest (fails_at is_space comma refl) p.ends;
+      missing = Stops-meets is_ascii_alphanumeric is_comma p.rest (fails_at is_ascii_alphanumeric comma refl) p.ends;
+    } in
     (fault_at BadName p.rest, record { here = p.rest; problem = BadName; has = inl missing; is_fault = refl })
 
 -- ---- items: atoms, each with its bar, and then an atom with a problem
@@ -118,29 +139,48 @@ comma_alone b h = elim (or_cases (eqb b comma) (eqb b bar && false) h) [ inl e �
 
 pub conflict_reader : Reader (SpellsAtom kinds.Conflicts) is_comma (ItemFaulty kinds.Conflicts) (atom_at kinds.Conflicts)
 conflict_reader =
-    refusing (SpellsAtom kinds.Conflicts) is_comma (AtomFaulty kinds.Conflicts) (ItemFaulty kinds.Conflicts) (atom_at kinds.Conflicts) (single_to kinds.Conflicts) (λ text fault h. single_from kinds.Conflicts text fault refl h)
-    (ending_at (SpellsAtom kinds.Conflicts) (ends_atom kinds.Conflicts) is_comma (AtomFaulty kinds.Conflicts) (atom_at kinds.Conflicts) comma_alone (λ b h. or_true (eqb b comma) _ h) (atom_reader kinds.Conflicts))
+    refusing (SpellsAtom kinds.Conflicts) is_comma (AtomFaulty kinds.Conflicts) (ItemFaulty kinds.Conflicts) (atom_at kinds.Conflicts)
+    (single_to kinds.Conflicts) (λ text fault h. single_from kinds.Conflicts text fault refl h)
+    (ending_at (SpellsAtom kinds.Conflicts) (ends_atom kinds.Conflicts) is_comma (AtomFaulty kinds.Conflicts) (atom_at kinds.Conflicts) comma_alone
+    (λ b h. or_true (eqb b comma) _ h) (atom_reader kinds.Conflicts))
 
 -- ---- alternatives
 
 bar_between : EndsBetween (ends_atom kinds.Depends) is_comma bar
-bar_between = record { one_ends = refl; goes_on = refl; both = λ b h. or_true (eqb b comma) _ h; last = λ b h e. elim (or_cases (eqb b comma) (eqb b bar && true) h) [ inl f ↦ f | inr f ↦ absurd (true≢false (sym (and_first (eqb b bar) f) ∙ e)) ] }
+bar_between = record {
+  one_ends = refl;
+  goes_on = refl;
+  both = λ b h. or_true (eqb b comma) _ h;
+  last = λ b h e. elim (or_cases (eqb b comma) (eqb b bar && true) h) [ inl f ↦ f | inr f ↦ absurd (true≢false (sym (and_first (eqb b bar) f) ∙ e)) ];
+}
   where
     and_first : (t : Bool) → (t && true) ≡ true → t ≡ true
     and_first true h = refl
     and_first false h = h
 
-item_to : (text : List ℕ) (fault : Fault) → JoinedFaulty bar (SpellsAtom kinds.Depends) (AtomFaulty kinds.Depends) text fault → ItemFaulty kinds.Depends text fault
-item_to text fault h = record { alternatives = h.lead; atoms = h.items; rest = h.rest; is_alternatives = h.is_lead; barred = λ e. absurd (true≢false e); parts = h.parts; faulty = h.faulty }
+item_to : (text : List ℕ) (fault : Fault) → JoinedFaulty bar (SpellsAtom kinds.Depends) (AtomFaulty kinds.Depends) text fault
+    → ItemFaulty kinds.Depends text fault
+item_to text fault h = record {
+  alternatives = h.lead;
+  atoms = h.items;
+  rest = h.rest;
+  is_alternatives = h.is_lead;
+  barred = λ e. absurd (true≢false e);
+  parts = h.parts;
+  faulty = h.faulty;
+}
 
-item_from : (text : List ℕ) (fault : Fault) → ItemFaulty kinds.Depends text fault → JoinedFaulty bar (SpellsAtom kinds.Depends) (AtomFaulty kinds.Depends) text fault
+item_from : (text : List ℕ) (fault : Fault) → ItemFaulty kinds.Depends text fault
+    → JoinedFaulty bar (SpellsAtom kinds.Depends) (AtomFaulty kinds.Depends) text fault
 item_from text fault h = record { lead = h.alternatives; items = h.atoms; rest = h.rest; is_lead = h.is_alternatives; parts = h.parts; faulty = h.faulty }
 
 pub alternatives_reader : Reader SpellsAlternatives is_comma (ItemFaulty kinds.Depends) alternatives_at
 unfolding alternatives_at
 alternatives_reader =
-    refusing SpellsAlternatives is_comma (JoinedFaulty bar (SpellsAtom kinds.Depends) (AtomFaulty kinds.Depends)) (ItemFaulty kinds.Depends) (λ text. joined_at bar (atom_at kinds.Depends) (suc (length text)) text) item_to item_from
-    (joined_reader (SpellsAtom kinds.Depends) (ends_atom kinds.Depends) is_comma bar (AtomFaulty kinds.Depends) (atom_at kinds.Depends) (atom_reader kinds.Depends) bar_between)
+    refusing SpellsAlternatives is_comma (JoinedFaulty bar (SpellsAtom kinds.Depends) (AtomFaulty kinds.Depends)) (ItemFaulty kinds.Depends)
+    (λ text. joined_at bar (atom_at kinds.Depends) (suc (length text)) text) item_to item_from
+    (joined_reader (SpellsAtom kinds.Depends) (ends_atom kinds.Depends) is_comma bar (AtomFaulty kinds.Depends) (atom_at kinds.Depends)
+    (atom_reader kinds.Depends) bar_between)
 
 -- ---- entries of Provides
 
@@ -148,11 +188,13 @@ abbrev provided : Result (Atom × List ℕ) Fault → Result (Provide × List �
 provided x = x >>= λ y. Ok (provide_of y.0, y.1)
 
 -- an operator that Provides allows is `=`
-provided_bound : (bound : Option Bound) (text : List ℕ) → SpellsBoundOf kinds.Provides text bound → SpellsBoundOf kinds.Provides text (option_map (λ version. record { op = Eq; version = version }) (version_of bound))
+provided_bound : (bound : Option Bound) (text : List ℕ) → SpellsBoundOf kinds.Provides text bound
+    → SpellsBoundOf kinds.Provides text (option_map (λ version. record { op = Eq; version = version }) (version_of bound))
 provided_bound None text h = h
 provided_bound (Some bound) text h = by_op bound.op bound.version h
   where
-    by_op : (op : Op) (version : List ℕ) → SpellsBound kinds.Provides text (record { op = op; version = version }) → SpellsBound kinds.Provides text (record { op = Eq; version = version })
+    by_op : (op : Op) (version : List ℕ) → SpellsBound kinds.Provides text (record { op = op; version = version })
+        → SpellsBound kinds.Provides text (record { op = Eq; version = version })
     by_op Lt version b = absurd (true≢false (sym b.allowed))
     by_op Le version b = absurd (true≢false (sym b.allowed))
     by_op Eq version b = b
@@ -174,7 +216,8 @@ provide_bound front atom h = record {
   is_bound = provided_bound atom.bound h.bound h.is_bound;
 }
 
-provide_back : (name : List ℕ) (qualifier : Qualifier) (version : Option (List ℕ)) → provide_of (atom_of (record { name = name; qualifier = qualifier; version = version })) ≡ record { name = name; qualifier = qualifier; version = version }
+provide_back : (name : List ℕ) (qualifier : Qualifier) (version : Option (List ℕ))
+    → provide_of (atom_of (record { name = name; qualifier = qualifier; version = version })) ≡ record { name = name; qualifier = qualifier; version = version }
 provide_back name qualifier None = refl
 provide_back name qualifier (Some version) = refl
 
@@ -186,17 +229,28 @@ unfolding provide_at
 provide_reader =
     record {
       cases = λ text. by_cases text (single.cases text);
-      again = λ front provide rest h stops. ap provided (single.again front (atom_of provide) rest h stops) ∙ ap (provided_at rest) (provide_back provide.name provide.qualifier provide.version);
+      again = λ front provide rest h stops. ap provided (single.again front (atom_of provide) rest h stops)
+          ∙ ap (provided_at rest) (provide_back provide.name provide.qualifier provide.version);
       refused = λ text fault h. ap provided (single.refused text fault h);
     }
   where
     single : Reader (SpellsAtom kinds.Provides) is_comma (ItemFaulty kinds.Provides) (atom_at kinds.Provides)
     single =
-        refusing (SpellsAtom kinds.Provides) is_comma (AtomFaulty kinds.Provides) (ItemFaulty kinds.Provides) (atom_at kinds.Provides) (single_to kinds.Provides) (λ text fault h. single_from kinds.Provides text fault refl h)
-        (ending_at (SpellsAtom kinds.Provides) (ends_atom kinds.Provides) is_comma (AtomFaulty kinds.Provides) (atom_at kinds.Provides) comma_alone (λ b h. or_true (eqb b comma) _ h) (atom_reader kinds.Provides))
+        refusing (SpellsAtom kinds.Provides) is_comma (AtomFaulty kinds.Provides) (ItemFaulty kinds.Provides) (atom_at kinds.Provides)
+        (single_to kinds.Provides) (λ text fault h. single_from kinds.Provides text fault refl h)
+        (ending_at (SpellsAtom kinds.Provides) (ends_atom kinds.Provides) is_comma (AtomFaulty kinds.Provides) (atom_at kinds.Provides) comma_alone
+        (λ b h. or_true (eqb b comma) _ h) (atom_reader kinds.Provides))
 
-    by_cases : (text : List ℕ) → Found (SpellsAtom kinds.Provides) is_comma text ⊎ ((fault : Fault) × ItemFaulty kinds.Provides text fault) → Found SpellsProvide is_comma text ⊎ ((fault : Fault) × ItemFaulty kinds.Provides text fault)
-    by_cases text (inl f) = inl (record { front = f.front; item = provide_of f.item; rest = f.rest; spelled = provide_bound f.front f.item f.spelled; parts = f.parts; stops = f.stops })
+    by_cases : (text : List ℕ) → Found (SpellsAtom kinds.Provides) is_comma text ⊎ ((fault : Fault) × ItemFaulty kinds.Provides text fault)
+        → Found SpellsProvide is_comma text ⊎ ((fault : Fault) × ItemFaulty kinds.Provides text fault)
+    by_cases text (inl f) = inl (record {
+      front = f.front;
+      item = provide_of f.item;
+      rest = f.rest;
+      spelled = provide_bound f.front f.item f.spelled;
+      parts = f.parts;
+      stops = f.stops;
+    })
     by_cases text (inr f) = inr f
 
 -- ---- whole values
@@ -240,7 +294,8 @@ has_comes kind text here BarNotAllowed place h = no_bar kind h.forbidden
 has_comes kind text here Trailing place h = tt
 has_comes kind text here OpInProvides place h = only_provides kind h.op h.forbidden
 
-module _ {X : Type 0} (kind : Kind) (Spells : List ℕ → X → Type 0) (one : List ℕ → Result (X × List ℕ) Fault) (reader : Reader Spells is_comma (ItemFaulty kind) one) where
+module _ {X : Type 0} (kind : Kind) (Spells : List ℕ → X → Type 0) (one : List ℕ → Result (X × List ℕ) Fault)
+    (reader : Reader Spells is_comma (ItemFaulty kind) one) where
   needed : (text : List ℕ) → PassedOver text → (fault : Fault) × (one text ≡ Err fault)
   needed text p = let n = atom_needed kind text p in (n.0, reader.refused text n.0 (single_to kind text n.0 n.1))
 
@@ -270,12 +325,32 @@ module _ {X : Type 0} (kind : Kind) (Spells : List ℕ → X → Type 0) (one : 
         is_error = ap (placed value) i.faulty.is_fault;
       }
 
-  fault_of_first : (value : List ℕ) (error : RelationError) → FirstFault kind Spells value error → (fault : Fault) × Faulty value fault × (error ≡ placed value fault)
+  fault_of_first : (value : List ℕ) (error : RelationError) → FirstFault kind Spells value error → (fault : Fault) × Faulty value fault
+      × (error ≡ placed value fault)
   fault_of_first value error h =
       let fault : Fault = fault_at h.problem h.here in
       let atom : AtomFaulty kind h.text fault = record { here = h.here; problem = h.problem; has = h.has; is_fault = refl } in
-      let item : ItemFaulty kind (h.alternatives ++ h.text) fault = record { alternatives = h.alternatives; atoms = h.atoms; rest = h.text; is_alternatives = h.is_alternatives; barred = h.barred; parts = refl; faulty = atom } in
-      (fault, record { lead = h.before; items = h.pieces; rest = h.alternatives ++ h.text; is_lead = h.is_before; parts = h.parts; faulty = record { not_passed_over = h.not_passed_over; faulty = item } }, h.is_error)
+      let item : ItemFaulty kind (h.alternatives ++ h.text) fault =
+      record {
+        alternatives = h.alternatives;
+        atoms = h.atoms;
+        rest = h.text;
+        is_alternatives = h.is_alternatives;
+        barred = h.barred;
+        parts = refl;
+        faulty = atom;
+      } in (
+        fault,
+        record {
+          lead = h.before;
+          items = h.pieces;
+          rest = h.alternatives ++ h.text;
+          is_lead = h.is_before;
+          parts = h.parts;
+          faulty = record { not_passed_over = h.not_passed_over; faulty = item };
+        },
+        h.is_error,
+      )
 
   -- what was read is spelled
   pub value_reads : (value : List ℕ) (items : List X) → items_of one value ≡ Ok items → Reads Spells value items
@@ -291,13 +366,15 @@ module _ {X : Type 0} (kind : Kind) (Spells : List ℕ → X → Type 0) (one : 
     where
       by_cases : ((items : List X) × Reads Spells value items) ⊎ ((fault : Fault) × Faulty value fault) → FirstFault kind Spells value (placed value fault)
       by_cases (inl (others, h)) = let never = laws.again value others h in absurd (cc (never, e))
-      by_cases (inr (other, h)) = let same : other ≡ fault = cc (laws.refused value other h, e) in subst (λ (f : Fault). FirstFault kind Spells value (placed value f)) same (first_fault value other h)
+      by_cases (inr (other, h)) = let same : other ≡ fault = cc (laws.refused value other h, e) in
+          subst (λ (f : Fault). FirstFault kind Spells value (placed value f)) same (first_fault value other h)
 
   pub one_answer : (value : List ℕ) → IsExact (Reads Spells value) (FirstFault kind Spells value)
   one_answer value =
       record {
         some = by_cases (laws.cases value);
-        never_both = λ items error h f. let g = fault_of_first value error f in let clash = sym (laws.again value items h) ∙ laws.refused value g.0 g.1 in absurd cc;
+        never_both = λ items error h f. let g = fault_of_first value error f in let clash = sym (laws.again value items h) ∙ laws.refused value g.0 g.1 in
+            absurd cc;
         one_reading = λ first second h k. cc (laws.again value first h, laws.again value second k);
         one_fault = λ first second f g.
             let a = fault_of_first value first f in
@@ -306,7 +383,8 @@ module _ {X : Type 0} (kind : Kind) (Spells : List ℕ → X → Type 0) (one : 
             a.2 ∙ ap (placed value) same ∙ sym b.2;
       }
     where
-      by_cases : ((items : List X) × Reads Spells value items) ⊎ ((fault : Fault) × Faulty value fault) → ((items : List X) × Reads Spells value items) ⊎ ((error : RelationError) × FirstFault kind Spells value error)
+      by_cases : ((items : List X) × Reads Spells value items) ⊎ ((fault : Fault) × Faulty value fault) → ((items : List X) × Reads Spells value items)
+          ⊎ ((error : RelationError) × FirstFault kind Spells value error)
       by_cases (inl h) = inl h
       by_cases (inr (fault, h)) = inr (placed value fault, first_fault value fault h)
 
@@ -324,19 +402,29 @@ module _ {X : Type 0} (kind : Kind) (Spells : List ℕ → X → Type 0) (one : 
           let same : other ≡ fault = cc (laws.refused value other h, e) in
           let i = h.faulty.faulty in
           let left : length i.faulty.here ≤ length i.rest = has_left kind i.rest i.faulty.here i.faulty.problem i.faulty.has in
-          omega (arith, left, ap (λ (f : Fault). f.left) (sym same ∙ i.faulty.is_fault), ap length h.parts, length-append h.lead h.rest, ap length i.parts, length-append i.alternatives i.rest)
+          omega (
+            arith,
+            left,
+            ap (λ (f : Fault). f.left) (sym same ∙ i.faulty.is_fault),
+            ap length h.parts,
+            length-append h.lead h.rest,
+            ap length i.parts,
+            length-append i.alternatives i.rest,
+          )
 
   pub read_fits : (error : ReadError) (value : List ℕ) → Fails error (items_of one value) → FitsIn (length value) error
   read_fits stops.NoMemory value h = tt
   read_fits (stops.Fault fault) value h = value_left value fault h
 
-  pub read_fault : (error : ReadError) (value : List ℕ) → Fails error (items_of one value) → (error_in (length value) error ≡ errors.NoMemory) ⊎ FirstFault kind Spells value (error_in (length value) error)
+  pub read_fault : (error : ReadError) (value : List ℕ) → Fails error (items_of one value) → (error_in (length value) error ≡ errors.NoMemory)
+      ⊎ FirstFault kind Spells value (error_in (length value) error)
   read_fault stops.NoMemory value h = inl refl
   read_fault (stops.Fault fault) value h = inr (value_fault value fault h)
 
 -- ---- a reader leaves no more than was there
 
-reader_shorter : {X : Type 0} (Spells : List ℕ → X → Type 0) (ends : ℕ → Bool) (F : List ℕ → Fault → Type 0) (one : List ℕ → Result (X × List ℕ) Fault) → Reader Spells ends F one → (text : List ℕ) (x : X) (rest : List ℕ) → one text ≡ Ok (x, rest) → length rest ≤ length text
+reader_shorter : {X : Type 0} (Spells : List ℕ → X → Type 0) (ends : ℕ → Bool) (F : List ℕ → Fault → Type 0) (one : List ℕ → Result (X × List ℕ) Fault)
+    → Reader Spells ends F one → (text : List ℕ) (x : X) (rest : List ℕ) → one text ≡ Ok (x, rest) → length rest ≤ length text
 reader_shorter {X} Spells ends F one r text x rest e = by_cases (r.cases text)
   where
     by_cases : Found Spells ends text ⊎ ((fault : Fault) × F text fault) → length rest ≤ length text

@@ -1,4 +1,5 @@
--- The bytes of relation fields: white space, names and operators, by Debian Policy 5.6.1 and 7.1 (this project also allows capital letters and `_` in names).
+-- The bytes of relation fields: white space, names and operators, by Debian Policy 5.6.1 and 7.1 (this project also
+-- allows capital letters and `_` in names).
 use Rattle.std.specs.Prelude.{◌≡◌, ℕ, Bool, false, true, not, ◌&&◌, ◌||◌, ◌==◌, List, [], ◌∷◌, IsTrue}
 use Rattle.std.specs.Char.{is_ascii_alphanumeric}
 use Rattle.std.specs.List.{list_all}

@@ -1,4 +1,5 @@
--- Equality of what relations have: names and versions by their texts as bytes. Each test holds of a value and itself alone.
+-- Equality of what relations have: names and versions by their texts as bytes. Each test holds of a value and itself
+-- alone.
 use Rattle.std.specs.Prelude.{◌≡◌, Bool, true, false, ◌&&◌, Option, None, Some, bytes_eq}
 use Rattle.std.specs.Bool.{Decides}
 use Rattle.std.specs.Cmp.{IsEquivalence, first_so, second_so, both_ways}
@@ -33,17 +34,20 @@ abbrev pub bound_eq : Bound → Bound → Bool
 bound_eq bound other = op_eq bound.op other.op && bytes_eq bound.version other.version
 
 abbrev pub atom_eq : Atom → Atom → Bool
-atom_eq atom other = bytes_eq atom.name other.name && (qualifier_eq atom.qualifier other.qualifier && option_eq bound_eq atom.bound other.bound)
+atom_eq atom other = bytes_eq atom.name other.name
+    && (qualifier_eq atom.qualifier other.qualifier && option_eq bound_eq atom.bound other.bound)
 
 abbrev pub provide_eq : Provide → Provide → Bool
-provide_eq provide other = bytes_eq provide.name other.name && (qualifier_eq provide.qualifier other.qualifier && option_eq bytes_eq provide.version other.version)
+provide_eq provide other = bytes_eq provide.name other.name
+    && (qualifier_eq provide.qualifier other.qualifier && option_eq bytes_eq provide.version other.version)
 
 -- ---- each of these tests holds exactly of a value and itself
 
 abbrev pub DecidesEquality : {X : Type 0} → (X → X → Bool) → Type 0
 DecidesEquality {X} E = (a b : X) → Decides (E a b) (a ≡ b)
 
-abbrev pub decides : {X : Type 0} → (E : X → X → Bool) → ((a b : X) → E a b ≡ true → a ≡ b) → ((a : X) → E a a ≡ true) → DecidesEquality E
+abbrev pub decides : {X : Type 0} → (E : X → X → Bool) → ((a b : X) → E a b ≡ true → a ≡ b) → ((a : X) → E a a ≡ true)
+    → DecidesEquality E
 decides E same itself a b = (same a b, λ e. subst (λ x. E a x ≡ true) e (itself a))
 
 pub equivalence : {X : Type 0} {E : X → X → Bool} → DecidesEquality E → IsEquivalence E
@@ -54,8 +58,10 @@ equivalence {X} {E} d = record {
 }
 
 -- what such a test answers of two values, which contracts see as x and y
-pub answers_equality : {X : Type 0} {E : X → X → Bool} → DecidesEquality E → (answer : Bool) (a b x y : X) → answer ≡ E a b → a ≡ x → b ≡ y → Decides answer (x ≡ y)
-answers_equality d answer a b x y is p q = (λ h. sym p ∙ (d a b).0 (sym is ∙ h) ∙ q, λ h. is ∙ (d a b).1 (p ∙ h ∙ sym q))
+pub answers_equality : {X : Type 0} {E : X → X → Bool} → DecidesEquality E → (answer : Bool) (a b x y : X)
+    → answer ≡ E a b → a ≡ x → b ≡ y → Decides answer (x ≡ y)
+answers_equality d answer a b x y is p q =
+    (λ h. sym p ∙ (d a b).0 (sym is ∙ h) ∙ q, λ h. is ∙ (d a b).1 (p ∙ h ∙ sym q))
 
 option_same : {X : Type 0} {E : X → X → Bool} → DecidesEquality E → (a b : Option X) → option_eq E a b ≡ true → a ≡ b
 option_same d None None h = refl
@@ -103,7 +109,8 @@ qualifier_decides = decides qualifier_eq qualifier_same qualifier_itself
 bound_same : (a b : Bound) → bound_eq a b ≡ true → a ≡ b
 bound_same a b h =
     let op = (op_decides a.op b.op).0 (first_so (op_eq a.op b.op) (bytes_eq a.version b.version) h) in
-    let version = (bytes_decides a.version b.version).0 (second_so (op_eq a.op b.op) (bytes_eq a.version b.version) h) in
+    let version = (bytes_decides a.version b.version).0 (second_so (op_eq a.op b.op) (bytes_eq a.version b.version) h)
+    in
     λ i. record { op = op i; version = version i }
 
 bound_itself : (bound : Bound) → bound_eq bound bound ≡ true
@@ -114,28 +121,40 @@ bound_decides = decides bound_eq bound_same bound_itself
 
 atom_same : (a b : Atom) → atom_eq a b ≡ true → a ≡ b
 atom_same a b h =
-    let rest = second_so (bytes_eq a.name b.name) (qualifier_eq a.qualifier b.qualifier && option_eq bound_eq a.bound b.bound) h in
-    let name = (bytes_decides a.name b.name).0 (first_so (bytes_eq a.name b.name) (qualifier_eq a.qualifier b.qualifier && option_eq bound_eq a.bound b.bound) h) in
-    let qualifier = (qualifier_decides a.qualifier b.qualifier).0 (first_so (qualifier_eq a.qualifier b.qualifier) (option_eq bound_eq a.bound b.bound) rest) in
-    let bound = (option_decides bound_decides a.bound b.bound).0 (second_so (qualifier_eq a.qualifier b.qualifier) (option_eq bound_eq a.bound b.bound) rest) in
+    let rest = second_so (bytes_eq a.name b.name)
+    (qualifier_eq a.qualifier b.qualifier && option_eq bound_eq a.bound b.bound) h in
+    let name = (bytes_decides a.name b.name).0
+    (first_so (bytes_eq a.name b.name) (qualifier_eq a.qualifier b.qualifier && option_eq bound_eq a.bound b.bound)
+    h) in
+    let qualifier = (qualifier_decides a.qualifier b.qualifier).0
+    (first_so (qualifier_eq a.qualifier b.qualifier) (option_eq bound_eq a.bound b.bound) rest) in
+    let bound = (option_decides bound_decides a.bound b.bound).0
+    (second_so (qualifier_eq a.qualifier b.qualifier) (option_eq bound_eq a.bound b.bound) rest) in
     λ i. record { name = name i; qualifier = qualifier i; bound = bound i }
 
 atom_itself : (atom : Atom) → atom_eq atom atom ≡ true
-atom_itself atom = ap₂ ◌&&◌ ((bytes_decides atom.name atom.name).1 refl) (ap₂ ◌&&◌ (qualifier_itself atom.qualifier) (option_itself bound_decides atom.bound))
+atom_itself atom = ap₂ ◌&&◌ ((bytes_decides atom.name atom.name).1 refl)
+    (ap₂ ◌&&◌ (qualifier_itself atom.qualifier) (option_itself bound_decides atom.bound))
 
 pub atom_decides : DecidesEquality atom_eq
 atom_decides = decides atom_eq atom_same atom_itself
 
 provide_same : (a b : Provide) → provide_eq a b ≡ true → a ≡ b
 provide_same a b h =
-    let rest = second_so (bytes_eq a.name b.name) (qualifier_eq a.qualifier b.qualifier && option_eq bytes_eq a.version b.version) h in
-    let name = (bytes_decides a.name b.name).0 (first_so (bytes_eq a.name b.name) (qualifier_eq a.qualifier b.qualifier && option_eq bytes_eq a.version b.version) h) in
-    let qualifier = (qualifier_decides a.qualifier b.qualifier).0 (first_so (qualifier_eq a.qualifier b.qualifier) (option_eq bytes_eq a.version b.version) rest) in
-    let version = (option_decides bytes_decides a.version b.version).0 (second_so (qualifier_eq a.qualifier b.qualifier) (option_eq bytes_eq a.version b.version) rest) in
+    let rest = second_so (bytes_eq a.name b.name)
+    (qualifier_eq a.qualifier b.qualifier && option_eq bytes_eq a.version b.version) h in
+    let name = (bytes_decides a.name b.name).0
+    (first_so (bytes_eq a.name b.name) (qualifier_eq a.qualifier b.qualifier
+    && option_eq bytes_eq a.version b.version) h) in
+    let qualifier = (qualifier_decides a.qualifier b.qualifier).0
+    (first_so (qualifier_eq a.qualifier b.qualifier) (option_eq bytes_eq a.version b.version) rest) in
+    let version = (option_decides bytes_decides a.version b.version).0
+    (second_so (qualifier_eq a.qualifier b.qualifier) (option_eq bytes_eq a.version b.version) rest) in
     λ i. record { name = name i; qualifier = qualifier i; version = version i }
 
 provide_itself : (provide : Provide) → provide_eq provide provide ≡ true
-provide_itself provide = ap₂ ◌&&◌ ((bytes_decides provide.name provide.name).1 refl) (ap₂ ◌&&◌ (qualifier_itself provide.qualifier) (option_itself bytes_decides provide.version))
+provide_itself provide = ap₂ ◌&&◌ ((bytes_decides provide.name provide.name).1 refl)
+    (ap₂ ◌&&◌ (qualifier_itself provide.qualifier) (option_itself bytes_decides provide.version))
 
 pub provide_decides : DecidesEquality provide_eq
 provide_decides = decides provide_eq provide_same provide_itself

@@ -44,12 +44,22 @@ commas_example : ReadsDepends (codes ",, a ,") ((plain (codes "a") ∷ []) ∷ [
 commas_example =
     record {
       pieces = None ∷ None ∷ Some (plain (codes "a") ∷ []) ∷ None ∷ [];
-      joined = ([], codes ", a ,", refl, ([], codes " a ,", refl, (codes " a ", [], spelled_example, refl, refl), refl), refl);
+      joined = (
+        [],
+        codes ", a ,",
+        refl,
+        ([], codes " a ,", refl, (codes " a ", [], spelled_example, refl, refl), refl),
+        refl,
+      );
       given = refl;
     }
 
 -- the canonical text of a qualified name at least at version 1, or another one
-text_example : alternatives_text (record { name = codes "a"; qualifier = Named (codes "any"); bound = Some (record { op = Ge; version = codes "1" }) } ∷ plain (codes "b") ∷ []) ≡ codes "a:any (>= 1) | b"
+text_example : alternatives_text (record {
+  name = codes "a";
+  qualifier = Named (codes "any");
+  bound = Some (record { op = Ge; version = codes "1" });
+} ∷ plain (codes "b") ∷ []) ≡ codes "a:any (>= 1) | b"
 text_example = refl
 
 -- 1.0-0 meets `= 1.0`

@@ -16,7 +16,8 @@ use Rattle.dist_relation.specs.declared.error.Problem.TheVariants as problems
 use Rattle.dist_relation.specs.declared.error.RelationError.TheVariants as errors
 use Rattle.dist_relation.specs.Bytes.{is_space, is_comma, IsBlank, Meets}
 use Rattle.dist_relation.specs.Grammar.{SpellsOperator, SpellsAtom, SpellsAlternatives, SpellsProvide}
-use Rattle.dist_relation.specs.Faults.{Head, Opened, Compared, PassedOver, Has, error_at, FirstFault, FirstDependsFault, FirstAtomsFault, FirstProvidesFault}
+use Rattle.dist_relation.specs.Faults.{Head, Opened, Compared, PassedOver, Has, error_at, FirstFault, FirstDependsFault}
+use Rattle.dist_relation.specs.Faults.{FirstAtomsFault, FirstProvidesFault}
 
 -- ---- what the examples share: the atom `a`, as far as it came
 
@@ -24,10 +25,27 @@ abbrev head : Head (codes "a") (codes "a") Plain
 head = record { space = []; blank = refl; is_name = refl; is_qualifier = tt; parts = refl }
 
 abbrev opened : Opened (codes "a (") (codes "a") Plain
-opened = record { head = codes "a"; gap = codes " "; space = []; is_head = head; blank_gap = refl; blank = refl; parts = refl }
+opened = record {
+  head = codes "a";
+  gap = codes " ";
+  space = [];
+  is_head = head;
+  blank_gap = refl;
+  blank = refl;
+  parts = refl;
+}
 
 abbrev at_least : Compared Depends (codes "a (>= ") (codes "a") Plain Ge
-at_least = record { opened = codes "a ("; operator = codes ">="; space = codes " "; is_opened = opened; is_operator = inl refl; allowed = refl; blank = refl; parts = refl }
+at_least = record {
+  opened = codes "a (";
+  operator = codes ">=";
+  space = codes " ";
+  is_opened = opened;
+  is_operator = inl refl;
+  allowed = refl;
+  blank = refl;
+  parts = refl;
+}
 
 -- what begins with neither white space nor a comma is not passed over
 begins : (b : ℕ) (bs : List ℕ) → is_space b ≡ false → is_comma b ≡ false → ¬ PassedOver (b ∷ bs)
@@ -39,7 +57,9 @@ begins b bs no_space no_comma p = by_space p.space p.rest p.blank p.parts p.ends
     by_space (x ∷ space) rest blank parts ends = let p = and_parts (is_space x) _ blank in cc
 
 -- a fault of a value's first atom
-at_first : {X : Type 0} (kind : Kind) (Spells : List ℕ → X → Type 0) (value here : List ℕ) (problem : Problem) → ¬ PassedOver value → Has kind value here problem → FirstFault kind Spells value (error_at problem (length value - length here))
+at_first : {X : Type 0} (kind : Kind) (Spells : List ℕ → X → Type 0) (value here : List ℕ) (problem : Problem)
+    → ¬ PassedOver value → Has kind value here problem
+    → FirstFault kind Spells value (error_at problem (length value - length here))
 at_first kind Spells value here problem not_passed_over has = record {
   before = [];
   pieces = [];
@@ -62,7 +82,8 @@ at_first kind Spells value here problem not_passed_over has = record {
 -- no name begins with `_`
 name_example : FirstDependsFault (codes "_a") (errors.BadName 0)
 name_example =
-    at_first Depends SpellsAlternatives (codes "_a") (codes "_a") problems.BadName (begins 95 (codes "a") refl refl) (inl (record { space = []; blank = refl; parts = refl; skipped = refl; missing = refl }))
+    at_first Depends SpellsAlternatives (codes "_a") (codes "_a") problems.BadName (begins 95 (codes "a") refl refl)
+    (inl (record { space = []; blank = refl; parts = refl; skipped = refl; missing = refl }))
 
 no_operator : (op : Op) → ¬ SpellsOperator [] op
 no_operator Lt h = cc
@@ -77,14 +98,33 @@ no_operator Gt h = cc
 operator_example : FirstDependsFault (codes "a (1)") (errors.BadOp 3)
 operator_example =
     at_first Depends SpellsAlternatives (codes "a (1)") (codes "1)") problems.BadOp (begins 97 (codes " (1)") refl refl)
-    (record { opened = codes "a ("; name = codes "a"; qualifier = Plain; is_opened = opened; parts = refl; skipped = refl; missing = no_operator })
+    (record {
+      opened = codes "a (";
+      name = codes "a";
+      qualifier = Plain;
+      is_opened = opened;
+      parts = refl;
+      skipped = refl;
+      missing = no_operator;
+    })
 
 -- a version has no `_`
 version_example : FirstDependsFault (codes "a (>= 1_2)") (errors.BadVersion 6 (BadByte 1))
 unfolding fault_of epoch_digits after_epoch upstream_of revision_of
 version_example =
-    at_first Depends SpellsAlternatives (codes "a (>= 1_2)") (codes "1_2)") (problems.BadVersion (BadByte 1)) (begins 97 (codes " (>= 1_2)") refl refl)
-    (record { compared = codes "a (>= "; name = codes "a"; qualifier = Plain; op = Ge; is_compared = at_least; parts = refl; whole_operator = refl; skipped = refl; missing = refl })
+    at_first Depends SpellsAlternatives (codes "a (>= 1_2)") (codes "1_2)") (problems.BadVersion (BadByte 1))
+    (begins 97 (codes " (>= 1_2)") refl refl)
+    (record {
+      compared = codes "a (>= ";
+      name = codes "a";
+      qualifier = Plain;
+      op = Ge;
+      is_compared = at_least;
+      parts = refl;
+      whole_operator = refl;
+      skipped = refl;
+      missing = refl;
+    })
 
 one : IsVersion (codes "1")
 unfolding fault_of epoch_digits after_epoch upstream_of revision_of
@@ -99,7 +139,14 @@ closing_example =
       name = codes "a";
       qualifier = Plain;
       bound = record { op = Ge; version = codes "1" };
-      is_versioned = record { compared = codes "a (>= "; space = []; is_compared = at_least; is_version = one; blank = refl; parts = refl };
+      is_versioned = record {
+        compared = codes "a (>= ";
+        space = [];
+        is_compared = at_least;
+        is_version = one;
+        blank = refl;
+        parts = refl;
+      };
       parts = refl;
       whole_version = tt;
       skipped = tt;
@@ -109,9 +156,21 @@ closing_example =
 -- a Conflicts value has no alternatives
 bar_example : FirstAtomsFault (codes "a | b") (errors.BarNotAllowed 2)
 bar_example =
-    at_first Conflicts (SpellsAtom Conflicts) (codes "a | b") (codes "| b") problems.BarNotAllowed (begins 97 (codes " | b") refl refl)
+    at_first Conflicts (SpellsAtom Conflicts) (codes "a | b") (codes "| b") problems.BarNotAllowed
+    (begins 97 (codes " | b") refl refl)
     (record {
-      after_atom = inl (record { head = codes "a"; space = codes " "; name = codes "a"; qualifier = Plain; is_head = head; blank = refl; parts = refl; whole_head = (refl, refl); skipped = refl; not_opened = refl });
+      after_atom = inl (record {
+        head = codes "a";
+        space = codes " ";
+        name = codes "a";
+        qualifier = Plain;
+        is_head = head;
+        blank = refl;
+        parts = refl;
+        whole_head = (refl, refl);
+        skipped = refl;
+        not_opened = refl;
+      });
       rest = codes " b";
       stands = refl;
       forbidden = refl;
@@ -120,9 +179,21 @@ bar_example =
 -- in `a b` the atom ends before the b
 trailing_example : FirstAtomsFault (codes "a b") (errors.Trailing 2)
 trailing_example =
-    at_first Conflicts (SpellsAtom Conflicts) (codes "a b") (codes "b") problems.Trailing (begins 97 (codes " b") refl refl)
+    at_first Conflicts (SpellsAtom Conflicts) (codes "a b") (codes "b") problems.Trailing
+    (begins 97 (codes " b") refl refl)
     (record {
-      after_atom = inl (record { head = codes "a"; space = codes " "; name = codes "a"; qualifier = Plain; is_head = head; blank = refl; parts = refl; whole_head = (refl, refl); skipped = refl; not_opened = refl });
+      after_atom = inl (record {
+        head = codes "a";
+        space = codes " ";
+        name = codes "a";
+        qualifier = Plain;
+        is_head = head;
+        blank = refl;
+        parts = refl;
+        whole_head = (refl, refl);
+        skipped = refl;
+        not_opened = refl;
+      });
       first = 98;
       rest = [];
       stands = refl;
@@ -132,8 +203,18 @@ trailing_example =
 -- Provides compares with `=` alone
 provided_example : FirstProvidesFault (codes "a (>= 1)") (errors.OpInProvides 3)
 provided_example =
-    at_first Provides SpellsProvide (codes "a (>= 1)") (codes ">= 1)") problems.OpInProvides (begins 97 (codes " (>= 1)") refl refl)
-    (record { opened = codes "a ("; name = codes "a"; qualifier = Plain; op = Ge; is_opened = opened; parts = refl; is_operator = inl refl; forbidden = refl })
+    at_first Provides SpellsProvide (codes "a (>= 1)") (codes ">= 1)") problems.OpInProvides
+    (begins 97 (codes " (>= 1)") refl refl)
+    (record {
+      opened = codes "a (";
+      name = codes "a";
+      qualifier = Plain;
+      op = Ge;
+      is_opened = opened;
+      parts = refl;
+      is_operator = inl refl;
+      forbidden = refl;
+    })
 
 -- ---- a fault behind other atoms: after a bar an atom must follow
 

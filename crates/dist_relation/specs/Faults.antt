@@ -1,6 +1,9 @@
--- The first fault of a value that is no relation, which is this project's own rule: everything before its place is a correct start by the grammar, and the value doesn't go on from there as it must.
--- Names, operators and versions are the longest runs of their bytes, and white space is skipped: so `Stops` says that a run couldn't be longer.
-use Rattle.std.specs.Prelude.{IsTrue, ◌≡◌, ◌≢◌, ◌⊎◌, ℕ, ◌-◌, Bool, true, false, ◌||◌, ◌==◌, List, [], ◌∷◌, ◌++◌, length, take_while, Option, Some}
+-- The first fault of a value that is no relation, which is this project's own rule: everything before its place is a
+-- correct start by the grammar, and the value doesn't go on from there as it must.
+-- Names, operators and versions are the longest runs of their bytes, and white space is skipped: so `Stops` says that a
+-- run couldn't be longer.
+use Rattle.std.specs.Prelude.{IsTrue, ◌≡◌, ◌≢◌, ◌⊎◌, ℕ, ◌-◌, Bool, true, false, ◌||◌, ◌==◌, List, [], ◌∷◌, ◌++◌, length}
+use Rattle.std.specs.Prelude.{take_while, Option, Some}
 use Rattle.std.specs.Char.{is_ascii_alphanumeric}
 use Rattle.dist_version.specs.Spelling.{IsVersion}
 use Rattle.dist_version.specs.Faults.{fault_of}
@@ -14,11 +17,15 @@ use Rattle.dist_relation.specs.declared.atom.Op.{Op}
 use Rattle.dist_relation.specs.declared.atom.Qualifier.{Qualifier}
 use Rattle.dist_relation.specs.declared.atom.Qualifier.TheVariants.{Plain, Named}
 use Rattle.dist_relation.specs.declared.error.Problem.{Problem}
-use Rattle.dist_relation.specs.declared.error.Problem.TheVariants.{BadName, BadOp, BadVersion, Unclosed, BarNotAllowed, Trailing, OpInProvides}
+use Rattle.dist_relation.specs.declared.error.Problem.TheVariants.{BadName, BadOp, BadVersion, Unclosed, BarNotAllowed}
+use Rattle.dist_relation.specs.declared.error.Problem.TheVariants.{Trailing, OpInProvides}
 use Rattle.dist_relation.specs.declared.error.RelationError.{RelationError}
 use Rattle.dist_relation.specs.declared.error.RelationError.TheVariants as errors
-use Rattle.dist_relation.specs.Bytes.{IsName, opening, is_space, is_name_byte, is_operator_byte, is_word_byte, is_comma, is_colon, is_opening, is_closing, IsBlank, Meets, Stops, colon, closing, comma, bar}
-use Rattle.dist_relation.specs.Grammar.{qualifier_text, IsQualifier, allows_operator, SpellsOperator, SpellsAtom, SpellsAlternatives, SpellsProvide, SpellsPiece, Ended}
+use Rattle.dist_relation.specs.Bytes.{IsName, opening, is_space, is_name_byte, is_operator_byte, is_word_byte, is_comma}
+use Rattle.dist_relation.specs.Bytes.{is_colon, is_opening, is_closing, IsBlank, Meets, Stops, colon, closing, comma}
+use Rattle.dist_relation.specs.Bytes.{bar}
+use Rattle.dist_relation.specs.Grammar.{qualifier_text, IsQualifier, allows_operator, SpellsOperator, SpellsAtom}
+use Rattle.dist_relation.specs.Grammar.{SpellsAlternatives, SpellsProvide, SpellsPiece, Ended}
 
 -- ---- how far an atom came, in steps that each add to the text before
 
@@ -52,13 +59,14 @@ pub record Compared (kind : Kind) (text : List ℕ) (name : List ℕ) (qualifier
   pub parts : text ≡ opened ++ (operator ++ space)
 
 -- the same, a version, white space
-pub record Versioned (kind : Kind) (text : List ℕ) (name : List ℕ) (qualifier : Qualifier) (bound : Bound) : Type 0 where
-  pub compared : List ℕ
-  pub space : List ℕ
-  pub is_compared : Compared kind compared name qualifier bound.op
-  pub is_version : IsVersion bound.version
-  pub blank : IsBlank space
-  pub parts : text ≡ compared ++ (bound.version ++ space)
+pub record Versioned (kind : Kind) (text : List ℕ) (name : List ℕ) (qualifier : Qualifier) (bound : Bound) : Type 0
+  where
+    pub compared : List ℕ
+    pub space : List ℕ
+    pub is_compared : Compared kind compared name qualifier bound.op
+    pub is_version : IsVersion bound.version
+    pub blank : IsBlank space
+    pub parts : text ≡ compared ++ (bound.version ++ space)
 
 -- ---- what an atom may lack: the text is the value from the atom on, and the fault stands where `here` begins
 
@@ -206,8 +214,10 @@ error_at BarNotAllowed place = errors.BarNotAllowed place
 error_at Trailing place = errors.Trailing place
 error_at OpInProvides place = errors.OpInProvides place
 
--- The value begins with pieces, each with its comma. The next piece isn't passed over: it begins with atoms, each with its bar, and then an atom has the problem.
-pub record FirstFault {X : Type 0} (kind : Kind) (Spells : List ℕ → X → Type 0) (value : List ℕ) (error : RelationError) : Type 0 where
+-- The value begins with pieces, each with its comma. The next piece isn't passed over: it begins with atoms, each with
+-- its bar, and then an atom has the problem.
+pub record FirstFault {X : Type 0} (kind : Kind) (Spells : List ℕ → X → Type 0) (value : List ℕ)
+    (error : RelationError) : Type 0 where
   -- what stands before the last comma, and after it before the last bar
   pub before : List ℕ
   pub pieces : List (Option X)
@@ -234,7 +244,8 @@ FirstAtomsFault value error = FirstFault kinds.Conflicts (SpellsAtom kinds.Confl
 abbrev pub FirstProvidesFault : List ℕ → RelationError → Type 0
 FirstProvidesFault value error = FirstFault kinds.Provides SpellsProvide value error
 
--- Which errors a value of a kind may have: a bar is allowed in dependencies, and every operator but in Provides. A version's fault is never want of memory.
+-- Which errors a value of a kind may have: a bar is allowed in dependencies, and every operator but in Provides. A
+-- version's fault is never want of memory.
 abbrev pub Comes : Kind → RelationError → Type 0
 Comes kind (errors.BadVersion place fault) = fault ≢ versions.NoMemory
 Comes kind (errors.BarNotAllowed place) = kind ≢ kinds.Depends

@@ -1,6 +1,7 @@
 -- Relation text, by Debian Policy 7.1: which value spells which items. A value is spellings joined by commas.
 -- A spelling is white space alone, which gives no item, or one item; alternatives are atoms joined by bars.
-use Rattle.std.specs.Prelude.{◌≡◌, ◌⊎◌, ℕ, Bool, true, false, List, [], ◌∷◌, ◌++◌, Option, None, Some, IsTrue, option_map, filter_map, codes}
+use Rattle.std.specs.Prelude.{◌≡◌, ◌⊎◌, ℕ, Bool, true, false, List, [], ◌∷◌, ◌++◌, Option, None, Some, IsTrue}
+use Rattle.std.specs.Prelude.{option_map, filter_map, codes}
 use Rattle.dist_version.specs.Spelling.{IsVersion}
 use Rattle.dist_relation.specs.declared.atom.Atom.{Atom}
 use Rattle.dist_relation.specs.declared.atom.Bound.{Bound}
@@ -70,7 +71,8 @@ abbrev pub SpellsBoundOf : Kind → List ℕ → Option Bound → Type 0
 SpellsBoundOf kind text None = text ≡ []
 SpellsBoundOf kind text (Some bound) = SpellsBound kind text bound
 
--- The text spells the atom, in a value of this kind: a name, perhaps a qualifier, and perhaps a bound, with white space round them.
+-- The text spells the atom, in a value of this kind: a name, perhaps a qualifier, and perhaps a bound, with white space
+-- round them.
 pub record SpellsAtom (kind : Kind) (text : List ℕ) (atom : Atom) : Type 0 where
   pub before : List ℕ
   pub between : List ℕ
@@ -90,12 +92,14 @@ pub record SpellsAtom (kind : Kind) (text : List ℕ) (atom : Atom) : Type 0 whe
 abbrev pub Joined : {X : Type 0} → ℕ → (List ℕ → X → Type 0) → List ℕ → List X → Type 0
 Joined between Spells text [] = IsTrue false
 Joined between Spells text (x ∷ []) = Spells text x
-Joined between Spells text (x ∷ y ∷ ys) = (first : List ℕ) × (rest : List ℕ) × Spells first x × Joined between Spells rest (y ∷ ys) × (text ≡ first ++ (between ∷ rest))
+Joined between Spells text (x ∷ y ∷ ys) = (first : List ℕ) × (rest : List ℕ) × Spells first x
+    × Joined between Spells rest (y ∷ ys) × (text ≡ first ++ (between ∷ rest))
 
 -- the same, with the byte behind each of them, and perhaps none
 abbrev pub Ended : {X : Type 0} → ℕ → (List ℕ → X → Type 0) → List ℕ → List X → Type 0
 Ended behind Spells text [] = text ≡ []
-Ended behind Spells text (x ∷ xs) = (first : List ℕ) × (rest : List ℕ) × Spells first x × Ended behind Spells rest xs × (text ≡ first ++ (behind ∷ rest))
+Ended behind Spells text (x ∷ xs) = (first : List ℕ) × (rest : List ℕ) × Spells first x × Ended behind Spells rest xs
+    × (text ≡ first ++ (behind ∷ rest))
 
 -- white space alone gives no item
 abbrev pub SpellsPiece : {X : Type 0} → (List ℕ → X → Type 0) → List ℕ → Option X → Type 0
@@ -114,7 +118,11 @@ SpellsAlternatives text atoms = Joined bar (SpellsAtom kinds.Depends) text atoms
 
 -- a provided version is one behind `=`
 abbrev pub atom_of : Provide → Atom
-atom_of provide = record { name = provide.name; qualifier = provide.qualifier; bound = option_map (λ version. record { op = Eq; version = version }) provide.version }
+atom_of provide = record {
+  name = provide.name;
+  qualifier = provide.qualifier;
+  bound = option_map (λ version. record { op = Eq; version = version }) provide.version;
+}
 
 abbrev pub SpellsProvide : List ℕ → Provide → Type 0
 SpellsProvide text provide = SpellsAtom kinds.Provides text (atom_of provide)

@@ -1,5 +1,7 @@
--- How the private readers go from left to right, as functions on lists. No public clause cites them: proofs/ shows that they give what Grammar and Faults say.
-use Rattle.std.specs.Prelude.{◌≡◌, ◌≤◌, ◌-◌, ℕ, zero, suc, Bool, true, ◌&&◌, ◌==◌, List, [], ◌∷◌, ◌++◌, length, take_while, filter_map, Option, None, Some, Result, Ok, Err, if◌then◌else◌}
+-- How the private readers go from left to right, as functions on lists. No public clause cites them: proofs/ shows that
+-- they give what Grammar and Faults say.
+use Rattle.std.specs.Prelude.{◌≡◌, ◌≤◌, ◌-◌, ℕ, zero, suc, Bool, true, ◌&&◌, ◌==◌, List, [], ◌∷◌, ◌++◌, length}
+use Rattle.std.specs.Prelude.{take_while, filter_map, Option, None, Some, Result, Ok, Err, if◌then◌else◌}
 use Rattle.std.specs.Char.{is_ascii_alphanumeric}
 use Rattle.dist_version.specs.Faults.{fault_of}
 use Rattle.dist_version.specs.declared.error.VersionError.{VersionError}
@@ -14,12 +16,14 @@ use Rattle.dist_relation.specs.declared.atom.Qualifier.{Qualifier}
 use Rattle.dist_relation.specs.declared.atom.Qualifier.TheVariants.{Plain, Named}
 use Rattle.dist_relation.specs.declared.error.Fault.{Fault}
 use Rattle.dist_relation.specs.declared.error.Problem.{Problem}
-use Rattle.dist_relation.specs.declared.error.Problem.TheVariants.{BadName, BadOp, BadVersion, Unclosed, BarNotAllowed, Trailing, OpInProvides}
+use Rattle.dist_relation.specs.declared.error.Problem.TheVariants.{BadName, BadOp, BadVersion, Unclosed, BarNotAllowed}
+use Rattle.dist_relation.specs.declared.error.Problem.TheVariants.{Trailing, OpInProvides}
 use Rattle.dist_relation.specs.declared.error.ReadError.{ReadError}
 use Rattle.dist_relation.specs.declared.error.ReadError.TheVariants as stops
 use Rattle.dist_relation.specs.declared.error.RelationError.{RelationError}
 use Rattle.dist_relation.specs.declared.error.RelationError.TheVariants as errors
-use Rattle.dist_relation.specs.Bytes.{is_space, is_name_byte, is_operator_byte, is_word_byte, less, equals, greater, colon, opening, closing, comma, bar}
+use Rattle.dist_relation.specs.Bytes.{is_space, is_name_byte, is_operator_byte, is_word_byte, less, equals, greater}
+use Rattle.dist_relation.specs.Bytes.{colon, opening, closing, comma, bar}
 use Rattle.dist_relation.specs.Grammar.{allows_operator}
 use Rattle.dist_relation.specs.Faults.{allows_bar, error_at}
 
@@ -38,7 +42,8 @@ Gives view (Ok x) read = read ≡ Ok (view x)
 Gives view (Err e) read = Fails e read
 
 -- the same where what was read was put behind the others, of which nothing is said at an error
-abbrev pub GivesOnto : {X Y R : Type 0} → (Y → List X) → (R → List ℕ) → List X → List X → Result R ReadError → Result (Y × List ℕ) Fault → Type 0
+abbrev pub GivesOnto : {X Y R : Type 0} → (Y → List X) → (R → List ℕ) → List X → List X → Result R ReadError
+    → Result (Y × List ℕ) Fault → Type 0
 GivesOnto {X} {Y} items left old new (Ok rest) read = (y : Y) × (read ≡ Ok (y, left rest)) × (new ≡ old ++ items y)
 GivesOnto items left old new (Err e) read = Fails e read
 
@@ -61,7 +66,8 @@ skip text = past is_space text
 
 unfoldable pub name_at : List ℕ → Result (List ℕ × List ℕ) Fault
 name_at [] = refuse BadName []
-name_at (b ∷ bs) = if is_ascii_alphanumeric b then Ok (take_while is_name_byte (b ∷ bs), past is_name_byte (b ∷ bs)) else refuse BadName (b ∷ bs)
+name_at (b ∷ bs) = if is_ascii_alphanumeric b then Ok (take_while is_name_byte (b ∷ bs), past is_name_byte (b ∷ bs))
+    else refuse BadName (b ∷ bs)
 
 unfoldable pub qualifier_at : List ℕ → Result (Qualifier × List ℕ) Fault
 qualifier_at [] = Ok (Plain, [])
@@ -76,7 +82,8 @@ head_at text = do
 
 abbrev pub operator_of : List ℕ → Option Op
 operator_of [] = None
-operator_of (a ∷ []) = if a == less then Some Le else if a == equals then Some Eq else if a == greater then Some Ge else None
+operator_of (a ∷ []) = if a == less then Some Le else if a == equals then Some Eq else if a == greater then Some Ge
+    else None
 operator_of (a ∷ b ∷ []) =
     if a == less && b == less then Some Lt
     else if a == less && b == equals then Some Le
@@ -87,7 +94,8 @@ operator_of (a ∷ b ∷ c ∷ bs) = None
 
 abbrev pub operator_found : Kind → List ℕ → Option Op → Result (Op × List ℕ) Fault
 operator_found kind text None = refuse BadOp text
-operator_found kind text (Some op) = if allows_operator kind op then Ok (op, past is_operator_byte text) else refuse OpInProvides text
+operator_found kind text (Some op) = if allows_operator kind op then Ok (op, past is_operator_byte text) else refuse
+    OpInProvides text
 
 unfoldable pub operator_at : Kind → List ℕ → Result (Op × List ℕ) Fault
 operator_at kind text = operator_found kind text (operator_of (take_while is_operator_byte text))
@@ -114,7 +122,8 @@ bound_at kind text = do
 
 unfoldable pub maybe_bound_at : Kind → List ℕ → Result (Option Bound × List ℕ) Fault
 maybe_bound_at kind [] = Ok (None, [])
-maybe_bound_at kind (b ∷ bs) = if b == opening then (bound_at kind bs >>= λ x. Ok (Some x.0, x.1)) else Ok (None, b ∷ bs)
+maybe_bound_at kind (b ∷ bs) = if b == opening then (bound_at kind bs >>= λ x. Ok (Some x.0, x.1)) else Ok
+    (None, b ∷ bs)
 
 -- what follows an atom
 unfoldable pub end_at : Kind → List ℕ → Result (List ℕ) Fault
@@ -134,17 +143,20 @@ atom_at kind text = do
 -- ---- several of them
 
 -- one was read, and more are read where the byte between them follows
-abbrev pub then_more : {X : Type 0} → ℕ → X → List ℕ → (List ℕ → Result (List X × List ℕ) Fault) → Result (List X × List ℕ) Fault
+abbrev pub then_more : {X : Type 0} → ℕ → X → List ℕ → (List ℕ → Result (List X × List ℕ) Fault)
+    → Result (List X × List ℕ) Fault
 then_more between x [] more = Ok (x ∷ [], [])
 then_more between x (b ∷ bs) more = if b == between then (more bs >>= λ y. Ok (x ∷ y.0, y.1)) else Ok (x ∷ [], b ∷ bs)
 
 -- those that more are, behind the byte between them, if it follows
-abbrev pub others_at : {X : Type 0} → ℕ → (List ℕ → Result (List X × List ℕ) Fault) → List ℕ → Result (List X × List ℕ) Fault
+abbrev pub others_at : {X : Type 0} → ℕ → (List ℕ → Result (List X × List ℕ) Fault) → List ℕ
+    → Result (List X × List ℕ) Fault
 others_at between more [] = Ok ([], [])
 others_at between more (b ∷ bs) = if b == between then more bs else Ok ([], b ∷ bs)
 
 -- at most so many, with a byte between each two
-unfoldable pub joined_at : {X : Type 0} → ℕ → (List ℕ → Result (X × List ℕ) Fault) → ℕ → List ℕ → Result (List X × List ℕ) Fault
+unfoldable pub joined_at : {X : Type 0} → ℕ → (List ℕ → Result (X × List ℕ) Fault) → ℕ → List ℕ
+    → Result (List X × List ℕ) Fault
 joined_at between one zero text = Ok ([], text)
 joined_at between one (suc n) text = one text >>= λ x. then_more between x.0 x.1 (joined_at between one n)
 
@@ -166,12 +178,14 @@ ends_piece [] = true
 ends_piece (b ∷ bs) = b == comma
 
 -- white space alone, or one item
-unfoldable pub piece_at : {X : Type 0} → (List ℕ → Result (X × List ℕ) Fault) → List ℕ → Result (Option X × List ℕ) Fault
+unfoldable pub piece_at : {X : Type 0} → (List ℕ → Result (X × List ℕ) Fault) → List ℕ
+    → Result (Option X × List ℕ) Fault
 piece_at one text = if ends_piece (skip text) then Ok (None, skip text) else (one text >>= λ x. Ok (Some x.0, x.1))
 
 -- the items of a whole value
 unfoldable pub items_of : {X : Type 0} → (List ℕ → Result (X × List ℕ) Fault) → List ℕ → Result (List X) Fault
-items_of one value = joined_at comma (piece_at one) (suc (length value)) value >>= λ x. Ok (filter_map (λ piece. piece) x.0)
+items_of one value = joined_at comma (piece_at one) (suc (length value)) value >>= λ x. Ok
+    (filter_map (λ piece. piece) x.0)
 
 -- ---- errors, with their places counted from the start of a value of so many bytes
 

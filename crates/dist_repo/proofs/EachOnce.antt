@@ -1,5 +1,6 @@
 -- Lists whose elements stand once: how they compare with other lists of the same elements.
-use Rattle.std.proofs.Common.{◌≡◌, ◌≢◌, ◌⊎◌, ℕ, zero, suc, ◌+◌, ◌-◌, ◌<◌, ◌≤◌, List, [], ◌∷◌, Ordering, Less, Greater, length, get_or, sum_by, refl, sym, ap, ◌∙◌, subst, arith, inl, inr}
+use Rattle.std.proofs.Common.{◌≡◌, ◌≢◌, ◌⊎◌, ℕ, zero, suc, ◌+◌, ◌-◌, ◌<◌, ◌≤◌, List, [], ◌∷◌, Ordering, Less, Greater, length, get_or, sum_by, refl, sym, ap}
+use Rattle.std.proofs.Common.{◌∙◌, subst, arith, inl, inr}
 use Rattle.std.specs.Prelude.{All, AllPairs, Contains}
 use Rattle.std.specs.Cmp.{IsTotalOrder}
 use Rattle.std.specs.List.{remove}
@@ -29,8 +30,12 @@ module _ {X : Type 0} where
               let same : n ≡ k = omega (arith, not_below, not_above) in
               absurd (apart (sym at_n ∙ get_or_default ys n p q within ∙ ap (λ i. get_or ys i q) same ∙ there.2))
           | inl above ↦
-              let next : k - 1 + 1 ≡ k = omega (arith, above) in
-              (k - 1, omega (arith, fits, long, above), get_or-remove_above ys n q (k - 1) (omega (arith, above)) within ∙ ap (λ i. get_or ys i q) next ∙ there.2)
+              let next : k - 1 + 1 ≡ k = omega (arith, above) in (
+                k - 1,
+                omega (arith, fits, long, above),
+                get_or-remove_above ys n q (k - 1) (omega (arith, above)) within ∙ ap (λ i. get_or ys i q) next
+                    ∙ there.2,
+              )
         ]
       ]
 
@@ -41,7 +46,8 @@ module _ {X : Type 0} where
       let here = All-head (Contains ys) p ps there in
       let n = here.0 in
       let others : All (Contains (remove ys n)) ps = λ k d within.
-      contains-removed ys p (get_or ps k d) n here.1 here.2 (apart 0 (suc k) d (omega arith) (omega (arith, within))) (All-tail (Contains ys) p ps there k d within) in
+      contains-removed ys p (get_or ps k d) n here.1 here.2 (apart 0 (suc k) d (omega arith) (omega (arith, within)))
+      (All-tail (Contains ys) p ps there k d within) in
       let rest = sum-within f ps (remove ys n) (λ i j d before within. apart (suc i) (suc j) d (omega (arith, before)) (omega (arith, within))) others in
       omega (arith, rest, sum_by-cons f p ps, sum_by-remove f ys n p here.1, ap f here.2)
 
@@ -117,7 +123,8 @@ module _ {X : Type 0} (R : X → X → Ordering) (total : IsTotalOrder R) where
 -- ---- packages
 
 apart : (packages : List Package) → IsInOrder packages → AllPairs (λ p q. p ≢ q) packages
-apart packages ordered i j d before within same = not_itself package_cmp package_total (get_or packages i d) (get_or packages j d) (sym same) (ordered i j d before within)
+apart packages ordered i j d before within same = not_itself package_cmp package_total (get_or packages i d) (get_or packages j d) (sym same)
+    (ordered i j d before within)
 
 pub fewer-packages : (packages whole : List Package) → IsInOrder packages → All (Contains whole) packages → length packages ≤ length whole
 fewer-packages packages whole ordered there =
@@ -126,6 +133,8 @@ fewer-packages packages whole ordered there =
 pub fewer-relations : (packages whole : List Package) → IsInOrder packages → All (Contains whole) packages → relation_count packages ≤ relation_count whole
 fewer-relations packages whole ordered there = sum-within relations_of packages whole (apart packages ordered) there
 
-pub one-list : (packages others : List Package) → IsInOrder packages → IsInOrder others → All (Contains others) packages → All (Contains packages) others → packages ≡ others
+pub one-list : (packages others : List Package) → IsInOrder packages → IsInOrder others → All (Contains others) packages → All (Contains packages) others
+    → packages ≡ others
 one-list packages others first second to from =
-    one_order package_cmp package_total packages others first second (λ p there. All-contains (Contains others) packages p to there) (λ p there. All-contains (Contains packages) others p from there)
+    one_order package_cmp package_total packages others first second (λ p there. All-contains (Contains others) packages p to there)
+    (λ p there. All-contains (Contains packages) others p from there)

@@ -1,5 +1,6 @@
 -- The tally laid flat, and the index that it gives.
-use Rattle.std.proofs.Common.{◌≡◌, ◌↔◌, ℕ, ◌<◌, List, [], ◌∷◌, ◌++◌, length, get_or, Some, None, Option, refl, sym, ap, subst, ◌∙◌, arith, unwrap_or, nat_cmp, slice_get, append_assoc}
+use Rattle.std.proofs.Common.{◌≡◌, ◌↔◌, ℕ, ◌<◌, List, [], ◌∷◌, ◌++◌, length, get_or, Some, None, Option, refl, sym, ap, subst, ◌∙◌, arith, unwrap_or, nat_cmp}
+use Rattle.std.proofs.Common.{slice_get, append_assoc}
 use Rattle.std.specs.Prelude.{All, Contains}
 use Rattle.std.specs.BTreeMap.{is_at}
 use Rattle.std.specs.Cmp.{eq_by_cmp_equiv}
@@ -31,7 +32,8 @@ pub record IsFlattened (tally left : Entries) (names numbers : List (List ℕ)) 
 pub flattened-none : (tally : Entries) → IsFlattened tally tally [] []
 flattened-none tally = record { names_so_far = refl; numbers_so_far = refl; rising = λ k d short. absurd (omega arith) }
 
-pub flattened-more : (tally left : Entries) (names numbers : List (List ℕ)) (name list : List ℕ) → IsFlattened tally ((name, list) ∷ left) names numbers → IsStrictlyIncreasing list →
+pub flattened-more : (tally left : Entries) (names numbers : List (List ℕ)) (name list : List ℕ) → IsFlattened tally ((name, list) ∷ left) names numbers
+    → IsStrictlyIncreasing list →
     IsFlattened tally left (names ++ name ∷ []) (numbers ++ list ∷ [])
 flattened-more tally left names numbers name list before rises = record {
   names_so_far = append_assoc names (name ∷ []) (keys_of left) ∙ before.names_so_far;
@@ -53,7 +55,8 @@ found-here tally place sorted short d =
     let found = lookup_from_place (eq_by_cmp_equiv nat_list_cmp_total) tally place e.0 e.1 distinct here in
     ap (λ (o : Option (List ℕ)). unwrap_or o []) found
 
-missing-here : (tally : Entries) (name : List ℕ) (o : Option (List ℕ)) → lookup (is_at (slice_cmp nat_cmp name)) tally ≡ o → ¬ Contains (keys_of tally) name → unwrap_or o [] ≡ []
+missing-here : (tally : Entries) (name : List ℕ) (o : Option (List ℕ)) → lookup (is_at (slice_cmp nat_cmp name)) tally ≡ o → ¬ Contains (keys_of tally) name
+    → unwrap_or o [] ≡ []
 missing-here tally name None is missing = refl
 missing-here tally name (Some v) is missing =
     let at = place_from_lookup (is_at (slice_cmp nat_cmp name)) tally v is in
@@ -61,10 +64,12 @@ missing-here tally name (Some v) is missing =
     let short = some-within tally at.0 (k, v) at.2 in
     let same : name ≡ k = sym (at-same name k at.3) in
     let here : get_or (keys_of tally) at.0 name ≡ name =
-    get_or-map (λ (e : List ℕ × List ℕ). e.0) tally at.0 (k, v) name short ∙ ap (λ (e : List ℕ × List ℕ). e.0) (get_or_from_slice_get tally at.0 (k, v) (k, v) at.2) ∙ sym same in
+    get_or-map (λ (e : List ℕ × List ℕ). e.0) tally at.0 (k, v) name short
+    ∙ ap (λ (e : List ℕ × List ℕ). e.0) (get_or_from_slice_get tally at.0 (k, v) (k, v) at.2) ∙ sym same in
     absurd (missing (at.0, omega (arith, length-map tally (λ (e : List ℕ × List ℕ). e.0)), here))
 
-pub index-from_tally : (r : PackageList) (tally : Entries) (names numbers : List (List ℕ)) → IsTallyOf r.architecture r.packages tally → names ≡ keys_of tally → numbers ≡ values_of tally →
+pub index-from_tally : (r : PackageList) (tally : Entries) (names numbers : List (List ℕ)) → IsTallyOf r.architecture r.packages tally → names ≡ keys_of tally
+    → numbers ≡ values_of tally →
     IsStrictlySortedBy (slice_cmp nat_cmp) names → All IsStrictlyIncreasing numbers → IsIndex r names numbers
 index-from_tally r tally names numbers tallied names_is numbers_is sorted rising =
     let count_names = ap length names_is ∙ length-map tally (λ (e : List ℕ × List ℕ). e.0) in
@@ -77,15 +82,18 @@ index-from_tally r tally names numbers tallied names_is numbers_is sorted rising
       each = λ place short.
           let in_tally : place < length tally = omega arith in
           let in_numbers : place < length numbers = omega arith in
-          let name_is : get_or names place [] ≡ (get_or tally place d).0 = ap (λ list. get_or list place []) names_is ∙ get_or-map (λ (e : List ℕ × List ℕ). e.0) tally place d [] in_tally in
-          let list_is : get_or numbers place [] ≡ (get_or tally place d).1 = ap (λ list. get_or list place []) numbers_is ∙ get_or-map (λ (e : List ℕ × List ℕ). e.1) tally place d [] in_tally in
+          let name_is : get_or names place [] ≡ (get_or tally place d).0 = ap (λ list. get_or list place []) names_is
+          ∙ get_or-map (λ (e : List ℕ × List ℕ). e.0) tally place d [] in_tally in
+          let list_is : get_or numbers place [] ≡ (get_or tally place d).1 = ap (λ list. get_or list place []) numbers_is
+          ∙ get_or-map (λ (e : List ℕ × List ℕ). e.1) tally place d [] in_tally in
           let found : numbers_at tally (get_or names place []) ≡ get_or numbers place [] =
           ap (numbers_at tally) name_is ∙ found-here tally place (subst Sorted names_is sorted) in_tally d ∙ sym list_is in
           let Exact : List ℕ → Type 0 = λ list. IsExactFor r (get_or names place []) list in
           record { rising = All-get_or IsStrictlyIncreasing numbers place [] in_numbers rising; exact = subst Exact found (tallied (get_or names place [])) };
       others = λ name missing.
           let Missing : List (List ℕ) → Type 0 = λ list. ¬ Contains list name in
-          let none : numbers_at tally name ≡ [] = missing-here tally name (lookup (is_at (slice_cmp nat_cmp name)) tally) refl (subst Missing names_is missing) in
+          let none : numbers_at tally name ≡ [] = missing-here tally name (lookup (is_at (slice_cmp nat_cmp name)) tally) refl
+          (subst Missing names_is missing) in
           let Exact : List ℕ → Type 0 = λ list. IsExactFor r name list in
           record { rising = λ k short. absurd (omega arith); exact = subst Exact none (tallied name) };
     }

@@ -1,5 +1,6 @@
 -- What a builder holds: the held package of a name and an equal version, and what a new package adds.
-use Rattle.std.proofs.Common.{◌≡◌, ◌≢◌, ◌↔◌, ◌⊎◌, ℕ, suc, ◌<◌, Bool, true, false, cond, List, [], ◌∷◌, length, get_or, Some, None, Ordering, Less, Equal, Greater, refl, sym, ap, subst, ◌∙◌, arith, inl, inr, nat_cmp, is_eq}
+use Rattle.std.proofs.Common.{◌≡◌, ◌≢◌, ◌↔◌, ◌⊎◌, ℕ, suc, ◌<◌, Bool, true, false, cond, List, [], ◌∷◌, length, get_or, Some, None, Ordering, Less, Equal}
+use Rattle.std.proofs.Common.{Greater, refl, sym, ap, subst, ◌∙◌, arith, inl, inr, nat_cmp, is_eq}
 use Rattle.std.specs.Prelude.{Contains, IfOk, IsPermutation, Result, Ok, Err}
 use Rattle.std.specs.BTreeMap.{insert_entry, is_at}
 use Rattle.std.specs.Cmp.Lexicographic.{slice_cmp}
@@ -71,7 +72,8 @@ contains-first e es k v key value =
 contains-later : (e : Held) (es : List Held) (h : Held) → Contains es h → Contains (e ∷ es) h
 contains-later e es h there = (suc there.0, omega (arith, there.1), there.2)
 
-contains-either : (b : Bool) (e : Held) (es : List Held) (k : Package) (v : ℕ) (keys : _) (values : _) → cond b (Some e.0) keys ≡ Some k → cond b (Some e.1) values ≡ Some v →
+contains-either : (b : Bool) (e : Held) (es : List Held) (k : Package) (v : ℕ) (keys : _) (values : _) → cond b (Some e.0) keys ≡ Some k
+    → cond b (Some e.1) values ≡ Some v →
     (keys ≡ Some k → values ≡ Some v → Contains es (k, v)) → Contains (e ∷ es) (k, v)
 contains-either true e es k v keys values key value later = contains-first e es k v key value
 contains-either false e es k v keys values key value later = contains-later e es (k, v) (later key value)
@@ -131,13 +133,18 @@ rises held ordered i j d before within =
     let second = get_or-map (λ (x : Held). x.0) held j d d.0 within in
     let short : j < length (packages_of held) = omega (arith, length-map held (λ (x : Held). x.0)) in
     let below = ordered i j d.0 before short in
-    subst (λ (x : Package). package_cmp x (get_or held j d).0 ≡ Less) first (subst (λ (x : Package). package_cmp (get_or (packages_of held) i d.0) x ≡ Less) second below)
+    subst (λ (x : Package). package_cmp x (get_or held j d).0 ≡ Less) first
+    (subst (λ (x : Package). package_cmp (get_or (packages_of held) i d.0) x ≡ Less) second below)
 
 -- two held entries of one name and equal versions are one
-one-held : (held : List Held) (h g : Held) (p : Package) → AreInOrder held → Contains held h → Contains held g → IsSamePackage h.0 p → IsSamePackage g.0 p → h ≡ g
+one-held : (held : List Held) (h g : Held) (p : Package) → AreInOrder held → Contains held h → Contains held g → IsSamePackage h.0 p → IsSamePackage g.0 p
+    → h ≡ g
 one-held held h g p sorted first second h_same g_same =
-    let at_h = at-stands (λ (x : Held). package_cmp x.0 p ≡ Equal) held first.0 h first.1 (let P : Held → Type 0 = λ x. package_cmp x.0 p ≡ Equal in subst P (sym first.2) (tied-from_same h.0 p h_same)) in
-    let at_g = at-stands (λ (x : Held). package_cmp x.0 p ≡ Equal) held second.0 h second.1 (let P : Held → Type 0 = λ x. package_cmp x.0 p ≡ Equal in subst P (sym (get_or_default held second.0 h g second.1 ∙ second.2)) (tied-from_same g.0 p g_same)) in
+    let at_h = at-stands (λ (x : Held). package_cmp x.0 p ≡ Equal) held first.0 h first.1
+    (let P : Held → Type 0 = λ x. package_cmp x.0 p ≡ Equal in subst P (sym first.2) (tied-from_same h.0 p h_same)) in
+    let at_g = at-stands (λ (x : Held). package_cmp x.0 p ≡ Equal) held second.0 h second.1
+    (let P : Held → Type 0 = λ x. package_cmp x.0 p ≡ Equal in
+    subst P (sym (get_or_default held second.0 h g second.1 ∙ second.2)) (tied-from_same g.0 p g_same)) in
     let same : first.0 ≡ second.0 = one-place package_cmp package_total (λ (x : Held). x.0) held first.0 second.0 p (rises held sorted) at_h at_g in
     sym first.2 ∙ ap (λ k. get_or held k h) same ∙ get_or_default held second.0 h g second.1 ∙ second.2
 
@@ -151,7 +158,8 @@ held-here held q p line sorted there same = (
   λ equal. (there.0, (q, line), there.1, there.2, equal),
 )
 
-pub clash-here : (held : List Held) (q p : Package) (line kept : ℕ) → AreInOrder held → Contains held (q, line) → IsSamePackage q p → IsClashAt held p kept ↔ ((q ≢ p) × (line ≡ kept))
+pub clash-here : (held : List Held) (q p : Package) (line kept : ℕ) → AreInOrder held → Contains held (q, line) → IsSamePackage q p → IsClashAt held p kept
+    ↔ ((q ≢ p) × (line ≡ kept))
 clash-here held q p line kept sorted there same = (
   λ any.
       let h : Held = any.1 in
@@ -165,12 +173,14 @@ clash-here held q p line kept sorted there same = (
 abbrev Told : Type 0
 Told = Result Added AddError
 
-pub told-same : (held : List Held) (q p : Package) (kept : ℕ) (told : Told) → AreInOrder held → Contains held (q, kept) → IsSamePackage q p → (told ≡ Ok Same) ↔ (q ≡ p) → (told ≡ Ok Same) ↔ IsHeld held p
+pub told-same : (held : List Held) (q p : Package) (kept : ℕ) (told : Told) → AreInOrder held → Contains held (q, kept) → IsSamePackage q p → (told ≡ Ok Same)
+    ↔ (q ≡ p) → (told ≡ Ok Same) ↔ IsHeld held p
 told-same held q p kept told ordered there same is =
     let here = held-here held q p kept ordered there same in
     ((λ e. here.1 (is.0 e)), λ any. is.1 (here.0 any))
 
-pub told-clash : (held : List Held) (q p : Package) (kept line : ℕ) (told : Told) → AreInOrder held → Contains held (q, kept) → IsSamePackage q p → (told ≡ Ok Same) ↔ (q ≡ p) → (told ≡ Ok Same) ⊎ (told ≡ Err (Clash kept p))
+pub told-clash : (held : List Held) (q p : Package) (kept line : ℕ) (told : Told) → AreInOrder held → Contains held (q, kept) → IsSamePackage q p
+    → (told ≡ Ok Same) ↔ (q ≡ p) → (told ≡ Ok Same) ⊎ (told ≡ Err (Clash kept p))
     → (told ≡ Err (Clash line p)) ↔ IsClashAt held p line
 told-clash held q p kept line told ordered there same is either =
     let here = clash-here held q p kept line ordered there same in (
@@ -194,13 +204,15 @@ free-not_held held p free there =
 
 -- ---- a new entry is added to those before
 
-insert-cases : (o : Ordering) (e : Held) (es : List Held) (p : Package) (line : ℕ) → ¬ (o ≡ Equal) → IsPermutation ((p, line) ∷ es) (insert_entry package_cmp es p line) →
+insert-cases : (o : Ordering) (e : Held) (es : List Held) (p : Package) (line : ℕ) → ¬ (o ≡ Equal)
+    → IsPermutation ((p, line) ∷ es) (insert_entry package_cmp es p line) →
     IsPermutation ((p, line) ∷ e ∷ es) (match_ordering o ((p, line) ∷ e ∷ es) ((e.0, line) ∷ es) (e ∷ insert_entry package_cmp es p line))
 insert-cases Less e es p line apart later = IsPermutation-refl ((p, line) ∷ e ∷ es)
 insert-cases Equal e es p line apart later = absurd (apart refl)
 insert-cases Greater e es p line apart later =
     let h : Held = (p, line) in
-    IsPermutation-trans (h ∷ e ∷ es) (e ∷ h ∷ es) (e ∷ insert_entry package_cmp es p line) (IsPermutation-middle (h ∷ []) e es) (IsPermutation-cons e (h ∷ es) (insert_entry package_cmp es p line) later)
+    IsPermutation-trans (h ∷ e ∷ es) (e ∷ h ∷ es) (e ∷ insert_entry package_cmp es p line) (IsPermutation-middle (h ∷ []) e es)
+    (IsPermutation-cons e (h ∷ es) (insert_entry package_cmp es p line) later)
 
 free-tail : (e : Held) (es : List Held) (p : Package) → IsFree (e ∷ es) p → IsFree es p
 free-tail e es p free there = free (suc there.0, there.1, omega (arith, there.2), there.3, there.4)

@@ -6,7 +6,8 @@ use Rattle.dist_repo.specs.PackageList.{PackageList}
 use Rattle.dist_repo.specs.Providers.{AreProviders}
 use Rattle.dist_repo.proofs.Search.{stands-at}
 
-pub provided-at : (r : PackageList) (names numbers : _) (place : ℕ) (name result : List ℕ) → IsIndex r names numbers → slice_get names place ≡ Some name → result ≡ get_or numbers place [] → AreProviders r name result
+pub provided-at : (r : PackageList) (names numbers : _) (place : ℕ) (name result : List ℕ) → IsIndex r names numbers → slice_get names place ≡ Some name
+    → result ≡ get_or numbers place [] → AreProviders r name result
 provided-at r names numbers place name result index here is =
     let Named : _ → Type 0 = λ o. IsSomeAnd o (λ (x : List ℕ). x ≡ name) in
     let at = stands-at (λ (x : List ℕ). x ≡ name) names place [] (subst Named (sym here) refl) in

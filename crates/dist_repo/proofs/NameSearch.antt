@@ -1,5 +1,6 @@
 -- A binary search for a name among names in order.
-use Rattle.std.proofs.Common.{◌≡◌, ℕ, ◌+◌, ◌<◌, ◌≤◌, List, [], length, get_or, nat_cmp, Ordering, Less, Equal, Greater, sym, ap, ◌∙◌, subst, arith, inl, inr, slice_get, Some}
+use Rattle.std.proofs.Common.{◌≡◌, ℕ, ◌+◌, ◌<◌, ◌≤◌, List, [], length, get_or, nat_cmp, Ordering, Less, Equal, Greater, sym, ap, ◌∙◌, subst, arith, inl, inr}
+use Rattle.std.proofs.Common.{slice_get, Some}
 use Rattle.std.specs.Prelude.{Contains}
 use Rattle.std.specs.Cmp.Lexicographic.{slice_cmp}
 use Rattle.std.specs.List.Sorted.{IsStrictlySortedBy}
@@ -52,7 +53,8 @@ between-up names name low high middle sorted between from to less = record {
   above = between.above;
 }
 
-pub between-down : (names : List (List ℕ)) (name : List ℕ) (low high middle : ℕ) → IsStrictlySortedBy (slice_cmp nat_cmp) names → IsBetween names name low high →
+pub between-down : (names : List (List ℕ)) (name : List ℕ) (low high middle : ℕ) → IsStrictlySortedBy (slice_cmp nat_cmp) names → IsBetween names name low high
+    →
     low ≤ middle → middle < high → ((d : List ℕ) → cmp (get_or names middle d) name ≡ Greater) → IsBetween names name low middle
 between-down names name low high middle sorted between from to greater = record {
   ordered = from;
@@ -60,7 +62,8 @@ between-down names name low high middle sorted between from to greater = record 
   below = between.below;
   above = λ k d h short. elim (cases_lt middle k) [
     | inl g ↦ less-turned name (get_or names k d)
-        (nat_list_cmp_total.trans name (get_or names middle d) (get_or names k d) (greater-turned (get_or names middle d) name (greater d)) (Less-from_sorted cmp names middle k d sorted g short))
+        (nat_list_cmp_total.trans name (get_or names middle d) (get_or names k d) (greater-turned (get_or names middle d) name (greater d))
+        (Less-from_sorted cmp names middle k d sorted g short))
     | inr g ↦ let same : middle ≡ k = omega arith in
         let P : ℕ → Type 0 = λ n. cmp (get_or names n d) name ≡ Greater in subst P same (greater d)
   ];
@@ -79,7 +82,8 @@ between-none names name low high met between there =
 
 -- ---- a turn of the search, at the name x in the middle
 
-in-middle : (names : List (List ℕ)) (name x : List ℕ) (middle : ℕ) (o : Ordering) → middle < length names → x ≡ get_or names middle [] → o ≡ slice_cmp nat_cmp x name →
+in-middle : (names : List (List ℕ)) (name x : List ℕ) (middle : ℕ) (o : Ordering) → middle < length names → x ≡ get_or names middle []
+    → o ≡ slice_cmp nat_cmp x name →
     (d : List ℕ) → cmp (get_or names middle d) name ≡ o
 in-middle names name x middle o short is order d = ap (λ y. slice_cmp nat_cmp y name) (get_or_default names middle d [] short ∙ sym is) ∙ sym order
 
@@ -93,7 +97,8 @@ pub turn-down : (names : List (List ℕ)) (name x : List ℕ) (low high middle :
 turn-down names name x low high middle sorted between from to is order =
     between-down names name low high middle sorted between from to (in-middle names name x middle Greater (omega (arith, between.within)) is order)
 
-pub turn-found : (names : List (List ℕ)) (name x : List ℕ) (middle : ℕ) → middle < length names → x ≡ get_or names middle [] → Equal ≡ slice_cmp nat_cmp x name →
+pub turn-found : (names : List (List ℕ)) (name x : List ℕ) (middle : ℕ) → middle < length names → x ≡ get_or names middle [] → Equal ≡ slice_cmp nat_cmp x name
+    →
     slice_get names middle ≡ Some name
 turn-found names name x middle short is order =
     slice_get-get_or names middle [] short ∙ ap (λ (y : List ℕ). Some y) (sym is ∙ same_names x name (sym order))

@@ -1,5 +1,6 @@
 -- The last package of each name is the newest.
-use Rattle.std.proofs.Common.{◌≡◌, ◌≢◌, ◌↔◌, ◌⊎◌, ℕ, zero, suc, ◌<◌, ◌≤◌, Bool, true, false, not, cond, List, [], ◌∷◌, length, get_or, Less, Greater, refl, sym, ap, subst, ◌∙◌, arith, inl, inr, nat_cmp, bytes_eq}
+use Rattle.std.proofs.Common.{◌≡◌, ◌≢◌, ◌↔◌, ◌⊎◌, ℕ, zero, suc, ◌<◌, ◌≤◌, Bool, true, false, not, cond, List, [], ◌∷◌, length, get_or, Less, Greater, refl, sym}
+use Rattle.std.proofs.Common.{ap, subst, ◌∙◌, arith, inl, inr, nat_cmp, bytes_eq}
 use Rattle.std.specs.Prelude.{All, Contains}
 use Rattle.std.specs.Cmp.Lexicographic.{slice_cmp}
 use Rattle.std.specs.Ordering.{ordering_then, ordering_reverse}
@@ -45,7 +46,8 @@ contains-cases p ps q there = contains-at p ps q there.0 there.1 there.2
 
 -- ---- what is kept is of the list
 
-all-kept-case : (P : Package → Type 0) (b : Bool) (p : Package) (ps : List Package) → P p → All P (last_of_names ps) → All P (cond b (p ∷ last_of_names ps) (last_of_names ps))
+all-kept-case : (P : Package → Type 0) (b : Bool) (p : Package) (ps : List Package) → P p → All P (last_of_names ps)
+    → All P (cond b (p ∷ last_of_names ps) (last_of_names ps))
 all-kept-case P true p ps here rest = All-cons P p (last_of_names ps) here rest
 all-kept-case P false p ps here rest = rest
 
@@ -53,7 +55,8 @@ pub all-kept : (P : Package → Type 0) (ps : List Package) → All P ps → All
 all-kept P [] all = all
 all-kept P (p ∷ ps) all = all-kept-case P (is_last_of_name p ps) p ps (All-head P p ps all) (all-kept P ps (All-tail P p ps all))
 
-in_order-kept-case : (b : Bool) (p : Package) (ps : List Package) → All (Below p) (last_of_names ps) → IsInOrder (last_of_names ps) → IsInOrder (cond b (p ∷ last_of_names ps) (last_of_names ps))
+in_order-kept-case : (b : Bool) (p : Package) (ps : List Package) → All (Below p) (last_of_names ps) → IsInOrder (last_of_names ps)
+    → IsInOrder (cond b (p ∷ last_of_names ps) (last_of_names ps))
 in_order-kept-case true p ps below rest = AllPairs-cons Below p (last_of_names ps) below rest
 in_order-kept-case false p ps below rest = rest
 
@@ -62,7 +65,8 @@ in_order-kept [] ordered = ordered
 in_order-kept (p ∷ ps) ordered =
     in_order-kept-case (is_last_of_name p ps) p ps (all-kept (Below p) ps (head-below p ps ordered)) (in_order-kept ps (tail-in_order p ps ordered))
 
-short-kept-case : (b : Bool) (p : Package) (ps : List Package) → length (last_of_names ps) ≤ length ps → length (cond b (p ∷ last_of_names ps) (last_of_names ps)) ≤ length (p ∷ ps)
+short-kept-case : (b : Bool) (p : Package) (ps : List Package) → length (last_of_names ps) ≤ length ps
+    → length (cond b (p ∷ last_of_names ps) (last_of_names ps)) ≤ length (p ∷ ps)
 short-kept-case true p ps short = omega arith
 short-kept-case false p ps short = omega arith
 
@@ -110,7 +114,8 @@ other-name p n q first later different same =
     elim later [
       | inl is ↦ different (sym same ∙ ap (λ (x : Package). x.name) (sym is))
       | inr second ↦
-          let between = between-equal p.name n.name q.name (then-less (slice_cmp nat_cmp p.name n.name) _ first) (then-less (slice_cmp nat_cmp n.name q.name) _ second) (sym same) in
+          let between = between-equal p.name n.name q.name (then-less (slice_cmp nat_cmp p.name n.name) _ first)
+          (then-less (slice_cmp nat_cmp n.name q.name) _ second) (sym same) in
           different (sym same ∙ sym (same_names n.name q.name between))
     ]
 
@@ -121,10 +126,12 @@ head-newest p n ps ordered different =
     record {
       there = contains-head p (n ∷ ps);
       newest = All-cons (NotBelow p) p (n ∷ ps) (not-below-itself p)
-          (All-cons (NotBelow p) n ps (λ same. absurd (different (sym same))) (λ k d short same. absurd (other-name p n (get_or ps k d) first (inr (later k d short)) different same)));
+          (All-cons (NotBelow p) n ps (λ same. absurd (different (sym same)))
+          (λ k d short same. absurd (other-name p n (get_or ps k d) first (inr (later k d short)) different same)));
     }
 
-kept-case : (b : Bool) (p n : Package) (ps : List Package) → bytes_eq p.name n.name ≡ b → IsInOrder (p ∷ n ∷ ps) → ((q : Package) → Contains (last_of_names (n ∷ ps)) q ↔ IsNewest (n ∷ ps) q) →
+kept-case : (b : Bool) (p n : Package) (ps : List Package) → bytes_eq p.name n.name ≡ b → IsInOrder (p ∷ n ∷ ps)
+    → ((q : Package) → Contains (last_of_names (n ∷ ps)) q ↔ IsNewest (n ∷ ps) q) →
     (q : Package) → Contains (cond (not b) (p ∷ last_of_names (n ∷ ps)) (last_of_names (n ∷ ps))) q ↔ IsNewest (p ∷ n ∷ ps) q
 kept-case true p n ps is ordered rest q =
     let same : p.name ≡ n.name = (bytes_eq-Decides p.name n.name).0 is in
@@ -154,7 +161,10 @@ kept-newest [] ordered q = ((λ there. absurd (omega (arith, there.1))), λ newe
 kept-newest (p ∷ []) ordered q =
     let Newest : Package → Type 0 = λ x. IsNewest (p ∷ []) x in (
       (λ there. elim (contains-cases p [] q there) [
-        | inl here ↦ subst Newest here (record { there = contains-head p []; newest = All-cons (NotBelow p) p [] (not-below-itself p) (λ k d short. absurd (omega arith)) })
+        | inl here ↦ subst Newest here (record {
+          there = contains-head p [];
+          newest = All-cons (NotBelow p) p [] (not-below-itself p) (λ k d short. absurd (omega arith));
+        })
         | inr later ↦ absurd (omega (arith, later.1))
       ]),
       λ newest. newest.there,
@@ -192,7 +202,8 @@ all-through r a b first second k d within =
 
 pub one-latest : (r latest other : PackageList) → IsLatestOf r latest → IsLatestOf r other → other ≡ latest
 one-latest r latest other first second =
-    let packages : other.packages ≡ latest.packages = one-list other.packages latest.packages second.in_order first.in_order (all-through r other latest second first) (all-through r latest other first second) in
+    let packages : other.packages ≡ latest.packages = one-list other.packages latest.packages second.in_order first.in_order
+    (all-through r other latest second first) (all-through r latest other first second) in
     let architecture : other.architecture ≡ latest.architecture = second.architecture ∙ sym first.architecture in
     λ i. record { architecture = architecture i; packages = packages i }
 

@@ -1,5 +1,6 @@
 -- What is noted of one package, and of all packages so far.
-use Rattle.std.proofs.Common.{◌≡◌, ◌↔◌, ◌⊎◌, ℕ, zero, suc, ◌+◌, ◌<◌, ◌≤◌, List, [], ◌∷◌, ◌++◌, length, get_or, take, Some, Option, refl, sym, ap, subst, ◌∙◌, arith, inl, inr, slice_get}
+use Rattle.std.proofs.Common.{◌≡◌, ◌↔◌, ◌⊎◌, ℕ, zero, suc, ◌+◌, ◌<◌, ◌≤◌, List, [], ◌∷◌, ◌++◌, length, get_or, take, Some, Option, refl, sym, ap, subst, ◌∙◌}
+use Rattle.std.proofs.Common.{arith, inl, inr, slice_get}
 use Rattle.std.specs.Prelude.{Any, Contains, IsSomeAnd}
 use Rattle.std.proofs.lemmas.Bool.{cases_lt}
 use Rattle.std.proofs.lemmas.List.{take_more}
@@ -76,14 +77,17 @@ each-more a b c P Q n first second q k = (
 abbrev pub IsProviderBy : Option (List ℕ) → Package → ℕ → List ℕ → Type 0
 IsProviderBy architecture p count q = (p.name ≡ q) ⊎ Any (IsEntryOf architecture q) (take count p.provides)
 
-pub each-name : (a b : Entries) (architecture : Option (List ℕ)) (p : Package) (name : List ℕ) (n : ℕ) → name ≡ p.name → Notes a b name n → NotesEach a b (IsProviderBy architecture p 0) n
+pub each-name : (a b : Entries) (architecture : Option (List ℕ)) (p : Package) (name : List ℕ) (n : ℕ) → name ≡ p.name → Notes a b name n
+    → NotesEach a b (IsProviderBy architecture p 0) n
 each-name a b architecture p name n is notes = each-iff a b (λ q. q ≡ name) (IsProviderBy architecture p 0) n (λ q. (
   (λ same. inl (sym (same ∙ is))),
   λ either. elim either [ inl h ↦ sym (is ∙ h) | inr any ↦ absurd (omega (arith, any.2)) ],
 )) notes
 
-pub each-usable : (a b c : Entries) (architecture : Option (List ℕ)) (p : Package) (place : ℕ) (entry : Provide) (name : List ℕ) (n : ℕ) → slice_get p.provides place ≡ Some entry → name ≡ entry.name →
-    IsUsable architecture entry.qualifier → NotesEach a b (IsProviderBy architecture p place) n → Notes b c name n → NotesEach a c (IsProviderBy architecture p (place + 1)) n
+pub each-usable : (a b c : Entries) (architecture : Option (List ℕ)) (p : Package) (place : ℕ) (entry : Provide) (name : List ℕ) (n : ℕ)
+    → slice_get p.provides place ≡ Some entry → name ≡ entry.name →
+    IsUsable architecture entry.qualifier → NotesEach a b (IsProviderBy architecture p place) n → Notes b c name n
+    → NotesEach a c (IsProviderBy architecture p (place + 1)) n
 each-usable a b c architecture p place entry name n here is usable before notes =
     each-iff a c (λ q. IsProviderBy architecture p place q ⊎ (q ≡ name)) (IsProviderBy architecture p (place + 1)) n (λ q.
     let taken = any-take (IsEntryOf architecture q) p.provides place entry here in (
@@ -97,7 +101,8 @@ each-usable a b c architecture p place entry name n here is usable before notes 
       ],
     )) (each-more a b c (IsProviderBy architecture p place) (λ q. q ≡ name) n before notes)
 
-pub each-unusable : (a b : Entries) (architecture : Option (List ℕ)) (p : Package) (place : ℕ) (entry : Provide) (n : ℕ) → slice_get p.provides place ≡ Some entry →
+pub each-unusable : (a b : Entries) (architecture : Option (List ℕ)) (p : Package) (place : ℕ) (entry : Provide) (n : ℕ)
+    → slice_get p.provides place ≡ Some entry →
     ¬ IsUsable architecture entry.qualifier → NotesEach a b (IsProviderBy architecture p place) n → NotesEach a b (IsProviderBy architecture p (place + 1)) n
 each-unusable a b architecture p place entry n here unusable before =
     each-iff a b (IsProviderBy architecture p place) (IsProviderBy architecture p (place + 1)) n (λ q.
@@ -109,7 +114,8 @@ each-unusable a b architecture p place entry n here unusable before =
       ],
     )) before
 
-pub each-all : (a b : Entries) (architecture : Option (List ℕ)) (p : Package) (place n : ℕ) → length p.provides ≤ place → NotesEach a b (IsProviderBy architecture p place) n →
+pub each-all : (a b : Entries) (architecture : Option (List ℕ)) (p : Package) (place n : ℕ) → length p.provides ≤ place
+    → NotesEach a b (IsProviderBy architecture p place) n →
     NotesEach a b (λ q. IsProvider architecture q p) n
 each-all a b architecture p place n past notes =
     each-iff a b (IsProviderBy architecture p place) (λ q. IsProvider architecture q p) n (λ q.
@@ -143,7 +149,8 @@ tally-more architecture packages number p a b here before notes q k =
       ]),
     )
 
-pub tally-all : (architecture : Option (List ℕ)) (packages : List Package) (number : ℕ) (tally : Entries) → length packages ≤ number → IsTallyBelow architecture packages number tally → IsTallyOf architecture packages tally
+pub tally-all : (architecture : Option (List ℕ)) (packages : List Package) (number : ℕ) (tally : Entries) → length packages ≤ number
+    → IsTallyBelow architecture packages number tally → IsTallyOf architecture packages tally
 tally-all architecture packages number tally past below q k = (
   (λ there. ((below q k).0 there).1),
   λ here. (below q k).1 (let at = within-from (IsProvider architecture q) packages k here in omega (arith, at), here),

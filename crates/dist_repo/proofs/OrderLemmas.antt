@@ -1,5 +1,6 @@
 -- Packages in order: the package of a name and a version, and neighbours of one name.
-use Rattle.std.proofs.Common.{◌≡◌, ◌≢◌, ◌↔◌, ℕ, ◌-◌, ◌<◌, ◌≤◌, List, length, get_or, nat_cmp, Ordering, Less, Equal, Greater, refl, sym, ap, ◌∙◌, subst, arith, inl, inr, Some}
+use Rattle.std.proofs.Common.{◌≡◌, ◌≢◌, ◌↔◌, ℕ, ◌-◌, ◌<◌, ◌≤◌, List, length, get_or, nat_cmp, Ordering, Less, Equal, Greater, refl, sym, ap, ◌∙◌, subst, arith}
+use Rattle.std.proofs.Common.{inl, inr, Some}
 use Rattle.std.specs.Prelude.{Result}
 use Rattle.std.specs.Cmp.Lexicographic.{slice_cmp}
 use Rattle.std.specs.List.Sorted.{IsBinarySearchResult, IsSearchInRange}
@@ -36,8 +37,10 @@ pub searched-package : (packages : List Package) (name version : List ℕ) (foun
 searched-package packages name version found ordered within search_is number =
     let finds = searched-place key_cmp key_total key_of packages (name, version) found ordered within search_is number in
     let Tied : Package → Type 0 = λ p. key_cmp (key_of p) (name, version) ≡ Equal in
-    let Is : Package → Type 0 = λ p. (p.name ≡ name) × (version_cmp p.version version ≡ Equal) in
-    ((λ is. at-weaker Tied Is packages number (tied-is name version) (finds.0 is)), λ here. finds.1 (at-weaker Is Tied packages number (is-tied name version) here))
+    let Is : Package → Type 0 = λ p. (p.name ≡ name) × (version_cmp p.version version ≡ Equal) in (
+      (λ is. at-weaker Tied Is packages number (tied-is name version) (finds.0 is)),
+      λ here. finds.1 (at-weaker Is Tied packages number (is-tied name version) here),
+    )
 
 -- ---- neighbours
 
@@ -63,7 +66,8 @@ between-equal a b c first second same = decide (slice_cmp nat_cmp b c) refl
     decide Greater is = absurd (second is)
 
 -- where neighbours have different names, all have
-pub flat-from_neighbours : (packages : List Package) → IsInOrder packages → ((k : ℕ) (d : Package) → 1 ≤ k → k < length packages → (get_or packages (k - 1) d).name ≢ (get_or packages k d).name) → IsFlat packages
+pub flat-from_neighbours : (packages : List Package) → IsInOrder packages
+    → ((k : ℕ) (d : Package) → 1 ≤ k → k < length packages → (get_or packages (k - 1) d).name ≢ (get_or packages k d).name) → IsFlat packages
 flat-from_neighbours packages ordered apart i j d before within same =
     elim (cases_lt i (j - 1)) [
       | inl h ↦
@@ -80,7 +84,8 @@ flat-from_neighbours packages ordered apart i j d before within same =
     ]
 
 -- two neighbours of one name
-pub not_flat-at : (packages : List Package) (n : ℕ) (x y : Package) → 1 ≤ n → n < length packages → x ≡ get_or packages (n - 1) x → y ≡ get_or packages n y → x.name ≡ y.name → ¬ IsFlat packages
+pub not_flat-at : (packages : List Package) (n : ℕ) (x y : Package) → 1 ≤ n → n < length packages → x ≡ get_or packages (n - 1) x → y ≡ get_or packages n y
+    → x.name ≡ y.name → ¬ IsFlat packages
 not_flat-at packages n x y from within first second same flat =
     let second' : y ≡ get_or packages n x = second ∙ get_or_default packages n y x within in
     flat (n - 1) n x (omega arith) within (ap (λ (p : Package). p.name) (sym first) ∙ same ∙ ap (λ (p : Package). p.name) second')

@@ -1,5 +1,6 @@
 -- Prefixes of names: what they are while they are made, and that two that differ decide which name is lower.
-use Rattle.std.proofs.Common.{◌≡◌, ◌≢◌, ℕ, zero, suc, ◌+◌, ◌*◌, ◌^◌, ◌<◌, ◌≤◌, List, [], ◌∷◌, get_or, Ordering, Less, Equal, Greater, true, Fits, w8, nat_cmp, refl, sym, ap, ◌∙◌, arith, inl, inr}
+use Rattle.std.proofs.Common.{◌≡◌, ◌≢◌, ℕ, zero, suc, ◌+◌, ◌*◌, ◌^◌, ◌<◌, ◌≤◌, List, [], ◌∷◌, get_or, Ordering, Less, Equal, Greater, true, Fits, w8, nat_cmp}
+use Rattle.std.proofs.Common.{refl, sym, ap, ◌∙◌, arith, inl, inr}
 use Rattle.std.specs.Prelude.{All}
 use Rattle.std.specs.Cmp.{nat_cmp_is}
 use Rattle.std.specs.Cmp.Lexicographic.{slice_cmp}
@@ -27,7 +28,8 @@ unfolding digits
 digits-below zero bytes small = omega arith
 digits-below (suc places) [] small = one-le-pow (suc places) 256 (omega arith)
 digits-below (suc places) (b ∷ bytes) small =
-    rw (pow-suc 256 places) (digit-below b (256 ^ places) (digits places bytes) (All-head IsByte b bytes small) (digits-below places bytes (All-tail IsByte b bytes small)))
+    rw (pow-suc 256 places) (digit-below b (256 ^ places) (digits places bytes) (All-head IsByte b bytes small)
+    (digits-below places bytes (All-tail IsByte b bytes small)))
 
 shifted : (b p q r s t : ℕ) → q ≡ p * 256 → t ≡ r * 256 + s → b * q + t ≡ (b * p + r) * 256 + s
 shifted b p q r s t power more = ap (λ k. b * k + t) power ∙ omega (arith, more)
@@ -39,7 +41,8 @@ digits-more zero [] = refl
 digits-more zero (b ∷ bytes) = omega arith
 digits-more (suc places) [] = refl
 digits-more (suc places) (b ∷ bytes) =
-    shifted b (256 ^ places) (256 ^ suc places) (digits places bytes) (get_or bytes places 0) (digits (suc places) bytes) (pow-suc 256 places) (digits-more places bytes)
+    shifted b (256 ^ places) (256 ^ suc places) (digits places bytes) (get_or bytes places 0) (digits (suc places) bytes) (pow-suc 256 places)
+    (digits-more places bytes)
 
 -- sixteen digits fit in 128 bits
 pub digits-fit : (places : ℕ) (bytes : List ℕ) → All IsByte bytes → places < 16 → digits places bytes * 256 + 255 < 2 ^ 128
@@ -68,15 +71,18 @@ by-first x y p r s rest first second later apart = elim (cases_lt x y) [
       ap (λ o. ordering_then o rest) (sym (nat_cmp_is x y Less less)) ∙ nat_cmp_is (x * p + r) (y * p + s) Less (digits-less x y p r s less first)
   | inr other ↦ elim (cases_lt y x) [
     | inl greater ↦
-        ap (λ o. ordering_then o rest) (sym (nat_cmp_is x y Greater greater)) ∙ nat_cmp_is (x * p + r) (y * p + s) Greater (digits-less y x p s r greater second)
+        ap (λ o. ordering_then o rest) (sym (nat_cmp_is x y Greater greater))
+        ∙ nat_cmp_is (x * p + r) (y * p + s) Greater (digits-less y x p s r greater second)
     | inr another ↦
         let same : x ≡ y = omega arith in
         let differ : r ≢ s = λ e. apart (ap (λ k. k * p + r) same ∙ ap (λ k. y * p + k) e) in
-        ap (λ o. ordering_then o rest) (sym (nat_cmp_is x y Equal same)) ∙ later differ ∙ same-first (y * p) r s differ ∙ ap (λ k. nat_cmp (k * p + r) (y * p + s)) (sym same)
+        ap (λ o. ordering_then o rest) (sym (nat_cmp_is x y Equal same)) ∙ later differ ∙ same-first (y * p) r s differ
+        ∙ ap (λ k. nat_cmp (k * p + r) (y * p + s)) (sym same)
   ]
 ]
 
-digits-decide : (places : ℕ) (a b : List ℕ) → All IsByte a → All IsByte b → digits places a ≢ digits places b → slice_cmp nat_cmp a b ≡ nat_cmp (digits places a) (digits places b)
+digits-decide : (places : ℕ) (a b : List ℕ) → All IsByte a → All IsByte b → digits places a ≢ digits places b
+    → slice_cmp nat_cmp a b ≡ nat_cmp (digits places a) (digits places b)
 unfolding digits
 digits-decide zero a b first second apart = absurd (apart refl)
 digits-decide (suc places) [] [] first second apart = absurd (apart refl)
@@ -85,7 +91,8 @@ digits-decide (suc places) (x ∷ a) [] first second apart = nat_cmp_is (x * 256
 digits-decide (suc places) (x ∷ a) (y ∷ b) first second apart =
     let first' = All-tail IsByte x a first in
     let second' = All-tail IsByte y b second in
-    by-first x y (256 ^ places) (digits places a) (digits places b) (slice_cmp nat_cmp a b) (digits-below places a first') (digits-below places b second') (digits-decide places a b first' second') apart
+    by-first x y (256 ^ places) (digits places a) (digits places b) (slice_cmp nat_cmp a b) (digits-below places a first') (digits-below places b second')
+    (digits-decide places a b first' second') apart
 
 -- an order of two prefixes that is no tie is that of the names
 pub prefixes-decide : (m n : ℕ) (a b : List ℕ) (o : Ordering) → IsPrefixOf m a → IsPrefixOf n b → o ≡ nat_cmp m n → is_ne o ≡ true → o ≡ slice_cmp nat_cmp a b

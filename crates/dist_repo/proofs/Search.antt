@@ -1,5 +1,6 @@
 -- Places in lists, and searches in lists that strictly rise in a total order.
-use Rattle.std.proofs.Common.{◌≡◌, ℕ, zero, suc, ◌+◌, ◌<◌, List, [], ◌∷◌, length, get_or, ap, ◌∙◌, subst, arith, inl, inr, Ordering, is_lt, Less, Equal, slice_get, Some, None, Option}
+use Rattle.std.proofs.Common.{◌≡◌, ℕ, zero, suc, ◌+◌, ◌<◌, List, [], ◌∷◌, length, get_or, ap, ◌∙◌, subst, arith, inl, inr, Ordering, is_lt, Less, Equal}
+use Rattle.std.proofs.Common.{slice_get, Some, None, Option}
 use Rattle.std.specs.Prelude.{Ok, Err, Result, IsSomeAnd, AllPairs, ◌↔◌}
 use Rattle.std.specs.Cmp.{IsTotalOrder}
 use Rattle.std.proofs.lemmas.Bool.{cases_lt}

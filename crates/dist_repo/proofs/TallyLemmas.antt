@@ -1,5 +1,6 @@
 -- What is noted of who provides a name.
-use Rattle.std.proofs.Common.{◌≡◌, ◌≢◌, ◌↔◌, ◌⊎◌, ℕ, ◌+◌, ◌-◌, ◌<◌, ◌≤◌, Bool, true, false, cond, List, [], ◌∷◌, ◌++◌, length, get_or, Some, Option, refl, sym, ap, subst, ◌∙◌, arith, inl, inr, nat_cmp, length-append, unwrap_or}
+use Rattle.std.proofs.Common.{◌≡◌, ◌≢◌, ◌↔◌, ◌⊎◌, ℕ, ◌+◌, ◌-◌, ◌<◌, ◌≤◌, Bool, true, false, cond, List, [], ◌∷◌, ◌++◌, length, get_or, Some, Option, refl, sym}
+use Rattle.std.proofs.Common.{ap, subst, ◌∙◌, arith, inl, inr, nat_cmp, length-append, unwrap_or}
 use Rattle.std.specs.Prelude.{Contains}
 use Rattle.std.specs.BTreeMap.{is_at}
 use Rattle.std.specs.Cmp.Lexicographic.{slice_cmp}
@@ -14,7 +15,8 @@ use Rattle.dist_repo.specs.Tally.{numbers_at, EndsWith, Notes, NotesNumber}
 
 -- ---- numbers
 
-pub increasing-push : (xs : List ℕ) (y : ℕ) → IsStrictlyIncreasing xs → ((k : ℕ) → Contains xs k → k ≤ y) → ¬ EndsWith xs y → IsStrictlyIncreasing (xs ++ y ∷ [])
+pub increasing-push : (xs : List ℕ) (y : ℕ) → IsStrictlyIncreasing xs → ((k : ℕ) → Contains xs k → k ≤ y) → ¬ EndsWith xs y
+    → IsStrictlyIncreasing (xs ++ y ∷ [])
 increasing-push xs y rising bound other k short =
     let total : length (xs ++ y ∷ []) ≡ length xs + 1 = length-append xs (y ∷ []) in
     elim (cases_lt (k + 1) (length xs)) [

@@ -7,4 +7,5 @@ use Rattle.dist_repo.specs.declared.package.Package.{Package}
 -- A conflict atom of one of two different packages matches the other. A package is never in conflict with itself.
 pub record AreInConflict (architecture : Option (List ℕ)) (p q : Package) : Type 0 where
   pub different : ¬ IsSamePackage p q
-  pub matched : Any (λ atom. Matches architecture atom q) p.conflicts ⊎ Any (λ atom. Matches architecture atom p) q.conflicts
+  pub matched : Any (λ atom. Matches architecture atom q) p.conflicts
+      ⊎ Any (λ atom. Matches architecture atom p) q.conflicts

@@ -1,6 +1,8 @@
--- What is asked of packages and atoms is decided: one way holds or the other. No public clause cites these laws; proofs of the
+-- What is asked of packages and atoms is decided: one way holds or the other. No public clause cites these laws; proofs
+-- of the
 -- crates above do.
-use Rattle.std.proofs.Common.{◌≡◌, ◌⊎◌, ℕ, zero, suc, Bool, true, false, List, [], ◌∷◌, Some, None, Option, refl, ap, arith, inl, inr, slice_get}
+use Rattle.std.proofs.Common.{◌≡◌, ◌⊎◌, ℕ, zero, suc, Bool, true, false, List, [], ◌∷◌, Some, None, Option, refl, ap}
+use Rattle.std.proofs.Common.{arith, inl, inr, slice_get}
 use Rattle.std.specs.Prelude.{Any, IfSome, IsSomeAnd, bytes_eq, codes}
 use Rattle.std.specs.declared.cmp.Ordering.{Ordering}
 use Rattle.std.specs.declared.cmp.Ordering.TheVariants.{Less, Equal, Greater}
@@ -63,12 +65,14 @@ text-decided a b = by (bytes_eq a b) refl
     by true is = inl ((bytes_eq-Decides a b).0 is)
     by false is = inr (λ h. let other = (bytes_eq-Decides a b).1 h in cc)
 
-pub at-decided : {X : Type 0} (P : X → Type 0) → ((x : X) → IsDecided (P x)) → (xs : List X) (k : ℕ) → IsDecided (IsSomeAnd (slice_get xs k) P)
+pub at-decided : {X : Type 0} (P : X → Type 0) → ((x : X) → IsDecided (P x)) → (xs : List X) (k : ℕ)
+    → IsDecided (IsSomeAnd (slice_get xs k) P)
 at-decided P each [] k = inr (λ h. h)
 at-decided P each (x ∷ xs) zero = each x
 at-decided P each (x ∷ xs) (suc k) = at-decided P each xs k
 
-pub some-decided : {X : Type 0} (P : X → Type 0) → ((x : X) → IsDecided (P x)) → (o : Option X) → IsDecided (IsSomeAnd o P)
+pub some-decided : {X : Type 0} (P : X → Type 0) → ((x : X) → IsDecided (P x)) → (o : Option X)
+    → IsDecided (IsSomeAnd o P)
 some-decided P each None = inr (λ h. h)
 some-decided P each (Some x) = each x
 
@@ -107,36 +111,45 @@ architecture-decided : (architecture : Option (List ℕ)) (name : List ℕ) → 
 architecture-decided None name = inr (λ h. cc)
 architecture-decided (Some here) name = same-as (λ h. ap (λ (x : List ℕ). Some x) h) (λ h. cc) (text-decided here name)
 
-pub usable-decided : (architecture : Option (List ℕ)) (qualifier : Qualifier) → IsDecided (IsUsable architecture qualifier)
+pub usable-decided : (architecture : Option (List ℕ)) (qualifier : Qualifier)
+    → IsDecided (IsUsable architecture qualifier)
 usable-decided architecture Plain = inl tt
 usable-decided architecture (Named name) =
-    either-decided (text-decided name (codes "any")) (either-decided (text-decided name (codes "native")) (architecture-decided architecture name))
+    either-decided (text-decided name (codes "any"))
+    (either-decided (text-decided name (codes "native")) (architecture-decided architecture name))
 
 pub bound-decided : (version : List ℕ) (bound : Option Bound) → IsDecided (IfSome bound (λ b. Satisfies version b))
 bound-decided version None = inl tt
 bound-decided version (Some bound) = satisfies-decided version bound
 
-entry-bound-decided : (version : Option (List ℕ)) (bound : Option Bound) → IsDecided (IfSome bound (λ b. IsSomeAnd version (λ v. Satisfies v b)))
+entry-bound-decided : (version : Option (List ℕ)) (bound : Option Bound)
+    → IsDecided (IfSome bound (λ b. IsSomeAnd version (λ v. Satisfies v b)))
 entry-bound-decided version None = inl tt
 entry-bound-decided None (Some bound) = inr (λ h. h)
 entry-bound-decided (Some version) (Some bound) = satisfies-decided version bound
 
 name-decided : (atom : Atom) (p : Package) → IsDecided (MatchesByName atom p)
 name-decided atom p =
-    same-as (λ h. record { name = h.0; bound = h.1 }) (λ h. (h.name, h.bound)) (both-decided (text-decided p.name atom.name) (bound-decided p.version atom.bound))
+    same-as (λ h. record { name = h.0; bound = h.1 }) (λ h. (h.name, h.bound))
+    (both-decided (text-decided p.name atom.name) (bound-decided p.version atom.bound))
 
-pub entry-decided : (architecture : Option (List ℕ)) (atom : Atom) (entry : Provide) → IsDecided (MatchesByEntry architecture atom entry)
+pub entry-decided : (architecture : Option (List ℕ)) (atom : Atom) (entry : Provide)
+    → IsDecided (MatchesByEntry architecture atom entry)
 entry-decided architecture atom entry =
     same-as (λ h. record { usable = h.0; name = h.1.0; bound = h.1.1 }) (λ h. (h.usable, (h.name, h.bound)))
-    (both-decided (usable-decided architecture entry.qualifier) (both-decided (text-decided entry.name atom.name) (entry-bound-decided entry.version atom.bound)))
+    (both-decided (usable-decided architecture entry.qualifier)
+    (both-decided (text-decided entry.name atom.name) (entry-bound-decided entry.version atom.bound)))
 
-pub matches-decided : (architecture : Option (List ℕ)) (atom : Atom) (p : Package) → IsDecided (Matches architecture atom p)
+pub matches-decided : (architecture : Option (List ℕ)) (atom : Atom) (p : Package)
+    → IsDecided (Matches architecture atom p)
 matches-decided architecture atom p =
     same-as (λ h. record { usable = h.0; matched = h.1 }) (λ h. (h.usable, h.matched))
     (both-decided (usable-decided architecture atom.qualifier)
-    (either-decided (name-decided atom p) (any-decided (MatchesByEntry architecture atom) (entry-decided architecture atom) p.provides)))
+    (either-decided (name-decided atom p) (any-decided (MatchesByEntry architecture atom)
+    (entry-decided architecture atom) p.provides)))
 
-pub met-decided : (architecture : Option (List ℕ)) (members : List Package) (item : List Atom) → IsDecided (IsMet architecture members item)
+pub met-decided : (architecture : Option (List ℕ)) (members : List Package) (item : List Atom)
+    → IsDecided (IsMet architecture members item)
 met-decided architecture members item =
     any-decided (λ atom. Any (Matches architecture atom) members)
     (λ atom. any-decided (Matches architecture atom) (matches-decided architecture atom) members) item
@@ -144,11 +157,14 @@ met-decided architecture members item =
 same-decided : (p q : Package) → IsDecided (IsSamePackage p q)
 same-decided p q = both-decided (text-decided p.name q.name) (equal-decided (version_cmp p.version q.version))
 
-rejects-decided : (architecture : Option (List ℕ)) (p q : Package) → IsDecided (Any (λ atom. Matches architecture atom q) p.conflicts)
-rejects-decided architecture p q = any-decided (λ atom. Matches architecture atom q) (λ atom. matches-decided architecture atom q) p.conflicts
+rejects-decided : (architecture : Option (List ℕ)) (p q : Package)
+    → IsDecided (Any (λ atom. Matches architecture atom q) p.conflicts)
+rejects-decided architecture p q = any-decided (λ atom. Matches architecture atom q)
+    (λ atom. matches-decided architecture atom q) p.conflicts
 
 pub conflict-decided : (architecture : Option (List ℕ)) (p q : Package) → IsDecided (AreInConflict architecture p q)
-conflict-decided architecture p q = elim (both-decided (not-decided (same-decided p q)) (either-decided (rejects-decided architecture p q) (rejects-decided architecture q p))) [
-  | inl both ↦ inl (record { different = both.0; matched = both.1 })
-  | inr none ↦ inr (λ conflict. none (conflict.different, conflict.matched))
-]
+conflict-decided architecture p q = elim (both-decided (not-decided (same-decided p q))
+    (either-decided (rejects-decided architecture p q) (rejects-decided architecture q p))) [
+      | inl both ↦ inl (record { different = both.0; matched = both.1 })
+      | inr none ↦ inr (λ conflict. none (conflict.different, conflict.matched))
+    ]

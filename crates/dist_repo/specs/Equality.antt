@@ -4,11 +4,14 @@ use Rattle.std.specs.Bool.{beq}
 use Rattle.std.specs.Cmp.{first_so, second_so}
 use Rattle.std.specs.Cmp.Lexicographic.{pointwise, bytes_decides}
 use Rattle.std.proofs.Common.{refl, sym, ap₂, true≢false}
-use Rattle.dist_relation.specs.Equality.{atom_eq, provide_eq, decides, DecidesEquality, atoms_decide, items_decide, provides_decide}
+use Rattle.dist_relation.specs.Equality.{atom_eq, provide_eq, decides, DecidesEquality, atoms_decide, items_decide}
+use Rattle.dist_relation.specs.Equality.{provides_decide}
 use Rattle.dist_repo.specs.declared.package.Package.{Package}
 
 abbrev relations_eq : Package → Package → Bool
-relations_eq p q = pointwise (pointwise atom_eq) p.depends q.depends && (pointwise atom_eq p.conflicts q.conflicts && (pointwise provide_eq p.provides q.provides && beq p.essential q.essential))
+relations_eq p q = pointwise (pointwise atom_eq) p.depends q.depends
+    && (pointwise atom_eq p.conflicts q.conflicts
+    && (pointwise provide_eq p.provides q.provides && beq p.essential q.essential))
 
 abbrev sources_eq : Package → Package → Bool
 sources_eq p q = bytes_eq p.source q.source && (bytes_eq p.source_version q.source_version && relations_eq p q)
@@ -36,8 +39,11 @@ package-same p q h =
     let b = both (bytes_eq p.version q.version) (sources_eq p q) a.1 in
     let c = both (bytes_eq p.source q.source) (bytes_eq p.source_version q.source_version && relations_eq p q) b.1 in
     let d = both (bytes_eq p.source_version q.source_version) (relations_eq p q) c.1 in
-    let e = both (pointwise (pointwise atom_eq) p.depends q.depends) (pointwise atom_eq p.conflicts q.conflicts && (pointwise provide_eq p.provides q.provides && beq p.essential q.essential)) d.1 in
-    let f = both (pointwise atom_eq p.conflicts q.conflicts) (pointwise provide_eq p.provides q.provides && beq p.essential q.essential) e.1 in
+    let e = both (pointwise (pointwise atom_eq) p.depends q.depends)
+    (pointwise atom_eq p.conflicts q.conflicts
+    && (pointwise provide_eq p.provides q.provides && beq p.essential q.essential)) d.1 in
+    let f = both (pointwise atom_eq p.conflicts q.conflicts)
+    (pointwise provide_eq p.provides q.provides && beq p.essential q.essential) e.1 in
     let g = both (pointwise provide_eq p.provides q.provides) (beq p.essential q.essential) f.1 in
     let name = (bytes_decides p.name q.name).0 a.0 in
     let version = (bytes_decides p.version q.version).0 b.0 in

@@ -1,4 +1,5 @@
--- Worked examples: two mail transport agents that provide and conflict with one name, and a version that a bound asks for.
+-- Worked examples: two mail transport agents that provide and conflict with one name, and a version that a bound asks
+-- for.
 use Rattle.std.specs.Prelude.{◌≡◌, ℕ, false, List, [], ◌∷◌, None, Some, codes, refl}
 use Rattle.std.proofs.Common.{inl, inr, lit<}
 use Rattle.dist_relation.specs.declared.atom.Atom.{Atom}
@@ -39,19 +40,26 @@ amd64_is_usable = inr (inr refl)
 
 -- each provides the name without a version, which an atom without a bound is content with
 agent-matches : (name : List ℕ) → Matches None agent (mailer name)
-agent-matches name = record { usable = tt; matched = inr (0, provided, lit< tt, refl, record { usable = tt; name = refl; bound = tt }) }
+agent-matches name = record {
+  usable = tt;
+  matched = inr (0, provided, lit< tt, refl, record { usable = tt; name = refl; bound = tt });
+}
 
 -- and a bound is not met by an entry without version
 bounded : Atom
 bounded = record { name = codes "x"; qualifier = Plain; bound = Some (record { op = Ge; version = codes "1" }) }
 
-unversioned_meets_no_bound : ¬ MatchesByEntry None bounded (record { name = codes "x"; qualifier = Plain; version = None })
+unversioned_meets_no_bound : ¬ MatchesByEntry None bounded
+    (record { name = codes "x"; qualifier = Plain; version = None })
 unfolding bounded
 unversioned_meets_no_bound matched = matched.bound
 
 -- so one is in conflict with another
 agents_are_in_conflict : AreInConflict None (mailer (codes "exim4")) (mailer (codes "postfix"))
-agents_are_in_conflict = record { different = λ same. let names : codes "exim4" ≡ codes "postfix" = same.0 in cc; matched = inl (0, agent, lit< tt, refl, agent-matches (codes "postfix")) }
+agents_are_in_conflict = record {
+  different = λ same. let names : codes "exim4" ≡ codes "postfix" = same.0 in cc;
+  matched = inl (0, agent, lit< tt, refl, agent-matches (codes "postfix"));
+}
 
 -- at mode plain no name is required
 plain_requires_nothing : required_names false (mailer (codes "exim4") ∷ []) ≡ []

@@ -1,4 +1,5 @@
--- How a repository keeps who provides a name: a table of names in order, and beside each name the numbers of its providers.
+-- How a repository keeps who provides a name: a table of names in order, and beside each name the numbers of its
+-- providers.
 use Rattle.std.specs.Prelude.{◌≡◌, ℕ, ◌<◌, ◌^◌, List, [], length, Contains, slice_index_or}
 use Rattle.std.specs.Cmp.Lexicographic.{slice_cmp}
 use Rattle.std.specs.List.Sorted.{IsStrictlySortedBy}
@@ -11,7 +12,8 @@ use Rattle.dist_repo.specs.Providers.{AreProviders}
 pub record IsIndex (repository : PackageList) (names : List (List ℕ)) (numbers : List (List ℕ)) : Type 0 where
   pub rising : IsStrictlySortedBy (slice_cmp nat_cmp) names
   pub aligned : length numbers ≡ length names
-  pub each : (place : ℕ) → place < length names → AreProviders repository (slice_index_or names place []) (slice_index_or numbers place [])
+  pub each : (place : ℕ) → place < length names
+      → AreProviders repository (slice_index_or names place []) (slice_index_or numbers place [])
   pub others : (name : List ℕ) → ¬ Contains names name → AreProviders repository name []
 
 pub record IsRepository (repository : PackageList) (names : List (List ℕ)) (numbers : List (List ℕ)) : Type 0 where

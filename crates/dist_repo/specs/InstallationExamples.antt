@@ -1,6 +1,8 @@
--- Worked examples: a package that depends on another one, its installations and its strong dependency; and the newest of two
+-- Worked examples: a package that depends on another one, its installations and its strong dependency; and the newest
+-- of two
 -- versions.
-use Rattle.std.specs.Prelude.{◌≡◌, ◌≢◌, ℕ, zero, suc, ◌<◌, false, List, [], ◌∷◌, None, All, AllPairs, Any, Contains, length, slice_index_or, codes, refl}
+use Rattle.std.specs.Prelude.{◌≡◌, ◌≢◌, ℕ, zero, suc, ◌<◌, false, List, [], ◌∷◌, None, All, AllPairs, Any, Contains}
+use Rattle.std.specs.Prelude.{length, slice_index_or, codes, refl}
 use Rattle.std.proofs.Common.{inl, inr, lit<, sym, subst, ap, ◌∙◌, arith}
 use Rattle.std.proofs.lemmas.List.Elements.{All-cons, All-contains}
 use Rattle.std.proofs.lemmas.List.Kept.{AllPairs-cons}
@@ -61,7 +63,8 @@ of_one x y h = at h.0 h.1 h.2
     at (suc k) within e = absurd (omega (arith, within))
 
 a_is_not_b : ¬ (◌≡◌ {A = List ℕ} (codes "a") (codes "b"))
-a_is_not_b e = let codes_differ : ◌≡◌ {A = ℕ} 97 98 = ap (λ (s : List ℕ). slice_index_or s 0 0) e in omega (arith, codes_differ)
+a_is_not_b e = let codes_differ : ◌≡◌ {A = ℕ} 97 98 = ap (λ (s : List ℕ). slice_index_or s 0 0) e in
+    omega (arith, codes_differ)
 
 -- b alone meets the dependency
 b-matches : Matches None on_b b
@@ -75,8 +78,10 @@ a-matches_not matches = elim matches.matched [
 
 never_in_conflict : (p q : Package) → p.conflicts ≡ [] → q.conflicts ≡ [] → ¬ AreInConflict None p q
 never_in_conflict p q none_of_p none_of_q conflict = elim conflict.matched [
-  | inl by_p ↦ none_in_nothing (λ atom. Matches None atom q) (subst (λ atoms. Any (λ atom. Matches None atom q) atoms) none_of_p by_p)
-  | inr by_q ↦ none_in_nothing (λ atom. Matches None atom p) (subst (λ atoms. Any (λ atom. Matches None atom p) atoms) none_of_q by_q)
+  | inl by_p ↦ none_in_nothing (λ atom. Matches None atom q)
+      (subst (λ atoms. Any (λ atom. Matches None atom q) atoms) none_of_p by_p)
+  | inr by_q ↦ none_in_nothing (λ atom. Matches None atom p)
+      (subst (λ atoms. Any (λ atom. Matches None atom p) atoms) none_of_q by_q)
 ]
 
 b_meets_it : IsMet None (a ∷ b ∷ []) (on_b ∷ [])
@@ -124,7 +129,8 @@ a_strongly_depends_on_b = record {
       subst (Contains members) (sym (is_b matched.1 matched.4 chosen.0 chosen.1 chosen.2)) there;
 }
   where
-    is_b : (q : Package) → Matches None on_b q → (k : ℕ) → k < length (a ∷ b ∷ []) → slice_index_or (a ∷ b ∷ []) k q ≡ q → b ≡ q
+    is_b : (q : Package) → Matches None on_b q → (k : ℕ) → k < length (a ∷ b ∷ []) → slice_index_or (a ∷ b ∷ []) k q ≡ q
+        → b ≡ q
     is_b q matches zero within e = absurd (a-matches_not (subst (Matches None on_b) (sym e) matches))
     is_b q matches (suc k) within e = of_one b q (k, omega (arith, within), e)
 
@@ -161,7 +167,8 @@ greater_is_newest = record {
   there = (0, lit< tt, refl);
   newest = All-cons IsNotBelow (version_of_b (codes "1.10")) (version_of_b (codes "1.9") ∷ [])
       (λ _ less. let wrong : Equal ≡ Less = sym equal_to_itself ∙ less in cc)
-      (All-cons IsNotBelow (version_of_b (codes "1.9")) [] (λ _ less. let wrong : Greater ≡ Less = sym above_the_other ∙ less in cc)
+      (All-cons IsNotBelow (version_of_b (codes "1.9")) []
+      (λ _ less. let wrong : Greater ≡ Less = sym above_the_other ∙ less in cc)
       (all_of_none IsNotBelow));
 }
   where

@@ -1,4 +1,5 @@
--- What contracts see of a repository: its packages, numbered from 0 by their places, and the architecture of its file, where that has one.
+-- What contracts see of a repository: its packages, numbered from 0 by their places, and the architecture of its file,
+-- where that has one.
 use Rattle.std.specs.Prelude.{◌≡◌, ℕ, List, Option, IsSomeAnd, slice_get, Some}
 use Rattle.dist_relation.specs.declared.atom.Atom.{Atom}
 use Rattle.dist_repo.specs.declared.package.Package.{Package}

@@ -1,7 +1,9 @@
--- The first bytes of a name as one number, which decides most comparisons of names. Private to the keys of the ordered maps.
+-- The first bytes of a name as one number, which decides most comparisons of names. Private to the keys of the ordered
+-- maps.
 use Rattle.std.specs.Prelude.{◌≡◌, ℕ, zero, suc, ◌+◌, ◌*◌, ◌^◌, ◌<◌, List, [], ◌∷◌, All}
 
--- the first bytes of a list as digits to the base 256, as many as there are places; behind the end of the list stand zeros
+-- the first bytes of a list as digits to the base 256, as many as there are places; behind the end of the list stand
+-- zeros
 unfoldable pub digits : ℕ → List ℕ → ℕ
 digits zero bytes = 0
 digits (suc places) [] = 0

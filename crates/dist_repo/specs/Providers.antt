@@ -19,8 +19,10 @@ IsProvider architecture name p = (p.name ≡ name) ⊎ Any (IsEntryOf architectu
 -- The numbers are exactly those of the packages that have or provide the name, rising.
 pub record AreProviders (repository : PackageList) (name : List ℕ) (numbers : List ℕ) : Type 0 where
   pub rising : IsStrictlyIncreasing numbers
-  pub exact : (number : ℕ) → Contains numbers number ↔ IsPackageAnd repository.packages number (IsProvider repository.architecture name)
+  pub exact : (number : ℕ) → Contains numbers number
+      ↔ IsPackageAnd repository.packages number (IsProvider repository.architecture name)
 
 -- the package of this number has this name and an equal version
 abbrev pub IsPackageAt : List Package → ℕ → (name version : List ℕ) → Type 0
-IsPackageAt packages number name version = IsPackageAnd packages number (λ p. (p.name ≡ name) × (version_cmp p.version version ≡ Equal))
+IsPackageAt packages number name version =
+    IsPackageAnd packages number (λ p. (p.name ≡ name) × (version_cmp p.version version ≡ Equal))

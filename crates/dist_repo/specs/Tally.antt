@@ -22,12 +22,15 @@ NotesNumber old new number = (k : ℕ) → Contains new k ↔ (Contains old k �
 
 -- one number more beside each name of some
 abbrev pub NotesEach : (old new : List (List ℕ × List ℕ)) (P : List ℕ → Type 0) (number : ℕ) → Type 0
-NotesEach old new P number = (q : List ℕ) (k : ℕ) → Contains (numbers_at new q) k ↔ (Contains (numbers_at old q) k ⊎ (P q × (k ≡ number)))
+NotesEach old new P number = (q : List ℕ) (k : ℕ) → Contains (numbers_at new q) k
+    ↔ (Contains (numbers_at old q) k ⊎ (P q × (k ≡ number)))
 
 -- one number more beside one name
 abbrev pub Notes : (old new : List (List ℕ × List ℕ)) (name : List ℕ) (number : ℕ) → Type 0
 Notes old new name number = NotesEach old new (λ q. q ≡ name) number
 
 -- beside each name are the numbers of exactly those packages that have or provide it
-abbrev pub IsTallyOf : (architecture : Option (List ℕ)) (packages : List Package) (tally : List (List ℕ × List ℕ)) → Type 0
-IsTallyOf architecture packages tally = (q : List ℕ) (k : ℕ) → Contains (numbers_at tally q) k ↔ IsPackageAnd packages k (IsProvider architecture q)
+abbrev pub IsTallyOf : (architecture : Option (List ℕ)) (packages : List Package) (tally : List (List ℕ × List ℕ))
+    → Type 0
+IsTallyOf architecture packages tally = (q : List ℕ) (k : ℕ) → Contains (numbers_at tally q) k
+    ↔ IsPackageAnd packages k (IsProvider architecture q)

@@ -34,4 +34,5 @@ module _ (made : List Claim) (n : ℕ) (lists : List (List ℕ)) (long : length 
       let old : ℕ → List ℕ = λ q. entry_lines packages (codes "    of:") q (get_or lists q []) in
       let new : ℕ → List ℕ = λ q. entry_lines packages (codes "    of:") q (impact_at made q) in
       ap (λ (t : List ℕ). key_line (codes "impact:") (length (with_impact made) == 0) ++ t)
-      (lines-same-within old new n (with_impact made) (λ k short. ap (λ (list : List ℕ). entry_lines packages (codes "    of:") k list) (each k short)) with-within)
+      (lines-same-within old new n (with_impact made) (λ k short. ap (λ (list : List ℕ). entry_lines packages (codes "    of:") k list) (each k short))
+      with-within)

@@ -15,7 +15,8 @@ lines-more f xs k x bs old new is so_far more =
     more ∙ ap (λ (t : List ℕ). t ++ f x) so_far ∙ flat_map_more f bs (take k xs) x ∙ ap (λ list. bs ++ flat_map f list) (sym pushed)
 
 -- the lines of all items
-pub lines-all : {X : Type 0} (f : X → List ℕ) (xs : List X) (k : ℕ) (bs new : List ℕ) → length xs ≤ k → new ≡ bs ++ flat_map f (take k xs) → new ≡ bs ++ flat_map f xs
+pub lines-all : {X : Type 0} (f : X → List ℕ) (xs : List X) (k : ℕ) (bs new : List ℕ) → length xs ≤ k → new ≡ bs ++ flat_map f (take k xs)
+    → new ≡ bs ++ flat_map f xs
 lines-all f xs k bs new past so_far = so_far ∙ ap (λ list. bs ++ flat_map f list) (take-past xs k past)
 
 -- ---- texts that are added one after another
@@ -29,6 +30,7 @@ joined-three old p s t a b c first second third = joined-two old p (s ++ t) a c 
 pub joined-class : (old p s t e a b c d : List ℕ) → a ≡ old ++ p → b ≡ a ++ s → c ≡ b ++ t → d ≡ c ++ e → d ≡ old ++ ((p ++ (s ++ t)) ++ e)
 joined-class old p s t e a b c d first second third fourth = joined-two old (p ++ (s ++ t)) e c d (joined-three old p s t a b c first second third) fourth
 
-pub joined-five : (old p s t u v a b c d e : List ℕ) → a ≡ old ++ p → b ≡ a ++ s → c ≡ b ++ t → d ≡ c ++ u → e ≡ d ++ v → e ≡ old ++ (p ++ (s ++ (t ++ (u ++ v))))
+pub joined-five : (old p s t u v a b c d e : List ℕ) → a ≡ old ++ p → b ≡ a ++ s → c ≡ b ++ t → d ≡ c ++ u → e ≡ d ++ v
+    → e ≡ old ++ (p ++ (s ++ (t ++ (u ++ v))))
 joined-five old p s t u v a b c d e first second third fourth fifth =
     joined-two old p (s ++ (t ++ (u ++ v))) a e first (joined-two a s (t ++ (u ++ v)) b e second (joined-three b t u v c d e third fourth fifth))

@@ -1,5 +1,6 @@
 -- Claims that leave something undecided.
-use Rattle.std.proofs.Common.{◌≡◌, ◌<◌, ◌≤◌, ◌||◌, ◌∙◌, ap, ℕ, zero, suc, ◌+◌, Bool, true, false, List, [], ◌∷◌, length, take, get_or, Some, slice_get, refl, arith}
+use Rattle.std.proofs.Common.{◌≡◌, ◌<◌, ◌≤◌, ◌||◌, ◌∙◌, ap, ℕ, zero, suc, ◌+◌, Bool, true, false, List, [], ◌∷◌, length, take, get_or, Some, slice_get, refl}
+use Rattle.std.proofs.Common.{arith}
 use Rattle.std.specs.List.{list_any}
 use Rattle.std.proofs.lemmas.List.Folds.{list_any_at, list_any_more}
 use Rattle.dist_cert.specs.declared.records.Claim.{Claim}
@@ -16,7 +17,8 @@ marked made place claim is mark =
     let some : list_any has_mark made ≡ true = list_any_at has_mark made place claim here.0 (ap has_mark here.1 ∙ mark) in
     rw some refl
 
-pub none_more : (made : List Claim) (place : ℕ) (claim : Claim) → slice_get made place ≡ Some claim → has_mark claim ≡ false → list_any has_mark (take place made) ≡ false
+pub none_more : (made : List Claim) (place : ℕ) (claim : Claim) → slice_get made place ≡ Some claim → has_mark claim ≡ false
+    → list_any has_mark (take place made) ≡ false
     → list_any has_mark (take (place + 1) made) ≡ false
 none_more made place claim is mark before =
     let here = at made place claim is in

@@ -1,5 +1,6 @@
 -- A package that is put into the lists of those on which it depends.
-use Rattle.std.proofs.Common.{◌≡◌, ℕ, ◌+◌, ◌-◌, ◌<◌, ◌==◌, ◌||◌, Bool, true, false, List, [], ◌∷◌, ◌++◌, length, get_or, set, take, Option, None, Some, refl, sym, ap, subst, ◌∙◌, arith, slice_get, inl, inr}
+use Rattle.std.proofs.Common.{◌≡◌, ℕ, ◌+◌, ◌-◌, ◌<◌, ◌==◌, ◌||◌, Bool, true, false, List, [], ◌∷◌, ◌++◌, length, get_or, set, take, Option, None, Some, refl}
+use Rattle.std.proofs.Common.{sym, ap, subst, ◌∙◌, arith, slice_get, inl, inr}
 use Rattle.std.specs.Prelude.{All}
 use Rattle.std.proofs.Math.Bool.{or-false}
 use Rattle.std.proofs.lemmas.Bool.{cases_eq, eq-eqb, eqb-true}
@@ -18,7 +19,8 @@ other-number a b false is other = refl
 
 -- ---- the end of a list
 
-end-of : (numbers : List ℕ) (number : ℕ) (o : Option ℕ) → slice_get numbers (length numbers - 1) ≡ o → All (λ p. p < number) numbers → ends_with numbers number ≡ false
+end-of : (numbers : List ℕ) (number : ℕ) (o : Option ℕ) → slice_get numbers (length numbers - 1) ≡ o → All (λ p. p < number) numbers
+    → ends_with numbers number ≡ false
 end-of numbers number None is lower = rw is refl
 end-of numbers number (Some last) is lower =
     let place = length numbers - 1 in
@@ -33,10 +35,12 @@ end-of-push numbers number =
     let whole = numbers ++ number ∷ [] in
     let long : length whole ≡ length numbers + 1 = length_push numbers number in
     let place : length whole - 1 ≡ length numbers = omega (arith, long) in
-    let found : slice_get whole (length numbers) ≡ Some number = slice_get-get_or whole (length numbers) number (omega (arith, long)) ∙ ap (λ (n : ℕ). Some n) (get_or_push numbers number number (length numbers) refl) in
+    let found : slice_get whole (length numbers) ≡ Some number = slice_get-get_or whole (length numbers) number (omega (arith, long))
+    ∙ ap (λ (n : ℕ). Some n) (get_or_push numbers number number (length numbers) refl) in
     rw (place, found) (same-number number)
 
-ended-noted : (number : ℕ) (there : Bool) (numbers : List ℕ) → All (λ p. p < number) numbers → ended_by (noted number there numbers) number ≡ numbers ++ number ∷ []
+ended-noted : (number : ℕ) (there : Bool) (numbers : List ℕ) → All (λ p. p < number) numbers
+    → ended_by (noted number there numbers) number ≡ numbers ++ number ∷ []
 ended-noted number true numbers lower = rw (end-of-push numbers number) refl
 ended-noted number false numbers lower = rw (end-of numbers number (slice_get numbers (length numbers - 1)) refl lower) refl
 
@@ -66,7 +70,8 @@ noted-at : (number : ℕ) (on : List ℕ) (k x : ℕ) (old lists new : List (Lis
 noted-at number on k x old lists new short here within lower so_far now q inner = elim (cases_eq q x) [
   | inl same ↦
       let inside : x < length lists = omega (arith, so_far.same_length) in
-      let put : get_or new x [] ≡ ended_by (get_or lists x []) number = ap (λ (l : List (List ℕ)). get_or l x []) now ∙ get_or-set_same lists x (ended_by (get_or lists x []) number) [] inside in
+      let put : get_or new x [] ≡ ended_by (get_or lists x []) number = ap (λ (l : List (List ℕ)). get_or l x []) now
+      ∙ get_or-set_same lists x (ended_by (get_or lists x []) number) [] inside in
       let pushed : get_or new x [] ≡ get_or old x [] ++ number ∷ [] =
       put ∙ ap (λ (l : List ℕ). ended_by l number) (so_far.each x within) ∙ ended-noted number (is_among (take k on) x) (get_or old x []) (lower x [] within) in
       let among : is_among (take (k + 1) on) x ≡ true =
@@ -74,9 +79,11 @@ noted-at number on k x old lists new short here within lower so_far now q inner 
       let At : ℕ → Type 0 = λ n. get_or new n [] ≡ noted number (is_among (take (k + 1) on) n) (get_or old n []) in
       subst At (sym same) (pushed ∙ ap (λ (b : Bool). noted number b (get_or old x [])) (sym among))
   | inr other ↦
-      let kept : get_or new q [] ≡ get_or lists q [] = ap (λ (l : List (List ℕ)). get_or l q []) now ∙ get_or-set_other lists x q (ended_by (get_or lists x []) number) [] other in
+      let kept : get_or new q [] ≡ get_or lists q [] = ap (λ (l : List (List ℕ)). get_or l q []) now
+      ∙ get_or-set_other lists x q (ended_by (get_or lists x []) number) [] other in
       let among : is_among (take (k + 1) on) q ≡ is_among (take k on) q =
-      among-more on k x q short here ∙ ap (λ (b : Bool). is_among (take k on) q || b) (other-number q x (q == x) refl other) ∙ or-false (is_among (take k on) q) in
+      among-more on k x q short here ∙ ap (λ (b : Bool). is_among (take k on) q || b) (other-number q x (q == x) refl other)
+      ∙ or-false (is_among (take k on) q) in
       kept ∙ so_far.each q inner ∙ ap (λ (b : Bool). noted number b (get_or old q [])) (sym among)
 ]
 

@@ -46,7 +46,8 @@ names_of names = map (λ (n : ToldName). n.name) names
 
 module _ (one_partition : (members : List Member) (a b : List (List ℕ)) → IsPartition members a → IsPartition members b → a ≡ b)
     (one_top : (members : List Member) (cluster a b : List ℕ) → IsTop members cluster a → IsTop members cluster b → a ≡ b)
-    (one_cuts : (r : PackageList) (members top : List ℕ) (a b : List (List ℕ)) → AreCuts (IsClusterCut r members top) a → AreCuts (IsClusterCut r members top) b → a ≡ b)
+    (one_cuts : (r : PackageList) (members top : List ℕ) (a b : List (List ℕ)) → AreCuts (IsClusterCut r members top) a → AreCuts (IsClusterCut r members top) b
+    → a ≡ b)
     (one_name_cuts : (r : PackageList) (name : List ℕ) (a b : List (List ℕ)) → AreCuts (IsNameCut r name) a → AreCuts (IsNameCut r name) b → a ≡ b)
     (one_names : (r : PackageList) (names others : List (List ℕ)) → AreNewNames r names → AreNewNames r others → names ≡ others) where
   one-members : (r : PackageList) (a b : ClusterList) → AreClustersOf r a → AreClustersOf r b → a.members ≡ b.members
@@ -62,14 +63,16 @@ module _ (one_partition : (members : List Member) (a b : List (List ℕ)) → Is
       let other : k < length b.members = omega (arith, second.tops.aligned) in
       let Top : List (List ℕ) → Type 0 = λ list. IsTop keys (get_or list k []) (get_or a.tops k []) in
       let own : IsTop keys (get_or b.members k []) (get_or a.tops k []) = subst Top members (first.tops.each k inside) in
-      get_or_default a.tops k d [] short ∙ one_top keys (get_or b.members k []) (get_or a.tops k []) (get_or b.tops k []) own (second.tops.each k other) ∙ get_or_default b.tops k [] d (omega arith))
+      get_or_default a.tops k d [] short ∙ one_top keys (get_or b.members k []) (get_or a.tops k []) (get_or b.tops k []) own (second.tops.each k other)
+      ∙ get_or_default b.tops k [] d (omega arith))
 
   one-classes : (r : PackageList) (members top : List ℕ) (a b : List Class) → AreClassesOf r members top a → AreClassesOf r members top b → a ≡ b
   one-classes r members top a b first second =
       first.are ∙ ap (classes_above top) (one_cuts r members top first.cuts second.cuts first.are_cuts second.are_cuts) ∙ sym second.are
 
   one-name_classes : (r : PackageList) (name : List ℕ) (a b : List Class) → AreClassesOfName r name a → AreClassesOfName r name b → a ≡ b
-  one-name_classes r name a b first second = first.are ∙ ap classes_of_all (one_name_cuts r name first.cuts second.cuts first.are_cuts second.are_cuts) ∙ sym second.are
+  one-name_classes r name a b first second = first.are ∙ ap classes_of_all (one_name_cuts r name first.cuts second.cuts first.are_cuts second.are_cuts)
+      ∙ sym second.are
 
   same-clusters : (r : PackageList) (xs ys : List ToldCluster) → members_of xs ≡ members_of ys → tops_of xs ≡ tops_of ys →
       All (λ c. AreClassesOf r c.members c.top c.classes) xs → All (λ c. AreClassesOf r c.members c.top c.classes) ys → xs ≡ ys
@@ -84,11 +87,13 @@ module _ (one_partition : (members : List Member) (a b : List (List ℕ)) → Is
       let Top : List ℕ → Type 0 = λ t. AreClassesOf r y.members t x.classes in
       let moved = subst Top own_top (subst Members own_members (first-of Of x xs first)) in
       let own = same-cluster x y own_members own_top (one-classes r y.members y.top x.classes y.classes moved (first-of Of y ys second)) in
-      let rest = same-clusters r xs ys (tail-same x.members y.members (members_of xs) (members_of ys) members) (tail-same x.top y.top (tops_of xs) (tops_of ys) tops)
+      let rest = same-clusters r xs ys (tail-same x.members y.members (members_of xs) (members_of ys) members)
+      (tail-same x.top y.top (tops_of xs) (tops_of ys) tops)
       (rest-of Of x xs first) (rest-of Of y ys second) in
       ap (λ (list : List ToldCluster). x ∷ list) rest ∙ ap (λ (head : ToldCluster). head ∷ ys) own
 
-  same-names : (r : PackageList) (xs ys : List ToldName) → names_of xs ≡ names_of ys → All (λ n. AreClassesOfName r n.name n.classes) xs → All (λ n. AreClassesOfName r n.name n.classes) ys → xs ≡ ys
+  same-names : (r : PackageList) (xs ys : List ToldName) → names_of xs ≡ names_of ys → All (λ n. AreClassesOfName r n.name n.classes) xs
+      → All (λ n. AreClassesOfName r n.name n.classes) ys → xs ≡ ys
   same-names r [] [] names first second = refl
   same-names r [] (y ∷ ys) names first second = cc
   same-names r (x ∷ xs) [] names first second = cc
@@ -96,7 +101,8 @@ module _ (one_partition : (members : List Member) (a b : List (List ℕ)) → Is
       let Of : ToldName → Type 0 = λ n. AreClassesOfName r n.name n.classes in
       let own_name = head-same x.name y.name (names_of xs) (names_of ys) names in
       let Name : List ℕ → Type 0 = λ n. AreClassesOfName r n x.classes in
-      let own = same-name x y own_name (one-name_classes r y.name x.classes y.classes (subst Name own_name (first-of Of x xs first)) (first-of Of y ys second)) in
+      let own = same-name x y own_name (one-name_classes r y.name x.classes y.classes (subst Name own_name (first-of Of x xs first)) (first-of Of y ys second))
+      in
       let rest = same-names r xs ys (tail-same x.name y.name (names_of xs) (names_of ys) names) (rest-of Of x xs first) (rest-of Of y ys second) in
       ap (λ (list : List ToldName). x ∷ list) rest ∙ ap (λ (head : ToldName). head ∷ ys) own
 
@@ -107,5 +113,7 @@ module _ (one_partition : (members : List Member) (a b : List (List ℕ)) → Is
       let members = one-members r left right a.are_clusters.are b.are_clusters.are in
       let tops = one-tops r left right a.are_clusters.are b.are_clusters.are in
       let clusters = same-clusters r a.clusters b.clusters members tops a.are_clusters.classes b.are_clusters.classes in
-      let names = same-names r a.names b.names (one_names r (names_of a.names) (names_of b.names) a.are_names.are b.are_names.are) a.are_names.classes b.are_names.classes in
-      a.is ∙ ap (λ (list : List ToldCluster). classes_lines r.packages list a.names) clusters ∙ ap (λ (list : List ToldName). classes_lines r.packages b.clusters list) names ∙ sym b.is
+      let names = same-names r a.names b.names (one_names r (names_of a.names) (names_of b.names) a.are_names.are b.are_names.are) a.are_names.classes
+      b.are_names.classes in
+      a.is ∙ ap (λ (list : List ToldCluster). classes_lines r.packages list a.names) clusters
+      ∙ ap (λ (list : List ToldName). classes_lines r.packages b.clusters list) names ∙ sym b.is

@@ -1,5 +1,6 @@
 -- The numbers that a test picks, one after another.
-use Rattle.std.proofs.Common.{◌≡◌, ℕ, zero, suc, ◌+◌, ◌<◌, Bool, true, false, cond, List, [], ◌∷◌, ◌++◌, append-nil, length, get_or, refl, sym, ap, subst, ◌∙◌, arith, slice_get}
+use Rattle.std.proofs.Common.{◌≡◌, ℕ, zero, suc, ◌+◌, ◌<◌, Bool, true, false, cond, List, [], ◌∷◌, ◌++◌, append-nil, length, get_or, refl, sym, ap, subst, ◌∙◌}
+use Rattle.std.proofs.Common.{arith, slice_get}
 use Rattle.std.specs.Prelude.{All, filter}
 use Rattle.std.specs.List.{flat_map, range_with_len}
 use Rattle.std.proofs.lemmas.List.Elements.{All-filter, filter-append}
@@ -19,13 +20,15 @@ filter-at : (test : ℕ → Bool) (n : ℕ) (b : Bool) → test n ≡ b → filt
 filter-at test n b is = rw is refl
 
 -- one more number that the test picks, and one more that it doesn't
-pub picked-one : (test : ℕ → Bool) (n : ℕ) (so_far now : List ℕ) → test n ≡ true → so_far ≡ filter test (range_with_len 0 n) → now ≡ so_far ++ n ∷ [] → now ≡ filter test (range_with_len 0 (n + 1))
+pub picked-one : (test : ℕ → Bool) (n : ℕ) (so_far now : List ℕ) → test n ≡ true → so_far ≡ filter test (range_with_len 0 n) → now ≡ so_far ++ n ∷ []
+    → now ≡ filter test (range_with_len 0 (n + 1))
 picked-one test n so_far now is before more =
     more ∙ ap (λ (l : List ℕ). l ++ n ∷ []) before
     ∙ ap (λ (l : List ℕ). filter test (range_with_len 0 n) ++ l) (sym (filter-at test n true is))
     ∙ sym (filter-append test (range_with_len 0 n) (n ∷ [])) ∙ ap (filter test) (sym (range-more n))
 
-pub picked-none : (test : ℕ → Bool) (n : ℕ) (so_far : List ℕ) → test n ≡ false → so_far ≡ filter test (range_with_len 0 n) → so_far ≡ filter test (range_with_len 0 (n + 1))
+pub picked-none : (test : ℕ → Bool) (n : ℕ) (so_far : List ℕ) → test n ≡ false → so_far ≡ filter test (range_with_len 0 n)
+    → so_far ≡ filter test (range_with_len 0 (n + 1))
 picked-none test n so_far is before =
     before ∙ sym (append-nil (filter test (range_with_len 0 n)))
     ∙ ap (λ (l : List ℕ). filter test (range_with_len 0 n) ++ l) (sym (filter-at test n false is))

@@ -1,5 +1,6 @@
 -- Names, versions and the texts of classes are plain.
-use Rattle.std.proofs.Common.{◌≡◌, ℕ, suc, ◌<◌, ◌≤◌, Bool, true, false, ◌&&◌, ◌||◌, ◌==◌, eqb-true, List, [], ◌∷◌, ◌++◌, length, get_or, Option, None, Some, codes, arith, refl, subst, sym, inl, inr}
+use Rattle.std.proofs.Common.{◌≡◌, ℕ, suc, ◌<◌, ◌≤◌, Bool, true, false, ◌&&◌, ◌||◌, ◌==◌, eqb-true, List, [], ◌∷◌, ◌++◌, length, get_or, Option, None, Some}
+use Rattle.std.proofs.Common.{codes, arith, refl, subst, sym, inl, inr}
 use Rattle.std.specs.Prelude.{IfSome, IsTrue}
 use Rattle.std.specs.Char.{is_ascii_alphanumeric, is_ascii_digit}
 use Rattle.std.specs.Int.{is_in_range}
@@ -26,7 +27,8 @@ within : (low high b : ℕ) → is_in_range low high b ≡ true → (low ≤ b) 
 within low high b h = let parts = both-true _ _ h in (leb-true low b parts.0, leb-true b high parts.1)
 
 between : (low high b : ℕ) → is_in_range low high b ≡ true → 32 ≤ low → high ≤ 126 → (34 < low) → (high < 92) → IsPlainByte b
-between low high b h least most above below = let p = within low high b h in (omega (arith, p.0), omega (arith, p.1), (λ e. omega (arith, e, p.0)), λ e. omega (arith, e, p.1))
+between low high b h least most above below = let p = within low high b h in
+    (omega (arith, p.0), omega (arith, p.1), (λ e. omega (arith, e, p.0)), λ e. omega (arith, e, p.1))
 
 past : (low high b : ℕ) → is_in_range low high b ≡ true → 92 < low → high ≤ 126 → IsPlainByte b
 past low high b h above most = let p = within low high b h in (omega (arith, p.0), omega (arith, p.1), (λ e. omega (arith, e, p.0)), λ e. omega (arith, e, p.0))
@@ -78,7 +80,8 @@ listed-plain b (c ∷ bytes) plain h = elim (or_cases (c == b) (has b bytes) h) 
 signs : IsPlain (codes ".+~")
 signs =
     All-cons IsPlainByte 46 (codes "+~") (byte 46 (omega arith) (omega arith))
-    (All-cons IsPlainByte 43 (codes "~") (byte 43 (omega arith) (omega arith)) (All-cons IsPlainByte 126 [] (later-byte 126 (omega arith) (omega arith)) (All-nil IsPlainByte)))
+    (All-cons IsPlainByte 43 (codes "~") (byte 43 (omega arith) (omega arith))
+    (All-cons IsPlainByte 126 [] (later-byte 126 (omega arith) (omega arith)) (All-nil IsPlainByte)))
 
 all-signs : IsPlain (codes ".+-~:")
 all-signs =
@@ -118,27 +121,32 @@ plain-front front epoch (inl written) =
     (All-cons IsPlainByte colon [] (byte 58 (omega arith) (omega arith)) (All-nil IsPlainByte)))
 plain-front front epoch (inr absent) = subst IsPlain (sym absent.0) (All-nil IsPlainByte)
 
-plain-revision : (revision : Option (List ℕ)) → IfSome revision (λ bytes. (0 < length bytes) × IsTrue (list_all is_revision_byte bytes)) → IsPlain (revision_text revision)
+plain-revision : (revision : Option (List ℕ)) → IfSome revision (λ bytes. (0 < length bytes) × IsTrue (list_all is_revision_byte bytes))
+    → IsPlain (revision_text revision)
 plain-revision None made = All-nil IsPlainByte
-plain-revision (Some revision) made = All-cons IsPlainByte hyphen revision (byte 45 (omega arith) (omega arith)) (made-plain is_revision_byte revision-plain revision made.1)
+plain-revision (Some revision) made = All-cons IsPlainByte hyphen revision (byte 45 (omega arith) (omega arith))
+    (made-plain is_revision_byte revision-plain revision made.1)
 
 pub plain-version : (text : List ℕ) → IsVersion text → IsPlain text
 plain-version text (version, spells) =
     subst IsPlain (sym spells.whole)
     (All-append IsPlainByte (spells.front ++ version.upstream) (revision_text version.revision)
-    (All-append IsPlainByte spells.front version.upstream (plain-front spells.front version.epoch spells.epoch) (made-plain is_upstream_byte upstream-plain version.upstream spells.upstream.1))
+    (All-append IsPlainByte spells.front version.upstream (plain-front spells.front version.epoch spells.epoch)
+    (made-plain is_upstream_byte upstream-plain version.upstream spells.upstream.1))
     (plain-revision version.revision spells.revision))
 
 pub plain-label : (p : Package) → IsName p.name → IsVersion p.version → IsPlain (label p)
 plain-label p name version =
-    All-append IsPlainByte p.name (codes "=" ++ p.version) (plain-name p.name name) (All-cons IsPlainByte 61 p.version (byte 61 (omega arith) (omega arith)) (plain-version p.version version))
+    All-append IsPlainByte p.name (codes "=" ++ p.version) (plain-name p.name name)
+    (All-cons IsPlainByte 61 p.version (byte 61 (omega arith) (omega arith)) (plain-version p.version version))
 
 -- ---- classes
 
 -- an operator and a space before a version
 after-signs : (first second : ℕ) (v : List ℕ) → IsPlainByte first → IsPlainByte second → IsPlain v → IsPlain (first ∷ second ∷ 32 ∷ v)
 after-signs first second v one two rest =
-    All-cons IsPlainByte first (second ∷ 32 ∷ v) one (All-cons IsPlainByte second (32 ∷ v) two (All-cons IsPlainByte 32 v (omega arith, omega arith, (λ e. omega (arith, e)), λ e. omega (arith, e)) rest))
+    All-cons IsPlainByte first (second ∷ 32 ∷ v) one (All-cons IsPlainByte second (32 ∷ v) two
+    (All-cons IsPlainByte 32 v (omega arith, omega arith, (λ e. omega (arith, e)), λ e. omega (arith, e)) rest))
 
 above-plain : (v : List ℕ) → IsPlain v → IsPlain (codes ">> " ++ v)
 above-plain v plain = after-signs 62 62 v (byte 62 (omega arith) (omega arith)) (byte 62 (omega arith) (omega arith)) plain
@@ -147,14 +155,18 @@ below-plain : (v : List ℕ) → IsPlain v → IsPlain (codes "<< " ++ v)
 below-plain v plain = after-signs 60 60 v (byte 60 (omega arith) (omega arith)) (byte 60 (omega arith) (omega arith)) plain
 
 spaced : (b : ℕ) (v : List ℕ) → IsPlainByte b → IsPlain v → IsPlain (b ∷ 32 ∷ v)
-spaced b v one rest = All-cons IsPlainByte b (32 ∷ v) one (All-cons IsPlainByte 32 v (omega arith, omega arith, (λ e. omega (arith, e)), λ e. omega (arith, e)) rest)
+spaced b v one rest = All-cons IsPlainByte b (32 ∷ v) one
+    (All-cons IsPlainByte 32 v (omega arith, omega arith, (λ e. omega (arith, e)), λ e. omega (arith, e)) rest)
 
 pub plain-class : (class : Class) → HasVersionTexts class → IsPlain (class_text class)
 plain-class (Point v) versions = spaced 61 v (byte 61 (omega arith) (omega arith)) (plain-version v (versions 0 [] (omega arith)))
 plain-class (Between a b) versions =
     let low = plain-version a (versions 0 [] (omega arith)) in
     let high = plain-version b (versions 1 [] (omega arith)) in
-    above-plain (a ++ (codes ", << " ++ b)) (All-append IsPlainByte a (codes ", << " ++ b) low (spaced 44 (codes "<< " ++ b) (byte 44 (omega arith) (omega arith)) (below-plain b high)))
+    above-plain (a ++ (codes ", << " ++ b)) (All-append IsPlainByte a (codes ", << " ++ b) low
+    (spaced 44 (codes "<< " ++ b) (byte 44 (omega arith) (omega arith)) (below-plain b high)))
 plain-class (Above a) versions = above-plain a (plain-version a (versions 0 [] (omega arith)))
 plain-class (Below b) versions = below-plain b (plain-version b (versions 0 [] (omega arith)))
-plain-class Any versions = All-cons IsPlainByte 97 (codes "ny") (later-byte 97 (omega arith) (omega arith)) (All-cons IsPlainByte 110 (codes "y") (later-byte 110 (omega arith) (omega arith)) (All-cons IsPlainByte 121 [] (later-byte 121 (omega arith) (omega arith)) (All-nil IsPlainByte)))
+plain-class Any versions = All-cons IsPlainByte 97 (codes "ny") (later-byte 97 (omega arith) (omega arith))
+    (All-cons IsPlainByte 110 (codes "y") (later-byte 110 (omega arith) (omega arith))
+    (All-cons IsPlainByte 121 [] (later-byte 121 (omega arith) (omega arith)) (All-nil IsPlainByte)))

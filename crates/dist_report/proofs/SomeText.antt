@@ -20,7 +20,8 @@ use Rattle.dist_report.specs.ClassesReport.{IsClassesText, ToldCluster, ToldName
 abbrev AreVersions : List Package → Type 0
 AreVersions packages = All (λ p. IsVersion p.version) packages
 
-version-at : (packages : List Package) → AreVersions packages → (n : ℕ) (o : Option Package) (v : List ℕ) → slice_get packages n ≡ o → IsSomeAnd (option_map member_of o) (λ m. m.version ≡ v) → IsVersion v
+version-at : (packages : List Package) → AreVersions packages → (n : ℕ) (o : Option Package) (v : List ℕ) → slice_get packages n ≡ o
+    → IsSomeAnd (option_map member_of o) (λ m. m.version ≡ v) → IsVersion v
 version-at packages versions n None v at h = absurd h
 version-at packages versions n (Some p) v at h =
     let Of : Package → Type 0 = λ q. IsVersion q.version in
@@ -48,13 +49,17 @@ record ToldNames (r : PackageList) (names : List (List ℕ)) : Type 0 where
   examples : All (λ n. All HasExample n.classes) told
 
 module _ (some_partition : (members : List Member) → (clusters : List (List ℕ)) × IsPartition members clusters)
-    (some_tops : (members : List Member) (clusters : List (List ℕ)) → IsPartition members clusters → (tops : List (List ℕ)) × AreTops members (record { members = clusters; tops = tops }))
+    (some_tops : (members : List Member) (clusters : List (List ℕ)) → IsPartition members clusters → (tops : List (List ℕ))
+    × AreTops members (record { members = clusters; tops = tops }))
     (some_classes : (r : PackageList) (members top : List ℕ) → (classes : List Class) × AreClassesOf r members top classes)
     (some_name_classes : (r : PackageList) (name : List ℕ) → (classes : List Class) × AreClassesOfName r name classes)
     (some_names : (r : PackageList) → (names : List (List ℕ)) × AreNewNames r names)
-    (none_empty : (r : PackageList) (members top : List ℕ) (classes : List Class) → AreBoundsVersions r → IsVersion top → AreClassesOf r members top classes → All HasExample classes)
-    (none_empty_of_name : (r : PackageList) (name : List ℕ) (classes : List Class) → AreBoundsVersions r → AreClassesOfName r name classes → All HasExample classes) where
-  tell : (r : PackageList) → AreBoundsVersions r → (members tops : List (List ℕ)) → length tops ≡ length members → ((k : ℕ) → k < length tops → IsVersion (get_or tops k [])) → Told r members tops
+    (none_empty : (r : PackageList) (members top : List ℕ) (classes : List Class) → AreBoundsVersions r → IsVersion top → AreClassesOf r members top classes
+    → All HasExample classes)
+    (none_empty_of_name : (r : PackageList) (name : List ℕ) (classes : List Class) → AreBoundsVersions r → AreClassesOfName r name classes
+    → All HasExample classes) where
+  tell : (r : PackageList) → AreBoundsVersions r → (members tops : List (List ℕ)) → length tops ≡ length members
+      → ((k : ℕ) → k < length tops → IsVersion (get_or tops k [])) → Told r members tops
   tell r bounds [] [] aligned versions = record {
     clusters = [];
     same_members = refl;
@@ -73,7 +78,8 @@ module _ (some_partition : (members : List Member) → (clusters : List (List �
         same_members = ap (λ (list : List (List ℕ)). m ∷ list) rest.same_members;
         same_tops = ap (λ (list : List (List ℕ)). t ∷ list) rest.same_tops;
         classes = All-cons (λ (c : ToldCluster). AreClassesOf r c.members c.top c.classes) first rest.clusters one.1 rest.classes;
-        examples = All-cons (λ (c : ToldCluster). All HasExample c.classes) first rest.clusters (none_empty r m t one.0 bounds (versions 0 (omega arith)) one.1) rest.examples;
+        examples = All-cons (λ (c : ToldCluster). All HasExample c.classes) first rest.clusters (none_empty r m t one.0 bounds (versions 0 (omega arith)) one.1)
+            rest.examples;
       }
 
   tell-names : (r : PackageList) → AreBoundsVersions r → (names : List (List ℕ)) → ToldNames r names
@@ -99,7 +105,8 @@ module _ (some_partition : (members : List Member) → (clusters : List (List �
       let keys : List Member = map member_of r.packages in
       let partition = some_partition keys in
       let tops = some_tops keys partition.0 partition.1 in
-      let told = tell r bounds partition.0 tops.0 tops.1.aligned (λ k short. top-version r.packages versions (get_or partition.0 k []) (get_or tops.0 k []) (tops.1.each k (omega (arith, tops.1.aligned)))) in
+      let told = tell r bounds partition.0 tops.0 tops.1.aligned
+      (λ k short. top-version r.packages versions (get_or partition.0 k []) (get_or tops.0 k []) (tops.1.each k (omega (arith, tops.1.aligned)))) in
       let names = some_names r in
       let told_names = tell-names r bounds names.0 in
       let Members : List (List ℕ) → Type 0 = λ list. AreClustersOf r (record { members = list; tops = tops.0 }) in
@@ -109,7 +116,11 @@ module _ (some_partition : (members : List Member) → (clusters : List (List �
         record {
           clusters = told.clusters;
           names = told_names.told;
-          are_clusters = record { are = subst Tops (sym told.same_tops) (subst Members (sym told.same_members) are); classes = told.classes; examples = told.examples };
+          are_clusters = record {
+            are = subst Tops (sym told.same_tops) (subst Members (sym told.same_members) are);
+            classes = told.classes;
+            examples = told.examples;
+          };
           are_names = record { are = subst (AreNewNames r) (sym told_names.same) names.1; classes = told_names.classes; examples = told_names.examples };
           is = refl;
         },

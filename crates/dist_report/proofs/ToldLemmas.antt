@@ -1,5 +1,6 @@
 -- What is told of the clusters and new names so far, and of all.
-use Rattle.std.proofs.Common.{◌≡◌, ℕ, zero, suc, ◌+◌, ◌<◌, ◌≤◌, List, [], ◌∷◌, ◌++◌, append_assoc, append-nil, codes, length, map, get_or, take, Option, None, Some, refl, sym, ap, subst, ◌∙◌, arith, slice_get}
+use Rattle.std.proofs.Common.{◌≡◌, ℕ, zero, suc, ◌+◌, ◌<◌, ◌≤◌, List, [], ◌∷◌, ◌++◌, append_assoc, append-nil, codes, length, map, get_or, take, Option, None}
+use Rattle.std.proofs.Common.{Some, refl, sym, ap, subst, ◌∙◌, arith, slice_get}
 use Rattle.std.specs.Prelude.{◌==◌, All, Contains, IsSomeAnd}
 use Rattle.std.specs.List.{flat_map}
 use Rattle.std.proofs.lemmas.List.{flat_map_more, get_or_default, length-map, map-append, take_more}
@@ -42,7 +43,8 @@ together-within r m n together =
     let short = standing-within (λ (a : Member). IsSomeAnd (slice_get keys n) (λ b. AreClustered a b)) keys m (slice_get keys m) refl together in
     omega (arith, length-map r.packages member_of)
 
-pub members-within : (r : PackageList) (clusters : ClusterList) → AreClustersOf r clusters → (c : ℕ) (members : List ℕ) → slice_get clusters.members c ≡ Some members →
+pub members-within : (r : PackageList) (clusters : ClusterList) → AreClustersOf r clusters → (c : ℕ) (members : List ℕ)
+    → slice_get clusters.members c ≡ Some members →
     All (λ n. n < length r.packages) members
 members-within r clusters are c members is k d short =
     let inside = slice_get_within clusters.members c members is in
@@ -53,7 +55,8 @@ members-within r clusters are c members is k d short =
     let there : Contains members m = (k, short, get_or_default members k m d short) in
     together-within r m m ((whole k d short m).0 there)
 
-pub some-members : (r : PackageList) (clusters : ClusterList) → AreClustersOf r clusters → (c : ℕ) (members : List ℕ) → slice_get clusters.members c ≡ Some members → 0 < length members
+pub some-members : (r : PackageList) (clusters : ClusterList) → AreClustersOf r clusters → (c : ℕ) (members : List ℕ)
+    → slice_get clusters.members c ≡ Some members → 0 < length members
 some-members r clusters are c members is =
     let inside = slice_get_within clusters.members c members is in
     let same : get_or clusters.members c [] ≡ members = get_or_from_slice_get clusters.members c members [] is in
@@ -80,12 +83,14 @@ told-none r clusters before = record {
   text = sym (append-nil before);
 }
 
-map-push : (f : ToldCluster → List ℕ) (told : List ToldCluster) (t : ToldCluster) (whole : List (List ℕ)) (k : ℕ) → k < length whole → map f told ≡ take k whole → f t ≡ get_or whole k [] →
+map-push : (f : ToldCluster → List ℕ) (told : List ToldCluster) (t : ToldCluster) (whole : List (List ℕ)) (k : ℕ) → k < length whole → map f told ≡ take k whole
+    → f t ≡ get_or whole k [] →
     map f (told ++ t ∷ []) ≡ take (k + 1) whole
 map-push f told t whole k short so_far here =
     map-append f told (t ∷ []) ∙ ap (λ list. list ++ f t ∷ []) so_far ∙ ap (λ (x : List ℕ). take k whole ++ x ∷ []) here ∙ sym (take_more whole k [] short)
 
-pub told-more : (r : PackageList) (clusters : ClusterList) (k : ℕ) (before now after : List ℕ) (classes : List Class) → k < length clusters.members → length clusters.tops ≡ length clusters.members →
+pub told-more : (r : PackageList) (clusters : ClusterList) (k : ℕ) (before now after : List ℕ) (classes : List Class) → k < length clusters.members
+    → length clusters.tops ≡ length clusters.members →
     AreToldSoFar r clusters k before now → AreClassesOf r (get_or clusters.members k []) (get_or clusters.tops k []) classes → All HasExample classes →
     after ≡ now ++ cluster_lines r.packages (record { members = get_or clusters.members k []; top = get_or clusters.tops k []; classes = classes }) →
     AreToldSoFar r clusters (k + 1) before after
@@ -136,14 +141,16 @@ names-none r names before = record {
 }
 
 pub names-more : (r : PackageList) (names : List (List ℕ)) (k : ℕ) (before now after name : List ℕ) (classes : List Class) → slice_get names k ≡ Some name →
-    AreNamesSoFar r names k before now → AreClassesOfName r name classes → All HasExample classes → after ≡ now ++ name_lines (record { name = name; classes = classes }) → AreNamesSoFar r names (k + 1) before after
+    AreNamesSoFar r names k before now → AreClassesOfName r name classes → All HasExample classes
+    → after ≡ now ++ name_lines (record { name = name; classes = classes }) → AreNamesSoFar r names (k + 1) before after
 names-more r names k before now after name classes is so_far are examples text =
     let t : ToldName = record { name = name; classes = classes } in
     let short = slice_get_within names k name is in
     let here : get_or names k [] ≡ name = get_or_from_slice_get names k name [] is in
     record {
       told = so_far.told ++ t ∷ [];
-      first = map-append (λ (n : ToldName). n.name) so_far.told (t ∷ []) ∙ ap (λ list. list ++ name ∷ []) so_far.first ∙ ap (λ (x : List ℕ). take k names ++ x ∷ []) (sym here)
+      first = map-append (λ (n : ToldName). n.name) so_far.told (t ∷ []) ∙ ap (λ list. list ++ name ∷ []) so_far.first
+          ∙ ap (λ (x : List ℕ). take k names ++ x ∷ []) (sym here)
           ∙ sym (take_more names k [] short);
       classes = All-push (λ (n : ToldName). AreClassesOfName r n.name n.classes) so_far.told t so_far.classes are;
       examples = All-push (λ (n : ToldName). All HasExample n.classes) so_far.told t so_far.examples examples;

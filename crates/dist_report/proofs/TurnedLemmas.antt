@@ -1,5 +1,6 @@
 -- The strong dependencies of the first packages, turned round.
-use Rattle.std.proofs.Common.{◌≡◌, ℕ, zero, suc, ◌+◌, ◌<◌, Bool, true, false, List, [], ◌∷◌, ◌++◌, length, get_or, replicate, Option, Some, refl, sym, ap, subst, ◌∙◌, arith, slice_get}
+use Rattle.std.proofs.Common.{◌≡◌, ℕ, zero, suc, ◌+◌, ◌<◌, Bool, true, false, List, [], ◌∷◌, ◌++◌, length, get_or, replicate, Option, Some, refl, sym, ap}
+use Rattle.std.proofs.Common.{subst, ◌∙◌, arith, slice_get}
 use Rattle.std.specs.Prelude.{All, filter}
 use Rattle.std.specs.List.{range_with_len}
 use Rattle.std.specs.Option.{option_map_or}
@@ -69,12 +70,15 @@ turned-lower made packages n lists so_far k d short =
     let at : get_or lists k d ≡ get_or lists k [] = get_or_default lists k d [] short in
     subst Lower (sym (at ∙ is)) (picked-within (λ p. is_among (strong_at made p) k) n)
 
-noted-picked : (test : ℕ → Bool) (n : ℕ) (b : Bool) (so_far : List ℕ) → test n ≡ b → so_far ≡ filter test (range_with_len 0 n) → noted n b so_far ≡ filter test (range_with_len 0 (n + 1))
+noted-picked : (test : ℕ → Bool) (n : ℕ) (b : Bool) (so_far : List ℕ) → test n ≡ b → so_far ≡ filter test (range_with_len 0 n)
+    → noted n b so_far ≡ filter test (range_with_len 0 (n + 1))
 noted-picked test n true so_far is before = picked-one test n so_far (so_far ++ n ∷ []) is before refl
 noted-picked test n false so_far is before = picked-none test n so_far is before
 
-pub turned-more : (made : List Claim) (packages n : ℕ) (claim : Claim) (on : List ℕ) (lists new : List (List ℕ)) → slice_get made n ≡ Some claim → on ≡ strong_on claim
-    → AreTurned made packages n lists → length new ≡ length lists → ((q : ℕ) → q < length lists → get_or new q [] ≡ noted n (is_among on q) (get_or lists q [])) → AreTurned made packages (n + 1) new
+pub turned-more : (made : List Claim) (packages n : ℕ) (claim : Claim) (on : List ℕ) (lists new : List (List ℕ)) → slice_get made n ≡ Some claim
+    → on ≡ strong_on claim
+    → AreTurned made packages n lists → length new ≡ length lists → ((q : ℕ) → q < length lists → get_or new q [] ≡ noted n (is_among on q) (get_or lists q []))
+    → AreTurned made packages (n + 1) new
 turned-more made packages n claim on lists new at is so_far long each = record {
   same_length = long ∙ so_far.same_length;
   each = λ q short.

@@ -37,17 +37,21 @@ pub record AreToldNames (r : PackageList) (names : List ToldName) : Type 0 where
 
 -- a class, and an example of its versions
 abbrev pub class_lines : Class → List ℕ
-class_lines class = string_line (codes "      - class: ") (class_text class) ++ string_line (codes "        example: ") (example_text class)
+class_lines class = string_line (codes "      - class: ") (class_text class)
+    ++ string_line (codes "        example: ") (example_text class)
 
 -- a cluster goes by its least member; what follows are the name of its source and its greatest version
 abbrev pub head_lines : List Package → (least : ℕ) → (top : List ℕ) → List ℕ
 head_lines packages first top =
     string_line (codes "  - cluster: ") (option_map_or label (slice_get packages first) [])
-    ++ (string_line (codes "    source: ") (option_map_or (λ p. p.source) (slice_get packages first) []) ++ string_line (codes "    top: ") top)
+    ++ (string_line (codes "    source: ") (option_map_or (λ p. p.source) (slice_get packages first) [])
+    ++ string_line (codes "    top: ") top)
 
 abbrev pub cluster_lines : List Package → ToldCluster → List ℕ
 cluster_lines packages c =
-    head_lines packages (least c.members) c.top ++ (listed (codes "    members:") (package_line (codes "      - ") packages) c.members ++ listed (codes "    classes:") class_lines c.classes)
+    head_lines packages (least c.members) c.top
+    ++ (listed (codes "    members:") (package_line (codes "      - ") packages) c.members
+    ++ listed (codes "    classes:") class_lines c.classes)
 
 abbrev pub name_lines : ToldName → List ℕ
 name_lines n = string_line (codes "  - name: ") n.name ++ listed (codes "    classes:") class_lines n.classes
@@ -57,7 +61,8 @@ abbrev pub opening : List Package → List ℕ
 opening packages = codes "report: \"classes\"\npackages: " ++ (decimal (length packages) ++ codes "\n")
 
 abbrev pub classes_lines : List Package → List ToldCluster → List ToldName → List ℕ
-classes_lines packages clusters names = opening packages ++ (listed (codes "clusters:") (cluster_lines packages) clusters ++ listed (codes "names:") name_lines names)
+classes_lines packages clusters names = opening packages
+    ++ (listed (codes "clusters:") (cluster_lines packages) clusters ++ listed (codes "names:") name_lines names)
 
 -- The text is the report of the repository's classes. There is one at most (the law `classes_texts_are_one`).
 pub record IsClassesText (r : PackageList) (text : List ℕ) : Type 0 where

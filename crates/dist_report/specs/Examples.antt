@@ -33,14 +33,18 @@ alone = record { members = 0 ∷ []; top = codes "1"; classes = Above (codes "1"
 
 -- a program, and a name that it depends on below 1
 foo_example :
-    classes_lines (program ∷ []) (alone ∷ []) (record { name = codes "foo"; classes = Below (codes "1") ∷ Point (codes "1") ∷ Above (codes "1") ∷ [] } ∷ [])
-    ≡ codes "report: \"classes\"\npackages: 1\nclusters:\n  - cluster: \"p=1\"\n    source: \"p\"\n    top: \"1\"\n    members:\n      - \"p=1\"\n    classes:\n      - class: \">> 1\"\n        example: \"1-0A\"\n"
-    ++ codes "names:\n  - name: \"foo\"\n    classes:\n      - class: \"<< 1\"\n        example: \"~~\"\n      - class: \"= 1\"\n        example: \"1\"\n      - class: \">> 1\"\n        example: \"1-0A\"\n"
+    classes_lines (program ∷ []) (alone ∷ [])
+    (record { name = codes "foo"; classes = Below (codes "1") ∷ Point (codes "1") ∷ Above (codes "1") ∷ [] } ∷ [])
+    ≡ codes
+    "report: \"classes\"\npackages: 1\nclusters:\n  - cluster: \"p=1\"\n    source: \"p\"\n    top: \"1\"\n    members:\n      - \"p=1\"\n    classes:\n      - class: \">> 1\"\n        example: \"1-0A\"\n"
+    ++ codes
+    "names:\n  - name: \"foo\"\n    classes:\n      - class: \"<< 1\"\n        example: \"~~\"\n      - class: \"= 1\"\n        example: \"1\"\n      - class: \">> 1\"\n        example: \"1-0A\"\n"
 unfolding digits above_text after_epoch upstream_of revision_of
 foo_example = refl
 
 -- a name that it depends on at any version
-any_example : listed (codes "    classes:") class_lines (Any ∷ []) ≡ codes "    classes:\n      - class: \"any\"\n        example: \"0\"\n"
+any_example : listed (codes "    classes:") class_lines (Any ∷ [])
+    ≡ codes "    classes:\n      - class: \"any\"\n        example: \"0\"\n"
 any_example = refl
 
 abbrev library : Package
@@ -57,9 +61,16 @@ library = record {
 
 -- a library with a bound on it, and another package of its source
 library_example :
-    cluster_lines (library ∷ program ∷ library ∷ []) (record { members = 0 ∷ 2 ∷ []; top = codes "1.0-1"; classes = Between (codes "1.0-1") (codes "2.0") ∷ Point (codes "2.0") ∷ [] })
-    ≡ codes "  - cluster: \"libx=1.0-1\"\n    source: \"x\"\n    top: \"1.0-1\"\n    members:\n      - \"libx=1.0-1\"\n      - \"libx=1.0-1\"\n"
-    ++ codes "    classes:\n      - class: \">> 1.0-1, << 2.0\"\n        example: \"1.0-1A~~~\"\n      - class: \"= 2.0\"\n        example: \"2.0\"\n"
+    cluster_lines (library ∷ program ∷ library ∷ [])
+    (record {
+      members = 0 ∷ 2 ∷ [];
+      top = codes "1.0-1";
+      classes = Between (codes "1.0-1") (codes "2.0") ∷ Point (codes "2.0") ∷ [];
+    })
+    ≡ codes
+    "  - cluster: \"libx=1.0-1\"\n    source: \"x\"\n    top: \"1.0-1\"\n    members:\n      - \"libx=1.0-1\"\n      - \"libx=1.0-1\"\n"
+    ++ codes
+    "    classes:\n      - class: \">> 1.0-1, << 2.0\"\n        example: \"1.0-1A~~~\"\n      - class: \"= 2.0\"\n        example: \"2.0\"\n"
 unfolding above_text after_epoch upstream_of revision_of
 library_example = refl
 

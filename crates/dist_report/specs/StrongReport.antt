@@ -1,6 +1,8 @@
--- The report of strong dependencies: what is claimed of the packages, put into lists. Packages are given by their numbers, and
+-- The report of strong dependencies: what is claimed of the packages, put into lists. Packages are given by their
+-- numbers, and
 -- each list follows them.
-use Rattle.std.specs.Prelude.{◌==◌, ℕ, Bool, true, false, not, List, [], ◌++◌, codes, decimal, filter, length, slice_get}
+use Rattle.std.specs.Prelude.{◌==◌, ℕ, Bool, true, false, not, List, [], ◌++◌, codes, decimal, filter, length}
+use Rattle.std.specs.Prelude.{slice_get}
 use Rattle.std.specs.List.{range_with_len}
 use Rattle.std.specs.Option.{option_map_or}
 use Rattle.dist_cert.specs.Rising.{is_among}
@@ -58,17 +60,21 @@ with_impact made = filter (λ q. has_some (impact_at made q)) (range_with_len 0 
 
 -- a package and the packages of its list
 abbrev pub entry_lines : List Package → (key : List ℕ) → ℕ → List ℕ → List ℕ
-entry_lines packages key number list = package_line (codes "  - package: ") packages number ++ listed key (package_line (codes "      - ") packages) list
+entry_lines packages key number list = package_line (codes "  - package: ") packages number
+    ++ listed key (package_line (codes "      - ") packages) list
 
 -- what kind of report it is, how many derived lines closed a question, and how many packages there are
 abbrev pub strong_opening : List Package → Header → List ℕ
-strong_opening packages header = codes "report: \"strong\"\nlimit: " ++ (decimal header.limit ++ (codes "\npackages: " ++ (decimal (length packages) ++ codes "\n")))
+strong_opening packages header = codes "report: \"strong\"\nlimit: "
+    ++ (decimal header.limit ++ (codes "\npackages: " ++ (decimal (length packages) ++ codes "\n")))
 
 abbrev pub strong_lines : List Package → Header → List Claim → List ℕ
 strong_lines packages header made =
     strong_opening packages header
     ++ (listed (codes "uninstallable:") (package_line (codes "  - ") packages) (claimed is_uninstallable made)
-    ++ (listed (codes "strong:") (λ p. entry_lines packages (codes "    on:") p (strong_at made p)) (claimed (λ c. has_some (strong_on c)) made)
+    ++ (listed (codes "strong:") (λ p. entry_lines packages (codes "    on:") p (strong_at made p))
+    (claimed (λ c. has_some (strong_on c)) made)
     ++ (listed (codes "impact:") (λ q. entry_lines packages (codes "    of:") q (impact_at made q)) (with_impact made)
     ++ (listed (codes "undecided:") (package_line (codes "  - ") packages) (claimed is_unknown made)
-    ++ listed (codes "undecided_pairs:") (λ p. entry_lines packages (codes "    on:") p (undecided_at made p)) (claimed (λ c. has_some (undecided_on c)) made)))))
+    ++ listed (codes "undecided_pairs:") (λ p. entry_lines packages (codes "    on:") p (undecided_at made p))
+    (claimed (λ c. has_some (undecided_on c)) made)))))

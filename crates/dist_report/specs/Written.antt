@@ -4,7 +4,8 @@ use Rattle.dist_repo.specs.PackageList.{PackageList}
 use Rattle.dist_classes.specs.Answers.{AreClassesOf, AreClassesOfName}
 use Rattle.dist_classes.specs.ClassList.{HasExample}
 use Rattle.dist_classes.specs.declared.class_value.Class.{Class}
-use Rattle.dist_report.specs.ClassesReport.{AreToldClusters, AreToldNames, ToldCluster, ToldName, cluster_lines, name_lines}
+use Rattle.dist_report.specs.ClassesReport.{AreToldClusters, AreToldNames, ToldCluster, ToldName, cluster_lines}
+use Rattle.dist_report.specs.ClassesReport.{name_lines}
 use Rattle.dist_report.specs.Lines.{listed}
 
 -- the lines of a cluster with its classes

@@ -25,8 +25,10 @@ unset_apart trues l unset m here e = elim (cases_sign m.positive l.positive) [
     cases_sign false true = inr refl
     cases_sign false false = inl refl
 
-pub decided_more : (log : ClauseLog) (assumptions start trues : List Literal) (decision : Literal) → IsDecided log assumptions start → (1 ≤ decision.variable) × (decision.variable ≤ log.variables)
-    → InCone (inputs_of log) assumptions decision.variable → IsSettled log.clauses trues → ContainsAll trues start → IsUnset trues decision → IsDecided log assumptions (start ++ decision ∷ [])
+pub decided_more : (log : ClauseLog) (assumptions start trues : List Literal) (decision : Literal) → IsDecided log assumptions start → (1 ≤ decision.variable)
+    × (decision.variable ≤ log.variables)
+    → InCone (inputs_of log) assumptions decision.variable → IsSettled log.clauses trues → ContainsAll trues start → IsUnset trues decision
+    → IsDecided log assumptions (start ++ decision ∷ [])
 decided_more log assumptions start trues decision decided in_range in_cone settled kept unset = record {
   over = record {
     in_range = All-push (λ l. (1 ≤ l.variable) × (l.variable ≤ log.variables)) start decision decided.over.in_range in_range;
@@ -34,7 +36,8 @@ decided_more log assumptions start trues decision decided in_range in_cone settl
         (λ k d within. unset_apart trues decision unset (get_or start k d) (kept k d within));
   };
   within_cone = All-push (λ l. InCone (inputs_of log) assumptions l.variable) start decision decided.within_cone in_cone;
-  assumed = λ k d within. All-contains (Contains (start ++ decision ∷ [])) start (get_or assumptions k d) (has_front start (decision ∷ [])) (decided.assumed k d within);
+  assumed = λ k d within. All-contains (Contains (start ++ decision ∷ [])) start (get_or assumptions k d) (has_front start (decision ∷ []))
+      (decided.assumed k d within);
   last = inr (record {
     front = start;
     last = decision;

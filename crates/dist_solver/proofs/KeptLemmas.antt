@@ -7,11 +7,14 @@ use Rattle.dist_solver.specs.Derived.{DerivedLine}
 use Rattle.dist_solver.specs.Kept.{lines_kept}
 use Rattle.dist_solver.specs.declared.lines.Line.{Line}
 
-pub kept_under : (hints more : List (List ℕ)) (lines : List Line) → All (λ l. l.place < length hints) lines → lines_kept (hints ++ more) lines ≡ lines_kept hints lines
+pub kept_under : (hints more : List (List ℕ)) (lines : List Line) → All (λ l. l.place < length hints) lines
+    → lines_kept (hints ++ more) lines ≡ lines_kept hints lines
 kept_under hints more [] h = refl
 kept_under hints more (l ∷ lines) h =
-    ap (λ hs. record { line = l.number; hints = hs } ∷ lines_kept (hints ++ more) lines) (get_or_append_left hints more [] l.place (All-head (λ l. l.place < length hints) l lines h))
-    ∙ ap (λ ds. record { line = l.number; hints = get_or hints l.place [] } ∷ ds) (kept_under hints more lines (All-tail (λ l. l.place < length hints) l lines h))
+    ap (λ hs. record { line = l.number; hints = hs } ∷ lines_kept (hints ++ more) lines)
+    (get_or_append_left hints more [] l.place (All-head (λ l. l.place < length hints) l lines h))
+    ∙ ap (λ ds. record { line = l.number; hints = get_or hints l.place [] } ∷ ds)
+    (kept_under hints more lines (All-tail (λ l. l.place < length hints) l lines h))
 
 pub kept_more : (hints : List (List ℕ)) (added : List ℕ) (lines : List Line) (l : Line) → All (λ l. l.place < length hints) lines → length hints ≡ l.place
     → lines_kept (hints ++ added ∷ []) (lines ++ l ∷ []) ≡ lines_kept hints lines ++ record { line = l.number; hints = added } ∷ []

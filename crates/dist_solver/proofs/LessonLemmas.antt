@@ -1,5 +1,6 @@
 -- The clause of the negated literals of a start, the last one first.
-use Rattle.std.proofs.Common.{◌≡◌, ◌≢◌, ℕ, ◌-◌, ◌<◌, ◌≤◌, Bool, true, false, not, List, [], ◌∷◌, ◌++◌, length, map, reverse, get_or, take, refl, ap, sym, subst, ◌∙◌, arith}
+use Rattle.std.proofs.Common.{◌≡◌, ◌≢◌, ℕ, ◌-◌, ◌<◌, ◌≤◌, Bool, true, false, not, List, [], ◌∷◌, ◌++◌, length, map, reverse, get_or, take, refl, ap, sym, subst}
+use Rattle.std.proofs.Common.{◌∙◌, arith}
 use Rattle.std.specs.List.{All, AllPairs, Contains}
 use Rattle.std.proofs.lemmas.Bool.{false≢true}
 use Rattle.std.proofs.lemmas.List.{get_or-map, get_or-reverse, get_or_default, length-map, length-reverse, reverse-append}
@@ -49,7 +50,8 @@ contains_itself xs k d within = (k, within, get_or_default xs k (get_or xs k d) 
 abbrev pub denial : List Literal → List Literal
 denial start = map negation (reverse start)
 
-variable_at : (start : List Literal) (k : ℕ) (d : Literal) → k < length start → (get_or (denial start) k d).variable ≡ (get_or start (length start - 1 - k) d).variable
+variable_at : (start : List Literal) (k : ℕ) (d : Literal) → k < length start
+    → (get_or (denial start) k d).variable ≡ (get_or start (length start - 1 - k) d).variable
 variable_at start k d within =
     ap (λ (l : Literal). l.variable) (get_or-map negation (reverse start) k d d (omega (arith, within, length-reverse start)))
     ∙ ap (λ (l : Literal). l.variable) (get_or-reverse start k d within)
@@ -79,7 +81,8 @@ denial_first front last = ap (λ ls. map negation ls) (reverse-append front (las
 denied : (trues front : List Literal) → ContainsAll trues front → AllFalse trues (denial front)
 denied trues front kept =
     All-map (IsFalse trues) negation (reverse front)
-    (All-weaker (Contains trues) (λ l. IsFalse trues (negation l)) (λ l here. subst (λ m. Contains trues m) (sym (negation_twice l)) here) (reverse front) (all_reverse (Contains trues) front kept))
+    (All-weaker (Contains trues) (λ l. IsFalse trues (negation l)) (λ l here. subst (λ m. Contains trues m) (sym (negation_twice l)) here) (reverse front)
+    (all_reverse (Contains trues) front kept))
 
 unset_negation : (trues : List Literal) (l : Literal) → IsUnset trues l → IsUnset trues (negation l)
 unset_negation trues l unset = (unset.1, λ here. unset.0 (subst (λ m. Contains trues m) (negation_twice l) here))
@@ -96,8 +99,10 @@ denial_not_true value clause all made =
     not_itself true e = false≢true e
     not_itself false e = false≢true (sym e)
 
-module _ (log : ClauseLog) (assumed start : List Literal) (hints : List ℕ) (decided : IsDecided log assumed start) (ends : EndsFalse log.clauses start hints) (short : IsShort log.variables hints) where
-  pub refutation : start ≡ assumed → ((clause : List Literal) (value : ℕ → Bool) → Follows log.clauses clause hints → IsModel value (inputs_of log) → MakesTrue value clause) → IsRefutation log assumed hints
+module _ (log : ClauseLog) (assumed start : List Literal) (hints : List ℕ) (decided : IsDecided log assumed start) (ends : EndsFalse log.clauses start hints)
+    (short : IsShort log.variables hints) where
+  pub refutation : start ≡ assumed → ((clause : List Literal) (value : ℕ → Bool) → Follows log.clauses clause hints → IsModel value (inputs_of log)
+      → MakesTrue value clause) → IsRefutation log assumed hints
   refutation same sound =
       let follows : Follows log.clauses (map negation assumed) hints = subst (λ ts. EndsFalse log.clauses ts hints) (same ∙ sym (all_twice assumed)) ends in
       record {
@@ -107,13 +112,17 @@ module _ (log : ClauseLog) (assumed start : List Literal) (hints : List ℕ) (de
       }
 
   pub lesson : (clause : List Literal) → clause ≡ denial start → IsDecision log.clauses assumed start
-      → ((trues other : List Literal) → ContainsAll trues other → ContainsAll other trues → EndsFalse log.clauses trues hints → EndsFalse log.clauses other hints)
-      → ((first : Literal) (rest trues : List Literal) → AllPairs (λ l m. l.variable ≢ m.variable) (first ∷ rest) → IsWithinCone (take log.inputs log.clauses) assumed (first ∷ rest)
-      → IsSettled log.clauses trues → ContainsAll trues assumed → AllFalse trues rest → IsUnset trues first → IsNew log.clauses log.inputs assumed (first ∷ rest))
+      → ((trues other : List Literal) → ContainsAll trues other → ContainsAll other trues → EndsFalse log.clauses trues hints
+      → EndsFalse log.clauses other hints)
+      → ((first : Literal) (rest trues : List Literal) → AllPairs (λ l m. l.variable ≢ m.variable) (first ∷ rest)
+      → IsWithinCone (take log.inputs log.clauses) assumed (first ∷ rest)
+      → IsSettled log.clauses trues → ContainsAll trues assumed → AllFalse trues rest → IsUnset trues first
+      → IsNew log.clauses log.inputs assumed (first ∷ rest))
       → IsLesson log assumed clause hints
   lesson clause is decision any_order make_new = subst (λ c. IsLesson log assumed c hints) (sym is) (record {
     over = over;
-    follows = subst (λ ts. EndsFalse log.clauses ts hints) (sym (all_twice (reverse start))) (any_order start (reverse start) (all_reverse (Contains start) start (contains_itself start)) (in_reverse start) ends);
+    follows = subst (λ ts. EndsFalse log.clauses ts hints) (sym (all_twice (reverse start)))
+        (any_order start (reverse start) (all_reverse (Contains start) start (contains_itself start)) (in_reverse start) ends);
     is_new = subst (λ c. IsNew log.clauses log.inputs assumed c) (sym first)
         (make_new (negation decision.last) (denial decision.front) decision.trues
         (subst (λ c. AllPairs (λ l m. l.variable ≢ m.variable) c) first over.distinct)

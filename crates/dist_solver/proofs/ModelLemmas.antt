@@ -8,7 +8,8 @@ use Rattle.dist_solver.specs.Trail.{IsSet}
 use Rattle.dist_solver.specs.Descent.{AreValues}
 
 -- a true literal of a variable of the cone is true in the values
-pub true_in_values : (trues : List Literal) (cone : List ℕ) (values : List Bool) (l : Literal) → AreValues trues cone values → 1 ≤ l.variable → Contains cone l.variable → Contains trues l → IsTrueLiteral (value_of values) l
+pub true_in_values : (trues : List Literal) (cone : List ℕ) (values : List Bool) (l : Literal) → AreValues trues cone values → 1 ≤ l.variable
+    → Contains cone l.variable → Contains trues l → IsTrueLiteral (value_of values) l
 true_in_values trues cone values l are one in_cone here = at l.positive here
   where
     at : (b : Bool) → Contains trues (literal l.variable b) → value_of values l.variable ≡ b
@@ -34,7 +35,8 @@ true_or_false trues (l ∷ clause) h = ⊎_elim
     (true_or_false trues clause (All-tail (λ m. IsSet trues m.variable) l clause h)))
     (set_or trues l (All-head (λ m. IsSet trues m.variable) l clause h))
 
-pub makes_true : (n : ℕ) (trues : List Literal) (cone : List ℕ) (values : List Bool) (clause : List Literal) → AreValues trues cone values → All (IsSet trues) cone
+pub makes_true : (n : ℕ) (trues : List Literal) (cone : List ℕ) (values : List Bool) (clause : List Literal) → AreValues trues cone values
+    → All (IsSet trues) cone
     → IsClauseOver n clause → All (λ l. Contains cone l.variable) clause → (¬ AllFalse trues clause) → MakesTrue (value_of values) clause
 makes_true n trues cone values clause are set over in_cone not_false = ⊎_elim
     (λ any.

@@ -20,7 +20,8 @@ pub grows_none : (clauses : List (List Literal)) (t : TrailList) → GrowsByUnit
 grows_none clauses t = record {
   steps = [];
   are_unit = tt;
-  grown = ap (λ ls. record t { literals = ls }) (sym (append-nil t.literals)) ∙ ap (λ rs. record t { literals = t.literals ++ []; reasons = rs }) (sym (append-nil t.reasons));
+  grown = ap (λ ls. record t { literals = ls }) (sym (append-nil t.literals))
+      ∙ ap (λ rs. record t { literals = t.literals ++ []; reasons = rs }) (sym (append-nil t.reasons));
 }
 
 unit_then : (clauses : List (List Literal)) (trues : List Literal) (first second : List Step) → AreUnitSteps clauses trues first
@@ -29,10 +30,12 @@ unit_then clauses trues [] second h g = subst (λ ts. AreUnitSteps clauses ts se
 unit_then clauses trues (s ∷ first) second h g = (
   h.0,
   h.1,
-  unit_then clauses (trues ++ s.made_true ∷ []) first second h.2 (subst (λ ts. AreUnitSteps clauses ts second) (sym (append_assoc trues (s.made_true ∷ []) (map (λ s. s.made_true) first))) g),
+  unit_then clauses (trues ++ s.made_true ∷ []) first second h.2
+      (subst (λ ts. AreUnitSteps clauses ts second) (sym (append_assoc trues (s.made_true ∷ []) (map (λ s. s.made_true) first))) g),
 )
 
-pub grows_then : (clauses : List (List Literal)) (a b c : TrailList) → GrowsByUnitSteps clauses a b → GrowsByUnitSteps clauses b c → GrowsByUnitSteps clauses a c
+pub grows_then : (clauses : List (List Literal)) (a b c : TrailList) → GrowsByUnitSteps clauses a b → GrowsByUnitSteps clauses b c
+    → GrowsByUnitSteps clauses a c
 grows_then clauses a b c h g = record {
   steps = h.steps ++ g.steps;
   are_unit = unit_then clauses a.literals h.steps g.steps h.are_unit (subst (λ (t : TrailList). AreUnitSteps clauses t.literals g.steps) h.grown g.are_unit);
@@ -41,14 +44,21 @@ grows_then clauses a b c h g = record {
   where
     together : stepped (stepped a h.steps) g.steps ≡ stepped a (h.steps ++ g.steps)
     together =
-        let literals = append_assoc a.literals (map (λ s. s.made_true) h.steps) (map (λ s. s.made_true) g.steps) ∙ ap (λ ls. a.literals ++ ls) (sym (map-append (λ (s : Step). s.made_true) h.steps g.steps)) in
-        let reasons = append_assoc a.reasons (map (λ s. s.number) h.steps) (map (λ s. s.number) g.steps) ∙ ap (λ ns. a.reasons ++ ns) (sym (map-append (λ (s : Step). s.number) h.steps g.steps)) in
+        let literals = append_assoc a.literals (map (λ s. s.made_true) h.steps) (map (λ s. s.made_true) g.steps)
+        ∙ ap (λ ls. a.literals ++ ls) (sym (map-append (λ (s : Step). s.made_true) h.steps g.steps)) in
+        let reasons = append_assoc a.reasons (map (λ s. s.number) h.steps) (map (λ s. s.number) g.steps)
+        ∙ ap (λ ns. a.reasons ++ ns) (sym (map-append (λ (s : Step). s.number) h.steps g.steps)) in
         ap (λ ls. record a { literals = ls; reasons = a.reasons ++ map (λ s. s.number) h.steps ++ map (λ s. s.number) g.steps }) literals
         ∙ ap (λ ns. record a { literals = a.literals ++ map (λ s. s.made_true) (h.steps ++ g.steps); reasons = ns }) reasons
 
-pub grows_one : (clauses : List (List Literal)) (old new : TrailList) (number : ℕ) (l : Literal) → IsNumberOf clauses number → IsUnit old.literals (clause_at clauses number) l
+pub grows_one : (clauses : List (List Literal)) (old new : TrailList) (number : ℕ) (l : Literal) → IsNumberOf clauses number
+    → IsUnit old.literals (clause_at clauses number) l
     → new ≡ record old { literals = old.literals ++ l ∷ []; reasons = old.reasons ++ number ∷ [] } → GrowsByUnitSteps clauses old new
-grows_one clauses old new number l numbered u same = record { steps = record { number = number; made_true = l } ∷ []; are_unit = (numbered, u, tt); grown = same }
+grows_one clauses old new number l numbered u same = record {
+  steps = record { number = number; made_true = l } ∷ [];
+  are_unit = (numbered, u, tt);
+  grown = same;
+}
 
 -- what a walk over the first clauses keeps; `front` is these clauses
 pub record SweepsSoFar (clauses front : List (List Literal)) (start now : TrailList) (grown : Bool) : Type 0 where
@@ -63,22 +73,28 @@ sweeps_none clauses s = record {
   more = λ e. absurd (false≢true e);
 }
 
-module _ (clauses front : List (List Literal)) (clause : List Literal) (start now next : TrailList) (grown : Bool) (h : SweepsSoFar clauses front start now grown) where
+module _ (clauses front : List (List Literal)) (clause : List Literal) (start now next : TrailList) (grown : Bool)
+    (h : SweepsSoFar clauses front start now grown) where
   pub sweeps_open : next ≡ now → HasOutcome now.literals clause Open → SweepsSoFar clauses (front ++ clause ∷ []) start next grown
   sweeps_open same is_open = subst (λ s. SweepsSoFar clauses (front ++ clause ∷ []) start s grown) (sym same) (record {
     grows = h.grows;
     still = λ e.
-        let was = h.still e in
-        (was.0, All-push (λ c. HasOutcome start.literals c Open) front clause was.1 (subst (λ (s : TrailList). HasOutcome s.literals clause Open) was.0 is_open));
+        let was = h.still e in (
+          was.0,
+          All-push (λ c. HasOutcome start.literals c Open) front clause was.1
+              (subst (λ (s : TrailList). HasOutcome s.literals clause Open) was.0 is_open),
+        );
     more = h.more;
   })
 
-  pub sweeps_unit : GrowsByUnitSteps clauses now next → length next.literals ≡ length now.literals + 1 → length next.literals ≤ next.variables → SweepsSoFar clauses (front ++ clause ∷ []) start next true
+  pub sweeps_unit : GrowsByUnitSteps clauses now next → length next.literals ≡ length now.literals + 1 → length next.literals ≤ next.variables
+      → SweepsSoFar clauses (front ++ clause ∷ []) start next true
   sweeps_unit one longer few = record {
     grows = grows_then clauses start now next h.grows one;
     still = λ e. absurd (true≢false e);
     more = λ _. (omega (arith, longer, longer_or_same (ap (λ (t : TrailList). length t.literals) h.grows.grown)), few);
   }
     where
-      longer_or_same : length now.literals ≡ length (start.literals ++ map (λ (s : Step). s.made_true) h.grows.steps) → length start.literals ≤ length now.literals
+      longer_or_same : length now.literals ≡ length (start.literals ++ map (λ (s : Step). s.made_true) h.grows.steps)
+          → length start.literals ≤ length now.literals
       longer_or_same e = omega (arith, e, length-append start.literals (map (λ (s : Step). s.made_true) h.grows.steps))

@@ -1,5 +1,6 @@
 -- The values of the cone's variables, one variable after another.
-use Rattle.std.proofs.Common.{◌≡◌, ◌≢◌, ℕ, ◌-◌, ◌≤◌, inl, inr, Bool, true, false, List, [], ◌∷◌, ◌++◌, length, get_or, set, replicate, refl, ap, sym, subst, ◌∙◌, arith, Option, Some, None, length-append}
+use Rattle.std.proofs.Common.{◌≡◌, ◌≢◌, ℕ, ◌-◌, ◌≤◌, inl, inr, Bool, true, false, List, [], ◌∷◌, ◌++◌, length, get_or, set, replicate, refl, ap, sym, subst}
+use Rattle.std.proofs.Common.{◌∙◌, arith, Option, Some, None, length-append}
 use Rattle.std.specs.List.{Contains}
 use Rattle.std.specs.Option.{unwrap_or}
 use Rattle.std.proofs.lemmas.Bool.{false≢true, cases_eq, cases_lt, cases_Bool}
@@ -15,7 +16,10 @@ pub record ValuesSoFar (trues : List Literal) (members : List ℕ) (values : Lis
   pub all : (v : ℕ) → 1 ≤ v → Contains members v → Contains trues (literal v true) → value_of values v ≡ true
 
 none_true : (n k : ℕ) → get_or (replicate n false) k false ≡ false
-none_true n k = elim (cases_lt k n) [ inl within ↦ get_or-replicate n k false false within | inr past ↦ get_or_past (replicate n false) k false (omega (arith, past, length-replicate n false)) ]
+none_true n k = elim (cases_lt k n) [
+  | inl within ↦ get_or-replicate n k false false within
+  | inr past ↦ get_or_past (replicate n false) k false (omega (arith, past, length-replicate n false))
+]
 
 pub values_none : (n : ℕ) (trues : List Literal) → ValuesSoFar trues [] (replicate n false)
 values_none n trues = record {
@@ -58,7 +62,8 @@ values_more trues members values v o one in_range h so_far = record {
 }
   where
     here : (u : ℕ) → u ≡ v → value_of (set values (v - 1) (unwrap_or o false)) u ≡ unwrap_or o false
-    here u same = ap (λ w. get_or (set values (v - 1) (unwrap_or o false)) (w - 1) false) same ∙ get_or-set_same values (v - 1) (unwrap_or o false) false (omega (arith, one, in_range))
+    here u same = ap (λ w. get_or (set values (v - 1) (unwrap_or o false)) (w - 1) false) same
+        ∙ get_or-set_same values (v - 1) (unwrap_or o false) false (omega (arith, one, in_range))
 
     there : (u : ℕ) → 1 ≤ u → u ≢ v → value_of (set values (v - 1) (unwrap_or o false)) u ≡ value_of values u
     there u u_one other = get_or-set_other values (v - 1) (u - 1) (unwrap_or o false) false (λ e. other (omega (arith, e, one, u_one)))

@@ -18,7 +18,8 @@ pub record IsModelUnder (log : ClauseLog) (assumptions : List Literal) (values :
   pub model : IsModel (value_of values) (inputs_of log)
   pub assumed : All (IsTrueLiteral (value_of values)) assumptions
 
--- Refuted: the clause of the negated assumptions follows from the log by the hints, so that no model of the input clauses
+-- Refuted: the clause of the negated assumptions follows from the log by the hints, so that no model of the input
+-- clauses
 -- makes the assumptions true.
 pub record IsRefutation (log : ClauseLog) (assumptions : List Literal) (hints : List ℕ) : Type 0 where
   pub follows : Follows log.clauses (map negation assumptions) hints
@@ -29,7 +30,8 @@ pub record IsRefutation (log : ClauseLog) (assumptions : List Literal) (hints : 
 -- cone's variables; the cone is given by a list of them.
 pub record IsUndecided (old new : ClauseLog) (assumptions : List Literal) (limit : ℕ) : Type 0 where
   pub lines : length new.clauses ≡ length old.clauses + limit
-  pub limit_small : (cone : List ℕ) → ((v : ℕ) → Contains cone v ↔ InCone (inputs_of old) assumptions v) → limit ≤ 3 ^ length cone
+  pub limit_small : (cone : List ℕ) → ((v : ℕ) → Contains cone v ↔ InCone (inputs_of old) assumptions v)
+      → limit ≤ 3 ^ length cone
 
 -- A clause that follows by some hints, not too many, and is new, and for which the question had lines left.
 pub record HasNext (old new : ClauseLog) (assumptions : List Literal) (limit : ℕ) (clause : List Literal) : Type 0 where
@@ -46,8 +48,10 @@ abbrev pub IsAnswer : ClauseLog → ClauseLog → List Literal → ℕ → Resul
 IsAnswer old new assumptions limit (Ok (Found values)) = IsModelUnder old assumptions values
 IsAnswer old new assumptions limit (Ok (Refuted hints)) = IsRefutation new assumptions hints
 IsAnswer old new assumptions limit (Ok Undecided) = IsUndecided old new assumptions limit
-IsAnswer old new assumptions limit (Err TooManyLines) = (clause : List Literal) × HasNext old new assumptions limit clause
+IsAnswer old new assumptions limit (Err TooManyLines) = (clause : List Literal)
+    × HasNext old new assumptions limit clause
     × (length (lines_of new) ≡ new.line_limit)
-IsAnswer old new assumptions limit (Err TooManyLiterals) = (clause : List Literal) × HasNext old new assumptions limit clause
+IsAnswer old new assumptions limit (Err TooManyLiterals) = (clause : List Literal)
+    × HasNext old new assumptions limit clause
     × (length (lines_of new) < new.line_limit) × (new.line_literal_limit < literal_count (lines_of new) + length clause)
 IsAnswer old new assumptions limit (Err NoMemory) = Unit {0}

@@ -1,5 +1,6 @@
 -- How the search goes down by decisions, and how it ends.
-use Rattle.std.specs.Prelude.{◌≡◌, ◌<◌, ◌≤◌, ◌⊎◌, ℕ, Bool, true, false, List, [], ◌∷◌, ◌++◌, length, Contains, Option, Some, None}
+use Rattle.std.specs.Prelude.{◌≡◌, ◌<◌, ◌≤◌, ◌⊎◌, ℕ, Bool, true, false, List, [], ◌∷◌, ◌++◌, length, Contains, Option}
+use Rattle.std.specs.Prelude.{Some, None}
 use Rattle.dist_clause.specs.Formula.{Literal, literal, value_of, IsClauseOver}
 use Rattle.dist_derive.specs.ClauseLog.{ClauseLog, inputs_of}
 use Rattle.dist_derive.specs.Containment.{ContainsAll}
@@ -12,7 +13,8 @@ use Rattle.dist_solver.specs.Ask.{IsModelUnder, IsRefutation}
 use Rattle.dist_solver.specs.declared.descent.Descent.{Descent}
 use Rattle.dist_solver.specs.declared.descent.Descent.TheVariants.{Model, Refutation, Lesson}
 
--- The last literal of a start is a decision: propagation from the literals before it had ended without a conflict, and it
+-- The last literal of a start is a decision: propagation from the literals before it had ended without a conflict, and
+-- it
 -- was unset then.
 pub record IsDecision (clauses : List (List Literal)) (assumptions start : List Literal) : Type 0 where
   pub front : List Literal
@@ -34,8 +36,10 @@ pub record IsDecided (log : ClauseLog) (assumptions start : List Literal) : Type
 
 -- values in which the true literals of the cone's variables are true, and every variable outside the cone is false
 pub record AreValues (trues : List Literal) (cone : List ℕ) (values : List Bool) : Type 0 where
-  pub true_ones : (variable : ℕ) → 1 ≤ variable → Contains cone variable → Contains trues (literal variable true) → value_of values variable ≡ true
-  pub false_ones : (variable : ℕ) → 1 ≤ variable → Contains trues (literal variable false) → value_of values variable ≡ false
+  pub true_ones : (variable : ℕ) → 1 ≤ variable → Contains cone variable → Contains trues (literal variable true)
+      → value_of values variable ≡ true
+  pub false_ones : (variable : ℕ) → 1 ≤ variable → Contains trues (literal variable false)
+      → value_of values variable ≡ false
   pub outside : (variable : ℕ) → 1 ≤ variable → (¬ Contains cone variable) → value_of values variable ≡ false
 
 -- a clause that follows by the hints and is new under the assumptions

@@ -18,12 +18,14 @@ EachIsEvidence clauses (line ∷ lines) (d ∷ derived) = (d.line ≡ length cla
 abbrev pub IsShort : ℕ → List ℕ → Type 0
 IsShort variables hints = length hints ≤ variables + 1
 
--- What a question adds to the log under its assumptions: at most `limit` lines, each following by its recorded hints and
+-- What a question adds to the log under its assumptions: at most `limit` lines, each following by its recorded hints
+-- and
 -- new when it was added. `derived` is these lines and no others, and nothing else of the log changes.
-pub record Adds (old new : ClauseLog) (derived : List DerivedLine) (assumptions : List Literal) (limit : ℕ) : Type 0 where
-  pub lines : List (List Literal)
-  pub log : new ≡ record old { clauses = old.clauses ++ lines }
-  pub follow : EachIsEvidence old.clauses lines derived
-  pub are_new : EachIsNew old.clauses old.inputs assumptions lines
-  pub short : All (λ d. IsShort old.variables d.hints) derived
-  pub few : length lines ≤ limit
+pub record Adds (old new : ClauseLog) (derived : List DerivedLine) (assumptions : List Literal) (limit : ℕ) : Type 0
+  where
+    pub lines : List (List Literal)
+    pub log : new ≡ record old { clauses = old.clauses ++ lines }
+    pub follow : EachIsEvidence old.clauses lines derived
+    pub are_new : EachIsNew old.clauses old.inputs assumptions lines
+    pub short : All (λ d. IsShort old.variables d.hints) derived
+    pub few : length lines ≤ limit

@@ -1,5 +1,6 @@
 -- Worked examples of what a question adds, of a refutation and of a model, over the clauses `-1 2` and `-1 -2`.
-use Rattle.std.proofs.Common.{◌≡◌, ◌<◌, ℕ, zero, suc, Bool, true, false, List, [], ◌∷◌, length, refl, sym, subst, ◌∙◌, ◌⊎◌, ⊎_elim, inl, inr, get_or, arith, lit<, lit≤}
+use Rattle.std.proofs.Common.{◌≡◌, ◌<◌, ℕ, zero, suc, Bool, true, false, List, [], ◌∷◌, length, refl, sym, subst, ◌∙◌}
+use Rattle.std.proofs.Common.{◌⊎◌, ⊎_elim, inl, inr, get_or, arith, lit<, lit≤}
 use Rattle.std.specs.List.{All}
 use Rattle.std.proofs.lemmas.Bool.{false≢true}
 use Rattle.dist_clause.specs.Formula.{Literal, MakesTrue, value_of, IsTrueLiteral, IsModel}
@@ -14,10 +15,12 @@ abbrev log : ClauseLog
 log = record { clauses = both; inputs = 2; variables = 2; line_limit = 1; line_literal_limit = 1 }
 
 -- a clause of two literals is true by one of them
-one_of : (value : ℕ → Bool) (l m : Literal) → MakesTrue value (l ∷ m ∷ []) → IsTrueLiteral value l ⊎ IsTrueLiteral value m
+one_of : (value : ℕ → Bool) (l m : Literal) → MakesTrue value (l ∷ m ∷ []) → IsTrueLiteral value l
+    ⊎ IsTrueLiteral value m
 one_of value l m made = at made.0 made.2 made.3
   where
-    at : (k : ℕ) → k < length (l ∷ m ∷ []) → get_or (l ∷ m ∷ []) k made.1 ≡ made.1 → IsTrueLiteral value l ⊎ IsTrueLiteral value m
+    at : (k : ℕ) → k < length (l ∷ m ∷ []) → get_or (l ∷ m ∷ []) k made.1 ≡ made.1 → IsTrueLiteral value l
+        ⊎ IsTrueLiteral value m
     at zero within e = inl (subst (λ x. IsTrueLiteral value x) (sym e) made.4)
     at (suc zero) within e = inr (subst (λ x. IsTrueLiteral value x) (sym e) made.4)
     at (suc (suc k)) within e = absurd (omega arith)
@@ -31,7 +34,8 @@ refuted = record { follows = follows_by_both; short = lit≤ tt; no_model = no_m
     no_model value model all =
         let one = all 0 (yes 1) (lit< tt) in
         ⊎_elim (λ first. false≢true (sym first ∙ one))
-        (λ two. ⊎_elim (λ first. false≢true (sym first ∙ one)) (λ not_two. false≢true (sym not_two ∙ two)) (one_of value (no 1) (no 2) (model 1 [] (lit< tt))))
+        (λ two. ⊎_elim (λ first. false≢true (sym first ∙ one)) (λ not_two. false≢true (sym not_two ∙ two))
+        (one_of value (no 1) (no 2) (model 1 [] (lit< tt))))
         (one_of value (no 1) (yes 2) (model 0 [] (lit< tt)))
 
 -- the line `-1` has the number 3 and follows by the same hints

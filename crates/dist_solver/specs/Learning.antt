@@ -15,7 +15,10 @@ IsRefused log clause TooManyLiterals = (length (lines_of log) < log.line_limit)
 IsRefused log clause NoMemory = Unit {0}
 
 -- the log and the derived lines both have the line behind the others, or are both as before
-abbrev pub Learns : ClauseLog → ClauseLog → List DerivedLine → List DerivedLine → List Literal → List ℕ → Result Unit AskError → Type 0
-Learns old new old_derived new_derived clause hints (Ok done) = (new ≡ record old { clauses = old.clauses ++ clause ∷ [] })
+abbrev pub Learns : ClauseLog → ClauseLog → List DerivedLine → List DerivedLine → List Literal → List ℕ
+    → Result Unit AskError → Type 0
+Learns old new old_derived new_derived clause hints (Ok done) =
+    (new ≡ record old { clauses = old.clauses ++ clause ∷ [] })
     × (new_derived ≡ old_derived ++ record { line = length old.clauses + 1; hints = hints } ∷ [])
-Learns old new old_derived new_derived clause hints (Err cause) = (new ≡ old) × (new_derived ≡ old_derived) × IsRefused old clause cause
+Learns old new old_derived new_derived clause hints (Err cause) = (new ≡ old) × (new_derived ≡ old_derived)
+    × IsRefused old clause cause

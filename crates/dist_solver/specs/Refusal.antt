@@ -1,6 +1,7 @@
 -- Why a line was not appended, as the cause of an answer.
 use Rattle.dist_derive.specs.declared.log.AppendError.{AppendError}
-use Rattle.dist_derive.specs.declared.log.AppendError.TheVariants.{TooManyLines as Lines, TooManyLiterals as Literals, NoMemory as Memory}
+use Rattle.dist_derive.specs.declared.log.AppendError.TheVariants.{TooManyLines as Lines, TooManyLiterals as Literals}
+use Rattle.dist_derive.specs.declared.log.AppendError.TheVariants.{NoMemory as Memory}
 use Rattle.dist_solver.specs.declared.answers.AskError.{AskError}
 use Rattle.dist_solver.specs.declared.answers.AskError.TheVariants.{TooManyLines, TooManyLiterals, NoMemory}
 

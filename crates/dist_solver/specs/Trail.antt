@@ -1,5 +1,6 @@
 -- Literals that are true for now: those of a start, and behind them those that unit propagation gave.
-use Rattle.std.specs.Prelude.{◌≡◌, ◌<◌, ◌≤◌, ◌⊎◌, ℕ, Bool, true, false, not, List, [], ◌∷◌, ◌++◌, length, map, Contains, Option, Some, None}
+use Rattle.std.specs.Prelude.{◌≡◌, ◌<◌, ◌≤◌, ◌⊎◌, ℕ, Bool, true, false, not, List, [], ◌∷◌, ◌++◌, length, map, Contains}
+use Rattle.std.specs.Prelude.{Option, Some, None}
 use Rattle.dist_clause.specs.Formula.{Literal, literal}
 use Rattle.dist_clause.specs.ClauseList.{clause_at}
 use Rattle.dist_derive.specs.ClauseLog.{ClauseLog}
@@ -9,7 +10,8 @@ use Rattle.dist_derive.specs.Follows.{IsNumberOf, EndsFalse, Step, AreUnitSteps}
 use Rattle.dist_derive.specs.TrueLiterals.{HasOutcome}
 use Rattle.dist_derive.specs.Sweep.{AllOpen}
 use Rattle.dist_derive.specs.declared.true_literals.Outcome.{Outcome}
-use Rattle.dist_derive.specs.declared.true_literals.Outcome.TheVariants.{Conflict as FalseClause, Unit as UnitClause, Open}
+use Rattle.dist_derive.specs.declared.true_literals.Outcome.TheVariants.{Conflict as FalseClause, Unit as UnitClause}
+use Rattle.dist_derive.specs.declared.true_literals.Outcome.TheVariants.{Open}
 use Rattle.dist_solver.specs.Evidence.{IsShort}
 use Rattle.dist_solver.specs.declared.propagation.Sweep.{Sweep}
 use Rattle.dist_solver.specs.declared.propagation.Sweep.TheVariants.{Conflict, Grown, Settled}
@@ -31,7 +33,8 @@ pub record GrowsByUnitSteps (clauses : List (List Literal)) (old new : TrailList
 
 -- a variable has a value, or is unset
 abbrev pub HasValue : List Literal → ℕ → Option Bool → Type 0
-HasValue trues variable (Some value) = Contains trues (literal variable value) × (¬ Contains trues (literal variable (not value)))
+HasValue trues variable (Some value) = Contains trues (literal variable value)
+    × (¬ Contains trues (literal variable (not value)))
 HasValue trues variable None = IsUnset trues (literal variable true)
 
 -- a literal of the variable is true
@@ -67,7 +70,8 @@ abbrev pub Ends : List (List Literal) → List Literal → Option ℕ → Type 0
 Ends clauses trues (Some number) = IsConflict clauses trues number
 Ends clauses trues None = AllOpen trues clauses
 
--- propagation from a start ends with hints to a false clause, or with true literals under which no clause is false or unit
+-- propagation from a start ends with hints to a false clause, or with true literals under which no clause is false or
+-- unit
 abbrev pub EndsFrom : ClauseLog → List Literal → List Literal → Option (List ℕ) → Type 0
 EndsFrom log start trues (Some hints) = EndsFalse log.clauses start hints × IsShort log.variables hints
 EndsFrom log start trues None = ContainsAll trues start × AllOpen trues log.clauses

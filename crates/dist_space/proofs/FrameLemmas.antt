@@ -1,5 +1,6 @@
 -- Lists that are gathered beside other ones, and members of clusters.
-use Rattle.std.proofs.Common.{◌≡◌, ◌↔◌, ℕ, zero, suc, ◌+◌, ◌<◌, Bool, List, [], ◌∷◌, ◌++◌, Some, length, get_or, map, refl, sym, ap, subst, ◌∙◌, inl, inr, arith, slice_get}
+use Rattle.std.proofs.Common.{◌≡◌, ◌↔◌, ℕ, zero, suc, ◌+◌, ◌<◌, Bool, List, [], ◌∷◌, ◌++◌, Some, length, get_or, map, refl, sym, ap, subst, ◌∙◌, inl, inr}
+use Rattle.std.proofs.Common.{arith, slice_get}
 use Rattle.std.specs.Prelude.{All, Any, Contains, IsSomeAnd}
 use Rattle.std.proofs.lemmas.Bool.{cases_lt}
 use Rattle.std.proofs.lemmas.List.{get_or_past, length-map, length_push}
@@ -27,7 +28,8 @@ pub push-last : {X : Type 0} (xs : List X) (x d : X) → get_or (xs ++ x ∷ [])
 push-last [] x d = refl
 push-last (y ∷ xs) x d = push-last xs x d
 
-pub each-push : {X : Type 0} (P : ℕ → X → Type 0) (xs : List X) (x d : X) (n : ℕ) → length xs ≡ n → ((k : ℕ) → k < n → P k (get_or xs k d)) → P n x → (k : ℕ) → k < n + 1 → P k (get_or (xs ++ x ∷ []) k d)
+pub each-push : {X : Type 0} (P : ℕ → X → Type 0) (xs : List X) (x d : X) (n : ℕ) → length xs ≡ n → ((k : ℕ) → k < n → P k (get_or xs k d)) → P n x → (k : ℕ)
+    → k < n + 1 → P k (get_or (xs ++ x ∷ []) k d)
 each-push P xs x d n same each last k short = elim (cases_lt k n) [
   | inl less ↦ subst (P k) (sym (push-old xs x d k (omega (arith, less, same)))) (each k less)
   | inr more ↦
@@ -62,21 +64,24 @@ get-last (y ∷ xs) x = get-last xs x
 abbrev pub AreNumbers : List (List ℕ) → List ℕ → ℕ → Type 0
 AreNumbers clusters numbers n = (c m : ℕ) → m < n → IsIn clusters c m ↔ (slice_get numbers m ≡ Some c)
 
-pub numbers-more : (clusters : List (List ℕ)) (numbers : List ℕ) (n cluster : ℕ) → length numbers ≡ n → AreNumbers clusters numbers n → ((c : ℕ) → IsIn clusters c n ↔ (c ≡ cluster)) → AreNumbers clusters (numbers ++ cluster ∷ []) (n + 1)
+pub numbers-more : (clusters : List (List ℕ)) (numbers : List ℕ) (n cluster : ℕ) → length numbers ≡ n → AreNumbers clusters numbers n
+    → ((c : ℕ) → IsIn clusters c n ↔ (c ≡ cluster)) → AreNumbers clusters (numbers ++ cluster ∷ []) (n + 1)
 numbers-more clusters numbers n cluster same are one c m short = elim (cases_lt m n) [
   | inl less ↦
       let old = get-old numbers cluster m (omega (arith, less, same)) in
       (λ is_in. old ∙ (are c m less).0 is_in, λ at. (are c m less).1 (sym old ∙ at))
   | inr more ↦
       let is : length numbers ≡ m = omega (arith, more, short, same) in
-      let last : slice_get (numbers ++ cluster ∷ []) m ≡ Some cluster = ap (λ (i : ℕ). slice_get (numbers ++ cluster ∷ []) i) (sym is) ∙ get-last numbers cluster in
+      let last : slice_get (numbers ++ cluster ∷ []) m ≡ Some cluster = ap (λ (i : ℕ). slice_get (numbers ++ cluster ∷ []) i) (sym is)
+      ∙ get-last numbers cluster in
       let number : n ≡ m = omega (arith, is, same) in (
         λ is_in. last ∙ ap (λ (x : ℕ). Some x) (sym ((one c).0 (subst (IsIn clusters c) (sym number) is_in))),
         λ at. subst (IsIn clusters c) number ((one c).1 (same_Some c cluster (sym at ∙ last))),
       )
 ]
 
-pub numbers-all : (clusters : List (List ℕ)) (numbers : List ℕ) (n : ℕ) → length numbers ≡ n → ((c m : ℕ) → IsIn clusters c m → m < n) → AreNumbers clusters numbers n → (c m : ℕ) → IsIn clusters c m ↔ (slice_get numbers m ≡ Some c)
+pub numbers-all : (clusters : List (List ℕ)) (numbers : List ℕ) (n : ℕ) → length numbers ≡ n → ((c m : ℕ) → IsIn clusters c m → m < n)
+    → AreNumbers clusters numbers n → (c m : ℕ) → IsIn clusters c m ↔ (slice_get numbers m ≡ Some c)
 numbers-all clusters numbers n same within are c m =
     (λ is_in. (are c m (within c m is_in)).0 is_in, λ at. (are c m (omega (arith, slice_get_within numbers m c at, same))).1 at)
 
@@ -94,21 +99,36 @@ member-within r clusters are c m is_in =
     let inside = within-from (λ (a : Member). IsSomeAnd (slice_get members m) (λ b. AreClustered a b)) members m together in
     omega (arith, inside, length-map r.packages member_of)
 
-pub every-member : (r : PackageList) (clusters : ClusterList) → AreClustersOf r clusters → (m : ℕ) → m < length r.packages → Any (λ cluster. Contains cluster m) clusters.members
+pub every-member : (r : PackageList) (clusters : ClusterList) → AreClustersOf r clusters → (m : ℕ) → m < length r.packages
+    → Any (λ cluster. Contains cluster m) clusters.members
 every-member r clusters are m short = are.partition.every m (omega (arith, short, length-map r.packages member_of))
 
 -- the same of a list that is another one with an element more
-pub each-pushed : {X : Type 0} (P : ℕ → X → Type 0) (xs pushed : List X) (x d : X) (n : ℕ) → pushed ≡ xs ++ x ∷ [] → length xs ≡ n → ((k : ℕ) → k < n → P k (get_or xs k d)) → P n x → (k : ℕ) → k < n + 1 → P k (get_or pushed k d)
-each-pushed {X} P xs pushed x d n is same each last k short = let Q : List X → Type 0 = λ ys. P k (get_or ys k d) in subst Q (sym is) (each-push P xs x d n same each last k short)
+pub each-pushed : {X : Type 0} (P : ℕ → X → Type 0) (xs pushed : List X) (x d : X) (n : ℕ) → pushed ≡ xs ++ x ∷ [] → length xs ≡ n
+    → ((k : ℕ) → k < n → P k (get_or xs k d)) → P n x → (k : ℕ) → k < n + 1 → P k (get_or pushed k d)
+each-pushed {X} P xs pushed x d n is same each last k short = let Q : List X → Type 0 = λ ys. P k (get_or ys k d) in
+    subst Q (sym is) (each-push P xs x d n same each last k short)
 
 pub count-pushed : {X : Type 0} (xs pushed : List X) (x : X) (n : ℕ) → pushed ≡ xs ++ x ∷ [] → length xs ≡ n → length pushed ≡ n + 1
-count-pushed {X} xs pushed x n is same = let e : length pushed ≡ length (xs ++ x ∷ []) = ap (λ (ys : List X). length ys) is in omega (arith, e, length_push xs x, same)
+count-pushed {X} xs pushed x n is same = let e : length pushed ≡ length (xs ++ x ∷ []) = ap (λ (ys : List X). length ys) is in
+    omega (arith, e, length_push xs x, same)
 
 -- ---- a frame
 
-pub framed : (r : PackageList) (essential : Bool) (clusters : ClusterList) (cluster_of : List ℕ) (classes : List (List Class)) (names : List (List ℕ)) (name_classes : List (List Class)) → IsFlat r.packages → AreClustersOf r clusters
-    → ((c m : ℕ) → IsIn clusters.members c m ↔ (slice_get cluster_of m ≡ Some c)) → AreClassesBeside r clusters classes → AreNewNames r names → AreNameClassesBeside r names name_classes
-    → IsFrame (record { repository = r; essential = essential; clusters = clusters; cluster_of = cluster_of; classes = classes; names = names; name_classes = name_classes; meanings = [] })
+pub framed : (r : PackageList) (essential : Bool) (clusters : ClusterList) (cluster_of : List ℕ) (classes : List (List Class)) (names : List (List ℕ))
+    (name_classes : List (List Class)) → IsFlat r.packages → AreClustersOf r clusters
+    → ((c m : ℕ) → IsIn clusters.members c m ↔ (slice_get cluster_of m ≡ Some c)) → AreClassesBeside r clusters classes → AreNewNames r names
+    → AreNameClassesBeside r names name_classes
+    → IsFrame (record {
+      repository = r;
+      essential = essential;
+      clusters = clusters;
+      cluster_of = cluster_of;
+      classes = classes;
+      names = names;
+      name_classes = name_classes;
+      meanings = [];
+    })
 framed r essential clusters cluster_of classes names name_classes flat are placed beside are_names names_beside = record {
   flat = flat;
   clusters = are;
@@ -122,7 +142,10 @@ framed r essential clusters cluster_of classes names name_classes flat are place
   name_examples = names_beside.examples;
 }
 
-pub members-within : (s : SpaceView) → IsFrame s → (c : ℕ) → c < length s.clusters.members → All (λ (m : ℕ). m < length s.repository.packages) (get_or s.clusters.members c [])
+pub members-within : (s : SpaceView) → IsFrame s → (c : ℕ) → c < length s.clusters.members
+    → All (λ (m : ℕ). m < length s.repository.packages) (get_or s.clusters.members c [])
 members-within s frame c short =
     all-contained (λ (m : ℕ). m < length s.repository.packages) (get_or s.clusters.members c [])
-    (λ m there. member-within s.repository s.clusters frame.clusters c m (at-has (λ (cluster : List ℕ). Contains cluster m) s.clusters.members c (get_or s.clusters.members c []) (slice_get-get_or s.clusters.members c [] short) there))
+    (λ m there. member-within s.repository s.clusters frame.clusters c m
+    (at-has (λ (cluster : List ℕ). Contains cluster m) s.clusters.members c (get_or s.clusters.members c [])
+    (slice_get-get_or s.clusters.members c [] short) there))

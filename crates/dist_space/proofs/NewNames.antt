@@ -22,7 +22,8 @@ module _ (names : List (List ℕ)) (name : List ℕ) (rising : IsStrictlySortedB
   rises : (i j : ℕ) → i < j → j < length names → slice_cmp nat_cmp (get_or names i []) (get_or names j []) ≡ Less
   rises i j less short = Less-from_sorted (slice_cmp nat_cmp) names i j [] rising less short
 
-  pub between-later : (start middle end : ℕ) → IsBetween names name start end → middle < length names → slice_cmp nat_cmp (get_or names middle []) name ≡ Less → IsBetween names name (middle + 1) end
+  pub between-later : (start middle end : ℕ) → IsBetween names name start end → middle < length names → slice_cmp nat_cmp (get_or names middle []) name ≡ Less
+      → IsBetween names name (middle + 1) end
   between-later start middle end between short less = record {
     below = λ k up. elim (cases_lt k middle) [
       | inl early ↦ nat_list_cmp_total.trans (get_or names k []) (get_or names middle []) name (rises k middle early short) less
@@ -31,7 +32,8 @@ module _ (names : List (List ℕ)) (name : List ℕ) (rising : IsStrictlySortedB
     above = between.above;
   }
 
-  pub between-earlier : (start middle end : ℕ) → IsBetween names name start end → middle < length names → slice_cmp nat_cmp (get_or names middle []) name ≢ Less → IsBetween names name start middle
+  pub between-earlier : (start middle end : ℕ) → IsBetween names name start end → middle < length names → slice_cmp nat_cmp (get_or names middle []) name ≢ Less
+      → IsBetween names name start middle
   between-earlier start middle end between short not_less = record {
     below = between.below;
     above = λ k from inside. elim (cases_lt middle k) [
@@ -48,7 +50,8 @@ module _ (names : List (List ℕ)) (name : List ℕ) (rising : IsStrictlySortedB
       elim (cases_lt x start) [
         | inl less ↦ absurd (less-self name (subst (λ (n : List ℕ). slice_cmp nat_cmp n name ≡ Less) here (between.below x less)))
         | inr more ↦ elim (cases_lt start x) [
-          | inl later ↦ absurd (between.above start (omega arith) (omega (arith, later, short)) (subst (λ (n : List ℕ). slice_cmp nat_cmp (get_or names start []) n ≡ Less) here (rises start x later short)))
+          | inl later ↦ absurd (between.above start (omega arith) (omega (arith, later, short))
+              (subst (λ (n : List ℕ). slice_cmp nat_cmp (get_or names start []) n ≡ Less) here (rises start x later short)))
           | inr also ↦ omega (arith, more, also)
         ]
       ]

@@ -1,5 +1,6 @@
 -- The meanings of a space, as they are made, are all of them in order.
-use Rattle.std.proofs.Common.{◌≡◌, ℕ, zero, suc, ◌+◌, ◌<◌, Bool, true, false, List, [], ◌∷◌, ◌++◌, Option, Ordering, Less, nat_cmp, length, get_or, map, refl, sym, ap, subst, zero-add, ◌∙◌, inl, inr, arith, slice_get}
+use Rattle.std.proofs.Common.{◌≡◌, ℕ, zero, suc, ◌+◌, ◌<◌, Bool, true, false, List, [], ◌∷◌, ◌++◌, Option, Ordering, Less, nat_cmp, length, get_or, map, refl}
+use Rattle.std.proofs.Common.{sym, ap, subst, zero-add, ◌∙◌, inl, inr, arith, slice_get}
 use Rattle.std.specs.Prelude.{AllPairs, Contains, IsSomeAnd, slice_index, if◌then◌else◌}
 use Rattle.std.specs.List.{flat_map}
 use Rattle.std.specs.List.Sorted.{IsStrictlyIncreasing}
@@ -20,7 +21,8 @@ use Rattle.dist_space.specs.Space.{AreMeaningsOf, IsFrame, IsMeaning, SpaceView,
 use Rattle.dist_space.specs.declared.meaning.Meaning.{Meaning}
 use Rattle.dist_space.specs.declared.meaning.Meaning.TheVariants.{Now, Present, At, New, Kept, Fresh}
 use Rattle.dist_space.specs.KeyLaws.{IsLess, less-cmp}
-use Rattle.dist_space.specs.RisingLaws.{StandApart, below-in, contains-cons, contains-first, contains-later, flat-in, in-below, in-flat, in-map, map-in, pairs-append, pairs-below, pairs-cons, pairs-flat, pairs-map, pairs-none}
+use Rattle.dist_space.specs.RisingLaws.{StandApart, below-in, contains-cons, contains-first, contains-later, flat-in, in-below, in-flat, in-map, map-in}
+use Rattle.dist_space.specs.RisingLaws.{pairs-append, pairs-below, pairs-cons, pairs-flat, pairs-map, pairs-none}
 use Rattle.dist_space.specs.ClusterLaws.{has-cluster, in-package, placed-in}
 use Rattle.dist_space.specs.UsableLaws.{is-usable, usable-is}
 
@@ -40,7 +42,8 @@ module _ (architecture : Option (List ℕ)) where
   next-from : (place : ℕ) (entry : Provide) (entries : List Provide) (k : ℕ) → IsFrom (place + 1) entries k → IsFrom place (entry ∷ entries) k
   next-from place entry entries k from = (suc from.0, omega (arith, from.1), from.2)
 
-  in-chosen : (b : Bool) (place : ℕ) (entry : Provide) (entries : List Provide) (rest : List ℕ) (k : ℕ) → is_usable architecture entry.qualifier ≡ b → (Contains rest k → IsFrom (place + 1) entries k) → Contains (Chosen b place rest) k
+  in-chosen : (b : Bool) (place : ℕ) (entry : Provide) (entries : List Provide) (rest : List ℕ) (k : ℕ) → is_usable architecture entry.qualifier ≡ b
+      → (Contains rest k → IsFrom (place + 1) entries k) → Contains (Chosen b place rest) k
       → IsFrom place (entry ∷ entries) k
   in-chosen false place entry entries rest k is from there = next-from place entry entries k (from there)
   in-chosen true place entry entries rest k is from there = elim (contains-cons place k rest there) [
@@ -50,7 +53,8 @@ module _ (architecture : Option (List ℕ)) where
 
   pub usable-from : (place : ℕ) (entries : List Provide) (k : ℕ) → Contains (usable_from architecture place entries) k → IsFrom place entries k
   usable-from place [] k there = absurd (omega (arith, there.1))
-  usable-from place (entry ∷ entries) k there = in-chosen (is_usable architecture entry.qualifier) place entry entries (usable_from architecture (place + 1) entries) k refl (usable-from (place + 1) entries k) there
+  usable-from place (entry ∷ entries) k there = in-chosen (is_usable architecture entry.qualifier) place entry entries
+      (usable_from architecture (place + 1) entries) k refl (usable-from (place + 1) entries k) there
 
   chosen-later : (b : Bool) (place k : ℕ) (rest : List ℕ) → Contains rest k → Contains (Chosen b place rest) k
   chosen-later true place k rest there = contains-later place k rest there
@@ -60,17 +64,21 @@ module _ (architecture : Option (List ℕ)) where
   chosen-first true place rest is = contains-first place rest
   chosen-first false place rest is = absurd (false≢true is)
 
-  pub from-usable : (place : ℕ) (entries : List Provide) (j : ℕ) → IsUsableAt architecture entries j → Contains (usable_from architecture place entries) (place + j)
+  pub from-usable : (place : ℕ) (entries : List Provide) (j : ℕ) → IsUsableAt architecture entries j
+      → Contains (usable_from architecture place entries) (place + j)
   from-usable place [] j here = absurd here
   from-usable place (entry ∷ entries) zero here =
-      let there = chosen-first (is_usable architecture entry.qualifier) place (usable_from architecture (place + 1) entries) (usable-is architecture entry.qualifier here) in
+      let there = chosen-first (is_usable architecture entry.qualifier) place (usable_from architecture (place + 1) entries)
+      (usable-is architecture entry.qualifier here) in
       let same : place ≡ place + 0 = omega arith in subst (λ (k : ℕ). Contains (usable_from architecture place (entry ∷ entries)) k) same there
   from-usable place (entry ∷ entries) (suc j) here =
       let there = from-usable (place + 1) entries j here in
       let same : place + 1 + j ≡ place + suc j = omega arith in
-      chosen-later (is_usable architecture entry.qualifier) place (place + suc j) (usable_from architecture (place + 1) entries) (subst (λ (k : ℕ). Contains (usable_from architecture (place + 1) entries) k) same there)
+      chosen-later (is_usable architecture entry.qualifier) place (place + suc j) (usable_from architecture (place + 1) entries)
+      (subst (λ (k : ℕ). Contains (usable_from architecture (place + 1) entries) k) same there)
 
-  rising-chosen : (b : Bool) (place : ℕ) (rest : List ℕ) → ((k : ℕ) → Contains rest k → place < k) → AllPairs (λ (x y : ℕ). x < y) rest → AllPairs (λ (x y : ℕ). x < y) (Chosen b place rest)
+  rising-chosen : (b : Bool) (place : ℕ) (rest : List ℕ) → ((k : ℕ) → Contains rest k → place < k) → AllPairs (λ (x y : ℕ). x < y) rest
+      → AllPairs (λ (x y : ℕ). x < y) (Chosen b place rest)
   rising-chosen true place rest above pairs = pairs-cons (λ (x y : ℕ). x < y) place rest above pairs
   rising-chosen false place rest above pairs = pairs
 
@@ -97,19 +105,21 @@ module _ (s : SpaceView) (frame : IsFrame s) where
 
   cluster-of-member : (c r : ℕ) → c < length s.clusters.members → Contains (get_or s.clusters.members c []) r → slice_index s.cluster_of r ≡ c
   cluster-of-member c r short there =
-      placed-in s frame c r (at-has (λ (cluster : List ℕ). Contains cluster r) s.clusters.members c (get_or s.clusters.members c []) (slice_get-get_or s.clusters.members c [] short) there)
+      placed-in s frame c r (at-has (λ (cluster : List ℕ). Contains cluster r) s.clusters.members c (get_or s.clusters.members c [])
+      (slice_get-get_or s.clusters.members c [] short) there)
 
   entries_of : ℕ → List Provide
   entries_of r = provided_by (slice_get s.repository.packages r)
 
   -- of a member
   member-begins : (c k r : ℕ) (m : Meaning) → slice_index s.cluster_of r ≡ c → Contains (member_part s k r) m → Begins (2 ∷ c ∷ k ∷ r ∷ []) m
-  member-begins c k r m is there = elim (contains-cons (New r k) m (map (λ j. Kept r k j) (usable_from s.repository.architecture 0 (provided_by (slice_get s.repository.packages r)))) there) [
-    | inl same ↦ record { rest = []; is = ap (key_of s) (sym same) ∙ ap (λ (x : ℕ). 2 ∷ x ∷ k ∷ r ∷ []) is }
-    | inr later ↦
-        let from = in-map (λ j. Kept r k j) (usable_from s.repository.architecture 0 (provided_by (slice_get s.repository.packages r))) m later in
-        record { rest = from.source ∷ []; is = ap (key_of s) (sym from.gives) ∙ ap (λ (x : ℕ). 2 ∷ x ∷ k ∷ r ∷ from.source ∷ []) is }
-  ]
+  member-begins c k r m is there = elim (contains-cons (New r k) m
+      (map (λ j. Kept r k j) (usable_from s.repository.architecture 0 (provided_by (slice_get s.repository.packages r)))) there) [
+        | inl same ↦ record { rest = []; is = ap (key_of s) (sym same) ∙ ap (λ (x : ℕ). 2 ∷ x ∷ k ∷ r ∷ []) is }
+        | inr later ↦
+            let from = in-map (λ j. Kept r k j) (usable_from s.repository.architecture 0 (provided_by (slice_get s.repository.packages r))) m later in
+            record { rest = from.source ∷ []; is = ap (key_of s) (sym from.gives) ∙ ap (λ (x : ℕ). 2 ∷ x ∷ k ∷ r ∷ from.source ∷ []) is }
+      ]
 
   member-rises : (k r : ℕ) → AllPairs Before (member_part s k r)
   member-rises k r =
@@ -117,12 +127,15 @@ module _ (s : SpaceView) (frame : IsFrame s) where
       let c = slice_index s.cluster_of r in
       pairs-cons Before (New r k) (map (λ j. Kept r k j) places)
       (λ m there. let from = in-map (λ j. Kept r k j) places m there in
-      by-key (New r k) m (2 ∷ c ∷ k ∷ r ∷ []) (2 ∷ c ∷ k ∷ r ∷ from.source ∷ []) refl (ap (key_of s) (sym from.gives)) (inr (refl, inr (refl, inr (refl, inr (refl, tt))))))
-      (pairs-map Before (λ j. Kept r k j) places (kept-rises places (usable-rises s.repository.architecture 0 (provided_by (slice_get s.repository.packages r)))))
+      by-key (New r k) m (2 ∷ c ∷ k ∷ r ∷ []) (2 ∷ c ∷ k ∷ r ∷ from.source ∷ []) refl (ap (key_of s) (sym from.gives))
+      (inr (refl, inr (refl, inr (refl, inr (refl, tt))))))
+      (pairs-map Before (λ j. Kept r k j) places (kept-rises places
+      (usable-rises s.repository.architecture 0 (provided_by (slice_get s.repository.packages r)))))
     where
       kept-rises : (places : List ℕ) → AllPairs (λ (x y : ℕ). x < y) places → AllPairs (λ (a b : ℕ). Before (Kept r k a) (Kept r k b)) places
       kept-rises places pairs i j d less short =
-          by-key (Kept r k (get_or places i d)) (Kept r k (get_or places j d)) (2 ∷ slice_index s.cluster_of r ∷ k ∷ r ∷ get_or places i d ∷ []) (2 ∷ slice_index s.cluster_of r ∷ k ∷ r ∷ get_or places j d ∷ []) refl refl
+          by-key (Kept r k (get_or places i d)) (Kept r k (get_or places j d)) (2 ∷ slice_index s.cluster_of r ∷ k ∷ r ∷ get_or places i d ∷ [])
+          (2 ∷ slice_index s.cluster_of r ∷ k ∷ r ∷ get_or places j d ∷ []) refl refl
           (inr (refl, inr (refl, inr (refl, inr (refl, inl (pairs i j d less short))))))
 
   -- of a class
@@ -135,8 +148,10 @@ module _ (s : SpaceView) (frame : IsFrame s) where
         record { rest = from.source ∷ begins.rest; is = begins.is }
   ]
 
-  apart-by : (a b : Meaning) (front : List ℕ) (x y : ℕ) → Begins (front ++ x ∷ []) a → Begins (front ++ y ∷ []) b → ((rest other : List ℕ) → IsLess ((front ++ x ∷ []) ++ rest) ((front ++ y ∷ []) ++ other)) → Before a b
-  apart-by a b front x y first second less = by-key a b ((front ++ x ∷ []) ++ first.rest) ((front ++ y ∷ []) ++ second.rest) first.is second.is (less first.rest second.rest)
+  apart-by : (a b : Meaning) (front : List ℕ) (x y : ℕ) → Begins (front ++ x ∷ []) a → Begins (front ++ y ∷ []) b
+      → ((rest other : List ℕ) → IsLess ((front ++ x ∷ []) ++ rest) ((front ++ y ∷ []) ++ other)) → Before a b
+  apart-by a b front x y first second less = by-key a b ((front ++ x ∷ []) ++ first.rest) ((front ++ y ∷ []) ++ second.rest) first.is second.is
+      (less first.rest second.rest)
 
   members-apart : (c k : ℕ) → c < length s.clusters.members → AllPairs (StandApart Before (member_part s k)) (get_or s.clusters.members c [])
   members-apart c k short i j d less inside p q here there =
@@ -144,7 +159,8 @@ module _ (s : SpaceView) (frame : IsFrame s) where
       let rising : IsStrictlyIncreasing members = frame.clusters.partition.rising c [] short in
       let order = Less-from_sorted nat_cmp members i j d (sorted_from_strictly_increasing members rising) less inside in
       let below_is : get_or members i d < get_or members j d = cmp-nat (get_or members i d) (get_or members j d) order in
-      let first = member-begins c k (get_or members i d) p (cluster-of-member c (get_or members i d) short (Contains-get_or members i d (omega (arith, less, inside)))) here in
+      let first = member-begins c k (get_or members i d) p (cluster-of-member c (get_or members i d) short
+      (Contains-get_or members i d (omega (arith, less, inside)))) here in
       let second = member-begins c k (get_or members j d) q (cluster-of-member c (get_or members j d) short (Contains-get_or members j d inside)) there in
       apart-by p q (2 ∷ c ∷ k ∷ []) (get_or members i d) (get_or members j d) first second (λ rest other. inr (refl, inr (refl, inr (refl, inl below_is))))
     where
@@ -171,7 +187,8 @@ module _ (s : SpaceView) (frame : IsFrame s) where
   cluster-rises c short =
       pairs-flat Before (class_part s c) (below (length (cluster_classes s c))) (λ k there. class-rises c k short)
       (pairs-below (StandApart Before (class_part s c)) (length (cluster_classes s c))
-      (λ i j less p q here there. apart-by p q (2 ∷ c ∷ []) i j (class-begins c i p short here) (class-begins c j q short there) (λ rest other. inr (refl, inr (refl, inl less)))))
+      (λ i j less p q here there. apart-by p q (2 ∷ c ∷ []) i j (class-begins c i p short here) (class-begins c j q short there)
+      (λ rest other. inr (refl, inr (refl, inl less)))))
 
   -- of all clusters
   clusters-rise : AllPairs Before (flat_map (cluster_part s) (below (length s.clusters.members)))
@@ -251,12 +268,14 @@ module _ (s : SpaceView) (frame : IsFrame s) where
         | inr here ↦ later m here 0 (omega arith) Now now
       ])
       (pairs-append Before packages (clusters ++ names) packages-rise
-      (pairs-append Before clusters names clusters-rise names-rise (λ a b here there. starts-before a b 2 3 (omega arith) (in-clusters a here) (in-names b there)))
+      (pairs-append Before clusters names clusters-rise names-rise
+      (λ a b here there. starts-before a b 2 3 (omega arith) (in-clusters a here) (in-names b there)))
       (λ a b here there. later b there 1 (omega arith) a (packages-begin a here)))
 
   -- ---- exactly these
 
-  member-is : (c k r : ℕ) (m : Meaning) → c < length s.clusters.members → k < length (cluster_classes s c) → Contains (get_or s.clusters.members c []) r → Contains (member_part s k r) m → IsMeaning s m
+  member-is : (c k r : ℕ) (m : Meaning) → c < length s.clusters.members → k < length (cluster_classes s c) → Contains (get_or s.clusters.members c []) r
+      → Contains (member_part s k r) m → IsMeaning s m
   member-is c k r m short inside member there =
       let is = cluster-of-member c r short member in
       let here : k < length (member_classes s r) = subst (λ (x : ℕ). k < length (cluster_classes s x)) (sym is) inside in
@@ -279,7 +298,8 @@ module _ (s : SpaceView) (frame : IsFrame s) where
   class-is : (c k : ℕ) (m : Meaning) → c < length s.clusters.members → k < length (cluster_classes s c) → Contains (class_part s c k) m → IsMeaning s m
   class-is c k m short inside there = elim (contains-cons (At c k) m (flat_map (member_part s k) (get_or s.clusters.members c [])) there) [
     | inl same ↦ subst (IsMeaning s) same inside
-    | inr later ↦ let from = in-flat (member_part s k) (get_or s.clusters.members c []) m later in member-is c k from.source m short inside from.there from.gives
+    | inr later ↦ let from = in-flat (member_part s k) (get_or s.clusters.members c []) m later in
+        member-is c k from.source m short inside from.there from.gives
   ]
 
   is-meaning : (m : Meaning) → Contains (meanings_of s) m → IsMeaning s m
@@ -297,7 +317,8 @@ module _ (s : SpaceView) (frame : IsFrame s) where
             | inl here ↦
                 let from = in-flat (cluster_part s) (below (length s.clusters.members)) m here in
                 let class = in-flat (class_part s from.source) (below (length (cluster_classes s from.source))) m from.gives in
-                class-is from.source class.source m (in-below (length s.clusters.members) from.source from.there) (in-below (length (cluster_classes s from.source)) class.source class.there) class.gives
+                class-is from.source class.source m (in-below (length s.clusters.members) from.source from.there)
+                (in-below (length (cluster_classes s from.source)) class.source class.there) class.gives
             | inr here ↦
                 let from = in-flat (fresh_part s) (below (length s.names)) m here in
                 let class = in-map (λ k. Fresh from.source k) (below (length (fresh_classes s from.source))) m from.gives in
@@ -329,32 +350,41 @@ module _ (s : SpaceView) (frame : IsFrame s) where
       (flat-in (cluster_part s) (below (length s.clusters.members)) c m (below-in (length s.clusters.members) c short)
       (flat-in (class_part s c) (below (length (cluster_classes s c))) k m (below-in (length (cluster_classes s c)) k inside) there))))
 
-  in-member : (r k : ℕ) (m : Meaning) → r < length s.repository.packages → k < length (member_classes s r) → Contains (member_part s k r) m → Contains (meanings_of s) m
+  in-member : (r k : ℕ) (m : Meaning) → r < length s.repository.packages → k < length (member_classes s r) → Contains (member_part s k r) m
+      → Contains (meanings_of s) m
   in-member r k m within inside there =
       let c = slice_index s.cluster_of r in
       let has = has-cluster s frame r within in
-      in-class c k m inside (contains-later (At c k) m (flat_map (member_part s k) (get_or s.clusters.members c [])) (flat-in (member_part s k) (get_or s.clusters.members c []) r m has.there there))
+      in-class c k m inside (contains-later (At c k) m (flat_map (member_part s k) (get_or s.clusters.members c []))
+      (flat-in (member_part s k) (get_or s.clusters.members c []) r m has.there there))
 
   meaning-in : (m : Meaning) → IsMeaning s m → Contains (meanings_of s) m
-  meaning-in Now is = contains-first Now (map (λ r. Present r) (below (length s.repository.packages)) ++ (flat_map (cluster_part s) (below (length s.clusters.members)) ++ flat_map (fresh_part s) (below (length s.names))))
-  meaning-in (Present r) is = in-packages (Present r) (map-in (λ r. Present r) (below (length s.repository.packages)) r (below-in (length s.repository.packages) r is))
+  meaning-in Now is = contains-first Now (map (λ r. Present r) (below (length s.repository.packages))
+      ++ (flat_map (cluster_part s) (below (length s.clusters.members)) ++ flat_map (fresh_part s) (below (length s.names))))
+  meaning-in (Present r) is = in-packages (Present r) (map-in (λ r. Present r) (below (length s.repository.packages)) r
+      (below-in (length s.repository.packages) r is))
   meaning-in (At c k) is = in-class c k (At c k) is (contains-first (At c k) (flat_map (member_part s k) (get_or s.clusters.members c [])))
   meaning-in (New r k) is =
-      in-member r k (New r k) is.0 is.1 (contains-first (New r k) (map (λ j. Kept r k j) (usable_from s.repository.architecture 0 (provided_by (slice_get s.repository.packages r)))))
+      in-member r k (New r k) is.0 is.1 (contains-first (New r k)
+      (map (λ j. Kept r k j) (usable_from s.repository.architecture 0 (provided_by (slice_get s.repository.packages r)))))
   meaning-in (Kept r k j) is =
       let p = here-at (λ (q : Package). IsUsableAt s.repository.architecture q.provides j) s.repository.packages r is.0 in
       let places = usable_from s.repository.architecture 0 (provided_by (slice_get s.repository.packages r)) in
       let own : IsUsableAt s.repository.architecture (provided_by (slice_get s.repository.packages r)) j =
       subst (λ (entries : List Provide). IsUsableAt s.repository.architecture entries j) (sym (ap provided_by p.is)) p.holds in
-      let there : Contains places j = subst (λ (x : ℕ). Contains places x) (zero-add j) (from-usable s.repository.architecture 0 (provided_by (slice_get s.repository.packages r)) j own) in
-      in-member r k (Kept r k j) (slice_get_within s.repository.packages r p.element p.is) is.1 (contains-later (New r k) (Kept r k j) (map (λ i. Kept r k i) places) (map-in (λ i. Kept r k i) places j there))
+      let there : Contains places j = subst (λ (x : ℕ). Contains places x) (zero-add j)
+      (from-usable s.repository.architecture 0 (provided_by (slice_get s.repository.packages r)) j own) in
+      in-member r k (Kept r k j) (slice_get_within s.repository.packages r p.element p.is) is.1
+      (contains-later (New r k) (Kept r k j) (map (λ i. Kept r k i) places) (map-in (λ i. Kept r k i) places j there))
   meaning-in (Fresh x k) is =
       let clusters = flat_map (cluster_part s) (below (length s.clusters.members)) in
       let names = flat_map (fresh_part s) (below (length s.names)) in
       let packages = map (λ r. Present r) (below (length s.repository.packages)) in
       let short : x < length s.names = omega (arith, within-lists s.name_classes x k is, frame.name_classes_beside) in
-      contains-later Now (Fresh x k) (packages ++ (clusters ++ names)) (Contains-append_right packages (clusters ++ names) (Fresh x k) (Contains-append_right clusters names (Fresh x k)
-      (flat-in (fresh_part s) (below (length s.names)) x (Fresh x k) (below-in (length s.names) x short) (map-in (λ i. Fresh x i) (below (length (fresh_classes s x))) k (below-in (length (fresh_classes s x)) k is)))))
+      contains-later Now (Fresh x k) (packages ++ (clusters ++ names))
+      (Contains-append_right packages (clusters ++ names) (Fresh x k) (Contains-append_right clusters names (Fresh x k)
+      (flat-in (fresh_part s) (below (length s.names)) x (Fresh x k) (below-in (length s.names) x short)
+      (map-in (λ i. Fresh x i) (below (length (fresh_classes s x))) k (below-in (length (fresh_classes s x)) k is)))))
 
   pub numbered : AreMeaningsOf s (λ m. Unit {0}) (meanings_of s)
   numbered = record { rising = meanings-rise; exact = λ m. (λ there. (is-meaning m there, tt), λ h. meaning-in m h.0) }

@@ -1,6 +1,7 @@
 -- A repository has one space at a mode: one partition into clusters with one top of each, one list of cuts of each, one list of
 -- new names with theirs, and one numbering of the variables.
-use Rattle.std.proofs.Common.{◌≡◌, ℕ, suc, ◌<◌, Bool, List, [], ◌∷◌, Option, Some, None, length, map, map-id, get_or, refl, sym, ap, subst, ◌∙◌, arith, slice_get}
+use Rattle.std.proofs.Common.{◌≡◌, ℕ, suc, ◌<◌, Bool, List, [], ◌∷◌, Option, Some, None, length, map, map-id, get_or, refl, sym, ap, subst, ◌∙◌, arith}
+use Rattle.std.proofs.Common.{slice_get}
 use Rattle.std.specs.Prelude.{All, Any, Contains}
 use Rattle.std.proofs.lemmas.Cmp.{nat_list_cmp_total, tied_itself}
 use Rattle.std.proofs.lemmas.List.{get_or_default, same_lists}
@@ -40,7 +41,8 @@ same-at {X} (x ∷ xs) (y ∷ ys) each =
 pub record OneLaws : Type 0 where
   pub partition : (members : List Member) (a b : List (List ℕ)) → IsPartition members a → IsPartition members b → a ≡ b
   pub top : (members : List Member) (cluster a b : List ℕ) → IsTop members cluster a → IsTop members cluster b → a ≡ b
-  pub cuts : (r : PackageList) (members top : List ℕ) (a b : List (List ℕ)) → AreCuts (IsClusterCut r members top) a → AreCuts (IsClusterCut r members top) b → a ≡ b
+  pub cuts : (r : PackageList) (members top : List ℕ) (a b : List (List ℕ)) → AreCuts (IsClusterCut r members top) a → AreCuts (IsClusterCut r members top) b
+      → a ≡ b
   pub name_cuts : (r : PackageList) (name : List ℕ) (a b : List (List ℕ)) → AreCuts (IsNameCut r name) a → AreCuts (IsNameCut r name) b → a ≡ b
   pub names : (r : PackageList) (names others : List (List ℕ)) → AreNewNames r names → AreNewNames r others → names ≡ others
 
@@ -51,9 +53,11 @@ never-back s a b first second =
     let loop = nat_list_cmp_total.trans (key_of s a) (key_of s b) (key_of s a) first second in
     let tied = tied_itself nat_list_cmp_total (key_of s a) in cc
 
-pub one-meanings : (s : SpaceView) (first second : List Meaning) → AreMeaningsOf s (λ m. Unit {0}) first → AreMeaningsOf s (λ m. Unit {0}) second → second ≡ first
+pub one-meanings : (s : SpaceView) (first second : List Meaning) → AreMeaningsOf s (λ m. Unit {0}) first → AreMeaningsOf s (λ m. Unit {0}) second
+    → second ≡ first
 one-meanings s first second a b =
-    let same = rows-same (λ (m : Meaning). m) (StandsBefore s) (λ m. Unit {0}) (λ (m : Meaning). m) (never-back s) (λ x y is p q. is) first second a.rising b.rising (each-one first) (each-one second)
+    let same = rows-same (λ (m : Meaning). m) (StandsBefore s) (λ m. Unit {0}) (λ (m : Meaning). m) (never-back s) (λ x y is p q. is) first second a.rising
+    b.rising (each-one first) (each-one second)
     (λ m has. has-from second m ((b.exact m).1 ((a.exact m).0 (from-has first m has))))
     (λ m has. has-from first m ((a.exact m).1 ((b.exact m).0 (from-has second m has)))) in
     sym (map-id second) ∙ same ∙ map-id first
@@ -81,17 +85,21 @@ module _ (laws : OneLaws) (r : PackageList) where
       let other : k < length b.members = omega (arith, short, lengths, second.tops.aligned) in
       let Top : List (List ℕ) → Type 0 = λ list. IsTop keys (get_or list k []) (get_or a.tops k []) in
       let own : IsTop keys (get_or b.members k []) (get_or a.tops k []) = subst Top members (first.tops.each k inside) in
-      get_or_default a.tops k d [] short ∙ laws.top keys (get_or b.members k []) (get_or a.tops k []) (get_or b.tops k []) own (second.tops.each k other) ∙ get_or_default b.tops k [] d (omega (arith, short, lengths)))
+      get_or_default a.tops k d [] short ∙ laws.top keys (get_or b.members k []) (get_or a.tops k []) (get_or b.tops k []) own (second.tops.each k other)
+      ∙ get_or_default b.tops k [] d (omega (arith, short, lengths)))
 
   one-clusters : (a b : ClusterList) → AreClustersOf r a → AreClustersOf r b → a ≡ b
   one-clusters a b first second =
-      ap (λ (m : List (List ℕ)). record { members = m; tops = a.tops }) (one-members a b first second) ∙ ap (λ (t : List (List ℕ)). record { members = b.members; tops = t }) (one-tops a b first second)
+      ap (λ (m : List (List ℕ)). record { members = m; tops = a.tops }) (one-members a b first second)
+      ∙ ap (λ (t : List (List ℕ)). record { members = b.members; tops = t }) (one-tops a b first second)
 
   one-classes : (members top : List ℕ) (a b : List Class) → AreClassesOf r members top a → AreClassesOf r members top b → a ≡ b
-  one-classes members top a b first second = first.are ∙ ap (classes_above top) (laws.cuts r members top first.cuts second.cuts first.are_cuts second.are_cuts) ∙ sym second.are
+  one-classes members top a b first second = first.are ∙ ap (classes_above top) (laws.cuts r members top first.cuts second.cuts first.are_cuts second.are_cuts)
+      ∙ sym second.are
 
   one-name_classes : (name : List ℕ) (a b : List Class) → AreClassesOfName r name a → AreClassesOfName r name b → a ≡ b
-  one-name_classes name a b first second = first.are ∙ ap classes_of_all (laws.name_cuts r name first.cuts second.cuts first.are_cuts second.are_cuts) ∙ sym second.are
+  one-name_classes name a b first second = first.are ∙ ap classes_of_all (laws.name_cuts r name first.cuts second.cuts first.are_cuts second.are_cuts)
+      ∙ sym second.are
 
 -- the same views with the same parts
 abbrev view : PackageList → Bool → ClusterList → List ℕ → List (List Class) → List (List ℕ) → List (List Class) → List Meaning → SpaceView
@@ -135,20 +143,24 @@ module _ (laws : OneLaws) (r : PackageList) (essential : Bool) (a b : SpaceView)
       let other : k < length b.clusters.members = omega (arith, inside, count) in
       let Of : PackageList → Type 0 = λ x. AreClassesOf x (get_or a.clusters.members k []) (get_or a.clusters.tops k []) (cluster_classes a k) in
       let There : ClusterList → Type 0 = λ c. AreClassesOf r (get_or c.members k []) (get_or c.tops k []) (cluster_classes a k) in
-      let first : AreClassesOf r (get_or b.clusters.members k []) (get_or b.clusters.tops k []) (cluster_classes a k) = subst There same-clusters (subst Of is_a.repository (fa.classes k inside)) in
+      let first : AreClassesOf r (get_or b.clusters.members k []) (get_or b.clusters.tops k []) (cluster_classes a k) =
+      subst There same-clusters (subst Of is_a.repository (fa.classes k inside)) in
       let Second : PackageList → Type 0 = λ x. AreClassesOf x (get_or b.clusters.members k []) (get_or b.clusters.tops k []) (cluster_classes b k) in
       get_or_default a.classes k d [] short
-      ∙ one-classes laws r (get_or b.clusters.members k []) (get_or b.clusters.tops k []) (cluster_classes a k) (cluster_classes b k) first (subst Second is_b.repository (fb.classes k other))
+      ∙ one-classes laws r (get_or b.clusters.members k []) (get_or b.clusters.tops k []) (cluster_classes a k) (cluster_classes b k) first
+      (subst Second is_b.repository (fb.classes k other))
       ∙ get_or_default b.classes k [] d (omega (arith, short, lengths)))
 
   same-names : a.names ≡ b.names
-  same-names = laws.names r a.names b.names (subst (λ (x : PackageList). AreNewNames x a.names) is_a.repository is_a.space.frame.names) (subst (λ (x : PackageList). AreNewNames x b.names) is_b.repository is_b.space.frame.names)
+  same-names = laws.names r a.names b.names (subst (λ (x : PackageList). AreNewNames x a.names) is_a.repository is_a.space.frame.names)
+      (subst (λ (x : PackageList). AreNewNames x b.names) is_b.repository is_b.space.frame.names)
 
   same-name_classes : a.name_classes ≡ b.name_classes
   same-name_classes =
       let fa = is_a.space.frame in
       let fb = is_b.space.frame in
-      let lengths : length a.name_classes ≡ length b.name_classes = fa.name_classes_beside ∙ ap (λ (xs : List (List ℕ)). length xs) same-names ∙ sym fb.name_classes_beside in
+      let lengths : length a.name_classes ≡ length b.name_classes = fa.name_classes_beside ∙ ap (λ (xs : List (List ℕ)). length xs) same-names
+      ∙ sym fb.name_classes_beside in
       same_lists a.name_classes b.name_classes lengths (λ k d short.
       let inside : k < length a.names = omega (arith, short, fa.name_classes_beside) in
       let other : k < length b.names = omega (arith, short, lengths, fb.name_classes_beside) in
@@ -156,10 +168,12 @@ module _ (laws : OneLaws) (r : PackageList) (essential : Bool) (a b : SpaceView)
       let There : List (List ℕ) → Type 0 = λ xs. AreClassesOfName r (get_or xs k []) (fresh_classes a k) in
       let Second : PackageList → Type 0 = λ x. AreClassesOfName x (get_or b.names k []) (fresh_classes b k) in
       get_or_default a.name_classes k d [] short
-      ∙ one-name_classes laws r (get_or b.names k []) (fresh_classes a k) (fresh_classes b k) (subst There same-names (subst Of is_a.repository (fa.name_classes k inside))) (subst Second is_b.repository (fb.name_classes k other))
+      ∙ one-name_classes laws r (get_or b.names k []) (fresh_classes a k) (fresh_classes b k)
+      (subst There same-names (subst Of is_a.repository (fa.name_classes k inside))) (subst Second is_b.repository (fb.name_classes k other))
       ∙ get_or_default b.name_classes k [] d (omega (arith, short, lengths)))
 
-  same-frame : (ms : List Meaning) → view a.repository a.essential a.clusters a.cluster_of a.classes a.names a.name_classes ms ≡ view b.repository b.essential b.clusters b.cluster_of b.classes b.names b.name_classes ms
+  same-frame : (ms : List Meaning) → view a.repository a.essential a.clusters a.cluster_of a.classes a.names a.name_classes ms
+      ≡ view b.repository b.essential b.clusters b.cluster_of b.classes b.names b.name_classes ms
   same-frame ms =
       let one : a.repository ≡ b.repository = is_a.repository ∙ sym is_b.repository in
       let two : a.essential ≡ b.essential = is_a.essential_is ∙ sym is_b.essential_is in
@@ -180,4 +194,5 @@ module _ (laws : OneLaws) (r : PackageList) (essential : Bool) (a b : SpaceView)
 
   pub one-space : b ≡ a
   one-space =
-      sym (same-frame b.meanings) ∙ ap (λ (x : List Meaning). view a.repository a.essential a.clusters a.cluster_of a.classes a.names a.name_classes x) same-meanings
+      sym (same-frame b.meanings) ∙ ap (λ (x : List Meaning). view a.repository a.essential a.clusters a.cluster_of a.classes a.names a.name_classes x)
+      same-meanings

@@ -1,5 +1,6 @@
 -- The variables of meanings: each meaning of the space has a place, and its value is found there.
-use Rattle.std.proofs.Common.{◌≡◌, ℕ, Bool, true, false, List, Some, Ordering, Less, Equal, Greater, nat_cmp, get_or, refl, sym, ap, subst, ◌∙◌, inl, inr, arith, slice_get}
+use Rattle.std.proofs.Common.{◌≡◌, ℕ, Bool, true, false, List, Some, Ordering, Less, Equal, Greater, nat_cmp, get_or, refl, sym, ap, subst, ◌∙◌, inl, inr}
+use Rattle.std.proofs.Common.{arith, slice_get}
 use Rattle.std.specs.Prelude.{AllPairs, Contains}
 use Rattle.std.specs.Cmp.Lexicographic.{slice_cmp}
 use Rattle.std.specs.Ordering.{is_lt}
@@ -31,7 +32,8 @@ meanings-parted s m ms rising i j d less short holds = elim (cases_lt i j) [
   | inr same ↦ let is : j ≡ i = omega (arith, less, same) in subst (λ (k : ℕ). before_it s m (get_or ms k d) ≡ true) is holds
 ]
 
-pub point-is : (s : SpaceView) (m : Meaning) (ms : List Meaning) (i : ℕ) → AllPairs (StandsBefore s) ms → Contains ms m → IsPartitionPoint (λ y. before_it s m y ≡ true) (λ y. before_it s m y ≡ false) ms i → slice_get ms i ≡ Some m
+pub point-is : (s : SpaceView) (m : Meaning) (ms : List Meaning) (i : ℕ) → AllPairs (StandsBefore s) ms → Contains ms m
+    → IsPartitionPoint (λ y. before_it s m y ≡ true) (λ y. before_it s m y ≡ false) ms i → slice_get ms i ≡ Some m
 point-is s m ms i rising there point =
     let at = place-of ms m there in
     let inside = slice_get_within ms at.place m at.is in

@@ -30,7 +30,9 @@ pub record IsWhole (s : SpaceView) : Type 0 where
 -- for each cluster its classes, and for each new name
 pub record AreClassesBeside (r : PackageList) (clusters : ClusterList) (classes : List (List Class)) : Type 0 where
   pub beside : length classes ≡ length clusters.members
-  pub are : (c : ℕ) → c < length clusters.members → AreClassesOf r (slice_index_or clusters.members c []) (slice_index_or clusters.tops c []) (slice_index_or classes c [])
+  pub are : (c : ℕ) → c < length clusters.members
+      → AreClassesOf r (slice_index_or clusters.members c []) (slice_index_or clusters.tops c [])
+      (slice_index_or classes c [])
   pub examples : (c : ℕ) → AreExampled (slice_index_or classes c [])
 
 pub record AreNameClassesBeside (r : PackageList) (names : List (List ℕ)) (classes : List (List Class)) : Type 0 where

@@ -1,6 +1,8 @@
--- Laws of the order of lists of numbers by their first difference. No public clause cites them; proofs do, those of the crates
+-- Laws of the order of lists of numbers by their first difference. No public clause cites them; proofs do, those of the
+-- crates
 -- above too.
-use Rattle.std.proofs.Common.{◌≡◌, ◌⊎◌, ℕ, ◌<◌, List, [], ◌∷◌, ◌++◌, Ordering, Less, Equal, Greater, nat_cmp, refl, sym, ap, subst, ◌∙◌, inl, inr, arith}
+use Rattle.std.proofs.Common.{◌≡◌, ◌⊎◌, ℕ, ◌<◌, List, [], ◌∷◌, ◌++◌, Ordering, Less, Equal, Greater, nat_cmp, refl, sym}
+use Rattle.std.proofs.Common.{ap, subst, ◌∙◌, inl, inr, arith}
 use Rattle.std.specs.Cmp.Lexicographic.{slice_cmp}
 use Rattle.std.specs.Ordering.{MatchOrdering, ordering_then}
 use Rattle.std.proofs.lemmas.Cmp.{nat_cmp_total, ranked, tied_itself}
@@ -23,7 +25,8 @@ pub less-cmp : (a b : List ℕ) → IsLess a b → slice_cmp nat_cmp a b ≡ Les
 less-cmp [] [] less = absurd less
 less-cmp [] (y ∷ ys) less = refl
 less-cmp (x ∷ xs) [] less = absurd less
-less-cmp (x ∷ xs) (y ∷ ys) (inl less) = ap (λ (o : Ordering). ordering_then o (slice_cmp nat_cmp xs ys)) (nat-less x y less)
+less-cmp (x ∷ xs) (y ∷ ys) (inl less) = ap (λ (o : Ordering). ordering_then o (slice_cmp nat_cmp xs ys))
+    (nat-less x y less)
 less-cmp (x ∷ xs) (y ∷ ys) (inr less) =
     ap (λ (z : ℕ). ordering_then (nat_cmp z y) (slice_cmp nat_cmp xs ys)) less.0
     ∙ ap (λ (o : Ordering). ordering_then o (slice_cmp nat_cmp xs ys)) (tied_itself nat_cmp_total y)
@@ -36,11 +39,14 @@ cmp-less (x ∷ xs) [] is = absurd (let no-one : Greater ≡ Less = is in cc)
 cmp-less (x ∷ xs) (y ∷ ys) is = by (nat_cmp x y) refl (cmp-less xs ys)
   where
     by : (o : Ordering) → nat_cmp x y ≡ o → (slice_cmp nat_cmp xs ys ≡ Less → IsLess xs ys) → IsLess (x ∷ xs) (y ∷ ys)
-    by Less e rest = inl (subst (λ (r : Ordering). MatchOrdering r (x < y) (x ≡ y) (y < x)) e (ranked x y (nat_cmp x y) refl))
+    by Less e rest = inl (subst (λ (r : Ordering). MatchOrdering r (x < y) (x ≡ y) (y < x)) e
+        (ranked x y (nat_cmp x y) refl))
     by Equal e rest =
-        let same : x ≡ y = subst (λ (r : Ordering). MatchOrdering r (x < y) (x ≡ y) (y < x)) e (ranked x y (nat_cmp x y) refl) in
+        let same : x ≡ y = subst (λ (r : Ordering). MatchOrdering r (x < y) (x ≡ y) (y < x)) e
+        (ranked x y (nat_cmp x y) refl) in
         inr (same, rest (sym (ap (λ (r : Ordering). ordering_then r (slice_cmp nat_cmp xs ys)) e) ∙ is))
-    by Greater e rest = absurd (let no-one : Greater ≡ Less = sym (ap (λ (r : Ordering). ordering_then r (slice_cmp nat_cmp xs ys)) e) ∙ is in cc)
+    by Greater e rest = absurd (let no-one : Greater
+        ≡ Less = sym (ap (λ (r : Ordering). ordering_then r (slice_cmp nat_cmp xs ys)) e) ∙ is in cc)
 
 -- the same start
 pub same-start : (front a b : List ℕ) → IsLess a b → IsLess (front ++ a) (front ++ b)

@@ -1,5 +1,6 @@
 -- What the variables of a space mean, from the first one on, as they are made. No public clause cites it.
-use Rattle.std.specs.Prelude.{ℕ, ◌+◌, List, [], ◌∷◌, ◌++◌, Option, None, Some, length, map, slice_get, slice_index_or, if◌then◌else◌}
+use Rattle.std.specs.Prelude.{ℕ, ◌+◌, List, [], ◌∷◌, ◌++◌, Option, None, Some, length, map, slice_get, slice_index_or}
+use Rattle.std.specs.Prelude.{if◌then◌else◌}
 use Rattle.std.specs.List.{flat_map, range_with_len}
 use Rattle.dist_relation.specs.declared.atom.Provide.{Provide}
 use Rattle.dist_relation.specs.declared.atom.Qualifier.{Qualifier}
@@ -17,7 +18,8 @@ below n = range_with_len 0 n
 abbrev pub usable_from : Option (List ℕ) → ℕ → List Provide → List ℕ
 usable_from architecture place [] = []
 usable_from architecture place (entry ∷ entries) =
-    if is_usable architecture entry.qualifier then place ∷ usable_from architecture (place + 1) entries else usable_from architecture (place + 1) entries
+    if is_usable architecture entry.qualifier then place
+    ∷ usable_from architecture (place + 1) entries else usable_from architecture (place + 1) entries
 
 -- what a package provides
 abbrev pub provided_by : Option Package → List Provide
@@ -30,7 +32,8 @@ entry_part architecture qualifier kept = if is_usable architecture qualifier the
 
 -- the usable entries of a member's new version of a class
 abbrev pub entries_part : SpaceView → ℕ → ℕ → List Meaning
-entries_part s k r = map (λ j. Kept r k j) (usable_from s.repository.architecture 0 (provided_by (slice_get s.repository.packages r)))
+entries_part s k r = map (λ j. Kept r k j)
+    (usable_from s.repository.architecture 0 (provided_by (slice_get s.repository.packages r)))
 
 -- a member's new version of a class, and then its usable entries
 abbrev pub member_part : SpaceView → ℕ → ℕ → List Meaning
@@ -50,4 +53,6 @@ fresh_part s x = map (λ k. Fresh x k) (below (length (fresh_classes s x)))
 -- Now; the packages of the repository as they are; the clusters; the new names.
 abbrev pub meanings_of : SpaceView → List Meaning
 meanings_of s =
-    Now ∷ (map (λ r. Present r) (below (length s.repository.packages)) ++ (flat_map (cluster_part s) (below (length s.clusters.members)) ++ flat_map (fresh_part s) (below (length s.names))))
+    Now ∷ (map (λ r. Present r) (below (length s.repository.packages))
+    ++ (flat_map (cluster_part s) (below (length s.clusters.members))
+    ++ flat_map (fresh_part s) (below (length s.names))))

@@ -1,6 +1,9 @@
--- The space of the futures of a flat repository: what its variables mean, and in which order they stand. New versions are
+-- The space of the futures of a flat repository: what its variables mean, and in which order they stand. New versions
+-- are
 -- taken by classes, each with an example.
-use Rattle.std.specs.Prelude.{◌≡◌, ◌↔◌, ℕ, ◌+◌, ◌<◌, ◌≤◌, Bool, List, [], ◌∷◌, Option, None, Some, AllPairs, Any, Contains, IfSome, IsSomeAnd, count_by, length, slice_get, slice_index, slice_index_or, if◌then◌else◌}
+use Rattle.std.specs.Prelude.{◌≡◌, ◌↔◌, ℕ, ◌+◌, ◌<◌, ◌≤◌, Bool, List, [], ◌∷◌, Option, None, Some, AllPairs, Any}
+use Rattle.std.specs.Prelude.{Contains, IfSome, IsSomeAnd, count_by, length, slice_get, slice_index, slice_index_or}
+use Rattle.std.specs.Prelude.{if◌then◌else◌}
 use Rattle.std.specs.Cmp.Lexicographic.{slice_cmp}
 use Rattle.std.specs.Option.{option_map}
 use Rattle.std.specs.Ordering.{nat_cmp, is_lt, is_eq}
@@ -24,8 +27,10 @@ use Rattle.dist_classes.specs.declared.class_value.Class.TheVariants as class
 use Rattle.dist_space.specs.declared.meaning.Meaning.{Meaning}
 use Rattle.dist_space.specs.declared.meaning.Meaning.TheVariants.{Now, Present, At, New, Kept, Fresh}
 
--- What contracts see of a space: the repository and the mode; the clusters, for each package the number of its cluster, and
--- for each cluster its classes; the new names, and for each its classes; and what the variables mean, from the first one on.
+-- What contracts see of a space: the repository and the mode; the clusters, for each package the number of its cluster,
+-- and
+-- for each cluster its classes; the new names, and for each its classes; and what the variables mean, from the first
+-- one on.
 pub record SpaceView : Type 0 where
   pub repository : PackageList
   pub essential : Bool
@@ -59,7 +64,8 @@ IsMeaning s (Present r) = r < length s.repository.packages
 IsMeaning s (At c k) = k < length (cluster_classes s c)
 IsMeaning s (New r k) = (r < length s.repository.packages) × (k < length (member_classes s r))
 IsMeaning s (Kept r k j) =
-    IsPackageAnd s.repository.packages r (λ p. IsSomeAnd (slice_get p.provides j) (λ entry. IsUsable s.repository.architecture entry.qualifier))
+    IsPackageAnd s.repository.packages r (λ p. IsSomeAnd (slice_get p.provides j)
+    (λ entry. IsUsable s.repository.architecture entry.qualifier))
     × (k < length (member_classes s r))
 IsMeaning s (Fresh x k) = k < length (fresh_classes s x)
 
@@ -69,7 +75,8 @@ IsChange (At c k) = Unit {0}
 IsChange (Fresh x k) = Unit {0}
 IsChange m = ⊥
 
--- The order of variables: Now, then the packages; then by cluster and class, first the class itself and then each member's new
+-- The order of variables: Now, then the packages; then by cluster and class, first the class itself and then each
+-- member's new
 -- version, which its kept entries follow; then by new name and class.
 abbrev pub key_of : SpaceView → Meaning → List ℕ
 key_of s Now = 0 ∷ []
@@ -114,18 +121,23 @@ name_of s (Fresh x k) = slice_get s.names x
 abbrev pub MeetsBound : Atom → List ℕ → Type 0
 MeetsBound atom version = IfSome atom.bound (λ bound. Satisfies version bound)
 
--- A usable atom is matched by a package of the repository as ever; by a new version where it has the name and the example of
--- the class meets its bound; by a kept entry of it as the new version at the example has it; and by a package of a new name
+-- A usable atom is matched by a package of the repository as ever; by a new version where it has the name and the
+-- example of
+-- the class meets its bound; by a kept entry of it as the new version at the example has it; and by a package of a new
+-- name
 -- where the example of its class meets the bound.
 abbrev pub IsMatchedBy : SpaceView → Atom → Meaning → Type 0
 IsMatchedBy s atom Now = ⊥
 IsMatchedBy s atom (Present r) = IsPackageAnd s.repository.packages r (Matches s.repository.architecture atom)
 IsMatchedBy s atom (At c k) = ⊥
-IsMatchedBy s atom (New r k) = IsPackageAnd s.repository.packages r (λ p. (p.name ≡ atom.name) × MeetsBound atom (example_at (member_classes s r) k))
+IsMatchedBy s atom (New r k) = IsPackageAnd s.repository.packages r
+    (λ p. (p.name ≡ atom.name) × MeetsBound atom (example_at (member_classes s r) k))
 IsMatchedBy s atom (Kept r k j) =
     IsPackageAnd s.repository.packages r (λ p. IsSomeAnd (slice_get p.provides j)
-    (λ entry. MatchesByEntry s.repository.architecture atom (moved_entry p.version (example_at (member_classes s r) k) entry)))
-IsMatchedBy s atom (Fresh x k) = IsSomeAnd (slice_get s.names x) (λ name. (name ≡ atom.name) × MeetsBound atom (example_at (fresh_classes s x) k))
+    (λ entry. MatchesByEntry s.repository.architecture atom
+    (moved_entry p.version (example_at (member_classes s r) k) entry)))
+IsMatchedBy s atom (Fresh x k) = IsSomeAnd (slice_get s.names x)
+    (λ name. (name ≡ atom.name) × MeetsBound atom (example_at (fresh_classes s x) k))
 
 abbrev pub IsMatched : SpaceView → Atom → Meaning → Type 0
 IsMatched s atom m = IsUsable s.repository.architecture atom.qualifier × IsMatchedBy s atom m
@@ -146,11 +158,14 @@ pub record IsFrame (s : SpaceView) : Type 0 where
   pub clusters : AreClustersOf s.repository s.clusters
   pub placed : (c m : ℕ) → IsIn s.clusters.members c m ↔ (slice_get s.cluster_of m ≡ Some c)
   pub classes_beside : length s.classes ≡ length s.clusters.members
-  pub classes : (c : ℕ) → c < length s.clusters.members → AreClassesOf s.repository (slice_index_or s.clusters.members c []) (slice_index_or s.clusters.tops c []) (cluster_classes s c)
+  pub classes : (c : ℕ) → c < length s.clusters.members
+      → AreClassesOf s.repository (slice_index_or s.clusters.members c []) (slice_index_or s.clusters.tops c [])
+      (cluster_classes s c)
   pub examples : (c k : ℕ) → k < length (cluster_classes s c) → IsExample (cluster_classes s c) k
   pub names : AreNewNames s.repository s.names
   pub name_classes_beside : length s.name_classes ≡ length s.names
-  pub name_classes : (x : ℕ) → x < length s.names → AreClassesOfName s.repository (slice_index_or s.names x []) (fresh_classes s x)
+  pub name_classes : (x : ℕ) → x < length s.names
+      → AreClassesOfName s.repository (slice_index_or s.names x []) (fresh_classes s x)
   pub name_examples : (x k : ℕ) → k < length (fresh_classes s x) → IsExample (fresh_classes s x) k
 
 -- The space of a flat repository: these, and all that a variable may mean, in order.

@@ -10,4 +10,5 @@ is_architecture (Some architecture) name = bytes_eq architecture name
 
 abbrev pub is_usable : Option (List ℕ) → Qualifier → Bool
 is_usable architecture Plain = true
-is_usable architecture (Named name) = bytes_eq name (codes "any") || (bytes_eq name (codes "native") || is_architecture architecture name)
+is_usable architecture (Named name) = bytes_eq name (codes "any")
+    || (bytes_eq name (codes "native") || is_architecture architecture name)

@@ -21,7 +21,8 @@ module _ (s : SpaceView) (n : ℕ) where
   pub bearer-new : (p : Package) (k : ℕ) (m : Meaning) → slice_get s.repository.packages n ≡ Some p → m ≡ New n k → IsBearer s p.name m
   bearer-new p k m is same = subst (IsBearer s p.name) (sym same) (at-has (Named p.name) s.repository.packages n p is refl)
 
-  pub bearer-more : (class : ℕ) (m : Meaning) → (m ≡ Present n) ⊎ UpTo s (λ k x. x ≡ New n k) (class + 1) m → ((m ≡ Present n) ⊎ UpTo s (λ k x. x ≡ New n k) class m) ⊎ (m ≡ New n class)
+  pub bearer-more : (class : ℕ) (m : Meaning) → (m ≡ Present n) ⊎ UpTo s (λ k x. x ≡ New n k) (class + 1) m
+      → ((m ≡ Present n) ⊎ UpTo s (λ k x. x ≡ New n k) class m) ⊎ (m ≡ New n class)
   bearer-more class m (inl same) = inl (inl same)
   bearer-more class m (inr up) = elim (cases_lt up.0 class) [
     | inl less ↦ inl (inr (up.0, less, up.2))
@@ -34,7 +35,8 @@ module _ (s : SpaceView) (n : ℕ) where
       let here = here-at (Named p.name) s.repository.packages r there in
       names-apart s.repository.packages r n here.element p space.frame.flat here.is is here.holds
 
-pub bearer-cases : (s : SpaceView) → IsSpace s → (n : ℕ) (p : Package) (count : ℕ) (m : Meaning) → slice_get s.repository.packages n ≡ Some p → length (member_classes s n) ≤ count → IsMeaning s m → IsBearer s p.name m
+pub bearer-cases : (s : SpaceView) → IsSpace s → (n : ℕ) (p : Package) (count : ℕ) (m : Meaning) → slice_get s.repository.packages n ≡ Some p
+    → length (member_classes s n) ≤ count → IsMeaning s m → IsBearer s p.name m
     → (m ≡ Present n) ⊎ UpTo s (λ k x. x ≡ New n k) count m
 bearer-cases s space n p count Now is past meaning bearer = absurd bearer
 bearer-cases s space n p count (Present r) is past meaning bearer = inl (ap (λ (i : ℕ). Present i) (one-number s n space p r is bearer))

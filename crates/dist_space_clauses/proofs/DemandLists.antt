@@ -16,9 +16,16 @@ Row = Demand × List Literal
 -- ---- fronts
 
 -- the same clauses, of demands with a property that comes to the same
-pub clauses-shift : (s : SpaceView) (P Q : Demand → Type 0) (clauses : List (List Literal)) → ((d : Demand) → P d → Q d) → ((d : Demand) → Q d → P d) → AreClausesOf s P clauses → AreClausesOf s Q clauses
+pub clauses-shift : (s : SpaceView) (P Q : Demand → Type 0) (clauses : List (List Literal)) → ((d : Demand) → P d → Q d) → ((d : Demand) → Q d → P d)
+    → AreClausesOf s P clauses → AreClausesOf s Q clauses
 clauses-shift s P Q clauses to from of =
-    record { rows = of.rows; rising = of.rising; exact = λ d. ((λ has. to d ((of.exact d).0 has)), λ q. (of.exact d).1 (from d q)); each = of.each; are = of.are }
+    record {
+      rows = of.rows;
+      rising = of.rising;
+      exact = λ d. ((λ has. to d ((of.exact d).0 has)), λ q. (of.exact d).1 (from d q));
+      each = of.each;
+      are = of.are;
+    }
 
 pub clauses-none : (s : SpaceView) (P : Demand → Type 0) → ((d : Demand) → ¬ P d) → AreClausesOf s P []
 clauses-none s P none = record {
@@ -50,8 +57,10 @@ any-push-left P (x ∷ xs) y any = elim (any-cases P x xs any) [
 ]
 
 -- one more clause behind the others, of a demand that is behind theirs
-pub clauses-more : (s : SpaceView) (P Q : Demand → Type 0) (clauses : List (List Literal)) (d : Demand) (clause : List Literal) → AreClausesOf s P clauses → IsClauseFor s d clause
-    → ((e : Demand) → P e → IsBefore s e d) → ((e : Demand) → Q e → P e ⊎ (d ≡ e)) → ((e : Demand) → P e → Q e) → Q d → AreClausesOf s Q (clauses ++ clause ∷ [])
+pub clauses-more : (s : SpaceView) (P Q : Demand → Type 0) (clauses : List (List Literal)) (d : Demand) (clause : List Literal) → AreClausesOf s P clauses
+    → IsClauseFor s d clause
+    → ((e : Demand) → P e → IsBefore s e d) → ((e : Demand) → Q e → P e ⊎ (d ≡ e)) → ((e : Demand) → P e → Q e) → Q d
+    → AreClausesOf s Q (clauses ++ clause ∷ [])
 clauses-more s P Q clauses d clause of is below cases wider here =
     let row : Row = (d, clause) in
     record {

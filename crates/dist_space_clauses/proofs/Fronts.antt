@@ -11,7 +11,8 @@ use Rattle.dist_clause.specs.declared.clause_set.PushError.TheVariants.{TooManyC
 use Rattle.dist_repo.specs.declared.package.Package.{Package}
 use Rattle.dist_space_clauses.specs.Gathering.{IsBelow, IsCauseAt, IsFront, IsRefused}
 use Rattle.dist_space.specs.Space.{IsMeaning, IsSpace, SpaceView, variable_of}
-use Rattle.dist_space_clauses.specs.SpaceClauses.{Demand, OneClass, Gone, Moved, Carried, OneFresh, Item, Apart, StaysNow, AbsentNow, Required, Excludes, IsBefore, IsClauseFor, IsDemand, group_of, leading, rank_of, second_of}
+use Rattle.dist_space_clauses.specs.SpaceClauses.{Demand, OneClass, Gone, Moved, Carried, OneFresh, Item, Apart, StaysNow, AbsentNow, Required, Excludes}
+use Rattle.dist_space_clauses.specs.SpaceClauses.{IsBefore, IsClauseFor, IsDemand, group_of, leading, rank_of, second_of}
 use Rattle.dist_space_clauses.specs.SpaceSet.{IsSetOf}
 use Rattle.dist_space.specs.declared.meaning.Meaning.{Meaning}
 use Rattle.dist_space_clauses.proofs.DemandLists.{clauses-more, clauses-shift}
@@ -31,7 +32,8 @@ leading-is s (StaysNow c k) d = d
 leading-is s (AbsentNow x k) d = d
 leading-is s (Required name) d = tt
 
-pub leads : (s : SpaceView) (d : Demand) (v : ℕ) (m : Meaning) → IsSpace s → IsDemand s d → IsMeaning s m → variable_of s m ≡ v → variable_of s (leading d) ≡ v → leading d ≡ m
+pub leads : (s : SpaceView) (d : Demand) (v : ℕ) (m : Meaning) → IsSpace s → IsDemand s d → IsMeaning s m → variable_of s m ≡ v → variable_of s (leading d) ≡ v
+    → leading d ≡ m
 leads s d v m space demand is first second = one-meaning s (leading d) m space (leading-is s d demand) is (second ∙ sym first)
 
 -- ---- ranks
@@ -60,7 +62,8 @@ pub first-number : (a b : ℕ) → ◌≡◌ {A = List ℕ} (a ∷ []) (b ∷ []
 first-number a b same = ap (λ (xs : List ℕ). get_or xs 0 0) same
 
 -- below the next number is what is below this one, and what has it
-pub next-number : (s : SpaceView) (d : Demand) (g v b : ℕ) → g < 7 → IsLess (rank_of s d) (g ∷ v ∷ (b + 1) ∷ []) → IsLess (rank_of s d) (g ∷ v ∷ b ∷ []) ⊎ ((group_of d ≡ g) × (variable_of s (leading d) ≡ v) × (second_of s d ≡ b ∷ []))
+pub next-number : (s : SpaceView) (d : Demand) (g v b : ℕ) → g < 7 → IsLess (rank_of s d) (g ∷ v ∷ (b + 1) ∷ []) → IsLess (rank_of s d) (g ∷ v ∷ b ∷ [])
+    ⊎ ((group_of d ≡ g) × (variable_of s (leading d) ≡ v) × (second_of s d ≡ b ∷ []))
 next-number s d g v b few (inl less) = inl (inl less)
 next-number s d g v b few (inr (group, inl less)) = inl (inr (group, inl less))
 next-number s d g v b few (inr (group, inr (variable, second))) =
@@ -87,7 +90,8 @@ number-less s d g v b c up (inr (group, inr (variable, second))) = inr (group, i
 
 -- ---- one demand of a rank
 
-pub rank-one : (s : SpaceView) (d e : Demand) → IsSpace s → IsDemand s d → IsDemand s e → group_of d ≡ group_of e → leading d ≡ leading e → second_of s d ≡ second_of s e → d ≡ e
+pub rank-one : (s : SpaceView) (d e : Demand) → IsSpace s → IsDemand s d → IsDemand s e → group_of d ≡ group_of e → leading d ≡ leading e
+    → second_of s d ≡ second_of s e → d ≡ e
 rank-one s (OneClass c k l) (OneClass n i j) space is_d is_e group lead second = cc
 rank-one s (Gone r k) (Gone n i) space is_d is_e group lead second = cc
 rank-one s (Gone r k) (Moved n i) space is_d is_e group lead second = absurd (omega (arith, first-number 0 1 second))
@@ -112,11 +116,19 @@ rank-one s d e space is_d is_e group lead second = absurd (omega (arith, group))
 -- ---- fronts
 
 module _ (s : SpaceView) (space : IsSpace s) (limits : ClauseList) where
-  pub set-shift : (P Q : Demand → Type 0) (c l : ℕ) (set : ClauseList) → ((d : Demand) → P d → Q d) → ((d : Demand) → Q d → P d) → IsSetOf s P c l set → IsSetOf s Q c l set
-  set-shift P Q c l set to from of = record { clauses = clauses-shift s P Q set.clauses to from of.clauses; variables = of.variables; clause_limit_is = of.clause_limit_is; literal_limit_is = of.literal_limit_is }
+  pub set-shift : (P Q : Demand → Type 0) (c l : ℕ) (set : ClauseList) → ((d : Demand) → P d → Q d) → ((d : Demand) → Q d → P d) → IsSetOf s P c l set
+      → IsSetOf s Q c l set
+  set-shift P Q c l set to from of = record {
+    clauses = clauses-shift s P Q set.clauses to from of.clauses;
+    variables = of.variables;
+    clause_limit_is = of.clause_limit_is;
+    literal_limit_is = of.literal_limit_is;
+  }
 
   -- to a greater number with no demand in between
-  pub front-skip : (g v b c : ℕ) (set : ClauseList) → b ≤ c → ((d : Demand) → IsDemand s d → group_of d ≡ g → variable_of s (leading d) ≡ v → (n : ℕ) → second_of s d ≡ n ∷ [] → n < c → n < b) → g < 7 → IsFront s g v b limits set → IsFront s g v c limits set
+  pub front-skip : (g v b c : ℕ) (set : ClauseList) → b ≤ c
+      → ((d : Demand) → IsDemand s d → group_of d ≡ g → variable_of s (leading d) ≡ v → (n : ℕ) → second_of s d ≡ n ∷ [] → n < c → n < b) → g < 7
+      → IsFront s g v b limits set → IsFront s g v c limits set
   front-skip g v b c set up none few of =
       set-shift (IsBelow s g v b) (IsBelow s g v c) limits.clause_limit limits.literal_limit set
       (λ d h. (h.0, cases-below s d g v c (number-less s d g v b c up (below-cases s d g v b h.1))))
@@ -135,7 +147,8 @@ module _ (s : SpaceView) (space : IsSpace s) (limits : ClauseList) where
           ]
 
   -- to the next variable, where no demand of this one is left
-  pub front-variable : (g v b : ℕ) (set : ClauseList) → ((d : Demand) → IsDemand s d → group_of d ≡ g → variable_of s (leading d) ≡ v → (n : ℕ) → second_of s d ≡ n ∷ [] → n < b) → g < 7 → IsFront s g v b limits set → IsFront s g (v + 1) 0 limits set
+  pub front-variable : (g v b : ℕ) (set : ClauseList) → ((d : Demand) → IsDemand s d → group_of d ≡ g → variable_of s (leading d) ≡ v → (n : ℕ)
+      → second_of s d ≡ n ∷ [] → n < b) → g < 7 → IsFront s g v b limits set → IsFront s g (v + 1) 0 limits set
   front-variable g v b set all few of =
       set-shift (IsBelow s g v b) (IsBelow s g (v + 1) 0) limits.clause_limit limits.literal_limit set
       (λ d h. (h.0, cases-below s d g (v + 1) 0 (to d (below-cases s d g v b h.1))))
@@ -154,7 +167,8 @@ module _ (s : SpaceView) (space : IsSpace s) (limits : ClauseList) where
 
       back : (d : Demand) → IsDemand s d → IsLess (rank_of s d) (g ∷ (v + 1) ∷ 0 ∷ []) → IsLess (rank_of s d) (g ∷ v ∷ b ∷ [])
       back d is (inl less) = inl less
-      back d is (inr (group, inr (variable, second))) = let one = second-one s d (omega (arith, group, few)) in absurd (at-zero (second_of s d) one.0 one.1 second)
+      back d is (inr (group, inr (variable, second))) = let one = second-one s d (omega (arith, group, few)) in
+          absurd (at-zero (second_of s d) one.0 one.1 second)
       back d is (inr (group, inl less)) = elim (cases_lt (variable_of s (leading d)) v) [
         | inl below ↦ inr (group, inl below)
         | inr past ↦
@@ -165,7 +179,8 @@ module _ (s : SpaceView) (space : IsSpace s) (limits : ClauseList) where
       ]
 
   -- with the clause of the demand at this place
-  pub front-more : (g v b : ℕ) (set : ClauseList) (d : Demand) (clause : List Literal) → g < 7 → IsDemand s d → group_of d ≡ g → variable_of s (leading d) ≡ v → second_of s d ≡ b ∷ [] → IsClauseFor s d clause
+  pub front-more : (g v b : ℕ) (set : ClauseList) (d : Demand) (clause : List Literal) → g < 7 → IsDemand s d → group_of d ≡ g → variable_of s (leading d) ≡ v
+      → second_of s d ≡ b ∷ [] → IsClauseFor s d clause
       → IsFront s g v b limits set → IsFront s g v (b + 1) limits (record set { clauses = set.clauses ++ clause ∷ [] })
   front-more g v b set d clause few is group variable second is_clause of = record {
     clauses = clauses-more s (IsBelow s g v b) (IsBelow s g v (b + 1)) set.clauses d clause of.clauses is_clause before cases
@@ -177,7 +192,8 @@ module _ (s : SpaceView) (space : IsSpace s) (limits : ClauseList) where
   }
     where
       rank_is : rank_of s d ≡ g ∷ v ∷ b ∷ []
-      rank_is = ap (λ (x : ℕ). x ∷ variable_of s (leading d) ∷ second_of s d) group ∙ ap (λ (x : ℕ). g ∷ x ∷ second_of s d) variable ∙ ap (λ (xs : List ℕ). g ∷ v ∷ xs) second
+      rank_is = ap (λ (x : ℕ). x ∷ variable_of s (leading d) ∷ second_of s d) group ∙ ap (λ (x : ℕ). g ∷ x ∷ second_of s d) variable
+          ∙ ap (λ (xs : List ℕ). g ∷ v ∷ xs) second
 
       here : IsLess (rank_of s d) (g ∷ v ∷ (b + 1) ∷ [])
       here = let Below : List ℕ → Type 0 = λ xs. IsLess xs (g ∷ v ∷ (b + 1) ∷ []) in subst Below (sym rank_is) (inr (refl, inr (refl, inl (omega arith))))
@@ -194,13 +210,24 @@ module _ (s : SpaceView) (space : IsSpace s) (limits : ClauseList) where
       ]
 
   -- why a set stops at the clause of a demand
-  pub stops-at : (set : ClauseList) (d : Demand) (clause : List Literal) (error : PushError) → IsDemand s d → IsClauseFor s d clause → IsSetOf s (λ e. IsDemand s e × IsBefore s e d) limits.clause_limit limits.literal_limit set → IsRefused set clause error → IsCauseAt s limits error
+  pub stops-at : (set : ClauseList) (d : Demand) (clause : List Literal) (error : PushError) → IsDemand s d → IsClauseFor s d clause
+      → IsSetOf s (λ e. IsDemand s e × IsBefore s e d) limits.clause_limit limits.literal_limit set → IsRefused set clause error → IsCauseAt s limits error
   stops-at set d clause error is is_clause of refused = by error refused
     where
       by : (e : PushError) → IsRefused set clause e → IsCauseAt s limits e
       by TooManyClauses r =
           let c = of.clause_limit_is in let l = of.literal_limit_is in
-          record { demand = d; is_demand = is; clause = clause; is_clause = is_clause; front = set.clauses; before = of.clauses; clauses_kept = omega (arith, r.1, c); literals_kept = omega (arith, r.0, l); passes = r.1 ∙ c }
+          record {
+            demand = d;
+            is_demand = is;
+            clause = clause;
+            is_clause = is_clause;
+            front = set.clauses;
+            before = of.clauses;
+            clauses_kept = omega (arith, r.1, c);
+            literals_kept = omega (arith, r.0, l);
+            passes = r.1 ∙ c;
+          }
       by TooManyLiterals r =
           let c = of.clause_limit_is in let l = of.literal_limit_is in
           record {
@@ -217,10 +244,13 @@ module _ (s : SpaceView) (space : IsSpace s) (limits : ClauseList) where
       by NoMemory r = tt
 
   -- the same at this place
-  pub stops : (g v b : ℕ) (set : ClauseList) (d : Demand) (clause : List Literal) (error : PushError) → IsDemand s d → group_of d ≡ g → variable_of s (leading d) ≡ v → second_of s d ≡ b ∷ [] → IsClauseFor s d clause
+  pub stops : (g v b : ℕ) (set : ClauseList) (d : Demand) (clause : List Literal) (error : PushError) → IsDemand s d → group_of d ≡ g
+      → variable_of s (leading d) ≡ v → second_of s d ≡ b ∷ [] → IsClauseFor s d clause
       → IsFront s g v b limits set → IsRefused set clause error → IsCauseAt s limits error
   stops g v b set d clause error is group variable second is_clause of refused =
       let rank_is : rank_of s d ≡ g ∷ v ∷ b ∷ [] =
-      ap (λ (x : ℕ). x ∷ variable_of s (leading d) ∷ second_of s d) group ∙ ap (λ (x : ℕ). g ∷ x ∷ second_of s d) variable ∙ ap (λ (xs : List ℕ). g ∷ v ∷ xs) second in
-      let Of : List ℕ → Type 0 = λ xs. IsSetOf s (λ e. IsDemand s e × (slice_cmp nat_cmp (rank_of s e) xs ≡ Less)) limits.clause_limit limits.literal_limit set in
+      ap (λ (x : ℕ). x ∷ variable_of s (leading d) ∷ second_of s d) group ∙ ap (λ (x : ℕ). g ∷ x ∷ second_of s d) variable
+      ∙ ap (λ (xs : List ℕ). g ∷ v ∷ xs) second in
+      let Of : List ℕ → Type 0 = λ xs. IsSetOf s (λ e. IsDemand s e × (slice_cmp nat_cmp (rank_of s e) xs ≡ Less)) limits.clause_limit limits.literal_limit
+      set in
       stops-at set d clause error is is_clause (subst Of (sym rank_is) of) refused

@@ -1,5 +1,6 @@
 -- Lists of variables to which those of meanings with a property are added, one after another.
-use Rattle.std.proofs.Common.{◌≡◌, ◌⊎◌, ℕ, ◌+◌, ◌<◌, ◌≤◌, List, [], ◌∷◌, ◌++◌, length, get_or, take, drop, Some, refl, sym, ap, subst, ◌∙◌, inl, inr, arith, slice_get}
+use Rattle.std.proofs.Common.{◌≡◌, ◌⊎◌, ℕ, ◌+◌, ◌<◌, ◌≤◌, List, [], ◌∷◌, ◌++◌, length, get_or, take, drop, Some, refl, sym, ap, subst, ◌∙◌, inl, inr, arith}
+use Rattle.std.proofs.Common.{slice_get}
 use Rattle.std.specs.Prelude.{◌↔◌, Any, Contains}
 use Rattle.std.specs.List.Sorted.{IsStrictlyIncreasing}
 use Rattle.std.proofs.lemmas.Bool.{cases_lt}
@@ -43,7 +44,8 @@ any-take-back {X} P xs k x is either =
 -- one of the first elements is one of all
 pub any-first : {X : Type 0} (P : X → Type 0) (xs : List X) (k : ℕ) → Any P (take k xs) → Any P xs
 any-first {X} P xs k any =
-    any-contained P xs any.1 (subst (λ (ys : List X). Contains ys any.1) (take-append-drop k xs) (Contains-append_left (take k xs) (drop k xs) any.1 (any.0, any.2, any.3))) any.4
+    any-contained P xs any.1 (subst (λ (ys : List X). Contains ys any.1) (take-append-drop k xs)
+    (Contains-append_left (take k xs) (drop k xs) any.1 (any.0, any.2, any.3))) any.4
 
 pub any-whole : {X : Type 0} (P : X → Type 0) (xs : List X) (k : ℕ) → length xs ≤ k → Any P xs → Any P (take k xs)
 any-whole {X} P xs k past any = subst (λ (ys : List X). Any P ys) (sym (take_all k xs past)) any
@@ -52,19 +54,35 @@ any-whole {X} P xs k past any = subst (λ (ys : List X). Any P ys) (sym (take_al
 
 module _ (s : SpaceView) where
   pub gathers-nothing : (xs : List ℕ) (P Q : Property) → ((m : Meaning) → IsMeaning s m → Q m → ⊥) → Gathers s xs xs P Q
-  gathers-nothing xs P Q none = record { kept = λ v there. there; only = λ v there. inl there; all = λ v with. absurd (none with.meaning with.is_meaning with.has) }
+  gathers-nothing xs P Q none = record {
+    kept = λ v there. there;
+    only = λ v there. inl there;
+    all = λ v with. absurd (none with.meaning with.is_meaning with.has);
+  }
 
-  pub gathers-weaker : (old new : List ℕ) (P R Q S : Property) → ((m : Meaning) → IsMeaning s m → P m → R m) → ((m : Meaning) → IsMeaning s m → S m → Q m) → Gathers s old new P Q → Gathers s old new R S
+  pub gathers-weaker : (old new : List ℕ) (P R Q S : Property) → ((m : Meaning) → IsMeaning s m → P m → R m) → ((m : Meaning) → IsMeaning s m → S m → Q m)
+      → Gathers s old new P Q → Gathers s old new R S
   gathers-weaker old new P R Q S to back of = record {
     kept = of.kept;
     only = λ v there. elim (of.only v there) [
       | inl first ↦ inl first
-      | inr with ↦ inr (record { meaning = with.meaning; is_meaning = with.is_meaning; has = to with.meaning with.is_meaning with.has; variable_is = with.variable_is })
+      | inr with ↦ inr (record {
+        meaning = with.meaning;
+        is_meaning = with.is_meaning;
+        has = to with.meaning with.is_meaning with.has;
+        variable_is = with.variable_is;
+      })
     ];
-    all = λ v with. of.all v (record { meaning = with.meaning; is_meaning = with.is_meaning; has = back with.meaning with.is_meaning with.has; variable_is = with.variable_is });
+    all = λ v with. of.all v (record {
+      meaning = with.meaning;
+      is_meaning = with.is_meaning;
+      has = back with.meaning with.is_meaning with.has;
+      variable_is = with.variable_is;
+    });
   }
 
-  pub gathers-both : (old mid new : List ℕ) (P Q R S : Property) → Gathers s old mid P Q → Gathers s mid new P R → ((m : Meaning) → IsMeaning s m → S m → Q m ⊎ R m) → Gathers s old new P S
+  pub gathers-both : (old mid new : List ℕ) (P Q R S : Property) → Gathers s old mid P Q → Gathers s mid new P R
+      → ((m : Meaning) → IsMeaning s m → S m → Q m ⊎ R m) → Gathers s old new P S
   gathers-both old mid new P Q R S first second cases = record {
     kept = λ v there. second.kept v (first.kept v there);
     only = λ v there. elim (second.only v there) [
@@ -84,12 +102,14 @@ module _ (s : SpaceView) where
       | inl first ↦ inl first
       | inr same ↦ inr (record { meaning = m; is_meaning = is; has = refl; variable_is = sym value ∙ same })
     ];
-    all = λ v with. subst (λ (w : ℕ). Contains (xs ++ variable ∷ []) w) (value ∙ ap (variable_of s) (sym with.has) ∙ with.variable_is) (Contains-push xs variable);
+    all = λ v with. subst (λ (w : ℕ). Contains (xs ++ variable ∷ []) w) (value ∙ ap (variable_of s) (sym with.has) ∙ with.variable_is)
+        (Contains-push xs variable);
   }
 
   -- one of the meanings with a property, or none
   pub gathers-one : (old new : List ℕ) (m : Meaning) (P : Property) → P m → Adds s old new (λ x. x ≡ m) → Adds s old new (λ x. (x ≡ m) × P x)
-  gathers-one old new m P holds of = gathers-weaker old new (λ x. x ≡ m) (λ x. (x ≡ m) × P x) (λ x. x ≡ m) (λ x. (x ≡ m) × P x) (λ x is same. (same, subst P (sym same) holds)) (λ x is both. both.0) of
+  gathers-one old new m P holds of = gathers-weaker old new (λ x. x ≡ m) (λ x. (x ≡ m) × P x) (λ x. x ≡ m) (λ x. (x ≡ m) × P x)
+      (λ x is same. (same, subst P (sym same) holds)) (λ x is both. both.0) of
 
   pub gathers-not : (xs : List ℕ) (m : Meaning) (P : Property) → ¬ P m → Adds s xs xs (λ x. (x ≡ m) × P x)
   gathers-not xs m P fails = gathers-nothing xs (λ x. (x ≡ m) × P x) (λ x. (x ≡ m) × P x) (λ x is both. fails (subst P both.0 both.1))
@@ -100,12 +120,16 @@ module _ (s : SpaceView) where
     pub each-none : (old : List ℕ) → Gathers s old old P (λ m. Any (λ x. Q x m) (take 0 xs))
     each-none old = gathers-nothing old P (λ m. Any (λ x. Q x m) (take 0 xs)) (λ m is any. any-none (λ x. Q x m) xs any)
 
-    pub each-more : (old mid new : List ℕ) (k : ℕ) (x : X) → slice_get xs k ≡ Some x → Gathers s old mid P (λ m. Any (λ y. Q y m) (take k xs)) → Gathers s mid new P (Q x) → Gathers s old new P (λ m. Any (λ y. Q y m) (take (k + 1) xs))
+    pub each-more : (old mid new : List ℕ) (k : ℕ) (x : X) → slice_get xs k ≡ Some x → Gathers s old mid P (λ m. Any (λ y. Q y m) (take k xs))
+        → Gathers s mid new P (Q x) → Gathers s old new P (λ m. Any (λ y. Q y m) (take (k + 1) xs))
     each-more old mid new k x is first second =
-        gathers-both old mid new P (λ m. Any (λ y. Q y m) (take k xs)) (Q x) (λ m. Any (λ y. Q y m) (take (k + 1) xs)) first second (λ m meaning any. any-take (λ y. Q y m) xs k x is any)
+        gathers-both old mid new P (λ m. Any (λ y. Q y m) (take k xs)) (Q x) (λ m. Any (λ y. Q y m) (take (k + 1) xs)) first second
+        (λ m meaning any. any-take (λ y. Q y m) xs k x is any)
 
-    pub each-whole : (old new : List ℕ) (k : ℕ) → length xs ≤ k → Gathers s old new P (λ m. Any (λ y. Q y m) (take k xs)) → Gathers s old new P (λ m. Any (λ y. Q y m) xs)
-    each-whole old new k past of = gathers-weaker old new P P (λ m. Any (λ y. Q y m) (take k xs)) (λ m. Any (λ y. Q y m) xs) (λ m is p. p) (λ m is any. any-whole (λ y. Q y m) xs k past any) of
+    pub each-whole : (old new : List ℕ) (k : ℕ) → length xs ≤ k → Gathers s old new P (λ m. Any (λ y. Q y m) (take k xs))
+        → Gathers s old new P (λ m. Any (λ y. Q y m) xs)
+    each-whole old new k past of = gathers-weaker old new P P (λ m. Any (λ y. Q y m) (take k xs)) (λ m. Any (λ y. Q y m) xs) (λ m is p. p)
+        (λ m is any. any-whole (λ y. Q y m) xs k past any) of
 
   -- ---- for each number below another one
 
@@ -115,7 +139,8 @@ module _ (s : SpaceView) where
   pub count-none : (old : List ℕ) (P : Property) (Q : ℕ → Property) → Gathers s old old P (UpTo Q 0)
   count-none old P Q = gathers-nothing old P (UpTo Q 0) (λ m is up. absurd (omega (arith, up.1)))
 
-  pub count-more : (old mid new : List ℕ) (P : Property) (Q : ℕ → Property) (k : ℕ) → Gathers s old mid P (UpTo Q k) → Gathers s mid new P (Q k) → Gathers s old new P (UpTo Q (k + 1))
+  pub count-more : (old mid new : List ℕ) (P : Property) (Q : ℕ → Property) (k : ℕ) → Gathers s old mid P (UpTo Q k) → Gathers s mid new P (Q k)
+      → Gathers s old new P (UpTo Q (k + 1))
   count-more old mid new P Q k first second =
       gathers-both old mid new P (UpTo Q k) (Q k) (UpTo Q (k + 1)) first second (λ m is up. elim (cases_lt up.0 k) [
         | inl less ↦ inl (up.0, less, up.2)
@@ -124,14 +149,20 @@ module _ (s : SpaceView) where
 
   -- ---- in order
 
-  pub in-order : (gathered variables : List ℕ) (P Q : Property) → ((m : Meaning) → IsMeaning s m → P m → Q m) → Gathers s [] gathered P Q → IsStrictlyIncreasing variables
+  pub in-order : (gathered variables : List ℕ) (P Q : Property) → ((m : Meaning) → IsMeaning s m → P m → Q m) → Gathers s [] gathered P Q
+      → IsStrictlyIncreasing variables
       → ((v : ℕ) → Contains variables v ↔ Contains gathered v) → AreVariablesOf s Q variables
   in-order gathered variables P Q to of rising same = record {
     rising = rising;
     exact = λ v. (
       (λ there. elim (of.only v ((same v).0 there)) [
         | inl none ↦ absurd (omega (arith, none.1))
-        | inr with ↦ record { meaning = with.meaning; is_meaning = with.is_meaning; has = to with.meaning with.is_meaning with.has; variable_is = with.variable_is }
+        | inr with ↦ record {
+          meaning = with.meaning;
+          is_meaning = with.is_meaning;
+          has = to with.meaning with.is_meaning with.has;
+          variable_is = with.variable_is;
+        }
       ]),
       λ with. (same v).1 (of.all v with),
     );

@@ -1,5 +1,6 @@
 -- Whole groups, and the fronts of items and conflicts.
-use Rattle.std.proofs.Common.{◌≡◌, ◌≢◌, ℕ, ◌+◌, ◌<◌, ◌≤◌, false, List, [], ◌∷◌, ◌++◌, Some, length, get_or, refl, sym, ap, subst, ◌∙◌, arith, inl, inr, slice_get}
+use Rattle.std.proofs.Common.{◌≡◌, ◌≢◌, ℕ, ◌+◌, ◌<◌, ◌≤◌, false, List, [], ◌∷◌, ◌++◌, Some, length, get_or, refl, sym, ap, subst, ◌∙◌, arith, inl, inr}
+use Rattle.std.proofs.Common.{slice_get}
 use Rattle.std.specs.Prelude.{Any, Contains, IsSomeAnd}
 use Rattle.std.proofs.lemmas.Bool.{cases_lt}
 use Rattle.std.proofs.lemmas.List.{get_or_default}
@@ -17,12 +18,14 @@ use Rattle.dist_space_clauses.specs.Groups.{number_of}
 use Rattle.dist_space_clauses.specs.declared.groups.Group.{Group}
 use Rattle.dist_space_clauses.specs.declared.groups.Group.TheVariants.{Classes, Versions, Names, Items, Conflicts, Today}
 use Rattle.dist_space.specs.Space.{IsMeaning, IsSpace, SpaceView, variable_of}
-use Rattle.dist_space_clauses.specs.SpaceClauses.{Demand, OneClass, Gone, Moved, Carried, OneFresh, Item, Apart, StaysNow, AbsentNow, Required, Excludes, IsClauseFor, IsDemand, group_of, leading, rank_of, second_of}
+use Rattle.dist_space_clauses.specs.SpaceClauses.{Demand, OneClass, Gone, Moved, Carried, OneFresh, Item, Apart, StaysNow, AbsentNow, Required, Excludes}
+use Rattle.dist_space_clauses.specs.SpaceClauses.{IsClauseFor, IsDemand, group_of, leading, rank_of, second_of}
 use Rattle.dist_space_clauses.specs.SpaceSet.{IsCause, IsSetOf}
 use Rattle.dist_space.specs.declared.meaning.Meaning.{Meaning}
 use Rattle.dist_space.specs.declared.meaning.Meaning.TheVariants.{Present}
 use Rattle.dist_space_clauses.proofs.DemandLists.{clauses-none}
-use Rattle.dist_space_clauses.proofs.Fronts.{below-cases, cases-below, first-number, front-more, front-skip, front-variable, leading-is, leads, second-one, set-shift, stops}
+use Rattle.dist_space_clauses.proofs.Fronts.{below-cases, cases-below, first-number, front-more, front-skip, front-variable, leading-is, leads, second-one}
+use Rattle.dist_space_clauses.proofs.Fronts.{set-shift, stops}
 use Rattle.dist_space.specs.VariableLaws.{variable-range}
 use Rattle.dist_space.specs.KeyLaws.{IsLess}
 use Rattle.dist_space_clauses.proofs.LedFronts.{IsPairAt}
@@ -35,11 +38,18 @@ module _ (s : SpaceView) (P : Demand → Type 0) (limits : ClauseList) where
   own-limits set of = record { clauses = of.clauses; variables = of.variables; clause_limit_is = refl; literal_limit_is = refl }
 
   -- one set after another
-  pub same-limits : (Q : Demand → Type 0) (set new : ClauseList) → IsSetOf s P limits.clause_limit limits.literal_limit set → IsSetOf s Q set.clause_limit set.literal_limit new → IsSetOf s Q limits.clause_limit limits.literal_limit new
-  same-limits Q set new of next = record { clauses = next.clauses; variables = next.variables; clause_limit_is = next.clause_limit_is ∙ of.clause_limit_is; literal_limit_is = next.literal_limit_is ∙ of.literal_limit_is }
+  pub same-limits : (Q : Demand → Type 0) (set new : ClauseList) → IsSetOf s P limits.clause_limit limits.literal_limit set
+      → IsSetOf s Q set.clause_limit set.literal_limit new → IsSetOf s Q limits.clause_limit limits.literal_limit new
+  same-limits Q set new of next = record {
+    clauses = next.clauses;
+    variables = next.variables;
+    clause_limit_is = next.clause_limit_is ∙ of.clause_limit_is;
+    literal_limit_is = next.literal_limit_is ∙ of.literal_limit_is;
+  }
 
   -- a cause on the way is one
-  pub same-cause : (set : ClauseList) → IsSetOf s P limits.clause_limit limits.literal_limit set → (error : PushError) → IsCauseAt s set error → IsCauseAt s limits error
+  pub same-cause : (set : ClauseList) → IsSetOf s P limits.clause_limit limits.literal_limit set → (error : PushError) → IsCauseAt s set error
+      → IsCauseAt s limits error
   same-cause set of error cause =
       let Clauses : ℕ → Type 0 = λ n. IsCause s n limits.literal_limit error in
       let Literals : ℕ → Type 0 = λ n. IsCause s set.clause_limit n error in
@@ -64,12 +74,23 @@ never-itself s n m excluded same =
     let own : Excludes s n here.element (Present n) = subst (Excludes s n here.element) (sym same) here.holds in
     omega (arith, own.0)
 
-pub excluded-by : (s : SpaceView) (n : ℕ) (p : Package) (variables : List ℕ) → slice_get s.repository.packages n ≡ Some p → AreVariablesOf s (Excludes s n p) variables → AreVariablesOf s (ExcludedBy s n) variables
+pub excluded-by : (s : SpaceView) (n : ℕ) (p : Package) (variables : List ℕ) → slice_get s.repository.packages n ≡ Some p
+    → AreVariablesOf s (Excludes s n p) variables → AreVariablesOf s (ExcludedBy s n) variables
 excluded-by s n p variables is are = record {
   rising = are.rising;
   exact = λ v. (
-    (λ there. let with = (are.exact v).0 there in record { meaning = with.meaning; is_meaning = with.is_meaning; has = at-has (λ (q : Package). Excludes s n q with.meaning) s.repository.packages n p is with.has; variable_is = with.variable_is }),
-    λ with. (are.exact v).1 (record { meaning = with.meaning; is_meaning = with.is_meaning; has = has-at (λ (q : Package). Excludes s n q with.meaning) s.repository.packages n p is with.has; variable_is = with.variable_is }),
+    (λ there. let with = (are.exact v).0 there in record {
+      meaning = with.meaning;
+      is_meaning = with.is_meaning;
+      has = at-has (λ (q : Package). Excludes s n q with.meaning) s.repository.packages n p is with.has;
+      variable_is = with.variable_is;
+    }),
+    λ with. (are.exact v).1 (record {
+      meaning = with.meaning;
+      is_meaning = with.is_meaning;
+      has = has-at (λ (q : Package). Excludes s n q with.meaning) s.repository.packages n p is with.has;
+      variable_is = with.variable_is;
+    }),
   );
 }
 
@@ -80,13 +101,25 @@ pub record IsPairFront (s : SpaceView) (limits : ClauseList) (n : ℕ) (others :
   pub high : (k : ℕ) → count ≤ k → k < length others → bound ≤ get_or others k 0
   pub front : IsFront s 5 (variable_of s (Present n)) bound limits set
 
-pub pairs-start : (s : SpaceView) (limits : ClauseList) (n : ℕ) (others : List ℕ) (set : ClauseList) → IsFront s 5 (variable_of s (Present n)) 0 limits set → IsPairFront s limits n others 0 set
-pairs-start s limits n others set front = record { bound = 0; low = λ k less short. absurd (omega (arith, less)); high = λ k more short. omega arith; front = front }
+pub pairs-start : (s : SpaceView) (limits : ClauseList) (n : ℕ) (others : List ℕ) (set : ClauseList) → IsFront s 5 (variable_of s (Present n)) 0 limits set
+    → IsPairFront s limits n others 0 set
+pairs-start s limits n others set front = record {
+  bound = 0;
+  low = λ k less short. absurd (omega (arith, less));
+  high = λ k more short. omega arith;
+  front = front;
+}
 
 -- an empty set
 pub groups-none : (s : SpaceView) (variables clause_limit literal_limit : ℕ) → variables ≡ length s.meanings
-    → let set : ClauseList = record { clauses = []; variables = variables; clause_limit = clause_limit; literal_limit = literal_limit } in IsGroupsFront s 1 set set
-groups-none s variables clause_limit literal_limit is = record { clauses = clauses-none s (λ d. IsDemand s d × (group_of d < 1)) (λ d h. from-one d h.1); variables = is; clause_limit_is = refl; literal_limit_is = refl }
+    → let set : ClauseList = record { clauses = []; variables = variables; clause_limit = clause_limit; literal_limit = literal_limit } in
+    IsGroupsFront s 1 set set
+groups-none s variables clause_limit literal_limit is = record {
+  clauses = clauses-none s (λ d. IsDemand s d × (group_of d < 1)) (λ d h. from-one d h.1);
+  variables = is;
+  clause_limit_is = refl;
+  literal_limit_is = refl;
+}
   where
     from-one : (d : Demand) → ¬ (group_of d < 1)
     from-one (OneClass c k l) less = omega (arith, less)
@@ -107,7 +140,8 @@ module _ (s : SpaceView) (space : IsSpace s) (limits : ClauseList) where
   Before g d = IsDemand s d × (group_of d < g)
 
   abbrev Below : (g v b : ℕ) → Demand → Type 0
-  Below g v b d = IsDemand s d × (Rattle.std.specs.Cmp.Lexicographic.slice_cmp Rattle.std.specs.Ordering.nat_cmp (rank_of s d) (g ∷ v ∷ b ∷ []) ≡ Rattle.std.specs.declared.cmp.Ordering.TheVariants.Less)
+  Below g v b d = IsDemand s d × (Rattle.std.specs.Cmp.Lexicographic.slice_cmp Rattle.std.specs.Ordering.nat_cmp (rank_of s d) (g ∷ v ∷ b ∷ [])
+      ≡ Rattle.std.specs.declared.cmp.Ordering.TheVariants.Less)
 
   -- from the groups before one to its first variable
   pub groups-open : (g : ℕ) (set : ClauseList) → g < 7 → IsGroupsFront s g limits set → IsFront s g 1 0 limits set
@@ -152,29 +186,37 @@ module _ (s : SpaceView) (space : IsSpace s) (limits : ClauseList) where
   item-of d n k group lead second = absurd (omega (arith, group))
 
   module _ (n : ℕ) (is_meaning : IsMeaning s (Present n)) where
-    pub item-from : (d : Demand) (k : ℕ) → IsDemand s d → group_of d ≡ 4 → variable_of s (leading d) ≡ variable_of s (Present n) → second_of s d ≡ k ∷ [] → IsDemand s (Item n k)
+    pub item-from : (d : Demand) (k : ℕ) → IsDemand s d → group_of d ≡ 4 → variable_of s (leading d) ≡ variable_of s (Present n) → second_of s d ≡ k ∷ []
+        → IsDemand s (Item n k)
     item-from d k is group variable second =
         subst (IsDemand s) (item-of d n k group (leads s d (variable_of s (Present n)) (Present n) space is is_meaning refl variable) second) is
 
     -- an item that is none
-    pub item-skipped : (place : ℕ) (set : ClauseList) → ¬ IsDemand s (Item n place) → IsFront s 4 (variable_of s (Present n)) place limits set → IsFront s 4 (variable_of s (Present n)) (place + 1) limits set
+    pub item-skipped : (place : ℕ) (set : ClauseList) → ¬ IsDemand s (Item n place) → IsFront s 4 (variable_of s (Present n)) place limits set
+        → IsFront s 4 (variable_of s (Present n)) (place + 1) limits set
     item-skipped place set none of =
         front-skip s space limits 4 (variable_of s (Present n)) place (place + 1) set (omega arith)
         (λ d is group variable k second less. elim (cases_lt k place) [
           | inl below ↦ below
-          | inr most ↦ absurd (none (let same : k ≡ place = omega (arith, less, most) in subst (λ (i : ℕ). IsDemand s (Item n i)) same (item-from d k is group variable second)))
+          | inr most ↦ absurd (none (let same : k ≡ place = omega (arith, less, most) in
+              subst (λ (i : ℕ). IsDemand s (Item n i)) same (item-from d k is group variable second)))
         ])
         (omega arith) of
 
-    pub item-pushed : (place : ℕ) (set : ClauseList) (clause : List Literal) → IsDemand s (Item n place) → IsClauseFor s (Item n place) clause → IsFront s 4 (variable_of s (Present n)) place limits set
+    pub item-pushed : (place : ℕ) (set : ClauseList) (clause : List Literal) → IsDemand s (Item n place) → IsClauseFor s (Item n place) clause
+        → IsFront s 4 (variable_of s (Present n)) place limits set
         → IsFront s 4 (variable_of s (Present n)) (place + 1) limits (record set { clauses = set.clauses ++ clause ∷ [] })
-    item-pushed place set clause demand is of = front-more s space limits 4 (variable_of s (Present n)) place set (Item n place) clause (omega arith) demand refl refl refl is of
+    item-pushed place set clause demand is of = front-more s space limits 4 (variable_of s (Present n)) place set (Item n place) clause (omega arith) demand
+        refl refl refl is of
 
-    pub item-stops : (place : ℕ) (set : ClauseList) (clause : List Literal) (error : PushError) → IsDemand s (Item n place) → IsClauseFor s (Item n place) clause → IsFront s 4 (variable_of s (Present n)) place limits set
+    pub item-stops : (place : ℕ) (set : ClauseList) (clause : List Literal) (error : PushError) → IsDemand s (Item n place)
+        → IsClauseFor s (Item n place) clause → IsFront s 4 (variable_of s (Present n)) place limits set
         → IsRefused set clause error → IsCauseAt s limits error
-    item-stops place set clause error demand is of refused = stops s space limits 4 (variable_of s (Present n)) place set (Item n place) clause error demand refl refl refl is of refused
+    item-stops place set clause error demand is of refused =
+        stops s space limits 4 (variable_of s (Present n)) place set (Item n place) clause error demand refl refl refl is of refused
 
-    pub items-end : (count : ℕ) (p : Package) (set : ClauseList) → slice_get s.repository.packages n ≡ Some p → length p.depends ≤ count → IsFront s 4 (variable_of s (Present n)) count limits set → IsFront s 4 (variable_of s (Present n) + 1) 0 limits set
+    pub items-end : (count : ℕ) (p : Package) (set : ClauseList) → slice_get s.repository.packages n ≡ Some p → length p.depends ≤ count
+        → IsFront s 4 (variable_of s (Present n)) count limits set → IsFront s 4 (variable_of s (Present n) + 1) 0 limits set
     items-end count p set is_p past of =
         front-variable s space limits 4 (variable_of s (Present n)) count set
         (λ d is group variable k second.
@@ -210,7 +252,8 @@ module _ (s : SpaceView) (space : IsSpace s) (limits : ClauseList) where
     rises i j less short = AllPairs-from_increasing others are.rising i j 0 less short
 
     -- a demand's variable is one of them
-    there : (d : Demand) (k : ℕ) → IsDemand s d → group_of d ≡ 5 → variable_of s (leading d) ≡ variable_of s (Present n) → second_of s d ≡ k ∷ [] → Contains others k
+    there : (d : Demand) (k : ℕ) → IsDemand s d → group_of d ≡ 5 → variable_of s (leading d) ≡ variable_of s (Present n) → second_of s d ≡ k ∷ []
+        → Contains others k
     there d k is group variable second =
         let apart = apart-of d n k group (leads s d (variable_of s (Present n)) (Present n) space is is_meaning refl variable) second in
         let demand : IsDemand s (Apart n apart.other) = subst (IsDemand s) apart.is is in
@@ -224,7 +267,8 @@ module _ (s : SpaceView) (space : IsSpace s) (limits : ClauseList) where
     next-with count short = (are.exact (get_or others count 0)).0 (count, short, get_or_default others count (get_or others count 0) 0 short)
 
     -- the front up to the next variable
-    pub pair-next : (count : ℕ) (set : ClauseList) → count < length others → IsPairFront s limits n others count set → IsFront s 5 (variable_of s (Present n)) (get_or others count 0) limits set
+    pub pair-next : (count : ℕ) (set : ClauseList) → count < length others → IsPairFront s limits n others count set
+        → IsFront s 5 (variable_of s (Present n)) (get_or others count 0) limits set
     pair-next count set short of =
         front-skip s space limits 5 (variable_of s (Present n)) of.bound (get_or others count 0) set (of.high count (omega arith) short)
         (λ d is group variable k second less.
@@ -234,7 +278,8 @@ module _ (s : SpaceView) (space : IsSpace s) (limits : ClauseList) where
           | inl early ↦ let h = of.low here.0 early here.1 in omega (arith, h, same)
           | inr late ↦ elim (cases_lt count here.0) [
             | inl later ↦ let h = rises count here.0 later here.1 in absurd (omega (arith, h, same, less))
-            | inr most ↦ let at : here.0 ≡ count = omega (arith, late, most) in let also : get_or others here.0 0 ≡ get_or others count 0 = ap (λ (i : ℕ). get_or others i 0) at in absurd (omega (arith, also, same, less))
+            | inr most ↦ let at : here.0 ≡ count = omega (arith, late, most) in let also : get_or others here.0 0 ≡ get_or others count 0 =
+                ap (λ (i : ℕ). get_or others i 0) at in absurd (omega (arith, also, same, less))
           ]
         ])
         (omega arith) of.front
@@ -253,18 +298,21 @@ module _ (s : SpaceView) (space : IsSpace s) (limits : ClauseList) where
       apart = other;
     }
 
-    pub pair-further : (count : ℕ) (new : ClauseList) → count < length others → IsFront s 5 (variable_of s (Present n)) (get_or others count 0 + 1) limits new → IsPairFront s limits n others (count + 1) new
+    pub pair-further : (count : ℕ) (new : ClauseList) → count < length others → IsFront s 5 (variable_of s (Present n)) (get_or others count 0 + 1) limits new
+        → IsPairFront s limits n others (count + 1) new
     pair-further count new short front = record {
       bound = get_or others count 0 + 1;
       low = λ k less within. elim (cases_lt k count) [
         | inl early ↦ let h = rises k count early short in omega (arith, h)
-        | inr most ↦ let same : k ≡ count = omega (arith, less, most) in let also : get_or others k 0 ≡ get_or others count 0 = ap (λ (i : ℕ). get_or others i 0) same in omega (arith, also)
+        | inr most ↦ let same : k ≡ count = omega (arith, less, most) in let also : get_or others k 0 ≡ get_or others count 0 =
+            ap (λ (i : ℕ). get_or others i 0) same in omega (arith, also)
       ];
       high = λ k more within. let h = rises count k (omega (arith, more)) within in omega (arith, h);
       front = front;
     }
 
-    pub pairs-end : (count : ℕ) (set : ClauseList) → length others ≤ count → IsPairFront s limits n others count set → IsFront s 5 (variable_of s (Present n) + 1) 0 limits set
+    pub pairs-end : (count : ℕ) (set : ClauseList) → length others ≤ count → IsPairFront s limits n others count set
+        → IsFront s 5 (variable_of s (Present n) + 1) 0 limits set
     pairs-end count set past of =
         front-variable s space limits 5 (variable_of s (Present n)) of.bound set
         (λ d is group variable k second.

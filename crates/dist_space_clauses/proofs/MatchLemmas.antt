@@ -19,19 +19,24 @@ module _ (s : SpaceView) (atom : Atom) where
   abbrev EntryMatches : (r k : ℕ) → Package → Provide → Type 0
   EntryMatches r k p entry = MatchesByEntry s.repository.architecture atom (moved_entry p.version (example_at (member_classes s r) k) entry)
 
-  pub kept-matched : (r k j : ℕ) (p : Package) (entry : Provide) (example : List ℕ) → slice_get s.repository.packages r ≡ Some p → slice_get p.provides j ≡ Some entry → example ≡ example_at (member_classes s r) k
+  pub kept-matched : (r k j : ℕ) (p : Package) (entry : Provide) (example : List ℕ) → slice_get s.repository.packages r ≡ Some p
+      → slice_get p.provides j ≡ Some entry → example ≡ example_at (member_classes s r) k
       → MatchesByEntry s.repository.architecture atom (moved_entry p.version example entry) → IsMatchedBy s atom (Kept r k j)
   kept-matched r k j p entry example is_p is_entry is matches =
       at-has (λ (q : Package). IsSomeAnd (slice_get q.provides j) (EntryMatches r k q)) s.repository.packages r p is_p
-      (at-has (EntryMatches r k p) p.provides j entry is_entry (subst (λ (x : List ℕ). MatchesByEntry s.repository.architecture atom (moved_entry p.version x entry)) is matches))
+      (at-has (EntryMatches r k p) p.provides j entry is_entry
+      (subst (λ (x : List ℕ). MatchesByEntry s.repository.architecture atom (moved_entry p.version x entry)) is matches))
 
-  pub matched-kept : (r k j : ℕ) (p : Package) (entry : Provide) (example : List ℕ) → slice_get s.repository.packages r ≡ Some p → slice_get p.provides j ≡ Some entry → example ≡ example_at (member_classes s r) k
+  pub matched-kept : (r k j : ℕ) (p : Package) (entry : Provide) (example : List ℕ) → slice_get s.repository.packages r ≡ Some p
+      → slice_get p.provides j ≡ Some entry → example ≡ example_at (member_classes s r) k
       → IsMatchedBy s atom (Kept r k j) → MatchesByEntry s.repository.architecture atom (moved_entry p.version example entry)
   matched-kept r k j p entry example is_p is_entry is matched =
       let inner = has-at (λ (q : Package). IsSomeAnd (slice_get q.provides j) (EntryMatches r k q)) s.repository.packages r p is_p matched in
-      subst (λ (x : List ℕ). MatchesByEntry s.repository.architecture atom (moved_entry p.version x entry)) (sym is) (has-at (EntryMatches r k p) p.provides j entry is_entry inner)
+      subst (λ (x : List ℕ). MatchesByEntry s.repository.architecture atom (moved_entry p.version x entry)) (sym is)
+      (has-at (EntryMatches r k p) p.provides j entry is_entry inner)
 
-  pub kept-meaning : (r k j : ℕ) (p : Package) (entry : Provide) → slice_get s.repository.packages r ≡ Some p → slice_get p.provides j ≡ Some entry → k < length (member_classes s r) → IsUsable s.repository.architecture entry.qualifier → IsMeaning s (Kept r k j)
+  pub kept-meaning : (r k j : ℕ) (p : Package) (entry : Provide) → slice_get s.repository.packages r ≡ Some p → slice_get p.provides j ≡ Some entry
+      → k < length (member_classes s r) → IsUsable s.repository.architecture entry.qualifier → IsMeaning s (Kept r k j)
   kept-meaning r k j p entry is_p is_entry short usable = (
     at-has (λ (q : Package). IsSomeAnd (slice_get q.provides j) (λ e. IsUsable s.repository.architecture e.qualifier)) s.repository.packages r p is_p
         (at-has (λ (e : Provide). IsUsable s.repository.architecture e.qualifier) p.provides j entry is_entry usable),
@@ -41,16 +46,19 @@ module _ (s : SpaceView) (atom : Atom) where
   abbrev NameMeets : (r k : ℕ) → Package → Type 0
   NameMeets r k p = (p.name ≡ atom.name) × MeetsBound atom (example_at (member_classes s r) k)
 
-  pub new-matched : (r k : ℕ) (p : Package) (example : List ℕ) → slice_get s.repository.packages r ≡ Some p → example ≡ example_at (member_classes s r) k → p.name ≡ atom.name → MeetsBound atom example → IsMatchedBy s atom (New r k)
+  pub new-matched : (r k : ℕ) (p : Package) (example : List ℕ) → slice_get s.repository.packages r ≡ Some p → example ≡ example_at (member_classes s r) k
+      → p.name ≡ atom.name → MeetsBound atom example → IsMatchedBy s atom (New r k)
   new-matched r k p example is_p is name meets = at-has (NameMeets r k) s.repository.packages r p is_p (name, subst (MeetsBound atom) is meets)
 
   abbrev FreshMeets : (x k : ℕ) → List ℕ → Type 0
   FreshMeets x k name = (name ≡ atom.name) × MeetsBound atom (example_at (fresh_classes s x) k)
 
-  pub fresh-matched : (x k : ℕ) (example : List ℕ) → slice_get s.names x ≡ Some atom.name → example ≡ example_at (fresh_classes s x) k → MeetsBound atom example → IsMatchedBy s atom (Fresh x k)
+  pub fresh-matched : (x k : ℕ) (example : List ℕ) → slice_get s.names x ≡ Some atom.name → example ≡ example_at (fresh_classes s x) k → MeetsBound atom example
+      → IsMatchedBy s atom (Fresh x k)
   fresh-matched x k example is_x is meets = at-has (FreshMeets x k) s.names x atom.name is_x (refl, subst (MeetsBound atom) is meets)
 
-  pub matched-fresh : (x k : ℕ) (example : List ℕ) → slice_get s.names x ≡ Some atom.name → example ≡ example_at (fresh_classes s x) k → IsMatchedBy s atom (Fresh x k) → MeetsBound atom example
+  pub matched-fresh : (x k : ℕ) (example : List ℕ) → slice_get s.names x ≡ Some atom.name → example ≡ example_at (fresh_classes s x) k
+      → IsMatchedBy s atom (Fresh x k) → MeetsBound atom example
   matched-fresh x k example is_x is matched = subst (MeetsBound atom) (sym is) (has-at (FreshMeets x k) s.names x atom.name is_x matched).1
 
   -- the new name that a matched package of one has
@@ -65,7 +73,8 @@ module _ (s : SpaceView) (atom : Atom) where
   pub kept-among : (r k j : ℕ) (m : Meaning) → MatchedAnd (λ x. x ≡ Kept r k j) m → MatchedAnd (IsKeptOf r k) m
   kept-among r k j m both = (subst (IsKeptOf r k) (sym both.0) (refl, refl), both.1)
 
-  pub kept-one : (r k : ℕ) (p : Package) (m : Meaning) → slice_get s.repository.packages r ≡ Some p → MatchedAnd (IsKeptOf r k) m → (j : ℕ) × (j < length p.provides) × MatchedAnd (λ x. x ≡ Kept r k j) m
+  pub kept-one : (r k : ℕ) (p : Package) (m : Meaning) → slice_get s.repository.packages r ≡ Some p → MatchedAnd (IsKeptOf r k) m → (j : ℕ)
+      × (j < length p.provides) × MatchedAnd (λ x. x ≡ Kept r k j) m
   kept-one r k p Now is both = absurd both.0
   kept-one r k p (Present n) is both = absurd both.0
   kept-one r k p (At c l) is both = absurd both.0
@@ -103,7 +112,8 @@ module _ (s : SpaceView) (atom : Atom) where
   version-later r k (Kept n l j) both = (both.0.0, both.1)
   version-later r k (Fresh x l) both = absurd both.0
 
-  pub later-version : (r : ℕ) (m : Meaning) → IsMeaning s m → MatchedAnd (IsLaterOf r) m → (k : ℕ) × (k < length (member_classes s r)) × MatchedAnd (IsOfVersion r k) m
+  pub later-version : (r : ℕ) (m : Meaning) → IsMeaning s m → MatchedAnd (IsLaterOf r) m → (k : ℕ) × (k < length (member_classes s r))
+      × MatchedAnd (IsOfVersion r k) m
   later-version r Now is both = absurd both.0
   later-version r (Present n) is both = absurd both.0
   later-version r (At c l) is both = absurd both.0
@@ -114,7 +124,8 @@ module _ (s : SpaceView) (atom : Atom) where
   pub fresh-among : (x k : ℕ) (m : Meaning) → MatchedAnd (λ y. y ≡ Fresh x k) m → MatchedAnd IsFresh m
   fresh-among x k m both = (subst IsFresh (sym both.0) tt, both.1)
 
-  pub fresh-one : (x : ℕ) (m : Meaning) → ((y : ℕ) → slice_get s.names y ≡ Some atom.name → Some y ≡ Some x) → IsMeaning s m → MatchedAnd IsFresh m → (k : ℕ) × (k < length (fresh_classes s x)) × MatchedAnd (λ y. y ≡ Fresh x k) m
+  pub fresh-one : (x : ℕ) (m : Meaning) → ((y : ℕ) → slice_get s.names y ≡ Some atom.name → Some y ≡ Some x) → IsMeaning s m → MatchedAnd IsFresh m → (k : ℕ)
+      × (k < length (fresh_classes s x)) × MatchedAnd (λ y. y ≡ Fresh x k) m
   fresh-one x Now one is both = absurd both.0
   fresh-one x (Present n) one is both = absurd both.0
   fresh-one x (At c l) one is both = absurd both.0
@@ -135,10 +146,13 @@ module _ (s : SpaceView) (atom : Atom) where
   -- ---- all of them
 
   -- what is matched is of a package that has or provides the name, or of a new name
-  pub matched-cases : (providers : List ℕ) (m : Meaning) → AreProviders s.repository atom.name providers → IsMatchedBy s atom m → Any (λ number. MatchedAnd (IsOf number) m) providers ⊎ MatchedAnd IsFresh m
+  pub matched-cases : (providers : List ℕ) (m : Meaning) → AreProviders s.repository atom.name providers → IsMatchedBy s atom m
+      → Any (λ number. MatchedAnd (IsOf number) m) providers ⊎ MatchedAnd IsFresh m
   matched-cases providers Now are matched = absurd matched
   matched-cases providers (Present r) are matched =
-      inl (any-contained (λ (number : ℕ). MatchedAnd (IsOf number) (Present r)) providers r ((are.exact r).1 (at-more (Matches s.repository.architecture atom) (IsProvider s.repository.architecture atom.name) provides s.repository.packages r matched)) (inl refl, matched))
+      inl (any-contained (λ (number : ℕ). MatchedAnd (IsOf number) (Present r)) providers r
+      ((are.exact r).1 (at-more (Matches s.repository.architecture atom) (IsProvider s.repository.architecture atom.name) provides s.repository.packages r
+      matched)) (inl refl, matched))
     where
       provides : (p : Package) → Matches s.repository.architecture atom p → IsProvider s.repository.architecture atom.name p
       provides p matches = elim matches.matched [
@@ -147,14 +161,20 @@ module _ (s : SpaceView) (atom : Atom) where
       ]
   matched-cases providers (At c k) are matched = absurd matched
   matched-cases providers (New r k) are matched =
-      inl (any-contained (λ (number : ℕ). MatchedAnd (IsOf number) (New r k)) providers r ((are.exact r).1 (at-more (NameMeets r k) (IsProvider s.repository.architecture atom.name) (λ p both. inl both.0) s.repository.packages r matched)) (inr refl, matched))
+      inl (any-contained (λ (number : ℕ). MatchedAnd (IsOf number) (New r k)) providers r
+      ((are.exact r).1 (at-more (NameMeets r k) (IsProvider s.repository.architecture atom.name) (λ p both. inl both.0) s.repository.packages r matched))
+      (inr refl, matched))
   matched-cases providers (Kept r k j) are matched =
       inl (any-contained (λ (number : ℕ). MatchedAnd (IsOf number) (Kept r k j)) providers r
-      ((are.exact r).1 (at-more (λ (p : Package). IsSomeAnd (slice_get p.provides j) (EntryMatches r k p)) (IsProvider s.repository.architecture atom.name) provides s.repository.packages r matched)) (inr refl, matched))
+      ((are.exact r).1 (at-more (λ (p : Package). IsSomeAnd (slice_get p.provides j) (EntryMatches r k p)) (IsProvider s.repository.architecture atom.name)
+      provides s.repository.packages r matched)) (inr refl, matched))
     where
       provides : (p : Package) → IsSomeAnd (slice_get p.provides j) (EntryMatches r k p) → IsProvider s.repository.architecture atom.name p
-      provides p here = let entry = here-at (EntryMatches r k p) p.provides j here in inr (any-at _ p.provides j entry.element entry.is (entry.holds.usable, entry.holds.name))
+      provides p here = let entry = here-at (EntryMatches r k p) p.provides j here in
+          inr (any-at _ p.provides j entry.element entry.is (entry.holds.usable, entry.holds.name))
   matched-cases providers (Fresh x k) are matched = inr (tt, matched)
 
-  pub provider-within : (providers : List ℕ) (number : ℕ) → AreProviders s.repository atom.name providers → Contains providers number → number < length s.repository.packages
-  provider-within providers number are there = within-from (IsProvider s.repository.architecture atom.name) s.repository.packages number ((are.exact number).0 there)
+  pub provider-within : (providers : List ℕ) (number : ℕ) → AreProviders s.repository atom.name providers → Contains providers number
+      → number < length s.repository.packages
+  provider-within providers number are there = within-from (IsProvider s.repository.architecture atom.name) s.repository.packages number
+      ((are.exact number).0 there)

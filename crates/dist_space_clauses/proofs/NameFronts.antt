@@ -1,5 +1,6 @@
 -- The clauses of essential names, package by package.
-use Rattle.std.proofs.Common.{◌≡◌, ◌⊎◌, ℕ, zero, suc, ◌+◌, ◌<◌, ◌≤◌, Bool, true, false, cond, List, [], ◌∷◌, ◌++◌, length, get_or, map, nat_cmp, Ordering, Less, Equal, Greater, refl, sym, ap, subst, ◌∙◌, arith, inl, inr, Some, slice_get}
+use Rattle.std.proofs.Common.{◌≡◌, ◌⊎◌, ℕ, zero, suc, ◌+◌, ◌<◌, ◌≤◌, Bool, true, false, cond, List, [], ◌∷◌, ◌++◌, length, get_or, map, nat_cmp, Ordering, Less}
+use Rattle.std.proofs.Common.{Equal, Greater, refl, sym, ap, subst, ◌∙◌, arith, inl, inr, Some, slice_get}
 use Rattle.std.specs.Prelude.{All, Contains, filter}
 use Rattle.std.specs.Cmp.Lexicographic.{slice_cmp}
 use Rattle.std.specs.Ordering.{is_eq, ordering_reverse, ordering_then}
@@ -19,7 +20,8 @@ use Rattle.dist_repo.specs.PackageList.{IsPackageAnd}
 use Rattle.dist_repo.specs.declared.package.Package.{Package}
 use Rattle.dist_space_clauses.specs.Gathering.{IsGroupsFront, IsNamedBelow, IsNamedFront, IsNamedSoFar, IsWholeSet}
 use Rattle.dist_space.specs.Space.{IsSpace, SpaceView}
-use Rattle.dist_space_clauses.specs.SpaceClauses.{Demand, OneClass, Gone, Moved, Carried, OneFresh, Item, Apart, StaysNow, AbsentNow, Required, IsBefore, IsClauseFor, IsDemand, group_of, rank_of}
+use Rattle.dist_space_clauses.specs.SpaceClauses.{Demand, OneClass, Gone, Moved, Carried, OneFresh, Item, Apart, StaysNow, AbsentNow, Required, IsBefore}
+use Rattle.dist_space_clauses.specs.SpaceClauses.{IsClauseFor, IsDemand, group_of, rank_of}
 use Rattle.dist_space_clauses.specs.SpaceSet.{IsSetOf}
 use Rattle.dist_space_clauses.proofs.DemandLists.{clauses-more}
 use Rattle.dist_space_clauses.proofs.Fronts.{set-shift}
@@ -31,7 +33,8 @@ use Rattle.dist_space.specs.ClusterLaws.{names-apart}
 abbrev EachPassed : {X : Type 0} → (X → Bool) → (X → Type 0) → List X → Type 0
 EachPassed {X} test P xs = (k : ℕ) (x : X) → slice_get xs k ≡ Some x → test x ≡ true → P x
 
-passed-more : {X : Type 0} (test : X → Bool) (P : X → Type 0) (x : X) (xs : List X) (answer : Bool) → test x ≡ answer → (test x ≡ true → P x) → All P (filter test xs) → All P (cond answer (x ∷ filter test xs) (filter test xs))
+passed-more : {X : Type 0} (test : X → Bool) (P : X → Type 0) (x : X) (xs : List X) (answer : Bool) → test x ≡ answer → (test x ≡ true → P x)
+    → All P (filter test xs) → All P (cond answer (x ∷ filter test xs) (filter test xs))
 passed-more test P x xs true passes here later = All-cons P x (filter test xs) (here passes) later
 passed-more test P x xs false fails here later = later
 
@@ -39,11 +42,13 @@ all-passed : {X : Type 0} (test : X → Bool) (P : X → Type 0) (xs : List X) �
 all-passed test P [] each = All-nil P
 all-passed test P (x ∷ xs) each = passed-more test P x xs (test x) refl (each 0 x refl) (all-passed test P xs (λ k y is. each (suc k) y is))
 
-passed-head : {X : Type 0} (test : X → Bool) (P : X → Type 0) (x : X) (xs : List X) (answer : Bool) → test x ≡ answer → All P (cond answer (x ∷ filter test xs) (filter test xs)) → test x ≡ true → P x
+passed-head : {X : Type 0} (test : X → Bool) (P : X → Type 0) (x : X) (xs : List X) (answer : Bool) → test x ≡ answer
+    → All P (cond answer (x ∷ filter test xs) (filter test xs)) → test x ≡ true → P x
 passed-head test P x xs true told all passes = all 0 x (omega arith)
 passed-head test P x xs false told all passes = cc
 
-passed-later : {X : Type 0} (test : X → Bool) (P : X → Type 0) (x : X) (xs : List X) (answer : Bool) → All P (cond answer (x ∷ filter test xs) (filter test xs)) → All P (filter test xs)
+passed-later : {X : Type 0} (test : X → Bool) (P : X → Type 0) (x : X) (xs : List X) (answer : Bool) → All P (cond answer (x ∷ filter test xs) (filter test xs))
+    → All P (filter test xs)
 passed-later test P x xs true all = All-tail P x (filter test xs) all
 passed-later test P x xs false all = all
 
@@ -65,7 +70,8 @@ abbrev IsEssentialOf : List ℕ → Package → Type 0
 IsEssentialOf name p = (p.essential ≡ true) × (p.name ≡ name)
 
 -- an essential package's name is required
-required-from : (packages : List Package) (n : ℕ) (p : Package) → slice_get packages n ≡ Some p → p.essential ≡ true → Contains (required_names true packages) p.name
+required-from : (packages : List Package) (n : ℕ) (p : Package) → slice_get packages n ≡ Some p → p.essential ≡ true
+    → Contains (required_names true packages) p.name
 required-from packages n p is essential =
     let Required_ : List ℕ → Type 0 = Contains (required_names true packages) in
     passed-at (λ q. q.essential) (λ q. Required_ q.name) packages
@@ -102,12 +108,14 @@ then-less Equal b is = inr refl
 then-less Greater b is = absurd (let no-one : Greater ≡ Less = is in cc)
 
 -- of a flat repository in order, names rise
-names-rise : (packages : List Package) (i j : ℕ) (p q : Package) → IsInOrder packages → IsFlat packages → i < j → slice_get packages i ≡ Some p → slice_get packages j ≡ Some q → slice_cmp nat_cmp p.name q.name ≡ Less
+names-rise : (packages : List Package) (i j : ℕ) (p q : Package) → IsInOrder packages → IsFlat packages → i < j → slice_get packages i ≡ Some p
+    → slice_get packages j ≡ Some q → slice_cmp nat_cmp p.name q.name ≡ Less
 names-rise packages i j p q ordered flat before is_p is_q =
     let first : get_or packages i p ≡ p = get_or_from_slice_get packages i p p is_p in
     let second : get_or packages j p ≡ q = get_or_from_slice_get packages j q p is_q in
     let less : package_cmp (get_or packages i p) (get_or packages j p) ≡ Less = ordered i j p before (slice_get_within packages j q is_q) in
-    let also : package_cmp p q ≡ Less = sym (ap (λ (x : Package). package_cmp x (get_or packages j p)) first ∙ ap (λ (x : Package). package_cmp p x) second) ∙ less in
+    let also : package_cmp p q ≡ Less = sym (ap (λ (x : Package). package_cmp x (get_or packages j p)) first ∙ ap (λ (x : Package). package_cmp p x) second)
+    ∙ less in
     elim (then-less (slice_cmp nat_cmp p.name q.name) (version_cmp p.version q.version) also) [
       | inl is ↦ is
       | inr same ↦ absurd (let one = names-apart packages i j p q flat is_p is_q (same_names p.name q.name same) in omega (arith, before, one))
@@ -155,15 +163,21 @@ module _ (s : SpaceView) (space : IsSpace s) (limits : ClauseList) where
   named-start set of =
       set-shift s space limits (λ d. IsDemand s d × (group_of d < 7)) (NamedBefore s 0) limits.clause_limit limits.literal_limit set
       (λ d h. (h.0, so-far 0 d h.1))
-      (λ d h. (h.0, by-name (λ e. group_of e < 7) d (λ less. less) (λ name is. let below : IsNamedBelow s 0 name = subst (IsNamedSoFar s 0) is h.1 in absurd (omega (arith, below.1))))) of
+      (λ d h. (
+        h.0,
+        by-name (λ e. group_of e < 7) d (λ less. less)
+            (λ name is. let below : IsNamedBelow s 0 name = subst (IsNamedSoFar s 0) is h.1 in absurd (omega (arith, below.1))),
+      )) of
 
-  pub named-end : (number : ℕ) (set : ClauseList) → s.essential ≡ true → length s.repository.packages ≤ number → IsNamedFront s number limits set → IsWholeSet s limits set
+  pub named-end : (number : ℕ) (set : ClauseList) → s.essential ≡ true → length s.repository.packages ≤ number → IsNamedFront s number limits set
+      → IsWholeSet s limits set
   named-end number set essential past of =
       set-shift s space limits (NamedBefore s number) (IsDemand s) limits.clause_limit limits.literal_limit set (λ d h. h.0)
       (λ d demand. (
         demand,
         by-name (IsNamedSoFar s number) d (so-far number d) (λ name is.
-            let some = required-at s.repository.packages name (subst (λ (b : Bool). Contains (required_names b s.repository.packages) name) essential (subst (IsDemand s) is demand)) in
+            let some = required-at s.repository.packages name (subst (λ (b : Bool). Contains (required_names b s.repository.packages) name) essential
+            (subst (IsDemand s) is demand)) in
             (some.number, omega (arith, past, within-from (IsEssentialOf name) s.repository.packages some.number some.has), some.has)),
       )) of
 
@@ -197,7 +211,8 @@ module _ (s : SpaceView) (space : IsSpace s) (limits : ClauseList) where
 
     module _ (ordered : IsInOrder s.repository.packages) (essential_space : s.essential ≡ true) (essential : p.essential ≡ true) where
       pub name-demand : IsDemand s (Required p.name)
-      name-demand = subst (λ (b : Bool). Contains (required_names b s.repository.packages) p.name) (sym essential_space) (required-from s.repository.packages number p is essential)
+      name-demand = subst (λ (b : Bool). Contains (required_names b s.repository.packages) p.name) (sym essential_space)
+          (required-from s.repository.packages number p is essential)
 
       others-before : (d : Demand) → group_of d < 7 → IsBefore s d (Required p.name)
       others-before d less = less-cmp (rank_of s d) (rank_of s (Required p.name)) (inl less)
@@ -205,8 +220,10 @@ module _ (s : SpaceView) (space : IsSpace s) (limits : ClauseList) where
       name-before : (name : List ℕ) → IsNamedBelow s number name → IsBefore s (Required name) (Required p.name)
       name-before name below =
           let e = here-at (IsEssentialOf name) s.repository.packages below.0 below.2 in
-          let less : slice_cmp nat_cmp e.element.name p.name ≡ Less = names-rise s.repository.packages below.0 number e.element p ordered space.frame.flat below.1 e.is is in
-          less-cmp (rank_of s (Required name)) (rank_of s (Required p.name)) (inr (refl, inr (refl, cmp-less name p.name (subst (λ (x : List ℕ). slice_cmp nat_cmp x p.name ≡ Less) e.holds.1 less))))
+          let less : slice_cmp nat_cmp e.element.name p.name ≡ Less =
+          names-rise s.repository.packages below.0 number e.element p ordered space.frame.flat below.1 e.is is in
+          less-cmp (rank_of s (Required name)) (rank_of s (Required p.name))
+          (inr (refl, inr (refl, cmp-less name p.name (subst (λ (x : List ℕ). slice_cmp nat_cmp x p.name ≡ Less) e.holds.1 less))))
 
       before-name : (name : List ℕ) → IsDemand s (Required name) → IsBefore s (Required name) (Required p.name) → IsNamedBelow s number name
       before-name name demand before =
@@ -217,7 +234,8 @@ module _ (s : SpaceView) (space : IsSpace s) (limits : ClauseList) where
               | inr g ↦ less-cmp name p.name g.1
             ]
           ] in
-          let some = required-at s.repository.packages name (subst (λ (b : Bool). Contains (required_names b s.repository.packages) name) essential_space demand) in
+          let some = required-at s.repository.packages name (subst (λ (b : Bool). Contains (required_names b s.repository.packages) name) essential_space
+          demand) in
           let e = here-at (IsEssentialOf name) s.repository.packages some.number some.has in
           elim (cases_lt some.number number) [
             | inl low ↦ (some.number, low, some.has)
@@ -237,16 +255,27 @@ module _ (s : SpaceView) (space : IsSpace s) (limits : ClauseList) where
           ]
 
       -- the clauses before that of the package's name
-      pub named-before : (set : ClauseList) → IsNamedFront s number limits set → IsSetOf s (λ d. IsDemand s d × IsBefore s d (Required p.name)) limits.clause_limit limits.literal_limit set
+      pub named-before : (set : ClauseList) → IsNamedFront s number limits set
+          → IsSetOf s (λ d. IsDemand s d × IsBefore s d (Required p.name)) limits.clause_limit limits.literal_limit set
       named-before set of =
           set-shift s space limits (NamedBefore s number) (λ d. IsDemand s d × IsBefore s d (Required p.name)) limits.clause_limit limits.literal_limit set
-          (λ d h. (h.0, by-name (λ e. IsBefore s e (Required p.name)) d (others-before d) (λ name same. name-before name (subst (IsNamedSoFar s number) same h.1))))
-          (λ d h. (h.0, by-name (IsNamedSoFar s number) d (so-far number d) (λ name same. before-name name (subst (IsDemand s) same h.0) (subst (λ e. IsBefore s e (Required p.name)) same h.1)))) of
+          (λ d h. (
+            h.0,
+            by-name (λ e. IsBefore s e (Required p.name)) d (others-before d)
+                (λ name same. name-before name (subst (IsNamedSoFar s number) same h.1)),
+          ))
+          (λ d h. (
+            h.0,
+            by-name (IsNamedSoFar s number) d (so-far number d)
+                (λ name same. before-name name (subst (IsDemand s) same h.0) (subst (λ e. IsBefore s e (Required p.name)) same h.1)),
+          )) of
 
       -- with that clause
-      pub named-pushed : (set : ClauseList) (clause : List Literal) → IsClauseFor s (Required p.name) clause → IsNamedFront s number limits set → IsNamedFront s (number + 1) limits (record set { clauses = set.clauses ++ clause ∷ [] })
+      pub named-pushed : (set : ClauseList) (clause : List Literal) → IsClauseFor s (Required p.name) clause → IsNamedFront s number limits set
+          → IsNamedFront s (number + 1) limits (record set { clauses = set.clauses ++ clause ∷ [] })
       named-pushed set clause is_clause of = record {
-        clauses = clauses-more s (NamedBefore s number) (NamedBefore s (number + 1)) set.clauses (Required p.name) clause of.clauses is_clause before cases wider
+        clauses = clauses-more s (NamedBefore s number) (NamedBefore s (number + 1)) set.clauses (Required p.name) clause of.clauses is_clause before cases
+            wider
             (name-demand, (number, omega arith, at-has (IsEssentialOf p.name) s.repository.packages number p is (essential, refl)));
         variables = of.variables;
         clause_limit_is = of.clause_limit_is;
@@ -254,7 +283,8 @@ module _ (s : SpaceView) (space : IsSpace s) (limits : ClauseList) where
       }
         where
           before : (d : Demand) → NamedBefore s number d → IsBefore s d (Required p.name)
-          before d h = by-name (λ e. IsBefore s e (Required p.name)) d (others-before d) (λ name same. name-before name (subst (IsNamedSoFar s number) same h.1))
+          before d h = by-name (λ e. IsBefore s e (Required p.name)) d (others-before d)
+              (λ name same. name-before name (subst (IsNamedSoFar s number) same h.1))
 
           cases : (d : Demand) → NamedBefore s (number + 1) d → NamedBefore s number d ⊎ (Required p.name ≡ d)
           cases d h = elim (group-cases d) [

@@ -1,5 +1,6 @@
 -- What is noted of conflict atoms: of one, of some, and of all of a repository.
-use Rattle.std.proofs.Common.{◌≡◌, ◌≢◌, ◌⊎◌, ℕ, ◌+◌, ◌<◌, ◌≤◌, Bool, true, false, cond, List, [], ◌∷◌, ◌++◌, length, take, Option, Some, refl, sym, ap, subst, ◌∙◌, inl, inr, arith, nat_cmp, slice_get, unwrap_or}
+use Rattle.std.proofs.Common.{◌≡◌, ◌≢◌, ◌⊎◌, ℕ, ◌+◌, ◌<◌, ◌≤◌, Bool, true, false, cond, List, [], ◌∷◌, ◌++◌, length, take, Option, Some, refl, sym, ap, subst}
+use Rattle.std.proofs.Common.{◌∙◌, inl, inr, arith, nat_cmp, slice_get, unwrap_or}
 use Rattle.std.specs.Prelude.{◌↔◌, Any, Contains}
 use Rattle.std.specs.BTreeMap.{is_at}
 use Rattle.std.specs.Cmp.Lexicographic.{slice_cmp}
@@ -89,7 +90,8 @@ notes-start a atoms number q n = (
   ],
 )
 
-pub notes-more : (a b c : Entries) (atoms : List Atom) (k number : ℕ) (atom : Atom) → slice_get atoms k ≡ Some atom → Notes a b (IsOnFirst atoms k number) → Notes b c (λ q n. (atom.name ≡ q) × (number ≡ n)) → Notes a c (IsOnFirst atoms (k + 1) number)
+pub notes-more : (a b c : Entries) (atoms : List Atom) (k number : ℕ) (atom : Atom) → slice_get atoms k ≡ Some atom → Notes a b (IsOnFirst atoms k number)
+    → Notes b c (λ q n. (atom.name ≡ q) × (number ≡ n)) → Notes a c (IsOnFirst atoms (k + 1) number)
 notes-more a b c atoms k number atom is first second q n =
     let On : Atom → Type 0 = λ x. x.name ≡ q in (
       (λ there. elim ((second q n).0 there) [
@@ -108,7 +110,8 @@ notes-more a b c atoms k number atom is first second q n =
       ],
     )
 
-pub notes-end : (a b : Entries) (atoms : List Atom) (k number : ℕ) → length atoms ≤ k → Notes a b (IsOnFirst atoms k number) → Notes a b (λ q n. Any (λ atom. atom.name ≡ q) atoms × (number ≡ n))
+pub notes-end : (a b : Entries) (atoms : List Atom) (k number : ℕ) → length atoms ≤ k → Notes a b (IsOnFirst atoms k number)
+    → Notes a b (λ q n. Any (λ atom. atom.name ≡ q) atoms × (number ≡ n))
 notes-end a b atoms k number past notes q n =
     let On : Atom → Type 0 = λ x. x.name ≡ q in (
       (λ there. elim ((notes q n).0 there) [
@@ -130,7 +133,8 @@ AreUpTo r count entries = (name : List ℕ) (number : ℕ) → Contains (numbers
 pub none-rejecting : (r : PackageList) → AreUpTo r 0 []
 none-rejecting r name number = ((λ there. absurd (omega (arith, there.1))), λ both. absurd (omega (arith, both.0)))
 
-pub package-rejecting : (r : PackageList) (count : ℕ) (p : Package) (a b : Entries) → slice_get r.packages count ≡ Some p → AreUpTo r count a → Notes a b (λ q n. Any (λ atom. atom.name ≡ q) p.conflicts × (count ≡ n)) → AreUpTo r (count + 1) b
+pub package-rejecting : (r : PackageList) (count : ℕ) (p : Package) (a b : Entries) → slice_get r.packages count ≡ Some p → AreUpTo r count a
+    → Notes a b (λ q n. Any (λ atom. atom.name ≡ q) p.conflicts × (count ≡ n)) → AreUpTo r (count + 1) b
 package-rejecting r count p a b is before notes name number =
     let On : Package → Type 0 = λ q. Any (λ atom. atom.name ≡ name) q.conflicts in (
       (λ there. elim ((notes name number).0 there) [
@@ -139,12 +143,16 @@ package-rejecting r count p a b is before notes name number =
       ]),
       λ both. (notes name number).1 (elim (cases_lt number count) [
         | inl less ↦ inl ((before name number).1 (less, both.1))
-        | inr most ↦ let same : number ≡ count = omega (arith, most, both.0) in inr (has-at On r.packages count p is (subst (IsRejecting r name) same both.1), sym same)
+        | inr most ↦ let same : number ≡ count = omega (arith, most, both.0) in
+            inr (has-at On r.packages count p is (subst (IsRejecting r name) same both.1), sym same)
       ]),
     )
 
 pub all-rejecting : (r : PackageList) (count : ℕ) (entries : Entries) → length r.packages ≤ count → AreUpTo r count entries → AreRejecting r entries
 all-rejecting r count entries past are name number = (
   (λ there. ((are name number).0 there).1),
-  λ rejecting. (are name number).1 (omega (arith, past, within-from (λ (p : Package). Any (λ atom. atom.name ≡ name) p.conflicts) r.packages number rejecting), rejecting),
+  λ rejecting. (are name number).1 (
+    omega (arith, past, within-from (λ (p : Package). Any (λ atom. atom.name ≡ name) p.conflicts) r.packages number rejecting),
+    rejecting,
+  ),
 )

@@ -1,5 +1,6 @@
 -- There is a list of the clauses of a space: what a demand asks is decided, and each demand has a clause.
-use Rattle.std.proofs.Common.{◌≡◌, ◌≢◌, ◌⊎◌, ℕ, zero, suc, ◌+◌, ◌-◌, ◌<◌, ◌≤◌, List, [], ◌∷◌, ◌++◌, length, map, take, refl, sym, ap, subst, ◌∙◌, arith, inl, inr, slice_get}
+use Rattle.std.proofs.Common.{◌≡◌, ◌≢◌, ◌⊎◌, ℕ, zero, suc, ◌+◌, ◌-◌, ◌<◌, ◌≤◌, List, [], ◌∷◌, ◌++◌, length, map, take, refl, sym, ap, subst, ◌∙◌, arith, inl}
+use Rattle.std.proofs.Common.{inr, slice_get}
 use Rattle.std.specs.Prelude.{◌↔◌, AllPairs, Any, Contains, IsSomeAnd, slice_index}
 use Rattle.std.proofs.lemmas.Bool.{cases_lt}
 use Rattle.dist_base.specs.ListLaws.{any-contained, contains-at, element-at, ElementAt, has-at, here-at, pairs-head, pairs-tail, within-from}
@@ -7,14 +8,16 @@ use Rattle.dist_clause.specs.ClauseList.{ClauseList}
 use Rattle.dist_clause.specs.Formula.{Literal}
 use Rattle.dist_relation.specs.declared.atom.Atom.{Atom}
 use Rattle.dist_repo.specs.Conflict.{AreInConflict}
-use Rattle.dist_repo.specs.DecidedLaws.{any-decided, at-decided, both-decided, conflict-decided, IsDecided, matches-decided, not-decided, some-decided, text-decided}
+use Rattle.dist_repo.specs.DecidedLaws.{any-decided, at-decided, both-decided, conflict-decided, IsDecided, matches-decided, not-decided, some-decided}
+use Rattle.dist_repo.specs.DecidedLaws.{text-decided}
 use Rattle.dist_repo.specs.Match.{Matches}
 use Rattle.dist_repo.specs.Healthy.{required_names}
 use Rattle.dist_repo.specs.PackageList.{IsPackageAnd}
 use Rattle.dist_repo.specs.declared.package.Package.{Package}
 use Rattle.dist_space_clauses.specs.Gathering.{IsFront, IsGroupsFront}
 use Rattle.dist_space.specs.Space.{AreMeaningsOf, IsMeaning, IsMetBy, IsSpace, SpaceView, StandsBefore, cluster_classes, fresh_classes, name_of, variable_of}
-use Rattle.dist_space_clauses.specs.SpaceClauses.{Demand, OneClass, Gone, Moved, Carried, OneFresh, Item, Apart, StaysNow, AbsentNow, Required, AreSpaceClauses, Excludes, IsBearer, IsBefore, IsClauseFor, IsDemand, group_of, leading, rank_of, no, second_of, yes}
+use Rattle.dist_space_clauses.specs.SpaceClauses.{Demand, OneClass, Gone, Moved, Carried, OneFresh, Item, Apart, StaysNow, AbsentNow, Required, AreSpaceClauses}
+use Rattle.dist_space_clauses.specs.SpaceClauses.{Excludes, IsBearer, IsBefore, IsClauseFor, IsDemand, group_of, leading, rank_of, no, second_of, yes}
 use Rattle.dist_space_clauses.specs.SpaceSet.{IsSetOf}
 use Rattle.dist_space.specs.declared.meaning.Meaning.{Meaning}
 use Rattle.dist_space.specs.declared.meaning.Meaning.TheVariants.{Now, Present, At, New, Kept, Fresh}
@@ -35,10 +38,12 @@ use Rattle.dist_space.specs.RisingLaws.{contains-cons, contains-first, contains-
 
 module _ (s : SpaceView) where
   other-decided : (p : Package) (m : Meaning) → IsDecided (IsSomeAnd (name_of s m) (λ name. name ≢ p.name) × IsMetBy s p.conflicts m)
-  other-decided p m = both-decided (some-decided (λ (name : List ℕ). name ≢ p.name) (λ name. not-decided (text-decided name p.name)) (name_of s m)) (met-decided s p.conflicts m)
+  other-decided p m = both-decided (some-decided (λ (name : List ℕ). name ≢ p.name) (λ name. not-decided (text-decided name p.name)) (name_of s m))
+      (met-decided s p.conflicts m)
 
   excludes-decided : (n : ℕ) (p : Package) (m : Meaning) → IsDecided (Excludes s n p m)
-  excludes-decided n p (Present other) = both-decided (less-decided n other) (at-decided (AreInConflict s.repository.architecture p) (conflict-decided s.repository.architecture p) s.repository.packages other)
+  excludes-decided n p (Present other) = both-decided (less-decided n other)
+      (at-decided (AreInConflict s.repository.architecture p) (conflict-decided s.repository.architecture p) s.repository.packages other)
   excludes-decided n p Now = other-decided p Now
   excludes-decided n p (At c k) = other-decided p (At c k)
   excludes-decided n p (New r k) = other-decided p (New r k)
@@ -46,9 +51,11 @@ module _ (s : SpaceView) where
   excludes-decided n p (Fresh x k) = other-decided p (Fresh x k)
 
   item-decided : (n place : ℕ) → IsDecided (IsDemand s (Item n place))
-  item-decided n place = at-decided (λ (p : Package). IsSomeAnd (slice_get p.depends place) (λ item. ¬ Any (λ atom. Matches s.repository.architecture atom p) item))
+  item-decided n place = at-decided (λ (p : Package). IsSomeAnd (slice_get p.depends place)
+      (λ item. ¬ Any (λ atom. Matches s.repository.architecture atom p) item))
       (λ p. at-decided (λ (item : List Atom). ¬ Any (λ atom. Matches s.repository.architecture atom p) item)
-      (λ item. not-decided (any-decided (λ atom. Matches s.repository.architecture atom p) (λ atom. matches-decided s.repository.architecture atom p) item)) p.depends place) s.repository.packages n
+      (λ item. not-decided (any-decided (λ atom. Matches s.repository.architecture atom p) (λ atom. matches-decided s.repository.architecture atom p) item))
+      p.depends place) s.repository.packages n
 
   excluded-decided : (n : ℕ) (m : Meaning) → IsDecided (IsPackageAnd s.repository.packages n (λ p. Excludes s n p m))
   excluded-decided n m = at-decided (λ (p : Package). Excludes s n p m) (λ p. excludes-decided n p m) s.repository.packages n
@@ -61,7 +68,11 @@ module _ (s : SpaceView) where
     exact : (m : Meaning) → Contains meanings m ↔ (Contains xs m × P m)
 
   chosen : (P : Meaning → Type 0) → ((m : Meaning) → IsDecided (P m)) → (xs : List Meaning) → AllPairs (StandsBefore s) xs → Chosen P xs
-  chosen P each [] rising = record { meanings = []; rising = pairs-none (StandsBefore s); exact = λ m. ((λ there. absurd (omega (arith, there.1))), λ both. absurd (omega (arith, both.0.1))) }
+  chosen P each [] rising = record {
+    meanings = [];
+    rising = pairs-none (StandsBefore s);
+    exact = λ m. ((λ there. absurd (omega (arith, there.1))), λ both. absurd (omega (arith, both.0.1)));
+  }
   chosen P each (x ∷ xs) rising = by (each x) (chosen P each xs (pairs-tail (StandsBefore s) x xs rising))
     where
       by : IsDecided (P x) → Chosen P xs → Chosen P (x ∷ xs)
@@ -121,17 +132,25 @@ module _ (s : SpaceView) where
     has-clause (Carried r k j) demand = record { clause = no s (Kept r k j) ∷ yes s (New r k) ∷ []; is_clause = refl }
     has-clause (OneFresh x k l) demand = record { clause = no s (Fresh x k) ∷ no s (Fresh x l) ∷ []; is_clause = refl }
     has-clause (Item n place) demand =
-        let holder = here-at (λ (p : Package). IsSomeAnd (slice_get p.depends place) (λ item. ¬ Any (λ atom. Matches s.repository.architecture atom p) item)) s.repository.packages n demand in
-        let item = here-at (λ (i : List Atom). ¬ Any (λ atom. Matches s.repository.architecture atom holder.element) i) holder.element.depends place holder.holds in
+        let holder = here-at (λ (p : Package). IsSomeAnd (slice_get p.depends place) (λ item. ¬ Any (λ atom. Matches s.repository.architecture atom p) item))
+        s.repository.packages n demand in
+        let item = here-at (λ (i : List Atom). ¬ Any (λ atom. Matches s.repository.architecture atom holder.element) i) holder.element.depends place
+        holder.holds in
         let some = some-meanings (IsMetBy s item.element) (met-decided s item.element) in
         record {
           clause = no s (Present n) ∷ map (yes s) some.meanings;
-          is_clause = (some.meanings, item-at s n place (λ p i. AreMeaningsOf s (IsMetBy s i) some.meanings) holder.element item.element holder.is item.is some.are, refl);
+          is_clause = (
+            some.meanings,
+            item-at s n place (λ p i. AreMeaningsOf s (IsMetBy s i) some.meanings) holder.element item.element holder.is item.is
+                some.are,
+            refl,
+          );
         }
     has-clause (Apart n other) demand = record { clause = no s (Present n) ∷ no s other ∷ []; is_clause = refl }
     has-clause (StaysNow c k) demand = record { clause = no s Now ∷ no s (At c k) ∷ []; is_clause = refl }
     has-clause (AbsentNow x k) demand = record { clause = no s Now ∷ no s (Fresh x k) ∷ []; is_clause = refl }
-    has-clause (Required name) demand = let some = some-meanings (IsBearer s name) (bearer-decided s name) in record { clause = map (yes s) some.meanings; is_clause = (some.meanings, some.are, refl) }
+    has-clause (Required name) demand = let some = some-meanings (IsBearer s name) (bearer-decided s name) in
+        record { clause = map (yes s) some.meanings; is_clause = (some.meanings, some.are, refl) }
 
     -- ---- one place after another
 
@@ -165,7 +184,13 @@ module _ (s : SpaceView) where
       has = front-skip s space empty g v b (b + 1) before.set (omega arith)
           (λ d is group variable n second less. elim (cases_lt n b) [
             | inl below ↦ below
-            | inr most ↦ absurd (none (record { demand = d; is = is; group = group; variable = variable; second = let same : n ≡ b = omega (arith, less, most) in second ∙ ap (λ (i : ℕ). i ∷ []) same }))
+            | inr most ↦ absurd (none (record {
+              demand = d;
+              is = is;
+              group = group;
+              variable = variable;
+              second = let same : n ≡ b = omega (arith, less, most) in second ∙ ap (λ (i : ℕ). i ∷ []) same;
+            }))
           ])
           few before.has;
     }
@@ -186,7 +211,8 @@ module _ (s : SpaceView) where
         let all = places-to g v walk.bound few walk start in
         record {
           set = all.set;
-          has = front-variable s space empty g v walk.bound all.set (λ d is group variable n second. walk.within n (record { demand = d; is = is; group = group; variable = variable; second = second })) few all.has;
+          has = front-variable s space empty g v walk.bound all.set
+              (λ d is group variable n second. walk.within n (record { demand = d; is = is; group = group; variable = variable; second = second })) few all.has;
         }
 
     -- ---- what each variable leads
@@ -196,14 +222,24 @@ module _ (s : SpaceView) where
       led g b at = leads s at.demand v m space at.is is_meaning variable_is at.variable
 
       nothing : (g : ℕ) → ((d : Demand) → IsDemand s d → group_of d ≡ g → leading d ≡ m → ⊥) → Walk g v
-      nothing g none = record { bound = 0; decide = λ b. inr (λ at. none at.demand at.is at.group (led g b at)); within = λ b at. absurd (none at.demand at.is at.group (led g b at)) }
+      nothing g none = record {
+        bound = 0;
+        decide = λ b. inr (λ at. none at.demand at.is at.group (led g b at));
+        within = λ b at. absurd (none at.demand at.is at.group (led g b at));
+      }
 
       -- one demand, at the first place
       single : (g : ℕ) (d : Demand) → IsDemand s d → group_of d ≡ g → leading d ≡ m → second_of s d ≡ 0 ∷ [] → ((b : ℕ) → RankAt g v b → b < 1) → Walk g v
       single g d is group lead second first = record {
         bound = 1;
         decide = λ b. elim (cases_lt b 1) [
-          | inl less ↦ inl (record { demand = d; is = is; group = group; variable = ap (variable_of s) lead ∙ variable_is; second = let same : 0 ≡ b = omega (arith, less) in second ∙ ap (λ (i : ℕ). i ∷ []) same })
+          | inl less ↦ inl (record {
+            demand = d;
+            is = is;
+            group = group;
+            variable = ap (variable_of s) lead ∙ variable_is;
+            second = let same : 0 ≡ b = omega (arith, less) in second ∙ ap (λ (i : ℕ). i ∷ []) same;
+          })
           | inr past ↦ inr (λ at. let h = first b at in omega (arith, h, past))
         ];
         within = first;
@@ -228,16 +264,29 @@ module _ (s : SpaceView) where
     moves-walk v (New r k) is variable = record {
       bound = 2;
       decide = λ b. elim (cases_lt b 1) [
-        | inl first ↦ inl (record { demand = Gone r k; is = is; group = refl; variable = variable; second = let same : 0 ≡ b = omega (arith, first) in ap (λ (i : ℕ). i ∷ []) same })
+        | inl first ↦ inl (record {
+          demand = Gone r k;
+          is = is;
+          group = refl;
+          variable = variable;
+          second = let same : 0 ≡ b = omega (arith, first) in ap (λ (i : ℕ). i ∷ []) same;
+        })
         | inr past ↦ elim (cases_lt b 2) [
-          | inl then ↦ inl (record { demand = Moved r k; is = is; group = refl; variable = variable; second = let same : 1 ≡ b = omega (arith, past, then) in ap (λ (i : ℕ). i ∷ []) same })
+          | inl then ↦ inl (record {
+            demand = Moved r k;
+            is = is;
+            group = refl;
+            variable = variable;
+            second = let same : 1 ≡ b = omega (arith, past, then) in ap (λ (i : ℕ). i ∷ []) same;
+          })
           | inr more ↦ inr (λ at. let h = moves-of s at.demand r k b at.is at.group (led v (New r k) is variable 2 b at) at.second in omega (arith, h, more))
         ]
       ];
       within = λ b at. moves-of s at.demand r k b at.is at.group (led v (New r k) is variable 2 b at) at.second;
     }
     moves-walk v (Kept r k j) is variable =
-        single v (Kept r k j) is variable 2 (Carried r k j) is refl refl refl (λ b at. carried-of s at.demand r k j b at.is at.group (led v (Kept r k j) is variable 2 b at) at.second)
+        single v (Kept r k j) is variable 2 (Carried r k j) is refl refl refl
+        (λ b at. carried-of s at.demand r k j b at.is at.group (led v (Kept r k j) is variable 2 b at) at.second)
     moves-walk v Now is variable = nothing v Now is variable 2 (no-moves s Now (λ r k same. cc) (λ r k j same. cc))
     moves-walk v (Present n) is variable = nothing v (Present n) is variable 2 (no-moves s (Present n) (λ r k same. cc) (λ r k j same. cc))
     moves-walk v (At c l) is variable = nothing v (At c l) is variable 2 (no-moves s (At c l) (λ r k same. cc) (λ r k j same. cc))
@@ -267,7 +316,8 @@ module _ (s : SpaceView) where
       ];
       within = λ b at.
           let Other : Package → List Atom → Type 0 = λ q item. ¬ Any (λ atom. Matches s.repository.architecture atom q) item in
-          within-from (Other p.element) p.element.depends b (has-at (λ (q : Package). IsSomeAnd (slice_get q.depends b) (Other q)) s.repository.packages n p.element p.is (from b at));
+          within-from (Other p.element) p.element.depends b (has-at (λ (q : Package). IsSomeAnd (slice_get q.depends b) (Other q)) s.repository.packages n
+          p.element p.is (from b at));
     }
       where
         p : ElementAt s.repository.packages n
@@ -282,7 +332,11 @@ module _ (s : SpaceView) where
     items-walk v (Fresh x l) is variable = nothing v (Fresh x l) is variable 4 (no-items s space empty (Fresh x l) (λ n same. cc))
 
     conflicts-walk : (v : ℕ) (m : Meaning) → IsMeaning s m → variable_of s m ≡ v → Walk 5 v
-    conflicts-walk v (Present n) is variable = record { bound = length s.meanings + 1; decide = decide; within = λ b at. let range = ranged b at in omega (arith, range.1) }
+    conflicts-walk v (Present n) is variable = record {
+      bound = length s.meanings + 1;
+      decide = decide;
+      within = λ b at. let range = ranged b at in omega (arith, range.1);
+    }
       where
         ranged : (b : ℕ) → RankAt 5 v b → (1 ≤ b) × (b ≤ length s.meanings)
         ranged b at =
@@ -293,7 +347,13 @@ module _ (s : SpaceView) where
 
         of : (b : ℕ) (other : Meaning) → IsMeaning s other → variable_of s other ≡ b → IsDecided (RankAt 5 v b)
         of b other meaning other_is = elim (excluded-decided n other) [
-          | inl excluded ↦ inl (record { demand = Apart n other; is = (meaning, excluded); group = refl; variable = variable; second = ap (λ (i : ℕ). i ∷ []) other_is })
+          | inl excluded ↦ inl (record {
+            demand = Apart n other;
+            is = (meaning, excluded);
+            group = refl;
+            variable = variable;
+            second = ap (λ (i : ℕ). i ∷ []) other_is;
+          })
           | inr none ↦ inr (λ at.
               let apart = apart-of s space empty at.demand n b at.group (led v (Present n) is variable 5 b at) at.second in
               let demand : IsDemand s (Apart n apart.other) = subst (IsDemand s) apart.is at.is in
@@ -316,8 +376,10 @@ module _ (s : SpaceView) where
     conflicts-walk v (Fresh x l) is variable = nothing v (Fresh x l) is variable 5 (no-conflicts s space empty (Fresh x l) (λ n same. cc))
 
     today-walk : (v : ℕ) (m : Meaning) → IsMeaning s m → variable_of s m ≡ v → Walk 6 v
-    today-walk v (At c k) is variable = single v (At c k) is variable 6 (StaysNow c k) is refl refl refl (λ b at. today-of s at.demand b at.is at.group at.second)
-    today-walk v (Fresh x k) is variable = single v (Fresh x k) is variable 6 (AbsentNow x k) is refl refl refl (λ b at. today-of s at.demand b at.is at.group at.second)
+    today-walk v (At c k) is variable = single v (At c k) is variable 6 (StaysNow c k) is refl refl refl
+        (λ b at. today-of s at.demand b at.is at.group at.second)
+    today-walk v (Fresh x k) is variable = single v (Fresh x k) is variable 6 (AbsentNow x k) is refl refl refl
+        (λ b at. today-of s at.demand b at.is at.group at.second)
     today-walk v Now is variable = nothing v Now is variable 6 (no-today s Now (λ h. h))
     today-walk v (Present r) is variable = nothing v (Present r) is variable 6 (no-today s (Present r) (λ h. h))
     today-walk v (New r l) is variable = nothing v (New r l) is variable 6 (no-today s (New r l) (λ h. h))
@@ -336,14 +398,16 @@ module _ (s : SpaceView) where
         let place : count ≡ (count + 1) - 1 = omega arith in
         let variable = variable-back s at.element (count + 1) space (omega arith) (ap (λ (i : ℕ). slice_get s.meanings i) (sym place) ∙ at.is) in
         let next : count + 1 + 1 ≡ suc count + 1 = omega arith in
-        subst (λ (v : ℕ). At_ g v 0) next (variable-step g (count + 1) few (walks (count + 1) at.element meaning variable) (variables-to g few walks count (omega (arith, within)) start))
+        subst (λ (v : ℕ). At_ g v 0) next (variable-step g (count + 1) few (walks (count + 1) at.element meaning variable)
+        (variables-to g few walks count (omega (arith, within)) start))
 
     abbrev Groups : ℕ → Type 0
     Groups g = SomeSet (IsGroupsFront s g empty)
 
     group-step : (g : ℕ) → g < 7 → Walks g → Groups g → Groups (g + 1)
     group-step g few walks before =
-        let all = variables-to g few walks (length s.meanings) (omega arith) (record { set = before.set; has = groups-open s space empty g before.set few before.has }) in
+        let all = variables-to g few walks (length s.meanings) (omega arith)
+        (record { set = before.set; has = groups-open s space empty g before.set few before.has }) in
         record { set = all.set; has = groups-close s space empty g (length s.meanings + 1) all.set (omega arith) all.has }
 
     plain : Groups 7
@@ -419,7 +483,8 @@ module _ (s : SpaceView) where
           | inl less ↦ less-cmp (rank_of s d) (rank_of s (Required name)) (inl less)
           | inr any ↦
               let earlier : IsLess any.1 name = first-less names.names names.rising count name at.is any.1 (any.0, any.2, any.3) in
-              subst (λ e. IsBefore s e (Required name)) (sym any.4) (less-cmp (rank_of s (Required any.1)) (rank_of s (Required name)) (inr (refl, inr (refl, cmp-less any.1 name earlier))))
+              subst (λ e. IsBefore s e (Required name)) (sym any.4)
+              (less-cmp (rank_of s (Required any.1)) (rank_of s (Required name)) (inr (refl, inr (refl, cmp-less any.1 name earlier))))
         ]
 
         cases : (d : Demand) → SoFar (count + 1) d → SoFar count d ⊎ (Required name ≡ d)
@@ -433,7 +498,8 @@ module _ (s : SpaceView) where
 
     names-to : (count : ℕ) → count ≤ length names.names → Names count
     names-to zero within = names-start
-    names-to (suc count) within = let next : count + 1 ≡ suc count = omega arith in subst Names next (name-step count (omega (arith, within)) (names-to count (omega (arith, within))))
+    names-to (suc count) within = let next : count + 1 ≡ suc count = omega arith in
+        subst Names next (name-step count (omega (arith, within)) (names-to count (omega (arith, within))))
 
     pub some-clauses : (clauses : List (List Literal)) × AreSpaceClauses s clauses
     unfolding Names SoFar
@@ -447,7 +513,8 @@ module _ (s : SpaceView) where
                   | inl less ↦ inl less
                   | inr named ↦
                       let there = (names.exact named.0).1 (subst (IsDemand s) named.1 demand) in
-                      inr (any-whole (λ n. d ≡ Required n) names.names (length names.names) (omega arith) (any-contained (λ n. d ≡ Required n) names.names named.0 there named.1))
+                      inr (any-whole (λ n. d ≡ Required n) names.names (length names.names) (omega arith)
+                      (any-contained (λ n. d ≡ Required n) names.names named.0 there named.1))
                 ],
               ))
               all.has.clauses,

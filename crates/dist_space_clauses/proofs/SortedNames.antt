@@ -1,5 +1,6 @@
 -- Names put in the order of their bytes, each once.
-use Rattle.std.proofs.Common.{◌≡◌, ◌⊎◌, ℕ, ◌<◌, List, [], ◌∷◌, Some, get_or, take, slice_get, nat_cmp, Ordering, Less, Equal, Greater, refl, sym, ap, subst, ◌∙◌, arith, inl, inr}
+use Rattle.std.proofs.Common.{◌≡◌, ◌⊎◌, ℕ, ◌<◌, List, [], ◌∷◌, Some, get_or, take, slice_get, nat_cmp, Ordering, Less, Equal, Greater, refl, sym, ap, subst}
+use Rattle.std.proofs.Common.{◌∙◌, arith, inl, inr}
 use Rattle.std.specs.Prelude.{◌↔◌, AllPairs, Contains}
 use Rattle.std.specs.Cmp.Lexicographic.{slice_cmp}
 use Rattle.std.specs.Ordering.{ordering_reverse}
@@ -114,7 +115,8 @@ in-order (x ∷ xs) =
     }
 
 -- one of the first names is below the next one
-pub first-less : (names : List (List ℕ)) → AllPairs IsLess names → (k : ℕ) (name : List ℕ) → slice_get names k ≡ Some name → (x : List ℕ) → Contains (take k names) x → IsLess x name
+pub first-less : (names : List (List ℕ)) → AllPairs IsLess names → (k : ℕ) (name : List ℕ) → slice_get names k ≡ Some name → (x : List ℕ)
+    → Contains (take k names) x → IsLess x name
 first-less names rising k name is x there =
     let within = slice_get_within names k name is in
     let less : there.0 < k = omega (arith, there.1, length-take-le k names (omega (arith, within))) in

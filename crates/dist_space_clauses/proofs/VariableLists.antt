@@ -84,8 +84,10 @@ module _ (s : SpaceView) (space : IsSpace s) where
   meanings-of P variables are = record {
     meanings = all.meanings;
     are = record {
-      rising = pairs-more (λ a b. variable_of s a < variable_of s b) (StandsBefore s) all.meanings (λ a b in_a in_b less. variable-before a b (all.each a in_a).0 (all.each b in_b).0 less)
-          (pairs-unmap (variable_of s) all.meanings (subst (AllPairs (λ (a b : ℕ). a < b)) (sym all.variables_are) (AllPairs-from_increasing variables are.rising)));
+      rising = pairs-more (λ a b. variable_of s a < variable_of s b) (StandsBefore s) all.meanings
+          (λ a b in_a in_b less. variable-before a b (all.each a in_a).0 (all.each b in_b).0 less)
+          (pairs-unmap (variable_of s) all.meanings (subst (AllPairs (λ (a b : ℕ). a < b)) (sym all.variables_are)
+          (AllPairs-from_increasing variables are.rising)));
       exact = λ m. ((λ there. all.each m there), λ both. back m both.0 both.1);
     };
     literals_are = all.literals_are;
@@ -96,38 +98,48 @@ module _ (s : SpaceView) (space : IsSpace s) where
 
       back : (m : Meaning) → IsMeaning s m → P m → Contains all.meanings m
       back m is has =
-          let there : Contains variables (variable_of s m) = (are.exact (variable_of s m)).1 (record { meaning = m; is_meaning = is; has = has; variable_is = refl }) in
-          let from = in-map (variable_of s) all.meanings (variable_of s m) (subst (λ (xs : List ℕ). Contains xs (variable_of s m)) (sym all.variables_are) there) in
+          let there : Contains variables (variable_of s m) = (are.exact (variable_of s m)).1
+          (record { meaning = m; is_meaning = is; has = has; variable_is = refl }) in
+          let from = in-map (variable_of s) all.meanings (variable_of s m)
+          (subst (λ (xs : List ℕ). Contains xs (variable_of s m)) (sym all.variables_are) there) in
           subst (Contains all.meanings) (one-meaning s from.source m space (all.each from.source from.there).0 is from.gives) from.there
 
   -- ---- clauses over the variables
 
   pub in-range : (P : Meaning → Type 0) (variables : List ℕ) → AreVariablesOf s P variables → All (λ (v : ℕ). (1 ≤ v) × (v ≤ length s.meanings)) variables
   in-range P variables are = all-contained (λ (v : ℕ). (1 ≤ v) × (v ≤ length s.meanings)) variables
-      (λ v there. let with = (are.exact v).0 there in let range = variable-range s with.meaning space with.is_meaning in (omega (arith, range.0, with.variable_is), omega (arith, range.1, with.variable_is)))
+      (λ v there. let with = (are.exact v).0 there in let range = variable-range s with.meaning space with.is_meaning in
+      (omega (arith, range.0, with.variable_is), omega (arith, range.1, with.variable_is)))
 
-  pub in-limit : (P : Meaning → Type 0) (variables : List ℕ) (limit : ℕ) → length s.meanings ≤ limit → AreVariablesOf s P variables → All (λ (v : ℕ). (1 ≤ v) × (v ≤ limit)) variables
+  pub in-limit : (P : Meaning → Type 0) (variables : List ℕ) (limit : ℕ) → length s.meanings ≤ limit → AreVariablesOf s P variables
+      → All (λ (v : ℕ). (1 ≤ v) × (v ≤ limit)) variables
   in-limit P variables limit up are = λ i d short. let range = in-range P variables are i d short in (range.0, omega (arith, range.1, up))
 
   range-of : (P : Meaning → Type 0) (variables : List ℕ) → AreVariablesOf s P variables → All (InRange (length s.meanings)) (map positive variables)
   range-of P variables are = All-map (InRange (length s.meanings)) positive variables (λ i d short. in-range P variables are i d short)
 
   pub over-positive : (P : Meaning → Type 0) (variables : List ℕ) → AreVariablesOf s P variables → IsClauseOver (length s.meanings) (map positive variables)
-  over-positive P variables are = record { in_range = range-of P variables are; distinct = positives-apart variables (AllPairs-from_increasing variables are.rising) }
+  over-positive P variables are = record {
+    in_range = range-of P variables are;
+    distinct = positives-apart variables (AllPairs-from_increasing variables are.rising);
+  }
 
-  pub over-implied : (P : Meaning → Type 0) (variables : List ℕ) (m : Meaning) → IsMeaning s m → AreVariablesOf s P variables → ¬ Contains variables (variable_of s m) → IsClauseOver (length s.meanings) (literal (variable_of s m) false ∷ map positive variables)
+  pub over-implied : (P : Meaning → Type 0) (variables : List ℕ) (m : Meaning) → IsMeaning s m → AreVariablesOf s P variables
+      → ¬ Contains variables (variable_of s m) → IsClauseOver (length s.meanings) (literal (variable_of s m) false ∷ map positive variables)
   over-implied P variables m is are other =
       let negative : Literal = literal (variable_of s m) false in
       record {
         in_range = All-cons (InRange (length s.meanings)) negative (map positive variables) (variable-range s m space is) (range-of P variables are);
         distinct = AllPairs-cons Apart negative (map positive variables)
-            (All-map (Apart negative) positive variables (all-contained (λ (v : ℕ). variable_of s m ≢ v) variables (λ v there same. other (subst (Contains variables) (sym same) there))))
+            (All-map (Apart negative) positive variables (all-contained (λ (v : ℕ). variable_of s m ≢ v) variables
+            (λ v there same. other (subst (Contains variables) (sym same) there))))
             (positives-apart variables (AllPairs-from_increasing variables are.rising));
       }
 
   -- ---- clauses of demands
 
-  pub item-clause : (n place : ℕ) (item : List Atom) (variables : List ℕ) (clause : List Literal) → IsItemAt s.repository.packages n place item → AreVariablesOf s (IsMetBy s item) variables → clause ≡ literal (variable_of s (Present n)) false ∷ map positive variables
+  pub item-clause : (n place : ℕ) (item : List Atom) (variables : List ℕ) (clause : List Literal) → IsItemAt s.repository.packages n place item
+      → AreVariablesOf s (IsMetBy s item) variables → clause ≡ literal (variable_of s (Present n)) false ∷ map positive variables
       → IsClauseFor s (Item n place) clause
   item-clause n place item variables clause at are is =
       let all = meanings-of (IsMetBy s item) variables are in (
@@ -136,12 +148,14 @@ module _ (s : SpaceView) (space : IsSpace s) where
         is ∙ ap (λ (xs : List Literal). literal (variable_of s (Present n)) false ∷ xs) (sym all.literals_are),
       )
 
-  pub name-clause : (name : List ℕ) (variables : List ℕ) (clause : List Literal) → AreVariablesOf s (IsBearer s name) variables → clause ≡ map positive variables → IsClauseFor s (Required name) clause
+  pub name-clause : (name : List ℕ) (variables : List ℕ) (clause : List Literal) → AreVariablesOf s (IsBearer s name) variables
+      → clause ≡ map positive variables → IsClauseFor s (Required name) clause
   name-clause name variables clause are is = let all = meanings-of (IsBearer s name) variables are in (all.meanings, all.are, is ∙ sym all.literals_are)
 
   -- ---- items that their own package meets
 
-  module _ (n place : ℕ) (item : List Atom) (variables : List ℕ) (at : IsItemAt s.repository.packages n place item) (are : AreVariablesOf s (IsMetBy s item) variables) (is_meaning : IsMeaning s (Present n)) where
+  module _ (n place : ℕ) (item : List Atom) (variables : List ℕ) (at : IsItemAt s.repository.packages n place item)
+      (are : AreVariablesOf s (IsMetBy s item) variables) (is_meaning : IsMeaning s (Present n)) where
     pub item-itself : Contains variables (variable_of s (Present n)) → ¬ IsDemand s (Item n place)
     item-itself there demand =
         let with = (are.exact (variable_of s (Present n))).0 there in

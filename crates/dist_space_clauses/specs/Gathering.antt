@@ -14,23 +14,28 @@ use Rattle.dist_repo.specs.declared.package.Package.{Package}
 use Rattle.dist_space.specs.declared.meaning.Meaning.{Meaning}
 use Rattle.dist_space.specs.declared.meaning.Meaning.TheVariants.{Now, Present, At, New, Kept, Fresh}
 use Rattle.dist_space.specs.Space.{IsMeaning, SpaceView, variable_of}
-use Rattle.dist_space_clauses.specs.SpaceClauses.{Demand, OneClass, Gone, Moved, Carried, OneFresh, Item, Apart, StaysNow, AbsentNow, Required, IsDemand, group_of, rank_of}
+use Rattle.dist_space_clauses.specs.SpaceClauses.{Demand, OneClass, Gone, Moved, Carried, OneFresh, Item, Apart}
+use Rattle.dist_space_clauses.specs.SpaceClauses.{StaysNow, AbsentNow, Required, IsDemand, group_of, rank_of}
 use Rattle.dist_space_clauses.specs.SpaceSet.{IsCause, IsSetOf}
 
 -- why a clause was refused by a set within its limits
 abbrev pub IsRefused : ClauseList → List Literal → PushError → Type 0
-IsRefused set clause TooManyClauses = (literal_count set.clauses ≤ set.literal_limit) × (length set.clauses ≡ set.clause_limit)
+IsRefused set clause TooManyClauses = (literal_count set.clauses ≤ set.literal_limit)
+    × (length set.clauses ≡ set.clause_limit)
 IsRefused set clause TooManyLiterals =
-    (literal_count set.clauses ≤ set.literal_limit) × (length set.clauses < set.clause_limit) × (set.literal_limit < literal_count set.clauses + length clause)
+    (literal_count set.clauses ≤ set.literal_limit) × (length set.clauses < set.clause_limit)
+    × (set.literal_limit < literal_count set.clauses + length clause)
 IsRefused set clause NoMemory = Unit {0}
 
 -- a demand whose rank is below a group, a variable and a number
 abbrev pub IsBelow : SpaceView → (group variable second : ℕ) → Demand → Type 0
-IsBelow s group variable second d = IsDemand s d × (slice_cmp nat_cmp (rank_of s d) (group ∷ variable ∷ second ∷ []) ≡ Less)
+IsBelow s group variable second d = IsDemand s d
+    × (slice_cmp nat_cmp (rank_of s d) (group ∷ variable ∷ second ∷ []) ≡ Less)
 
 -- the set has a variable for each of the space and the limits of another set, and holds the clauses of these demands
 abbrev pub IsFront : SpaceView → (group variable second : ℕ) → (limits set : ClauseList) → Type 0
-IsFront s group variable second limits set = IsSetOf s (IsBelow s group variable second) limits.clause_limit limits.literal_limit set
+IsFront s group variable second limits set =
+    IsSetOf s (IsBelow s group variable second) limits.clause_limit limits.literal_limit set
 
 -- why a set with limits refuses
 abbrev pub IsCauseAt : SpaceView → ClauseList → PushError → Type 0
@@ -40,7 +45,8 @@ IsCauseAt s limits = IsCause s limits.clause_limit limits.literal_limit
 
 -- the same with the clauses of the groups before one
 abbrev pub IsGroupsFront : SpaceView → (group : ℕ) → (limits set : ClauseList) → Type 0
-IsGroupsFront s group limits set = IsSetOf s (λ d. IsDemand s d × (group_of d < group)) limits.clause_limit limits.literal_limit set
+IsGroupsFront s group limits set = IsSetOf s (λ d. IsDemand s d × (group_of d < group)) limits.clause_limit
+    limits.literal_limit set
 
 -- the same with all clauses
 abbrev pub IsWholeSet : SpaceView → (limits set : ClauseList) → Type 0
@@ -48,7 +54,8 @@ IsWholeSet s limits set = IsSetOf s (IsDemand s) limits.clause_limit limits.lite
 
 -- an essential package of the name has a lesser number
 abbrev pub IsNamedBelow : SpaceView → ℕ → List ℕ → Type 0
-IsNamedBelow s number name = (k : ℕ) × (k < number) × IsPackageAnd s.repository.packages k (λ p. (p.essential ≡ true) × (p.name ≡ name))
+IsNamedBelow s number name = (k : ℕ) × (k < number)
+    × IsPackageAnd s.repository.packages k (λ p. (p.essential ≡ true) × (p.name ≡ name))
 
 -- a demand other than a name, or the name of an essential package with a lesser number
 abbrev pub IsNamedSoFar : SpaceView → ℕ → Demand → Type 0
@@ -65,7 +72,8 @@ IsNamedSoFar s number (Required name) = IsNamedBelow s number name
 
 -- the clauses but for those of names that only packages from a number on have
 abbrev pub IsNamedFront : SpaceView → ℕ → (limits set : ClauseList) → Type 0
-IsNamedFront s number limits set = IsSetOf s (λ d. IsDemand s d × IsNamedSoFar s number d) limits.clause_limit limits.literal_limit set
+IsNamedFront s number limits set = IsSetOf s (λ d. IsDemand s d × IsNamedSoFar s number d) limits.clause_limit
+    limits.literal_limit set
 
 -- ---- variables that a clause speaks of
 
@@ -85,7 +93,8 @@ pub record AreVariablesOf (s : SpaceView) (P : Meaning → Type 0) (variables : 
   pub rising : IsStrictlyIncreasing variables
   pub exact : (v : ℕ) → Contains variables v ↔ IsVariableWith s P v
 
--- variables were added, in some order: each new one is of a meaning with one property, and all of another property are there
+-- variables were added, in some order: each new one is of a meaning with one property, and all of another property are
+-- there
 pub record Gathers (s : SpaceView) (old new : List ℕ) (P Q : Meaning → Type 0) : Type 0 where
   pub kept : (v : ℕ) → Contains old v → Contains new v
   pub only : (v : ℕ) → Contains new v → Contains old v ⊎ IsVariableWith s P v

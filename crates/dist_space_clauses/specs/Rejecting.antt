@@ -23,4 +23,5 @@ IsRejecting r name number = IsPackageAnd r.packages number (λ p. Any (λ atom. 
 
 -- beside each name are the packages that have a conflict atom on it
 abbrev pub AreRejecting : PackageList → Entries → Type 0
-AreRejecting r entries = (name : List ℕ) (number : ℕ) → Contains (numbers_at entries name) number ↔ IsRejecting r name number
+AreRejecting r entries = (name : List ℕ) (number : ℕ) → Contains (numbers_at entries name) number
+    ↔ IsRejecting r name number

@@ -1,6 +1,8 @@
--- The clauses of a space: what an assignment must meet to stand for a future and a healthy installation in it, a clause for
+-- The clauses of a space: what an assignment must meet to stand for a future and a healthy installation in it, a clause
+-- for
 -- each demand.
-use Rattle.std.specs.Prelude.{◌≡◌, ◌≢◌, ◌↔◌, ℕ, ◌<◌, true, false, List, [], ◌∷◌, All, AllPairs, Any, Contains, IsSomeAnd, length, map, slice_get, slice_index}
+use Rattle.std.specs.Prelude.{◌≡◌, ◌≢◌, ◌↔◌, ℕ, ◌<◌, true, false, List, [], ◌∷◌, All, AllPairs, Any, Contains}
+use Rattle.std.specs.Prelude.{IsSomeAnd, length, map, slice_get, slice_index}
 use Rattle.std.specs.Cmp.Lexicographic.{slice_cmp}
 use Rattle.std.specs.Ordering.{nat_cmp}
 use Rattle.std.specs.declared.cmp.Ordering.TheVariants.{Less}
@@ -11,7 +13,8 @@ use Rattle.dist_repo.specs.Healthy.{required_names}
 use Rattle.dist_repo.specs.Match.{Matches}
 use Rattle.dist_repo.specs.PackageList.{IsPackageAnd}
 use Rattle.dist_repo.specs.declared.package.Package.{Package}
-use Rattle.dist_space.specs.Space.{SpaceView, AreMeaningsOf, IsMeaning, IsMetBy, cluster_classes, fresh_classes, name_of, variable_of}
+use Rattle.dist_space.specs.Space.{SpaceView, AreMeaningsOf, IsMeaning, IsMetBy, cluster_classes, fresh_classes}
+use Rattle.dist_space.specs.Space.{name_of, variable_of}
 use Rattle.dist_space.specs.declared.meaning.Meaning.{Meaning}
 use Rattle.dist_space.specs.declared.meaning.Meaning.TheVariants.{Now, Present, At, New, Kept, Fresh}
 
@@ -22,9 +25,12 @@ yes s m = literal (variable_of s m) true
 abbrev pub no : SpaceView → Meaning → Literal
 no s m = literal (variable_of s m) false
 
--- What an assignment must meet. Of a cluster: one class at most; none where a member is installed as it is today; its class
--- where a new version of that class is installed; the new version where an entry of it is kept. Of a new name: one class at
--- most. Of a package as it is today: an item, by its place; that another package is not installed. Of the archive of today:
+-- What an assignment must meet. Of a cluster: one class at most; none where a member is installed as it is today; its
+-- class
+-- where a new version of that class is installed; the new version where an entry of it is kept. Of a new name: one
+-- class at
+-- most. Of a package as it is today: an item, by its place; that another package is not installed. Of the archive of
+-- today:
 -- that a cluster is not at a class, and that there is no package of a new name. And that a name is installed.
 pub data Demand : Type 0 where
   OneClass : (cluster first second : ℕ) → Demand
@@ -40,14 +46,17 @@ pub data Demand : Type 0 where
 
 -- another package stands behind in the order of variables, has another name and is in conflict
 abbrev pub Excludes : SpaceView → ℕ → Package → Meaning → Type 0
-Excludes s number p (Present other) = (number < other) × IsPackageAnd s.repository.packages other (AreInConflict s.repository.architecture p)
+Excludes s number p (Present other) = (number < other)
+    × IsPackageAnd s.repository.packages other (AreInConflict s.repository.architecture p)
 Excludes s number p m = IsSomeAnd (name_of s m) (λ name. name ≢ p.name) × IsMetBy s p.conflicts m
 
 -- an item of a package, by their numbers, with a property
 abbrev pub IsItemAnd : SpaceView → (number place : ℕ) → (Package → List Atom → Type 0) → Type 0
-IsItemAnd s number place P = IsPackageAnd s.repository.packages number (λ p. IsSomeAnd (slice_get p.depends place) (P p))
+IsItemAnd s number place P = IsPackageAnd s.repository.packages number
+    (λ p. IsSomeAnd (slice_get p.depends place) (P p))
 
--- The demands of a space: the numbers are in range; an item is none that its own package meets; and at mode essential the names
+-- The demands of a space: the numbers are in range; an item is none that its own package meets; and at mode essential
+-- the names
 -- of the repository's essential packages are required.
 abbrev pub IsDemand : SpaceView → Demand → Type 0
 IsDemand s (OneClass c k l) = (k < l) × (l < length (cluster_classes s c))
@@ -55,8 +64,10 @@ IsDemand s (Gone r k) = IsMeaning s (New r k)
 IsDemand s (Moved r k) = IsMeaning s (New r k)
 IsDemand s (Carried r k j) = IsMeaning s (Kept r k j)
 IsDemand s (OneFresh x k l) = (k < l) × (l < length (fresh_classes s x))
-IsDemand s (Item number place) = IsItemAnd s number place (λ p item. ¬ Any (λ atom. Matches s.repository.architecture atom p) item)
-IsDemand s (Apart number other) = IsMeaning s other × IsPackageAnd s.repository.packages number (λ p. Excludes s number p other)
+IsDemand s (Item number place) = IsItemAnd s number place
+    (λ p item. ¬ Any (λ atom. Matches s.repository.architecture atom p) item)
+IsDemand s (Apart number other) = IsMeaning s other
+    × IsPackageAnd s.repository.packages number (λ p. Excludes s number p other)
 IsDemand s (StaysNow c k) = IsMeaning s (At c k)
 IsDemand s (AbsentNow x k) = IsMeaning s (Fresh x k)
 IsDemand s (Required name) = Contains (required_names s.essential s.repository.packages) name
@@ -121,11 +132,13 @@ IsClauseFor s (Moved r k) clause = clause ≡ no s (New r k) ∷ yes s (At (slic
 IsClauseFor s (Carried r k j) clause = clause ≡ no s (Kept r k j) ∷ yes s (New r k) ∷ []
 IsClauseFor s (OneFresh x k l) clause = clause ≡ no s (Fresh x k) ∷ no s (Fresh x l) ∷ []
 IsClauseFor s (Item number place) clause =
-    (matching : List Meaning) × IsItemAnd s number place (λ p item. AreMeaningsOf s (IsMetBy s item) matching) × (clause ≡ no s (Present number) ∷ map (yes s) matching)
+    (matching : List Meaning) × IsItemAnd s number place (λ p item. AreMeaningsOf s (IsMetBy s item) matching)
+    × (clause ≡ no s (Present number) ∷ map (yes s) matching)
 IsClauseFor s (Apart number other) clause = clause ≡ no s (Present number) ∷ no s other ∷ []
 IsClauseFor s (StaysNow c k) clause = clause ≡ no s Now ∷ no s (At c k) ∷ []
 IsClauseFor s (AbsentNow x k) clause = clause ≡ no s Now ∷ no s (Fresh x k) ∷ []
-IsClauseFor s (Required name) clause = (bearers : List Meaning) × AreMeaningsOf s (IsBearer s name) bearers × (clause ≡ map (yes s) bearers)
+IsClauseFor s (Required name) clause = (bearers : List Meaning) × AreMeaningsOf s (IsBearer s name) bearers
+    × (clause ≡ map (yes s) bearers)
 
 -- The clauses of the demands with a property: one for each demand, in the order of demands.
 pub record AreClausesOf (s : SpaceView) (P : Demand → Type 0) (clauses : List (List Literal)) : Type 0 where

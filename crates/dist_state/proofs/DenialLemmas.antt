@@ -1,5 +1,6 @@
 -- The clauses that a set of variables can make false.
-use Rattle.std.proofs.Common.{◌≡◌, inl, inr, ℕ, suc, ◌+◌, ◌-◌, ◌<◌, ◌≤◌, ◌↔◌, Bool, true, false, List, [], ◌∷◌, ◌++◌, drop, length, get_or, take, refl, sym, ap, subst, ◌∙◌, add-one, arith, if◌then◌else◌}
+use Rattle.std.proofs.Common.{◌≡◌, inl, inr, ℕ, suc, ◌+◌, ◌-◌, ◌<◌, ◌≤◌, ◌↔◌, Bool, true, false, List, [], ◌∷◌, ◌++◌, drop, length, get_or, take, refl, sym, ap}
+use Rattle.std.proofs.Common.{subst, ◌∙◌, add-one, arith, if◌then◌else◌}
 use Rattle.std.specs.List.{Contains}
 use Rattle.std.specs.List.Sorted.{IsNonDecreasingBy, IsPermutation}
 use Rattle.std.proofs.Math.Seq.{drop-cons}
@@ -24,12 +25,14 @@ at-place : (clause : List Literal) (i : ℕ) (l : Literal) → i < length clause
 at-place clause i l within is =
     drop-cons clause i l within ∙ ap (λ (m : Literal). m ∷ drop (suc i) clause) is ∙ ap (λ (n : ℕ). l ∷ drop n clause) (sym (add-one i))
 
-pub denied-more : (clause : List Literal) (i : ℕ) (l : Literal) → i < length clause → get_or clause i l ≡ l → l.positive ≡ true → first_denied clause ≡ first_denied (drop i clause)
+pub denied-more : (clause : List Literal) (i : ℕ) (l : Literal) → i < length clause → get_or clause i l ≡ l → l.positive ≡ true
+    → first_denied clause ≡ first_denied (drop i clause)
     → first_denied clause ≡ first_denied (drop (i + 1) clause)
 denied-more clause i l within is positive so_far =
     so_far ∙ ap first_denied (at-place clause i l within is) ∙ denied-first l (drop (i + 1) clause) true positive
 
-pub denied-here : (clause : List Literal) (i : ℕ) (l : Literal) → i < length clause → get_or clause i l ≡ l → l.positive ≡ false → first_denied clause ≡ first_denied (drop i clause)
+pub denied-here : (clause : List Literal) (i : ℕ) (l : Literal) → i < length clause → get_or clause i l ≡ l → l.positive ≡ false
+    → first_denied clause ≡ first_denied (drop i clause)
     → l.variable ≡ first_denied clause
 denied-here clause i l within is negative so_far =
     sym (so_far ∙ ap first_denied (at-place clause i l within is) ∙ denied-first l (drop (i + 1) clause) false negative)
@@ -42,7 +45,8 @@ denied-true : (value : ℕ → Bool) (clause : List Literal) (v : ℕ) → first
 denied-true value [] v is some out = absurd (some (sym is))
 denied-true value (l ∷ clause) v is some out = at l.positive refl is (λ same. denied-true value clause v same some out)
   where
-    at : (b : Bool) → l.positive ≡ b → (if b then first_denied clause else l.variable) ≡ v → (first_denied clause ≡ v → MakesTrue value clause) → MakesTrue value (l ∷ clause)
+    at : (b : Bool) → l.positive ≡ b → (if b then first_denied clause else l.variable) ≡ v → (first_denied clause ≡ v → MakesTrue value clause)
+        → MakesTrue value (l ∷ clause)
     at true positive same rest = any-later (IsTrueLiteral value) l clause (rest same)
     at false negative same rest = any-head (IsTrueLiteral value) l clause (ap value same ∙ out ∙ sym negative)
 
@@ -50,7 +54,8 @@ denied-true value (l ∷ clause) v is some out = at l.positive refl is (λ same.
 
 -- those of the first clauses
 abbrev pub ArePairsUpTo : List (List Literal) → ℕ → List (ℕ × ℕ) → Type 0
-ArePairsUpTo clauses place pairs = (variable number : ℕ) → Contains pairs (variable, number) ↔ ((1 ≤ number) × (number ≤ place) × (first_denied (clause_at clauses number) ≡ variable))
+ArePairsUpTo clauses place pairs = (variable number : ℕ) → Contains pairs (variable, number)
+    ↔ ((1 ≤ number) × (number ≤ place) × (first_denied (clause_at clauses number) ≡ variable))
 
 pub no-pairs : (clauses : List (List Literal)) → ArePairsUpTo clauses 0 []
 no-pairs clauses variable number = ((λ h. absurd (omega (arith, h.1))), λ h. absurd (omega (arith, h.0, h.1)))
@@ -64,7 +69,8 @@ only-one x y there = elim (contains-cases x [] y there) [
   | inr later ↦ absurd (omega (arith, later.1))
 ]
 
-pub pairs-more : (clauses : List (List Literal)) (pairs : List (ℕ × ℕ)) (place denied : ℕ) → denied ≡ first_denied (clause_at clauses (place + 1)) → ArePairsUpTo clauses place pairs
+pub pairs-more : (clauses : List (List Literal)) (pairs : List (ℕ × ℕ)) (place denied : ℕ) → denied ≡ first_denied (clause_at clauses (place + 1))
+    → ArePairsUpTo clauses place pairs
     → ArePairsUpTo clauses (place + 1) (pairs ++ (denied, place + 1) ∷ [])
 pairs-more clauses pairs place denied is so_far variable number = (
   (λ h. elim (Contains-append_cases pairs ((denied, place + 1) ∷ []) (variable, number) h) [
@@ -88,7 +94,8 @@ pairs-more clauses pairs place denied is so_far variable number = (
 pub front-clause : (clauses : List (List Literal)) (n number : ℕ) → 1 ≤ number → number ≤ n → clause_at (take n clauses) number ≡ clause_at clauses number
 front-clause clauses n number from upto = get_or-take n clauses (number - 1) [] (omega (arith, from, upto))
 
-pub denials-from : (clauses : List (List Literal)) (n : ℕ) (pairs : List (ℕ × ℕ)) → n ≤ length clauses → ArePairsUpTo clauses n pairs → AreDenialsOf (take n clauses) pairs
+pub denials-from : (clauses : List (List Literal)) (n : ℕ) (pairs : List (ℕ × ℕ)) → n ≤ length clauses → ArePairsUpTo clauses n pairs
+    → AreDenialsOf (take n clauses) pairs
 denials-from clauses n pairs within are variable number =
     let size : length (take n clauses) ≡ n = length-take-le n clauses within in (
       (λ h.
@@ -99,7 +106,8 @@ denials-from clauses n pairs within are variable number =
           (are variable number).1 (h.0.0, upto, sym (ap first_denied (front-clause clauses n number h.0.0 upto)) ∙ h.1),
     )
 
-pub denials-moved : (clauses : List (List Literal)) (pairs sorted : List (ℕ × ℕ)) → AreDenialsOf clauses pairs → IsPermutation pairs sorted → AreDenialsOf clauses sorted
+pub denials-moved : (clauses : List (List Literal)) (pairs sorted : List (ℕ × ℕ)) → AreDenialsOf clauses pairs → IsPermutation pairs sorted
+    → AreDenialsOf clauses sorted
 denials-moved clauses pairs sorted are moved variable number = (
   (λ h. (are variable number).0 (Contains-permutation sorted pairs (variable, number) (IsPermutation-sym pairs sorted moved) h)),
   λ h. Contains-permutation pairs sorted (variable, number) moved ((are variable number).1 h),
@@ -109,31 +117,36 @@ denials-moved clauses pairs sorted are moved variable number = (
 
 -- the clauses of a variable's pairs before a place are true
 abbrev pub AreTrueUpTo : (ℕ → Bool) → List (List Literal) → List (ℕ × ℕ) → ℕ → ℕ → Type 0
-AreTrueUpTo value clauses pairs variable place = (number k : ℕ) → k < place → k < length pairs → get_or pairs k (variable, number) ≡ (variable, number) → MakesTrue value (clause_at clauses number)
+AreTrueUpTo value clauses pairs variable place = (number k : ℕ) → k < place → k < length pairs → get_or pairs k (variable, number) ≡ (variable, number)
+    → MakesTrue value (clause_at clauses number)
 
 abbrev pub AreTrue : (ℕ → Bool) → List (List Literal) → List (ℕ × ℕ) → ℕ → Type 0
 AreTrue value clauses pairs variable = (number : ℕ) → Contains pairs (variable, number) → MakesTrue value (clause_at clauses number)
 
 -- before the place where they begin there are none
-pub none-before : (value : ℕ → Bool) (clauses : List (List Literal)) (pairs : List (ℕ × ℕ)) (variable start : ℕ) → ((k : ℕ) (d : ℕ × ℕ) → k < start → (get_or pairs k d).0 < variable)
+pub none-before : (value : ℕ → Bool) (clauses : List (List Literal)) (pairs : List (ℕ × ℕ)) (variable start : ℕ)
+    → ((k : ℕ) (d : ℕ × ℕ) → k < start → (get_or pairs k d).0 < variable)
     → AreTrueUpTo value clauses pairs variable start
 none-before value clauses pairs variable start low number k before within is =
     let less = low k (variable, number) before in
     let same : (get_or pairs k (variable, number)).0 ≡ variable = ap (λ (x : ℕ × ℕ). x.0) is in
     absurd (omega (arith, less, same))
 
-pub true-more : (value : ℕ → Bool) (clauses : List (List Literal)) (pairs : List (ℕ × ℕ)) (variable place : ℕ) (x : ℕ × ℕ) → place < length pairs → get_or pairs place x ≡ x → MakesTrue value (clause_at clauses x.1)
+pub true-more : (value : ℕ → Bool) (clauses : List (List Literal)) (pairs : List (ℕ × ℕ)) (variable place : ℕ) (x : ℕ × ℕ) → place < length pairs
+    → get_or pairs place x ≡ x → MakesTrue value (clause_at clauses x.1)
     → AreTrueUpTo value clauses pairs variable place → AreTrueUpTo value clauses pairs variable (place + 1)
 true-more value clauses pairs variable place x there here holds so_far number k before within is = elim (cases_lt k place) [
   | inl less ↦ so_far number k less within is
   | inr past ↦
       let same : k ≡ place = omega (arith, before, past) in
-      let pair : x ≡ (variable, number) = sym here ∙ get_or_default pairs place x (variable, number) there ∙ ap (λ (n : ℕ). get_or pairs n (variable, number)) (sym same) ∙ is in
+      let pair : x ≡ (variable, number) = sym here ∙ get_or_default pairs place x (variable, number) there
+      ∙ ap (λ (n : ℕ). get_or pairs n (variable, number)) (sym same) ∙ is in
       subst (λ n. MakesTrue value (clause_at clauses n)) (ap (λ (y : ℕ × ℕ). y.1) pair) holds
 ]
 
 -- behind a pair of a later variable there are none
-pub true-at-end : (value : ℕ → Bool) (clauses : List (List Literal)) (pairs : List (ℕ × ℕ)) (variable place : ℕ) (x : ℕ × ℕ) → IsNonDecreasingBy (λ (pair : ℕ × ℕ). pair.0) pairs → place < length pairs → get_or pairs place x ≡ x
+pub true-at-end : (value : ℕ → Bool) (clauses : List (List Literal)) (pairs : List (ℕ × ℕ)) (variable place : ℕ) (x : ℕ × ℕ)
+    → IsNonDecreasingBy (λ (pair : ℕ × ℕ). pair.0) pairs → place < length pairs → get_or pairs place x ≡ x
     → variable < x.0 → AreTrueUpTo value clauses pairs variable place → AreTrue value clauses pairs variable
 true-at-end value clauses pairs variable place x rising there here past so_far number pair = elim (cases_lt pair.0 place) [
   | inl before ↦ so_far number pair.0 before pair.1 pair.2
@@ -144,7 +157,8 @@ true-at-end value clauses pairs variable place x rising there here past so_far n
       absurd (omega (arith, low, first, second, past))
 ]
 
-pub true-all : (value : ℕ → Bool) (clauses : List (List Literal)) (pairs : List (ℕ × ℕ)) (variable place : ℕ) → length pairs ≤ place → AreTrueUpTo value clauses pairs variable place → AreTrue value clauses pairs variable
+pub true-all : (value : ℕ → Bool) (clauses : List (List Literal)) (pairs : List (ℕ × ℕ)) (variable place : ℕ) → length pairs ≤ place
+    → AreTrueUpTo value clauses pairs variable place → AreTrue value clauses pairs variable
 true-all value clauses pairs variable place past so_far number pair = so_far number pair.0 (let low = pair.1 in omega (arith, low, past)) pair.1 pair.2
 
 -- ---- all clauses
@@ -153,9 +167,11 @@ clause-is : (clauses : List (List Literal)) (k : ℕ) (d : List Literal) → k <
 clause-is clauses k d within =
     let place : k + 1 - 1 ≡ k = omega arith in ap (λ (n : ℕ). get_or clauses n []) place ∙ get_or_default clauses k [] d within
 
-pub model-from : (clauses : List (List Literal)) (pairs : List (ℕ × ℕ)) (variables : List ℕ) → AreDenialsOf clauses pairs → AreTrue (is_among variables) clauses pairs 0
+pub model-from : (clauses : List (List Literal)) (pairs : List (ℕ × ℕ)) (variables : List ℕ) → AreDenialsOf clauses pairs
+    → AreTrue (is_among variables) clauses pairs 0
     → ((v : ℕ) → Contains variables v → AreTrue (is_among variables) clauses pairs v) → IsModel (is_among variables) clauses
-model-from clauses pairs variables are none each k d within = subst (MakesTrue (is_among variables)) (clause-is clauses k d within) (by (first_denied (clause_at clauses (k + 1))) refl)
+model-from clauses pairs variables are none each k d within =
+    subst (MakesTrue (is_among variables)) (clause-is clauses k d within) (by (first_denied (clause_at clauses (k + 1))) refl)
   where
     by : (v : ℕ) → first_denied (clause_at clauses (k + 1)) ≡ v → MakesTrue (is_among variables) (clause_at clauses (k + 1))
     by v is =
@@ -168,7 +184,8 @@ model-from clauses pairs variables are none each k d within = subst (MakesTrue (
           ]
         ]
 
-pub from-model : (value : ℕ → Bool) (clauses : List (List Literal)) (pairs : List (ℕ × ℕ)) (variable : ℕ) → AreDenialsOf clauses pairs → IsModel value clauses → AreTrue value clauses pairs variable
+pub from-model : (value : ℕ → Bool) (clauses : List (List Literal)) (pairs : List (ℕ × ℕ)) (variable : ℕ) → AreDenialsOf clauses pairs → IsModel value clauses
+    → AreTrue value clauses pairs variable
 from-model value clauses pairs variable are model number pair =
     let is = (are variable number).0 pair in
     model (number - 1) [] (let from = is.0.0 in let upto = is.0.1 in omega (arith, from, upto))

@@ -10,7 +10,8 @@ pub record IsGrown (old new : ClauseLog) : Type 0 where
   pub inputs : inputs_of new ≡ inputs_of old
   pub more : length old.clauses ≤ length new.clauses
 
-pub grown : (old new : ClauseLog) (clause : List Literal) (result : Result (Unit {0}) WorkError) → old.inputs ≤ length old.clauses → OnOk result (new ≡ record old { clauses = old.clauses ++ clause ∷ [] }) → OnErr result (new ≡ old) → IsGrown old new
+pub grown : (old new : ClauseLog) (clause : List Literal) (result : Result (Unit {0}) WorkError) → old.inputs ≤ length old.clauses
+    → OnOk result (new ≡ record old { clauses = old.clauses ++ clause ∷ [] }) → OnErr result (new ≡ old) → IsGrown old new
 grown old new clause (Ok u) within ok err = record {
   variables = ap (λ (l : ClauseLog). l.variables) ok;
   inputs = ap inputs_of ok ∙ take-append-le old.inputs old.clauses (clause ∷ []) within;

@@ -13,7 +13,8 @@ use Rattle.dist_state.specs.State.{names_above}
 
 pub clause-over : (n : ℕ) (literals : List Word) → AreLiteralsOver n literals → IsClauseOver n (clause_of literals)
 clause-over n literals over = record {
-  in_range = All-map (λ l. (1 ≤ l.variable) × (l.variable ≤ n)) (λ (word : Word). literal word.0 word.1) literals (λ k d within. (over.form.0 k d within, over.upto k d within));
+  in_range = All-map (λ l. (1 ≤ l.variable) × (l.variable ≤ n)) (λ (word : Word). literal word.0 word.1) literals
+      (λ k d within. (over.form.0 k d within, over.upto k d within));
   distinct = pairs-map (λ l m. l.variable ≢ m.variable) (λ (word : Word). literal word.0 word.1) literals over.form.1;
 }
 

@@ -11,7 +11,8 @@ first_denied (l ∷ clause) = if l.positive then first_denied clause else l.vari
 
 -- The pairs are those of each clause: the variable of its first negative literal, or 0, and its number.
 abbrev pub AreDenialsOf : List (List Literal) → List (ℕ × ℕ) → Type 0
-AreDenialsOf clauses pairs = (variable number : ℕ) → Contains pairs (variable, number) ↔ (IsNumberOf clauses number × (first_denied (clause_at clauses number) ≡ variable))
+AreDenialsOf clauses pairs = (variable number : ℕ) → Contains pairs (variable, number)
+    ↔ (IsNumberOf clauses number × (first_denied (clause_at clauses number) ≡ variable))
 
 dependency : first_denied (literal 2 false ∷ literal 5 true ∷ []) ≡ 2
 dependency = refl

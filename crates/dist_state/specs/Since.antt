@@ -11,7 +11,8 @@ use Rattle.dist_cert.specs.Form.{Word, AreLiterals}
 
 -- each clause with a number above the last one was new over those before it
 abbrev pub AreNewFrom : List (List Literal) → ℕ → List Literal → ℕ → Type 0
-AreNewFrom clauses inputs assumptions last = (number : ℕ) → last < number → number ≤ length clauses → IsNew (take (number - 1) clauses) inputs assumptions (clause_at clauses number)
+AreNewFrom clauses inputs assumptions last = (number : ℕ) → last < number → number ≤ length clauses
+    → IsNew (take (number - 1) clauses) inputs assumptions (clause_at clauses number)
 
 -- literals of variables from 1 to the last, none of which stands twice
 pub record AreLiteralsOver (last : ℕ) (literals : List Word) : Type 0 where
@@ -21,6 +22,7 @@ pub record AreLiteralsOver (last : ℕ) (literals : List Word) : Type 0 where
 -- why a clause was not added to a log
 abbrev pub IsAppendCause : ClauseLog → List Literal → WorkError → Type 0
 IsAppendCause log clause (TooLarge Lines) = length (lines_of log) ≡ log.line_limit
-IsAppendCause log clause (TooLarge LineLiterals) = (length (lines_of log) < log.line_limit) × (log.line_literal_limit < literal_count (lines_of log) + length clause)
+IsAppendCause log clause (TooLarge LineLiterals) = (length (lines_of log) < log.line_limit)
+    × (log.line_literal_limit < literal_count (lines_of log) + length clause)
 IsAppendCause log clause NoMemory = Unit {0}
 IsAppendCause log clause error = ⊥

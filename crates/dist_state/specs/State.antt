@@ -1,5 +1,6 @@
 -- What a checker keeps of the lines before a line, and what it tells of the next one.
-use Rattle.std.specs.Prelude.{◌≡◌, ◌==◌, ◌&&◌, ℕ, ◌+◌, ◌<◌, ◌≤◌, Bool, true, false, List, [], ◌∷◌, ◌++◌, Option, Some, None, MatchOption, MatchBool, length, map, nat_le, nat_lt}
+use Rattle.std.specs.Prelude.{◌≡◌, ◌==◌, ◌&&◌, ℕ, ◌+◌, ◌<◌, ◌≤◌, Bool, true, false, List, [], ◌∷◌, ◌++◌, Option, Some}
+use Rattle.std.specs.Prelude.{None, MatchOption, MatchBool, length, map, nat_le, nat_lt}
 use Rattle.std.specs.List.{list_any}
 use Rattle.dist_outside.specs.declared.trouble.WorkError.{WorkError}
 use Rattle.dist_outside.specs.declared.trouble.WorkError.TheVariants.{NoMemory}
@@ -7,7 +8,9 @@ use Rattle.dist_clause.specs.Formula.{negation, IsModel}
 use Rattle.dist_derive.specs.ClauseLog.{ClauseLog, IsWithinLineLimits, inputs_of}
 use Rattle.dist_derive.specs.Follows.{Follows}
 use Rattle.dist_cert.specs.declared.faults.CertCause.{CertCause}
-use Rattle.dist_cert.specs.declared.faults.CertCause.TheVariants.{OutOfRange, OutOfOrder, UnknownLine, BadLine, NotAnInstallation, LimitNotReached, NotNew, WrongClaim, Incomplete}
+use Rattle.dist_cert.specs.declared.faults.CertCause.TheVariants.{OutOfRange, OutOfOrder, UnknownLine, BadLine}
+use Rattle.dist_cert.specs.declared.faults.CertCause.TheVariants.{NotAnInstallation, LimitNotReached, NotNew}
+use Rattle.dist_cert.specs.declared.faults.CertCause.TheVariants.{WrongClaim, Incomplete}
 use Rattle.dist_cert.specs.declared.faults.ReadCertError.{ReadCertError}
 use Rattle.dist_cert.specs.declared.faults.ReadCertError.TheVariants.{Bad, Work}
 use Rattle.dist_cert.specs.declared.records.CertRecord.{CertRecord}
@@ -27,7 +30,8 @@ pub record QuestionView : Type 0 where
   pub assumptions : List Word
   pub last : ℕ
 
--- The limit of the first line, the number of packages, the clauses, installations and group, the open question, the package
+-- The limit of the first line, the number of packages, the clauses, installations and group, the open question, the
+-- package
 -- of the next claim, and the claims.
 pub record StateView : Type 0 where
   pub limit : ℕ
@@ -54,31 +58,40 @@ TellsQuestion last literals (Some OutOfRange) = names_above last literals ≡ tr
 TellsQuestion last literals (Some cause) = ⊥
 
 abbrev pub TellsDerived : ClauseLog → List Word → List ℕ → Option CertCause → Type 0
-TellsDerived log literals hints None = (names_above log.variables literals ≡ false) × (is_above (length log.clauses) hints ≡ false) × Follows log.clauses (clause_of literals) hints
+TellsDerived log literals hints None = (names_above log.variables literals ≡ false)
+    × (is_above (length log.clauses) hints ≡ false) × Follows log.clauses (clause_of literals) hints
 TellsDerived log literals hints (Some OutOfRange) = names_above log.variables literals ≡ true
-TellsDerived log literals hints (Some UnknownLine) = (names_above log.variables literals ≡ false) × (is_above (length log.clauses) hints ≡ true)
-TellsDerived log literals hints (Some BadLine) = (names_above log.variables literals ≡ false) × (is_above (length log.clauses) hints ≡ false) × (¬ Follows log.clauses (clause_of literals) hints)
+TellsDerived log literals hints (Some UnknownLine) = (names_above log.variables literals ≡ false)
+    × (is_above (length log.clauses) hints ≡ true)
+TellsDerived log literals hints (Some BadLine) = (names_above log.variables literals ≡ false)
+    × (is_above (length log.clauses) hints ≡ false) × (¬ Follows log.clauses (clause_of literals) hints)
 TellsDerived log literals hints (Some cause) = ⊥
 
 abbrev pub TellsRefuted : ClauseLog → Option QuestionView → List ℕ → Option CertCause → Type 0
 TellsRefuted log None hints found = found ≡ Some OutOfOrder
-TellsRefuted log (Some question) hints None = (is_above (length log.clauses) hints ≡ false) × Follows log.clauses (map negation (clause_of question.assumptions)) hints
+TellsRefuted log (Some question) hints None = (is_above (length log.clauses) hints ≡ false)
+    × Follows log.clauses (map negation (clause_of question.assumptions)) hints
 TellsRefuted log (Some question) hints (Some UnknownLine) = is_above (length log.clauses) hints ≡ true
-TellsRefuted log (Some question) hints (Some BadLine) = (is_above (length log.clauses) hints ≡ false) × (¬ Follows log.clauses (map negation (clause_of question.assumptions)) hints)
+TellsRefuted log (Some question) hints (Some BadLine) = (is_above (length log.clauses) hints ≡ false)
+    × (¬ Follows log.clauses (map negation (clause_of question.assumptions)) hints)
 TellsRefuted log (Some question) hints (Some cause) = ⊥
 
 -- an installation is a model of the input clauses
 abbrev pub TellsInstallation : ClauseLog → List ℕ → Option CertCause → Type 0
-TellsInstallation log variables None = (is_above log.variables variables ≡ false) × IsModel (is_among variables) (inputs_of log)
+TellsInstallation log variables None = (is_above log.variables variables ≡ false)
+    × IsModel (is_among variables) (inputs_of log)
 TellsInstallation log variables (Some OutOfRange) = is_above log.variables variables ≡ true
-TellsInstallation log variables (Some NotAnInstallation) = (is_above log.variables variables ≡ false) × (¬ IsModel (is_among variables) (inputs_of log))
+TellsInstallation log variables (Some NotAnInstallation) = (is_above log.variables variables ≡ false)
+    × (¬ IsModel (is_among variables) (inputs_of log))
 TellsInstallation log variables (Some cause) = ⊥
 
 abbrev pub TellsUndecided : ClauseLog → ℕ → Option QuestionView → Option CertCause → Type 0
 TellsUndecided log limit None found = found ≡ Some OutOfOrder
-TellsUndecided log limit (Some question) None = (question.last + limit ≤ length log.clauses) × AreNewFrom log.clauses log.inputs (clause_of question.assumptions) question.last
+TellsUndecided log limit (Some question) None = (question.last + limit ≤ length log.clauses)
+    × AreNewFrom log.clauses log.inputs (clause_of question.assumptions) question.last
 TellsUndecided log limit (Some question) (Some LimitNotReached) = length log.clauses < question.last + limit
-TellsUndecided log limit (Some question) (Some NotNew) = (question.last + limit ≤ length log.clauses) × (¬ AreNewFrom log.clauses log.inputs (clause_of question.assumptions) question.last)
+TellsUndecided log limit (Some question) (Some NotNew) = (question.last + limit ≤ length log.clauses)
+    × (¬ AreNewFrom log.clauses log.inputs (clause_of question.assumptions) question.last)
 TellsUndecided log limit (Some question) (Some cause) = ⊥
 
 -- the package is the next one, and is not above the last
@@ -111,7 +124,8 @@ Tells s (lines.Installation variables) = TellsInstallation s.log variables
 Tells s lines.Undecided = TellsUndecided s.log s.limit s.question
 Tells s (lines.NotInstallable p) = TellsClaim (is_next s.next s.packages p) s.group.refuted.alone
 Tells s (lines.Unknown p) = TellsClaim (is_next s.next s.packages p) s.group.undecided.alone
-Tells s (lines.Strong p named on undecided) = TellsStrong (is_next s.next s.packages p) s.window s.group s.packages p named on undecided
+Tells s (lines.Strong p named on undecided) =
+    TellsStrong (is_next s.next s.packages p) s.window s.group s.packages p named on undecided
 Tells s (lines.Outdated p) = TellsClaim (is_next s.next s.packages p) false
 Tells s (lines.Alive p installation) = TellsClaim (is_next s.next s.packages p) false
 Tells s (lines.Challenged p named by undecided) = TellsClaim (is_next s.next s.packages p) false
@@ -129,7 +143,11 @@ Allows s (lines.Strong p named on undecided) = is_next s.next s.packages p ≡ t
 Allows s step = Unit {0}
 
 abbrev pub empty_group : GroupView
-empty_group = record { refuted = record { alone = false; without = [] }; undecided = record { alone = false; without = [] }; common = None }
+empty_group = record {
+  refuted = record { alone = false; without = [] };
+  undecided = record { alone = false; without = [] };
+  common = None;
+}
 
 -- the open question is closed, and its answer is noted in the group
 pub record Answers (s t : StateView) (refuted : Bool) : Type 0 where
@@ -145,8 +163,10 @@ after_claim s made = record s { question = None; next = s.next + 1; group = empt
 
 -- what is kept behind the line
 abbrev pub Becomes : StateView → CertRecord → StateView → Type 0
-Becomes s (lines.Question literals) t = t ≡ record s { question = Some (record { assumptions = literals; last = length s.log.clauses }) }
-Becomes s (lines.Derived literals hints) t = t ≡ record s { log = record s.log { clauses = s.log.clauses ++ clause_of literals ∷ [] } }
+Becomes s (lines.Question literals) t = t ≡ record s
+    { question = Some (record { assumptions = literals; last = length s.log.clauses }) }
+Becomes s (lines.Derived literals hints) t =
+    t ≡ record s { log = record s.log { clauses = s.log.clauses ++ clause_of literals ∷ [] } }
 Becomes s (lines.Refuted hints) t = Answers s t true
 Becomes s lines.Undecided t = Answers s t false
 Becomes s (lines.Installation variables) t = t ≡ record s {

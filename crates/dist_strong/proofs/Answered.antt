@@ -1,5 +1,6 @@
 -- What stands behind the lines of a question, and what may close it.
-use Rattle.std.proofs.Common.{◌≡◌, ℕ, ◌+◌, ◌<◌, ◌≤◌, ◌^◌, Bool, ◌||◌, true, false, List, [], ◌∷◌, ◌++◌, length, map, refl, ap, sym, subst, ◌∙◌, append_assoc, append-nil, arith, length-append}
+use Rattle.std.proofs.Common.{◌≡◌, ℕ, ◌+◌, ◌<◌, ◌≤◌, ◌^◌, Bool, ◌||◌, true, false, List, [], ◌∷◌, ◌++◌, length, map, refl, ap, sym, subst, ◌∙◌, append_assoc}
+use Rattle.std.proofs.Common.{append-nil, arith, length-append}
 use Rattle.std.specs.List.{All, AllPass, list_any}
 use Rattle.std.proofs.lemmas.Bool.{or_parts}
 use Rattle.std.proofs.lemmas.Grind.{flat_map-append}
@@ -43,9 +44,11 @@ derived-records clauses (line ∷ lines) (d ∷ ds) evidence =
     ap (λ (c : List Literal). c ∷ derived (records lines ds)) (clause-words line)
     ∙ ap (λ (cs : List (List Literal)). line ∷ cs) (derived-records (clauses ++ line ∷ []) lines ds evidence.2)
 
-pub lines-are : (old new : ClauseLog) (ds : List DerivedLine) (assumptions : List Literal) (limit : ℕ) (adds : Adds old new ds assumptions limit) → derived (derived_lines new.clauses ds) ≡ adds.lines
+pub lines-are : (old new : ClauseLog) (ds : List DerivedLine) (assumptions : List Literal) (limit : ℕ) (adds : Adds old new ds assumptions limit)
+    → derived (derived_lines new.clauses ds) ≡ adds.lines
 lines-are old new ds assumptions limit adds =
-    ap derived (sym (records-same old.clauses adds.lines ds new.clauses adds.follow (ap (λ (l : ClauseLog). l.clauses) adds.log))) ∙ derived-records old.clauses adds.lines ds adds.follow
+    ap derived (sym (records-same old.clauses adds.lines ds new.clauses adds.follow (ap (λ (l : ClauseLog). l.clauses) adds.log)))
+    ∙ derived-records old.clauses adds.lines ds adds.follow
 
 -- each is a derived line, which is no end, leaves a question open and has no installation
 pub only-derived : (clauses : List (List Literal)) (ds : List DerivedLine) → AllPass is_derived (derived_lines clauses ds)
@@ -62,7 +65,8 @@ no-ends : (clauses : List (List Literal)) (ds : List DerivedLine) → list_any i
 no-ends clauses [] = refl
 no-ends clauses (d ∷ ds) = no-ends clauses ds
 
-pub derived-over : (clauses lines : List (List Literal)) (ds : List DerivedLine) (all : List (List Literal)) → EachIsEvidence clauses lines ds → all ≡ clauses ++ lines → AreDerived all ds
+pub derived-over : (clauses lines : List (List Literal)) (ds : List DerivedLine) (all : List (List Literal)) → EachIsEvidence clauses lines ds
+    → all ≡ clauses ++ lines → AreDerived all ds
 derived-over clauses [] [] all evidence is = All-nil (λ d. (1 ≤ d.line) × (d.line ≤ length all) × AreFromOne d.hints)
 derived-over clauses [] (d ∷ ds) all evidence is = absurd evidence
 derived-over clauses (line ∷ lines) [] all evidence is = absurd evidence
@@ -74,8 +78,10 @@ derived-over clauses (line ∷ lines) (d ∷ ds) all evidence is =
 
 -- ---- behind the question's own line
 
-after-question : (g : Setting) (before : List CertRecord) (question : List Word) (log : ClauseLog) (limit : ℕ) → IsLogAt g before log limit → numbered (matter_in g) (before ++ Question question ∷ []) ≡ log.clauses
-after-question g before question log limit at = ap (λ (cs : List (List Literal)). g.inputs ++ cs) (derived-append before (Question question ∷ []) ∙ append-nil (derived before)) ∙ sym at.clauses
+after-question : (g : Setting) (before : List CertRecord) (question : List Word) (log : ClauseLog) (limit : ℕ) → IsLogAt g before log limit
+    → numbered (matter_in g) (before ++ Question question ∷ []) ≡ log.clauses
+after-question g before question log limit at = ap (λ (cs : List (List Literal)). g.inputs ++ cs)
+    (derived-append before (Question question ∷ []) ∙ append-nil (derived before)) ∙ sym at.clauses
 
 all-right : {X : Type 0} (P : X → Type 0) (xs ys : List X) → All P (xs ++ ys) → All P ys
 all-right P [] ys all = all
@@ -87,36 +93,49 @@ pub record IsSmallLog (log : ClauseLog) : Type 0 where
   pub clauses : length log.clauses < 2 ^ 32
   pub within : IsWithinLineLimits log
 
-pub small-log : (log : ClauseLog) (variables count : ℕ) → variables ≡ log.variables → variables ≤ MAX_VARIABLES → count ≡ length log.clauses → count ≤ MAX_CLAUSES + MAX_LINES → IsWithinLineLimits log → IsSmallLog log
-small-log log variables count are stated is total within = record { variables = omega (arith, are, stated); clauses = omega (arith, is, total); within = within }
+pub small-log : (log : ClauseLog) (variables count : ℕ) → variables ≡ log.variables → variables ≤ MAX_VARIABLES → count ≡ length log.clauses
+    → count ≤ MAX_CLAUSES + MAX_LINES → IsWithinLineLimits log → IsSmallLog log
+small-log log variables count are stated is total within =
+    record { variables = omega (arith, are, stated); clauses = omega (arith, is, total); within = within }
 
-pub derived-all : (g : Setting) (before : List CertRecord) (question : List Word) (old new : ClauseLog) (ds : List DerivedLine) (limit : ℕ) → IsLogAt g before old limit
+pub derived-all : (g : Setting) (before : List CertRecord) (question : List Word) (old new : ClauseLog) (ds : List DerivedLine) (limit : ℕ)
+    → IsLogAt g before old limit
     → Adds old new ds (clause_of question) limit → IsSmallLog new → AllNext g (before ++ Question question ∷ []) (derived_lines new.clauses ds)
 derived-all g before question old new ds limit at adds small =
     let clauses : new.clauses ≡ old.clauses ++ adds.lines = ap (λ (l : ClauseLog). l.clauses) adds.log in
     let variables : new.variables ≡ length g.repo.packages = ap (λ (l : ClauseLog). l.variables) adds.log ∙ at.variables in
     let over : All (IsClauseOver (length g.repo.packages)) adds.lines
     = all-right (IsClauseOver (length g.repo.packages)) old.clauses adds.lines
-    (subst (λ cs. All (IsClauseOver (length g.repo.packages)) cs) clauses (subst (λ n. All (IsClauseOver n) new.clauses) variables small.within.over_variables)) in
+    (subst (λ cs. All (IsClauseOver (length g.repo.packages)) cs) clauses (subst (λ n. All (IsClauseOver n) new.clauses) variables small.within.over_variables))
+    in
     subst (λ (rs : List CertRecord). AllNext g (before ++ Question question ∷ []) rs) (records-same old.clauses adds.lines ds new.clauses adds.follow clauses)
-    (derived-next g question at.strong (omega (arith, small.variables, variables)) (before ++ Question question ∷ []) [] old.clauses adds.lines ds (none-ended before (Question question ∷ []) at.not_ended refl)
-    (asking-first before question) (after-question g before question old limit at) adds.follow (subst (λ n. EachIsNew old.clauses n (clause_of question) adds.lines) at.inputs adds.are_new)
-    (subst (λ n. All (λ d. IsShort n d.hints) ds) at.variables adds.short) over (omega (arith, adds.few, at.limit_is)) (omega (arith, small.clauses, ap length clauses, length-append old.clauses adds.lines)))
+    (derived-next g question at.strong (omega (arith, small.variables, variables)) (before ++ Question question ∷ []) [] old.clauses adds.lines ds
+    (none-ended before (Question question ∷ []) at.not_ended refl)
+    (asking-first before question) (after-question g before question old limit at) adds.follow
+    (subst (λ n. EachIsNew old.clauses n (clause_of question) adds.lines) at.inputs adds.are_new)
+    (subst (λ n. All (λ d. IsShort n d.hints) ds) at.variables adds.short) over (omega (arith, adds.few, at.limit_is))
+    (omega (arith, small.clauses, ap length clauses, length-append old.clauses adds.lines)))
 
 -- ---- behind the derived lines
 
 unfoldable pub asking-derived : (before : List CertRecord) (question : List Word) (clauses : List (List Literal)) (ds : List DerivedLine)
     → IsAsking (before ++ Question question ∷ derived_lines clauses ds) question (derived_lines clauses ds)
-asking-derived before question clauses ds = record { earlier = before; opened = record { ends = refl; left_open = leaves-open clauses ds }; no_installation = none-installed clauses ds }
+asking-derived before question clauses ds = record {
+  earlier = before;
+  opened = record { ends = refl; left_open = leaves-open clauses ds };
+  no_installation = none-installed clauses ds;
+}
 
-pub log-derived : (g : Setting) (before : List CertRecord) (question : List Word) (old new : ClauseLog) (ds : List DerivedLine) (limit : ℕ) → IsLogAt g before old limit → Adds old new ds (clause_of question) limit
+pub log-derived : (g : Setting) (before : List CertRecord) (question : List Word) (old new : ClauseLog) (ds : List DerivedLine) (limit : ℕ)
+    → IsLogAt g before old limit → Adds old new ds (clause_of question) limit
     → IsLogAt g (before ++ Question question ∷ derived_lines new.clauses ds) new limit
 log-derived g before question old new ds limit at adds = record {
   strong = at.strong;
   limit_is = at.limit_is;
   ordered = at.ordered;
   present = at.present;
-  clauses = ap (λ (l : ClauseLog). l.clauses) adds.log ∙ ap (λ (cs : List (List Literal)). cs ++ adds.lines) at.clauses ∙ append_assoc g.inputs (derived before) adds.lines
+  clauses = ap (λ (l : ClauseLog). l.clauses) adds.log ∙ ap (λ (cs : List (List Literal)). cs ++ adds.lines) at.clauses
+      ∙ append_assoc g.inputs (derived before) adds.lines
       ∙ ap (λ (cs : List (List Literal)). g.inputs ++ (derived before ++ cs)) (sym (lines-are old new ds (clause_of question) limit adds))
       ∙ ap (λ (cs : List (List Literal)). g.inputs ++ cs) (sym (derived-append before (Question question ∷ derived_lines new.clauses ds)));
   inputs = ap (λ (l : ClauseLog). l.inputs) adds.log ∙ at.inputs;

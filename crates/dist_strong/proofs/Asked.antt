@@ -1,5 +1,6 @@
 -- A question with all its lines.
-use Rattle.std.proofs.Common.{◌≡◌, ◌≢◌, ℕ, ◌<◌, ◌≤◌, ◌^◌, ◌++◌, Bool, false, List, [], ◌∷◌, length, refl, ap, sym, subst, ◌∙◌, append_assoc, append-nil, arith, Ok}
+use Rattle.std.proofs.Common.{◌≡◌, ◌≢◌, ℕ, ◌<◌, ◌≤◌, ◌^◌, ◌++◌, Bool, false, List, [], ◌∷◌, length, refl, ap, sym, subst, ◌∙◌, append_assoc, append-nil, arith}
+use Rattle.std.proofs.Common.{Ok}
 use Rattle.std.specs.List.{All, list_any}
 use Rattle.std.proofs.lemmas.List.Elements.{All-map}
 use Rattle.dist_clause.specs.Formula.{Literal, literal, IsClauseOver, IsTrueLiteral, value_of}
@@ -32,7 +33,8 @@ use Rattle.dist_strong.proofs.Closing.{Derives, DerivesNone}
 
 pub clause-over : (n : ℕ) (words : List Word) → IsOver n words → IsClauseOver n (clause_of words)
 clause-over n words over = record {
-  in_range = All-map (λ l. (1 ≤ l.variable) × (l.variable ≤ n)) (λ (word : Word). literal word.0 word.1) words (λ k d within. (over.form.0 k d within, over.upto k d within));
+  in_range = All-map (λ l. (1 ≤ l.variable) × (l.variable ≤ n)) (λ (word : Word). literal word.0 word.1) words
+      (λ k d within. (over.form.0 k d within, over.upto k d within));
   distinct = pairs-map (λ l m. l.variable ≢ m.variable) (λ (word : Word). literal word.0 word.1) words over.form.1;
 }
 
@@ -41,42 +43,58 @@ pub at-view : (g : Setting) (before : List CertRecord) (t s : AskerView) → t �
 at-view g before t s is at = subst (λ v. IsAt g before v) (sym is) at
 
 -- the own line of the question may come next
-pub question-next : (g : Setting) (before : List CertRecord) (question : List Word) (t : AskerView) → t.log.variables < 2 ^ 32 → IsOver t.log.variables question → IsAt g before t
+pub question-next : (g : Setting) (before : List CertRecord) (question : List Word) (t : AskerView) → t.log.variables < 2 ^ 32 → IsOver t.log.variables question
+    → IsAt g before t
     → IsNextQuestion (matter_in g) g.header before question → IsLine (matter_in g) g.header before (Question question)
 question-next g before question t fits over at next =
-    question-line g before question at.log.strong (omega (arith, fits, at.log.variables)) at.log.not_ended (subst (λ n. IsOver n question) at.log.variables over) next
+    question-line g before question at.log.strong (omega (arith, fits, at.log.variables)) at.log.not_ended
+    (subst (λ n. IsOver n question) at.log.variables over) next
 
-may-derive : (g : Setting) (before : List CertRecord) (question : List Word) (t : AskerView) (w : WriterView) → t.log.variables < 2 ^ 32 → IsOver t.log.variables question → PutMore t.writer w (Question question)
+may-derive : (g : Setting) (before : List CertRecord) (question : List Word) (t : AskerView) (w : WriterView) → t.log.variables < 2 ^ 32
+    → IsOver t.log.variables question → PutMore t.writer w (Question question)
     → IsAt g before t → IsNextQuestion (matter_in g) g.header before question → MayDerive g before question t.log t.limit w
-may-derive g before question t w fits over more at next = record { log_at = at.log; writer = more g before at.writer (question-next g before question t fits over at next) (keeps-same g.limits before (Question question) refl at.writer.written.kept) }
+may-derive g before question t w fits over more at next =
+    record {
+      log_at = at.log;
+      writer = more g before at.writer (question-next g before question t fits over at next)
+          (keeps-same g.limits before (Question question) refl at.writer.written.kept);
+    }
 
 -- ---- where it stops
 
 abbrev pub AskStops : AskerView → List Word → DeskView → DeskView → WorkError → Type 0
-AskStops s question first last error = (g : Setting) (before : List CertRecord) → IsAt g before s → IsNextQuestion (matter_in g) g.header before question → Stops g before first last error
+AskStops s question first last error = (g : Setting) (before : List CertRecord) → IsAt g before s → IsNextQuestion (matter_in g) g.header before question
+    → Stops g before first last error
 
 pub stops-before : BeginsLaw → (s : AskerView) (question : List Word) (first : DeskView) → AskStops s question first first NoMemory
 stops-before begins s question first g before at next = stops-for-memory g before s.writer first first at.writer (begins first)
 
-pub stops-at-question : (t s : AskerView) (question : List Word) (first last : DeskView) (error : WorkError) → t ≡ s → t.log.variables < 2 ^ 32 → IsOver t.log.variables question
+pub stops-at-question : (t s : AskerView) (question : List Word) (first last : DeskView) (error : WorkError) → t ≡ s → t.log.variables < 2 ^ 32
+    → IsOver t.log.variables question
     → PutStops t.writer (Question question) first last error → AskStops s question first last error
 stops-at-question t s question first last error is fits over stops g before at next =
     let here = at-view g before t s is at in stops g before here.writer (question-next g before question t fits over here next)
 
-pub stops-while-derived : TwiceLaw → (t s : AskerView) (question : List Word) (first mid last : DeskView) (w : WriterView) (error : WorkError) → t ≡ s → t.log.variables < 2 ^ 32 → IsOver t.log.variables question
-    → FileGrew (ended (record_text (Question question))) first mid → PutMore t.writer w (Question question) → DerivesNone t.log (clause_of question) t.limit mid last w error → AskStops s question first last error
+pub stops-while-derived : TwiceLaw → (t s : AskerView) (question : List Word) (first mid last : DeskView) (w : WriterView) (error : WorkError) → t ≡ s
+    → t.log.variables < 2 ^ 32 → IsOver t.log.variables question
+    → FileGrew (ended (record_text (Question question))) first mid → PutMore t.writer w (Question question)
+    → DerivesNone t.log (clause_of question) t.limit mid last w error → AskStops s question first last error
 stops-while-derived twice t s question first mid last w error is fits over grew more none g before at next =
     let here = at-view g before t s is at in
-    stops-after twice g before (Question question ∷ []) first mid last error (subst (λ bytes. FileGrew bytes first mid) (sym (one-line (Question question))) grew)
+    stops-after twice g before (Question question ∷ []) first mid last error
+    (subst (λ bytes. FileGrew bytes first mid) (sym (one-line (Question question))) grew)
     (none g before question refl (may-derive g before question t w fits over more here next))
 
-pub stops-at-answer : TwiceLaw → (t s : AskerView) (after : ClauseLog) (question : List Word) (first mid later last : DeskView) (w behind : WriterView) (answer : Answer) (error : WorkError) → t ≡ s → t.log.variables < 2 ^ 32
+pub stops-at-answer : TwiceLaw → (t s : AskerView) (after : ClauseLog) (question : List Word) (first mid later last : DeskView) (w behind : WriterView)
+    (answer : Answer) (error : WorkError) → t ≡ s → t.log.variables < 2 ^ 32
     → IsOver t.log.variables question → FileGrew (ended (record_text (Question question))) first mid → PutMore t.writer w (Question question)
-    → Derives t.log after (clause_of question) t.limit mid later w behind answer → PutStops behind (closing_line answer) later last error → AskStops s question first last error
+    → Derives t.log after (clause_of question) t.limit mid later w behind answer → PutStops behind (closing_line answer) later last error
+    → AskStops s question first last error
 stops-at-answer twice t s after question first mid later last w behind answer error is fits over grew more derives stops g before at next =
     let here = at-view g before t s is at in
     let d = derives g before question refl (may-derive g before question t w fits over more here next) in
-    stops-after twice g before (Question question ∷ d.between) first later last error (twice (ended (record_text (Question question))) (lines_text d.between) first mid later grew d.grew)
+    stops-after twice g before (Question question ∷ d.between) first later last error
+    (twice (ended (record_text (Question question))) (lines_text d.between) first mid later grew d.grew)
     (stops g (before ++ Question question ∷ d.between) d.writer d.closing)
 
 -- ---- what was asked
@@ -89,7 +107,8 @@ reply-line (answers.Refuted hints) reply is = absurd is
 reply-line answers.Undecided replies.Undecided is = refl
 reply-line answers.Undecided reply is = absurd is
 
-pub reply-holds : (n : ℕ) (question : List Word) (old new : ClauseLog) (limit : ℕ) (answer : Answer) (reply : Reply) → old.variables ≡ n → IsAnswer old new (clause_of question) limit (Ok answer)
+pub reply-holds : (n : ℕ) (question : List Word) (old new : ClauseLog) (limit : ℕ) (answer : Answer) (reply : Reply) → old.variables ≡ n
+    → IsAnswer old new (clause_of question) limit (Ok answer)
     → IsReplyOf answer reply → Holds n question reply
 reply-holds n question old new limit (answers.Found values) (replies.Found told) size answered is =
     (ap length is ∙ answered.variables ∙ size, subst (λ (v : List Bool). All (IsTrueLiteral (value_of v)) (clause_of question)) (sym is) answered.assumed)
@@ -110,14 +129,16 @@ no-end (answers.Found values) = refl
 no-end (answers.Refuted hints) = refl
 no-end answers.Undecided = refl
 
-log-closed : (g : Setting) (before : List CertRecord) (log : ClauseLog) (limit : ℕ) (answer : Answer) → IsLogAt g before log limit → IsLogAt g (before ++ closing_line answer ∷ []) log limit
+log-closed : (g : Setting) (before : List CertRecord) (log : ClauseLog) (limit : ℕ) (answer : Answer) → IsLogAt g before log limit
+    → IsLogAt g (before ++ closing_line answer ∷ []) log limit
 log-closed g before log limit answer at = record {
   strong = at.strong;
   limit_is = at.limit_is;
   ordered = at.ordered;
   present = at.present;
   clauses = at.clauses ∙ ap (λ (cs : List (List Literal)). g.inputs ++ cs)
-      (sym (derived-append before (closing_line answer ∷ []) ∙ ap (λ (cs : List (List Literal)). derived before ++ (cs ++ [])) (no-clause answer) ∙ append-nil (derived before)));
+      (sym (derived-append before (closing_line answer ∷ []) ∙ ap (λ (cs : List (List Literal)). derived before ++ (cs ++ [])) (no-clause answer)
+      ∙ append-nil (derived before)));
   inputs = at.inputs;
   variables = at.variables;
   line_limit = at.line_limit;
@@ -125,9 +146,11 @@ log-closed g before log limit answer at = record {
   not_ended = none-ended before (closing_line answer ∷ []) at.not_ended (no-end answer);
 }
 
-pub asked : TwiceLaw → (t s : AskerView) (after : ClauseLog) (question : List Word) (first mid later last : DeskView) (w behind ends : WriterView) (answer : Answer) (reply : Reply) → t ≡ s → t.log.variables < 2 ^ 32
+pub asked : TwiceLaw → (t s : AskerView) (after : ClauseLog) (question : List Word) (first mid later last : DeskView) (w behind ends : WriterView)
+    (answer : Answer) (reply : Reply) → t ≡ s → t.log.variables < 2 ^ 32
     → IsOver t.log.variables question → FileGrew (ended (record_text (Question question))) first mid → PutMore t.writer w (Question question)
-    → Derives t.log after (clause_of question) t.limit mid later w behind answer → FileGrew (ended (record_text (closing_line answer))) later last → PutMore behind ends (closing_line answer) → IsReplyOf answer reply
+    → Derives t.log after (clause_of question) t.limit mid later w behind answer → FileGrew (ended (record_text (closing_line answer))) later last
+    → PutMore behind ends (closing_line answer) → IsReplyOf answer reply
     → (g : Setting) (before : List CertRecord) → IsAt g before s → IsNextQuestion (matter_in g) g.header before question
     → IsAsked g before question first last (record { log = after; writer = ends; limit = t.limit }) reply
 asked twice t s after question first mid later last w behind ends answer reply is fits over grew more derives closed put replied g before at next =
@@ -141,7 +164,8 @@ asked twice t s after question first mid later last w behind ends answer reply i
       only_derived = d.only_derived;
       answer = closing_line answer;
       is_answer = reply-line answer reply replied;
-      grew = subst (λ text. FileGrew text first last) bytes (twice (ended (record_text (Question question))) (lines_text d.between ++ ended (record_text (closing_line answer))) first mid last grew
+      grew = subst (λ text. FileGrew text first last) bytes (twice (ended (record_text (Question question)))
+          (lines_text d.between ++ ended (record_text (closing_line answer))) first mid last grew
           (twice (lines_text d.between) (ended (record_text (closing_line answer))) mid later last d.grew closed));
       at = record {
         log = subst (λ ls. IsLogAt g ls after t.limit) place (log-closed g (before ++ Question question ∷ d.between) after t.limit answer d.log_at);

@@ -31,7 +31,8 @@ abbrev pub ThereLaw : Type 0
 ThereLaw = (r : PackageList) → IsInOrder r.packages → (inputs : Bool → List (List Literal)) × AreInputs r inputs
 
 abbrev pub OneLaw : Type 0
-OneLaw = (r : PackageList) (essential : Bool) (clauses other : List (List Literal)) → ArePresentClauses r essential clauses → ArePresentClauses r essential other → other ≡ clauses
+OneLaw = (r : PackageList) (essential : Bool) (clauses other : List (List Literal)) → ArePresentClauses r essential clauses
+    → ArePresentClauses r essential other → other ≡ clauses
 
 -- ---- the start
 
@@ -42,7 +43,13 @@ first-header r essential limit clauses =
 
 abbrev pub first-log : ClauseList → Limits → ClauseLog
 first-log set limits =
-    record { clauses = set.clauses; inputs = length set.clauses; variables = set.variables; line_limit = limits.lines; line_literal_limit = limits.line_literals }
+    record {
+      clauses = set.clauses;
+      inputs = length set.clauses;
+      variables = set.variables;
+      line_limit = limits.lines;
+      line_literal_limit = limits.line_literals;
+    }
 
 abbrev pub first-asker : ClauseList → ℕ → Limits → AskerView
 first-asker set limit limits = record { log = first-log set limits; writer = new_writer limits; limit = limit }
@@ -60,8 +67,10 @@ pub record StartsFrom (r : PackageList) (essential : Bool) (limit : ℕ) (limits
   pub within : IsWithinLimits set
   pub stated : length set.clauses ≤ MAX_CLAUSES
 
-begins : (r : PackageList) (essential : Bool) (limit : ℕ) (limits : Limits) (set : ClauseList) (inputs : Bool → List (List Literal)) → StartsFrom r essential limit limits set → AreInputs r inputs → inputs essential ≡ set.clauses
-    → Begins (setting_of r essential limit limits inputs) (first-header r essential limit (length set.clauses)) (first-asker set limit limits) (first-window (length r.packages))
+begins : (r : PackageList) (essential : Bool) (limit : ℕ) (limits : Limits) (set : ClauseList) (inputs : Bool → List (List Literal))
+    → StartsFrom r essential limit limits set → AreInputs r inputs → inputs essential ≡ set.clauses
+    → Begins (setting_of r essential limit limits inputs) (first-header r essential limit (length set.clauses)) (first-asker set limit limits)
+    (first-window (length r.packages))
 begins r essential limit limits set inputs starts are same = record {
   header_is = ap (λ (cs : List (List Literal)). first-header r essential limit (length cs)) (sym same);
   log = record {
@@ -80,7 +89,8 @@ begins r essential limit limits set inputs starts are same = record {
   window = record { kept = refl; count = refl; sizes = All-nil (λ values. length values ≡ length r.packages) };
 }
 
-header-of : (r : PackageList) (essential : Bool) (limit : ℕ) (limits : Limits) (set : ClauseList) (inputs : Bool → List (List Literal)) → StartsFrom r essential limit limits set → inputs essential ≡ set.clauses
+header-of : (r : PackageList) (essential : Bool) (limit : ℕ) (limits : Limits) (set : ClauseList) (inputs : Bool → List (List Literal))
+    → StartsFrom r essential limit limits set → inputs essential ≡ set.clauses
     → IsHeaderOf (subject_of r inputs) (setting_of r essential limit limits inputs).header
 header-of r essential limit limits set inputs starts same =
     let few : length r.packages < 2 ^ 32 = omega (arith, starts.packages) in
@@ -90,8 +100,10 @@ header-of r essential limit limits set inputs starts same =
       fits = record { taken = refl; packages = refl; variables = refl; clauses = refl };
     }
 
-pub may-begin : ThereLaw → OneLaw → (r : PackageList) (essential : Bool) (limit : ℕ) (limits : Limits) (set : ClauseList) (header : Header) (a : AskerView) (w : WindowView) → StartsFrom r essential limit limits set
-    → header ≡ first-header r essential limit (length set.clauses) → a ≡ first-asker set limit limits → w ≡ first-window (length r.packages) → MayBegin r essential limit limits header a w
+pub may-begin : ThereLaw → OneLaw → (r : PackageList) (essential : Bool) (limit : ℕ) (limits : Limits) (set : ClauseList) (header : Header) (a : AskerView)
+    (w : WindowView) → StartsFrom r essential limit limits set
+    → header ≡ first-header r essential limit (length set.clauses) → a ≡ first-asker set limit limits → w ≡ first-window (length r.packages)
+    → MayBegin r essential limit limits header a w
 may-begin there one r essential limit limits set header a w starts header_is asker_is window_is =
     let some = there r starts.ordered in
     let same : some.0 essential ≡ set.clauses = one r essential set.clauses (some.0 essential) starts.set_of.clauses (some.1 essential) in
@@ -104,8 +116,10 @@ may-begin there one r essential limit limits set header a w starts header_is ask
       };
       header_of = header-of r essential limit limits set some.0 starts same;
       begins = subst (λ (h : Header). Begins (setting_of r essential limit limits some.0) h a w) (sym header_is)
-          (subst (λ (v : AskerView). Begins (setting_of r essential limit limits some.0) (first-header r essential limit (length set.clauses)) v w) (sym asker_is)
-          (subst (λ (v : WindowView). Begins (setting_of r essential limit limits some.0) (first-header r essential limit (length set.clauses)) (first-asker set limit limits) v) (sym window_is)
+          (subst (λ (v : AskerView). Begins (setting_of r essential limit limits some.0) (first-header r essential limit (length set.clauses)) v w)
+          (sym asker_is)
+          (subst (λ (v : WindowView). Begins (setting_of r essential limit limits some.0) (first-header r essential limit (length set.clauses))
+          (first-asker set limit limits) v) (sym window_is)
           (begins r essential limit limits set some.0 starts some.1 same)));
     }
 
@@ -114,16 +128,20 @@ may-begin there one r essential limit limits set header a w starts header_is ask
 no-error : (set : ClauseList) (error : WorkError) → Ok set ≢ Err error
 no-error set error e = cc
 
-pub clauses-exact : (r : PackageList) (essential : Bool) (limit : ℕ) (limits : Limits) (name : List ℕ) (old new : DeskView) (set : ClauseList) (result : Result (List Claim) WorkError)
-    → IsExactly NoMemory (Ok set) (TooLarge Clauses) (PassesClauses r essential limits.clauses limits.literals) → SweepAnswers r essential limit limits name old new result
+pub clauses-exact : (r : PackageList) (essential : Bool) (limit : ℕ) (limits : Limits) (name : List ℕ) (old new : DeskView) (set : ClauseList)
+    (result : Result (List Claim) WorkError)
+    → IsExactly NoMemory (Ok set) (TooLarge Clauses) (PassesClauses r essential limits.clauses limits.literals)
+    → SweepAnswers r essential limit limits name old new result
     → IsExactly NoMemory result (TooLarge Clauses) (PassesClauses r essential limits.clauses limits.literals)
 clauses-exact r essential limit limits name old new set result inputs answers = λ other. (
   (λ is. (subst (λ (x : Result (List Claim) WorkError). SweepAnswers r essential limit limits name old new x) is answers).1),
   λ cause. absurd (no-error set (TooLarge Clauses) ((inputs (no-error set NoMemory)).1 cause)),
 )
 
-pub literals-exact : (r : PackageList) (essential : Bool) (limit : ℕ) (limits : Limits) (name : List ℕ) (old new : DeskView) (set : ClauseList) (result : Result (List Claim) WorkError)
-    → IsExactly NoMemory (Ok set) (TooLarge Literals) (PassesLiterals r essential limits.clauses limits.literals) → SweepAnswers r essential limit limits name old new result
+pub literals-exact : (r : PackageList) (essential : Bool) (limit : ℕ) (limits : Limits) (name : List ℕ) (old new : DeskView) (set : ClauseList)
+    (result : Result (List Claim) WorkError)
+    → IsExactly NoMemory (Ok set) (TooLarge Literals) (PassesLiterals r essential limits.clauses limits.literals)
+    → SweepAnswers r essential limit limits name old new result
     → IsExactly NoMemory result (TooLarge Literals) (PassesLiterals r essential limits.clauses limits.literals)
 literals-exact r essential limit limits name old new set result inputs answers = λ other. (
   (λ is. (subst (λ (x : Result (List Claim) WorkError). SweepAnswers r essential limit limits name old new x) is answers).1),

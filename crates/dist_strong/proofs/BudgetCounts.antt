@@ -1,12 +1,14 @@
 -- How many lines of each sort a part has.
-use Rattle.std.proofs.Common.{◌≡◌, ◌≢◌, ◌⊎◌, ⊎_elim, inl, inr, ℕ, suc, ◌+◌, ◌*◌, ◌<◌, ◌≤◌, true, List, [], ◌∷◌, ◌++◌, length, refl, ap, sym, ◌∙◌, append-nil, arith, length-append, mul-add, mul-one, mul-le-mul_left}
+use Rattle.std.proofs.Common.{◌≡◌, ◌≢◌, ◌⊎◌, ⊎_elim, inl, inr, ℕ, suc, ◌+◌, ◌*◌, ◌<◌, ◌≤◌, true, List, [], ◌∷◌, ◌++◌, length, refl, ap, sym, ◌∙◌, append-nil}
+use Rattle.std.proofs.Common.{arith, length-append, mul-add, mul-one, mul-le-mul_left}
 use Rattle.std.specs.List.{AllPass, Any, Contains, flat_map}
 use Rattle.std.proofs.lemmas.Bool.{cases_lt, false≢true}
 use Rattle.std.proofs.lemmas.Grind.{flat_map-append}
 use Rattle.std.proofs.lemmas.List.Elements.{All-tail, All-head}
 use Rattle.dist_cert.specs.declared.faults.CertCause.TheVariants as causes
 use Rattle.dist_cert.specs.declared.records.CertRecord.{CertRecord}
-use Rattle.dist_cert.specs.declared.records.CertRecord.TheVariants.{Question, Derived, Refuted, Installation, Undecided, NotInstallable, Unknown, Strong, Outdated, Alive, Challenged, End}
+use Rattle.dist_cert.specs.declared.records.CertRecord.TheVariants.{Question, Derived, Refuted, Installation, Undecided, NotInstallable, Unknown, Strong}
+use Rattle.dist_cert.specs.declared.records.CertRecord.TheVariants.{Outdated, Alive, Challenged, End}
 use Rattle.dist_cert.specs.declared.records.Header.{Header}
 use Rattle.dist_cert.specs.Form.{Word}
 use Rattle.dist_cert.specs.Groups.{claimed, claim_count, derived, derived_in, installations, leaves_open, IsOpen}
@@ -45,7 +47,8 @@ flat-push f xs x = flat_map-append f xs (x ∷ []) ∙ ap (λ ys. flat_map f xs 
 pub count-push : {X Y : Type 0} (f : X → List Y) (xs : List X) (x : X) → length (flat_map f (xs ++ x ∷ [])) ≡ length (flat_map f xs) + length (f x)
 count-push f xs x = ap length (flat-push f xs x) ∙ length-append (flat_map f xs) (f x)
 
-count-split : {X Y : Type 0} (f : X → List Y) (whole xs ys : List X) → whole ≡ xs ++ ys → length (flat_map f whole) ≡ length (flat_map f xs) + length (flat_map f ys)
+count-split : {X Y : Type 0} (f : X → List Y) (whole xs ys : List X) → whole ≡ xs ++ ys
+    → length (flat_map f whole) ≡ length (flat_map f xs) + length (flat_map f ys)
 count-split f whole xs ys is = ap (λ zs. length (flat_map f zs)) is ∙ ap length (flat_map-append f xs ys) ∙ length-append (flat_map f xs) (flat_map f ys)
 
 -- ---- derived lines
@@ -77,9 +80,12 @@ derived-on matter h whole kept front (Derived literals hints) back is all =
     let asks = count-split asked_in front earlier (Question next.question ∷ next.since) since.ends in
     let pushed = count-push derived_in front (Derived literals hints) in
     let asks_pushed = count-push asked_in front (Derived literals hints) in
-    let round = one-round h.limit (length (derived earlier)) (length (derived next.since)) (length (asked earlier)) (length (asked next.since)) (all earlier (Question next.question ∷ next.since) since.ends) next.line_left in
-    let same : length (asked (front ++ Derived literals hints ∷ [])) ≡ length (asked earlier) + (1 + length (asked next.since)) = omega (arith, asks, asks_pushed) in
-    let product : h.limit * length (asked (front ++ Derived literals hints ∷ [])) ≡ h.limit * (length (asked earlier) + (1 + length (asked next.since))) = ap (λ (n : ℕ). h.limit * n) same in
+    let round = one-round h.limit (length (derived earlier)) (length (derived next.since)) (length (asked earlier)) (length (asked next.since))
+    (all earlier (Question next.question ∷ next.since) since.ends) next.line_left in
+    let same : length (asked (front ++ Derived literals hints ∷ [])) ≡ length (asked earlier) + (1 + length (asked next.since)) =
+    omega (arith, asks, asks_pushed) in
+    let product : h.limit * length (asked (front ++ Derived literals hints ∷ [])) ≡ h.limit * (length (asked earlier) + (1 + length (asked next.since))) =
+    ap (λ (n : ℕ). h.limit * n) same in
     omega (arith, lines, pushed, round, product)
 derived-on matter h whole kept front x back is all = no-derived h front x refl (all front [] (sym (append-nil front)))
 
@@ -93,11 +99,13 @@ HasFewAnswers lines = length (answers lines) ≤ length (asked lines)
 
 no-answers : (lines : List CertRecord) → AllPass leaves_open lines → installations lines ≡ [] → length (answers lines) ≡ 0
 no-answers [] left_open none = refl
-no-answers (Derived literals hints ∷ lines) left_open none = no-answers lines (All-tail (λ s. leaves_open s ≡ true) (Derived literals hints) lines left_open) none
+no-answers (Derived literals hints ∷ lines) left_open none =
+    no-answers lines (All-tail (λ s. leaves_open s ≡ true) (Derived literals hints) lines left_open) none
 no-answers (Installation variables ∷ lines) left_open none = let n = ap length none in absurd (omega (arith, n))
 no-answers (x ∷ lines) left_open none = absurd (false≢true (All-head (λ s. leaves_open s ≡ true) x lines left_open))
 
-one-answer : (front earlier : List CertRecord) (question : List Word) (since : List CertRecord) (x : CertRecord) → IsOpen front earlier question since → installations since ≡ [] → length (answer_in x) ≡ 1 → length (asked_in x) ≡ 0
+one-answer : (front earlier : List CertRecord) (question : List Word) (since : List CertRecord) (x : CertRecord) → IsOpen front earlier question since
+    → installations since ≡ [] → length (answer_in x) ≡ 1 → length (asked_in x) ≡ 0
     → HasFewAnswers earlier → HasFewAnswers (front ++ x ∷ [])
 one-answer front earlier question since x opened none one asks_none few =
     let lines = count-split answer_in front earlier (Question question ∷ since) opened.ends in
@@ -118,15 +126,18 @@ answers-on : (matter : Matter) (h : Header) (whole : List CertRecord) → AreKep
 answers-on matter h whole kept front (Refuted hints) back is all =
     let asks = (kept front (Refuted hints) back is).next.0 in
     let asking = asks.2 in
-    one-answer front asking.earlier asks.0 asks.1 (Refuted hints) asking.opened asking.no_installation refl refl (all asking.earlier (Question asks.0 ∷ asks.1) asking.opened.ends)
+    one-answer front asking.earlier asks.0 asks.1 (Refuted hints) asking.opened asking.no_installation refl refl
+    (all asking.earlier (Question asks.0 ∷ asks.1) asking.opened.ends)
 answers-on matter h whole kept front (Installation variables) back is all =
     let asks = (kept front (Installation variables) back is).next in
     let asking = asks.2 in
-    one-answer front asking.earlier asks.0 asks.1 (Installation variables) asking.opened asking.no_installation refl refl (all asking.earlier (Question asks.0 ∷ asks.1) asking.opened.ends)
+    one-answer front asking.earlier asks.0 asks.1 (Installation variables) asking.opened asking.no_installation refl refl
+    (all asking.earlier (Question asks.0 ∷ asks.1) asking.opened.ends)
 answers-on matter h whole kept front Undecided back is all =
     let asks = (kept front Undecided back is).next in
     let asking = asks.2 in
-    one-answer front asking.earlier asks.0 asks.1 Undecided asking.opened asking.no_installation refl refl (all asking.earlier (Question asks.0 ∷ asks.1) asking.opened.ends)
+    one-answer front asking.earlier asks.0 asks.1 Undecided asking.opened asking.no_installation refl refl
+    (all asking.earlier (Question asks.0 ∷ asks.1) asking.opened.ends)
 answers-on matter h whole kept front x back is all = no-answer front x refl (all front [] (sym (append-nil front)))
 
 pub few-answers : (matter : Matter) (h : Header) (steps : List CertRecord) → AreKept matter h steps → length (answers steps) ≤ length (asked steps)
@@ -166,25 +177,31 @@ one-more count packages p none = ⊎_elim (λ above. absurd (none (0, p, omega a
     other : packages < count + 1 → (p ≢ count + 1) ⊎ (packages < p)
     other above = ⊎_elim (λ below. inl (λ same. omega (arith, below, same))) (λ at_least. inr (omega (arith, above, at_least))) (cases_lt p (count + 1))
 
-claim-pushed : (matter : Matter) (front : List CertRecord) (x : CertRecord) → length (claimed x) ≡ 1 → claim_count front + 1 ≤ matter.packages → HasFewClaims matter (front ++ x ∷ [])
+claim-pushed : (matter : Matter) (front : List CertRecord) (x : CertRecord) → length (claimed x) ≡ 1 → claim_count front + 1 ≤ matter.packages
+    → HasFewClaims matter (front ++ x ∷ [])
 claim-pushed matter front x one left = let pushed = count-push claimed front x in omega (arith, pushed, one, left)
 
 no-claim : (matter : Matter) (front : List CertRecord) (x : CertRecord) → claimed x ≡ [] → HasFewClaims matter front → HasFewClaims matter (front ++ x ∷ [])
-no-claim matter front x none few = let pushed = count-push claimed front x in let long : length (claimed x) ≡ 0 = ap length none in omega (arith, pushed, long, few)
+no-claim matter front x none few = let pushed = count-push claimed front x in let long : length (claimed x) ≡ 0 = ap length none in
+    omega (arith, pushed, long, few)
 
 claims-on : (matter : Matter) (h : Header) (whole : List CertRecord) → AreKept matter h whole → GoesOn (HasFewClaims matter) whole
 claims-on matter h whole kept front (NotInstallable p) back is all =
-    claim-pushed matter front (NotInstallable p) refl (one-more (claim_count front) matter.packages p ((kept front (NotInstallable p) back is).faultless causes.OutOfOrder))
+    claim-pushed matter front (NotInstallable p) refl (one-more (claim_count front) matter.packages p
+    ((kept front (NotInstallable p) back is).faultless causes.OutOfOrder))
 claims-on matter h whole kept front (Unknown p) back is all =
     claim-pushed matter front (Unknown p) refl (one-more (claim_count front) matter.packages p ((kept front (Unknown p) back is).faultless causes.OutOfOrder))
 claims-on matter h whole kept front (Strong p named on undecided) back is all =
-    claim-pushed matter front (Strong p named on undecided) refl (one-more (claim_count front) matter.packages p ((kept front (Strong p named on undecided) back is).faultless causes.OutOfOrder))
+    claim-pushed matter front (Strong p named on undecided) refl
+    (one-more (claim_count front) matter.packages p ((kept front (Strong p named on undecided) back is).faultless causes.OutOfOrder))
 claims-on matter h whole kept front (Outdated p) back is all =
     claim-pushed matter front (Outdated p) refl (one-more (claim_count front) matter.packages p ((kept front (Outdated p) back is).faultless causes.OutOfOrder))
 claims-on matter h whole kept front (Alive p installation) back is all =
-    claim-pushed matter front (Alive p installation) refl (one-more (claim_count front) matter.packages p ((kept front (Alive p installation) back is).faultless causes.OutOfOrder))
+    claim-pushed matter front (Alive p installation) refl (one-more (claim_count front) matter.packages p
+    ((kept front (Alive p installation) back is).faultless causes.OutOfOrder))
 claims-on matter h whole kept front (Challenged p named by undecided) back is all =
-    claim-pushed matter front (Challenged p named by undecided) refl (one-more (claim_count front) matter.packages p ((kept front (Challenged p named by undecided) back is).faultless causes.OutOfOrder))
+    claim-pushed matter front (Challenged p named by undecided) refl
+    (one-more (claim_count front) matter.packages p ((kept front (Challenged p named by undecided) back is).faultless causes.OutOfOrder))
 claims-on matter h whole kept front x back is all = no-claim matter front x refl (all front [] (sym (append-nil front)))
 
 pub few-claims : (matter : Matter) (h : Header) (steps : List CertRecord) → AreKept matter h steps → claim_count steps ≤ matter.packages
@@ -193,7 +210,8 @@ few-claims matter h steps kept = by-fronts (HasFewClaims matter) steps (omega ar
 -- ---- all lines
 
 -- each line is of one sort
-pub all-sorts : (steps : List CertRecord) → length steps ≤ length (asked steps) + length (derived steps) + length (answers steps) + claim_count steps + length (ends steps)
+pub all-sorts : (steps : List CertRecord) → length steps ≤ length (asked steps) + length (derived steps) + length (answers steps) + claim_count steps
+    + length (ends steps)
 all-sorts [] = omega arith
 all-sorts (x ∷ steps) =
     let rest = all-sorts steps in

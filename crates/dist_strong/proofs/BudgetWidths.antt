@@ -1,5 +1,6 @@
 -- How long the lines of a part are.
-use Rattle.std.proofs.Common.{◌≡◌, ◌≢◌, ⊎_elim, ℕ, ◌+◌, ◌*◌, ◌-◌, ◌^◌, ◌<◌, ◌≤◌, Bool, true, false, List, [], ◌∷◌, ◌++◌, length, get_or, map, refl, ap, sym, subst, ◌∙◌, append-nil, arith, length-append, mul-add, mul-one}
+use Rattle.std.proofs.Common.{◌≡◌, ◌≢◌, ⊎_elim, ℕ, ◌+◌, ◌*◌, ◌-◌, ◌^◌, ◌<◌, ◌≤◌, Bool, true, false, List, [], ◌∷◌, ◌++◌, length, get_or, map, refl, ap, sym}
+use Rattle.std.proofs.Common.{subst, ◌∙◌, append-nil, arith, length-append, mul-add, mul-one}
 use Rattle.std.specs.Prelude.{codes}
 use Rattle.std.specs.List.{All, AllPairs, Any}
 use Rattle.std.proofs.lemmas.Bool.{cases_lt}
@@ -14,7 +15,8 @@ use Rattle.dist_cert.specs.declared.records.CertRecord.{CertRecord}
 use Rattle.dist_cert.specs.declared.records.CertRecord.TheVariants.{Question, Derived, Refuted, Installation, Strong, Challenged}
 use Rattle.dist_cert.specs.declared.records.Header.{Header}
 use Rattle.dist_cert.specs.ClaimRules.{HoldsStrong, IsNamed}
-use Rattle.dist_cert.specs.Form.{Word, IsSmall, plain, signed_text, word_text, words_text, plains, words, record_text, header_text, kind_text, mode_text, HasHeaderForm}
+use Rattle.dist_cert.specs.Form.{Word, IsSmall, plain, signed_text, word_text, words_text, plains, words, record_text, header_text, kind_text, mode_text}
+use Rattle.dist_cert.specs.Form.{HasHeaderForm}
 use Rattle.dist_clause.specs.Formula.{Literal, literal}
 use Rattle.dist_cert.specs.Groups.{clause_of, derived, derived_in, installations}
 use Rattle.dist_cert.specs.LineRules.{IsWrongClaim}
@@ -61,16 +63,19 @@ few-upto xs n distinct from upto = few-within xs 0 n distinct (λ k d inside.
 few-rising : (xs : List ℕ) (n : ℕ) → AllPairs (λ x y. x < y) xs → All (λ x. 1 ≤ x) xs → All (λ x. x ≤ n) xs → length xs ≤ n
 few-rising xs n rising from upto = few-upto xs n (λ i j d before inside same. let below = rising i j d before inside in omega (arith, below, same)) from upto
 
-within-range : (matter : Matter) (h : Header) (before : List CertRecord) (variables : List ℕ) → ¬ (Any (λ v. matter.variables < v) variables) → All (λ v. v ≤ matter.variables) variables
+within-range : (matter : Matter) (h : Header) (before : List CertRecord) (variables : List ℕ) → ¬ (Any (λ v. matter.variables < v) variables)
+    → All (λ v. v ≤ matter.variables) variables
 within-range matter h before variables none k d inside =
-    ⊎_elim (λ above. absurd (none (k, get_or variables k d, inside, get_or_default variables k (get_or variables k d) d inside, above))) (λ upto. upto) (cases_lt matter.variables (get_or variables k d))
+    ⊎_elim (λ above. absurd (none (k, get_or variables k d, inside, get_or_default variables k (get_or variables k d) d inside, above))) (λ upto. upto)
+    (cases_lt matter.variables (get_or variables k d))
 
 -- ---- how many words a line has
 
 abbrev HasFewWords : Matter → CertRecord → Type 0
 HasFewWords matter step = length (words step) ≤ 2 * matter.packages + (REACH + 74)
 
-question-words : (matter : Matter) (h : Header) (p : ℕ) (question : List Word) → h.kind ≡ kinds.Strong → IsQuestionOn matter h.kind p question → HasFewWords matter (Question question)
+question-words : (matter : Matter) (h : Header) (p : ℕ) (question : List Word) → h.kind ≡ kinds.Strong → IsQuestionOn matter h.kind p question
+    → HasFewWords matter (Question question)
 question-words matter h p question strong on =
     ⊎_elim (λ alone. let n = ap length alone in omega (arith, n)) (λ without. let n = ap length without.1 in omega (arith, n))
     (subst (λ (kind : CertKind). IsQuestionOn matter kind p question) strong on)
@@ -81,7 +86,8 @@ named-few before p named distinct all = few-within named (length (installations 
     let recent = (all k d inside).0 in
     (omega (arith, recent.0, recent.1, recent.2), omega (arith, recent.0, recent.1, recent.2)))
 
-strong-words : (matter : Matter) (before : List CertRecord) (p : ℕ) (named on undecided : List ℕ) → All (λ q. 1 ≤ q) on → All (λ q. 1 ≤ q) undecided → AllPairs (λ m n. m ≢ n) named
+strong-words : (matter : Matter) (before : List CertRecord) (p : ℕ) (named on undecided : List ℕ) → All (λ q. 1 ≤ q) on → All (λ q. 1 ≤ q) undecided
+    → AllPairs (λ m n. m ≢ n) named
     → HoldsStrong matter before p named on undecided → HasFewWords matter (Strong p named on undecided)
 strong-words matter before p named on undecided on_from undecided_from distinct holds =
     let upto : All (λ q. q ≤ matter.packages) (on ++ undecided) = λ k d inside. (holds.others k d inside).1 in
@@ -100,32 +106,38 @@ strong-words matter before p named on undecided on_from undecided_from distinct 
       length-map undecided plain,
     )
 
-few-words : (matter : Matter) (h : Header) (before : List CertRecord) (step : CertRecord) → matter.variables ≡ matter.packages → h.kind ≡ kinds.Strong → IsKept matter h before step → HasFewWords matter step
+few-words : (matter : Matter) (h : Header) (before : List CertRecord) (step : CertRecord) → matter.variables ≡ matter.packages → h.kind ≡ kinds.Strong
+    → IsKept matter h before step → HasFewWords matter step
 few-words matter h before (Question question) same strong kept = question-words matter h _ question strong kept.next.on_next
 few-words matter h before (Derived literals hints) same strong kept =
     let distinct = pairs-map (λ (v w : ℕ). v ≢ w) (λ (l : Word). l.0) literals kept.form.rules.0.1 in
     let from = All-map (λ (v : ℕ). 1 ≤ v) (λ (l : Word). l.0) literals kept.form.rules.0.0 in
-    let few = few-upto (map (λ (l : Word). l.0) literals) matter.variables distinct from (within-range matter h before (map (λ (l : Word). l.0) literals) (kept.faultless causes.OutOfRange)) in
+    let few = few-upto (map (λ (l : Word). l.0) literals) matter.variables distinct from
+    (within-range matter h before (map (λ (l : Word). l.0) literals) (kept.faultless causes.OutOfRange)) in
     let hints_few = kept.next.1 in
     omega (arith, few, hints_few, same, length-map literals (λ (l : Word). l.0), length-append literals ((0, true) ∷ plains hints), length-map hints plain)
 few-words matter h before (Refuted hints) same strong kept = let hints_few = kept.next.1 in omega (arith, hints_few, same, length-map hints plain)
 few-words matter h before (Installation variables) same strong kept =
-    let few = few-rising variables matter.variables kept.form.rules.1 kept.form.rules.0 (within-range matter h before variables (kept.faultless causes.OutOfRange)) in
+    let few = few-rising variables matter.variables kept.form.rules.1 kept.form.rules.0
+    (within-range matter h before variables (kept.faultless causes.OutOfRange)) in
     omega (arith, few, same, length-map variables plain)
 few-words matter h before (Strong p named on undecided) same strong kept =
-    ⊎_elim (λ many. absurd (kept.faultless causes.WrongClaim (subst (λ (kind : CertKind). IsWrongClaim matter kind before (Strong p named on undecided)) (sym strong) (
+    ⊎_elim (λ many. absurd (kept.faultless causes.WrongClaim
+    (subst (λ (kind : CertKind). IsWrongClaim matter kind before (Strong p named on undecided)) (sym strong) (
       refl,
       λ holds.
           let few = strong-words matter before p named on undecided kept.form.rules.3 kept.form.rules.4 kept.next holds in omega (arith, few, many),
     )))) (λ few. few)
     (cases_lt (2 * matter.packages + (REACH + 74)) (length (words (Strong p named on undecided))))
 few-words matter h before (Challenged p named by undecided) same strong kept =
-    absurd (kept.faultless causes.WrongClaim (subst (λ (kind : CertKind). IsWrongClaim matter kind before (Challenged p named by undecided)) (sym strong) (refl, λ holds. holds)))
+    absurd (kept.faultless causes.WrongClaim (subst (λ (kind : CertKind). IsWrongClaim matter kind before (Challenged p named by undecided)) (sym strong)
+    (refl, λ holds. holds)))
 few-words matter h before step same strong kept = omega arith
 
 -- ---- how long a line is
 
-pub line-width : (matter : Matter) (h : Header) (before : List CertRecord) (step : CertRecord) → matter.variables ≡ matter.packages → h.kind ≡ kinds.Strong → IsKept matter h before step
+pub line-width : (matter : Matter) (h : Header) (before : List CertRecord) (step : CertRecord) → matter.variables ≡ matter.packages → h.kind ≡ kinds.Strong
+    → IsKept matter h before step
     → length (ended (record_text step)) ≤ record_budget matter.packages
 line-width matter h before step same strong kept =
     let few = few-words matter h before step same strong kept in
@@ -135,14 +147,19 @@ line-width matter h before step same strong kept =
 abbrev pub AreNarrow : Matter → List CertRecord → Type 0
 AreNarrow matter lines = All (λ step. length (ended (record_text step)) ≤ record_budget matter.packages) lines
 
-narrow-on : (matter : Matter) (h : Header) (whole : List CertRecord) → matter.variables ≡ matter.packages → h.kind ≡ kinds.Strong → AreKept matter h whole → GoesOn (AreNarrow matter) whole
+narrow-on : (matter : Matter) (h : Header) (whole : List CertRecord) → matter.variables ≡ matter.packages → h.kind ≡ kinds.Strong → AreKept matter h whole
+    → GoesOn (AreNarrow matter) whole
 narrow-on matter h whole same strong kept front x back is all =
-    All-push (λ step. length (ended (record_text step)) ≤ record_budget matter.packages) front x (all front [] (sym (append-nil front))) (line-width matter h front x same strong (kept front x back is))
+    All-push (λ step. length (ended (record_text step)) ≤ record_budget matter.packages) front x (all front [] (sym (append-nil front)))
+    (line-width matter h front x same strong (kept front x back is))
 
-pub all-narrow : (matter : Matter) (h : Header) (steps : List CertRecord) → matter.variables ≡ matter.packages → h.kind ≡ kinds.Strong → AreKept matter h steps → AreNarrow matter steps
-all-narrow matter h steps same strong kept = by-fronts (AreNarrow matter) steps (All-nil (λ step. length (ended (record_text step)) ≤ record_budget matter.packages)) (narrow-on matter h steps same strong kept)
+pub all-narrow : (matter : Matter) (h : Header) (steps : List CertRecord) → matter.variables ≡ matter.packages → h.kind ≡ kinds.Strong → AreKept matter h steps
+    → AreNarrow matter steps
+all-narrow matter h steps same strong kept = by-fronts (AreNarrow matter) steps
+    (All-nil (λ step. length (ended (record_text step)) ≤ record_budget matter.packages)) (narrow-on matter h steps same strong kept)
 
-pub lines-width : (budget : ℕ) (steps : List CertRecord) → All (λ step. length (ended (record_text step)) ≤ budget) steps → length (lines_text steps) ≤ budget * length steps
+pub lines-width : (budget : ℕ) (steps : List CertRecord) → All (λ step. length (ended (record_text step)) ≤ budget) steps
+    → length (lines_text steps) ≤ budget * length steps
 lines-width budget [] all = omega arith
 lines-width budget (x ∷ steps) all =
     let first = All-head (λ step. length (ended (record_text step)) ≤ budget) x steps all in
@@ -190,21 +207,27 @@ header-width h packages form =
 abbrev AreShort : Matter → List CertRecord → Type 0
 AreShort matter lines = All (λ clause. length clause ≤ matter.packages) (derived lines)
 
-clause-short : (matter : Matter) (h : Header) (before : List CertRecord) (literals : List Word) (hints : List ℕ) → matter.variables ≡ matter.packages → IsKept matter h before (Derived literals hints)
+clause-short : (matter : Matter) (h : Header) (before : List CertRecord) (literals : List Word) (hints : List ℕ) → matter.variables ≡ matter.packages
+    → IsKept matter h before (Derived literals hints)
     → length (clause_of literals) ≤ matter.packages
 clause-short matter h before literals hints same kept =
     let distinct = pairs-map (λ (v w : ℕ). v ≢ w) (λ (l : Word). l.0) literals kept.form.rules.0.1 in
     let from = All-map (λ (v : ℕ). 1 ≤ v) (λ (l : Word). l.0) literals kept.form.rules.0.0 in
-    let few = few-upto (map (λ (l : Word). l.0) literals) matter.variables distinct from (within-range matter h before (map (λ (l : Word). l.0) literals) (kept.faultless causes.OutOfRange)) in
+    let few = few-upto (map (λ (l : Word). l.0) literals) matter.variables distinct from
+    (within-range matter h before (map (λ (l : Word). l.0) literals) (kept.faultless causes.OutOfRange)) in
     omega (arith, few, same, length-map literals (λ (l : Word). l.0), length-map literals (λ (l : Word). literal l.0 l.1))
 
-short-on : (matter : Matter) (h : Header) (whole : List CertRecord) → matter.variables ≡ matter.packages → AreKept matter h whole → GoesOn (AreShort matter) whole
+short-on : (matter : Matter) (h : Header) (whole : List CertRecord) → matter.variables ≡ matter.packages → AreKept matter h whole
+    → GoesOn (AreShort matter) whole
 short-on matter h whole same kept front (Derived literals hints) back is all =
     subst (λ (cs : List (List Literal)). All (λ clause. length clause ≤ matter.packages) cs) (sym (flat-push derived_in front (Derived literals hints)))
     (All-push (λ (clause : List Literal). length clause ≤ matter.packages) (derived front) (clause_of literals) (all front [] (sym (append-nil front)))
     (clause-short matter h front literals hints same (kept front (Derived literals hints) back is)))
 short-on matter h whole same kept front x back is all =
-    subst (λ (cs : List (List Literal)). All (λ clause. length clause ≤ matter.packages) cs) (sym (flat-push derived_in front x ∙ append-nil (derived front))) (all front [] (sym (append-nil front)))
+    subst (λ (cs : List (List Literal)). All (λ clause. length clause ≤ matter.packages) cs) (sym (flat-push derived_in front x ∙ append-nil (derived front)))
+    (all front [] (sym (append-nil front)))
 
-pub all-literals : (matter : Matter) (h : Header) (steps : List CertRecord) → matter.variables ≡ matter.packages → AreKept matter h steps → All (λ clause. length clause ≤ matter.packages) (derived steps)
-all-literals matter h steps same kept = by-fronts (AreShort matter) steps (All-nil (λ (clause : List Literal). length clause ≤ matter.packages)) (short-on matter h steps same kept)
+pub all-literals : (matter : Matter) (h : Header) (steps : List CertRecord) → matter.variables ≡ matter.packages → AreKept matter h steps
+    → All (λ clause. length clause ≤ matter.packages) (derived steps)
+all-literals matter h steps same kept = by-fronts (AreShort matter) steps (All-nil (λ (clause : List Literal). length clause ≤ matter.packages))
+    (short-on matter h steps same kept)

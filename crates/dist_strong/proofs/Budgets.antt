@@ -1,5 +1,6 @@
 -- What stops a sweep is below its budget.
-use Rattle.std.proofs.Common.{◌≡◌, ⊎_elim, ℕ, ◌+◌, ◌*◌, ◌≤◌, Bool, List, [], ◌∷◌, ◌++◌, length, refl, subst, arith, length-append, mul-add, mul-one, mul_comm, mul-le-mul_left}
+use Rattle.std.proofs.Common.{◌≡◌, ⊎_elim, ℕ, ◌+◌, ◌*◌, ◌≤◌, Bool, List, [], ◌∷◌, ◌++◌, length, refl, subst, arith, length-append, mul-add, mul-one, mul_comm}
+use Rattle.std.proofs.Common.{mul-le-mul_left}
 use Rattle.std.specs.List.{All}
 use Rattle.std.proofs.lemmas.List.Sums.{sum_by-le}
 use Rattle.dist_outside.specs.declared.limits.Limits.{Limits}
@@ -28,7 +29,8 @@ use Rattle.dist_strong.proofs.KeptLines.{AreKept, part-kept}
 
 -- ---- the numbers of lines and literals
 
-derived-within : (matter : Matter) (h : Header) (steps : List CertRecord) → matter.variables ≡ matter.packages → h.kind ≡ kinds.Strong → AreKept matter h steps → length (derived steps) ≤ line_budget matter.packages h.limit
+derived-within : (matter : Matter) (h : Header) (steps : List CertRecord) → matter.variables ≡ matter.packages → h.kind ≡ kinds.Strong → AreKept matter h steps
+    → length (derived steps) ≤ line_budget matter.packages h.limit
 derived-within matter h steps same strong kept =
     let few = few-derived matter h steps kept in
     let wide = mul-le-mul_left h.limit (few-asked matter h steps same strong kept) in
@@ -37,7 +39,8 @@ derived-within matter h steps same strong kept =
 count-within : (n : ℕ) (clauses : List (List Literal)) → All (λ c. length c ≤ n) clauses → literal_count clauses ≤ n * length clauses
 count-within n clauses all = let most = sum_by-le (λ (c : List Literal). length c) n clauses all in omega (arith, most, mul_comm n (length clauses))
 
-literals-within : (matter : Matter) (h : Header) (steps : List CertRecord) → matter.variables ≡ matter.packages → h.kind ≡ kinds.Strong → AreKept matter h steps → literal_count (derived steps) ≤ literal_budget matter.packages h.limit
+literals-within : (matter : Matter) (h : Header) (steps : List CertRecord) → matter.variables ≡ matter.packages → h.kind ≡ kinds.Strong → AreKept matter h steps
+    → literal_count (derived steps) ≤ literal_budget matter.packages h.limit
 literals-within matter h steps same strong kept =
     let count = count-within matter.packages (derived steps) (all-literals matter h steps same kept) in
     let wide = mul-le-mul_left matter.packages (derived-within matter h steps same strong kept) in
@@ -45,7 +48,8 @@ literals-within matter h steps same strong kept =
 
 -- ---- the number of bytes
 
-sum-within : (n q limit a d c claims e l : ℕ) → l ≤ a + d + c + claims + e → a ≤ q → d ≤ limit * a → c ≤ a → claims ≤ n → e ≤ 1 → l + 1 ≤ n + 2 + q * (limit + 2)
+sum-within : (n q limit a d c claims e l : ℕ) → l ≤ a + d + c + claims + e → a ≤ q → d ≤ limit * a → c ≤ a → claims ≤ n → e ≤ 1
+    → l + 1 ≤ n + 2 + q * (limit + 2)
 sum-within n q limit a d c claims e l all few lines answered claimed ended =
     let wide = mul-le-mul_left limit few in
     let both = mul-add q limit 2 in
@@ -57,27 +61,33 @@ bytes-within : (matter : Matter) (h : Header) (steps : List CertRecord) → matt
 bytes-within matter h steps same strong kept first =
     let budget = record_budget matter.packages in
     let lines = lines-width budget steps (all-narrow matter h steps same strong kept) in
-    let many = sum-within matter.packages (question_budget matter.packages) h.limit (length (asked steps)) (length (derived steps)) (length (answers steps)) (claim_count steps) (length (ends steps)) (length steps)
-    (all-sorts steps) (few-asked matter h steps same strong kept) (few-derived matter h steps kept) (few-answers matter h steps kept) (few-claims matter h steps kept) (few-ends matter h steps kept) in
+    let many = sum-within matter.packages (question_budget matter.packages) h.limit (length (asked steps)) (length (derived steps)) (length (answers steps))
+    (claim_count steps) (length (ends steps)) (length steps)
+    (all-sorts steps) (few-asked matter h steps same strong kept) (few-derived matter h steps kept) (few-answers matter h steps kept)
+    (few-claims matter h steps kept) (few-ends matter h steps kept) in
     let wide = mul-le-mul_left budget many in
     let one = mul-add budget (length steps) 1 in
     omega (arith, lines, wide, one, mul-one budget, first, length-append (header_text h) (10 ∷ lines_text steps), length-append (header_text h) (10 ∷ []))
 
 -- ---- all numbers
 
-below : (limits : Limits) (matter : Matter) (h : Header) (steps : List CertRecord) (what : What) → matter.variables ≡ matter.packages → h.kind ≡ kinds.Strong → AreKept matter h steps
+below : (limits : Limits) (matter : Matter) (h : Header) (steps : List CertRecord) (what : What) → matter.variables ≡ matter.packages → h.kind ≡ kinds.Strong
+    → AreKept matter h steps
     → length (ended (header_text h)) ≤ record_budget matter.packages → Passes limits h steps what → IsBelowBudget limits matter.packages h.limit what
 below limits matter h steps Lines same strong kept first passes = let few = derived-within matter h steps same strong kept in omega (arith, few, passes)
 below limits matter h steps LineLiterals same strong kept first passes = let few = literals-within matter h steps same strong kept in omega (arith, few, passes)
 below limits matter h steps RecordLine same strong kept first passes =
     ⊎_elim (λ header. omega (arith, first, header)) (λ some.
     let narrow = all-narrow matter h steps same strong kept some.0 some.1 some.2 in
-    let width : length (ended (record_text some.1)) ≤ record_budget matter.packages = subst (λ (s : CertRecord). length (ended (record_text s)) ≤ record_budget matter.packages) some.3 narrow in
+    let width : length (ended (record_text some.1)) ≤ record_budget matter.packages =
+    subst (λ (s : CertRecord). length (ended (record_text s)) ≤ record_budget matter.packages) some.3 narrow in
     omega (arith, width, some.4)) passes
-below limits matter h steps Certificate same strong kept first passes = let few = bytes-within matter h steps same strong kept first in omega (arith, few, passes)
+below limits matter h steps Certificate same strong kept first passes = let few = bytes-within matter h steps same strong kept first in
+    omega (arith, few, passes)
 below limits matter h steps what same strong kept first passes = absurd passes
 
-pub budgets-are-enough : FormsAreClear → (r : PackageList) (essential : Bool) (limit : ℕ) (limits : Limits) (what : What) (text : List ℕ) → IsFull r essential limit limits what text
+pub budgets-are-enough : FormsAreClear → (r : PackageList) (essential : Bool) (limit : ℕ) (limits : Limits) (what : What) (text : List ℕ)
+    → IsFull r essential limit limits what text
     → IsBelowBudget limits (length r.packages) limit what
 budgets-are-enough clear r essential limit limits what text full =
     let stopped = full.2 in

@@ -19,7 +19,8 @@ pub few-within : (xs : List ℕ) (low n : ℕ) → AllPairs (λ x y. x ≢ y) xs
 few-within xs low n distinct within =
     let down : ℕ → ℕ = λ x. x - (low + 1) in
     let long = length-map xs down in
-    let at : (k : ℕ) (d : ℕ) → k < length xs → get_or (map down xs) k d ≡ down (get_or xs k (low + 1)) = λ k d inside. get_or-map down xs k (low + 1) d inside in
+    let at : (k : ℕ) (d : ℕ) → k < length xs → get_or (map down xs) k d ≡ down (get_or xs k (low + 1)) =
+    λ k d inside. get_or-map down xs k (low + 1) d inside in
     let few = few-below (map down xs) n
     (λ i j d before inside e.
     let j_in : j < length xs = omega (arith, long) in

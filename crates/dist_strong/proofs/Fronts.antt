@@ -1,5 +1,6 @@
 -- Induction over the fronts of a list.
-use Rattle.std.proofs.Common.{◌≡◌, ◌⊎◌, ⊎_elim, inl, inr, List, [], ◌∷◌, ◌++◌, length, refl, ap, sym, subst, ◌∙◌, append_assoc, append-nil, arith, length-append}
+use Rattle.std.proofs.Common.{◌≡◌, ◌⊎◌, ⊎_elim, inl, inr, List, [], ◌∷◌, ◌++◌, length, refl, ap, sym, subst, ◌∙◌, append_assoc, append-nil, arith}
+use Rattle.std.proofs.Common.{length-append}
 
 first_or : {X : Type 0} → X → List X → X
 first_or x [] = x
@@ -41,7 +42,8 @@ walk P whole before [] is all on = subst P (sym (is ∙ append-nil before)) (all
 walk {X} P whole before (x ∷ after) is all on = walk P whole (before ++ x ∷ []) after (is ∙ sym (append_assoc before (x ∷ []) after)) more on
   where
     more : OfFronts P (before ++ x ∷ [])
-    more earlier later e = ⊎_elim (λ same. subst P (sym same) (on before x after is all)) (λ front. all earlier front.0 front.1) (snoc-cases before x earlier later e)
+    more earlier later e = ⊎_elim (λ same. subst P (sym same) (on before x after is all)) (λ front. all earlier front.0 front.1)
+        (snoc-cases before x earlier later e)
 
 pub by-fronts : {X : Type 0} (P : List X → Type 0) (whole : List X) → P [] → GoesOn P whole → P whole
 by-fronts P whole none on = walk P whole [] whole refl (λ earlier later e. subst P (sym (nil-left earlier later e)) none) on

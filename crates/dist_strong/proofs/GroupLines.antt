@@ -1,5 +1,6 @@
 -- The group of the lines of a question, behind those before.
-use Rattle.std.proofs.Common.{◌≡◌, ◌≢◌, ◌⊎◌, ⊎_elim, inl, inr, ℕ, suc, ◌||◌, Bool, true, false, List, [], ◌∷◌, ◌++◌, get_or, refl, ap, sym, ◌∙◌, append_assoc, append-nil, arith}
+use Rattle.std.proofs.Common.{◌≡◌, ◌≢◌, ◌⊎◌, ⊎_elim, inl, inr, ℕ, suc, ◌||◌, Bool, true, false, List, [], ◌∷◌, ◌++◌, get_or, refl, ap, sym, ◌∙◌, append_assoc}
+use Rattle.std.proofs.Common.{append-nil, arith}
 use Rattle.std.specs.List.{AllPass, Contains, list_any}
 use Rattle.std.proofs.lemmas.Bool.{or_parts, true≢false, false≢true}
 use Rattle.std.proofs.lemmas.Grind.{flat_map-append}
@@ -41,12 +42,14 @@ all-open lines all k d within = derived-opens (get_or lines k d) (all k d within
 none-claims : (lines : List CertRecord) → AllPass is_derived lines → list_any is_claim lines ≡ false
 none-claims [] all = refl
 none-claims (x ∷ lines) all =
-    ap (λ (b : Bool). b || list_any is_claim lines) (derived-claims x (All-head (λ s. is_derived s ≡ true) x lines all)) ∙ none-claims lines (All-tail (λ s. is_derived s ≡ true) x lines all)
+    ap (λ (b : Bool). b || list_any is_claim lines) (derived-claims x (All-head (λ s. is_derived s ≡ true) x lines all))
+    ∙ none-claims lines (All-tail (λ s. is_derived s ≡ true) x lines all)
 
 none-installs : (lines : List CertRecord) → AllPass is_derived lines → installations lines ≡ []
 none-installs [] all = refl
 none-installs (x ∷ lines) all =
-    ap (λ (ms : List (List ℕ)). ms ++ installations lines) (derived-installs x (All-head (λ s. is_derived s ≡ true) x lines all)) ∙ none-installs lines (All-tail (λ s. is_derived s ≡ true) x lines all)
+    ap (λ (ms : List (List ℕ)). ms ++ installations lines) (derived-installs x (All-head (λ s. is_derived s ≡ true) x lines all))
+    ∙ none-installs lines (All-tail (λ s. is_derived s ≡ true) x lines all)
 
 -- ---- the lines of a question
 
@@ -75,16 +78,21 @@ any-join (x ∷ lines) more none later =
     let parts = or_parts (is_claim x) (list_any is_claim lines) none in
     ap (λ (b : Bool). b || list_any is_claim (lines ++ more)) parts.0 ∙ any-join lines more parts.1 later
 
-pub question-claims : (question : List Word) (between : List CertRecord) (answer : CertRecord) → AllPass is_derived between → IsAnswerLine answer → list_any is_claim (question_lines question between answer) ≡ false
+pub question-claims : (question : List Word) (between : List CertRecord) (answer : CertRecord) → AllPass is_derived between → IsAnswerLine answer
+    → list_any is_claim (question_lines question between answer) ≡ false
 question-claims question between answer all line = any-join between (answer ∷ []) (none-claims between all) (ap (λ (b : Bool). b || false) line.no_claim)
 
-pub question-installs : (question : List Word) (between : List CertRecord) (answer : CertRecord) → AllPass is_derived between → installations (question_lines question between answer) ≡ installed_in answer
+pub question-installs : (question : List Word) (between : List CertRecord) (answer : CertRecord) → AllPass is_derived between
+    → installations (question_lines question between answer) ≡ installed_in answer
 question-installs question between answer all =
-    installations-append between (answer ∷ []) ∙ ap (λ (ms : List (List ℕ)). ms ++ (installed_in answer ++ [])) (none-installs between all) ∙ append-nil (installed_in answer)
+    installations-append between (answer ∷ []) ∙ ap (λ (ms : List (List ℕ)). ms ++ (installed_in answer ++ [])) (none-installs between all)
+    ∙ append-nil (installed_in answer)
 
 contains-join : {X : Type 0} (xs ys : List X) (x : X) → Contains (xs ++ ys) x → Contains xs x ⊎ Contains ys x
 contains-join [] ys x there = inr there
-contains-join (z ∷ xs) ys x there = ⊎_elim (λ here. inl (0, omega arith, here)) (λ later. ⊎_elim (λ left. inl (suc left.0, omega (arith, left.1), left.2)) (λ right. inr right) (contains-join xs ys x later)) (contains-cases z (xs ++ ys) x there)
+contains-join (z ∷ xs) ys x there = ⊎_elim (λ here. inl (0, omega arith, here))
+    (λ later. ⊎_elim (λ left. inl (suc left.0, omega (arith, left.1), left.2)) (λ right. inr right) (contains-join xs ys x later))
+    (contains-cases z (xs ++ ys) x there)
 
 not-derived : (lines : List CertRecord) (question : List Word) → AllPass is_derived lines → ¬ Contains lines (Question question)
 not-derived lines question all there = derived-asks (get_or lines there.0 (Question question)) question (all there.0 (Question question) there.1) there.2
@@ -103,7 +111,8 @@ questions-of lines between question other answer all line there =
 
 -- ---- closed questions
 
-pub closed-now : (lines between : List CertRecord) (question : List Word) (answer : CertRecord) → AllPass is_derived between → IsClosedBy (lines ++ question_lines question between answer) question answer
+pub closed-now : (lines between : List CertRecord) (question : List Word) (answer : CertRecord) → AllPass is_derived between
+    → IsClosedBy (lines ++ question_lines question between answer) question answer
 closed-now lines between question answer all = (lines, between, [], sym (append_assoc lines (Question question ∷ between) (answer ∷ [])), all-open between all)
 
 -- ---- what is claimed

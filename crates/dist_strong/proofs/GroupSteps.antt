@@ -1,5 +1,7 @@
 -- What the lines of a question make of what is kept of a group.
-use Rattle.std.proofs.Common.{◌≡◌, ◌≢◌, ◌⊎◌, ⊎_elim, inl, inr, ℕ, ◌+◌, ◌-◌, ◌<◌, ◌≤◌, ◌==◌, ◌&&◌, ◌↔◌, Bool, true, false, List, [], ◌∷◌, ◌++◌, length, drop, length-drop, map, slice_set, refl, ap, sym, subst, ◌∙◌, append-nil, arith, length-append, length-set, get_or-set_same, get_or-set_other, not}
+use Rattle.std.proofs.Common.{◌≡◌, ◌≢◌, ◌⊎◌, ⊎_elim, inl, inr, ℕ, ◌+◌, ◌-◌, ◌<◌, ◌≤◌, ◌==◌, ◌&&◌, ◌↔◌, Bool, true, false, List, [], ◌∷◌, ◌++◌, length, drop}
+use Rattle.std.proofs.Common.{length-drop, map, slice_set, refl, ap, sym, subst, ◌∙◌, append-nil, arith, length-append, length-set, get_or-set_same}
+use Rattle.std.proofs.Common.{get_or-set_other, not}
 use Rattle.std.specs.List.{All, AllPass, Contains}
 use Rattle.std.proofs.lemmas.Bool.{and_from, and_parts, cases_eq, eq-eqb, ne_eqb, true≢false, false≢true}
 use Rattle.std.proofs.lemmas.List.{drop-append-le, drop-drop, drop-map, get_or_append_left, get_or_at, length-map, map-append}
@@ -79,7 +81,8 @@ still-closed old new r back closed = never-open new r (λ parts. true≢false (s
 
 -- ---- the question may be asked
 
-pub question-on : (g : Setting) (before : List CertRecord) (a : AskerView) (w : WindowView) (group : GroupView) (q : ℕ) → IsSettling g before a w group → IsCandidate w group q
+pub question-on : (g : Setting) (before : List CertRecord) (a : AskerView) (w : WindowView) (group : GroupView) (q : ℕ) → IsSettling g before a w group
+    → IsCandidate w group q
     → IsNextQuestion (matter_in g) g.header before (without group.claimed q)
 question-on g before a w group q settling candidate =
     let kept = settling.group_at in
@@ -101,34 +104,45 @@ pub record AreAsked (before : List CertRecord) (question : List Word) (installed
   pub installs : installed_in answer ≡ installed
   pub is : after ≡ before ++ question_lines question between answer
 
-pub group-after : (before : List CertRecord) (question : List Word) (installed : List (List ℕ)) (after : List CertRecord) (asked : AreAsked before question installed after)
+pub group-after : (before : List CertRecord) (question : List Word) (installed : List (List ℕ)) (after : List CertRecord)
+    (asked : AreAsked before question installed after)
     → group after ≡ group before ++ question_lines question asked.between asked.answer
 group-after before question installed after asked =
-    ap group asked.is ∙ group-append before (question_lines question asked.between asked.answer) (question-claims question asked.between asked.answer asked.only_derived asked.answer_line)
+    ap group asked.is ∙ group-append before (question_lines question asked.between asked.answer)
+    (question-claims question asked.between asked.answer asked.only_derived asked.answer_line)
 
-pub count-after : (before : List CertRecord) (question : List Word) (installed : List (List ℕ)) (after : List CertRecord) → AreAsked before question installed after → claim_count after ≡ claim_count before
+pub count-after : (before : List CertRecord) (question : List Word) (installed : List (List ℕ)) (after : List CertRecord)
+    → AreAsked before question installed after → claim_count after ≡ claim_count before
 count-after before question installed after asked =
-    ap claim_count asked.is ∙ count-append before (question_lines question asked.between asked.answer) (question-claims question asked.between asked.answer asked.only_derived asked.answer_line)
+    ap claim_count asked.is ∙ count-append before (question_lines question asked.between asked.answer)
+    (question-claims question asked.between asked.answer asked.only_derived asked.answer_line)
 
-pub installed-after : (before : List CertRecord) (question : List Word) (installed : List (List ℕ)) (after : List CertRecord) → AreAsked before question installed after → installations after ≡ installations before ++ installed
+pub installed-after : (before : List CertRecord) (question : List Word) (installed : List (List ℕ)) (after : List CertRecord)
+    → AreAsked before question installed after → installations after ≡ installations before ++ installed
 installed-after before question installed after asked =
     ap installations asked.is ∙ installations-append before (question_lines question asked.between asked.answer)
     ∙ ap (λ (ms : List (List ℕ)). installations before ++ ms) (question-installs question asked.between asked.answer asked.only_derived ∙ asked.installs)
 
-pub in-group-after : (before : List CertRecord) (question : List Word) (installed : List (List ℕ)) (after : List CertRecord) → AreAsked before question installed after → installations (group after) ≡ installations (group before) ++ installed
+pub in-group-after : (before : List CertRecord) (question : List Word) (installed : List (List ℕ)) (after : List CertRecord)
+    → AreAsked before question installed after → installations (group after) ≡ installations (group before) ++ installed
 in-group-after before question installed after asked =
-    ap installations (group-after before question installed after asked) ∙ installations-append (group before) (question_lines question asked.between asked.answer)
-    ∙ ap (λ (ms : List (List ℕ)). installations (group before) ++ ms) (question-installs question asked.between asked.answer asked.only_derived ∙ asked.installs)
+    ap installations (group-after before question installed after asked)
+    ∙ installations-append (group before) (question_lines question asked.between asked.answer)
+    ∙ ap (λ (ms : List (List ℕ)). installations (group before) ++ ms)
+    (question-installs question asked.between asked.answer asked.only_derived ∙ asked.installs)
 
-closed-after : (before : List CertRecord) (question : List Word) (installed : List (List ℕ)) (after : List CertRecord) (other : List Word) (answer : CertRecord) → AreAsked before question installed after
+closed-after : (before : List CertRecord) (question : List Word) (installed : List (List ℕ)) (after : List CertRecord) (other : List Word) (answer : CertRecord)
+    → AreAsked before question installed after
     → IsClosedBy (group before) other answer → IsClosedBy (group after) other answer
 closed-after before question installed after other answer asked closed =
     subst (λ ls. IsClosedBy ls other answer) (sym (group-after before question installed after asked))
     (closed-more (group before) (question_lines question asked.between asked.answer) other answer closed)
 
-pub closed-here : (before : List CertRecord) (question : List Word) (installed : List (List ℕ)) (after : List CertRecord) (asked : AreAsked before question installed after) → IsClosedBy (group after) question asked.answer
+pub closed-here : (before : List CertRecord) (question : List Word) (installed : List (List ℕ)) (after : List CertRecord)
+    (asked : AreAsked before question installed after) → IsClosedBy (group after) question asked.answer
 closed-here before question installed after asked =
-    subst (λ ls. IsClosedBy ls question asked.answer) (sym (group-after before question installed after asked)) (closed-now (group before) asked.between question asked.answer asked.only_derived)
+    subst (λ ls. IsClosedBy ls question asked.answer) (sym (group-after before question installed after asked))
+    (closed-now (group before) asked.between question asked.answer asked.only_derived)
 
 no-of : List Word → ℕ
 no-of (v ∷ w ∷ words) = w.0
@@ -143,14 +157,16 @@ unfolding no-of words-of
 same-other p q r e = ap (λ (s : CertRecord). no-of (words-of s)) e
 
 -- a question that was asked
-pub question-after : (before : List CertRecord) (question other : List Word) (installed : List (List ℕ)) (after : List CertRecord) → AreAsked before question installed after → Contains (group after) (Question other)
+pub question-after : (before : List CertRecord) (question other : List Word) (installed : List (List ℕ)) (after : List CertRecord)
+    → AreAsked before question installed after → Contains (group after) (Question other)
     → Contains (group before) (Question other) ⊎ (Question question ≡ Question other)
 question-after before question other installed after asked there =
     questions-of (group before) asked.between question other asked.answer asked.only_derived asked.answer_line
     (subst (λ (ls : List CertRecord). Contains ls (Question other)) (group-after before question installed after asked) there)
 
 -- a package that was asked for
-asked-after : (before : List CertRecord) (p q r : ℕ) (installed : List (List ℕ)) (after : List CertRecord) → AreAsked before (without p q) installed after → Contains (group after) (Question (without p r))
+asked-after : (before : List CertRecord) (p q r : ℕ) (installed : List (List ℕ)) (after : List CertRecord) → AreAsked before (without p q) installed after
+    → Contains (group after) (Question (without p r))
     → Contains (group before) (Question (without p r)) ⊎ (q ≡ r)
 asked-after before p q r installed after asked there =
     ⊎_elim (λ old. inl old) (λ new. inr (same-other p q r new)) (question-after before (without p q) (without p r) installed after asked there)
@@ -163,11 +179,14 @@ noted-after old new flags IsClosed Closed claimed variables more noted q from up
 
 -- ---- after each reply
 
-again : (before : List CertRecord) (question : List Word) (after : List CertRecord) → AreAsked before question [] after → installations (group after) ≡ installations (group before)
+again : (before : List CertRecord) (question : List Word) (after : List CertRecord) → AreAsked before question [] after
+    → installations (group after) ≡ installations (group before)
 again before question after asked = in-group-after before question [] after asked ∙ append-nil (installations (group before))
 
-pub refuted-step : (g : Setting) (before after : List CertRecord) (w : WindowView) (kept : GroupView) (q : ℕ) (hints : List ℕ) → IsGroupAt g before kept → IsCandidate w kept q
-    → (asked : AreAsked before (without kept.claimed q) [] after) → asked.answer ≡ Refuted hints → IsGroupAt g after (record kept { refuted = slice_set kept.refuted (q - 1) true })
+pub refuted-step : (g : Setting) (before after : List CertRecord) (w : WindowView) (kept : GroupView) (q : ℕ) (hints : List ℕ) → IsGroupAt g before kept
+    → IsCandidate w kept q
+    → (asked : AreAsked before (without kept.claimed q) [] after) → asked.answer ≡ Refuted hints
+    → IsGroupAt g after (record kept { refuted = slice_set kept.refuted (q - 1) true })
 refuted-step g before after w kept q hints at candidate asked is = record {
   claimed = at.claimed ∙ ap (λ (n : ℕ). n + 1) (sym (count-after before (without kept.claimed q) [] after asked));
   from_one = at.from_one;
@@ -191,9 +210,11 @@ refuted-step g before after w kept q hints at candidate asked is = record {
     | inl same ↦ ap (value_of kept.undecided) same ∙ parts.undecided
     | inr other ↦ at.apart r from (sym (value-other kept.refuted q r candidate.from_one from other) ∙ holds)
   ];
-  asked = λ r from upto there. ⊎_elim (λ old. still-closed kept (record kept { refuted = slice_set kept.refuted (q - 1) true }) r (back r from) (at.asked r from upto old))
+  asked = λ r from upto there. ⊎_elim (λ old. still-closed kept (record kept { refuted = slice_set kept.refuted (q - 1) true }) r (back r from)
+      (at.asked r from upto old))
       (λ new. never-open (record kept { refuted = slice_set kept.refuted (q - 1) true }) r
-      (λ open_still. true≢false (sym (ap (value_of (slice_set kept.refuted (q - 1) true)) (sym new) ∙ value-same kept.refuted q candidate.from_one (omega (arith, candidate.upto, at.sizes.refuted))) ∙ open_still.refuted)))
+      (λ open_still. true≢false (sym (ap (value_of (slice_set kept.refuted (q - 1) true)) (sym new)
+      ∙ value-same kept.refuted q candidate.from_one (omega (arith, candidate.upto, at.sizes.refuted))) ∙ open_still.refuted)))
       (asked-after before kept.claimed q r [] after asked there);
 }
   where
@@ -203,17 +224,29 @@ refuted-step g before after w kept q hints at candidate asked is = record {
     parts : OpenParts kept q
     parts = open-parts kept q candidate.opens
 
-    more-refuted : {r : ℕ} → (r ≢ kept.claimed) × IsRefutedIn (group before) (without kept.claimed r) → (r ≢ kept.claimed) × IsRefutedIn (group after) (without kept.claimed r)
+    more-refuted : {r : ℕ} → (r ≢ kept.claimed) × IsRefutedIn (group before) (without kept.claimed r) → (r ≢ kept.claimed)
+        × IsRefutedIn (group after) (without kept.claimed r)
     more-refuted {r} old = (old.0, (old.1.0, closed-after before (without kept.claimed q) [] after (without kept.claimed r) (Refuted old.1.0) asked old.1.1))
 
     back : (r : ℕ) → 1 ≤ r → OpenParts (record kept { refuted = slice_set kept.refuted (q - 1) true }) r → OpenParts kept r
     back r from open_still = elim (cases_eq r q) [
-      | inl same ↦ record { other = open_still.other; common = open_still.common; refuted = ap (value_of kept.refuted) same ∙ parts.refuted; undecided = open_still.undecided }
-      | inr other ↦ record { other = open_still.other; common = open_still.common; refuted = sym (value-other kept.refuted q r candidate.from_one from other) ∙ open_still.refuted; undecided = open_still.undecided }
+      | inl same ↦ record {
+        other = open_still.other;
+        common = open_still.common;
+        refuted = ap (value_of kept.refuted) same ∙ parts.refuted;
+        undecided = open_still.undecided;
+      }
+      | inr other ↦ record {
+        other = open_still.other;
+        common = open_still.common;
+        refuted = sym (value-other kept.refuted q r candidate.from_one from other) ∙ open_still.refuted;
+        undecided = open_still.undecided;
+      }
     ]
 
 pub undecided-step : (g : Setting) (before after : List CertRecord) (w : WindowView) (kept : GroupView) (q : ℕ) → IsGroupAt g before kept → IsCandidate w kept q
-    → (asked : AreAsked before (without kept.claimed q) [] after) → asked.answer ≡ Undecided → IsGroupAt g after (record kept { undecided = slice_set kept.undecided (q - 1) true })
+    → (asked : AreAsked before (without kept.claimed q) [] after) → asked.answer ≡ Undecided
+    → IsGroupAt g after (record kept { undecided = slice_set kept.undecided (q - 1) true })
 undecided-step g before after w kept q at candidate asked is = record {
   claimed = at.claimed ∙ ap (λ (n : ℕ). n + 1) (sym (count-after before (without kept.claimed q) [] after asked));
   from_one = at.from_one;
@@ -237,9 +270,11 @@ undecided-step g before after w kept q at candidate asked is = record {
     | inl same ↦ absurd (true≢false (sym holds ∙ ap (value_of kept.refuted) same ∙ parts.refuted))
     | inr other ↦ value-other kept.undecided q r candidate.from_one from other ∙ at.apart r from holds
   ];
-  asked = λ r from upto there. ⊎_elim (λ old. still-closed kept (record kept { undecided = slice_set kept.undecided (q - 1) true }) r (back r from) (at.asked r from upto old))
+  asked = λ r from upto there. ⊎_elim (λ old. still-closed kept (record kept { undecided = slice_set kept.undecided (q - 1) true }) r (back r from)
+      (at.asked r from upto old))
       (λ new. never-open (record kept { undecided = slice_set kept.undecided (q - 1) true }) r
-      (λ open_still. true≢false (sym (ap (value_of (slice_set kept.undecided (q - 1) true)) (sym new) ∙ value-same kept.undecided q candidate.from_one (omega (arith, candidate.upto, at.sizes.undecided))) ∙ open_still.undecided)))
+      (λ open_still. true≢false (sym (ap (value_of (slice_set kept.undecided (q - 1) true)) (sym new)
+      ∙ value-same kept.undecided q candidate.from_one (omega (arith, candidate.upto, at.sizes.undecided))) ∙ open_still.undecided)))
       (asked-after before kept.claimed q r [] after asked there);
 }
   where
@@ -249,13 +284,24 @@ undecided-step g before after w kept q at candidate asked is = record {
     parts : OpenParts kept q
     parts = open-parts kept q candidate.opens
 
-    more-undecided : {r : ℕ} → (r ≢ kept.claimed) × IsUndecidedIn (group before) (without kept.claimed r) → (r ≢ kept.claimed) × IsUndecidedIn (group after) (without kept.claimed r)
+    more-undecided : {r : ℕ} → (r ≢ kept.claimed) × IsUndecidedIn (group before) (without kept.claimed r) → (r ≢ kept.claimed)
+        × IsUndecidedIn (group after) (without kept.claimed r)
     more-undecided {r} old = (old.0, closed-after before (without kept.claimed q) [] after (without kept.claimed r) Undecided asked old.1)
 
     back : (r : ℕ) → 1 ≤ r → OpenParts (record kept { undecided = slice_set kept.undecided (q - 1) true }) r → OpenParts kept r
     back r from open_still = elim (cases_eq r q) [
-      | inl same ↦ record { other = open_still.other; common = open_still.common; refuted = open_still.refuted; undecided = ap (value_of kept.undecided) same ∙ parts.undecided }
-      | inr other ↦ record { other = open_still.other; common = open_still.common; refuted = open_still.refuted; undecided = sym (value-other kept.undecided q r candidate.from_one from other) ∙ open_still.undecided }
+      | inl same ↦ record {
+        other = open_still.other;
+        common = open_still.common;
+        refuted = open_still.refuted;
+        undecided = ap (value_of kept.undecided) same ∙ parts.undecided;
+      }
+      | inr other ↦ record {
+        other = open_still.other;
+        common = open_still.common;
+        refuted = open_still.refuted;
+        undecided = sym (value-other kept.undecided q r candidate.from_one from other) ∙ open_still.undecided;
+      }
     ]
 
 -- ---- a new installation
@@ -266,9 +312,12 @@ all-left P xs y all k d within = subst P (get_or_append_left xs (y ∷ []) d k w
 all-last : {X : Type 0} (P : X → Type 0) (xs : List X) (y : X) → All P (xs ++ y ∷ []) → P y
 all-last P xs y all = subst P (get_or_at xs y [] y (length xs) refl) (all (length xs) y (omega (arith, length-append xs (y ∷ []))))
 
-pub found-step : (g : Setting) (before after : List CertRecord) (w : WindowView) (kept new : GroupView) (q : ℕ) (values : List Bool) → IsGroupAt g before kept → IsCandidate w kept q
-    → AreAsked before (without kept.claimed q) (true_variables values ∷ []) after → length values ≡ kept.variables → value_of values kept.claimed ≡ true → value_of values q ≡ false
-    → new ≡ record kept { common = new.common } → length new.common ≡ kept.variables → IsNarrowed kept.variables kept.common values new.common → IsGroupAt g after (record kept { common = new.common })
+pub found-step : (g : Setting) (before after : List CertRecord) (w : WindowView) (kept new : GroupView) (q : ℕ) (values : List Bool) → IsGroupAt g before kept
+    → IsCandidate w kept q
+    → AreAsked before (without kept.claimed q) (true_variables values ∷ []) after → length values ≡ kept.variables → value_of values kept.claimed ≡ true
+    → value_of values q ≡ false
+    → new ≡ record kept { common = new.common } → length new.common ≡ kept.variables → IsNarrowed kept.variables kept.common values new.common
+    → IsGroupAt g after (record kept { common = new.common })
 found-step g before after w kept new q values at candidate asked size has lacks is new_size narrowed = record {
   claimed = at.claimed ∙ ap (λ (n : ℕ). n + 1) (sym (count-after before (without kept.claimed q) (true_variables values ∷ []) after asked));
   from_one = at.from_one;
@@ -276,33 +325,48 @@ found-step g before after w kept new q values at candidate asked size has lacks 
   variables = at.variables;
   sizes = record { common = new_size; refuted = at.sizes.refuted; undecided = at.sizes.undecided };
   some = omega (arith, ap length inst, length-append (installations (group before)) (true_variables values ∷ []));
-  each = subst (λ (ms : List (List ℕ)). All (λ m. Contains m kept.claimed) ms) (sym inst) (with-one kept.claimed at.each ((true-ones values kept.claimed at.from_one (omega (arith, at.upto, size))).1 has));
+  each = subst (λ (ms : List (List ℕ)). All (λ m. Contains m kept.claimed) ms) (sym inst)
+      (with-one kept.claimed at.each ((true-ones values kept.claimed at.from_one (omega (arith, at.upto, size))).1 has));
   common = λ r from upto. subst (λ (ms : List (List ℕ)). (value_of new.common r ≡ true) ↔ All (λ m. Contains m r) ms) (sym inst) (both r from upto);
   refuted = noted-after kept (record kept { common = new.common }) kept.refuted (IsRefutedIn (group before)) (IsRefutedIn (group after)) refl refl
-      (λ question closed. (closed.0, closed-after before (without kept.claimed q) (true_variables values ∷ []) after question (Refuted closed.0) asked closed.1)) at.refuted;
+      (λ question closed. (
+        closed.0,
+        closed-after before (without kept.claimed q) (true_variables values ∷ []) after question (Refuted closed.0) asked
+            closed.1,
+      )) at.refuted;
   undecided = noted-after kept (record kept { common = new.common }) kept.undecided (IsUndecidedIn (group before)) (IsUndecidedIn (group after)) refl refl
       (λ question closed. closed-after before (without kept.claimed q) (true_variables values ∷ []) after question Undecided asked closed) at.undecided;
   apart = at.apart;
   asked = λ r from upto there. ⊎_elim (λ old. still-closed kept (record kept { common = new.common }) r
-      (λ parts. record { other = parts.other; common = (and_parts (value_of kept.common r) (value_of values r) (sym (narrowed r from upto) ∙ parts.common)).0; refuted = parts.refuted; undecided = parts.undecided })
+      (λ parts. record {
+        other = parts.other;
+        common = (and_parts (value_of kept.common r) (value_of values r) (sym (narrowed r from upto) ∙ parts.common)).0;
+        refuted = parts.refuted;
+        undecided = parts.undecided;
+      })
       (at.asked r from upto old))
       (λ now. never-open (record kept { common = new.common }) r (λ parts.
-      true≢false (sym (and_parts (value_of kept.common r) (value_of values r) (sym (narrowed r from upto) ∙ parts.common)).1 ∙ ap (value_of values) (sym now) ∙ lacks)))
+      true≢false (sym (and_parts (value_of kept.common r) (value_of values r) (sym (narrowed r from upto) ∙ parts.common)).1 ∙ ap (value_of values) (sym now)
+      ∙ lacks)))
       (asked-after before kept.claimed q r (true_variables values ∷ []) after asked there);
 }
   where
     inst : installations (group after) ≡ installations (group before) ++ true_variables values ∷ []
     inst = in-group-after before (without kept.claimed q) (true_variables values ∷ []) after asked
 
-    with-one : (r : ℕ) → All (λ m. Contains m r) (installations (group before)) → Contains (true_variables values) r → All (λ m. Contains m r) (installations (group before) ++ true_variables values ∷ [])
-    with-one r all one = All-append (λ m. Contains m r) (installations (group before)) (true_variables values ∷ []) all (All-cons (λ m. Contains m r) (true_variables values) [] one (All-nil (λ m. Contains m r)))
+    with-one : (r : ℕ) → All (λ m. Contains m r) (installations (group before)) → Contains (true_variables values) r
+        → All (λ m. Contains m r) (installations (group before) ++ true_variables values ∷ [])
+    with-one r all one = All-append (λ m. Contains m r) (installations (group before)) (true_variables values ∷ []) all
+        (All-cons (λ m. Contains m r) (true_variables values) [] one (All-nil (λ m. Contains m r)))
 
-    both : (r : ℕ) → 1 ≤ r → r ≤ kept.variables → (value_of new.common r ≡ true) ↔ All (λ m. Contains m r) (installations (group before) ++ true_variables values ∷ [])
+    both : (r : ℕ) → 1 ≤ r → r ≤ kept.variables → (value_of new.common r ≡ true)
+        ↔ All (λ m. Contains m r) (installations (group before) ++ true_variables values ∷ [])
     both r from upto = (
       (λ holds.
           let parts = and_parts (value_of kept.common r) (value_of values r) (sym (narrowed r from upto) ∙ holds) in
           with-one r ((at.common r from upto).0 parts.0) ((true-ones values r from (omega (arith, upto, size))).1 parts.1)),
-      λ all. narrowed r from upto ∙ and_from (value_of kept.common r) (value_of values r) ((at.common r from upto).1 (all-left (λ m. Contains m r) (installations (group before)) (true_variables values) all))
+      λ all. narrowed r from upto ∙ and_from (value_of kept.common r) (value_of values r)
+          ((at.common r from upto).1 (all-left (λ m. Contains m r) (installations (group before)) (true_variables values) all))
           ((true-ones values r from (omega (arith, upto, size))).0 (all-last (λ m. Contains m r) (installations (group before)) (true_variables values) all)),
     )
 
@@ -317,23 +381,29 @@ keep-push {X} n xs y =
     let dropped = length-drop k xs in
     let whole = length-append xs (y ∷ []) in
     let count : k + (length (drop k xs ++ y ∷ []) - n) ≡ length (xs ++ y ∷ []) - n = omega (arith, size, dropped, whole) in
-    ap (λ (ys : List X). drop (length (drop k xs ++ y ∷ []) - n) ys) joined ∙ drop-drop (length (drop k xs ++ y ∷ []) - n) k (xs ++ y ∷ []) ∙ ap (λ (m : ℕ). drop m (xs ++ y ∷ [])) count
+    ap (λ (ys : List X). drop (length (drop k xs ++ y ∷ []) - n) ys) joined ∙ drop-drop (length (drop k xs ++ y ∷ []) - n) k (xs ++ y ∷ [])
+    ∙ ap (λ (m : ℕ). drop m (xs ++ y ∷ [])) count
 
 keep-map : {X Y : Type 0} (f : X → Y) (n : ℕ) (xs : List X) → map f (keep_last n xs) ≡ keep_last n (map f xs)
 keep-map f n xs = sym (drop-map f (length xs - n) xs) ∙ ap (λ (m : ℕ). drop (m - n) (map f xs)) (sym (length-map xs f))
 
-pub window-more : (before after : List CertRecord) (question : List Word) (w : WindowView) (values : List Bool) → IsWindowAt before w → AreAsked before question (true_variables values ∷ []) after → length values ≡ w.variables
+pub window-more : (before after : List CertRecord) (question : List Word) (w : WindowView) (values : List Bool) → IsWindowAt before w
+    → AreAsked before question (true_variables values ∷ []) after → length values ≡ w.variables
     → IsWindowAt after (record w { kept = keep_last REACH (w.kept ++ values ∷ []); count = w.count + 1 })
 window-more before after question w values at asked size =
     let inst = installed-after before question (true_variables values ∷ []) after asked in
     record {
-      kept = keep-map true_variables REACH (w.kept ++ values ∷ []) ∙ ap (λ (ms : List (List ℕ)). keep_last REACH ms) (map-append true_variables w.kept (values ∷ []) ∙ ap (λ (ms : List (List ℕ)). ms ++ true_variables values ∷ []) at.kept)
+      kept = keep-map true_variables REACH (w.kept ++ values ∷ [])
+          ∙ ap (λ (ms : List (List ℕ)). keep_last REACH ms) (map-append true_variables w.kept (values ∷ [])
+          ∙ ap (λ (ms : List (List ℕ)). ms ++ true_variables values ∷ []) at.kept)
           ∙ keep-push REACH (installations before) (true_variables values) ∙ ap (λ (ms : List (List ℕ)). keep_last REACH ms) (sym inst);
       count = ap (λ (n : ℕ). n + 1) at.count ∙ sym (ap length inst ∙ length-append (installations before) (true_variables values ∷ []));
-      sizes = All-drop (λ v. length v ≡ w.variables) (length (w.kept ++ values ∷ []) - REACH) (w.kept ++ values ∷ []) (All-push (λ v. length v ≡ w.variables) w.kept values at.sizes size);
+      sizes = All-drop (λ v. length v ≡ w.variables) (length (w.kept ++ values ∷ []) - REACH) (w.kept ++ values ∷ [])
+          (All-push (λ v. length v ≡ w.variables) w.kept values at.sizes size);
     }
 
-pub window-same : (before after : List CertRecord) (question : List Word) (w : WindowView) → IsWindowAt before w → AreAsked before question [] after → IsWindowAt after w
+pub window-same : (before after : List CertRecord) (question : List Word) (w : WindowView) → IsWindowAt before w → AreAsked before question [] after
+    → IsWindowAt after w
 window-same before after question w at asked =
     let inst = installed-after before question [] after asked ∙ append-nil (installations before) in
     record { kept = at.kept ∙ ap (λ (ms : List (List ℕ)). keep_last REACH ms) (sym inst); count = at.count ∙ ap length (sym inst); sizes = at.sizes }

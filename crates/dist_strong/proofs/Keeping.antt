@@ -18,7 +18,8 @@ keeps-front limits lines more kept =
     record { count = omega (arith, kept.count, ap length both, counts); literals = omega (arith, kept.literals, ap literal_count both, literals) }
 
 -- a line that is no derived line changes neither
-pub keeps-same : (limits : Limits) (lines : List CertRecord) (step : CertRecord) → derived_in step ≡ [] → KeepsLines limits lines → KeepsLines limits (lines ++ step ∷ [])
+pub keeps-same : (limits : Limits) (lines : List CertRecord) (step : CertRecord) → derived_in step ≡ [] → KeepsLines limits lines
+    → KeepsLines limits (lines ++ step ∷ [])
 keeps-same limits lines step none kept =
     let same : derived (lines ++ step ∷ []) ≡ derived lines
     = flat_map-append derived_in lines (step ∷ []) ∙ ap (λ (cs : List (List Literal)). derived lines ++ (cs ++ [])) none ∙ append-nil (derived lines) in

@@ -29,7 +29,8 @@ AreKept matter h steps = (before : List CertRecord) (step : CertRecord) (after :
 not-both : causes.BadRecord ≡ causes.LineTooLong → ⊥
 not-both e = cc
 
-pub part-kept : FormsAreClear → (subject : Subject) (limits : Limits) (h : Header) (text : List ℕ) (steps : List CertRecord) → IsPartOf subject limits h text steps
+pub part-kept : FormsAreClear → (subject : Subject) (limits : Limits) (h : Header) (text : List ℕ) (steps : List CertRecord)
+    → IsPartOf subject limits h text steps
     → AreKept (subject.matter h.kind h.essential) h steps
 part-kept clear subject limits h text steps part before step after is =
     let form = all-at (λ (s : CertRecord). HasForm (record_text s) s) steps before step after is part.reads.records in

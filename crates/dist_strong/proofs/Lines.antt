@@ -30,14 +30,17 @@ all-small : (n : ℕ) (words : List Word) → n < 2 ^ 32 → All (λ w. w.0 ≤ 
 all-small n words fits upto k d within = let least = upto k d within in omega (arith, least, fits)
 
 pub plains-small : (n : ℕ) (numbers : List ℕ) → n < 2 ^ 32 → All (λ v. v ≤ n) numbers → All (λ w. IsSmall w.0) (plains numbers)
-plains-small n numbers fits upto = All-map (λ w. IsSmall w.0) (λ (v : ℕ). (v, true)) numbers (λ k d within. let least = upto k d within in omega (arith, least, fits))
+plains-small n numbers fits upto = All-map (λ w. IsSmall w.0) (λ (v : ℕ). (v, true)) numbers
+    (λ k d within. let least = upto k d within in omega (arith, least, fits))
 
 -- ---- hints
 
-pub all-numbered : (clauses : List (List Literal)) (trues : List Literal) (hints : List ℕ) → EndsFalse clauses trues hints → All (λ hint. IsNumberOf clauses hint) hints
+pub all-numbered : (clauses : List (List Literal)) (trues : List Literal) (hints : List ℕ) → EndsFalse clauses trues hints
+    → All (λ hint. IsNumberOf clauses hint) hints
 all-numbered clauses trues [] ends = absurd ends
 all-numbered clauses trues (hint ∷ hints) ends = All-cons (λ h. IsNumberOf clauses h) hint hints ends.0
-    (⊎_elim (λ fails. ⊎_elim (λ last. subst (λ (hs : List ℕ). All (λ h. IsNumberOf clauses h) hs) (sym last) (All-nil (λ h. IsNumberOf clauses h))) (λ more. all-numbered clauses trues hints more) fails.1)
+    (⊎_elim (λ fails. ⊎_elim (λ last. subst (λ (hs : List ℕ). All (λ h. IsNumberOf clauses h) hs) (sym last) (All-nil (λ h. IsNumberOf clauses h)))
+    (λ more. all-numbered clauses trues hints more) fails.1)
     (λ unit. all-numbered clauses (trues ++ unit.0 ∷ []) hints unit.2) ends.1)
 
 pub from-one : (clauses : List (List Literal)) (hints : List ℕ) → All (λ hint. IsNumberOf clauses hint) hints → All (λ h. 1 ≤ h) hints
@@ -66,7 +69,8 @@ variables-upto n words upto = All-map (λ v. v ≤ n) (λ (w : Word). w.0) words
 
 -- ---- the lines
 
-pub question-line : (g : Setting) (before : List CertRecord) (words : List Word) → g.header.kind ≡ kinds.Strong → length g.repo.packages < 2 ^ 32 → list_any is_end before ≡ false
+pub question-line : (g : Setting) (before : List CertRecord) (words : List Word) → g.header.kind ≡ kinds.Strong → length g.repo.packages < 2 ^ 32
+    → list_any is_end before ≡ false
     → IsOver (length g.repo.packages) words → IsNextQuestion (matter_in g) g.header before words → IsLine (matter_in g) g.header before (Question words)
 question-line g before words strong fits going over next = record {
   form = record { text = refl; rules = (over.some, over.form); numbers = all-small (length g.repo.packages) words fits over.upto };
@@ -83,21 +87,33 @@ question-line g before words strong fits going over next = record {
     none causes.WrongClaim f = false≢true f.0
     none cause f = f
 
-pub derived-line : (g : Setting) (before : List CertRecord) (clause : List Literal) (hints : List ℕ) (question : List Word) (since : List CertRecord) → g.header.kind ≡ kinds.Strong
-    → list_any is_end before ≡ false → length g.repo.packages < 2 ^ 32 → length (numbered (matter_in g) before) < 2 ^ 32 → IsClauseOver (length g.repo.packages) clause
-    → Follows (numbered (matter_in g) before) clause hints → length hints ≤ length g.repo.packages + 1 → IsAsking before question since → length (derived since) < g.header.limit
-    → IsNew (numbered (matter_in g) before) (length g.inputs) (clause_of question) clause → IsLine (matter_in g) g.header before (Derived (words_of clause) hints)
+pub derived-line : (g : Setting) (before : List CertRecord) (clause : List Literal) (hints : List ℕ) (question : List Word) (since : List CertRecord)
+    → g.header.kind ≡ kinds.Strong
+    → list_any is_end before ≡ false → length g.repo.packages < 2 ^ 32 → length (numbered (matter_in g) before) < 2 ^ 32
+    → IsClauseOver (length g.repo.packages) clause
+    → Follows (numbered (matter_in g) before) clause hints → length hints ≤ length g.repo.packages + 1 → IsAsking before question since
+    → length (derived since) < g.header.limit
+    → IsNew (numbered (matter_in g) before) (length g.inputs) (clause_of question) clause
+    → IsLine (matter_in g) g.header before (Derived (words_of clause) hints)
 derived-line g before clause hints question since strong going fits fits_clauses over follows few asking left new = record {
   form = record {
     text = refl;
     rules = (words-form (length g.repo.packages) clause over, from-one clauses hints numbers);
-    numbers = All-append (λ w. IsSmall w.0) (words_of clause) ((0, true) ∷ plains hints) (all-small (length g.repo.packages) (words_of clause) fits (words-upto (length g.repo.packages) clause over))
-        (All-cons (λ w. IsSmall w.0) (0, true) (plains hints) (omega arith) (plains-small (length clauses) hints fits_clauses (upto-last clauses hints numbers)));
+    numbers = All-append (λ w. IsSmall w.0) (words_of clause) ((0, true) ∷ plains hints)
+        (all-small (length g.repo.packages) (words_of clause) fits (words-upto (length g.repo.packages) clause over))
+        (All-cons (λ w. IsSmall w.0) (0, true) (plains hints) (omega arith)
+        (plains-small (length clauses) hints fits_clauses (upto-last clauses hints numbers)));
   };
   not_ended = going;
   faultless = none;
   next = (
-    record { question = question; since = since; asking = asking; line_left = left; is_new = subst (λ c. IsNew clauses (length g.inputs) (clause_of question) c) (sym (clause-words clause)) new },
+    record {
+      question = question;
+      since = since;
+      asking = asking;
+      line_left = left;
+      is_new = subst (λ c. IsNew clauses (length g.inputs) (clause_of question) c) (sym (clause-words clause)) new;
+    },
     few,
   );
 }
@@ -109,7 +125,8 @@ derived-line g before clause hints question since strong going fits fits_clauses
     numbers = all-numbered clauses (map negation clause) hints follows
 
     none : (cause : CertCause) → ¬ HasRecordFault (matter_in g) g.header before (Derived (words_of clause) hints) cause
-    none causes.OutOfRange f = none-past (length g.repo.packages) (map (λ w. w.0) (words_of clause)) (variables-upto (length g.repo.packages) (words_of clause) (words-upto (length g.repo.packages) clause over)) f
+    none causes.OutOfRange f = none-past (length g.repo.packages) (map (λ w. w.0) (words_of clause))
+        (variables-upto (length g.repo.packages) (words_of clause) (words-upto (length g.repo.packages) clause over)) f
     none causes.OutOfOrder f = none-in _ f
     none causes.UnknownLine f = none-past (length clauses) hints (upto-last clauses hints numbers) f
     none causes.BadLine f = f (subst (λ c. Follows clauses c hints) (sym (clause-words clause)) follows)
@@ -118,10 +135,15 @@ derived-line g before clause hints question since strong going fits fits_clauses
     none cause f = f
 
 pub refuted-line : (g : Setting) (before : List CertRecord) (hints : List ℕ) (question : List Word) (since : List CertRecord) → g.header.kind ≡ kinds.Strong
-    → list_any is_end before ≡ false → length (numbered (matter_in g) before) < 2 ^ 32 → Follows (numbered (matter_in g) before) (map negation (clause_of question)) hints
+    → list_any is_end before ≡ false → length (numbered (matter_in g) before) < 2 ^ 32
+    → Follows (numbered (matter_in g) before) (map negation (clause_of question)) hints
     → length hints ≤ length g.repo.packages + 1 → IsAsking before question since → IsLine (matter_in g) g.header before (Refuted hints)
 refuted-line g before hints question since strong going fits_clauses follows few asking = record {
-  form = record { text = refl; rules = from-one clauses hints numbers; numbers = plains-small (length clauses) hints fits_clauses (upto-last clauses hints numbers) };
+  form = record {
+    text = refl;
+    rules = from-one clauses hints numbers;
+    numbers = plains-small (length clauses) hints fits_clauses (upto-last clauses hints numbers);
+  };
   not_ended = going;
   faultless = none;
   next = ((question, since, asking), few);
@@ -171,8 +193,10 @@ undecided-line g before question since strong going asking reached new = record 
     none causes.WrongClaim f = false≢true f.0
     none cause f = f
 
-pub installation-line : (g : Setting) (before : List CertRecord) (variables : List ℕ) → g.header.kind ≡ kinds.Strong → list_any is_end before ≡ false → length g.repo.packages < 2 ^ 32
-    → All (λ v. 1 ≤ v) variables → AllPairs (λ v w. v < w) variables → All (λ v. v ≤ length g.repo.packages) variables → (matter_in g).IsHealthy variables → AsksSome before
+pub installation-line : (g : Setting) (before : List CertRecord) (variables : List ℕ) → g.header.kind ≡ kinds.Strong → list_any is_end before ≡ false
+    → length g.repo.packages < 2 ^ 32
+    → All (λ v. 1 ≤ v) variables → AllPairs (λ v w. v < w) variables → All (λ v. v ≤ length g.repo.packages) variables → (matter_in g).IsHealthy variables
+    → AsksSome before
     → IsLine (matter_in g) g.header before (Installation variables)
 installation-line g before variables strong going fits low rising upto healthy asks = record {
   form = record { text = refl; rules = (low, rising); numbers = plains-small (length g.repo.packages) variables fits upto };

@@ -1,5 +1,6 @@
 -- What putting a line makes of the lines before, and where it stops.
-use Rattle.std.proofs.Common.{◌≡◌, ◌⊎◌, inl, inr, ℕ, ◌+◌, ◌<◌, ◌≤◌, List, [], ◌∷◌, ◌++◌, length, Result, Ok, Err, OnOk, OnErr, IfErr, refl, ap, sym, subst, ◌∙◌, append_assoc, append-nil, arith, length-append}
+use Rattle.std.proofs.Common.{◌≡◌, ◌⊎◌, inl, inr, ℕ, ◌+◌, ◌<◌, ◌≤◌, List, [], ◌∷◌, ◌++◌, length, Result, Ok, Err, OnOk, OnErr, IfErr, refl, ap, sym, subst, ◌∙◌}
+use Rattle.std.proofs.Common.{append_assoc, append-nil, arith, length-append}
 use Rattle.std.specs.List.{Any}
 use Rattle.std.proofs.lemmas.Bool.{cases_lt}
 use Rattle.std.proofs.lemmas.Grind.{flat_map-append}
@@ -21,7 +22,8 @@ use Rattle.dist_strong.specs.Script.{Setting, matter_in, AllNext, AreWritten, Is
 
 -- ---- one line more
 
-pub next-push : (g : Setting) (before steps : List CertRecord) (step : CertRecord) → AllNext g before steps → IsLine (matter_in g) g.header (before ++ steps) step → AllNext g before (steps ++ step ∷ [])
+pub next-push : (g : Setting) (before steps : List CertRecord) (step : CertRecord) → AllNext g before steps
+    → IsLine (matter_in g) g.header (before ++ steps) step → AllNext g before (steps ++ step ∷ [])
 next-push g before [] step all line = (subst (λ b. IsLine (matter_in g) g.header b step) (append-nil before) line, tt)
 next-push g before (s ∷ steps) step all line =
     (all.0, next-push g (before ++ s ∷ []) steps step all.1 (subst (λ b. IsLine (matter_in g) g.header b step) (sym (append_assoc before (s ∷ []) steps)) line))
@@ -32,32 +34,46 @@ lines-more lines more = flat_map-append (λ step. record_text step ++ line_feed 
 pub one-line : (step : CertRecord) → lines_text (step ∷ []) ≡ ended (record_text step)
 one-line step = append-nil (record_text step ++ line_feed ∷ [])
 
-pub certificate-push : (h : Header) (before : List CertRecord) (step : CertRecord) → certificate_text h (before ++ step ∷ []) ≡ certificate_text h before ++ ended (record_text step)
+pub certificate-push : (h : Header) (before : List CertRecord) (step : CertRecord)
+    → certificate_text h (before ++ step ∷ []) ≡ certificate_text h before ++ ended (record_text step)
 certificate-push h before step =
-    ap (λ (text : List ℕ). header_text h ++ line_feed ∷ text) (lines-more before (step ∷ []) ∙ ap (λ (text : List ℕ). lines_text before ++ text) (one-line step))
+    ap (λ (text : List ℕ). header_text h ++ line_feed ∷ text)
+    (lines-more before (step ∷ []) ∙ ap (λ (text : List ℕ). lines_text before ++ text) (one-line step))
     ∙ sym (append_assoc (header_text h) (line_feed ∷ lines_text before) (ended (record_text step)))
 
-certificate-more : (h : Header) (before : List CertRecord) (step : CertRecord) → length (certificate_text h (before ++ step ∷ [])) ≡ length (certificate_text h before) + length (ended (record_text step))
+certificate-more : (h : Header) (before : List CertRecord) (step : CertRecord)
+    → length (certificate_text h (before ++ step ∷ [])) ≡ length (certificate_text h before) + length (ended (record_text step))
 certificate-more h before step = ap length (certificate-push h before step) ∙ length-append (certificate_text h before) (ended (record_text step))
 
-short-line : (g : Setting) (step : CertRecord) (limit : ℕ) → limit ≡ g.limits.record_line → length (ended (record_text step)) ≤ limit → IsShortLine g.limits step
+short-line : (g : Setting) (step : CertRecord) (limit : ℕ) → limit ≡ g.limits.record_line → length (ended (record_text step)) ≤ limit
+    → IsShortLine g.limits step
 short-line g step limit is within = omega (arith, is, within, length-append (record_text step) (10 ∷ []))
 
-pub writer-more : (g : Setting) (before : List CertRecord) (step : CertRecord) (w after : WriterView) → IsWriter g before w → IsLine (matter_in g) g.header before step → KeepsLines g.limits (before ++ step ∷ [])
+pub writer-more : (g : Setting) (before : List CertRecord) (step : CertRecord) (w after : WriterView) → IsWriter g before w
+    → IsLine (matter_in g) g.header before step → KeepsLines g.limits (before ++ step ∷ [])
     → HasRoom w (ended (record_text step)) → after ≡ after_line w (ended (record_text step)) → IsWriter g (before ++ step ∷ []) after
 writer-more g before step w after writer line kept room counted = record {
   written = record {
     next = next-push g [] before step writer.written.next line;
-    short = All-push (IsShortLine g.limits) before step writer.written.short (short-line g step w.line_limit (ap (λ (v : WriterView). v.line_limit) writer.stands) room.line_within);
+    short = All-push (IsShortLine g.limits) before step writer.written.short
+        (short-line g step w.line_limit (ap (λ (v : WriterView). v.line_limit) writer.stands) room.line_within);
     header_short = writer.written.header_short;
     kept = kept;
-    bytes = omega (arith, certificate-more g.header before step, room.whole_within, ap (λ (v : WriterView). v.whole_limit) writer.stands, ap (λ (v : WriterView). v.written) writer.stands);
+    bytes = omega (
+      arith,
+      certificate-more g.header before step,
+      room.whole_within,
+      ap (λ (v : WriterView). v.whole_limit) writer.stands,
+      ap (λ (v : WriterView). v.written) writer.stands,
+    );
   };
   stands = counted ∙ ap (λ (v : WriterView). after_line v (ended (record_text step))) writer.stands
-      ∙ ap (λ (n : ℕ). record { line_limit = g.limits.record_line; whole_limit = g.limits.certificate; written = n }) (sym (certificate-more g.header before step));
+      ∙ ap (λ (n : ℕ). record { line_limit = g.limits.record_line; whole_limit = g.limits.certificate; written = n })
+      (sym (certificate-more g.header before step));
 }
 
-pub put-more : (w after : WriterView) (step : CertRecord) (old new : DeskView) (result : Result (Unit {0}) WorkError) → PutAnswers w (ended (record_text step)) old new result
+pub put-more : (w after : WriterView) (step : CertRecord) (old new : DeskView) (result : Result (Unit {0}) WorkError)
+    → PutAnswers w (ended (record_text step)) old new result
     → OnOk result (after ≡ after_line w (ended (record_text step))) → OnOk result (PutMore w after step)
 put-more w after step old new (Ok u) answers counted = λ g before writer line kept. writer-more g before step w after writer line kept answers counted
 put-more w after step old new (Err error) answers counted = tt
@@ -72,7 +88,8 @@ abbrev pub TwiceLaw : Type 0
 TwiceLaw = (first second : List ℕ) (old mid new : DeskView) → FileGrew first old mid → FileGrew second mid new → FileGrew (first ++ second) old new
 
 -- nothing more was written than some bytes behind the lines
-pub stopped-here : (g : Setting) (before : List CertRecord) (w : WriterView) (old new : DeskView) (error : WorkError) (cut : List ℕ) → IsWriter g before w → FileGrew cut old new
+pub stopped-here : (g : Setting) (before : List CertRecord) (w : WriterView) (old new : DeskView) (error : WorkError) (cut : List ℕ) → IsWriter g before w
+    → FileGrew cut old new
     → (cut ≡ []) ⊎ IsCutOff g before cut → StopsBy g before cut old new error → Stops g before old new error
 stopped-here g before w old new error cut writer grew cut_off by = record {
   added = [];
@@ -83,7 +100,8 @@ stopped-here g before w old new error cut writer grew cut_off by = record {
   by = subst (λ ls. StopsBy g ls cut old new error) (sym (append-nil before)) by;
 }
 
-pub stops-for-memory : (g : Setting) (before : List CertRecord) (w : WriterView) (old new : DeskView) → IsWriter g before w → FileGrew [] old new → Stops g before old new NoMemory
+pub stops-for-memory : (g : Setting) (before : List CertRecord) (w : WriterView) (old new : DeskView) → IsWriter g before w → FileGrew [] old new
+    → Stops g before old new NoMemory
 stops-for-memory g before w old new writer grew = stopped-here g before w old new NoMemory [] writer grew (inl refl) tt
 
 last-any : {X : Type 0} (P : X → Type 0) (xs : List X) (x : X) → P x → Any P (xs ++ x ∷ [])
@@ -92,7 +110,8 @@ last-any P xs x holds = (length xs, x, omega (arith, length-append xs (x ∷ [])
 stays : BeginsLaw → (old new : DeskView) → new ≡ old → FileGrew [] old new
 stays begins old new same = subst (λ d. FileGrew [] old d) (sym same) (begins old)
 
-pub put-stops : BeginsLaw → (w : WriterView) (step : CertRecord) (old new : DeskView) (result : Result (Unit {0}) WorkError) → PutAnswers w (ended (record_text step)) old new result
+pub put-stops : BeginsLaw → (w : WriterView) (step : CertRecord) (old new : DeskView) (result : Result (Unit {0}) WorkError)
+    → PutAnswers w (ended (record_text step)) old new result
     → WritesNothing old new result → OnErr result (FileGrewByFront (ended (record_text step)) old new) → IfErr result (PutStops w step old new)
 put-stops begins w step old new (Ok u) answers nothing front = tt
 put-stops begins w step old new (Err WriteFault) answers nothing front = λ g before writer line.
@@ -116,13 +135,16 @@ pub rose-later : (old mid new : ℕ) → old ≤ mid → mid ≤ new → Rose mi
 rose-later old mid new first second (inl less) = inl (omega arith)
 rose-later old mid new first second (inr full) = elim (cases_lt old mid) [ inl less ↦ inl (omega arith) | inr past ↦ inr (omega arith) ]
 
-pub by-later : (g : Setting) (lines : List CertRecord) (cut : List ℕ) (old mid new : DeskView) (error : WorkError) → WriteCounts old mid → WriteCounts mid new → StopsBy g lines cut mid new error → StopsBy g lines cut old new error
-by-later g lines cut old mid new WriteFault first second by = rose-later old.write_faults mid.write_faults new.write_faults first.write_faults_stand second.write_faults_stand by
+pub by-later : (g : Setting) (lines : List CertRecord) (cut : List ℕ) (old mid new : DeskView) (error : WorkError) → WriteCounts old mid → WriteCounts mid new
+    → StopsBy g lines cut mid new error → StopsBy g lines cut old new error
+by-later g lines cut old mid new WriteFault first second by =
+    rose-later old.write_faults mid.write_faults new.write_faults first.write_faults_stand second.write_faults_stand by
 by-later g lines cut old mid new (TooLarge what) first second by = by
 by-later g lines cut old mid new NoMemory first second by = tt
 by-later g lines cut old mid new ReadFault first second by = by
 
-pub stops-after : TwiceLaw → (g : Setting) (before more : List CertRecord) (old mid new : DeskView) (error : WorkError) → FileGrew (lines_text more) old mid → Stops g (before ++ more) mid new error
+pub stops-after : TwiceLaw → (g : Setting) (before more : List CertRecord) (old mid new : DeskView) (error : WorkError) → FileGrew (lines_text more) old mid
+    → Stops g (before ++ more) mid new error
     → Stops g before old new error
 stops-after twice g before more old mid new error grew stops =
     let place = append_assoc before more stops.added in
@@ -130,23 +152,29 @@ stops-after twice g before more old mid new error grew stops =
       added = more ++ stops.added;
       cut = stops.cut;
       written = subst (λ ls. AreWritten g ls) place stops.written;
-      grew = subst (λ bytes. FileGrew bytes old new) (sym (append_assoc (lines_text more) (lines_text stops.added) stops.cut) ∙ ap (λ (text : List ℕ). text ++ stops.cut) (sym (lines-more more stops.added)))
+      grew = subst (λ bytes. FileGrew bytes old new) (sym (append_assoc (lines_text more) (lines_text stops.added) stops.cut)
+          ∙ ap (λ (text : List ℕ). text ++ stops.cut) (sym (lines-more more stops.added)))
           (twice (lines_text more) (lines_text stops.added ++ stops.cut) old mid new grew stops.grew);
       cut_off = subst (λ ls. (stops.cut ≡ []) ⊎ IsCutOff g ls stops.cut) place stops.cut_off;
-      by = subst (λ ls. StopsBy g ls stops.cut old new error) place (by-later g ((before ++ more) ++ stops.added) stops.cut old mid new error grew.counts stops.grew.counts stops.by);
+      by = subst (λ ls. StopsBy g ls stops.cut old new error) place
+          (by-later g ((before ++ more) ++ stops.added) stops.cut old mid new error grew.counts stops.grew.counts stops.by);
     }
 
 -- ---- exits by `?`
 
 -- a clause at the error that a `?` hands on
-pub by-exit : {X : Type 0} (P : Result X WorkError → Type 0) (result : Result X WorkError) (error : WorkError) → IsErrAnd result (λ e. e ≡ error) → P (Err error) → P result
+pub by-exit : {X : Type 0} (P : Result X WorkError → Type 0) (result : Result X WorkError) (error : WorkError) → IsErrAnd result (λ e. e ≡ error)
+    → P (Err error) → P result
 by-exit P (Ok x) error is holds = absurd is
 by-exit P (Err e) error is holds = subst (λ y. P (Err y)) (sym is) holds
 
-pub two-grow : TwiceLaw → (first second : List ℕ) (old mid new : DeskView) → FileGrew first old mid → FileGrew second mid new → (bytes : List ℕ) × FileGrew bytes old new
+pub two-grow : TwiceLaw → (first second : List ℕ) (old mid new : DeskView) → FileGrew first old mid → FileGrew second mid new → (bytes : List ℕ)
+    × FileGrew bytes old new
 two-grow twice first second old mid new a b = (first ++ second, twice first second old mid new a b)
 
 -- want of memory before a line was put
-pub no-memory : {X : Type 0} → BeginsLaw → (w : WriterView) (step : CertRecord) (old : DeskView) (result : Result X WorkError) → IsErrAnd result (λ e. e ≡ NoMemory) → IfErr result (PutStops w step old old)
+pub no-memory : {X : Type 0} → BeginsLaw → (w : WriterView) (step : CertRecord) (old : DeskView) (result : Result X WorkError)
+    → IsErrAnd result (λ e. e ≡ NoMemory) → IfErr result (PutStops w step old old)
 no-memory {X} begins w step old result is =
-    by-exit (λ (r : Result X WorkError). IfErr r (PutStops w step old old)) result NoMemory is (λ g before writer line. stops-for-memory g before w old old writer (begins old))
+    by-exit (λ (r : Result X WorkError). IfErr r (PutStops w step old old)) result NoMemory is
+    (λ g before writer line. stops-for-memory g before w old old writer (begins old))

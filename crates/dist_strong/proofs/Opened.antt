@@ -17,7 +17,8 @@ asking-first before question = record {
 }
 
 -- with a derived line more
-pub asking-more : (before : List CertRecord) (question : List Word) (since : List CertRecord) (literals : List Word) (hints : List ℕ) → IsAsking before question since
+pub asking-more : (before : List CertRecord) (question : List Word) (since : List CertRecord) (literals : List Word) (hints : List ℕ)
+    → IsAsking before question since
     → IsAsking (before ++ Derived literals hints ∷ []) question (since ++ Derived literals hints ∷ [])
 asking-more before question since literals hints asking = record {
   earlier = asking.earlier;

@@ -1,5 +1,6 @@
 -- The line of a claim on strong dependencies may come next, once no candidate is left.
-use Rattle.std.proofs.Common.{◌≡◌, ◌≢◌, ℕ, zero, suc, ◌-◌, ◌<◌, ◌≤◌, ◌^◌, Bool, true, false, List, [], ◌∷◌, ◌++◌, length, get_or, refl, ap, sym, subst, ◌∙◌, arith, length-append, if◌then◌else◌}
+use Rattle.std.proofs.Common.{◌≡◌, ◌≢◌, ℕ, zero, suc, ◌-◌, ◌<◌, ◌≤◌, ◌^◌, Bool, true, false, List, [], ◌∷◌, ◌++◌, length, get_or, refl, ap, sym, subst, ◌∙◌}
+use Rattle.std.proofs.Common.{arith, length-append, if◌then◌else◌}
 use Rattle.std.specs.List.{All, AllPairs, Contains, list_any}
 use Rattle.std.proofs.lemmas.Bool.{true≢false}
 use Rattle.std.proofs.lemmas.List.{get_or-append_right}
@@ -35,7 +36,8 @@ pub group-ends : (lines : List CertRecord) → (front : List CertRecord) × (lin
 group-ends [] = ([], refl)
 group-ends (s ∷ lines) = by (list_any is_claim (s ∷ lines)) (group-ends lines)
   where
-    by : (b : Bool) → (front : List CertRecord) × (lines ≡ front ++ group lines) → (front : List CertRecord) × (s ∷ lines ≡ front ++ (if b then group lines else s ∷ lines))
+    by : (b : Bool) → (front : List CertRecord) × (lines ≡ front ++ group lines) → (front : List CertRecord)
+        × (s ∷ lines ≡ front ++ (if b then group lines else s ∷ lines))
     by true rest = (s ∷ rest.0, ap (λ (ls : List CertRecord). s ∷ ls) rest.1)
     by false rest = ([], refl)
 
@@ -43,18 +45,24 @@ last-holds : (P : List ℕ → Type 0) (front ms : List (List ℕ)) → 0 < leng
 last-holds P front ms some all =
     let size = length-append front ms in
     let past : length front ≤ length (front ++ ms) - 1 = omega (arith, size, some) in
-    subst P (sym (get_or-append_right front ms (length front) (length (front ++ ms) - 1) [] refl past)) (all (length (front ++ ms) - 1 - length front) [] (omega (arith, size, some)))
+    subst P (sym (get_or-append_right front ms (length front) (length (front ++ ms) - 1) [] refl past))
+    (all (length (front ++ ms) - 1 - length front) [] (omega (arith, size, some)))
 
 -- the latest installation has the package
-latest-has : (before : List CertRecord) (p : ℕ) → 0 < length (installations (group before)) → All (λ m. Contains m p) (installations (group before)) → Contains (installation_at before (length (installations before))) p
+latest-has : (before : List CertRecord) (p : ℕ) → 0 < length (installations (group before)) → All (λ m. Contains m p) (installations (group before))
+    → Contains (installation_at before (length (installations before))) p
 latest-has before p some each =
     let ends = group-ends before in
-    let are : installations before ≡ installations ends.0 ++ installations (group before) = ap installations ends.1 ∙ installations-append ends.0 (group before) in
-    subst (λ (ms : List (List ℕ)). Contains (get_or ms (length ms - 1) []) p) (sym are) (last-holds (λ m. Contains m p) (installations ends.0) (installations (group before)) some each)
+    let are : installations before ≡ installations ends.0 ++ installations (group before) = ap installations ends.1
+    ∙ installations-append ends.0 (group before) in
+    subst (λ (ms : List (List ℕ)). Contains (get_or ms (length ms - 1) []) p) (sym are)
+    (last-holds (λ m. Contains m p) (installations ends.0) (installations (group before)) some each)
 
-pub some-named : (g : Setting) (before : List CertRecord) (w : WindowView) (kept : GroupView) → IsWindowAt before w → IsGroupAt g before kept → w.variables ≡ kept.variables → 0 < length (numbers_of w kept.claimed)
+pub some-named : (g : Setting) (before : List CertRecord) (w : WindowView) (kept : GroupView) → IsWindowAt before w → IsGroupAt g before kept
+    → w.variables ≡ kept.variables → 0 < length (numbers_of w kept.claimed)
 some-named g before w kept at settled same =
-    let there = latest-named before w kept.claimed at settled.from_one (omega (arith, settled.upto, same)) (some-at settled.some) (latest-has before kept.claimed settled.some settled.each) in
+    let there = latest-named before w kept.claimed at settled.from_one (omega (arith, settled.upto, same)) (some-at settled.some)
+    (latest-has before kept.claimed settled.some settled.each) in
     omega (arith, there.1)
   where
     some-at : 0 < length (installations (group before)) → 0 < length (installations before)
@@ -85,20 +93,29 @@ on-of kept q size there =
     let high = contained (λ v. v ≤ length kept.refuted) (true_variables kept.refuted) q (true-upto kept.refuted) there in
     record { from_one = low; upto = omega (arith, high, size); holds = (true-ones kept.refuted q low high).0 there }
 
-pub holds-strong : (g : Setting) (before : List CertRecord) (w : WindowView) (kept : GroupView) (left : List ℕ) → IsWindowAt before w → IsGroupAt g before kept → w.variables ≡ kept.variables → AreLeft w kept left
+pub holds-strong : (g : Setting) (before : List CertRecord) (w : WindowView) (kept : GroupView) (left : List ℕ) → IsWindowAt before w → IsGroupAt g before kept
+    → w.variables ≡ kept.variables → AreLeft w kept left
     → HoldsStrong (matter_in g) before kept.claimed (numbers_of w kept.claimed) (true_variables kept.refuted) left
 holds-strong g before w kept left at settled same are_left = record {
   names = numbers-named before w kept.claimed at settled.from_one (omega (arith, settled.upto, same));
   rising = (true-rising kept.refuted, are_left.rising);
-  apart = each-of {P = λ q. ¬ Contains left q} on (λ q there in_left. true≢false (sym (left-at q in_left).is_undecided ∙ settled.apart q (on-at q there).from_one (on-at q there).holds));
+  apart = each-of {P = λ q. ¬ Contains left q} on (λ q there in_left. true≢false
+      (sym (left-at q in_left).is_undecided ∙ settled.apart q (on-at q there).from_one (on-at q there).holds));
   others = All-append (λ q. (q ≢ kept.claimed) × (q ≤ length g.repo.packages)) on left
-      (each-of {P = λ q. (q ≢ kept.claimed) × (q ≤ length g.repo.packages)} on (λ q there. ((settled.refuted q (on-at q there).from_one (on-at q there).upto (on-at q there).holds).0, packages q (on-at q there).upto)))
-      (each-of {P = λ q. (q ≢ kept.claimed) × (q ≤ length g.repo.packages)} left (λ q there. ((settled.undecided q (left-at q there).from_one (left-at q there).upto (left-at q there).is_undecided).0, packages q (left-at q there).upto)));
-  refuted = each-of {P = λ q. IsRefutedIn (group before) (without kept.claimed q)} on (λ q there. (settled.refuted q (on-at q there).from_one (on-at q there).upto (on-at q there).holds).1);
-  open_still = each-of {P = λ q. IsUndecidedIn (group before) (without kept.claimed q) × IsInEach before (numbers_of w kept.claimed) kept.claimed q} left (λ q there. (
-    (settled.undecided q (left-at q there).from_one (left-at q there).upto (left-at q there).is_undecided).1,
-    (each-named before w kept.claimed q at (left-at q there).from_one (within q there) (left-at q there).each, every q there),
-  ));
+      (each-of {P = λ q. (q ≢ kept.claimed) × (q ≤ length g.repo.packages)} on
+      (λ q there. ((settled.refuted q (on-at q there).from_one (on-at q there).upto (on-at q there).holds).0, packages q (on-at q there).upto)))
+      (each-of {P = λ q. (q ≢ kept.claimed) × (q ≤ length g.repo.packages)} left
+      (λ q there. (
+        (settled.undecided q (left-at q there).from_one (left-at q there).upto (left-at q there).is_undecided).0,
+        packages q (left-at q there).upto,
+      )));
+  refuted = each-of {P = λ q. IsRefutedIn (group before) (without kept.claimed q)} on
+      (λ q there. (settled.refuted q (on-at q there).from_one (on-at q there).upto (on-at q there).holds).1);
+  open_still = each-of {P = λ q. IsUndecidedIn (group before) (without kept.claimed q) × IsInEach before (numbers_of w kept.claimed) kept.claimed q} left
+      (λ q there. (
+        (settled.undecided q (left-at q there).from_one (left-at q there).upto (left-at q there).is_undecided).1,
+        (each-named before w kept.claimed q at (left-at q there).from_one (within q there) (left-at q there).each, every q there),
+      ));
 }
   where
     on : List ℕ
@@ -120,7 +137,8 @@ holds-strong g before w kept left at settled same are_left = record {
     every q there k d short = let is = left-at q there in λ claimed. (settled.common q is.from_one is.upto).0 is.is_common k d short
 
 -- what is in all installations of the claim is listed
-pub omits-none : (g : Setting) (before : List CertRecord) (w : WindowView) (kept : GroupView) (left : List ℕ) → IsWindowAt before w → IsGroupAt g before kept → w.variables ≡ kept.variables → AreLeft w kept left
+pub omits-none : (g : Setting) (before : List CertRecord) (w : WindowView) (kept : GroupView) (left : List ℕ) → IsWindowAt before w → IsGroupAt g before kept
+    → w.variables ≡ kept.variables → AreLeft w kept left
     → HasNoCandidate w kept → ¬ OmitsPackage (matter_in g) before kept.claimed (numbers_of w kept.claimed) (true_variables kept.refuted ++ left)
 omits-none g before w kept left at settled same are_left none omitted =
     by (value_of kept.refuted q) refl (value_of kept.undecided q) refl
@@ -138,7 +156,8 @@ omits-none g before w kept left at settled same are_left none omitted =
     common = (settled.common omitted.0 omitted.1 upto).1 (λ k d within. omitted.4.1 k d within (settled.each k d within))
 
     by : (b : Bool) → value_of kept.refuted omitted.0 ≡ b → (e : Bool) → value_of kept.undecided omitted.0 ≡ e → ⊥
-    by true is e other = omitted.5 (Contains-append_left (true_variables kept.refuted) left omitted.0 ((true-ones kept.refuted omitted.0 omitted.1 (omega (arith, upto, settled.sizes.refuted))).1 is))
+    by true is e other = omitted.5 (Contains-append_left (true_variables kept.refuted) left omitted.0
+        ((true-ones kept.refuted omitted.0 omitted.1 (omega (arith, upto, settled.sizes.refuted))).1 is))
     by false is true other = omitted.5 (Contains-append_right (true_variables kept.refuted) left omitted.0
         (are_left.all omitted.0 upto (record { from_one = omitted.1; upto = upto; is_undecided = other; is_common = common; each = each })))
     by false is false other = none omitted.0 (record {
@@ -151,14 +170,16 @@ omits-none g before w kept left at settled same are_left none omitted =
 distinct : (ns : List ℕ) → AllPairs (λ m n. m < n) ns → AllPairs (λ m n. m ≢ n) ns
 distinct ns rising i j d before within = λ e. let less = rising i j d before within in omega (arith, less, e)
 
-pub strong-line : (g : Setting) (before : List CertRecord) (w : WindowView) (kept : GroupView) (left : List ℕ) → g.header.kind ≡ kinds.Strong → list_any is_end before ≡ false → length g.repo.packages < 2 ^ 32
+pub strong-line : (g : Setting) (before : List CertRecord) (w : WindowView) (kept : GroupView) (left : List ℕ) → g.header.kind ≡ kinds.Strong
+    → list_any is_end before ≡ false → length g.repo.packages < 2 ^ 32
     → IsWindowAt before w → IsGroupAt g before kept → w.variables ≡ kept.variables → AreLeft w kept left → HasNoCandidate w kept → w.count < 2 ^ 32
     → IsLine (matter_in g) g.header before (Strong kept.claimed (numbers_of w kept.claimed) (true_variables kept.refuted) left)
 strong-line g before w kept left strong going fits at settled same are_left none_left small = record {
   form = record {
     text = refl;
     rules = (settled.from_one, some-named g before w kept at settled same, from-named, true-low kept.refuted, from-left);
-    numbers = All-cons (λ v. IsSmall v.0) (plain kept.claimed) (plains named ++ (separator ∷ (plains on ++ (separator ∷ plains left)))) (omega (arith, settled.upto, settled.variables, fits))
+    numbers = All-cons (λ v. IsSmall v.0) (plain kept.claimed) (plains named ++ (separator ∷ (plains on ++ (separator ∷ plains left))))
+        (omega (arith, settled.upto, settled.variables, fits))
         (All-append (λ v. IsSmall v.0) (plains named) (separator ∷ (plains on ++ (separator ∷ plains left))) (plains-small w.count named small upto-named)
         (All-cons (λ v. IsSmall v.0) separator (plains on ++ (separator ∷ plains left)) (omega arith)
         (All-append (λ v. IsSmall v.0) (plains on) (separator ∷ plains left) (plains-small (length g.repo.packages) on fits upto-on)
@@ -193,11 +214,15 @@ strong-line g before w kept left strong going fits at settled same are_left none
     upto-left : All (λ n. n ≤ length g.repo.packages) left
     upto-left k d within = let least = (are_left.each k d within).upto in omega (arith, least, settled.variables)
 
-    none : (cause : CertCause) → ¬ HasRecordFault (matter_in g) g.header before (Strong kept.claimed (numbers_of w kept.claimed) (true_variables kept.refuted) left) cause
+    none : (cause : CertCause) → ¬ HasRecordFault (matter_in g) g.header before
+        (Strong kept.claimed (numbers_of w kept.claimed) (true_variables kept.refuted) left) cause
     none causes.OutOfRange f = none-in _ f
-    none causes.OutOfOrder f = next-claim (length g.repo.packages) (claim_count before) kept.claimed settled.claimed (omega (arith, settled.upto, settled.variables)) f
+    none causes.OutOfOrder f = next-claim (length g.repo.packages) (claim_count before) kept.claimed settled.claimed
+        (omega (arith, settled.upto, settled.variables)) f
     none causes.UnknownLine f = none-in _ f
-    none causes.NotAFuture f = subst (λ (k : CertKind). IsNoFuture (matter_in g) k (Strong kept.claimed (numbers_of w kept.claimed) (true_variables kept.refuted) left)) strong f
-    none causes.WrongClaim f = f.1 (subst (λ (k : CertKind). HoldsClaim (matter_in g) k before (Strong kept.claimed (numbers_of w kept.claimed) (true_variables kept.refuted) left)) (sym strong) rules)
+    none causes.NotAFuture f = subst (λ (k : CertKind). IsNoFuture (matter_in g) k
+        (Strong kept.claimed (numbers_of w kept.claimed) (true_variables kept.refuted) left)) strong f
+    none causes.WrongClaim f = f.1 (subst (λ (k : CertKind). HoldsClaim (matter_in g) k before
+        (Strong kept.claimed (numbers_of w kept.claimed) (true_variables kept.refuted) left)) (sym strong) rules)
     none causes.Incomplete f = omits-none g before w kept left at settled same are_left none_left f
     none cause f = f

@@ -24,7 +24,8 @@ use Rattle.dist_strong.proofs.Parts.{IsSet, cut-behind, cut-first, cut-nothing, 
 
 -- the laws of dist_outside
 abbrev pub MoreLaw : Type 0
-MoreLaw = (name first second : List ℕ) (old mid new : DeskView) → Holds name first (Writing (where_told old.files name)) old mid → FileGrew second mid new → Holds name (first ++ second) (Writing (where_told old.files name)) old new
+MoreLaw = (name first second : List ℕ) (old mid new : DeskView) → Holds name first (Writing (where_told old.files name)) old mid → FileGrew second mid new
+    → Holds name (first ++ second) (Writing (where_told old.files name)) old new
 
 abbrev pub ClosedLaw : Type 0
 ClosedLaw = (name bytes : List ℕ) (mode : Mode) (old mid new : DeskView) → Holds name bytes mode old mid → Closed mid new → Holds name bytes Idle old new
@@ -37,9 +38,11 @@ pub record IsDone (name : List ℕ) (old mid late new : DeskView) : Type 0 where
   pub closed : Closed late new
 
 holds : (name text : List ℕ) (old mid late new : DeskView) → IsDone name old mid late new → FileGrew text mid late → Holds name text Idle old new
-holds name text old mid late new done grew = done.closing name text (Writing (where_told old.files name)) old late new (done.more name [] text old mid late done.created grew) done.closed
+holds name text old mid late new done grew = done.closing name text (Writing (where_told old.files name)) old late new
+    (done.more name [] text old mid late done.created grew) done.closed
 
-leaves : (r : PackageList) (essential : Bool) (limit : ℕ) (limits : Limits) (name text : List ℕ) (old new : DeskView) → Holds name text Idle old new → IsCutSweep r essential limit limits text → LeavesPart r essential limit limits name old new
+leaves : (r : PackageList) (essential : Bool) (limit : ℕ) (limits : Limits) (name text : List ℕ) (old new : DeskView) → Holds name text Idle old new
+    → IsCutSweep r essential limit limits text → LeavesPart r essential limit limits name old new
 leaves r essential limit limits name text old new there cut = record {
   files = inr (text, cut, there.files);
   not_writing = subst IsNotWriting (sym there.mode_is) tt;
@@ -50,37 +53,49 @@ rose-earlier : (old mid new : ℕ) → mid ≤ new → Rose old mid → Rose old
 rose-earlier old mid new more (inl less) = inl (omega (arith, less, more))
 rose-earlier old mid new more (inr stands) = inr stands
 
-rose-within : (name text : List ℕ) (old mid late new : DeskView) → IsDone name old mid late new → FileGrew text mid late → Rose mid.write_faults late.write_faults → Rose old.write_faults new.write_faults
+rose-within : (name text : List ℕ) (old mid late new : DeskView) → IsDone name old mid late new → FileGrew text mid late
+    → Rose mid.write_faults late.write_faults → Rose old.write_faults new.write_faults
 rose-within name text old mid late new done grew rose =
     rose-earlier old.write_faults late.write_faults new.write_faults done.closed.counts.write_faults_stand
     (rose-later old.write_faults mid.write_faults late.write_faults done.created.counts.write_faults_stand grew.counts.write_faults_stand rose)
 
 -- ---- a refusal while lines are written
 
-stopped-first : (r : PackageList) (essential : Bool) (limit : ℕ) (limits : Limits) (inputs : Bool → List (List Literal)) (name : List ℕ) (old mid late new : DeskView) (error : WorkError) → IsSet r essential limit limits inputs
-    → IsDone name old mid late new → StopsFirst (setting_of r essential limit limits inputs) mid late error → SweepAnswers r essential limit limits name old new (Err error)
+stopped-first : (r : PackageList) (essential : Bool) (limit : ℕ) (limits : Limits) (inputs : Bool → List (List Literal)) (name : List ℕ)
+    (old mid late new : DeskView) (error : WorkError) → IsSet r essential limit limits inputs
+    → IsDone name old mid late new → StopsFirst (setting_of r essential limit limits inputs) mid late error
+    → SweepAnswers r essential limit limits name old new (Err error)
 stopped-first r essential limit limits inputs name old mid late new WriteFault is done stops = (
   rose-within name stops.cut old mid late new done stops.grew stops.by,
-  leaves r essential limit limits name stops.cut old new (holds name stops.cut old mid late new done stops.grew) (cut-first r essential limit limits inputs is stops.cut stops.is_front),
+  leaves r essential limit limits name stops.cut old new (holds name stops.cut old mid late new done stops.grew)
+      (cut-first r essential limit limits inputs is stops.cut stops.is_front),
 )
 stopped-first r essential limit limits inputs name old mid late new NoMemory is done stops =
-    leaves r essential limit limits name stops.cut old new (holds name stops.cut old mid late new done stops.grew) (cut-first r essential limit limits inputs is stops.cut stops.is_front)
+    leaves r essential limit limits name stops.cut old new (holds name stops.cut old mid late new done stops.grew)
+    (cut-first r essential limit limits inputs is stops.cut stops.is_front)
 stopped-first r essential limit limits inputs name old mid late new ReadFault is done stops = stops.by
 stopped-first r essential limit limits inputs name old mid late new (TooLarge Clauses) is done stops = absurd stops.by.1
 stopped-first r essential limit limits inputs name old mid late new (TooLarge Literals) is done stops = absurd stops.by.1
-stopped-first r essential limit limits inputs name old mid late new (TooLarge what) is done stops =
-    ([], holds name [] old mid late new done (subst (λ (text : List ℕ). FileGrew text mid late) stops.by.0 stops.grew), first-full r essential limit limits inputs is what stops.by.1)
+stopped-first r essential limit limits inputs name old mid late new (TooLarge what) is done stops = (
+  [],
+  holds name [] old mid late new done (subst (λ (text : List ℕ). FileGrew text mid late) stops.by.0 stops.grew),
+  first-full r essential limit limits inputs is what stops.by.1,
+)
 
-stopped-later : (r : PackageList) (essential : Bool) (limit : ℕ) (limits : Limits) (inputs : Bool → List (List Literal)) (name : List ℕ) (old mid late new : DeskView) (error : WorkError) → IsSet r essential limit limits inputs
-    → IsDone name old mid late new → StopsLater (setting_of r essential limit limits inputs) mid late error → SweepAnswers r essential limit limits name old new (Err error)
+stopped-later : (r : PackageList) (essential : Bool) (limit : ℕ) (limits : Limits) (inputs : Bool → List (List Literal)) (name : List ℕ)
+    (old mid late new : DeskView) (error : WorkError) → IsSet r essential limit limits inputs
+    → IsDone name old mid late new → StopsLater (setting_of r essential limit limits inputs) mid late error
+    → SweepAnswers r essential limit limits name old new (Err error)
 stopped-later r essential limit limits inputs name old mid late new WriteFault is done stops =
     let text : List ℕ = certificate_text (setting_of r essential limit limits inputs).header stops.lines ++ stops.cut in (
       rose-within name text old mid late new done stops.grew stops.by,
-      leaves r essential limit limits name text old new (holds name text old mid late new done stops.grew) (cut-behind r essential limit limits inputs is stops.lines stops.cut stops.written stops.cut_off),
+      leaves r essential limit limits name text old new (holds name text old mid late new done stops.grew)
+          (cut-behind r essential limit limits inputs is stops.lines stops.cut stops.written stops.cut_off),
     )
 stopped-later r essential limit limits inputs name old mid late new NoMemory is done stops =
     let text : List ℕ = certificate_text (setting_of r essential limit limits inputs).header stops.lines ++ stops.cut in
-    leaves r essential limit limits name text old new (holds name text old mid late new done stops.grew) (cut-behind r essential limit limits inputs is stops.lines stops.cut stops.written stops.cut_off)
+    leaves r essential limit limits name text old new (holds name text old mid late new done stops.grew)
+    (cut-behind r essential limit limits inputs is stops.lines stops.cut stops.written stops.cut_off)
 stopped-later r essential limit limits inputs name old mid late new ReadFault is done stops = stops.by
 stopped-later r essential limit limits inputs name old mid late new (TooLarge Clauses) is done stops = absurd stops.by.1.2
 stopped-later r essential limit limits inputs name old mid late new (TooLarge Literals) is done stops = absurd stops.by.1.2
@@ -88,23 +103,28 @@ stopped-later r essential limit limits inputs name old mid late new (TooLarge wh
     let g = setting_of r essential limit limits inputs in (
       certificate_text g.header stops.lines,
       holds name (certificate_text g.header stops.lines) old mid late new done
-          (subst (λ (text : List ℕ). FileGrew text mid late) (ap (λ (cut : List ℕ). certificate_text g.header stops.lines ++ cut) stops.by.0 ∙ append-nil (certificate_text g.header stops.lines)) stops.grew),
+          (subst (λ (text : List ℕ). FileGrew text mid late) (ap (λ (cut : List ℕ). certificate_text g.header stops.lines ++ cut) stops.by.0
+          ∙ append-nil (certificate_text g.header stops.lines)) stops.grew),
       full r essential limit limits inputs is stops.lines what stops.written stops.by.1,
     )
 
-set-of : FormsAreClear → (r : PackageList) (essential : Bool) (limit : ℕ) (limits : Limits) (header : Header) (a : AskerView) (w : WindowView) → (may : MayBegin r essential limit limits header a w) → IsSet r essential limit limits may.inputs
+set-of : FormsAreClear → (r : PackageList) (essential : Bool) (limit : ℕ) (limits : Limits) (header : Header) (a : AskerView) (w : WindowView)
+    → (may : MayBegin r essential limit limits header a w) → IsSet r essential limit limits may.inputs
 set-of clear r essential limit limits header a w may = record { clear = clear; are_inputs = may.are_inputs; header = may.header_of }
 
-pub file-stopped : FormsAreClear → (name : List ℕ) (old mid late new : DeskView) (header : Header) (a : AskerView) (w : WindowView) (error : WorkError) → IsDone name old mid late new → SweepStops header mid late a w error
+pub file-stopped : FormsAreClear → (name : List ℕ) (old mid late new : DeskView) (header : Header) (a : AskerView) (w : WindowView) (error : WorkError)
+    → IsDone name old mid late new → SweepStops header mid late a w error
     → FileAnswers header a w name old new (Err error)
 file-stopped clear name old mid late new header a w error done stops r essential limit limits may =
     let is = set-of clear r essential limit limits header a w may in
-    ⊎_elim (λ first. stopped-first r essential limit limits may.inputs name old mid late new error is done first) (λ later. stopped-later r essential limit limits may.inputs name old mid late new error is done later)
+    ⊎_elim (λ first. stopped-first r essential limit limits may.inputs name old mid late new error is done first)
+    (λ later. stopped-later r essential limit limits may.inputs name old mid late new error is done later)
     (stops (setting_of r essential limit limits may.inputs) may.begins)
 
 -- ---- the other answers
 
-not-made : (r : PackageList) (essential : Bool) (limit : ℕ) (limits : Limits) (inputs : Bool → List (List Literal)) (name : List ℕ) (old new : DeskView) → IsSet r essential limit limits inputs → NotCreated name old new
+not-made : (r : PackageList) (essential : Bool) (limit : ℕ) (limits : Limits) (inputs : Bool → List (List Literal)) (name : List ℕ) (old new : DeskView)
+    → IsSet r essential limit limits inputs → NotCreated name old new
     → LeavesPart r essential limit limits name old new
 not-made r essential limit limits inputs name old new is refused = record {
   files = ⊎_elim inl (λ empty. inr ([], cut-nothing r essential limit limits inputs is, empty)) refused.as_before_or_empty;
@@ -112,29 +132,38 @@ not-made r essential limit limits inputs name old new is refused = record {
   counts = refused.counts;
 }
 
-caused : (r : PackageList) (essential : Bool) (limit : ℕ) (limits : Limits) (name : List ℕ) (old late new : DeskView) (error : WorkError) → old.write_faults ≤ late.write_faults → DeskWriteCause error late new
+caused : (r : PackageList) (essential : Bool) (limit : ℕ) (limits : Limits) (name : List ℕ) (old late new : DeskView) (error : WorkError)
+    → old.write_faults ≤ late.write_faults → DeskWriteCause error late new
     → LeavesPart r essential limit limits name old new → late.write_faults ≤ new.write_faults → SweepAnswers r essential limit limits name old new (Err error)
-caused r essential limit limits name old late new WriteFault before cause left after = (rose-later old.write_faults late.write_faults new.write_faults before after cause, left)
+caused r essential limit limits name old late new WriteFault before cause left after =
+    (rose-later old.write_faults late.write_faults new.write_faults before after cause, left)
 caused r essential limit limits name old late new NoMemory before cause left after = left
 caused r essential limit limits name old late new error before cause left after = absurd cause
 
-pub file-refused : FormsAreClear → (name : List ℕ) (old new : DeskView) (header : Header) (a : AskerView) (w : WindowView) (error : WorkError) → NotCreated name old new → DeskWriteCause error old new
+pub file-refused : FormsAreClear → (name : List ℕ) (old new : DeskView) (header : Header) (a : AskerView) (w : WindowView) (error : WorkError)
+    → NotCreated name old new → DeskWriteCause error old new
     → FileAnswers header a w name old new (Err error)
 file-refused clear name old new header a w error refused cause r essential limit limits may =
-    caused r essential limit limits name old old new error (omega arith) cause (not-made r essential limit limits may.inputs name old new (set-of clear r essential limit limits header a w may) refused) refused.counts.write_faults_stand
+    caused r essential limit limits name old old new error (omega arith) cause
+    (not-made r essential limit limits may.inputs name old new (set-of clear r essential limit limits header a w may) refused)
+    refused.counts.write_faults_stand
 
-pub file-closed : FormsAreClear → (name : List ℕ) (old mid late new : DeskView) (header : Header) (a : AskerView) (w : WindowView) (made : List Claim) (error : WorkError) → IsDone name old mid late new → SweepMore header mid late a w made
+pub file-closed : FormsAreClear → (name : List ℕ) (old mid late new : DeskView) (header : Header) (a : AskerView) (w : WindowView) (made : List Claim)
+    (error : WorkError) → IsDone name old mid late new → SweepMore header mid late a w made
     → DeskWriteCause error late new → FileAnswers header a w name old new (Err error)
 file-closed clear name old mid late new header a w made error done more cause r essential limit limits may =
     let g = setting_of r essential limit limits may.inputs in
     let all = more g may.begins in
     let text : List ℕ = certificate_text g.header (all.lines ++ End ∷ []) in
     let there = holds name text old mid late new done all.grew in
-    let cut = cut-behind r essential limit limits may.inputs (set-of clear r essential limit limits header a w may) (all.lines ++ End ∷ []) [] all.written (inl refl) in
+    let cut = cut-behind r essential limit limits may.inputs (set-of clear r essential limit limits header a w may) (all.lines ++ End ∷ []) [] all.written
+    (inl refl) in
     caused r essential limit limits name old late new error (omega (arith, done.created.counts.write_faults_stand, all.grew.counts.write_faults_stand)) cause
-    (leaves r essential limit limits name text old new there (subst (λ (bytes : List ℕ). IsCutSweep r essential limit limits bytes) (append-nil text) cut)) done.closed.counts.write_faults_stand
+    (leaves r essential limit limits name text old new there (subst (λ (bytes : List ℕ). IsCutSweep r essential limit limits bytes) (append-nil text) cut))
+    done.closed.counts.write_faults_stand
 
-pub file-whole : FormsAreClear → (name : List ℕ) (old mid late new : DeskView) (header : Header) (a : AskerView) (w : WindowView) (made : List Claim) → IsDone name old mid late new → SweepMore header mid late a w made
+pub file-whole : FormsAreClear → (name : List ℕ) (old mid late new : DeskView) (header : Header) (a : AskerView) (w : WindowView) (made : List Claim)
+    → IsDone name old mid late new → SweepMore header mid late a w made
     → FileAnswers header a w name old new (Ok made)
 file-whole clear name old mid late new header a w made done more r essential limit limits may =
     let g = setting_of r essential limit limits may.inputs in
@@ -142,5 +171,6 @@ file-whole clear name old mid late new header a w made done more r essential lim
     let text : List ℕ = certificate_text g.header (all.lines ++ End ∷ []) in (
       text,
       holds name text old mid late new done all.grew,
-      subst (λ (cs : List Claim). IsSweep r essential limit limits cs text) all.claims (whole r essential limit limits may.inputs (set-of clear r essential limit limits header a w may) may.kept all.lines all.written),
+      subst (λ (cs : List Claim). IsSweep r essential limit limits cs text) all.claims
+          (whole r essential limit limits may.inputs (set-of clear r essential limit limits header a w may) may.kept all.lines all.written),
     )

@@ -1,5 +1,6 @@
 -- The true variables of some values.
-use Rattle.std.proofs.Common.{◌≡◌, inl, inr, ℕ, zero, suc, ◌+◌, ◌<◌, ◌≤◌, Bool, true, false, List, ◌∷◌, filter, length, if◌then◌else◌, refl, ap, sym, subst, ◌∙◌, arith}
+use Rattle.std.proofs.Common.{◌≡◌, inl, inr, ℕ, zero, suc, ◌+◌, ◌<◌, ◌≤◌, Bool, true, false, List, ◌∷◌, filter, length, if◌then◌else◌, refl, ap, sym, subst}
+use Rattle.std.proofs.Common.{◌∙◌, arith}
 use Rattle.std.specs.List.{All, AllPairs, Contains, range_with_len}
 use Rattle.std.proofs.lemmas.Bool.{cases_eq, true≢false}
 use Rattle.std.proofs.lemmas.List.Elements.{All-nil, All-cons}
@@ -21,15 +22,18 @@ all-kept p a (suc n) = by (all-kept p (a + 1) n) (p a) refl
     weaker : All (IsKept p (a + 1) n) (filter p (range_with_len (a + 1) n)) → All (IsKept p a (suc n)) (filter p (range_with_len (a + 1) n))
     weaker rest k d within = let kept = rest k d within in record { low = omega (arith, kept.low); high = omega (arith, kept.high); holds = kept.holds }
 
-    by : All (IsKept p (a + 1) n) (filter p (range_with_len (a + 1) n)) → (b : Bool) → p a ≡ b → All (IsKept p a (suc n)) (if b then a ∷ filter p (range_with_len (a + 1) n) else filter p (range_with_len (a + 1) n))
-    by rest true is = All-cons (IsKept p a (suc n)) a (filter p (range_with_len (a + 1) n)) (record { low = omega arith; high = omega arith; holds = is }) (weaker rest)
+    by : All (IsKept p (a + 1) n) (filter p (range_with_len (a + 1) n)) → (b : Bool) → p a ≡ b
+        → All (IsKept p a (suc n)) (if b then a ∷ filter p (range_with_len (a + 1) n) else filter p (range_with_len (a + 1) n))
+    by rest true is = All-cons (IsKept p a (suc n)) a (filter p (range_with_len (a + 1) n)) (record { low = omega arith; high = omega arith; holds = is })
+        (weaker rest)
     by rest false is = weaker rest
 
 pub kept-there : (p : ℕ → Bool) (a n v : ℕ) → IsKept p a n v → Contains (filter p (range_with_len a n)) v
 kept-there p a zero v kept = absurd (omega (arith, kept.low, kept.high))
 kept-there p a (suc n) v kept = by (kept-there p (a + 1) n v) (p a) refl
   where
-    by : (IsKept p (a + 1) n v → Contains (filter p (range_with_len (a + 1) n)) v) → (b : Bool) → p a ≡ b → Contains (if b then a ∷ filter p (range_with_len (a + 1) n) else filter p (range_with_len (a + 1) n)) v
+    by : (IsKept p (a + 1) n v → Contains (filter p (range_with_len (a + 1) n)) v) → (b : Bool) → p a ≡ b
+        → Contains (if b then a ∷ filter p (range_with_len (a + 1) n) else filter p (range_with_len (a + 1) n)) v
     by rest true is = elim (cases_eq a v) [
       | inl same ↦ (0, omega arith, same)
       | inr other ↦
@@ -64,6 +68,7 @@ contained P xs x all there = subst P there.2 (all there.0 x there.1)
 
 pub true-ones : (values : List Bool) → AreTrueOf values (true_variables values)
 true-ones values v from upto = (
-  (λ there. (contained (IsKept (λ w. value_of values w) 1 (length values)) (true_variables values) v (all-kept (λ w. value_of values w) 1 (length values)) there).holds),
+  (λ there. (contained (IsKept (λ w. value_of values w) 1 (length values)) (true_variables values) v (all-kept (λ w. value_of values w) 1 (length values))
+      there).holds),
   λ holds. kept-there (λ w. value_of values w) 1 (length values) v (record { low = from; high = omega (arith, upto); holds = holds }),
 )

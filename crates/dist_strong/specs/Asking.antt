@@ -86,7 +86,8 @@ Holds n question (Found values) = (length values ≡ n) × All (IsTrueLiteral (v
 Holds n question reply = Unit {0}
 
 -- The question was asked: its lines were written behind those before, and what is kept is what they all hold.
-pub record IsAsked (g : Setting) (before : List CertRecord) (question : List Word) (old new : DeskView) (t : AskerView) (reply : Reply) : Type 0 where
+pub record IsAsked (g : Setting) (before : List CertRecord) (question : List Word) (old new : DeskView) (t : AskerView)
+    (reply : Reply) : Type 0 where
   pub between : List CertRecord
   pub only_derived : AllPass is_derived between
   pub answer : CertRecord
@@ -95,12 +96,14 @@ pub record IsAsked (g : Setting) (before : List CertRecord) (question : List Wor
   pub at : IsAt g (before ++ question_lines question between answer) t
 
 -- Where the own line of a question stands behind these lines, what is kept is what those before it hold.
-pub record MayDerive (g : Setting) (before : List CertRecord) (question : List Word) (log : ClauseLog) (limit : ℕ) (w : WriterView) : Type 0 where
+pub record MayDerive (g : Setting) (before : List CertRecord) (question : List Word) (log : ClauseLog) (limit : ℕ)
+    (w : WriterView) : Type 0 where
   pub log_at : IsLogAt g before log limit
   pub writer : IsWriter g (before ++ lines.Question question ∷ []) w
 
 -- The derived lines of a question were written behind its own line, and the line of the answer may come next.
-pub record IsDerived (g : Setting) (before : List CertRecord) (question : List Word) (old new : DeskView) (log after : ClauseLog) (limit : ℕ) (w : WriterView) (answer : Answer) : Type 0 where
+pub record IsDerived (g : Setting) (before : List CertRecord) (question : List Word) (old new : DeskView)
+    (log after : ClauseLog) (limit : ℕ) (w : WriterView) (answer : Answer) : Type 0 where
   pub between : List CertRecord
   pub only_derived : AllPass is_derived between
   pub grew : FileGrew (lines_text between) old new

@@ -22,7 +22,8 @@ pub record IsSwept (g : Setting) (before : List CertRecord) (a : AskerView) (w :
   pub no_group : group before ≡ []
 
 -- One claim more was written, with the lines that it needs.
-pub record IsClaimed (g : Setting) (before : List CertRecord) (old new : DeskView) (a : AskerView) (w : WindowView) (claim : Claim) : Type 0 where
+pub record IsClaimed (g : Setting) (before : List CertRecord) (old new : DeskView) (a : AskerView) (w : WindowView)
+    (claim : Claim) : Type 0 where
   pub added : List CertRecord
   pub grew : FileGrew (lines_text added) old new
   pub swept : IsSwept g (before ++ added) a w
@@ -30,10 +31,12 @@ pub record IsClaimed (g : Setting) (before : List CertRecord) (old new : DeskVie
   pub claims : claims_in (before ++ added) ≡ claims_in before ++ claim ∷ []
 
 abbrev pub ClaimMore : ℕ → DeskView → DeskView → AskerView → AskerView → WindowView → WindowView → Claim → Type 0
-ClaimMore p old new a b w v claim = (g : Setting) (before : List CertRecord) → IsSwept g before a w → p ≡ claim_count before + 1 → IsClaimed g before old new b v claim
+ClaimMore p old new a b w v claim = (g : Setting) (before : List CertRecord) → IsSwept g before a w
+    → p ≡ claim_count before + 1 → IsClaimed g before old new b v claim
 
 abbrev pub ClaimStops : ℕ → DeskView → DeskView → AskerView → WindowView → WorkError → Type 0
-ClaimStops p old new a w error = (g : Setting) (before : List CertRecord) → IsSwept g before a w → p ≡ claim_count before + 1 → Stops g before old new error
+ClaimStops p old new a w error = (g : Setting) (before : List CertRecord) → IsSwept g before a w
+    → p ≡ claim_count before + 1 → Stops g before old new error
 
 -- what the calls of a sweep are given, apart from the lines
 pub record Suits (a : AskerView) (w : WindowView) (p : ℕ) : Type 0 where
@@ -49,5 +52,7 @@ pub record IsStrongLine (w : WindowView) (group : GroupView) (step : CertRecord)
   pub is : step ≡ Strong group.claimed (numbers_of w group.claimed) (true_variables group.refuted) left
 
 -- the claim on strong dependencies was written behind the lines of its group, and those that it still needed
-abbrev pub StrongMore : DeskView → DeskView → AskerView → AskerView → WindowView → WindowView → GroupView → Claim → Type 0
-StrongMore old new a b w v kept claim = (g : Setting) (before : List CertRecord) → IsSettling g before a w kept → IsClaimed g before old new b v claim
+abbrev pub StrongMore : DeskView → DeskView → AskerView → AskerView → WindowView → WindowView → GroupView → Claim
+    → Type 0
+StrongMore old new a b w v kept claim = (g : Setting) (before : List CertRecord) → IsSettling g before a w kept
+    → IsClaimed g before old new b v claim

@@ -1,5 +1,6 @@
 -- What is kept of the group of a claim.
-use Rattle.std.specs.Prelude.{◌≡◌, ◌==◌, ◌&&◌, ◌<◌, ◌≤◌, ℕ, Bool, true, false, List, All, AllPairs, Contains, filter, length, not, replicate}
+use Rattle.std.specs.Prelude.{◌≡◌, ◌==◌, ◌&&◌, ◌<◌, ◌≤◌, ℕ, Bool, true, false, List, All, AllPairs, Contains, filter}
+use Rattle.std.specs.Prelude.{length, not, replicate}
 use Rattle.std.specs.List.{range_with_len}
 use Rattle.dist_clause.specs.Formula.{value_of}
 use Rattle.dist_strong.specs.Window.{WindowView}
@@ -25,7 +26,8 @@ new_group p variables values = record {
 
 -- another package is in all installations of the group and was not asked for
 abbrev pub is_open : GroupView → ℕ → Bool
-is_open group q = not (q == group.claimed) && value_of group.common q && not (value_of group.refuted q) && not (value_of group.undecided q)
+is_open group q = not (q == group.claimed) && value_of group.common q && not (value_of group.refuted q)
+    && not (value_of group.undecided q)
 
 -- each kept installation with the package has the other one
 abbrev pub HasEach : WindowView → ℕ → ℕ → Type 0

@@ -50,7 +50,11 @@ pub record AreWritten (g : Setting) (lines : List CertRecord) : Type 0 where
 
 -- the writer behind some lines
 abbrev pub writer_at : Setting → List CertRecord → WriterView
-writer_at g lines = record { line_limit = g.limits.record_line; whole_limit = g.limits.certificate; written = length (certificate_text g.header lines) }
+writer_at g lines = record {
+  line_limit = g.limits.record_line;
+  whole_limit = g.limits.certificate;
+  written = length (certificate_text g.header lines);
+}
 
 -- The lines are written, and the writer stands behind them.
 pub record IsWriter (g : Setting) (lines : List CertRecord) (w : WriterView) : Type 0 where
@@ -59,12 +63,14 @@ pub record IsWriter (g : Setting) (lines : List CertRecord) (w : WriterView) : T
 
 -- one line more would pass a number
 abbrev pub IsPassed : Setting → List CertRecord → WorkError → Type 0
-IsPassed g lines (TooLarge what) = (step : CertRecord) × IsLine (matter_in g) g.header lines step × Passes g.limits g.header (lines ++ step ∷ []) what
+IsPassed g lines (TooLarge what) = (step : CertRecord) × IsLine (matter_in g) g.header lines step
+    × Passes g.limits g.header (lines ++ step ∷ []) what
 IsPassed g lines error = ⊥
 
 -- The bytes are a front of the line that comes next.
 abbrev pub IsCutOff : Setting → List CertRecord → List ℕ → Type 0
-IsCutOff g lines cut = (step : CertRecord) × IsLine (matter_in g) g.header lines step × IsFrontOf (ended (record_text step)) cut
+IsCutOff g lines cut = (step : CertRecord) × IsLine (matter_in g) g.header lines step
+    × IsFrontOf (ended (record_text step)) cut
 
 -- why the writing stops, with a cut line or without one
 abbrev pub StopsBy : Setting → List CertRecord → List ℕ → DeskView → DeskView → WorkError → Type 0
@@ -88,23 +94,29 @@ Grows old new = (bytes : List ℕ) × FileGrew bytes old new
 
 -- ---- putting one line
 
--- Where the writer stood behind some lines, and the line may come next and keeps the numbers, it stands behind the line.
+-- Where the writer stood behind some lines, and the line may come next and keeps the numbers, it stands behind the
+-- line.
 abbrev pub PutMore : WriterView → WriterView → CertRecord → Type 0
-PutMore w after step = (g : Setting) (before : List CertRecord) → IsWriter g before w → IsLine (matter_in g) g.header before step
+PutMore w after step = (g : Setting) (before : List CertRecord) → IsWriter g before w
+    → IsLine (matter_in g) g.header before step
     → KeepsLines g.limits (before ++ step ∷ []) → IsWriter g (before ++ step ∷ []) after
 
 -- or the writing stops there
 abbrev pub PutStops : WriterView → CertRecord → DeskView → DeskView → WorkError → Type 0
-PutStops w step old new error = (g : Setting) (before : List CertRecord) → IsWriter g before w → IsLine (matter_in g) g.header before step → Stops g before old new error
+PutStops w step old new error = (g : Setting) (before : List CertRecord) → IsWriter g before w
+    → IsLine (matter_in g) g.header before step → Stops g before old new error
 
 -- ---- putting lines one after another
 
 abbrev pub PutAll : WriterView → WriterView → List CertRecord → Type 0
-PutAll w after steps = (g : Setting) (before : List CertRecord) → IsWriter g before w → AllNext g before steps → KeepsLines g.limits (before ++ steps) → IsWriter g (before ++ steps) after
+PutAll w after steps = (g : Setting) (before : List CertRecord) → IsWriter g before w → AllNext g before steps
+    → KeepsLines g.limits (before ++ steps) → IsWriter g (before ++ steps) after
 
 abbrev pub PutAllStops : WriterView → List CertRecord → DeskView → DeskView → WorkError → Type 0
-PutAllStops w steps old new error = (g : Setting) (before : List CertRecord) → IsWriter g before w → AllNext g before steps → KeepsLines g.limits (before ++ steps) → Stops g before old new error
+PutAllStops w steps old new error = (g : Setting) (before : List CertRecord) → IsWriter g before w
+    → AllNext g before steps → KeepsLines g.limits (before ++ steps) → Stops g before old new error
 
 -- the writer stands behind a front of them
 abbrev pub PutFront : WriterView → WriterView → (steps front : List CertRecord) → Type 0
-PutFront w after steps front = (g : Setting) (before : List CertRecord) → IsWriter g before w → AllNext g before steps → KeepsLines g.limits (before ++ steps) → IsWriter g (before ++ front) after
+PutFront w after steps front = (g : Setting) (before : List CertRecord) → IsWriter g before w → AllNext g before steps
+    → KeepsLines g.limits (before ++ steps) → IsWriter g (before ++ front) after

@@ -1,5 +1,6 @@
 -- What is kept while the group of a claim is settled.
-use Rattle.std.specs.Prelude.{◌≡◌, ◌≢◌, ◌↔◌, ℕ, ◌+◌, ◌<◌, ◌≤◌, Bool, true, false, List, [], ◌∷◌, ◌++◌, All, Any, Contains, length}
+use Rattle.std.specs.Prelude.{◌≡◌, ◌≢◌, ◌↔◌, ℕ, ◌+◌, ◌<◌, ◌≤◌, Bool, true, false, List, [], ◌∷◌, ◌++◌, All, Any}
+use Rattle.std.specs.Prelude.{Contains, length}
 use Rattle.std.specs.List.{list_any}
 use Rattle.dist_clause.specs.Formula.{value_of}
 use Rattle.dist_outside.specs.DeskView.{DeskView, FileGrew}
@@ -21,7 +22,8 @@ without p q = yes p ∷ no q ∷ []
 
 -- the packages are noted for which that question was closed in one way
 abbrev pub AreNoted : GroupView → List Bool → (List Word → Type 0) → Type 0
-AreNoted group flags IsClosed = (q : ℕ) → 1 ≤ q → q ≤ group.variables → value_of flags q ≡ true → (q ≢ group.claimed) × IsClosed (without group.claimed q)
+AreNoted group flags IsClosed = (q : ℕ) → 1 ≤ q → q ≤ group.variables → value_of flags q ≡ true → (q ≢ group.claimed)
+    × IsClosed (without group.claimed q)
 
 -- the lists are over all variables
 pub record HasSizes (group : GroupView) : Type 0 where
@@ -38,20 +40,24 @@ pub record IsGroupAt (g : Setting) (before : List CertRecord) (group : GroupView
   pub sizes : HasSizes group
   pub some : 0 < length (lines.installations (lines.group before))
   pub each : All (λ members. Contains members group.claimed) (lines.installations (lines.group before))
-  pub common : (q : ℕ) → 1 ≤ q → q ≤ group.variables → (value_of group.common q ≡ true) ↔ All (λ members. Contains members q) (lines.installations (lines.group before))
+  pub common : (q : ℕ) → 1 ≤ q → q ≤ group.variables → (value_of group.common q ≡ true)
+      ↔ All (λ members. Contains members q) (lines.installations (lines.group before))
   pub refuted : AreNoted group group.refuted (lines.IsRefutedIn (lines.group before))
   pub undecided : AreNoted group group.undecided (lines.IsUndecidedIn (lines.group before))
   pub apart : (q : ℕ) → 1 ≤ q → value_of group.refuted q ≡ true → value_of group.undecided q ≡ false
-  pub asked : (q : ℕ) → 1 ≤ q → q ≤ group.variables → Contains (lines.group before) (Question (without group.claimed q)) → is_open group q ≡ false
+  pub asked : (q : ℕ) → 1 ≤ q → q ≤ group.variables → Contains (lines.group before) (Question (without group.claimed q))
+      → is_open group q ≡ false
 
 -- All that is kept is what these lines hold.
-pub record IsSettling (g : Setting) (before : List CertRecord) (a : AskerView) (w : WindowView) (group : GroupView) : Type 0 where
+pub record IsSettling (g : Setting) (before : List CertRecord) (a : AskerView) (w : WindowView)
+    (group : GroupView) : Type 0 where
   pub at : IsAt g before a
   pub window : IsWindowAt before w
   pub group_at : IsGroupAt g before group
 
 -- More lines were written, and all that is kept is what they hold too.
-pub record Settles (g : Setting) (before : List CertRecord) (old new : DeskView) (a : AskerView) (w : WindowView) (group : GroupView) : Type 0 where
+pub record Settles (g : Setting) (before : List CertRecord) (old new : DeskView) (a : AskerView) (w : WindowView)
+    (group : GroupView) : Type 0 where
   pub added : List CertRecord
   pub grew : FileGrew (lines_text added) old new
   pub no_claims : list_any lines.is_claim added ≡ false
@@ -74,8 +80,11 @@ pub record Fits (a : AskerView) (w : WindowView) (group : GroupView) : Type 0 wh
   pub sizes : HasSizes group
   pub some : Any (λ values. value_of values group.claimed ≡ true) w.kept
 
-abbrev pub SettleMore : DeskView → DeskView → AskerView → AskerView → WindowView → WindowView → GroupView → GroupView → Type 0
-SettleMore old new a b w v group h = (g : Setting) (before : List CertRecord) → IsSettling g before a w group → Settles g before old new b v h
+abbrev pub SettleMore : DeskView → DeskView → AskerView → AskerView → WindowView → WindowView → GroupView → GroupView
+    → Type 0
+SettleMore old new a b w v group h = (g : Setting) (before : List CertRecord) → IsSettling g before a w group
+    → Settles g before old new b v h
 
 abbrev pub SettleStops : DeskView → DeskView → AskerView → WindowView → GroupView → WorkError → Type 0
-SettleStops old new a w group error = (g : Setting) (before : List CertRecord) → IsSettling g before a w group → Stops g before old new error
+SettleStops old new a w group error = (g : Setting) (before : List CertRecord) → IsSettling g before a w group
+    → Stops g before old new error

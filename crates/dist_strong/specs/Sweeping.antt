@@ -54,17 +54,19 @@ pub record StopsFirst (g : Setting) (old new : DeskView) (error : WorkError) : T
   pub by : FirstStopsBy g cut old new error
 
 abbrev pub HeaderStops : WriterView → Header → DeskView → DeskView → WorkError → Type 0
-HeaderStops w header old new error = (g : Setting) → header ≡ g.header → w ≡ new_writer g.limits → StopsFirst g old new error
+HeaderStops w header old new error = (g : Setting) → header ≡ g.header → w ≡ new_writer g.limits
+    → StopsFirst g old new error
 
 -- ---- the claims
 
 -- The lines of these claims were written behind the first line.
-pub record AreClaimed (g : Setting) (old new : DeskView) (a : AskerView) (w : WindowView) (made : List Claim) : Type 0 where
-  pub lines : List CertRecord
-  pub grew : FileGrew (lines_text lines) old new
-  pub swept : IsSwept g lines a w
-  pub counted : claim_count lines ≡ length made
-  pub claims : claims_in lines ≡ made
+pub record AreClaimed (g : Setting) (old new : DeskView) (a : AskerView) (w : WindowView) (made : List Claim) : Type 0
+  where
+    pub lines : List CertRecord
+    pub grew : FileGrew (lines_text lines) old new
+    pub swept : IsSwept g lines a w
+    pub counted : claim_count lines ≡ length made
+    pub claims : claims_in lines ≡ made
 
 abbrev pub ClaimsMore : DeskView → DeskView → AskerView → AskerView → WindowView → WindowView → List Claim → Type 0
 ClaimsMore old new a b w v made = (g : Setting) → IsSwept g [] a w → AreClaimed g old new b v made
@@ -101,13 +103,20 @@ abbrev pub SweepMore : Header → DeskView → DeskView → AskerView → Window
 SweepMore header old new a w made = (g : Setting) → Begins g header a w → IsWhole g old new made
 
 abbrev pub SweepStops : Header → DeskView → DeskView → AskerView → WindowView → WorkError → Type 0
-SweepStops header old new a w error = (g : Setting) → Begins g header a w → StopsFirst g old new error ⊎ StopsLater g old new error
+SweepStops header old new a w error = (g : Setting) → Begins g header a w → StopsFirst g old new error
+    ⊎ StopsLater g old new error
 
 -- ---- the file
 
 -- the repository with its input clauses, the first line of its certificate, and the limits
 abbrev pub setting_of : PackageList → Bool → ℕ → Limits → (Bool → List (List Literal)) → Setting
-setting_of r essential limit limits inputs = record { repo = r; inputs = inputs essential; header = header_of r essential limit (inputs essential); limits = limits }
+setting_of r essential limit limits inputs =
+    record {
+      repo = r;
+      inputs = inputs essential;
+      header = header_of r essential limit (inputs essential);
+      limits = limits;
+    }
 
 -- the input clauses keep the limits of their number and of that of their literals
 pub record KeepsInputs (limits : Limits) (inputs : List (List Literal)) : Type 0 where
@@ -115,16 +124,19 @@ pub record KeepsInputs (limits : Limits) (inputs : List (List Literal)) : Type 0
   pub literals : literal_count inputs ≤ limits.literals
 
 -- A sweep may begin, with input clauses at both modes and a first line of a form.
-pub record MayBegin (r : PackageList) (essential : Bool) (limit : ℕ) (limits : Limits) (header : Header) (a : AskerView) (w : WindowView) : Type 0 where
+pub record MayBegin (r : PackageList) (essential : Bool) (limit : ℕ) (limits : Limits) (header : Header) (a : AskerView)
+    (w : WindowView) : Type 0 where
   pub inputs : Bool → List (List Literal)
   pub are_inputs : AreInputs r inputs
   pub kept : KeepsInputs limits (inputs essential)
   pub header_of : IsHeaderOf (subject_of r inputs) (setting_of r essential limit limits inputs).header
   pub begins : Begins (setting_of r essential limit limits inputs) header a w
 
-abbrev pub FileAnswers : Header → AskerView → WindowView → (name : List ℕ) → DeskView → DeskView → Result (List Claim) WorkError → Type 0
+abbrev pub FileAnswers : Header → AskerView → WindowView → (name : List ℕ) → DeskView → DeskView
+    → Result (List Claim) WorkError → Type 0
 FileAnswers header a w name old new result =
-    (r : PackageList) (essential : Bool) (limit : ℕ) (limits : Limits) → MayBegin r essential limit limits header a w → SweepAnswers r essential limit limits name old new result
+    (r : PackageList) (essential : Bool) (limit : ℕ) (limits : Limits) → MayBegin r essential limit limits header a w
+    → SweepAnswers r essential limit limits name old new result
 
 -- ---- the input clauses
 

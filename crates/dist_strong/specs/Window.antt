@@ -20,7 +20,8 @@ kept_at w number = slice_index_or w.kept (number - (w.count - length w.kept + 1)
 
 -- the numbers of the kept installations with a package
 abbrev pub numbers_of : WindowView → ℕ → List ℕ
-numbers_of w p = filter (λ number. value_of (kept_at w number) p) (range_with_len (w.count - length w.kept + 1) (length w.kept))
+numbers_of w p = filter (λ number. value_of (kept_at w number) p)
+    (range_with_len (w.count - length w.kept + 1) (length w.kept))
 
 -- What is kept are the latest installations of these lines.
 pub record IsWindowAt (before : List CertRecord) (w : WindowView) : Type 0 where

@@ -22,11 +22,14 @@ truth-same values variables are =
         let here = are (k + 1) (omega arith) (omega arith) in
         let place : (k + 1) - 1 ≡ k = omega arith in
         truth-at (length values) k variables less
-        ∙ both-flags (is_among variables (k + 1)) (get_or values ((k + 1) - 1) false) (λ yes. here.0 (from-any (k + 1) variables yes)) (λ yes. any-from (k + 1) variables (here.1 yes))
+        ∙ both-flags (is_among variables (k + 1)) (get_or values ((k + 1) - 1) false) (λ yes. here.0 (from-any (k + 1) variables yes))
+        (λ yes. any-from (k + 1) variables (here.1 yes))
         ∙ ap (λ n. get_or values n false) place
 
-pub healthy-model : (r : PackageList) (essential : Bool) (clauses : List (List Literal)) (values : List Bool) (variables : List ℕ) → length values ≡ length r.packages
-    → AreModelsInstallations r essential clauses → IsModel (value_of values) clauses → AreTrueOf values variables → IsInstallation essential r (packages_of r.packages variables)
+pub healthy-model : (r : PackageList) (essential : Bool) (clauses : List (List Literal)) (values : List Bool) (variables : List ℕ)
+    → length values ≡ length r.packages
+    → AreModelsInstallations r essential clauses → IsModel (value_of values) clauses → AreTrueOf values variables
+    → IsInstallation essential r (packages_of r.packages variables)
 healthy-model r essential clauses values variables size models model are =
     subst (λ flags. IsInstallation essential r (members_of r.packages flags))
     (sym (ap (λ n. truth_of n variables) (sym size) ∙ truth-same values variables are))

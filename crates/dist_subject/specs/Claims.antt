@@ -5,7 +5,8 @@ use Rattle.dist_cert.specs.declared.records.Claim.TheVariants.{Strong}
 
 -- the packages that a claim names are packages of the repository, and other ones than its own
 abbrev pub NamesOthers : ℕ → ℕ → Claim → Type 0
-NamesOthers packages number (Strong on undecided) = All (λ q. (q < packages) × (q ≢ number)) on × All (λ q. (q < packages) × (q ≢ number)) undecided
+NamesOthers packages number (Strong on undecided) = All (λ q. (q < packages) × (q ≢ number)) on
+    × All (λ q. (q < packages) × (q ≢ number)) undecided
 NamesOthers packages number claim = Unit {0}
 
 -- There is one claim for each package, in order, and each names packages of the repository.

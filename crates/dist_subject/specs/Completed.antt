@@ -13,18 +13,20 @@ use Rattle.dist_cert.specs.Refusal.{certificate_text}
 use Rattle.dist_subject.specs.Present.{AreInputs, subject_of}
 
 -- The input clauses and the lines keep the numbers: clauses and their literals, derived lines and theirs, and bytes.
-pub record KeepsNumbers (limits : Limits) (inputs : List (List Literal)) (h : Header) (lines : List CertRecord) : Type 0 where
-  pub clauses : length inputs ≤ limits.clauses
-  pub literals : literal_count inputs ≤ limits.literals
-  pub derived_lines : length (derived lines) ≤ limits.lines
-  pub line_literals : literal_count (derived lines) ≤ limits.line_literals
-  pub bytes : length (certificate_text h lines) ≤ limits.certificate
+pub record KeepsNumbers (limits : Limits) (inputs : List (List Literal)) (h : Header) (lines : List CertRecord) : Type 0
+  where
+    pub clauses : length inputs ≤ limits.clauses
+    pub literals : literal_count inputs ≤ limits.literals
+    pub derived_lines : length (derived lines) ≤ limits.lines
+    pub line_literals : literal_count (derived lines) ≤ limits.line_literals
+    pub bytes : length (certificate_text h lines) ≤ limits.certificate
 
 -- The text is accepted, and keeps the numbers.
-pub record IsCompleted (r : PackageList) (limits : Limits) (text : List ℕ) (h : Header) (made : List Claim) : Type 0 where
-  pub inputs : Bool → List (List Literal)
-  pub are_inputs : AreInputs r inputs
-  pub steps : List CertRecord
-  pub accepted : IsAcceptedAs (subject_of r inputs) limits text h steps
-  pub claims : made ≡ claims_in steps
-  pub numbers : KeepsNumbers limits (inputs h.essential) h steps
+pub record IsCompleted (r : PackageList) (limits : Limits) (text : List ℕ) (h : Header) (made : List Claim) : Type 0
+  where
+    pub inputs : Bool → List (List Literal)
+    pub are_inputs : AreInputs r inputs
+    pub steps : List CertRecord
+    pub accepted : IsAcceptedAs (subject_of r inputs) limits text h steps
+    pub claims : made ≡ claims_in steps
+    pub numbers : KeepsNumbers limits (inputs h.essential) h steps

@@ -25,7 +25,8 @@ truth_of n variables = map (λ variable. is_among variables variable) (range_wit
 abbrev pub packages_of : List Package → List ℕ → List Package
 packages_of packages variables = members_of packages (truth_of (length packages) variables)
 
--- The packages are the variables, and an installation is healthy at the mode. There are no clusters, and each set stands
+-- The packages are the variables, and an installation is healthy at the mode. There are no clusters, and each set
+-- stands
 -- for the one future that is the present.
 abbrev pub matter_of : PackageList → Bool → List (List Literal) → Matter
 matter_of r essential inputs = record {
@@ -42,7 +43,10 @@ matter_of r essential inputs = record {
 
 -- kind strong is taken, at both modes
 abbrev pub subject_of : PackageList → (Bool → List (List Literal)) → Subject
-subject_of r inputs = record { IsTaken = λ kind essential. kind ≡ kinds.Strong; matter = λ kind essential. matter_of r essential (inputs essential) }
+subject_of r inputs = record {
+  IsTaken = λ kind essential. kind ≡ kinds.Strong;
+  matter = λ kind essential. matter_of r essential (inputs essential);
+}
 
 -- the clauses of the present at each mode
 abbrev pub AreInputs : PackageList → (Bool → List (List Literal)) → Type 0
@@ -50,8 +54,10 @@ AreInputs r inputs = (essential : Bool) → ArePresentClauses r essential (input
 
 -- The text is accepted over the repository with this header and these claims.
 abbrev pub IsAccepted : PackageList → Limits → List ℕ → Header → List Claim → Type 0
-IsAccepted r limits text h made = (inputs : Bool → List (List Literal)) × AreInputs r inputs × Accepted (subject_of r inputs) limits text h made
+IsAccepted r limits text h made = (inputs : Bool → List (List Literal)) × AreInputs r inputs
+    × Accepted (subject_of r inputs) limits text h made
 
 -- The text is refused over the repository with this fault.
 abbrev pub IsRefused : PackageList → Limits → List ℕ → CertFault → Type 0
-IsRefused r limits text fault = (inputs : Bool → List (List Literal)) × AreInputs r inputs × Refusal (subject_of r inputs) limits text fault
+IsRefused r limits text fault = (inputs : Bool → List (List Literal)) × AreInputs r inputs
+    × Refusal (subject_of r inputs) limits text fault

@@ -39,13 +39,15 @@ is-archive one many size seed limits r few bytes is =
     record { bytes = bytes; stanzas = reaches one many size seed limits.stanzas r few is; repository = r; is_repository = is; holds = refl }
 
 -- and it is of a size that is asked
-pub within-size : OneAnswerLaw → ArchiveLaw → TooManyLaw → (size seed limit : ℕ) (r : PackageList) → size ≤ MAX_SIZE → IsRepositoryOf (generated size seed) limit r → IsWithinSize r
+pub within-size : OneAnswerLaw → ArchiveLaw → TooManyLaw → (size seed limit : ℕ) (r : PackageList) → size ≤ MAX_SIZE
+    → IsRepositoryOf (generated size seed) limit r → IsWithinSize r
 within-size one archive many size seed limit r few is =
     let a = archive size seed limit few (reaches one many size seed limit r few is) in
     subst IsWithinSize ((one (generated size seed) limit).one_repository r a.repository is a.is_repository) a.within_size
 
 -- a refusal says that there are too many stanzas
-pub is-past : OneAnswerLaw → ArchiveLaw → (size seed limit : ℕ) (error : PackagesError) → size ≤ MAX_SIZE → IsRefused (raw_stanzas (generated size seed)) limit error → limit < size
+pub is-past : OneAnswerLaw → ArchiveLaw → (size seed limit : ℕ) (error : PackagesError) → size ≤ MAX_SIZE
+    → IsRefused (raw_stanzas (generated size seed)) limit error → limit < size
 is-past one archive size seed limit error few refused = elim (cases_lt limit size) [
   | inl past ↦ past
   | inr within ↦ (
@@ -57,10 +59,12 @@ is-past one archive size seed limit error few refused = elim (cases_lt limit siz
 bad≢many : (fault : Fault) → Bad fault ≢ TooMany
 bad≢many fault e = cc
 
-pub no-fault : OneAnswerLaw → ArchiveLaw → TooManyLaw → (size seed limit : ℕ) (fault : Fault) → size ≤ MAX_SIZE → ¬ IsRefused (raw_stanzas (generated size seed)) limit (Bad fault)
+pub no-fault : OneAnswerLaw → ArchiveLaw → TooManyLaw → (size seed limit : ℕ) (fault : Fault) → size ≤ MAX_SIZE
+    → ¬ IsRefused (raw_stanzas (generated size seed)) limit (Bad fault)
 no-fault one archive many size seed limit fault few refused =
     bad≢many fault
-    ((one (generated size seed) limit).one_error TooMany (Bad fault) (many size seed limit few (is-past one archive size seed limit (Bad fault) few refused)) refused)
+    ((one (generated size seed) limit).one_error TooMany (Bad fault) (many size seed limit few (is-past one archive size seed limit (Bad fault) few refused))
+    refused)
 
 -- ---- what the reader says of a text that is generated
 
@@ -74,17 +78,22 @@ bad≢memory fault e = cc
 abbrev pub IsToldOf : (text : List ℕ) (limit : ℕ) → PackagesError → Type 0
 IsToldOf text limit error = (error ≡ NoMemory) ⊎ IsRefused (raw_stanzas text) limit error
 
-pub told-past : OneAnswerLaw → ArchiveLaw → (size seed limit : ℕ) (text : List ℕ) (error : PackagesError) → size ≤ MAX_SIZE → text ≡ generated size seed → error ≡ TooMany → IsToldOf text limit error → limit < size
+pub told-past : OneAnswerLaw → ArchiveLaw → (size seed limit : ℕ) (text : List ℕ) (error : PackagesError) → size ≤ MAX_SIZE → text ≡ generated size seed
+    → error ≡ TooMany → IsToldOf text limit error → limit < size
 told-past one archive size seed limit text error few same is (inl none) = absurd (many≢memory (sym is ∙ none))
-told-past one archive size seed limit text error few same is (inr refused) = is-past one archive size seed limit error few (subst (λ (t : List ℕ). IsRefused (raw_stanzas t) limit error) same refused)
+told-past one archive size seed limit text error few same is (inr refused) =
+    is-past one archive size seed limit error few (subst (λ (t : List ℕ). IsRefused (raw_stanzas t) limit error) same refused)
 
-pub told-fault : OneAnswerLaw → ArchiveLaw → TooManyLaw → (size seed limit : ℕ) (text : List ℕ) (error : PackagesError) (fault : Fault) → size ≤ MAX_SIZE → text ≡ generated size seed → error ≡ Bad fault → IsToldOf text limit error → ⊥
+pub told-fault : OneAnswerLaw → ArchiveLaw → TooManyLaw → (size seed limit : ℕ) (text : List ℕ) (error : PackagesError) (fault : Fault) → size ≤ MAX_SIZE
+    → text ≡ generated size seed → error ≡ Bad fault → IsToldOf text limit error → ⊥
 told-fault one archive many size seed limit text error fault few same is (inl none) = bad≢memory fault (sym is ∙ none)
 told-fault one archive many size seed limit text error fault few same is (inr refused) =
     no-fault one archive many size seed limit fault few
-    (subst (λ (e : PackagesError). IsRefused (raw_stanzas (generated size seed)) limit e) is (subst (λ (t : List ℕ). IsRefused (raw_stanzas t) limit error) same refused))
+    (subst (λ (e : PackagesError). IsRefused (raw_stanzas (generated size seed)) limit e) is
+    (subst (λ (t : List ℕ). IsRefused (raw_stanzas t) limit error) same refused))
 
 -- a clause at the error that a `?` hands on
-pub by-exit : {X : Type 0} (P : Result X WorkError → Type 0) (result : Result X WorkError) (error : WorkError) → IsErrAnd result (λ e. e ≡ error) → P (Err error) → P result
+pub by-exit : {X : Type 0} (P : Result X WorkError → Type 0) (result : Result X WorkError) (error : WorkError) → IsErrAnd result (λ e. e ≡ error)
+    → P (Err error) → P result
 by-exit P (Ok x) error is holds = absurd is
 by-exit P (Err e) error is holds = subst (λ (y : WorkError). P (Err y)) (sym is) holds

@@ -9,7 +9,8 @@ five a b c d e = append_assoc ((a ++ b) ++ c) d e ∙ append_assoc (a ++ b) c (d
 after : (t u a b : List ℕ) → t ≡ a → u ≡ t ++ b → u ≡ a ++ b
 after t u a b first next = next ∙ ap (λ (xs : List ℕ). xs ++ b) first
 
-pub summary-of : (size : ℕ) (made : List Claim) (pairs uninstallable marks : ℕ) (t1 t2 t3 t4 t5 : List ℕ) → pairs ≡ pair_count made → uninstallable ≡ uninstallable_count made → marks ≡ mark_count made
+pub summary-of : (size : ℕ) (made : List Claim) (pairs uninstallable marks : ℕ) (t1 t2 t3 t4 t5 : List ℕ) → pairs ≡ pair_count made
+    → uninstallable ≡ uninstallable_count made → marks ≡ mark_count made
     → t1 ≡ number_line (codes "size ") size → t2 ≡ t1 ++ number_line (codes "strong ") pairs → t3 ≡ t2 ++ number_line (codes "uninstallable ") uninstallable
     → t4 ≡ t3 ++ number_line (codes "undecided ") marks → t5 ≡ t4 ++ codes "accepted 1\n" → t5 ≡ summary_text size made
 summary-of size made pairs uninstallable marks t1 t2 t3 t4 t5 p u m h1 h2 h3 h4 h5 =

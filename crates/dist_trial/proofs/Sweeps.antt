@@ -40,7 +40,8 @@ exact-ok x y error P exact = λ other. (
   λ p. absurd (no-error x error ((exact (no-error x NoMemory)).1 p)),
 )
 
-pub exact-err : {X Y : Type 0} (error other : WorkError) (P : Type 0) → IsExactly {X = X} NoMemory (Err error) other P → IsExactly {X = Y} NoMemory (Err error) other P
+pub exact-err : {X Y : Type 0} (error other : WorkError) (P : Type 0) → IsExactly {X = X} NoMemory (Err error) other P
+    → IsExactly {X = Y} NoMemory (Err error) other P
 exact-err {X} {Y} error other P exact = λ free.
     let x : Result X WorkError = Err error in
     let y : Result Y WorkError = Err error in
@@ -50,7 +51,8 @@ exact-err {X} {Y} error other P exact = λ free.
 pub exact-none : {Y : Type 0} (other : WorkError) (P : Type 0) → IsExactly {X = Y} NoMemory (Err NoMemory) other P
 exact-none other P = λ free. absurd (free refl)
 
-pub exact-memory : {X Y : Type 0} (error other : WorkError) (P : Type 0) → IsExactly {X = X} NoMemory (Err error) other P → IsExactly {X = Y} NoMemory (Err (in_memory error)) other P
+pub exact-memory : {X Y : Type 0} (error other : WorkError) (P : Type 0) → IsExactly {X = X} NoMemory (Err error) other P
+    → IsExactly {X = Y} NoMemory (Err (in_memory error)) other P
 exact-memory ReadFault other P exact = exact-none other P
 exact-memory WriteFault other P exact = exact-none other P
 exact-memory (TooLarge what) other P exact = exact-err (TooLarge what) other P exact
@@ -72,7 +74,8 @@ sweep-stops Gives r limits name old new (TooLarge Certificate) stops = (stops.0,
 sweep-stops Gives r limits name old new (TooLarge RecordLine) stops = (stops.0, stops.2)
 
 -- the same error in place of another value
-pub stops-alike : {X Y : Type 0} (Gives : X → Type 0) (Others : Y → Type 0) (r : PackageList) (limits : Limits) (error : WorkError) → SweptAnswers Gives r limits (Err error) → SweptAnswers Others r limits (Err error)
+pub stops-alike : {X Y : Type 0} (Gives : X → Type 0) (Others : Y → Type 0) (r : PackageList) (limits : Limits) (error : WorkError)
+    → SweptAnswers Gives r limits (Err error) → SweptAnswers Others r limits (Err error)
 stops-alike Gives Others r limits ReadFault stops = stops
 stops-alike Gives Others r limits WriteFault stops = stops
 stops-alike Gives Others r limits NoMemory stops = stops
@@ -90,9 +93,11 @@ stops-alike Gives Others r limits (TooLarge RecordLine) stops = stops
 
 -- what a file just put there has
 get-same : (files : Files) (name x : List ℕ) → get (insert files name x) name ≡ Some x
-get-same files name x = get-insert nat_list_cmp_total files name x name ∙ ap (λ same. cond same (Some x) (get files name)) ((eq_by_cmp_equiv nat_list_cmp_total).refl name)
+get-same files name x = get-insert nat_list_cmp_total files name x name
+    ∙ ap (λ same. cond same (Some x) (get files name)) ((eq_by_cmp_equiv nat_list_cmp_total).refl name)
 
-of-file : (P : List ℕ → Type 0) (files : Files) (name text : List ℕ) (mode : Mode) (old new : DeskView) → old.files ≡ Some files → Holds name text mode old new → OfText (file_bytes new.files name) P → P text
+of-file : (P : List ℕ → Type 0) (files : Files) (name text : List ℕ) (mode : Mode) (old new : DeskView) → old.files ≡ Some files → Holds name text mode old new
+    → OfText (file_bytes new.files name) P → P text
 of-file P files name text mode old new told holds of =
     let kept : new.files ≡ Some (insert files name text) = holds.files ∙ ap (λ (f : Option Files). with_file f name text) told in
     let found : OfText (get (insert files name text) name) P = subst (λ (f : Option Files). OfText (file_bytes f name) P) kept of in
@@ -102,14 +107,17 @@ abbrev pub RightLaw : Type 0
 RightLaw = (r : PackageList) (limits : Limits) (text : List ℕ) (verdict : Verdict) → Answers r limits text (Ok verdict) → IsVerdict r limits text verdict
 
 abbrev pub OneVerdictLaw : Type 0
-OneVerdictLaw = (r : PackageList) (limits : Limits) (text : List ℕ) (verdict other : Verdict) → IsVerdict r limits text verdict → IsVerdict r limits text other → verdict ≡ other
+OneVerdictLaw = (r : PackageList) (limits : Limits) (text : List ℕ) (verdict other : Verdict) → IsVerdict r limits text verdict → IsVerdict r limits text other
+    → verdict ≡ other
 
 -- What a sweep wrote to a desk that tells its files.
 abbrev pub IsWritten : PackageList → Limits → (name : List ℕ) → Files → (old new : DeskView) → List Claim → Type 0
 IsWritten r limits name files old new made = (old.files ≡ Some files) × SweepAnswers r false DEFAULT_LIMIT limits name old new (Ok made)
 
-verdict-same : RightLaw → OneVerdictLaw → (r : PackageList) (limits : Limits) (name : List ℕ) (files : Files) (old new : DeskView) (made : List Claim) (verdict : Verdict) → (w : IsWritten r limits name files old new made)
-    → OfText (file_bytes new.files name) (λ text. Answers r limits text (Ok verdict)) → Accepted (header_of r false DEFAULT_LIMIT (w.1.2.0 false)) made ≡ verdict
+verdict-same : RightLaw → OneVerdictLaw → (r : PackageList) (limits : Limits) (name : List ℕ) (files : Files) (old new : DeskView) (made : List Claim)
+    (verdict : Verdict) → (w : IsWritten r limits name files old new made)
+    → OfText (file_bytes new.files name) (λ text. Answers r limits text (Ok verdict))
+    → Accepted (header_of r false DEFAULT_LIMIT (w.1.2.0 false)) made ≡ verdict
 verdict-same right one r limits name files old new made verdict w of =
     let text : List ℕ = w.1.0 in
     let answers : Answers r limits text (Ok verdict) = of-file (λ t. Answers r limits t (Ok verdict)) files name text Idle old new w.0 w.1.1 of in
@@ -122,28 +130,35 @@ same-claims h other made claims e = cc
 accepted≢refused : (h : Header) (made : List Claim) (fault : CertFault) → Accepted h made ≢ Refused fault
 accepted≢refused h made fault e = cc
 
-pub accepted : RightLaw → OneVerdictLaw → (r : PackageList) (limits : Limits) (name : List ℕ) (files : Files) (old new : DeskView) (made : List Claim) (h : Header) (claims : List Claim)
-    → IsWritten r limits name files old new made → OfText (file_bytes new.files name) (λ text. Answers r limits text (Ok (Accepted h claims))) → AreSwept r limits claims
+pub accepted : RightLaw → OneVerdictLaw → (r : PackageList) (limits : Limits) (name : List ℕ) (files : Files) (old new : DeskView) (made : List Claim)
+    (h : Header) (claims : List Claim)
+    → IsWritten r limits name files old new made → OfText (file_bytes new.files name) (λ text. Answers r limits text (Ok (Accepted h claims)))
+    → AreSwept r limits claims
 accepted right one r limits name files old new made h claims w of =
-    let same = same-claims (header_of r false DEFAULT_LIMIT (w.1.2.0 false)) h made claims (verdict-same right one r limits name files old new made (Accepted h claims) w of) in
+    let same = same-claims (header_of r false DEFAULT_LIMIT (w.1.2.0 false)) h made claims
+    (verdict-same right one r limits name files old new made (Accepted h claims) w of) in
     subst (AreSwept r limits) same (w.1.0, w.1.2)
 
-pub not-refused : RightLaw → OneVerdictLaw → (r : PackageList) (limits : Limits) (name : List ℕ) (files : Files) (old new : DeskView) (made : List Claim) (fault : CertFault)
+pub not-refused : RightLaw → OneVerdictLaw → (r : PackageList) (limits : Limits) (name : List ℕ) (files : Files) (old new : DeskView) (made : List Claim)
+    (fault : CertFault)
     → IsWritten r limits name files old new made → ¬ OfText (file_bytes new.files name) (λ text. Answers r limits text (Ok (Refused fault)))
 not-refused right one r limits name files old new made fault w of =
     accepted≢refused (header_of r false DEFAULT_LIMIT (w.1.2.0 false)) made fault (verdict-same right one r limits name files old new made (Refused fault) w of)
 
 abbrev pub OneAnswerLaw : Type 0
-OneAnswerLaw = (r : PackageList) (limits : Limits) (text : List ℕ) (result other : Result Verdict WorkError) → IsInOrder r.packages → Answers r limits text result → Answers r limits text other
+OneAnswerLaw = (r : PackageList) (limits : Limits) (text : List ℕ) (result other : Result Verdict WorkError) → IsInOrder r.packages
+    → Answers r limits text result → Answers r limits text other
     → IsOfText result → IsOfText other → other ≡ result
 
 large≢verdict : (what : What) (verdict : Verdict) → Err (TooLarge what) ≢ Ok verdict
 large≢verdict what verdict e = cc
 
-pub not-large : OneAnswerLaw → (r : PackageList) (limits : Limits) (name : List ℕ) (files : Files) (old new : DeskView) (made : List Claim) (what : What) → IsInOrder r.packages
+pub not-large : OneAnswerLaw → (r : PackageList) (limits : Limits) (name : List ℕ) (files : Files) (old new : DeskView) (made : List Claim) (what : What)
+    → IsInOrder r.packages
     → IsWritten r limits name files old new made → ¬ OfText (file_bytes new.files name) (λ text. Answers r limits text (Err (TooLarge what)))
 not-large one r limits name files old new made what ordered w of =
     let text : List ℕ = w.1.0 in
-    let answers : Answers r limits text (Err (TooLarge what)) = of-file (λ t. Answers r limits t (Err (TooLarge what))) files name text Idle old new w.0 w.1.1 of in
+    let answers : Answers r limits text (Err (TooLarge what)) =
+    of-file (λ t. Answers r limits t (Err (TooLarge what))) files name text Idle old new w.0 w.1.1 of in
     let first : Verdict = Accepted (header_of r false DEFAULT_LIMIT (w.1.2.0 false)) made in
     large≢verdict what first (one r limits text (Ok first) (Err (TooLarge what)) ordered w.1.2.2.0 answers tt tt)

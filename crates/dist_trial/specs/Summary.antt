@@ -40,7 +40,8 @@ summary_text size made =
     ++ codes "accepted 1\n")))
 
 -- Worked examples: of two packages the second depends strongly on the first; and what is undecided is a mark each.
-two : summary_text 2 (Strong [] [] ∷ Strong (0 ∷ []) [] ∷ []) ≡ codes "size 2\nstrong 1\nuninstallable 0\nundecided 0\naccepted 1\n"
+two : summary_text 2 (Strong [] [] ∷ Strong (0 ∷ []) [] ∷ [])
+    ≡ codes "size 2\nstrong 1\nuninstallable 0\nundecided 0\naccepted 1\n"
 unfolding digits
 two = refl
 

@@ -24,7 +24,8 @@ pub record OfArchive (size seed : ℕ) (limits : Limits) (P : PackageList → Ty
   pub is_repository : IsRepositoryOf (generated size seed) limits.stanzas repository
   pub holds : P repository
 
--- A whole certificate of the repository, plain and with the limit of a question where none is given, is accepted, and what is
+-- A whole certificate of the repository, plain and with the limit of a question where none is given, is accepted, and
+-- what is
 -- told is the summary of its claims, and whether one of them has a mark.
 pub record IsTrial (size : ℕ) (limits : Limits) (done : Trial) (r : PackageList) : Type 0 where
   pub made : List Claim
@@ -33,15 +34,20 @@ pub record IsTrial (size : ℕ) (limits : Limits) (done : Trial) (r : PackageLis
   pub summary : done.summary.items ≡ summary_text size made
   pub undecided : done.undecided ≡ list_any has_mark made
 
--- When each answer is given. Want of memory may come in place of any, and the number of a line or of a certificate is passed
+-- When each answer is given. Want of memory may come in place of any, and the number of a line or of a certificate is
+-- passed
 -- by a part of a sweep.
 abbrev pub TrialAnswers : (size seed : ℕ) → Limits → Result Trial WorkError → Type 0
 TrialAnswers size seed limits (Ok done) = OfArchive size seed limits (IsTrial size limits done)
 TrialAnswers size seed limits (Err (TooLarge Bytes)) = limits.bytes < length (generated size seed)
-TrialAnswers size seed limits (Err (TooLarge Stanzas)) = (length (generated size seed) ≤ limits.bytes) × (limits.stanzas < size)
-TrialAnswers size seed limits (Err (TooLarge Clauses)) = OfArchive size seed limits (λ r. PassesClauses r false limits.clauses limits.literals)
-TrialAnswers size seed limits (Err (TooLarge Literals)) = OfArchive size seed limits (λ r. PassesLiterals r false limits.clauses limits.literals)
-TrialAnswers size seed limits (Err (TooLarge what)) = OfArchive size seed limits (λ r. (text : List ℕ) × IsFull r false DEFAULT_LIMIT limits what text)
+TrialAnswers size seed limits (Err (TooLarge Stanzas)) = (length (generated size seed) ≤ limits.bytes)
+    × (limits.stanzas < size)
+TrialAnswers size seed limits (Err (TooLarge Clauses)) =
+    OfArchive size seed limits (λ r. PassesClauses r false limits.clauses limits.literals)
+TrialAnswers size seed limits (Err (TooLarge Literals)) =
+    OfArchive size seed limits (λ r. PassesLiterals r false limits.clauses limits.literals)
+TrialAnswers size seed limits (Err (TooLarge what)) =
+    OfArchive size seed limits (λ r. (text : List ℕ) × IsFull r false DEFAULT_LIMIT limits what text)
 TrialAnswers size seed limits (Err NoMemory) = Unit {0}
 TrialAnswers size seed limits (Err error) = ⊥
 
@@ -51,7 +57,8 @@ TrialAnswers size seed limits (Err error) = ⊥
 abbrev pub ArchiveAnswers : (size seed : ℕ) → Limits → Result PackageList WorkError → Type 0
 ArchiveAnswers size seed limits (Ok r) = OfArchive size seed limits (λ other. other ≡ r)
 ArchiveAnswers size seed limits (Err (TooLarge Bytes)) = limits.bytes < length (generated size seed)
-ArchiveAnswers size seed limits (Err (TooLarge Stanzas)) = (length (generated size seed) ≤ limits.bytes) × (limits.stanzas < size)
+ArchiveAnswers size seed limits (Err (TooLarge Stanzas)) = (length (generated size seed) ≤ limits.bytes)
+    × (limits.stanzas < size)
 ArchiveAnswers size seed limits (Err NoMemory) = Unit {0}
 ArchiveAnswers size seed limits (Err error) = ⊥
 

@@ -1,5 +1,8 @@
 -- Texts just above a version and below one are versions, and stand where they should in the order.
-use Rattle.std.proofs.Common.{◌≡◌, ℕ, zero, suc, ◌+◌, ◌-◌, ◌<◌, ◌≤◌, Bool, true, false, true≢false, cond, not, ◌&&◌, ◌==◌, nat_lt, eqb-true, lt-ltb, le-ltb, ltb-true, ltb-false, drop_at, List, [], ◌∷◌, ◌++◌, append_assoc, append-nil, one-add, length, length-append, length-take, length-drop, map, take, drop, take-append-drop, pos, Option, None, Some, Ordering, Less, Equal, Greater, int_cmp, nat_cmp, unwrap_or, IfSome, MatchOption, slice_get, slice_range, refl, sym, ap, ap₂, ◌∙◌, subst, ◌⊎◌, inl, inr, arith}
+use Rattle.std.proofs.Common.{◌≡◌, ℕ, zero, suc, ◌+◌, ◌-◌, ◌<◌, ◌≤◌, Bool, true, false, true≢false, cond, not, ◌&&◌, ◌==◌, nat_lt, eqb-true, lt-ltb, le-ltb}
+use Rattle.std.proofs.Common.{ltb-true, ltb-false, drop_at, List, [], ◌∷◌, ◌++◌, append_assoc, append-nil, one-add, length, length-append, length-take}
+use Rattle.std.proofs.Common.{length-drop, map, take, drop, take-append-drop, pos, Option, None, Some, Ordering, Less, Equal, Greater, int_cmp, nat_cmp}
+use Rattle.std.proofs.Common.{unwrap_or, IfSome, MatchOption, slice_get, slice_range, refl, sym, ap, ap₂, ◌∙◌, subst, ◌⊎◌, inl, inr, arith}
 use Rattle.std.specs.Prelude.{replicate}
 use Rattle.std.specs.Char.{is_ascii_digit, is_ascii_alphabetic}
 use Rattle.std.specs.List.{list_all, prefix_len}
@@ -14,10 +17,12 @@ use Rattle.std.proofs.lemmas.List.{length-replicate, drop-append-le, take-append
 use Rattle.std.proofs.lemmas.List.Folds.{list_all-append}
 use Rattle.std.proofs.lemmas.List.Sums.{prefix_len-le-length}
 use Rattle.dist_version.specs.declared.error.VersionError.{VersionError}
-use Rattle.dist_version.specs.Spelling.{tilde, plus, hyphen, colon, rsplit_once, has, is_upstream_byte, is_revision_byte, IsMadeOf, Parts, Spells, revision_text, parts_of, epoch_of, upstream_of, revision_of}
+use Rattle.dist_version.specs.Spelling.{tilde, plus, hyphen, colon, rsplit_once, has, is_upstream_byte, is_revision_byte, IsMadeOf, Parts, Spells}
+use Rattle.dist_version.specs.Spelling.{revision_text, parts_of, epoch_of, upstream_of, revision_of}
 use Rattle.dist_version.specs.Faults.{fault_of}
 use Rattle.dist_version.specs.Order.{weight_of, text_start, digit_start, after_text, after_turn, number_of, weights_cmp, part_cmp, IsBelow}
-use Rattle.dist_version.specs.Between.{letter_b, IsRebuildOf, ends_in_digit, extension, missing_hyphen, above_text, below_text, is_rebuild, without_rebuild_text}
+use Rattle.dist_version.specs.Between.{letter_b, IsRebuildOf, ends_in_digit, extension, missing_hyphen, above_text, below_text, is_rebuild}
+use Rattle.dist_version.specs.Between.{without_rebuild_text}
 use Rattle.dist_version.specs.Kept.{Keeps}
 use Rattle.dist_version.specs.Cuts.{CutsLast, rsplit_once-at, cases_rsplit}
 use Rattle.dist_version.specs.OrderLaws.{weights_total, part_total, version_cmp-parts}
@@ -60,7 +65,8 @@ record Turned (part first number left : List ℕ) : Type 0 where
 taken : (test : ℕ → Bool) (a b : List ℕ) → list_all test a ≡ true → Halts test b → take (prefix_len test (a ++ b)) (a ++ b) ≡ a
 taken test a b all halts = rw (prefix_len-at test a b all halts) (take-append_seam a b)
 
-turned : (t d x : List ℕ) → list_all other_byte t ≡ true → list_all is_ascii_digit d ≡ true → Halts other_byte (d ++ x) → Halts is_ascii_digit x → Turned (t ++ (d ++ x)) t d x
+turned : (t d x : List ℕ) → list_all other_byte t ≡ true → list_all is_ascii_digit d ≡ true → Halts other_byte (d ++ x) → Halts is_ascii_digit x
+    → Turned (t ++ (d ++ x)) t d x
 turned t d x texts digits stop halt =
     let first : text_start (t ++ (d ++ x)) ≡ t = taken other_byte t (d ++ x) texts stop in
     let after : after_text (t ++ (d ++ x)) ≡ d ++ x = ap (λ (s : List ℕ). drop (length s) (t ++ (d ++ x))) first ∙ drop-append_seam t (d ++ x) in
@@ -77,16 +83,19 @@ length-start test xs = omega (arith, length-take (prefix_len test xs) xs, prefix
 -- a part is its text, its digits and what is left
 parted : (part : List ℕ) → part ≡ text_start part ++ (digit_start (after_text part) ++ after_turn part)
 parted part =
-    let one : text_start part ++ after_text part ≡ part = ap (λ n. text_start part ++ drop n part) (length-start other_byte part) ∙ take-append-drop (prefix_len other_byte part) part in
+    let one : text_start part ++ after_text part ≡ part = ap (λ n. text_start part ++ drop n part) (length-start other_byte part)
+    ∙ take-append-drop (prefix_len other_byte part) part in
     let rest : List ℕ = after_text part in
-    let two : digit_start rest ++ after_turn part ≡ rest = ap (λ n. digit_start rest ++ drop n rest) (length-start is_ascii_digit rest) ∙ take-append-drop (prefix_len is_ascii_digit rest) rest in
+    let two : digit_start rest ++ after_turn part ≡ rest = ap (λ n. digit_start rest ++ drop n rest) (length-start is_ascii_digit rest)
+    ∙ take-append-drop (prefix_len is_ascii_digit rest) rest in
     sym (ap (λ (s : List ℕ). text_start part ++ s) two ∙ one)
 
 after_text-halts : (part : List ℕ) → Halts other_byte (after_text part)
 after_text-halts part = subst (λ n. Halts other_byte (drop n part)) (sym (length-start other_byte part)) (halts-drop other_byte part)
 
 after_turn-halts : (part : List ℕ) → Halts is_ascii_digit (after_turn part)
-after_turn-halts part = subst (λ n. Halts is_ascii_digit (drop n (after_text part))) (sym (length-start is_ascii_digit (after_text part))) (halts-drop is_ascii_digit (after_text part))
+after_turn-halts part = subst (λ n. Halts is_ascii_digit (drop n (after_text part))) (sym (length-start is_ascii_digit (after_text part)))
+    (halts-drop is_ascii_digit (after_text part))
 
 -- ---- the last byte
 
@@ -149,7 +158,8 @@ tildes_part_less : (n : ℕ) (part : List ℕ) → length part < n → part_cmp 
 tildes_part_less n part h =
     let t = alone (replicate n tilde) (tildes-all other_byte n refl) in
     let first : weights_cmp (text_weights (replicate n tilde)) (text_weights part) ≡ Less =
-    ap (λ (s : List ℕ). weights_cmp (map weight_of s) (text_weights part)) t.text ∙ tildes_less n (text_start part) (omega (arith, h, text_start-shorter part)) in
+    ap (λ (s : List ℕ). weights_cmp (map weight_of s) (text_weights part)) t.text
+    ∙ tildes_less n (text_start part) (omega (arith, h, text_start-shorter part)) in
     part_cmp-turn (replicate n tilde) part ∙ then_less _ _ first
 
 -- ---- `A` and tildes
@@ -180,7 +190,8 @@ text_start-cons c cs other = rw (other, one-add) refl
 -- what is above nothing is above `A` and so many tildes, where it begins with no digit and has no more bytes
 letter_below : (n : ℕ) (s : List ℕ) → Halts is_ascii_digit s → part_cmp [] s ≡ Less → length s ≤ n → part_cmp (letter_and n) s ≡ Less
 letter_below n [] halts less size = absurd (let e = part_cmp-empty in cc)
-letter_below n (c ∷ cs) halts less size = part_cmp-turn (letter_and n) (c ∷ cs) ∙ then_less _ _ (ap₂ (λ (s t : List ℕ). weights_cmp (map weight_of s) (map weight_of t)) (letter_turn n).text start ∙ first)
+letter_below n (c ∷ cs) halts less size = part_cmp-turn (letter_and n) (c ∷ cs)
+    ∙ then_less _ _ (ap₂ (λ (s t : List ℕ). weights_cmp (map weight_of s) (map weight_of t)) (letter_turn n).text start ∙ first)
   where
     start : text_start (c ∷ cs) ≡ c ∷ text_start cs
     start = text_start-cons c cs halts
@@ -188,8 +199,11 @@ letter_below n (c ∷ cs) halts less size = part_cmp-turn (letter_and n) (c ∷ 
     not_less : Greater ≡ Less → ⊥
     not_less e = cc
 
-    above : ordering_then (weights_cmp [] (map weight_of (c ∷ text_start cs))) (ordering_then (nat_cmp (number_of []) (number_of (c ∷ cs))) (part_cmp (after_turn []) (after_turn (c ∷ cs)))) ≡ Less
-    above = sym (ap (λ (s : List ℕ). ordering_then (weights_cmp [] (map weight_of s)) (ordering_then (nat_cmp (number_of []) (number_of (c ∷ cs))) (part_cmp (after_turn []) (after_turn (c ∷ cs))))) start) ∙ sym (part_cmp-turn [] (c ∷ cs)) ∙ less
+    above : ordering_then (weights_cmp [] (map weight_of (c ∷ text_start cs)))
+        (ordering_then (nat_cmp (number_of []) (number_of (c ∷ cs))) (part_cmp (after_turn []) (after_turn (c ∷ cs)))) ≡ Less
+    above = sym (ap (λ (s : List ℕ). ordering_then (weights_cmp [] (map weight_of s))
+        (ordering_then (nat_cmp (number_of []) (number_of (c ∷ cs))) (part_cmp (after_turn []) (after_turn (c ∷ cs))))) start) ∙ sym (part_cmp-turn [] (c ∷ cs))
+        ∙ less
 
     first : weights_cmp (map weight_of (letter_and n)) (map weight_of (c ∷ text_start cs)) ≡ Less
     first = elim (cases_Bool (c == 126)) [
@@ -239,7 +253,8 @@ digits_halt (b ∷ d) x y h some = h
 digit_other : (b : ℕ) → is_ascii_digit b ≡ true → other_byte b ≡ false
 digit_other b h = rw h refl
 
-extended_turn-at : (n : ℕ) (part t d x : List ℕ) → part ≡ t ++ (d ++ x) → text_start part ≡ t → digit_start (after_text part) ≡ d → after_turn part ≡ x → list_all other_byte t ≡ true → list_all is_ascii_digit d ≡ true → Halts other_byte (d ++ x) → Halts is_ascii_digit x → ExtendedTurn part n
+extended_turn-at : (n : ℕ) (part t d x : List ℕ) → part ≡ t ++ (d ++ x) → text_start part ≡ t → digit_start (after_text part) ≡ d → after_turn part ≡ x
+    → list_all other_byte t ≡ true → list_all is_ascii_digit d ≡ true → Halts other_byte (d ++ x) → Halts is_ascii_digit x → ExtendedTurn part n
 extended_turn-at n part t [] [] whole text digits rest texts all stop halt =
     let same : part ≡ t = whole ∙ append-nil t in
     let ext : extended part n ≡ t ++ ((48 ∷ []) ++ letter_and n) = ap₂ ◌++◌ same (extension-other part n (ap ends_in_digit same ∙ ends-texts t texts)) in
@@ -264,7 +279,8 @@ extended_turn-at n part t (b ∷ d) (c ∷ x) whole text digits rest texts all s
     let front : List ℕ = t ++ (b ∷ d) in
     let same : part ≡ front ++ (c ∷ x) = whole ∙ sym (append_assoc t (b ∷ d) (c ∷ x)) in
     let more : extension part n ≡ extension (c ∷ x) n = extension-same part (c ∷ x) n (ap ends_in_digit same ∙ ends-append front c x) in
-    let ext : extended part n ≡ t ++ ((b ∷ d) ++ extended (c ∷ x) n) = ap₂ ◌++◌ whole more ∙ append_assoc t ((b ∷ d) ++ (c ∷ x)) (extension (c ∷ x) n) ∙ ap (λ (s : List ℕ). t ++ s) (append_assoc (b ∷ d) (c ∷ x) (extension (c ∷ x) n)) in
+    let ext : extended part n ≡ t ++ ((b ∷ d) ++ extended (c ∷ x) n) = ap₂ ◌++◌ whole more ∙ append_assoc t ((b ∷ d) ++ (c ∷ x)) (extension (c ∷ x) n)
+    ∙ ap (λ (s : List ℕ). t ++ s) (append_assoc (b ∷ d) (c ∷ x) (extension (c ∷ x) n)) in
     let turn = turned t (b ∷ d) (extended (c ∷ x) n) texts all stop halt in
     record {
       text = ap text_start ext ∙ turn.text ∙ sym text;
@@ -291,7 +307,8 @@ then_keeps Equal Less q r f h = refl
 then_keeps Equal Greater q r f h = h
 then_keeps Equal Equal q r f h = f h
 
-above_step : (part : List ℕ) (n : ℕ) → (0 < length (after_turn part) → part_cmp (after_turn part) (extended (after_turn part) n) ≡ Less) → ExtendedTurn part n → part_cmp part (extended part n) ≡ Less
+above_step : (part : List ℕ) (n : ℕ) → (0 < length (after_turn part) → part_cmp (after_turn part) (extended (after_turn part) n) ≡ Less) → ExtendedTurn part n
+    → part_cmp part (extended part n) ≡ Less
 above_step part n further e = part_cmp-turn part (extended part n) ∙ rw (texts, numbers) (rests e.rest)
   where
     texts : weights_cmp (text_weights part) (text_weights (extended part n)) ≡ Equal
@@ -300,37 +317,47 @@ above_step part n further e = part_cmp-turn part (extended part n) ∙ rw (texts
     numbers : nat_cmp (number_of part) (number_of (extended part n)) ≡ Equal
     numbers = nat_cmp-same (number_of part) (number_of (extended part n)) (sym e.number)
 
-    rests : ((0 < length (after_turn part)) × (after_turn (extended part n) ≡ extended (after_turn part) n)) ⊎ ((after_turn part ≡ []) × (after_turn (extended part n) ≡ letter_and n)) → part_cmp (after_turn part) (after_turn (extended part n)) ≡ Less
+    rests : ((0 < length (after_turn part)) × (after_turn (extended part n) ≡ extended (after_turn part) n))
+        ⊎ ((after_turn part ≡ []) × (after_turn (extended part n) ≡ letter_and n)) → part_cmp (after_turn part) (after_turn (extended part n)) ≡ Less
     rests (inr (none, rest)) = ap₂ part_cmp none rest ∙ letter_above_nothing n
     rests (inl (some, rest)) = ap (part_cmp (after_turn part)) rest ∙ further some
 
 above_all : (m : ℕ) (part : List ℕ) (n : ℕ) → length part ≤ m → part_cmp part (extended part n) ≡ Less
 above_all zero part n size = above_step part n (λ some. absurd (omega (arith, size, some, after_turn-shorter_by_one part))) (extended_turn part n)
-above_all (suc m) part n size = above_step part n (λ some. above_all m (after_turn part) n (omega (arith, size, after_turn-shorter_by_one part))) (extended_turn part n)
+above_all (suc m) part n size = above_step part n (λ some. above_all m (after_turn part) n (omega (arith, size, after_turn-shorter_by_one part)))
+    (extended_turn part n)
 
 -- an extended part is above the part
 pub part_above : (part : List ℕ) (n : ℕ) → part_cmp part (extended part n) ≡ Less
 part_above part n = above_all (length part) part n (omega arith)
 
-below_step : (part other : List ℕ) (n : ℕ) → (0 < length (after_turn part) → part_cmp (after_turn part) (after_turn other) ≡ Less → length (after_turn other) ≤ n → part_cmp (extended (after_turn part) n) (after_turn other) ≡ Less)
+below_step : (part other : List ℕ) (n : ℕ) → (0 < length (after_turn part) → part_cmp (after_turn part) (after_turn other) ≡ Less
+    → length (after_turn other) ≤ n → part_cmp (extended (after_turn part) n) (after_turn other) ≡ Less)
     → ExtendedTurn part n → part_cmp part other ≡ Less → length other ≤ n → part_cmp (extended part n) other ≡ Less
 below_step part other n further e less room =
     part_cmp-turn (extended part n) other
-    ∙ ap₂ (λ (s : List ℕ) (k : ℕ). ordering_then (weights_cmp (map weight_of s) (text_weights other)) (ordering_then (nat_cmp k (number_of other)) (part_cmp (after_turn (extended part n)) (after_turn other)))) e.text e.number
-    ∙ then_keeps (weights_cmp (text_weights part) (text_weights other)) (nat_cmp (number_of part) (number_of other)) (part_cmp (after_turn part) (after_turn other)) (part_cmp (after_turn (extended part n)) (after_turn other))
+    ∙ ap₂ (λ (s : List ℕ) (k : ℕ). ordering_then (weights_cmp (map weight_of s) (text_weights other))
+    (ordering_then (nat_cmp k (number_of other)) (part_cmp (after_turn (extended part n)) (after_turn other)))) e.text e.number
+    ∙ then_keeps (weights_cmp (text_weights part) (text_weights other)) (nat_cmp (number_of part) (number_of other))
+    (part_cmp (after_turn part) (after_turn other)) (part_cmp (after_turn (extended part n)) (after_turn other))
     (rests e.rest) (sym (part_cmp-turn part other) ∙ less)
   where
     shorter : length (after_turn other) ≤ n
     shorter = omega (arith, room, after_turn-shorter_by_one other)
 
-    rests : ((0 < length (after_turn part)) × (after_turn (extended part n) ≡ extended (after_turn part) n)) ⊎ ((after_turn part ≡ []) × (after_turn (extended part n) ≡ letter_and n)) → part_cmp (after_turn part) (after_turn other) ≡ Less → part_cmp (after_turn (extended part n)) (after_turn other) ≡ Less
+    rests : ((0 < length (after_turn part)) × (after_turn (extended part n) ≡ extended (after_turn part) n))
+        ⊎ ((after_turn part ≡ []) × (after_turn (extended part n) ≡ letter_and n)) → part_cmp (after_turn part) (after_turn other) ≡ Less
+        → part_cmp (after_turn (extended part n)) (after_turn other) ≡ Less
     rests (inr (none, rest)) h =
-        ap (λ (s : List ℕ). part_cmp s (after_turn other)) rest ∙ letter_below n (after_turn other) (after_turn-halts other) (ap (λ (s : List ℕ). part_cmp s (after_turn other)) (sym none) ∙ h) shorter
+        ap (λ (s : List ℕ). part_cmp s (after_turn other)) rest
+        ∙ letter_below n (after_turn other) (after_turn-halts other) (ap (λ (s : List ℕ). part_cmp s (after_turn other)) (sym none) ∙ h) shorter
     rests (inl (some, rest)) h = ap (λ (s : List ℕ). part_cmp s (after_turn other)) rest ∙ further some h shorter
 
 below_all : (m : ℕ) (part other : List ℕ) (n : ℕ) → length part ≤ m → part_cmp part other ≡ Less → length other ≤ n → part_cmp (extended part n) other ≡ Less
-below_all zero part other n size less room = below_step part other n (λ some h k. absurd (omega (arith, size, some, after_turn-shorter_by_one part))) (extended_turn part n) less room
-below_all (suc m) part other n size less room = below_step part other n (λ some h k. below_all m (after_turn part) (after_turn other) n (omega (arith, size, after_turn-shorter_by_one part)) h k) (extended_turn part n) less room
+below_all zero part other n size less room = below_step part other n (λ some h k. absurd (omega (arith, size, some, after_turn-shorter_by_one part)))
+    (extended_turn part n) less room
+below_all (suc m) part other n size less room = below_step part other n
+    (λ some h k. below_all m (after_turn part) (after_turn other) n (omega (arith, size, after_turn-shorter_by_one part)) h k) (extended_turn part n) less room
 
 -- and below each part above it that has no more bytes than tildes were put
 pub part_below : (part other : List ℕ) (n : ℕ) → part_cmp part other ≡ Less → length other ≤ n → part_cmp (extended part n) other ≡ Less
@@ -356,7 +383,8 @@ extended-made : (revision : List ℕ) (n : ℕ) → list_all is_revision_byte re
 extended-made revision n all = (omega (arith, extension-some revision n, length-append revision (extension revision n)), bytes-all revision n all)
 
 -- the revision, with its hyphen, and what is put behind it
-extended_text : (revision : Option (List ℕ)) (n : ℕ) → revision_text revision ++ (missing_hyphen revision ++ extension (unwrap_or revision []) n) ≡ revision_text (Some (extended (unwrap_or revision []) n))
+extended_text : (revision : Option (List ℕ)) (n : ℕ) → revision_text revision ++ (missing_hyphen revision ++ extension (unwrap_or revision []) n)
+    ≡ revision_text (Some (extended (unwrap_or revision []) n))
 extended_text None n = refl
 extended_text (Some revision) n = refl
 
@@ -375,7 +403,8 @@ above_spells text n sound =
     let tail : List ℕ = missing_hyphen r ++ extension (unwrap_or r []) n in
     record {
       front = s.front;
-      whole = ap (λ (w : List ℕ). w ++ tail) s.whole ∙ append_assoc (s.front ++ upstream_of text) (revision_text r) tail ∙ ap (λ (w : List ℕ). (s.front ++ upstream_of text) ++ w) (extended_text r n);
+      whole = ap (λ (w : List ℕ). w ++ tail) s.whole ∙ append_assoc (s.front ++ upstream_of text) (revision_text r) tail
+          ∙ ap (λ (w : List ℕ). (s.front ++ upstream_of text) ++ w) (extended_text r n);
       epoch = s.epoch;
       small = s.small;
       upstream = s.upstream;
@@ -402,8 +431,12 @@ pub above : (text : List ℕ) (n : ℕ) → fault_of text ≡ None → IsBelow t
 above text n sound =
     let e = above_parts_are text n sound in
     let r : List ℕ = unwrap_or (revision_of text) [] in
-    let revision : part_cmp r (unwrap_or (revision_of (above_text text n)) []) ≡ Less = ap (λ (p : Parts). part_cmp r (unwrap_or p.revision [])) (sym e) ∙ part_above r n in
-    version_cmp-parts text (above_text text n) ∙ rw (same_epochs text (above_text text n) (ap (λ (p : Parts). p.epoch) e), part-itself (upstream_of text) (upstream_of (above_text text n)) (ap (λ (p : Parts). p.upstream) e)) revision
+    let revision : part_cmp r (unwrap_or (revision_of (above_text text n)) []) ≡ Less = ap (λ (p : Parts). part_cmp r (unwrap_or p.revision [])) (sym e)
+    ∙ part_above r n in
+    version_cmp-parts text (above_text text n) ∙ rw (
+      same_epochs text (above_text text n) (ap (λ (p : Parts). p.epoch) e),
+      part-itself (upstream_of text) (upstream_of (above_text text n)) (ap (λ (p : Parts). p.upstream) e),
+    ) revision
 
 length-revision : (other : List ℕ) → length (unwrap_or (revision_of other) []) ≤ length other
 length-revision other = omega (arith, room other, revision_size (revision_of other))
@@ -413,7 +446,8 @@ below_greater text other n sound less size =
     let e = above_parts_are text n sound in
     let r : List ℕ = unwrap_or (revision_of text) [] in
     let s : List ℕ = unwrap_or (revision_of other) [] in
-    let order : Parts → Ordering = λ p. ordering_then (nat_cmp p.epoch (epoch_of other)) (ordering_then (part_cmp p.upstream (upstream_of other)) (part_cmp (unwrap_or p.revision []) s)) in
+    let order : Parts → Ordering = λ p. ordering_then (nat_cmp p.epoch (epoch_of other))
+    (ordering_then (part_cmp p.upstream (upstream_of other)) (part_cmp (unwrap_or p.revision []) s)) in
     version_cmp-parts (above_text text n) other ∙ ap order (sym e)
     ∙ then_keeps (nat_cmp (epoch_of text) (epoch_of other)) (part_cmp (upstream_of text) (upstream_of other)) (part_cmp r s) (part_cmp (extended r n) s)
     (λ h. part_below r s n h (omega (arith, size, length-revision other))) (sym (version_cmp-parts text other) ∙ less)
@@ -461,7 +495,8 @@ least_epoch (suc n) o e = then_less (nat_cmp 0 (suc n)) o (nat_cmp-less 0 (suc n
 pub below_is_below : (text : List ℕ) → IsBelow (below_text text) text
 below_is_below text =
     let e = below_parts_are text in
-    let order : Parts → Ordering = λ p. ordering_then (nat_cmp p.epoch (epoch_of text)) (ordering_then (part_cmp p.upstream (upstream_of text)) (part_cmp (unwrap_or p.revision []) (unwrap_or (revision_of text) []))) in
+    let order : Parts → Ordering = λ p. ordering_then (nat_cmp p.epoch (epoch_of text))
+    (ordering_then (part_cmp p.upstream (upstream_of text)) (part_cmp (unwrap_or p.revision []) (unwrap_or (revision_of text) []))) in
     version_cmp-parts (below_text text) text ∙ ap order (sym e)
     ∙ least_epoch (epoch_of text) _ (then_less _ _ (tildes_part_less (length text + 1) (upstream_of text) (omega (arith, length-upstream text))))
 
@@ -475,14 +510,17 @@ below_keeps text below n is size =
       epoch = ap epoch_of is ∙ sym (ap (λ (p : Parts). p.epoch) e);
       ordered = omega arith;
       within = omega (arith, size);
-      upstream = ap upstream_of is ∙ sym (ap (λ (p : Parts). p.upstream) e) ∙ sym is ∙ sym (ap (λ m. take m below) (let whole : n - 0 ≡ length below = omega (arith, size) in whole) ∙ take-length below);
-      revision = ap revision_of is ∙ sym (ap (λ (p : Parts). p.revision) e) ∙ sym (ap (λ b. cond b (Some (drop (n + 1) below)) None) (le-ltb n (length below) (omega (arith, size))));
+      upstream = ap upstream_of is ∙ sym (ap (λ (p : Parts). p.upstream) e) ∙ sym is
+          ∙ sym (ap (λ m. take m below) (let whole : n - 0 ≡ length below = omega (arith, size) in whole) ∙ take-length below);
+      revision = ap revision_of is ∙ sym (ap (λ (p : Parts). p.revision) e)
+          ∙ sym (ap (λ b. cond b (Some (drop (n + 1) below)) None) (le-ltb n (length below) (omega (arith, size))));
     }
 
 some_none : {A : Type 0} (x : A) → Some x ≡ None → ⊥
 some_none x e = cc
 
-above_revision : (text tail : List ℕ) (end : ℕ) (r : Option (List ℕ)) (n : ℕ) → end ≤ length text → tail ≡ missing_hyphen r ++ extension (unwrap_or r []) n → r ≡ cond (nat_lt end (length text)) (Some (drop (end + 1) text)) None
+above_revision : (text tail : List ℕ) (end : ℕ) (r : Option (List ℕ)) (n : ℕ) → end ≤ length text → tail ≡ missing_hyphen r ++ extension (unwrap_or r []) n
+    → r ≡ cond (nat_lt end (length text)) (Some (drop (end + 1) text)) None
     → Some (extended (unwrap_or r []) n) ≡ cond (nat_lt end (length (text ++ tail))) (Some (drop (end + 1) (text ++ tail))) None
 above_revision text tail end None n within is e = elim (cases_Bool (nat_lt end (length text))) [
   | inl here ↦ absurd (some_none (drop (end + 1) text) (sym (e ∙ cond-true (nat_lt end (length text)) (Some (drop (end + 1) text)) None here)))
@@ -492,20 +530,26 @@ above_revision text tail end None n within is e = elim (cases_Bool (nat_lt end (
       let cut : text ++ tail ≡ before ++ extension [] n = ap (λ (s : List ℕ). text ++ s) is ∙ sym (append_assoc text (hyphen ∷ []) (extension [] n)) in
       let size : length before ≡ end + 1 = omega (arith, all, length-append text (hyphen ∷ [])) in
       let after : drop (end + 1) (text ++ tail) ≡ extension [] n = ap (drop (end + 1)) cut ∙ drop_at before (extension [] n) (end + 1) size in
-      sym (cond-true (nat_lt end (length (text ++ tail))) (Some (drop (end + 1) (text ++ tail))) None (lt-ltb end (length (text ++ tail)) (omega (arith, all, ap length cut, length-append before (extension [] n), size))) ∙ ap (λ (s : List ℕ). Some s) after)
+      sym (cond-true (nat_lt end (length (text ++ tail))) (Some (drop (end + 1) (text ++ tail))) None
+      (lt-ltb end (length (text ++ tail)) (omega (arith, all, ap length cut, length-append before (extension [] n), size)))
+      ∙ ap (λ (s : List ℕ). Some s) after)
 ]
 above_revision text tail end (Some r) n within is e = elim (cases_Bool (nat_lt end (length text))) [
   | inr there ↦ absurd (some_none r (e ∙ cond-false (nat_lt end (length text)) (Some (drop (end + 1) text)) None there))
   | inl here ↦
       let inside : end < length text = ltb-true end (length text) here in
       let same : r ≡ drop (end + 1) text = let f = e ∙ cond-true (nat_lt end (length text)) (Some (drop (end + 1) text)) None here in cc in
-      let after : drop (end + 1) (text ++ tail) ≡ r ++ tail = drop-append-le (end + 1) text tail (omega (arith, inside)) ∙ ap (λ (s : List ℕ). s ++ tail) (sym same) in
-      sym (cond-true (nat_lt end (length (text ++ tail))) (Some (drop (end + 1) (text ++ tail))) None (lt-ltb end (length (text ++ tail)) (omega (arith, inside, length-append text tail))) ∙ ap (λ (s : List ℕ). Some s) (after ∙ ap (λ (s : List ℕ). r ++ s) is))
+      let after : drop (end + 1) (text ++ tail) ≡ r ++ tail = drop-append-le (end + 1) text tail (omega (arith, inside))
+      ∙ ap (λ (s : List ℕ). s ++ tail) (sym same) in
+      sym (cond-true (nat_lt end (length (text ++ tail))) (Some (drop (end + 1) (text ++ tail))) None
+      (lt-ltb end (length (text ++ tail)) (omega (arith, inside, length-append text tail)))
+      ∙ ap (λ (s : List ℕ). Some s) (after ∙ ap (λ (s : List ℕ). r ++ s) is))
 ]
 
 slice_range-front : (text tail : List ℕ) (start end : ℕ) → start ≤ end → end ≤ length text → slice_range (text ++ tail) start end ≡ slice_range text start end
 slice_range-front text tail start end ordered within =
-    ap (take (end - start)) (drop-append-le start text tail (omega (arith, ordered, within))) ∙ take-append-le (end - start) (drop start text) tail (omega (arith, within, length-drop start text))
+    ap (take (end - start)) (drop-append-le start text tail (omega (arith, ordered, within)))
+    ∙ take-append-le (end - start) (drop start text) tail (omega (arith, within, length-drop start text))
 
 pub above_keeps : (text above : List ℕ) (n epoch start end : ℕ) → above ≡ above_text text n → Keeps text epoch start end → Keeps above epoch start end
 unfolding above_text
@@ -518,8 +562,10 @@ above_keeps text above n epoch start end is k =
       epoch = ap epoch_of is ∙ sym (ap (λ (p : Parts). p.epoch) e) ∙ k.epoch;
       ordered = k.ordered;
       within = omega (arith, size, k.within);
-      upstream = ap upstream_of is ∙ sym (ap (λ (p : Parts). p.upstream) e) ∙ k.upstream ∙ sym (ap (λ (s : List ℕ). slice_range s start end) is ∙ slice_range-front text tail start end k.ordered k.within);
-      revision = ap revision_of is ∙ sym (ap (λ (p : Parts). p.revision) e) ∙ above_revision text tail end (revision_of text) n k.within refl k.revision ∙ sym (ap (λ (s : List ℕ). cond (nat_lt end (length s)) (Some (drop (end + 1) s)) None) is);
+      upstream = ap upstream_of is ∙ sym (ap (λ (p : Parts). p.upstream) e) ∙ k.upstream
+          ∙ sym (ap (λ (s : List ℕ). slice_range s start end) is ∙ slice_range-front text tail start end k.ordered k.within);
+      revision = ap revision_of is ∙ sym (ap (λ (p : Parts). p.revision) e) ∙ above_revision text tail end (revision_of text) n k.within refl k.revision
+          ∙ sym (ap (λ (s : List ℕ). cond (nat_lt end (length s)) (Some (drop (end + 1) s)) None) is);
     }
 
 -- ---- what the code puts together
@@ -534,11 +580,13 @@ above_text-none text n e = rw e (append_assoc text (hyphen ∷ []) (extension []
 
 -- ---- a rebuild's suffix, by what the code finds of it
 
-pub rebuilt-base : (text base suffix : List ℕ) → rsplit_once plus text ≡ Some (base, suffix) → is_rebuild suffix ≡ true → fault_of base ≡ None → without_rebuild_text text ≡ base
+pub rebuilt-base : (text base suffix : List ℕ) → rsplit_once plus text ≡ Some (base, suffix) → is_rebuild suffix ≡ true → fault_of base ≡ None
+    → without_rebuild_text text ≡ base
 unfolding without_rebuild_text
 rebuilt-base text base suffix cut rebuild sound = rw (cut, rebuild, sound) refl
 
-pub rebuilt-fault : (text base suffix : List ℕ) (fault : VersionError) → rsplit_once plus text ≡ Some (base, suffix) → fault_of base ≡ Some fault → without_rebuild_text text ≡ text
+pub rebuilt-fault : (text base suffix : List ℕ) (fault : VersionError) → rsplit_once plus text ≡ Some (base, suffix) → fault_of base ≡ Some fault
+    → without_rebuild_text text ≡ text
 unfolding without_rebuild_text
 rebuilt-fault text base suffix fault cut bad = rw (cut, bad) (kept (is_rebuild suffix))
   where
@@ -574,17 +622,21 @@ rebuild_parts (b ∷ d ∷ ds) h =
 abbrev Untouched : List ℕ → Type 0
 Untouched text = (without_rebuild_text text ≡ text) ⊎ IsRebuildOf text (without_rebuild_text text)
 
-rebuild_of : (text base suffix : List ℕ) → rsplit_once plus text ≡ Some (base, suffix) → text ≡ base ++ plus ∷ suffix → is_rebuild suffix ≡ true → fault_of base ≡ None → IsRebuildOf text base
+rebuild_of : (text base suffix : List ℕ) → rsplit_once plus text ≡ Some (base, suffix) → text ≡ base ++ plus ∷ suffix → is_rebuild suffix ≡ true
+    → fault_of base ≡ None → IsRebuildOf text base
 rebuild_of text base suffix cut whole rebuild sound =
     let r = rebuild_parts suffix rebuild in
     record { digits = r.0; whole = whole ∙ ap (λ (s : List ℕ). base ++ plus ∷ s) r.1; made = r.2; version = version_from_no_fault base sound }
 
-untouched_by : (text base suffix : List ℕ) → rsplit_once plus text ≡ Some (base, suffix) → text ≡ base ++ plus ∷ suffix → (fault : Option VersionError) → fault_of base ≡ fault → (b : Bool) → is_rebuild suffix ≡ b → Untouched text
+untouched_by : (text base suffix : List ℕ) → rsplit_once plus text ≡ Some (base, suffix) → text ≡ base ++ plus ∷ suffix → (fault : Option VersionError)
+    → fault_of base ≡ fault → (b : Bool) → is_rebuild suffix ≡ b → Untouched text
 untouched_by text base suffix cut whole fault is false other = inl (rebuilt-other text base suffix cut other)
 untouched_by text base suffix cut whole (Some fault) is true rebuild = inl (rebuilt-fault text base suffix fault cut is)
-untouched_by text base suffix cut whole None is true rebuild = inr (subst (IsRebuildOf text) (sym (rebuilt-base text base suffix cut rebuild is)) (rebuild_of text base suffix cut whole rebuild is))
+untouched_by text base suffix cut whole None is true rebuild =
+    inr (subst (IsRebuildOf text) (sym (rebuilt-base text base suffix cut rebuild is)) (rebuild_of text base suffix cut whole rebuild is))
 
-untouched_at : (text : List ℕ) (o : Option (List ℕ × List ℕ)) → rsplit_once plus text ≡ o → MatchOption o (has plus text ≡ false) (CutsLast plus text) → Untouched text
+untouched_at : (text : List ℕ) (o : Option (List ℕ × List ℕ)) → rsplit_once plus text ≡ o → MatchOption o (has plus text ≡ false) (CutsLast plus text)
+    → Untouched text
 untouched_at text None cut found = inl (rebuilt-none text cut)
 untouched_at text (Some s) cut found = untouched_by text s.0 s.1 cut found.0 (fault_of s.0) refl (is_rebuild s.1) refl
 

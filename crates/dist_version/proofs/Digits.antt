@@ -1,5 +1,6 @@
 -- The numbers that digits write: how they grow, and how they compare.
-use Rattle.std.proofs.Common.{◌≡◌, ◌≢◌, ℕ, zero, suc, ◌+◌, ◌-◌, ◌*◌, ◌<◌, ◌≤◌, Bool, true, false, List, [], ◌∷◌, ◌++◌, length, get_or, take, drop, take-append-drop, nat_cmp, ◌==◌, eqb-true, one-add, inl, inr, refl, sym, ap, ap₂, ◌∙◌, arith, le_trans, lt_of_lt_of_le}
+use Rattle.std.proofs.Common.{◌≡◌, ◌≢◌, ℕ, zero, suc, ◌+◌, ◌-◌, ◌*◌, ◌<◌, ◌≤◌, Bool, true, false, List, [], ◌∷◌, ◌++◌, length, get_or, take, drop}
+use Rattle.std.proofs.Common.{take-append-drop, nat_cmp, ◌==◌, eqb-true, one-add, inl, inr, refl, sym, ap, ap₂, ◌∙◌, arith, le_trans, lt_of_lt_of_le}
 use Rattle.std.specs.Char.{is_ascii_digit, digit_value}
 use Rattle.std.specs.Cmp.Lexicographic.{slice_cmp}
 use Rattle.std.specs.List.{list_all, prefix_len}
@@ -35,7 +36,8 @@ value_of_start ds i =
     rw e (value_grows (digits_value 10 (take i ds)) (drop i ds))
 
 -- one more digit
-pub value_more : (ds : List ℕ) (i : ℕ) → list_all is_ascii_digit ds ≡ true → i < length ds → digits_value 10 (take (i + 1) ds) ≡ digits_value 10 (take i ds) * 10 + (get_or ds i 0 - 48)
+pub value_more : (ds : List ℕ) (i : ℕ) → list_all is_ascii_digit ds ≡ true → i < length ds
+    → digits_value 10 (take (i + 1) ds) ≡ digits_value 10 (take i ds) * 10 + (get_or ds i 0 - 48)
 value_more ds i all h =
     digits_value_more 10 ds i h ∙ ap (λ d. digits_value 10 (take i ds) * 10 + d) (digit_byte (get_or ds i 0) (list_all-at is_ascii_digit ds i all h)).2
 
@@ -90,7 +92,8 @@ step_cmp n m p q x y a b e f = elim (cases_order n m) [
   ]
 ]
 
-digit_cmp : (n m x y : ℕ) → is_ascii_digit x ≡ true → is_ascii_digit y ≡ true → nat_cmp (n * 10 + digit_value x) (m * 10 + digit_value y) ≡ ordering_then (nat_cmp n m) (nat_cmp x y)
+digit_cmp : (n m x y : ℕ) → is_ascii_digit x ≡ true → is_ascii_digit y ≡ true
+    → nat_cmp (n * 10 + digit_value x) (m * 10 + digit_value y) ≡ ordering_then (nat_cmp n m) (nat_cmp x y)
 digit_cmp n m x y a b =
     let d = digit_byte x a in
     let e = digit_byte y b in
@@ -119,7 +122,8 @@ ahead (x ∷ xs) (y ∷ ys) n m all h less =
     let d = digit_byte x p.0 in
     ahead xs ys (n * 10 + digit_value x) (m * 10 + digit_value y) p.1 (omega (arith, h)) (omega (arith, d.0, d.1, d.2, less))
 
-shorter_is_less : (xs ys : List ℕ) → list_all is_ascii_digit xs ≡ true → list_all is_ascii_digit ys ≡ true → HasNoZero ys → length xs < length ys → digits_value 10 xs < digits_value 10 ys
+shorter_is_less : (xs ys : List ℕ) → list_all is_ascii_digit xs ≡ true → list_all is_ascii_digit ys ≡ true → HasNoZero ys → length xs < length ys
+    → digits_value 10 xs < digits_value 10 ys
 shorter_is_less xs [] a b first h = absurd (omega arith)
 shorter_is_less xs (y ∷ ys) a b first h =
     let d = digit_byte y (and_parts (is_ascii_digit y) (list_all is_ascii_digit ys) b).0 in
@@ -132,7 +136,8 @@ digits_cmp xs ys a b f g = elim (cases_order (length xs) (length ys)) [
   | inl same ↦ rw (nat_cmp-same (length xs) (length ys) same) (same_length_cmp xs ys 0 0 a b same)
   | inr apart ↦ elim apart [
     | inl less ↦ rw (nat_cmp-less (length xs) (length ys) less) (nat_cmp-less (digits_value 10 xs) (digits_value 10 ys) (shorter_is_less xs ys a b g less))
-    | inr more ↦ rw (nat_cmp-greater (length xs) (length ys) more) (nat_cmp-greater (digits_value 10 xs) (digits_value 10 ys) (shorter_is_less ys xs b a f more))
+    | inr more ↦ rw (nat_cmp-greater (length xs) (length ys) more)
+        (nat_cmp-greater (digits_value 10 xs) (digits_value 10 ys) (shorter_is_less ys xs b a f more))
   ]
 ]
 
@@ -140,5 +145,6 @@ digits_cmp xs ys a b f g = elim (cases_order (length xs) (length ys)) [
 pub trimmed_cmp : (a b xs ys : List ℕ) → list_all is_ascii_digit a ≡ true → list_all is_ascii_digit b ≡ true → xs ≡ without_zeros a → ys ≡ without_zeros b →
     ordering_then (nat_cmp (length xs) (length ys)) (slice_cmp nat_cmp xs ys) ≡ nat_cmp (digits_value 10 a) (digits_value 10 b)
 trimmed_cmp a b xs ys all all' e f =
-    rw (e, f) (sym (digits_cmp (without_zeros a) (without_zeros b) (without_zeros-all a all) (without_zeros-all b all') (without_zeros-first a) (without_zeros-first b))
+    rw (e, f) (sym (digits_cmp (without_zeros a) (without_zeros b) (without_zeros-all a all) (without_zeros-all b all') (without_zeros-first a)
+    (without_zeros-first b))
     ∙ ap₂ nat_cmp (without_zeros-value a) (without_zeros-value b))

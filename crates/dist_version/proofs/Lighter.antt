@@ -36,7 +36,8 @@ length-tail [] = refl
 length-tail (x ∷ xs) = omega arith
 
 -- one place further on
-further_before : (xs ys : List ℤ) (place k : ℕ) → weight_at xs 0 ≡ weight_at ys 0 → ((k : ℕ) → k < place → weight_at (tail xs) k ≡ weight_at (tail ys) k) → k < suc place → weight_at xs k ≡ weight_at ys k
+further_before : (xs ys : List ℤ) (place k : ℕ) → weight_at xs 0 ≡ weight_at ys 0 → ((k : ℕ) → k < place → weight_at (tail xs) k ≡ weight_at (tail ys) k)
+    → k < suc place → weight_at xs k ≡ weight_at ys k
 further_before xs ys place zero same before h = same
 further_before xs ys place (suc k) same before h = sym (at_tail xs k) ∙ before k (omega arith) ∙ at_tail ys k
 
@@ -60,11 +61,14 @@ lighter_from_less (suc n) xs ys size e =
     (λ f p. further xs ys p (lighter_from_less n (tail xs) (tail ys) (omega (arith, size, length-tail xs, length-tail ys)) (rw f at heads)))
     (λ f p. let g = rw f at heads in cc)
 
-less_from_lighter : (place : ℕ) (xs ys : List ℤ) → ((k : ℕ) → k < place → weight_at xs k ≡ weight_at ys k) → weight_at xs place <ℤ weight_at ys place → weights_cmp xs ys ≡ Less
-less_from_lighter zero xs ys before less = by_heads xs ys ∙ ap (λ o. ordering_then o (weights_cmp (tail xs) (tail ys))) (int_cmp-less (weight_at xs 0) (weight_at ys 0) less)
+less_from_lighter : (place : ℕ) (xs ys : List ℤ) → ((k : ℕ) → k < place → weight_at xs k ≡ weight_at ys k) → weight_at xs place <ℤ weight_at ys place
+    → weights_cmp xs ys ≡ Less
+less_from_lighter zero xs ys before less = by_heads xs ys
+    ∙ ap (λ o. ordering_then o (weights_cmp (tail xs) (tail ys))) (int_cmp-less (weight_at xs 0) (weight_at ys 0) less)
 less_from_lighter (suc place) xs ys before less =
     by_heads xs ys ∙ ap (λ o. ordering_then o (weights_cmp (tail xs) (tail ys))) (int_cmp-same (weight_at xs 0) (weight_at ys 0) (before 0 (omega arith)))
-    ∙ less_from_lighter place (tail xs) (tail ys) (λ k p. at_tail xs k ∙ before (suc k) (omega arith) ∙ sym (at_tail ys k)) (rw (at_tail xs place, at_tail ys place) less)
+    ∙ less_from_lighter place (tail xs) (tail ys) (λ k p. at_tail xs k ∙ before (suc k) (omega arith) ∙ sym (at_tail ys k))
+    (rw (at_tail xs place, at_tail ys place) less)
 
 pub lighter_parts : (a b : List ℕ) → (part_cmp a b ≡ Less) ↔ IsLighter (weights_of a) (weights_of b)
 unfolding part_cmp

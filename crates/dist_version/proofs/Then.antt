@@ -1,5 +1,6 @@
 -- Answers of comparisons, one after another, and what `nat_cmp` answers.
-use Rattle.std.proofs.Common.{◌≡◌, ℕ, ◌<◌, Ordering, Less, Equal, Greater, nat_cmp, true, false, true≢false, lt-ltb, le-ltb, eq-eqb, ne_eqb, ◌==◌, refl, sym, arith}
+use Rattle.std.proofs.Common.{◌≡◌, ℕ, ◌<◌, Ordering, Less, Equal, Greater, nat_cmp, true, false, true≢false, lt-ltb, le-ltb, eq-eqb, ne_eqb, ◌==◌, refl, sym}
+use Rattle.std.proofs.Common.{arith}
 use Rattle.std.specs.Ordering.{ordering_then, is_ne}
 
 pub then_assoc : (o p q : Ordering) → ordering_then o (ordering_then p q) ≡ ordering_then (ordering_then o p) q

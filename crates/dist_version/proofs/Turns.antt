@@ -1,5 +1,7 @@
 -- The order of two parts, turn by turn.
-use Rattle.std.proofs.Common.{◌≡◌, ◌≢◌, ℕ, zero, suc, ◌+◌, ◌-◌, ◌<◌, ◌≤◌, add-zero, add-suc, add-one, one-add, true≢false, Bool, true, false, not, ◌==◌, List, [], ◌∷◌, ◌++◌, length, map, take, drop, length-take, length-drop, ℤ, pos, Ordering, Less, Equal, Greater, int_cmp, nat_cmp, refl, sym, ap, ◌∙◌, inl, inr, arith}
+use Rattle.std.proofs.Common.{◌≡◌, ◌≢◌, ℕ, zero, suc, ◌+◌, ◌-◌, ◌<◌, ◌≤◌, add-zero, add-suc, add-one, one-add, true≢false, Bool, true, false, not, ◌==◌, List}
+use Rattle.std.proofs.Common.{[], ◌∷◌, ◌++◌, length, map, take, drop, length-take, length-drop, ℤ, pos, Ordering, Less, Equal, Greater, int_cmp, nat_cmp, refl}
+use Rattle.std.proofs.Common.{sym, ap, ◌∙◌, inl, inr, arith}
 use Rattle.std.specs.Char.{is_ascii_digit, is_ascii_alphabetic}
 use Rattle.std.specs.List.{prefix_len, list_all}
 use Rattle.std.specs.Ordering.{ordering_then, ordering_reverse}
@@ -29,7 +31,8 @@ drop-nil : {A : Type 0} (i : ℕ) → drop {A = A} i [] ≡ []
 drop-nil zero = refl
 drop-nil (suc i) = refl
 
-weights_cmp-drop_suc : (xs ys : List ℤ) (i : ℕ) → weights_cmp (drop i xs) (drop i ys) ≡ ordering_then (int_cmp (weight_at xs i) (weight_at ys i)) (weights_cmp (drop (suc i) xs) (drop (suc i) ys))
+weights_cmp-drop_suc : (xs ys : List ℤ) (i : ℕ) → weights_cmp (drop i xs) (drop i ys)
+    ≡ ordering_then (int_cmp (weight_at xs i) (weight_at ys i)) (weights_cmp (drop (suc i) xs) (drop (suc i) ys))
 weights_cmp-drop_suc [] [] zero = refl
 weights_cmp-drop_suc [] (y ∷ ys) zero = refl
 weights_cmp-drop_suc (x ∷ xs) [] zero = refl
@@ -39,7 +42,8 @@ weights_cmp-drop_suc [] (y ∷ ys) (suc i) = rw drop-nil at (weights_cmp-drop_su
 weights_cmp-drop_suc (x ∷ xs) [] (suc i) = rw drop-nil at (weights_cmp-drop_suc xs [] i)
 weights_cmp-drop_suc (x ∷ xs) (y ∷ ys) (suc i) = weights_cmp-drop_suc xs ys i
 
-pub weights_cmp-drop : (xs ys : List ℤ) (i : ℕ) → weights_cmp (drop i xs) (drop i ys) ≡ ordering_then (int_cmp (weight_at xs i) (weight_at ys i)) (weights_cmp (drop (i + 1) xs) (drop (i + 1) ys))
+pub weights_cmp-drop : (xs ys : List ℤ) (i : ℕ) → weights_cmp (drop i xs) (drop i ys)
+    ≡ ordering_then (int_cmp (weight_at xs i) (weight_at ys i)) (weights_cmp (drop (i + 1) xs) (drop (i + 1) ys))
 weights_cmp-drop xs ys i = rw add-one (weights_cmp-drop_suc xs ys i)
 
 pub weights_cmp-past : (xs ys : List ℤ) (i : ℕ) → length xs ≤ i → length ys ≤ i → weights_cmp (drop i xs) (drop i ys) ≡ Equal
@@ -74,7 +78,8 @@ after_turn_shorter x xs =
     let part = x ∷ xs in
     let other : ℕ → Bool = λ b. not (is_ascii_digit b) in
     let first : length (after_text part) ≡ length part - length (text_start part) = length-drop (length (text_start part)) part in
-    let second : length (after_turn part) ≡ length (after_text part) - length (digit_start (after_text part)) = length-drop (length (digit_start (after_text part))) (after_text part) in
+    let second : length (after_turn part) ≡ length (after_text part) - length (digit_start (after_text part)) =
+    length-drop (length (digit_start (after_text part))) (after_text part) in
     elim (cases_Bool (is_ascii_digit x)) [
       | inl digit ↦
           let none : length (text_start part) ≡ 0 = length-taken other part ∙ starts_not_by other x xs (rw digit refl) in
@@ -164,7 +169,8 @@ by_texts (x ∷ s) (y ∷ t) m n xs ys =
 alike_right : (xs ys : List ℤ) → Alike xs ys → (zs : List ℤ) → weights_cmp zs xs ≡ weights_cmp zs ys
 alike_right xs ys h zs = weights_total.antisymm zs xs ∙ ap ordering_reverse (h zs) ∙ sym (weights_total.antisymm zs ys)
 
-pub part_cmp-turn : (a b : List ℕ) → part_cmp a b ≡ ordering_then (weights_cmp (text_weights a) (text_weights b)) (ordering_then (nat_cmp (number_of a) (number_of b)) (part_cmp (after_turn a) (after_turn b)))
+pub part_cmp-turn : (a b : List ℕ) → part_cmp a b ≡ ordering_then (weights_cmp (text_weights a) (text_weights b))
+    (ordering_then (nat_cmp (number_of a) (number_of b)) (part_cmp (after_turn a) (after_turn b)))
 unfolding part_cmp
 part_cmp-turn a b =
     first_turn a (weights_of b)
@@ -190,10 +196,13 @@ after_turn-shorter_by_one [] = omega arith
 after_turn-shorter_by_one (x ∷ xs) = omega (arith, after_turn_shorter x xs)
 
 -- one turn, by what the code has found of it
-pub part_cmp-step : (a b s t d e : List ℕ) (order : Ordering) → s ≡ text_start a → t ≡ text_start b → d ≡ digit_start (after_text a) → e ≡ digit_start (after_text b) →
-    order ≡ ordering_then (weights_cmp (map weight_of s) (map weight_of t)) (nat_cmp (digits_value 10 d) (digits_value 10 e)) → part_cmp a b ≡ ordering_then order (part_cmp (after_turn a) (after_turn b))
+pub part_cmp-step : (a b s t d e : List ℕ) (order : Ordering) → s ≡ text_start a → t ≡ text_start b → d ≡ digit_start (after_text a)
+    → e ≡ digit_start (after_text b) →
+    order ≡ ordering_then (weights_cmp (map weight_of s) (map weight_of t)) (nat_cmp (digits_value 10 d) (digits_value 10 e))
+    → part_cmp a b ≡ ordering_then order (part_cmp (after_turn a) (after_turn b))
 part_cmp-step a b s t d e order f g h k is =
-    rw (is, f, g, h, k) (part_cmp-turn a b ∙ then_assoc (weights_cmp (text_weights a) (text_weights b)) (nat_cmp (number_of a) (number_of b)) (part_cmp (after_turn a) (after_turn b)))
+    rw (is, f, g, h, k) (part_cmp-turn a b ∙ then_assoc (weights_cmp (text_weights a) (text_weights b)) (nat_cmp (number_of a) (number_of b))
+    (part_cmp (after_turn a) (after_turn b)))
 
 pub part_cmp-ended : (a b : List ℕ) → length a ≡ 0 → length b ≡ 0 → Equal ≡ part_cmp a b
 part_cmp-ended [] [] h k = sym part_cmp-empty

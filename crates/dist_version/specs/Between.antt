@@ -1,5 +1,7 @@
--- Invented versions, this project's own rule: one just above a version, and one below it. And the suffix that a rebuild of a binary package adds to its version.
-use Rattle.std.specs.Prelude.{◌≡◌, ℕ, ◌+◌, Bool, false, ◌&&◌, ◌==◌, List, [], ◌∷◌, ◌++◌, length, replicate, Option, None, Some, codes, is_none, if◌then◌else◌}
+-- Invented versions, this project's own rule: one just above a version, and one below it. And the suffix that a rebuild
+-- of a binary package adds to its version.
+use Rattle.std.specs.Prelude.{◌≡◌, ℕ, ◌+◌, Bool, false, ◌&&◌, ◌==◌, List, [], ◌∷◌, ◌++◌, length, replicate, Option}
+use Rattle.std.specs.Prelude.{None, Some, codes, is_none, if◌then◌else◌}
 use Rattle.std.specs.Char.{is_ascii_digit}
 use Rattle.std.specs.List.{list_all}
 use Rattle.std.specs.Option.{unwrap_or}
@@ -23,7 +25,8 @@ missing_hyphen (Some revision) = []
 
 -- the text just above another one: the same with its revision extended
 unfoldable pub above_text : List ℕ → ℕ → List ℕ
-above_text text tildes = text ++ (missing_hyphen (revision_of text) ++ extension (unwrap_or (revision_of text) []) tildes)
+above_text text tildes = text ++ (missing_hyphen (revision_of text)
+    ++ extension (unwrap_or (revision_of text) []) tildes)
 
 -- the text below another one: as many tildes as it has bytes, and one more
 abbrev pub below_text : List ℕ → List ℕ

@@ -8,7 +8,8 @@ use Rattle.dist_version.specs.Between.{above_text, below_text, without_rebuild_t
 use Rattle.dist_version.specs.Order.{weights_of, part_cmp, version_cmp}
 
 -- the epoch ends at the first colon, and the revision starts after the last hyphen
-parts_example : parts_of (codes "2:1:0-1-3") ≡ record { epoch = 2; upstream = codes "1:0-1"; revision = Some (codes "3") }
+parts_example : parts_of (codes "2:1:0-1-3")
+    ≡ record { epoch = 2; upstream = codes "1:0-1"; revision = Some (codes "3") }
 unfolding epoch_of epoch_digits after_epoch upstream_of revision_of
 parts_example = refl
 

@@ -1,13 +1,16 @@
 -- Why a text spells no version: its faults, in the order in which they count. The first one decides.
-use Rattle.std.specs.Prelude.{◌≡◌, ℕ, ◌+◌, ◌-◌, Bool, not, nat_lt, List, [], ◌∷◌, length, Option, None, Some, if◌then◌else◌}
+use Rattle.std.specs.Prelude.{◌≡◌, ℕ, ◌+◌, ◌-◌, Bool, not, nat_lt, List, [], ◌∷◌, length, Option, None, Some}
+use Rattle.std.specs.Prelude.{if◌then◌else◌}
 use Rattle.std.specs.Char.{is_ascii_digit}
 use Rattle.std.specs.List.{list_all, position_from}
 use Rattle.std.specs.Option.{option_map, option_map_or, option_or, unwrap_or}
 use Rattle.std.specs.Str.Parse.{digits_value}
 use Rattle.dist_version.specs.declared.error.VersionError.{VersionError}
-use Rattle.dist_version.specs.declared.error.VersionError.TheVariants.{Empty, BadEpoch, EpochTooLarge, EmptyUpstream, EmptyRevision, BadByte}
+use Rattle.dist_version.specs.declared.error.VersionError.TheVariants.{Empty, BadEpoch, EpochTooLarge, EmptyUpstream}
+use Rattle.dist_version.specs.declared.error.VersionError.TheVariants.{EmptyRevision, BadByte}
 use Rattle.dist_version.specs.declared.TheConstants.{MAX_EPOCH}
-use Rattle.dist_version.specs.Spelling.{is_upstream_byte, is_revision_byte, epoch_digits, after_epoch, upstream_of, revision_of}
+use Rattle.dist_version.specs.Spelling.{is_upstream_byte, is_revision_byte, epoch_digits, after_epoch, upstream_of}
+use Rattle.dist_version.specs.Spelling.{revision_of}
 
 -- no byte at all
 abbrev pub empty_fault : List ℕ → Option VersionError
@@ -18,7 +21,8 @@ empty_fault (b ∷ bs) = None
 abbrev pub epoch_fault : List ℕ → Option VersionError
 epoch_fault [] = Some BadEpoch
 epoch_fault (d ∷ ds) =
-    if not (list_all is_ascii_digit (d ∷ ds)) then Some BadEpoch else if nat_lt MAX_EPOCH (digits_value 10 (d ∷ ds)) then Some EpochTooLarge else None
+    if not (list_all is_ascii_digit (d ∷ ds)) then Some BadEpoch else if nat_lt MAX_EPOCH (digits_value 10 (d ∷ ds))
+    then Some EpochTooLarge else None
 
 abbrev pub upstream_fault : List ℕ → Option VersionError
 upstream_fault [] = Some EmptyUpstream

@@ -3,7 +3,8 @@ use Rattle.std.specs.Prelude.{◌≡◌, ℕ, ◌+◌, ◌≤◌, nat_lt, List, 
 use Rattle.dist_version.specs.Spelling.{epoch_of, upstream_of, revision_of}
 use Rattle.dist_version.specs.Faults.{fault_of}
 
--- The text has no fault. Its upstream version stands from start to end, and a hyphen and the revision follow where the text goes on.
+-- The text has no fault. Its upstream version stands from start to end, and a hyphen and the revision follow where the
+-- text goes on.
 pub record Keeps (text : List ℕ) (value start end : ℕ) : Type 0 where
   pub sound : fault_of text ≡ None
   pub epoch : epoch_of text ≡ value

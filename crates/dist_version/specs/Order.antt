@@ -1,5 +1,7 @@
--- The order of versions, by Debian Policy 5.6.12, stated by weights: a part of a version becomes a list of whole numbers, and the first difference decides.
-use Rattle.std.specs.Prelude.{◌≡◌, ℕ, zero, suc, ◌+◌, ◌<◌, ◌<ℤ◌, ◌==◌, not, List, [], ◌∷◌, ◌++◌, length, map, drop, ℤ, pos, negsuc, slice_index_or, if◌then◌else◌}
+-- The order of versions, by Debian Policy 5.6.12, stated by weights: a part of a version becomes a list of whole
+-- numbers, and the first difference decides.
+use Rattle.std.specs.Prelude.{◌≡◌, ℕ, zero, suc, ◌+◌, ◌<◌, ◌<ℤ◌, ◌==◌, not, List, [], ◌∷◌, ◌++◌, length, map, drop, ℤ}
+use Rattle.std.specs.Prelude.{pos, negsuc, slice_index_or, if◌then◌else◌}
 use Rattle.std.specs.declared.cmp.Ordering.{Ordering}
 use Rattle.std.specs.declared.cmp.Ordering.TheVariants.{Less, Equal}
 use Rattle.std.specs.Char.{is_ascii_digit, is_ascii_alphabetic}
@@ -32,13 +34,16 @@ after_turn part = drop (length (digit_start (after_text part))) (after_text part
 abbrev pub number_of : List ℕ → ℕ
 number_of part = digits_value 10 (digit_start (after_text part))
 
--- the weights of at most so many turns: of each byte without digits, then 0, then the number that the digits write, which is 0 where there is none
+-- the weights of at most so many turns: of each byte without digits, then 0, then the number that the digits write,
+-- which is 0 where there is none
 abbrev pub turns : ℕ → List ℕ → List ℤ
 turns zero part = []
 turns (suc n) [] = []
-turns (suc n) (b ∷ bs) = map weight_of (text_start (b ∷ bs)) ++ pos 0 ∷ pos (number_of (b ∷ bs)) ∷ turns n (after_turn (b ∷ bs))
+turns (suc n) (b ∷ bs) = map weight_of (text_start (b ∷ bs)) ++ pos 0 ∷ pos (number_of (b ∷ bs))
+    ∷ turns n (after_turn (b ∷ bs))
 
--- The weights of a part. It has no more turns than bytes, so these are those of its first turn and then the weights of what is left (the law `weights_decide` says so).
+-- The weights of a part. It has no more turns than bytes, so these are those of its first turn and then the weights of
+-- what is left (the law `weights_decide` says so).
 unfoldable pub weights_of : List ℕ → List ℤ
 weights_of part = turns (length part) part
 

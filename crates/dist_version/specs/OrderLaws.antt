@@ -1,5 +1,6 @@
 -- The order by weights is total.
-use Rattle.std.proofs.Common.{◌≡◌, ◌↔◌, ℕ, zero, suc, ◌≤◌, List, [], ◌∷◌, length, ℤ, pos, Ordering, Less, Equal, Greater, unwrap_or, int_cmp, nat_cmp, refl, sym, ap, ◌∙◌, arith}
+use Rattle.std.proofs.Common.{◌≡◌, ◌↔◌, ℕ, zero, suc, ◌≤◌, List, [], ◌∷◌, length, ℤ, pos, Ordering, Less, Equal}
+use Rattle.std.proofs.Common.{Greater, unwrap_or, int_cmp, nat_cmp, refl, sym, ap, ◌∙◌, arith}
 use Rattle.std.specs.Cmp.{IsTotalOrder}
 use Rattle.std.specs.Cmp.Lexicographic.{slice_cmp}
 use Rattle.std.specs.Cmp.Derive.Recursive.{limit_total}
@@ -14,7 +15,8 @@ pad zero xs = []
 pad (suc n) [] = pos 0 ∷ pad n []
 pad (suc n) (x ∷ xs) = x ∷ pad n xs
 
-pad_cmp : (n : ℕ) (xs ys : List ℤ) → length xs ≤ n → length ys ≤ n → slice_cmp int_cmp (pad n xs) (pad n ys) ≡ weights_cmp xs ys
+pad_cmp : (n : ℕ) (xs ys : List ℤ) → length xs ≤ n → length ys ≤ n
+    → slice_cmp int_cmp (pad n xs) (pad n ys) ≡ weights_cmp xs ys
 unfolding pad
 pad_cmp zero [] [] p q = refl
 pad_cmp zero [] (y ∷ ys) p q = absurd (omega arith)
@@ -41,12 +43,15 @@ version_total =
     (then_total (on_total upstream_of part_total) (on_total (λ t. unwrap_or (revision_of t) []) part_total))
 
 -- equal versions are those of which neither is below the other
-equal_where_neither_below : (a b : List ℕ) (order : Ordering) → order ≡ version_cmp a b → (order ≡ Equal) ↔ ((¬ IsBelow a b) × (¬ IsBelow b a))
+equal_where_neither_below : (a b : List ℕ) (order : Ordering) → order ≡ version_cmp a b → (order ≡ Equal)
+    ↔ ((¬ IsBelow a b) × (¬ IsBelow b a))
 equal_where_neither_below a b Less is = (λ e. cc, λ h. absurd (h.0 (sym is)))
 equal_where_neither_below a b Equal is =
-    let back : version_cmp b a ≡ Equal = version_total.antisymm b a ∙ ap ordering_reverse (sym is) in (λ e. (λ h. cc, λ h. cc), λ h. refl)
+    let back : version_cmp b a ≡ Equal = version_total.antisymm b a ∙ ap ordering_reverse (sym is) in
+    (λ e. (λ h. cc, λ h. cc), λ h. refl)
 equal_where_neither_below a b Greater is =
-    let back : version_cmp b a ≡ Less = version_total.antisymm b a ∙ ap ordering_reverse (sym is) in (λ e. cc, λ h. absurd (h.1 back))
+    let back : version_cmp b a ≡ Less = version_total.antisymm b a ∙ ap ordering_reverse (sym is) in
+    (λ e. cc, λ h. absurd (h.1 back))
 
 pub equal_is_neither_below : (a b : List ℕ) → (version_cmp a b ≡ Equal) ↔ ((¬ IsBelow a b) × (¬ IsBelow b a))
 equal_is_neither_below a b = equal_where_neither_below a b (version_cmp a b) refl
@@ -55,6 +60,9 @@ pub version_cmp-same : (a b : List ℕ) → a ≡ b → Equal ≡ version_cmp a 
 version_cmp-same a b e = sym (tied_itself version_total a) ∙ ap (version_cmp a) e
 
 -- by epoch, upstream version and revision
-pub version_cmp-parts : (a b : List ℕ) → version_cmp a b ≡ ordering_then (nat_cmp (epoch_of a) (epoch_of b)) (ordering_then (part_cmp (upstream_of a) (upstream_of b)) (part_cmp (unwrap_or (revision_of a) []) (unwrap_or (revision_of b) [])))
+pub version_cmp-parts : (a b : List ℕ) → version_cmp a b
+    ≡ ordering_then (nat_cmp (epoch_of a) (epoch_of b))
+    (ordering_then (part_cmp (upstream_of a) (upstream_of b))
+    (part_cmp (unwrap_or (revision_of a) []) (unwrap_or (revision_of b) [])))
 unfolding version_cmp
 version_cmp-parts a b = refl

@@ -1,5 +1,7 @@
--- Version texts, by Debian Policy 5.6.12: `[epoch:]upstream_version[-debian_revision]`. Which text spells which version, and where a text is cut.
-use Rattle.std.specs.Prelude.{◌≡◌, ◌≢◌, ℕ, ◌<◌, ◌≤◌, Bool, ◌||◌, ◌==◌, ◌⊎◌, List, [], ◌∷◌, ◌++◌, length, Option, None, Some, IfSome, IsSome, IsTrue, if◌then◌else◌, codes}
+-- Version texts, by Debian Policy 5.6.12: `[epoch:]upstream_version[-debian_revision]`. Which text spells which
+-- version, and where a text is cut.
+use Rattle.std.specs.Prelude.{◌≡◌, ◌≢◌, ℕ, ◌<◌, ◌≤◌, Bool, ◌||◌, ◌==◌, ◌⊎◌, List, [], ◌∷◌, ◌++◌, length, Option, None}
+use Rattle.std.specs.Prelude.{Some, IfSome, IsSome, IsTrue, if◌then◌else◌, codes}
 use Rattle.std.specs.Char.{is_ascii_alphanumeric, is_ascii_digit}
 use Rattle.std.specs.List.{list_any, list_all}
 use Rattle.std.specs.Option.{option_map, option_map_or, option_or}
@@ -47,7 +49,8 @@ IsMadeOf test bytes = (0 < length bytes) × IsTrue (list_all test bytes)
 -- the epoch, written as one or more digits of that value and a colon, or not at all where it is 0
 abbrev pub SpellsEpoch : List ℕ → ℕ → Type 0
 SpellsEpoch front epoch =
-    ((digits : List ℕ) × (front ≡ digits ++ colon ∷ []) × IsMadeOf is_ascii_digit digits × (digits_value 10 digits ≡ epoch))
+    ((digits : List ℕ) × (front ≡ digits ++ colon ∷ []) × IsMadeOf is_ascii_digit digits
+    × (digits_value 10 digits ≡ epoch))
     ⊎ ((front ≡ []) × (epoch ≡ 0))
 
 -- the revision after a hyphen, where there is one
@@ -83,7 +86,8 @@ split_once byte (b ∷ bs) = if b == byte then Some ([], bs) else option_map (λ
 -- what stands before and after the last such byte, where there is one
 abbrev pub rsplit_once : ℕ → List ℕ → Option (List ℕ × List ℕ)
 rsplit_once byte [] = None
-rsplit_once byte (b ∷ bs) = option_or (option_map (λ s. (b ∷ s.0, s.1)) (rsplit_once byte bs)) (if b == byte then Some ([], bs) else None)
+rsplit_once byte (b ∷ bs) = option_or (option_map (λ s. (b ∷ s.0, s.1)) (rsplit_once byte bs))
+    (if b == byte then Some ([], bs) else None)
 
 -- The epoch ends at the first colon: what stands before it, and what stands after it or is the whole text without one.
 unfoldable pub epoch_digits : List ℕ → Option (List ℕ)

@@ -1,5 +1,6 @@
 -- What a chain of `.arg(..)` calls makes of a command, and what a getter reads of one of its arguments.
-use Rattle.std.proofs.Common.{◌≡◌, ◌∙◌, ◌++◌, ◌<◌, ◌&&◌, ◌||◌, ap, suc, zero, ℕ, Bool, true, false, not, List, [], ◌∷◌, length, map, is_some, Option, Some, None, refl, sym, subst, inl, inr, arith, append-nil, append_assoc}
+use Rattle.std.proofs.Common.{◌≡◌, ◌∙◌, ◌++◌, ◌<◌, ◌&&◌, ◌||◌, ap, suc, zero, ℕ, Bool, true, false, not, List, [], ◌∷◌, length, map, is_some, Option, Some}
+use Rattle.std.proofs.Common.{None, refl, sym, subst, inl, inr, arith, append-nil, append_assoc}
 use Rattle.std.specs.List.{All, slice_index_or}
 use Rattle.std.specs.Prelude.{option_map, slice_get}
 use Rattle.std.specs.Str.{bytes_eq}
@@ -87,15 +88,18 @@ unfolding alone
 one_place [] k id none j e lt same = absurd (omega arith)
 one_place (x ∷ xs) zero id none zero e lt same = refl
 one_place (x ∷ xs) zero id none (suc j) e lt same = absurd (no_place xs id none j e (omega arith) same)
-one_place (x ∷ xs) (suc k) id none zero e lt same = absurd (not_both (bytes_eq x.id.now id) (both (not (bytes_eq x.id.now id)) (alone k id (map rule_of xs)) none).0 same)
-one_place (x ∷ xs) (suc k) id none (suc j) e lt same = ap suc (one_place xs k id (both (not (bytes_eq x.id.now id)) (alone k id (map rule_of xs)) none).1 j e (omega arith) same)
+one_place (x ∷ xs) (suc k) id none zero e lt same = absurd
+    (not_both (bytes_eq x.id.now id) (both (not (bytes_eq x.id.now id)) (alone k id (map rule_of xs)) none).0 same)
+one_place (x ∷ xs) (suc k) id none (suc j) e lt same = ap suc
+    (one_place xs k id (both (not (bytes_eq x.id.now id)) (alone k id (map rule_of xs)) none).1 j e (omega arith) same)
 
 -- ---- what a getter reads
 
 one_is_first : (f : Found) (id t : Text) → one_text f id ≡ Some t → is_some (first_value f id) ≡ true
 one_is_first f id t is = go (matched_of f id) refl is
   where
-    values : (how : Reading) (vs : List (Bor Text)) → option_map (λ s. read_as how s.now) (slice_get vs 0) ≡ Some t → is_some (option_map (λ s. s.now) (slice_get vs 0)) ≡ true
+    values : (how : Reading) (vs : List (Bor Text)) → option_map (λ s. read_as how s.now) (slice_get vs 0) ≡ Some t
+        → is_some (option_map (λ s. s.now) (slice_get vs 0)) ≡ true
     values how [] e = cc
     values how (v ∷ vs) e = refl
 

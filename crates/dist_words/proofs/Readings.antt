@@ -1,5 +1,6 @@
 -- What the getters of the simple command read, by the rows of the matches.
-use Rattle.std.proofs.Common.{◌≡◌, ◌≤◌, ◌<◌, ◌^◌, ◌∙◌, ap, ℕ, zero, suc, Bool, true, false, ◌||◌, List, [], ◌∷◌, length, map, Option, Some, None, Result, Ok, IfSome, refl, sym, subst, arith, Bor, codes}
+use Rattle.std.proofs.Common.{◌≡◌, ◌≤◌, ◌<◌, ◌^◌, ◌∙◌, ap, ℕ, zero, suc, Bool, true, false, ◌||◌, List, [], ◌∷◌, length, map, Option, Some, None, Result, Ok}
+use Rattle.std.proofs.Common.{IfSome, refl, sym, subst, arith, Bor, codes}
 use Rattle.std.specs.List.{slice_index_or}
 use Rattle.std.specs.Prelude.{option_map, unwrap_or, pos}
 use Rattle.std.specs.Str.{bytes_eq}
@@ -65,7 +66,8 @@ passes m matched k rule at q parser t is =
     let own : alone k (slice_index_or xs k d).id.now (map rule_of xs) ≡ true = rw (id, s.rules) at.own in
     let parser_is : (slice_index_or xs k d).value_parser ≡ Some q = ap (λ (r : Rule). r.parser) here ∙ parser in
     let case_is : (slice_index_or xs k d).ignore_case ≡ rule.ignore_case = ap (λ (r : Rule). r.ignore_case) here in
-    let got = read_passes s.start matched.command xs k d m s.chain s.no_arguments s.no_groups s.no_globals s.no_negation s.fit lt own q parser_is matched.parsed t
+    let got = read_passes s.start matched.command xs k d m s.chain s.no_arguments s.no_groups s.no_globals s.no_negation s.fit lt own q parser_is matched.parsed
+    t
     (rw id is) in
     (got.0, got.1, subst (λ (c : Bool). Accepts c q got.0) case_is got.2)
 
@@ -90,12 +92,16 @@ number_read {E} G m matched k rule least greatest at parser fits only r none som
     with t o n is read = is ∙ ap Some (value t n (subst (λ (p : Option ℕ). ReadsOne G t p) is read))
 
     go : (o : Option Text) → one_text (found_of m) rule.id ≡ o → (r ≡ number_of rule.id (rows_of (found_of m))) × IfSome r (λ n. (least ≤ n) × (n ≤ greatest))
-    go None e = (none e ∙ sym (ap number (sym (one_text-rows (found_of m) rule.id) ∙ e)), subst (λ (o : Option ℕ). IfSome o (λ n. (least ≤ n) × (n ≤ greatest))) (sym (none e)) tt)
+    go None e = (
+      none e ∙ sym (ap number (sym (one_text-rows (found_of m) rule.id) ∙ e)),
+      subst (λ (o : Option ℕ). IfSome o (λ n. (least ≤ n) × (n ≤ greatest))) (sym (none e)) tt,
+    )
     go (Some t) e =
         let got = passes m matched k rule at (values.Signed (pos least) (pos greatest)) parser t e in
         let read : ReadsOne G (without_minus got.0) r = subst (λ (u : Text). ReadsOne G u r) got.1 (some t e) in
         let n = signed_reads E G 32 least greatest got.0 r read only fits got.2 in
-        let rows : number_of rule.id (rows_of (found_of m)) ≡ Some (digits_value 10 (without_leading_plus t)) = ap number (sym (one_text-rows (found_of m) rule.id) ∙ e) in
+        let rows : number_of rule.id (rows_of (found_of m)) ≡ Some (digits_value 10 (without_leading_plus t)) =
+        ap number (sym (one_text-rows (found_of m) rule.id) ∙ e) in
         (with t r n.0 n.1 (some t e) ∙ sym rows, subst (λ (o : Option ℕ). IfSome o (λ n. (least ≤ n) × (n ≤ greatest))) (sym n.1) (n.2, n.3))
 
 -- the flag is read as the rows give it
@@ -108,7 +114,8 @@ flag_read m matched k rule at parser r none if_true if_false = go (one_text (fou
     text : Option Text → Bool
     text o = bytes_eq (unwrap_or o []) (codes "true")
 
-    words : (t : Text) → one_text (found_of m) rule.id ≡ Some t → (b : Bool) → bytes_eq t (codes "true") ≡ b → (bytes_eq t (codes "true") || bytes_eq t (codes "false")) ≡ true
+    words : (t : Text) → one_text (found_of m) rule.id ≡ Some t → (b : Bool) → bytes_eq t (codes "true") ≡ b
+        → (bytes_eq t (codes "true") || bytes_eq t (codes "false")) ≡ true
         → r ≡ bytes_eq t (codes "true")
     words t e true is passed = if_true (e ∙ ap Some ((bytes_eq-Decides t (codes "true")).0 is)) ∙ sym is
     words t e false is passed = if_false (e ∙ ap Some ((bytes_eq-Decides t (codes "false")).0 (rw is at passed))) ∙ sym is
@@ -130,8 +137,10 @@ limit_of (Some n) (least, greatest) = record { least = least; greatest = greates
 
 pub files_some : (found : Option (Bor (List (Bor Text)))) (files : Bor (List (Bor Text))) (all : Option (List Text)) → found ≡ Some files
     → option_map (λ (s : Bor (List (Bor Text))). map (λ (v : Bor Text). v.now) s.now) found ≡ all → map (λ (v : Bor Text). v.now) files.now ≡ unwrap_or all []
-files_some found files all is same = ap (λ (o : Option (List Text)). unwrap_or o []) (sym (ap (option_map (λ (s : Bor (List (Bor Text))). map (λ (v : Bor Text). v.now) s.now)) is) ∙ same)
+files_some found files all is same = ap (λ (o : Option (List Text)). unwrap_or o [])
+    (sym (ap (option_map (λ (s : Bor (List (Bor Text))). map (λ (v : Bor Text). v.now) s.now)) is) ∙ same)
 
 pub files_none : (found : Option (Bor (List (Bor Text)))) (all : Option (List Text)) → found ≡ None
     → option_map (λ (s : Bor (List (Bor Text))). map (λ (v : Bor Text). v.now) s.now) found ≡ all → [] ≡ unwrap_or all []
-files_none found all is same = ap (λ (o : Option (List Text)). unwrap_or o []) (sym (ap (option_map (λ (s : Bor (List (Bor Text))). map (λ (v : Bor Text). v.now) s.now)) is) ∙ same)
+files_none found all is same = ap (λ (o : Option (List Text)). unwrap_or o [])
+    (sym (ap (option_map (λ (s : Bor (List (Bor Text))). map (λ (v : Bor Text). v.now) s.now)) is) ∙ same)

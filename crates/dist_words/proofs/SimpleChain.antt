@@ -14,7 +14,8 @@ use Rattle.dist_words.specs.SimpleCommand.{IsArg, IsSimpleCommand, IsStart}
 -- ---- one argument
 
 -- an id that begins with a byte other than the first of `help` and of `version`
-pub fits : (a : Arg) (rule : Rule) → IsArg a rule → ¬ (slice_index rule.id 0 ≡ 0) → ¬ (slice_index rule.id 0 ≡ 104) → ¬ (slice_index rule.id 0 ≡ 118) → FitsChain a
+pub fits : (a : Arg) (rule : Rule) → IsArg a rule → ¬ (slice_index rule.id 0 ≡ 0) → ¬ (slice_index rule.id 0 ≡ 104) → ¬ (slice_index rule.id 0 ≡ 118)
+    → FitsChain a
 fits a rule is not_empty not_help not_version =
     let id : a.id.now ≡ rule.id = ap (λ (r : Rule). r.id) is.rule_is in (
       is.plain,
@@ -30,9 +31,11 @@ fits a rule is not_empty not_help not_version =
 
 -- the six arguments, added to it
 pub made : (start c1 c2 c3 c4 c5 c6 : Command) (command files limit size seed essential : Arg) → IsStart start
-    → IsArg command command_rule → IsArg files files_rule → IsArg limit (number_option (codes "limit") 1 MAX_LIMIT) → IsArg size (number_option (codes "size") 1 MAX_SIZE)
+    → IsArg command command_rule → IsArg files files_rule → IsArg limit (number_option (codes "limit") 1 MAX_LIMIT)
+    → IsArg size (number_option (codes "size") 1 MAX_SIZE)
     → IsArg seed (number_option (codes "seed") 0 4294967295) → IsArg essential essential_rule
-    → AddsArg start command c1 → AddsArg c1 files c2 → AddsArg c2 limit c3 → AddsArg c3 size c4 → AddsArg c4 seed c5 → AddsArg c5 essential c6 → IsSimpleCommand c6
+    → AddsArg start command c1 → AddsArg c1 files c2 → AddsArg c2 limit c3 → AddsArg c3 size c4 → AddsArg c4 seed c5 → AddsArg c5 essential c6
+    → IsSimpleCommand c6
 made start c1 c2 c3 c4 c5 c6 command files limit size seed essential s is1 is2 is3 is4 is5 is6 a1 a2 a3 a4 a5 a6 = record {
   app = a6.shape is6.not_global ∙ ap₂ with_rule
       (a5.shape is5.not_global ∙ ap₂ with_rule

@@ -24,13 +24,18 @@ abbrev pub files_rule : Rule
 files_rule = record (new_rule (codes "files")) { action = Some Append }
 
 abbrev pub essential_rule : Rule
-essential_rule = record (new_rule (codes "essential")) { long = Some (codes "essential"); action = Some SetTrue; parser = Some values.Bool }
+essential_rule = record (new_rule (codes "essential")) {
+  long = Some (codes "essential");
+  action = Some SetTrue;
+  parser = Some values.Bool;
+}
 
 -- the simple command. Its words stand after the program's name.
 abbrev pub simple_command : App
 simple_command = record {
   top = record (new_shape (codes "distfuture")) {
-    rules = command_rule ∷ files_rule ∷ number_option (codes "limit") 1 MAX_LIMIT ∷ number_option (codes "size") 1 MAX_SIZE
+    rules = command_rule ∷ files_rule ∷ number_option (codes "limit") 1 MAX_LIMIT
+        ∷ number_option (codes "size") 1 MAX_SIZE
         ∷ number_option (codes "seed") 0 4294967295 ∷ essential_rule ∷ [];
     no_binary_name = true;
     disable_help_flag = true;

@@ -18,9 +18,17 @@ pub record IsArg (a : Arg) (rule : Rule) : Type 0 where
   pub plain : IsPlainArg a
   pub not_global : a.global ≡ false
 
--- a command without arguments, whose words stand after the program's name, and which has neither a help nor a version flag
+-- a command without arguments, whose words stand after the program's name, and which has neither a help nor a version
+-- flag
 pub record IsStart (start : Command) : Type 0 where
-  pub app : app_of start ≡ record { top = record (new_app (codes "distfuture")).top { no_binary_name = true; disable_help_flag = true; disable_version_flag = true }; subs = [] }
+  pub app : app_of start ≡ record {
+    top = record (new_app (codes "distfuture")).top {
+      no_binary_name = true;
+      disable_help_flag = true;
+      disable_version_flag = true;
+    };
+    subs = [];
+  }
   pub no_arguments : args_of start ≡ []
   pub no_groups : groups_of start ≡ []
   pub no_globals : (out-Command start).has_globals ≡ false

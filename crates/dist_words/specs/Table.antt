@@ -6,7 +6,8 @@
 --   strong     PACKAGES CERT     --limit, --essential
 --   check      PACKAGES CERT     none
 --   try        none              --size and --seed, both needed
-use Rattle.std.specs.Prelude.{◌≡◌, ℕ, ◌&&◌, Bool, not, List, [], ◌∷◌, Option, Some, None, is_some, if◌then◌else◌, codes, unwrap_or}
+use Rattle.std.specs.Prelude.{◌≡◌, ℕ, ◌&&◌, Bool, not, List, [], ◌∷◌, Option, Some, None, is_some, if◌then◌else◌, codes}
+use Rattle.std.specs.Prelude.{unwrap_or}
 use Rattle.std.specs.Str.{bytes_eq}
 use Rattle.dist_base.specs.declared.TheConstants.{DEFAULT_LIMIT}
 use Rattle.clap.specs.Walk.{Text, is_empty}
@@ -60,16 +61,19 @@ abbrev pub in_table : Text → List Text → Options → Option CommandLine
 in_table word files options =
     if bytes_eq word (codes "health") then where_allowed (has_no_option options) (with_two Health files)
     else (if bytes_eq word (codes "classes") then where_allowed (has_no_option options) (with_one Classes files)
-    else (if bytes_eq word (codes "strong") then where_allowed (has_no_seed options) (with_two (strong_with options) files)
+    else (if bytes_eq word (codes "strong") then where_allowed (has_no_seed options)
+    (with_two (strong_with options) files)
     else (if bytes_eq word (codes "check") then where_allowed (has_no_option options) (with_two Check files)
-    else (if bytes_eq word (codes "try") then where_allowed (has_no_limit options) (with_none (seeded options.size options.seed) files)
+    else (if bytes_eq word (codes "try") then where_allowed (has_no_limit options)
+    (with_none (seeded options.size options.seed) files)
     else None))))
 
 -- the command that the table has for what was taken
 abbrev pub accepted : Taken → Option CommandLine
 accepted t = in_table (unwrap_or t.command []) t.files t.options
 
--- The command of the words: what `clap` states that it matches, accepted by the table. There is none where `clap` states
+-- The command of the words: what `clap` states that it matches, accepted by the table. There is none where `clap`
+-- states
 -- that it refuses the words, or the table has none.
 unfoldable pub command_of : List Text → Option CommandLine
 command_of words = if is_empty (fault_of simple_command words) then accepted (taken words) else None

@@ -4,23 +4,28 @@ use Rattle.dist_words.specs.CommandLine.{Strong, Try}
 use Rattle.dist_words.specs.Table.{in_table}
 
 -- `strong f g`, with no limit
-strong_by_default : in_table (codes "strong") (codes "f" ∷ codes "g" ∷ []) (record { limit = None; size = None; seed = None; essential = false })
+strong_by_default : in_table (codes "strong") (codes "f" ∷ codes "g" ∷ [])
+    (record { limit = None; size = None; seed = None; essential = false })
     ≡ Some (Strong (codes "f") (codes "g") false 10000)
 strong_by_default = refl
 
 -- `check f g --limit 3`
-check_takes_no_limit : in_table (codes "check") (codes "f" ∷ codes "g" ∷ []) (record { limit = Some 3; size = None; seed = None; essential = false })
+check_takes_no_limit : in_table (codes "check") (codes "f" ∷ codes "g" ∷ [])
+    (record { limit = Some 3; size = None; seed = None; essential = false })
     ≡ None
 check_takes_no_limit = refl
 
 -- `strong f --essential`
-strong_takes_two_files : in_table (codes "strong") (codes "f" ∷ []) (record { limit = None; size = None; seed = None; essential = true }) ≡ None
+strong_takes_two_files : in_table (codes "strong") (codes "f" ∷ [])
+    (record { limit = None; size = None; seed = None; essential = true }) ≡ None
 strong_takes_two_files = refl
 
 -- `try --size 2 --seed 0`
-try_is_seeded : in_table (codes "try") [] (record { limit = None; size = Some 2; seed = Some 0; essential = false }) ≡ Some (Try 2 0)
+try_is_seeded : in_table (codes "try") [] (record { limit = None; size = Some 2; seed = Some 0; essential = false })
+    ≡ Some (Try 2 0)
 try_is_seeded = refl
 
 -- `try --size 3`
-try_needs_a_seed : in_table (codes "try") [] (record { limit = None; size = Some 3; seed = None; essential = false }) ≡ None
+try_needs_a_seed : in_table (codes "try") [] (record { limit = None; size = Some 3; seed = None; essential = false })
+    ≡ None
 try_needs_a_seed = refl

@@ -8,14 +8,17 @@ use Rattle.dist_app.proofs.command.run_command.Goals as goal
 
 pub returns-in-Health-clause-answers : goal.returns-in-Health-clause-answers
 returns-in-Health-clause-answers g c =
-    rw c.in-Health.is (ok_more c.run_health.result _ _ (λ answer. read_answers (Health c.in-Health.files.packages.now c.in-Health.files.list.now) c.args.limits.now (g.D.Desk.view c.args.desk.now)
+    rw c.in-Health.is (ok_more c.run_health.result _ _ (λ answer. read_answers (Health c.in-Health.files.packages.now c.in-Health.files.list.now)
+    c.args.limits.now (g.D.Desk.view c.args.desk.now)
     _ answer.status answer.text.items c.run_health.ensures.only_reads) c.run_health.ensures.answers)
 
 pub returns-in-Health-clause-stops : goal.returns-in-Health-clause-stops
 returns-in-Health-clause-stops g c =
     rw c.in-Health.is (err_more c.run_health.result _ _ (λ why. due_stops (Health c.in-Health.files.packages.now c.in-Health.files.list.now) c.args.limits.now
-    (HealthStages (g.D.Desk.view c.args.desk.now).files c.args.limits.now c.in-Health.files.packages.now c.in-Health.files.list.now (Judges (g.D.Desk.view c.args.desk.now).files))
-    (g.D.Desk.view c.args.desk.now) (g.D.Desk.view c.run_health.new.desk) why (λ ending decides. decides) (λ apart. apart) c.run_health.ensures.only_reads) c.run_health.ensures.due)
+    (HealthStages (g.D.Desk.view c.args.desk.now).files c.args.limits.now c.in-Health.files.packages.now c.in-Health.files.list.now
+    (Judges (g.D.Desk.view c.args.desk.now).files))
+    (g.D.Desk.view c.args.desk.now) (g.D.Desk.view c.run_health.new.desk) why (λ ending decides. decides) (λ apart. apart) c.run_health.ensures.only_reads)
+    c.run_health.ensures.due)
 
 pub returns-in-Check-clause-stops : goal.returns-in-Check-clause-stops
 returns-in-Check-clause-stops g c =
@@ -32,5 +35,6 @@ pub returns-in-Try-clause-stops : goal.returns-in-Try-clause-stops
 returns-in-Try-clause-stops g c =
     let desk : DeskView = g.D.Desk.view c.args.desk.now in
     rw c.in-Try.is (err_more c.run_try.result _ _ (λ why given. apart_stops (Try c.in-Try.words.size c.in-Try.words.seed) c.args.limits.now
-    (TryStages desk.files c.args.limits.now c.in-Try.words.size c.in-Try.words.seed (Tries desk.files c.args.limits.now c.in-Try.words.size)) desk why (λ ending decides. decides)
+    (TryStages desk.files c.args.limits.now c.in-Try.words.size c.in-Try.words.seed (Tries desk.files c.args.limits.now c.in-Try.words.size)) desk why
+    (λ ending decides. decides)
     (given desk.files)) c.run_try.ensures.stops)

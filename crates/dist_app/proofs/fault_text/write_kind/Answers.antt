@@ -13,7 +13,8 @@ returns-in-Relation g c =
 pub returns-in-Clash : goal.returns-in-Clash
 returns-in-Clash g c =
     subst (λ (t : List ℕ). Writes t c.write_pieces-in-Clash.result (g.E.Sink.view c.args.err.now) (g.E.Sink.view c.write_pieces-in-Clash.new.err))
-    (two_pieces _ _ _ _ _ c.kind_name.ensures (clash_carried c.args.kind c.in-Clash.line _ c.in-Clash.is (c.as_bytes-line.ensures.value ∙ c.format-in-Clash.ensures.text)))
+    (two_pieces _ _ _ _ _ c.kind_name.ensures (clash_carried c.args.kind c.in-Clash.line _ c.in-Clash.is
+    (c.as_bytes-line.ensures.value ∙ c.format-in-Clash.ensures.text)))
     c.write_pieces-in-Clash.ensures
 
 pub returns-in_default : goal.returns-in_default

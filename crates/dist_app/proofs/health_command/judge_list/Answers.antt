@@ -10,4 +10,5 @@ returns-in-Ok-judge-clause-answers g c =
 
 pub returns-clause-due : goal.returns-clause-due
 returns-clause-due g c =
-    list_due c.args.limits.now c.args.repository.now c.args.list.now (g.D.Desk.view c.args.desk.now) (g.D.Desk.view c.read_members.new.desk) c.in-Err.refusal c.in-Err.ensures.due
+    list_due c.args.limits.now c.args.repository.now c.args.list.now (g.D.Desk.view c.args.desk.now) (g.D.Desk.view c.read_members.new.desk) c.in-Err.refusal
+    c.in-Err.ensures.due

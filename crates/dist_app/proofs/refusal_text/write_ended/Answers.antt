@@ -5,7 +5,8 @@ use Rattle.dist_app.proofs.refusal_text.write_ended.Goals as goal
 
 pub returns-in-Ok : goal.returns-in-Ok
 returns-in-Ok g c =
-    writes_then (reason_text c.args.refusal) (codes "\n") c.write_whole.result (g.E.Sink.view c.args.err.now) (g.E.Sink.view c.write_reason.new.err) (g.E.Sink.view c.write_whole.new.sink)
+    writes_then (reason_text c.args.refusal) (codes "\n") c.write_whole.result (g.E.Sink.view c.args.err.now) (g.E.Sink.view c.write_reason.new.err)
+    (g.E.Sink.view c.write_whole.new.sink)
     c.sink_grows.ensures.twice c.sink_grows.ensures.cut c.in-Ok.ensures
     (whole_writes (codes "\n") c.write_whole.result (g.E.Sink.view c.write_reason.new.err) (g.E.Sink.view c.write_whole.new.sink)
     c.write_whole.ensures.all c.write_whole.ensures.front c.write_whole.ensures.cause)

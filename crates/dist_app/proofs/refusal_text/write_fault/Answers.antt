@@ -16,5 +16,6 @@ pub returns-in-Err : goal.returns-in-Err
 returns-in-Err g c =
     subst (λ (t : List ℕ). Writes t (Err c.in-Err.error) (g.E.Sink.view c.args.err.now) (g.E.Sink.view c.write_pieces.new.err))
     (fault_line c.args.fault.line _ _ (c.as_bytes-line.ensures.value ∙ c.format.ensures.text))
-    (writes_cut _ (kind_name c.args.fault.kind ++ carried_text c.args.fault.kind) c.in-Err.error (g.E.Sink.view c.args.err.now) (g.E.Sink.view c.write_pieces.new.err)
+    (writes_cut _ (kind_name c.args.fault.kind ++ carried_text c.args.fault.kind) c.in-Err.error (g.E.Sink.view c.args.err.now)
+    (g.E.Sink.view c.write_pieces.new.err)
     c.sink_grows.ensures.longer c.in-Err.ensures)

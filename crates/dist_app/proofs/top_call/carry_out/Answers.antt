@@ -15,10 +15,13 @@ returns-in-Err-NoMemory-clause-ends g c =
 
 pub returns-in-Ok-run_command-clause-ends : goal.returns-in-Ok-run_command-clause-ends
 returns-in-Ok-run_command-clause-ends g c =
-    printed_command _ c.args.limits.now (g.D.Desk.view c.args.desk.now) (g.W.Sink.view c.args.out.now) (g.W.Sink.view c.print.new.out) (g.D.Desk.view c.run_command.new.desk)
-    (line_of c.in-Ok.command) c.in-Ok.ensures.command c.in-Ok-run_command.answer.status c.in-Ok-run_command.answer.text.items c.print.result c.in-Ok-run_command.ensures.answers c.print.ensures
+    printed_command _ c.args.limits.now (g.D.Desk.view c.args.desk.now) (g.W.Sink.view c.args.out.now) (g.W.Sink.view c.print.new.out)
+    (g.D.Desk.view c.run_command.new.desk)
+    (line_of c.in-Ok.command) c.in-Ok.ensures.command c.in-Ok-run_command.answer.status c.in-Ok-run_command.answer.text.items c.print.result
+    c.in-Ok-run_command.ensures.answers c.print.ensures
 
 pub returns-in-Err-clause-ends : goal.returns-in-Err-clause-ends
 returns-in-Err-clause-ends g c =
-    refused_command _ c.args.limits.now (g.D.Desk.view c.args.desk.now) (g.W.Sink.view c.args.out.now) (g.W.Sink.view c.args.out.now) (g.D.Desk.view c.run_command.new.desk)
+    refused_command _ c.args.limits.now (g.D.Desk.view c.args.desk.now) (g.W.Sink.view c.args.out.now) (g.W.Sink.view c.args.out.now)
+    (g.D.Desk.view c.run_command.new.desk)
     (line_of c.in-Ok.command) c.in-Ok.ensures.command c.in-Err.refusal c.in-Err.ensures.stops (c.sink_grows.ensures.begin (g.W.Sink.view c.args.out.now))

@@ -10,38 +10,47 @@ use Rattle.dist_app.proofs.top_call.run_with.Goals as goal
 pub returns-in-Ok-clause-runs : goal.returns-in-Ok-clause-runs
 returns-in-Ok-clause-runs g c =
     answered_runs (record { packages = c.packages_are_exact.ensures; lists = c.lists_are_exact.ensures; certificates = c.texts_have_one_answer.ensures }) _
-    c.args.limits.now c.in-Ok.status (g.D.Desk.view c.args.desk.now) (g.D.Desk.view c.carry_out.new.desk) (g.W.Sink.view c.args.out.now) (g.W.Sink.view c.carry_out.new.out)
+    c.args.limits.now c.in-Ok.status (g.D.Desk.view c.args.desk.now) (g.D.Desk.view c.carry_out.new.desk) (g.W.Sink.view c.args.out.now)
+    (g.W.Sink.view c.carry_out.new.out)
     (g.E.Sink.view c.args.err.now) c.in-Ok.ensures.ends c.in-Ok.ensures.leaves (c.sink_grows.ensures.begin (g.E.Sink.view c.args.err.now))
 
 pub returns-in-Err-clause-runs : goal.returns-in-Err-clause-runs
 returns-in-Err-clause-runs g c =
-    subst (λ (s : Status). Runs (map string_bytes c.args.words.now) c.args.limits.now s (g.D.Desk.view c.args.desk.now) (g.D.Desk.view c.carry_out.new.desk) (g.W.Sink.view c.args.out.now) (g.W.Sink.view c.carry_out.new.out)
+    subst (λ (s : Status). Runs (map string_bytes c.args.words.now) c.args.limits.now s (g.D.Desk.view c.args.desk.now) (g.D.Desk.view c.carry_out.new.desk)
+    (g.W.Sink.view c.args.out.now) (g.W.Sink.view c.carry_out.new.out)
     (g.E.Sink.view c.args.err.now) (g.E.Sink.view c.write_refusal.new.err)) (sym c.status-status.ensures)
     (refused_runs (record { packages = c.packages_are_exact.ensures; lists = c.lists_are_exact.ensures; certificates = c.texts_have_one_answer.ensures }) _
     c.args.limits.now (g.D.Desk.view c.args.desk.now) (g.D.Desk.view c.carry_out.new.desk) (g.W.Sink.view c.args.out.now) (g.W.Sink.view c.carry_out.new.out)
-    c.in-Err.refusal c.in-Err.ensures.ends c.write_refusal.result (g.E.Sink.view c.args.err.now) (g.E.Sink.view c.write_refusal.new.err) c.in-Err.ensures.leaves c.write_refusal.ensures)
+    c.in-Err.refusal c.in-Err.ensures.ends c.write_refusal.result (g.E.Sink.view c.args.err.now) (g.E.Sink.view c.write_refusal.new.err) c.in-Err.ensures.leaves
+    c.write_refusal.ensures)
 
 pub returns-in-Ok-clause-strong : goal.returns-in-Ok-clause-strong
 returns-in-Ok-clause-strong g c =
-    strong_proved c.accepted_claims_hold.ensures _ c.args.limits.now c.in-Ok.status (g.D.Desk.view c.args.desk.now) (g.D.Desk.view c.carry_out.new.desk) (g.W.Sink.view c.args.out.now) (g.W.Sink.view c.carry_out.new.out)
+    strong_proved c.accepted_claims_hold.ensures _ c.args.limits.now c.in-Ok.status (g.D.Desk.view c.args.desk.now) (g.D.Desk.view c.carry_out.new.desk)
+    (g.W.Sink.view c.args.out.now) (g.W.Sink.view c.carry_out.new.out)
     c.in-Ok.ensures.ends
 
 pub returns-in-Ok-clause-check : goal.returns-in-Ok-clause-check
 returns-in-Ok-clause-check g c =
-    check_proved _ c.args.limits.now c.in-Ok.status (g.D.Desk.view c.args.desk.now) (g.D.Desk.view c.carry_out.new.desk) (g.W.Sink.view c.args.out.now) (g.W.Sink.view c.carry_out.new.out)
+    check_proved _ c.args.limits.now c.in-Ok.status (g.D.Desk.view c.args.desk.now) (g.D.Desk.view c.carry_out.new.desk) (g.W.Sink.view c.args.out.now)
+    (g.W.Sink.view c.carry_out.new.out)
     c.in-Ok.ensures.ends
 
 pub returns-in-Err-clause-strong : goal.returns-in-Err-clause-strong
 returns-in-Err-clause-strong g c =
-    subst (λ (s : Status). StrongIsProved (map string_bytes c.args.words.now) c.args.limits.now s (g.D.Desk.view c.args.desk.now) (g.D.Desk.view c.carry_out.new.desk) (g.W.Sink.view c.args.out.now) (g.W.Sink.view c.carry_out.new.out))
+    subst (λ (s : Status). StrongIsProved (map string_bytes c.args.words.now) c.args.limits.now s (g.D.Desk.view c.args.desk.now)
+    (g.D.Desk.view c.carry_out.new.desk) (g.W.Sink.view c.args.out.now) (g.W.Sink.view c.carry_out.new.out))
     (sym c.status-status.ensures)
-    (strong_refused _ c.args.limits.now c.in-Err.refusal (g.D.Desk.view c.args.desk.now) (g.D.Desk.view c.carry_out.new.desk) (g.W.Sink.view c.args.out.now) (g.W.Sink.view c.carry_out.new.out))
+    (strong_refused _ c.args.limits.now c.in-Err.refusal (g.D.Desk.view c.args.desk.now) (g.D.Desk.view c.carry_out.new.desk) (g.W.Sink.view c.args.out.now)
+    (g.W.Sink.view c.carry_out.new.out))
 
 pub returns-in-Err-clause-check : goal.returns-in-Err-clause-check
 returns-in-Err-clause-check g c =
-    subst (λ (s : Status). CheckIsProved (map string_bytes c.args.words.now) c.args.limits.now s (g.D.Desk.view c.args.desk.now) (g.D.Desk.view c.carry_out.new.desk) (g.W.Sink.view c.args.out.now) (g.W.Sink.view c.carry_out.new.out))
+    subst (λ (s : Status). CheckIsProved (map string_bytes c.args.words.now) c.args.limits.now s (g.D.Desk.view c.args.desk.now)
+    (g.D.Desk.view c.carry_out.new.desk) (g.W.Sink.view c.args.out.now) (g.W.Sink.view c.carry_out.new.out))
     (sym c.status-status.ensures)
-    (check_refused _ c.args.limits.now c.in-Err.refusal (g.D.Desk.view c.args.desk.now) (g.D.Desk.view c.carry_out.new.desk) (g.W.Sink.view c.args.out.now) (g.W.Sink.view c.carry_out.new.out))
+    (check_refused _ c.args.limits.now c.in-Err.refusal (g.D.Desk.view c.args.desk.now) (g.D.Desk.view c.carry_out.new.desk) (g.W.Sink.view c.args.out.now)
+    (g.W.Sink.view c.carry_out.new.out))
 
 pub returns-in-Ok-clause-hard : goal.returns-in-Ok-clause-hard
 returns-in-Ok-clause-hard g c = λ r inputs. c.undecided_questions_are_hard.ensures r inputs c.args.limits.now
@@ -57,7 +66,8 @@ returns-in-Ok-clause-complete g c =
       health = c.one_health.ensures;
       budgets = c.budgets_are_enough.ensures;
     })
-    _ c.args.limits.now c.in-Ok.status (g.D.Desk.view c.args.desk.now) (g.D.Desk.view c.carry_out.new.desk) (g.W.Sink.view c.args.out.now) (g.W.Sink.view c.carry_out.new.out)
+    _ c.args.limits.now c.in-Ok.status (g.D.Desk.view c.args.desk.now) (g.D.Desk.view c.carry_out.new.desk) (g.W.Sink.view c.args.out.now)
+    (g.W.Sink.view c.carry_out.new.out)
     (g.E.Sink.view c.args.err.now) (g.E.Sink.view c.args.err.now) (returns-in-Ok-clause-runs g c)
 
 pub returns-in-Err-clause-complete : goal.returns-in-Err-clause-complete
@@ -68,5 +78,6 @@ returns-in-Err-clause-complete g c =
       health = c.one_health.ensures;
       budgets = c.budgets_are_enough.ensures;
     })
-    _ c.args.limits.now c.status-status.result (g.D.Desk.view c.args.desk.now) (g.D.Desk.view c.carry_out.new.desk) (g.W.Sink.view c.args.out.now) (g.W.Sink.view c.carry_out.new.out)
+    _ c.args.limits.now c.status-status.result (g.D.Desk.view c.args.desk.now) (g.D.Desk.view c.carry_out.new.desk) (g.W.Sink.view c.args.out.now)
+    (g.W.Sink.view c.carry_out.new.out)
     (g.E.Sink.view c.args.err.now) (g.E.Sink.view c.write_refusal.new.err) (returns-in-Err-clause-runs g c)

@@ -12,7 +12,8 @@ four a b c d first second third fourth = record {
       omega arith;
 }
   where
-    at : (a b c d : Literal) → a.variable ≡ 1 → b.variable ≡ 2 → c.variable ≡ 3 → d.variable ≡ 4 → (k : ℕ) (e : Literal) → k < length (a ∷ b ∷ c ∷ d ∷ []) → (get_or (a ∷ b ∷ c ∷ d ∷ []) k e).variable ≡ k + 1
+    at : (a b c d : Literal) → a.variable ≡ 1 → b.variable ≡ 2 → c.variable ≡ 3 → d.variable ≡ 4 → (k : ℕ) (e : Literal) → k < length (a ∷ b ∷ c ∷ d ∷ [])
+        → (get_or (a ∷ b ∷ c ∷ d ∷ []) k e).variable ≡ k + 1
     at a b c d first second third fourth zero e within = first
     at a b c d first second third fourth (suc zero) e within = second
     at a b c d first second third fourth (suc (suc zero)) e within = third
@@ -23,4 +24,5 @@ pub push-requires : goal.push-requires
 push-requires c =
     let variable : Literal → ℕ = λ l. l.variable in
     subst (λ n. IsClauseOver n (c.new.result ∷ c.new-2.result ∷ c.new-3.result ∷ c.new-4.result ∷ [])) (sym c.loop.invariant.variables)
-    (four c.new.result c.new-2.result c.new-3.result c.new-4.result (ap variable c.new.ensures) (ap variable c.new-2.ensures) (ap variable c.new-3.ensures) (ap variable c.new-4.ensures))
+    (four c.new.result c.new-2.result c.new-3.result c.new-4.result (ap variable c.new.ensures) (ap variable c.new-2.ensures) (ap variable c.new-3.ensures)
+    (ap variable c.new-4.ensures))

@@ -8,6 +8,8 @@ use Rattle.dist_bench.proofs.future_clauses.counts_of.Goals as goal
 
 pub returns : goal.returns
 returns c =
-    let HaveCounts : SpaceView → Type 0 = λ space. (clauses : List (List Literal)) × AreFutureWithin space clauses × (c.len.result ≡ length clauses) × (c.literal_count.result ≡ literal_count clauses) in
+    let HaveCounts : SpaceView → Type 0 = λ space. (clauses : List (List Literal)) × AreFutureWithin space clauses × (c.len.result ≡ length clauses)
+    × (c.literal_count.result ≡ literal_count clauses) in
     of-space c.args.text.now (λ other. other ≡ c.in_ok-space.space) HaveCounts
-    (λ other same. subst HaveCounts (sym same) (c.in_ok-set.set.clauses, c.in_ok-set.ensures, c.len.ensures.value, c.literal_count.ensures)) c.in_ok-space.ensures
+    (λ other same. subst HaveCounts (sym same) (c.in_ok-set.set.clauses, c.in_ok-set.ensures, c.len.ensures.value, c.literal_count.ensures))
+    c.in_ok-space.ensures

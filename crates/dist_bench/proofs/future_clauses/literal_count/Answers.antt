@@ -16,6 +16,11 @@ loop-place-preserved c =
     let before = c.loop-place.invariant in
     let clauses = c.args.set.now.clauses in
     record {
-      upto = omega (arith, before.upto, c.clause_len-count.ensures, one-more clauses c.loop-place.place (omega (arith, c.loop-place-test.true, c.len-place-end.ensures.value)));
+      upto = omega (
+        arith,
+        before.upto,
+        c.clause_len-count.ensures,
+        one-more clauses c.loop-place.place (omega (arith, c.loop-place-test.true, c.len-place-end.ensures.value)),
+      );
       fits = omega (arith, before.fits, c.clause_len-count.type_inv);
     }

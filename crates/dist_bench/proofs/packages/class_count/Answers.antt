@@ -15,7 +15,8 @@ loop-cluster-preserved c =
     let same : c.in_ok-finder.finder ≡ c.args.repository.now = c.in_ok-finder.ensures in
     let clusters = c.args.clusters.now in
     let here = subst
-    (λ (r : PackageList). AreClassesOf r (slice_index_or clusters.members c.loop-cluster.cluster []) (slice_index_or clusters.tops c.loop-cluster.cluster []) c.in_ok-found.found) same
+    (λ (r : PackageList). AreClassesOf r (slice_index_or clusters.members c.loop-cluster.cluster []) (slice_index_or clusters.tops c.loop-cluster.cluster [])
+    c.in_ok-found.found) same
     c.in_ok-found.ensures in
     record {
       upto = subst (λ (n : ℕ). HaveClasses c.args.repository.now clusters (c.loop-cluster.cluster + 1) (c.loop-cluster.classes + n)) (sym c.len-count.ensures)

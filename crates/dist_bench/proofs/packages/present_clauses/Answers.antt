@@ -10,6 +10,7 @@ returns-in-Ok c = record {
   are = c.in-Ok.ensures.ok.clauses;
   within = λ passes. ⊎_elim
       (without-cause c.in-Ok.set NoMemory TooManyClauses (PassesClauses c.args.repository.now false MAX_CLAUSES MAX_LITERALS) c.in-Ok.ensures.too_many_clauses)
-      (without-cause c.in-Ok.set NoMemory TooManyLiterals (PassesLiterals c.args.repository.now false MAX_CLAUSES MAX_LITERALS) c.in-Ok.ensures.too_many_literals)
+      (without-cause c.in-Ok.set NoMemory TooManyLiterals (PassesLiterals c.args.repository.now false MAX_CLAUSES MAX_LITERALS)
+      c.in-Ok.ensures.too_many_literals)
       passes;
 }

@@ -14,7 +14,8 @@ loop-rest-preserved c =
     let third = before.fits.2 in
     record {
       done = before.done ++ line ∷ [];
-      are = done-more _ _ line _ IsRead before.done before.are c.split_line.ensures.lines (reads line _ _ _ c.in_ok-dependencies.ensures c.in_ok-conflicts.ensures c.in_ok-provided.ensures);
+      are = done-more _ _ line _ IsRead before.done before.are c.split_line.ensures.lines
+          (reads line _ _ _ c.in_ok-dependencies.ensures c.in_ok-conflicts.ensures c.in_ok-provided.ensures);
       dependencies = counts-more Depends before.done line _ _ before.dependencies c.in_ok-dependencies.ensures;
       conflicts = counts-more Conflicts before.done line _ _ before.conflicts c.in_ok-conflicts.ensures;
       provided = counts-more Provides before.done line _ _ before.provided c.in_ok-provided.ensures;

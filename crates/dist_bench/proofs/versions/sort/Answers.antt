@@ -14,4 +14,5 @@ returns-clause-sorted c =
 
 pub returns-clause-stable : goal.returns-clause-stable
 returns-clause-stable c =
-    c.sort_by.ensures.stable (λ x y. is_lt (version_cmp x y)) (ranks_by version_total (λ x. x)) (answers_always _ _ _ (λ f a r g called. ap is_lt (search rules)))
+    c.sort_by.ensures.stable (λ x y. is_lt (version_cmp x y)) (ranks_by version_total (λ x. x))
+    (answers_always _ _ _ (λ f a r g called. ap is_lt (search rules)))

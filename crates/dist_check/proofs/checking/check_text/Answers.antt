@@ -17,32 +17,43 @@ returns-in_err-header-clause-text g c =
     let old : DeskView = g.D.Desk.view c.args.desk.now in
     let new : DeskView = g.D.Desk.view c.header.new.desk in
     let told : Option (List ℕ) = bytes_left old.files old.mode in
-    by-exit (λ (r : Result Checked ReadCertError). OfText told (λ text. TextAnswers (λ (x : Checked). x.header) (λ (x : Checked). x.claims) c.args.repo.now c.args.limits.now text r)) c.from_residual.result c.in_err-header.field-0.0
+    by-exit (λ (r : Result Checked ReadCertError). OfText told
+    (λ text. TextAnswers (λ (x : Checked). x.header) (λ (x : Checked). x.claims) c.args.repo.now c.args.limits.now text r)) c.from_residual.result
+    c.in_err-header.field-0.0
     c.from_residual.ensures.1
-    (header-stops c.present_clauses_are_there.ensures c.args.repo.now c.len-in_order.ensures.in_order c.args.limits.now c.new-reader.result c.header.new.self told (text_left c.new-reader.result old) (text_left c.header.new.self new) old new
-    c.new-reader.ensures (nothing-read c.args.limits.now c.new-reader.result old c.new-reader.ensures) (λ (x : Checked). x.header) (λ (x : Checked). x.claims) c.in_err-header.field-0.0 c.in_err-header.ensures.text c.in_err-header.ensures.cause)
+    (header-stops c.present_clauses_are_there.ensures c.args.repo.now c.len-in_order.ensures.in_order c.args.limits.now c.new-reader.result c.header.new.self
+    told (text_left c.new-reader.result old) (text_left c.header.new.self new) old new
+    c.new-reader.ensures (nothing-read c.args.limits.now c.new-reader.result old c.new-reader.ensures) (λ (x : Checked). x.header) (λ (x : Checked). x.claims)
+    c.in_err-header.field-0.0 c.in_err-header.ensures.text c.in_err-header.ensures.cause)
 
 pub returns-in_err-state-clause-text : goal.returns-in_err-state-clause-text
 returns-in_err-state-clause-text g c =
     let old : DeskView = g.D.Desk.view c.args.desk.now in
     let new : DeskView = g.D.Desk.view c.header.new.desk in
     let told : Option (List ℕ) = bytes_left old.files old.mode in
-    by-exit (λ (r : Result Checked ReadCertError). OfText told (λ text. TextAnswers (λ (x : Checked). x.header) (λ (x : Checked). x.claims) c.args.repo.now c.args.limits.now text r)) c.from_residual-in_err-state.result c.in_err-state.field-0.0
+    by-exit (λ (r : Result Checked ReadCertError). OfText told
+    (λ text. TextAnswers (λ (x : Checked). x.header) (λ (x : Checked). x.claims) c.args.repo.now c.args.limits.now text r))
+    c.from_residual-in_err-state.result c.in_err-state.field-0.0
     c.from_residual-in_err-state.ensures.1
-    (start-stops c.forms_are_clear.ensures c.present_clauses_are_there.ensures c.present_clauses_are_one.ensures c.args.repo.now c.len-in_order.ensures.in_order c.args.limits.now c.new-reader.result told (text_left c.new-reader.result old)
-    (text_left c.header.new.self new) c.in_ok-header.header c.new-reader.ensures (nothing-read c.args.limits.now c.new-reader.result old c.new-reader.ensures) (λ (x : Checked). x.header) (λ (x : Checked). x.claims) c.in_err-state.field-0.0
+    (start-stops c.forms_are_clear.ensures c.present_clauses_are_there.ensures c.present_clauses_are_one.ensures c.args.repo.now c.len-in_order.ensures.in_order
+    c.args.limits.now c.new-reader.result told (text_left c.new-reader.result old)
+    (text_left c.header.new.self new) c.in_ok-header.header c.new-reader.ensures (nothing-read c.args.limits.now c.new-reader.result old c.new-reader.ensures)
+    (λ (x : Checked). x.header) (λ (x : Checked). x.claims) c.in_err-state.field-0.0
     c.in_ok-header.ensures.text c.in_err-state.ensures)
 
 pub returns-in_err-tools-clause-text : goal.returns-in_err-tools-clause-text
 returns-in_err-tools-clause-text g c =
     let old : DeskView = g.D.Desk.view c.args.desk.now in
     let told : Option (List ℕ) = bytes_left old.files old.mode in
-    by-exit (λ (r : Result Checked ReadCertError). OfText told (λ text. TextAnswers (λ (x : Checked). x.header) (λ (x : Checked). x.claims) c.args.repo.now c.args.limits.now text r)) c.from_residual-in_err-tools.result (Work NoMemory)
+    by-exit (λ (r : Result Checked ReadCertError). OfText told
+    (λ text. TextAnswers (λ (x : Checked). x.header) (λ (x : Checked). x.claims) c.args.repo.now c.args.limits.now text r))
+    c.from_residual-in_err-tools.result (Work NoMemory)
     c.from_residual-in_err-tools.ensures.1 (no-memory (λ (x : Checked). x.header) (λ (x : Checked). x.claims) c.args.repo.now c.args.limits.now told)
 
 pub take_lines-requires-clause-start : goal.take_lines-requires-clause-start
 take_lines-requires-clause-start g c =
-    starts-checked c.forms_are_clear.ensures c.present_clauses_are_there.ensures c.present_clauses_are_one.ensures c.models_are_installations.ensures c.args.repo.now c.len-in_order.ensures.in_order c.args.limits.now c.new-reader.result c.header.new.self None None None
+    starts-checked c.forms_are_clear.ensures c.present_clauses_are_there.ensures c.present_clauses_are_one.ensures c.models_are_installations.ensures
+    c.args.repo.now c.len-in_order.ensures.in_order c.args.limits.now c.new-reader.result c.header.new.self None None None
     c.in_ok-header.header c.in_ok-state.state c.new-reader.ensures refl refl c.in_ok-header.ensures.gives c.in_ok-state.ensures
 
 pub returns-in_err-take_lines-clause-text : goal.returns-in_err-take_lines-clause-text
@@ -50,12 +61,17 @@ returns-in_err-take_lines-clause-text g c =
     let old : DeskView = g.D.Desk.view c.args.desk.now in
     let new : DeskView = g.D.Desk.view c.header.new.desk in
     let told : Option (List ℕ) = bytes_left old.files old.mode in
-    let checked = starts-checked c.forms_are_clear.ensures c.present_clauses_are_there.ensures c.present_clauses_are_one.ensures c.models_are_installations.ensures c.args.repo.now c.len-in_order.ensures.in_order c.args.limits.now c.new-reader.result c.header.new.self told
-    (text_left c.new-reader.result old) (text_left c.header.new.self new) c.in_ok-header.header c.in_ok-state.state c.new-reader.ensures (nothing-read c.args.limits.now c.new-reader.result old c.new-reader.ensures) c.in_ok-header.ensures.text
+    let checked = starts-checked c.forms_are_clear.ensures c.present_clauses_are_there.ensures c.present_clauses_are_one.ensures
+    c.models_are_installations.ensures c.args.repo.now c.len-in_order.ensures.in_order c.args.limits.now c.new-reader.result c.header.new.self told
+    (text_left c.new-reader.result old) (text_left c.header.new.self new) c.in_ok-header.header c.in_ok-state.state c.new-reader.ensures
+    (nothing-read c.args.limits.now c.new-reader.result old c.new-reader.ensures) c.in_ok-header.ensures.text
     c.in_ok-header.ensures.gives c.in_ok-state.ensures in
-    by-exit (λ (r : Result Checked ReadCertError). OfText told (λ text. TextAnswers (λ (x : Checked). x.header) (λ (x : Checked). x.claims) c.args.repo.now c.args.limits.now text r)) c.from_residual-in_err-take_lines.result
+    by-exit (λ (r : Result Checked ReadCertError). OfText told
+    (λ text. TextAnswers (λ (x : Checked). x.header) (λ (x : Checked). x.claims) c.args.repo.now c.args.limits.now text r))
+    c.from_residual-in_err-take_lines.result
     c.in_err-take_lines.field-0.0 c.from_residual-in_err-take_lines.ensures.1
-    (stops-alike (λ (u : Unit {0}). c.in_ok-header.header) (λ (u : Unit {0}). c.take_lines.new.state.claims) (λ (x : Checked). x.header) (λ (x : Checked). x.claims) c.args.repo.now c.args.limits.now told c.in_err-take_lines.field-0.0
+    (stops-alike (λ (u : Unit {0}). c.in_ok-header.header) (λ (u : Unit {0}). c.take_lines.new.state.claims) (λ (x : Checked). x.header)
+    (λ (x : Checked). x.claims) c.args.repo.now c.args.limits.now told c.in_err-take_lines.field-0.0
     (c.in_err-take_lines.ensures.text told checked))
 
 pub returns-in_err-take_lines-clause-cause : goal.returns-in_err-take_lines-clause-cause
@@ -63,7 +79,8 @@ returns-in_err-take_lines-clause-cause g c =
     let old : DeskView = g.D.Desk.view c.args.desk.now in
     let middle : DeskView = g.D.Desk.view c.header.new.desk in
     let new : DeskView = g.D.Desk.view c.take_lines.new.desk in
-    by-exit (λ (r : Result Checked ReadCertError). IfErr r (TextCause old new)) c.from_residual-in_err-take_lines.result c.in_err-take_lines.field-0.0 c.from_residual-in_err-take_lines.ensures.1
+    by-exit (λ (r : Result Checked ReadCertError). IfErr r (TextCause old new)) c.from_residual-in_err-take_lines.result c.in_err-take_lines.field-0.0
+    c.from_residual-in_err-take_lines.ensures.1
     (later-cause old middle new c.in_err-take_lines.field-0.0 c.header.ensures.only_reads c.take_lines.ensures.only_reads c.in_err-take_lines.ensures.cause)
 
 pub returns-clause-text : goal.returns-clause-text
@@ -71,27 +88,35 @@ returns-clause-text g c =
     let old : DeskView = g.D.Desk.view c.args.desk.now in
     let new : DeskView = g.D.Desk.view c.header.new.desk in
     let told : Option (List ℕ) = bytes_left old.files old.mode in
-    let checked = starts-checked c.forms_are_clear.ensures c.present_clauses_are_there.ensures c.present_clauses_are_one.ensures c.models_are_installations.ensures c.args.repo.now c.len-in_order.ensures.in_order c.args.limits.now c.new-reader.result c.header.new.self told
-    (text_left c.new-reader.result old) (text_left c.header.new.self new) c.in_ok-header.header c.in_ok-state.state c.new-reader.ensures (nothing-read c.args.limits.now c.new-reader.result old c.new-reader.ensures) c.in_ok-header.ensures.text
+    let checked = starts-checked c.forms_are_clear.ensures c.present_clauses_are_there.ensures c.present_clauses_are_one.ensures
+    c.models_are_installations.ensures c.args.repo.now c.len-in_order.ensures.in_order c.args.limits.now c.new-reader.result c.header.new.self told
+    (text_left c.new-reader.result old) (text_left c.header.new.self new) c.in_ok-header.header c.in_ok-state.state c.new-reader.ensures
+    (nothing-read c.args.limits.now c.new-reader.result old c.new-reader.ensures) c.in_ok-header.ensures.text
     c.in_ok-header.ensures.gives c.in_ok-state.ensures in
-    completed-alike (λ (x : Checked). x.header) (λ (x : Checked). x.claims) c.args.repo.now c.args.limits.now told c.in_ok-header.header c.take_lines.new.state.claims
+    completed-alike (λ (x : Checked). x.header) (λ (x : Checked). x.claims) c.args.repo.now c.args.limits.now told c.in_ok-header.header
+    c.take_lines.new.state.claims
     (record { header = c.in_ok-header.header; claims = c.into_claims.result }) refl c.into_claims.ensures (c.in_ok-take_lines.ensures.text told checked)
 
 pub returns-in_err-header-clause-large : goal.returns-in_err-header-clause-large
 returns-in_err-header-clause-large g c =
-    by-exit (λ (r : Result Checked ReadCertError). IfErr r (LargeCause c.args.repo.now c.args.limits.now)) c.from_residual.result c.in_err-header.field-0.0 c.from_residual.ensures.1
-    (header-large c.args.repo.now c.args.limits.now c.new-reader.result c.header.new.self (g.D.Desk.view c.args.desk.now) (g.D.Desk.view c.header.new.desk) c.in_err-header.field-0.0 c.in_err-header.ensures.cause)
+    by-exit (λ (r : Result Checked ReadCertError). IfErr r (LargeCause c.args.repo.now c.args.limits.now)) c.from_residual.result c.in_err-header.field-0.0
+    c.from_residual.ensures.1
+    (header-large c.args.repo.now c.args.limits.now c.new-reader.result c.header.new.self (g.D.Desk.view c.args.desk.now) (g.D.Desk.view c.header.new.desk)
+    c.in_err-header.field-0.0 c.in_err-header.ensures.cause)
 
 pub returns-in_err-state-clause-large : goal.returns-in_err-state-clause-large
 returns-in_err-state-clause-large g c =
-    by-exit (λ (r : Result Checked ReadCertError). IfErr r (LargeCause c.args.repo.now c.args.limits.now)) c.from_residual-in_err-state.result c.in_err-state.field-0.0 c.from_residual-in_err-state.ensures.1
+    by-exit (λ (r : Result Checked ReadCertError). IfErr r (LargeCause c.args.repo.now c.args.limits.now)) c.from_residual-in_err-state.result
+    c.in_err-state.field-0.0 c.from_residual-in_err-state.ensures.1
     (start-large c.args.repo.now c.args.limits.now c.in_ok-header.header c.in_err-state.field-0.0 c.in_err-state.ensures)
 
 pub returns-in_err-tools-clause-large : goal.returns-in_err-tools-clause-large
 returns-in_err-tools-clause-large g c =
-    by-exit (λ (r : Result Checked ReadCertError). IfErr r (LargeCause c.args.repo.now c.args.limits.now)) c.from_residual-in_err-tools.result (Work NoMemory) c.from_residual-in_err-tools.ensures.1 tt
+    by-exit (λ (r : Result Checked ReadCertError). IfErr r (LargeCause c.args.repo.now c.args.limits.now)) c.from_residual-in_err-tools.result (Work NoMemory)
+    c.from_residual-in_err-tools.ensures.1 tt
 
 pub returns-in_err-take_lines-clause-large : goal.returns-in_err-take_lines-clause-large
 returns-in_err-take_lines-clause-large g c =
-    by-exit (λ (r : Result Checked ReadCertError). IfErr r (LargeCause c.args.repo.now c.args.limits.now)) c.from_residual-in_err-take_lines.result c.in_err-take_lines.field-0.0 c.from_residual-in_err-take_lines.ensures.1
+    by-exit (λ (r : Result Checked ReadCertError). IfErr r (LargeCause c.args.repo.now c.args.limits.now)) c.from_residual-in_err-take_lines.result
+    c.in_err-take_lines.field-0.0 c.from_residual-in_err-take_lines.ensures.1
     c.in_err-take_lines.ensures.large

@@ -13,22 +13,30 @@ pub returns-in_err-step-clause-text : goal.returns-in_err-step-clause-text
 returns-in_err-step-clause-text g c = λ told x.
     let left : Option (List ℕ) = text_left c.lines.reader (g.D.Desk.view c.lines.desk) in
     let after : Option (List ℕ) = text_left c.next.new.self (g.D.Desk.view c.next.new.desk) in
-    by-exit (λ (r : Result (Unit {0}) ReadCertError). OfText told (λ text. TextAnswers (λ (u : Unit {0}). c.args.header.now) (λ (u : Unit {0}). c.lines.state.claims) c.args.repo.now c.args.limits.now text r)) c.from_residual.result c.in_err-step.field-0.0
+    by-exit (λ (r : Result (Unit {0}) ReadCertError). OfText told
+    (λ text. TextAnswers (λ (u : Unit {0}). c.args.header.now) (λ (u : Unit {0}). c.lines.state.claims) c.args.repo.now c.args.limits.now text r))
+    c.from_residual.result c.in_err-step.field-0.0
     c.from_residual.ensures.1
-    (next-stops c.forms_are_clear.ensures c.args.repo.now c.args.limits.now told c.args.header.now c.lines.reader c.next.new.self left after c.lines.state (g.D.Desk.view c.lines.desk) (g.D.Desk.view c.next.new.desk)
-    (c.lines.invariant.told told x) c.lines-within.ensures.within (λ (u : Unit {0}). c.args.header.now) (λ (u : Unit {0}). c.lines.state.claims) c.in_err-step.field-0.0 c.in_err-step.ensures.text c.in_err-step.ensures.cause)
+    (next-stops c.forms_are_clear.ensures c.args.repo.now c.args.limits.now told c.args.header.now c.lines.reader c.next.new.self left after c.lines.state
+    (g.D.Desk.view c.lines.desk) (g.D.Desk.view c.next.new.desk)
+    (c.lines.invariant.told told x) c.lines-within.ensures.within (λ (u : Unit {0}). c.args.header.now) (λ (u : Unit {0}). c.lines.state.claims)
+    c.in_err-step.field-0.0 c.in_err-step.ensures.text c.in_err-step.ensures.cause)
 
 pub returns-in_default-clause-text : goal.returns-in_default-clause-text
 returns-in_default-clause-text g c = λ told x.
     let left : Option (List ℕ) = text_left c.lines.reader (g.D.Desk.view c.lines.desk) in
     let after : Option (List ℕ) = text_left c.next.new.self (g.D.Desk.view c.next.new.desk) in
-    completes c.forms_are_clear.ensures c.args.repo.now c.args.limits.now told c.args.header.now c.lines.reader left after c.lines.state (c.lines.invariant.told told x) c.lines-within.ensures.within
-    (subst (λ (o : Option CertRecord). WhereTold left after (λ rest more. RecordAnswers c.lines.reader rest more (Ok o))) c.in_default.is c.in_ok-step.ensures.text)
+    completes c.forms_are_clear.ensures c.args.repo.now c.args.limits.now told c.args.header.now c.lines.reader left after c.lines.state
+    (c.lines.invariant.told told x) c.lines-within.ensures.within
+    (subst (λ (o : Option CertRecord). WhereTold left after (λ rest more. RecordAnswers c.lines.reader rest more (Ok o))) c.in_default.is
+    c.in_ok-step.ensures.text)
 
 pub returns-in_default-clause-means : goal.returns-in_default-clause-means
 returns-in_default-clause-means g c =
-    means-at c.lines_keep_models.ensures.what_follows c.models_are_installations.ensures c.args.repo.now c.args.limits.now None c.args.header.now c.lines.reader None c.lines.state c.len-in_order.ensures.in_order c.lines.invariant.checked
-    (subst (λ (o : Option CertRecord). RecordCause c.lines.reader c.next.new.self (g.D.Desk.view c.lines.desk) (g.D.Desk.view c.next.new.desk) (Ok o)) c.in_default.is c.in_ok-step.ensures.cause)
+    means-at c.lines_keep_models.ensures.what_follows c.models_are_installations.ensures c.args.repo.now c.args.limits.now None c.args.header.now c.lines.reader
+    None c.lines.state c.len-in_order.ensures.in_order c.lines.invariant.checked
+    (subst (λ (o : Option CertRecord). RecordCause c.lines.reader c.next.new.self (g.D.Desk.view c.lines.desk) (g.D.Desk.view c.next.new.desk) (Ok o))
+    c.in_default.is c.in_ok-step.ensures.cause)
 
 pub take_line-requires-clause-count : goal.take_line-requires-clause-count
 take_line-requires-clause-count g c =
@@ -43,15 +51,18 @@ lines-preserved g c =
     let step : CertRecord = c.in-Some.step in
     let old : DeskView = g.D.Desk.view c.lines.desk in
     let new : DeskView = g.D.Desk.view c.next.new.desk in
-    let answers = subst (λ (o : Option CertRecord). WhereTold left after (λ rest more. RecordAnswers c.lines.reader rest more (Ok o))) c.in-Some.is c.in_ok-step.ensures.text in
+    let answers = subst (λ (o : Option CertRecord). WhereTold left after (λ rest more. RecordAnswers c.lines.reader rest more (Ok o))) c.in-Some.is
+    c.in_ok-step.ensures.text in
     let cause = subst (λ (o : Option CertRecord). RecordCause c.lines.reader c.next.new.self old new (Ok o)) c.in-Some.is c.in_ok-step.ensures.cause in
     let gives = subst (λ (o : Option CertRecord). GivesRecord c.lines.reader c.next.new.self (Ok o)) c.in-Some.is c.in_ok-step.ensures.gives in
     let takes = c.in_ok-take_line.ensures.ok in
     let limits = limits-stay c.lines.state c.take_line.new.state step takes.none takes.becomes in
     record {
-      checked = next-checked c.forms_are_clear.ensures c.args.repo.now c.args.limits.now None c.args.header.now c.lines.reader c.next.new.self None None c.lines.state c.take_line.new.state old new c.lines.invariant.checked
+      checked = next-checked c.forms_are_clear.ensures c.args.repo.now c.args.limits.now None c.args.header.now c.lines.reader c.next.new.self None None
+          c.lines.state c.take_line.new.state old new c.lines.invariant.checked
           c.lines-within.ensures.within step refl cause gives takes limits.0 limits.1;
-      told = λ told x. next-checked c.forms_are_clear.ensures c.args.repo.now c.args.limits.now told c.args.header.now c.lines.reader c.next.new.self left after c.lines.state c.take_line.new.state old new (c.lines.invariant.told told x)
+      told = λ told x. next-checked c.forms_are_clear.ensures c.args.repo.now c.args.limits.now told c.args.header.now c.lines.reader c.next.new.self left after
+          c.lines.state c.take_line.new.state old new (c.lines.invariant.told told x)
           c.lines-within.ensures.within step answers cause gives takes limits.0 limits.1;
       tools = c.in_ok-take_line.ensures.ready ∙ c.lines.invariant.tools ∙ sym (packages-stay c.lines.state c.take_line.new.state step takes.none takes.becomes);
       reading = c.next.ensures.reading;
@@ -64,21 +75,29 @@ returns-in_err-take_line-clause-text g c = λ told x.
     let after : Option (List ℕ) = text_left c.next.new.self (g.D.Desk.view c.next.new.desk) in
     let old : DeskView = g.D.Desk.view c.lines.desk in
     let new : DeskView = g.D.Desk.view c.next.new.desk in
-    let answers = subst (λ (o : Option CertRecord). WhereTold left after (λ rest more. RecordAnswers c.lines.reader rest more (Ok o))) c.in-Some.is c.in_ok-step.ensures.text in
+    let answers = subst (λ (o : Option CertRecord). WhereTold left after (λ rest more. RecordAnswers c.lines.reader rest more (Ok o))) c.in-Some.is
+    c.in_ok-step.ensures.text in
     let cause = subst (λ (o : Option CertRecord). RecordCause c.lines.reader c.next.new.self old new (Ok o)) c.in-Some.is c.in_ok-step.ensures.cause in
     let gives = subst (λ (o : Option CertRecord). GivesRecord c.lines.reader c.next.new.self (Ok o)) c.in-Some.is c.in_ok-step.ensures.gives in
-    by-exit (λ (r : Result (Unit {0}) ReadCertError). OfText told (λ text. TextAnswers (λ (u : Unit {0}). c.args.header.now) (λ (u : Unit {0}). c.take_line.new.state.claims) c.args.repo.now c.args.limits.now text r)) c.from_residual-in_err-take_line.result
+    by-exit (λ (r : Result (Unit {0}) ReadCertError). OfText told
+    (λ text. TextAnswers (λ (u : Unit {0}). c.args.header.now) (λ (u : Unit {0}). c.take_line.new.state.claims) c.args.repo.now c.args.limits.now text r))
+    c.from_residual-in_err-take_line.result
     c.in_err-take_line.field-0.0 c.from_residual-in_err-take_line.ensures.1
-    (line-stops c.forms_are_clear.ensures c.args.repo.now c.args.limits.now told c.args.header.now c.lines.reader c.next.new.self left after c.lines.state old new (c.lines.invariant.told told x) c.lines-within.ensures.within
-    c.in-Some.step answers cause c.lines-line.result (c.lines-line.ensures.value ∙ ap (λ (v : ReaderView). v.lines) gives) (λ (u : Unit {0}). c.args.header.now) (λ (u : Unit {0}). c.take_line.new.state.claims) c.in_err-take_line.field-0.0
+    (line-stops c.forms_are_clear.ensures c.args.repo.now c.args.limits.now told c.args.header.now c.lines.reader c.next.new.self left after c.lines.state old
+    new (c.lines.invariant.told told x) c.lines-within.ensures.within
+    c.in-Some.step answers cause c.lines-line.result (c.lines-line.ensures.value ∙ ap (λ (v : ReaderView). v.lines) gives) (λ (u : Unit {0}). c.args.header.now)
+    (λ (u : Unit {0}). c.take_line.new.state.claims) c.in_err-take_line.field-0.0
     c.in_err-take_line.ensures.err)
 
 pub returns-in_err-step-clause-large : goal.returns-in_err-step-clause-large
 returns-in_err-step-clause-large g c =
-    by-exit (λ (r : Result (Unit {0}) ReadCertError). IfErr r (LargeCause c.args.repo.now c.args.limits.now)) c.from_residual.result c.in_err-step.field-0.0 c.from_residual.ensures.1
-    (record-large c.args.repo.now c.args.limits.now c.lines.reader c.next.new.self (g.D.Desk.view c.lines.desk) (g.D.Desk.view c.next.new.desk) c.in_err-step.field-0.0 c.in_err-step.ensures.cause)
+    by-exit (λ (r : Result (Unit {0}) ReadCertError). IfErr r (LargeCause c.args.repo.now c.args.limits.now)) c.from_residual.result c.in_err-step.field-0.0
+    c.from_residual.ensures.1
+    (record-large c.args.repo.now c.args.limits.now c.lines.reader c.next.new.self (g.D.Desk.view c.lines.desk) (g.D.Desk.view c.next.new.desk)
+    c.in_err-step.field-0.0 c.in_err-step.ensures.cause)
 
 pub returns-in_err-take_line-clause-large : goal.returns-in_err-take_line-clause-large
 returns-in_err-take_line-clause-large g c =
-    by-exit (λ (r : Result (Unit {0}) ReadCertError). IfErr r (LargeCause c.args.repo.now c.args.limits.now)) c.from_residual-in_err-take_line.result c.in_err-take_line.field-0.0 c.from_residual-in_err-take_line.ensures.1
+    by-exit (λ (r : Result (Unit {0}) ReadCertError). IfErr r (LargeCause c.args.repo.now c.args.limits.now)) c.from_residual-in_err-take_line.result
+    c.in_err-take_line.field-0.0 c.from_residual-in_err-take_line.ensures.1
     (line-large c.args.repo.now c.args.limits.now c.lines.state c.in-Some.step c.lines-line.result c.in_err-take_line.field-0.0 c.in_err-take_line.ensures.err)

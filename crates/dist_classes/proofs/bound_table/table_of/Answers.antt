@@ -8,7 +8,8 @@ pub loop-number-preserved : goal.loop-number-preserved
 loop-number-preserved c =
     let r = c.args.repo.now in
     let P : List ℕ → List ℕ → Package → Type 0 = λ q v p. IsPackageBound r.architecture q v p in
-    notes-more P [] c.loop-number.table c.note_package.new.self r.packages c.loop-number.number c.package.result.now c.package.ensures c.loop-number.invariant c.in_ok-note_package.ensures
+    notes-more P [] c.loop-number.table c.note_package.new.self r.packages c.loop-number.number c.package.result.now c.package.ensures c.loop-number.invariant
+    c.in_ok-note_package.ensures
 
 pub returns : goal.returns
 returns c =

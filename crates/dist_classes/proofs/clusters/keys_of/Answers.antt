@@ -17,4 +17,5 @@ loop-number-preserved c =
     map_more member_of packages n p (slice_get_within packages n p at) ∙ ap (λ (q : Package). map member_of (take n packages) ++ member_of q ∷ []) here in
     let member : Member = record { source = c.bytes.result.now; source_version = p.source_version; version = p.version } in
     let is : member ≡ member_of p = ap (λ (s : List ℕ). record { source = s; source_version = p.source_version; version = p.version }) c.bytes.ensures.value in
-    c.in_ok-add.ensures.ok ∙ ap (λ (keys : List Member). keys ++ member ∷ []) c.loop-number.invariant ∙ ap (λ (m : Member). map member_of (take n packages) ++ m ∷ []) is ∙ sym more
+    c.in_ok-add.ensures.ok ∙ ap (λ (keys : List Member). keys ++ member ∷ []) c.loop-number.invariant
+    ∙ ap (λ (m : Member). map member_of (take n packages) ++ m ∷ []) is ∙ sym more

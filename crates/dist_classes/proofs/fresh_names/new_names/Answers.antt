@@ -9,7 +9,8 @@ pub loop-number-preserved : goal.loop-number-preserved
 loop-number-preserved c =
     let r = c.args.repo.now in
     let P : List ℕ → Package → Type 0 = λ q p. HasFresh r q p in
-    adds-more P [] c.loop-number.names.keys c.note_items.new.names.keys r.packages c.loop-number.number c.package.result.now c.package.ensures c.loop-number.invariant c.in_ok-note_items.ensures
+    adds-more P [] c.loop-number.names.keys c.note_items.new.names.keys r.packages c.loop-number.number c.package.result.now c.package.ensures
+    c.loop-number.invariant c.in_ok-note_items.ensures
 
 pub returns : goal.returns
 returns c =

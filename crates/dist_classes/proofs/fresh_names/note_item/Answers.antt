@@ -7,7 +7,8 @@ use Rattle.dist_classes.proofs.fresh_names.note_item.Goals as goal
 pub loop-place-preserved : goal.loop-place-preserved
 loop-place-preserved c =
     let P : List ℕ → Atom → Type 0 = λ q x. IsFreshAtom c.args.repo.now q x in
-    adds-more P c.args.names.now.keys c.loop-place.names.keys c.note_atom.new.names.keys c.args.item.now c.loop-place.place c.get.result.now c.get.ensures c.loop-place.invariant c.in_ok-note_atom.ensures
+    adds-more P c.args.names.now.keys c.loop-place.names.keys c.note_atom.new.names.keys c.args.item.now c.loop-place.place c.get.result.now c.get.ensures
+    c.loop-place.invariant c.in_ok-note_atom.ensures
 
 pub returns : goal.returns
 returns c =

@@ -11,8 +11,10 @@ returns c =
     let word = get_or c.args.words.now (c.args.place / 64) 0 in
     SetsBit-from_word c.args.words.now c.args.place c.if-value.words c.args.value c.requires
     (elim c.if-value.branch [
-      | then-value w ↦ ap (λ x. eqb (bit_at x (c.args.place % 64)) 1) w.words-is ∙ (ap (λ b. eqb b 1) (bit_at_set_same w64 word (c.args.place % 64) within) ∙ sym w.if-value.true)
-      | else-value w ↦ ap (λ x. eqb (bit_at x (c.args.place % 64)) 1) w.words-is ∙ (ap (λ b. eqb b 1) (bit_at_clear_same w64 word (c.args.place % 64) within) ∙ sym w.if-value.false)
+      | then-value w ↦ ap (λ x. eqb (bit_at x (c.args.place % 64)) 1) w.words-is
+          ∙ (ap (λ b. eqb b 1) (bit_at_set_same w64 word (c.args.place % 64) within) ∙ sym w.if-value.true)
+      | else-value w ↦ ap (λ x. eqb (bit_at x (c.args.place % 64)) 1) w.words-is
+          ∙ (ap (λ b. eqb b 1) (bit_at_clear_same w64 word (c.args.place % 64) within) ∙ sym w.if-value.false)
     ])
     (λ i small other. elim c.if-value.branch [
       | then-value w ↦ ap (λ x. bit_at x i) w.words-is ∙ bit_at_set_other w64 word (c.args.place % 64) within i other

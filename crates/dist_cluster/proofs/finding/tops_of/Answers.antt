@@ -18,7 +18,8 @@ loop-numbers-preserved c =
     let highest : IsTop members cluster top = subst Of c.as_slice.ensures c.top_of.ensures in
     let Tops : List (List ℕ) → Type 0 = λ tops. AreTopsSoFar members clusters tops (c.loop-numbers.numbers-index + 1) in
     let now = c.in_ok-push.ensures.items ∙ ap (λ (v : List ℕ). c.loop-numbers.tops.items ++ v ∷ []) c.in_ok-try_clone.ensures in
-    subst Tops (sym now) (tops-more members clusters c.loop-numbers.tops.items c.loop-numbers.numbers-index cluster top c.loop-numbers-test.true c.numbers-item.is highest c.loop-numbers.invariant)
+    subst Tops (sym now) (tops-more members clusters c.loop-numbers.tops.items c.loop-numbers.numbers-index cluster top c.loop-numbers-test.true
+    c.numbers-item.is highest c.loop-numbers.invariant)
 
 pub returns : goal.returns
 returns c = tops-all c.args.entries.now c.args.clusters.now c.loop-numbers.tops.items c.loop-numbers.numbers-index (omega arith) c.loop-numbers.invariant

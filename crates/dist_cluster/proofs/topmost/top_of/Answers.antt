@@ -39,7 +39,8 @@ loop-place-preserved c =
           let now = ap (λ r. r.now) w.top-is ∙ version in
           subst Top (sym now) (highest-next members cluster place n member top here at c.loop-place.invariant above)
       | else-is_higher w ↦
-          let not_above : top_cmp top member.version ≢ Less = λ less. false≢true (sym w.if-is_higher.false ∙ c.is_higher.ensures.1 (ap (top_cmp top) version ∙ less)) in
+          let not_above : top_cmp top member.version ≢ Less = λ less. false≢true
+          (sym w.if-is_higher.false ∙ c.is_higher.ensures.1 (ap (top_cmp top) version ∙ less)) in
           subst Top (sym (ap (λ r. r.now) w.top-is)) (highest-still members cluster place n member top here at c.loop-place.invariant not_above)
     ]
 

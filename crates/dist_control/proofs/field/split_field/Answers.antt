@@ -4,8 +4,11 @@ use Rattle.dist_control.proofs.FieldLemmas.{field-first, field-more}
 use Rattle.dist_control.proofs.field.split_field.Goals as goal
 
 pub loop-after-init : goal.loop-after-init
-loop-after-init c =
-    (([], field-first _ _ _ c.split_line.ensures.lines c.split_line.ensures.cut, omega arith), omega (arith, c.split_line.ensures.shorter), c.split_line.ensures.shorter)
+loop-after-init c = (
+  ([], field-first _ _ _ c.split_line.ensures.lines c.split_line.ensures.cut, omega arith),
+  omega (arith, c.split_line.ensures.shorter),
+  c.split_line.ensures.shorter,
+)
 
 pub loop-after-preserved : goal.loop-after-preserved
 loop-after-preserved c =

@@ -31,5 +31,6 @@ returns-in-None c =
     let found = c.in-Some.ensures in
     let same : left ≡ drop k text = take_rest text k in
     let long : 0 < length left = omega (arith, ap length same, length-drop k text, found.0.high) in
-    let first : get_or left 0 0 ≡ get_or text k 0 = ap (λ (t : List ℕ). get_or t 0 0) same ∙ get_or-drop k text 0 0 ∙ ap (λ n. get_or text n 0) (let e : k + 0 ≡ k = omega arith in e) in
+    let first : get_or left 0 0 ≡ get_or text k 0 = ap (λ (t : List ℕ). get_or t 0 0) same ∙ get_or-drop k text 0 0
+    ∙ ap (λ n. get_or text n 0) (let e : k + 0 ≡ k = omega arith in e) in
     absurd (both_ways (is_white (get_or left 0 0)) (ap is_white first ∙ not_white _ found.1) (white _ (c.in-None.ensures 0 (omega arith) long)))

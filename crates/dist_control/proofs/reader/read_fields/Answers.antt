@@ -14,7 +14,8 @@ use Rattle.dist_control.proofs.reader.read_fields.Goals as goal
 
 pub returns-then-not-is_at_field : goal.returns-then-not-is_at_field
 returns-then-not-is_at_field c = record {
-  answers = inr (orphan-fault c.args.number c.args.bytes.now (lines c.args.bytes.now) refl (some-lines c.args.bytes.now c.requires.some) c.requires.at_stanza (c.if-not-is_at_field.ensures.none refl));
+  answers = inr (orphan-fault c.args.number c.args.bytes.now (lines c.args.bytes.now) refl (some-lines c.args.bytes.now c.requires.some) c.requires.at_stanza
+      (c.if-not-is_at_field.ensures.none refl));
 }
 
 pub returns-in_err-field : goal.returns-in_err-field
@@ -38,4 +39,5 @@ pub loop-alloc-preserved : goal.loop-alloc-preserved
 loop-alloc-preserved c =
     let is = c.if-not-added.false in
     reads-more _ _ _ _ _ _ c.loop-alloc.invariant (c.loop-alloc-test.ensures.field refl)
-    (field_text c.in_ok-field.field) _ _ c.in_ok-field.ensures _ _ (not-true _ (sym c.in-Ok.ensures.fresh ∙ is)) (OnTrue_at is c.in-Ok.ensures.added) (OnTrue_at is c.in-Ok.ensures.late)
+    (field_text c.in_ok-field.field) _ _ c.in_ok-field.ensures _ _ (not-true _ (sym c.in-Ok.ensures.fresh ∙ is)) (OnTrue_at is c.in-Ok.ensures.added)
+    (OnTrue_at is c.in-Ok.ensures.late)

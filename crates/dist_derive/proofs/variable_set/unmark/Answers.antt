@@ -10,7 +10,8 @@ set-requires-clause-from_one c =
 
 pub set-requires-clause-in_range : goal.set-requires-clause-in_range
 set-requires-clause-in_range c =
-    let here = All-get_or (λ v. (1 ≤ v) × (v ≤ length c.args.marks.now)) c.args.members.now c.loop-member.member-index 0 c.loop-member-test.true c.requires.in_range in
+    let here = All-get_or (λ v. (1 ≤ v) × (v ≤ length c.args.marks.now)) c.args.members.now c.loop-member.member-index 0 c.loop-member-test.true
+    c.requires.in_range in
     omega (arith, here.1, c.loop-member.invariant.long)
 
 pub loop-member-init : goal.loop-member-init
@@ -21,7 +22,8 @@ loop-member-preserved c =
     let i = c.loop-member.member-index in
     let member = get_or c.args.members.now i 0 in
     let here = All-get_or (λ v. (1 ≤ v) × (v ≤ length c.args.marks.now)) c.args.members.now i 0 c.loop-member-test.true c.requires.in_range in
-    let left = subst (λ xs. AreLeft c.loop-member.marks xs (length c.args.marks.now)) (drop_more c.args.members.now i 0 c.loop-member-test.true) c.loop-member.invariant in
+    let left = subst (λ xs. AreLeft c.loop-member.marks xs (length c.args.marks.now)) (drop_more c.args.members.now i 0 c.loop-member-test.true)
+    c.loop-member.invariant in
     subst (λ marks. AreLeft marks (drop (i + 1) c.args.members.now) (length c.args.marks.now)) (sym c.set.ensures)
     (AreLeft-more c.loop-member.marks member (drop (i + 1) c.args.members.now) (length c.args.marks.now) left here.0 here.1)
 

@@ -23,19 +23,29 @@ loop-number-preserved c =
     elim c.if-not-is_left_out.branch [
       | then-not-is_left_out w ↦ subst Of (sym w.least-is)
           (least-more One i c.loop-number.least w.member_found.result w.lesser-least.result w.lesser-least.ensures c.loop-number.invariant
-          (moved-one s values atom c.args.but c.args.providers.now i w.member_found.result (λ is. false≢true (w.if-not-is_left_out.ensures.1 is)) w.member_found.ensures))
-      | else-not-is_left_out w ↦ subst Of (sym w.least-is) (least-skip One i c.loop-number.least (λ v. none-moved s values atom c.args.but c.args.providers.now i v (w.if-not-is_left_out.ensures.0 refl)) c.loop-number.invariant)
+          (moved-one s values atom c.args.but c.args.providers.now i w.member_found.result (λ is. false≢true (w.if-not-is_left_out.ensures.1 is))
+          w.member_found.ensures))
+      | else-not-is_left_out w ↦ subst Of (sym w.least-is) (least-skip One i c.loop-number.least
+          (λ v. none-moved s values atom c.args.but c.args.providers.now i v (w.if-not-is_left_out.ensures.0 refl)) c.loop-number.invariant)
     ]
 
 pub returns : goal.returns
 returns c =
-    providers-all c.args.space.now c.args.members.now c.args.atom.now IsLaterOf (IsMovedBut c.args.but) c.args.providers.now c.loop-number.number-index c.loop-number.least c.requires.providers c.loop-number-test.false
+    providers-all c.args.space.now c.args.members.now c.args.atom.now IsLaterOf (IsMovedBut c.args.but) c.args.providers.now c.loop-number.number-index
+    c.loop-number.least c.requires.providers c.loop-number-test.false
     (moved-provided c.args.space.now c.args.members.now c.args.atom.now c.args.but) c.loop-number.invariant
 
 provider-within : (c : goal.Then-not-is_left_out) → get_or c.args.providers.now c.loop-number.number-index 0 < length c.args.space.now.repository.packages
 provider-within c =
-    let there : Contains c.args.providers.now (get_or c.args.providers.now c.loop-number.number-index 0) = (c.loop-number.number-index, c.loop-number-test.true, get_or_default c.args.providers.now c.loop-number.number-index (get_or c.args.providers.now c.loop-number.number-index 0) 0 c.loop-number-test.true) in
-    within-from (IsProvider c.args.space.now.repository.architecture c.args.atom.now.name) c.args.space.now.repository.packages (get_or c.args.providers.now c.loop-number.number-index 0) ((c.requires.providers.exact (get_or c.args.providers.now c.loop-number.number-index 0)).0 there)
+    let there : Contains c.args.providers.now (get_or c.args.providers.now c.loop-number.number-index 0) = (
+      c.loop-number.number-index,
+      c.loop-number-test.true,
+      get_or_default c.args.providers.now c.loop-number.number-index
+          (get_or c.args.providers.now c.loop-number.number-index 0) 0 c.loop-number-test.true,
+    ) in
+    within-from (IsProvider c.args.space.now.repository.architecture c.args.atom.now.name) c.args.space.now.repository.packages
+    (get_or c.args.providers.now c.loop-number.number-index 0)
+    ((c.requires.providers.exact (get_or c.args.providers.now c.loop-number.number-index 0)).0 there)
 
 pub member_found-requires-clause-member : goal.member_found-requires-clause-member
 member_found-requires-clause-member c = provider-within c

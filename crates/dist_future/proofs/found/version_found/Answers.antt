@@ -5,9 +5,11 @@ use Rattle.dist_future.proofs.found.version_found.Goals as goal
 
 pub loop-place-preserved : goal.loop-place-preserved
 loop-place-preserved c =
-    least-more (KeptFound c.args.space.now c.args.members.now c.args.atom.now c.args.member c.args.class) c.loop-place.place c.loop-place.least c.entry_found.result c.lesser-least.result c.lesser-least.ensures c.loop-place.invariant c.entry_found.ensures
+    least-more (KeptFound c.args.space.now c.args.members.now c.args.atom.now c.args.member c.args.class) c.loop-place.place c.loop-place.least
+    c.entry_found.result c.lesser-least.result c.lesser-least.ensures c.loop-place.invariant c.entry_found.ensures
 
 pub returns : goal.returns
 returns c =
-    version-all c.args.space.now c.args.members.now c.args.atom.now c.args.member c.args.class c.loop-place.place c.package.result.now c.candidate.result c.loop-place.least c.lesser.result c.package.ensures.value (omega arith) c.lesser.ensures
+    version-all c.args.space.now c.args.members.now c.args.atom.now c.args.member c.args.class c.loop-place.place c.package.result.now c.candidate.result
+    c.loop-place.least c.lesser.result c.package.ensures.value (omega arith) c.lesser.ensures
     c.candidate.ensures c.loop-place.invariant

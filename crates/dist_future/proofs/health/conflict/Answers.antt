@@ -1,6 +1,7 @@
 use Rattle.std.proofs.Common.{◌≢◌, ℕ, ◌+◌, ◌<◌, inl, inr, refl, arith, subst, sym, Option}
 use Rattle.dist_future.specs.Matching.{IsRejectedFrom}
-use Rattle.dist_future.proofs.ConflictPairs.{IsLeastSeenIfAny, below-from, conflicting-first, conflicting-second, least-conflict, never-itself, seen-none, seen-some}
+use Rattle.dist_future.proofs.ConflictPairs.{IsLeastSeenIfAny, below-from, conflicting-first, conflicting-second, least-conflict, never-itself, seen-none}
+use Rattle.dist_future.proofs.ConflictPairs.{seen-some}
 use Rattle.dist_future.proofs.health.conflict.Goals.{in-Some+then-variable-other, in-Some+else-variable-other, in_default}
 use Rattle.dist_future.proofs.health.conflict.Goals as goal
 
@@ -13,7 +14,8 @@ loop-variable-preserved c =
     let Of : Option (ℕ × ℕ) → Type 0 = IsLeastSeenIfAny s values (variable + 1) in
     elim c.match-rejected_row.branch [
       | in-Some+then-variable-other w ↦ subst Of (sym w.least-is)
-          (seen-some s values variable w.in-Some.other variable w.in-Some.other c.loop-variable.least w.lesser_pair.result c.loop-variable.invariant w.in-Some.ensures (inl (w.if-variable-other.true, refl, refl))
+          (seen-some s values variable w.in-Some.other variable w.in-Some.other c.loop-variable.least w.lesser_pair.result c.loop-variable.invariant
+          w.in-Some.ensures (inl (w.if-variable-other.true, refl, refl))
           (conflicting-first s values space variable w.in-Some.other w.if-variable-other.true w.in-Some.ensures.holds) w.lesser_pair.ensures)
       | in-Some+else-variable-other w ↦
           let other = w.in-Some.other in
@@ -21,7 +23,8 @@ loop-variable-preserved c =
           let apart : other ≢ variable = λ same. never-itself s values space variable (subst Rejected same w.in-Some.ensures.holds) in
           let below : other < variable = below-from variable other w.if-variable-other.false apart in
           subst Of (sym w.least-is)
-          (seen-some s values variable other other variable c.loop-variable.least w.lesser_pair-else-variable-other.result c.loop-variable.invariant w.in-Some.ensures (inr (below, refl, refl))
+          (seen-some s values variable other other variable c.loop-variable.least w.lesser_pair-else-variable-other.result c.loop-variable.invariant
+          w.in-Some.ensures (inr (below, refl, refl))
           (conflicting-second s values space other variable below w.in-Some.ensures.holds) w.lesser_pair-else-variable-other.ensures)
       | in_default w ↦ subst Of (sym w.least-is) (seen-none s values variable c.loop-variable.least c.loop-variable.invariant w.in_default.ensures)
     ]

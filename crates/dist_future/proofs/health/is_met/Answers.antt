@@ -28,10 +28,12 @@ returns-then-is_some-clause-met c =
 pub loop-place-preserved : goal.loop-place-preserved
 loop-place-preserved c =
     none-more c.args.space.now c.args.members.now c.args.alternatives.now c.loop-place.place c.get-atom.result.now c.get-atom.ensures
-    (none-found (IsAny c.args.space.now c.args.members.now c.get-atom.result.now None) c.found.result (sym c.is_some.ensures ∙ c.if-is_some.false) c.found.ensures) c.loop-place.invariant
+    (none-found (IsAny c.args.space.now c.args.members.now c.get-atom.result.now None) c.found.result (sym c.is_some.ensures ∙ c.if-is_some.false)
+    c.found.ensures) c.loop-place.invariant
 
 pub returns-clause-met : goal.returns-clause-met
 returns-clause-met c = (
   λ is. cc,
-  λ some. absurd (none-met c.args.space.now c.args.members.now c.args.alternatives.now c.loop-place.place (let e = c.len-place-end.ensures.value in omega (arith, e, c.loop-place-test.false)) c.loop-place.invariant some),
+  λ some. absurd (none-met c.args.space.now c.args.members.now c.args.alternatives.now c.loop-place.place
+      (let e = c.len-place-end.ensures.value in omega (arith, e, c.loop-place-test.false)) c.loop-place.invariant some),
 )

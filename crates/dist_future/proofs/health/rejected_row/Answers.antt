@@ -11,7 +11,8 @@ pub returns-in-Present : goal.returns-in-Present
 returns-in-Present c =
     let number = c.in-Present.number in
     rejected-row c.args.space.now c.args.members.now c.args.variable number c.package.result.now c.rejected.result c.in-Present.ensures.of
-    (holds-from c.args.space.now c.args.members.now (Present number) c.args.variable c.value.result c.in-Present.ensures.is_meaning (sym c.in-Present.ensures.back) c.value.ensures c.if-not-value.false) c.package.ensures.value c.rejected.ensures
+    (holds-from c.args.space.now c.args.members.now (Present number) c.args.variable c.value.result c.in-Present.ensures.is_meaning
+    (sym c.in-Present.ensures.back) c.value.ensures c.if-not-value.false) c.package.ensures.value c.rejected.ensures
 
 pub returns-in_default : goal.returns-in_default
 returns-in_default c = other-rejected c.args.space.now c.args.members.now c.args.variable c.meaning.result c.meaning.ensures.of c.in_default.not-Present

@@ -6,7 +6,11 @@ use Rattle.dist_future.proofs.health.unmet_item.Goals as goal
 
 pub overflow_cast-result : goal.overflow_cast-result
 overflow_cast-result c =
-    omega (arith, place-fits c.args.space.now.repository c.args.number c.args.package.now c.loop-place.place c.requires.within_size c.requires.number c.loop-place.invariant.some)
+    omega (
+      arith,
+      place-fits c.args.space.now.repository c.args.number c.args.package.now c.loop-place.place c.requires.within_size c.requires.number
+          c.loop-place.invariant.some,
+    )
 
 pub loop-place-preserved : goal.loop-place-preserved
 loop-place-preserved c =
@@ -20,4 +24,5 @@ loop-place-preserved c =
 
 pub returns : goal.returns
 returns c =
-    unmet-past c.args.space.now c.args.members.now c.args.package.now.depends c.loop-place.place (let e = c.len-place-end.ensures in omega (arith, e, c.loop-place-test.false)) c.loop-place.invariant.met
+    unmet-past c.args.space.now c.args.members.now c.args.package.now.depends c.loop-place.place
+    (let e = c.len-place-end.ensures in omega (arith, e, c.loop-place-test.false)) c.loop-place.invariant.met

@@ -12,7 +12,8 @@ pub returns-in-Present : goal.returns-in-Present
 returns-in-Present c =
     let number = c.in-Present.number in
     unmet-row c.args.space.now c.args.members.now c.args.variable number c.package-package.result.now c.unmet_item.result c.in-Present.ensures.of
-    (holds-from c.args.space.now c.args.members.now (Present number) c.args.variable c.value.result c.in-Present.ensures.is_meaning (sym c.in-Present.ensures.back) c.value.ensures c.if-not-value.false)
+    (holds-from c.args.space.now c.args.members.now (Present number) c.args.variable c.value.result c.in-Present.ensures.is_meaning
+    (sym c.in-Present.ensures.back) c.value.ensures c.if-not-value.false)
     (ap (λ (r : PackageList). slice_get r.packages number) (sym c.repo.ensures.value) ∙ c.package-package.ensures) c.unmet_item.ensures
 
 pub returns-in_default : goal.returns-in_default

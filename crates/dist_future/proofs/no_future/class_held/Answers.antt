@@ -8,13 +8,18 @@ use Rattle.dist_future.proofs.no_future.class_held.Goals as goal
 pub returns-then-value : goal.returns-then-value
 returns-then-value c =
     held-least c.args.space.now c.args.members.now (At c.args.cluster) c.args.start c.loop-class.class c.variable-variable.result
-    (λ k l is also less. class-less c.args.space.now c.args.cluster k l c.variables-variables.ensures.space is also less) (omega arith) c.variable-variable.ensures.value
-    (holds-from c.args.space.now c.args.members.now (At c.args.cluster c.loop-class.class) c.variable-variable.result c.value.result (omega (arith, c.requires.end, c.loop-class-test.true)) c.variable-variable.ensures.value c.value.ensures c.if-value.true) c.loop-class.invariant
+    (λ k l is also less. class-less c.args.space.now c.args.cluster k l c.variables-variables.ensures.space is also less) (omega arith)
+    c.variable-variable.ensures.value
+    (holds-from c.args.space.now c.args.members.now (At c.args.cluster c.loop-class.class) c.variable-variable.result c.value.result
+    (omega (arith, c.requires.end, c.loop-class-test.true)) c.variable-variable.ensures.value c.value.ensures c.if-value.true) c.loop-class.invariant
 
 pub loop-class-preserved : goal.loop-class-preserved
 loop-class-preserved c =
-    held-more c.args.space.now c.args.members.now (At c.args.cluster) c.args.start c.loop-class.class (λ holds. never-holds c.args.space.now c.args.members.now (At c.args.cluster c.loop-class.class) c.variable-variable.result c.value.result c.value.ensures c.if-value.false holds (sym c.variable-variable.ensures.value))
+    held-more c.args.space.now c.args.members.now (At c.args.cluster) c.args.start c.loop-class.class
+    (λ holds. never-holds c.args.space.now c.args.members.now (At c.args.cluster c.loop-class.class) c.variable-variable.result c.value.result
+    c.value.ensures c.if-value.false holds (sym c.variable-variable.ensures.value))
     c.loop-class.invariant
 
 pub returns : goal.returns
-returns c = held-none c.args.space.now c.args.members.now (At c.args.cluster) c.args.start c.loop-class.class (λ k is. omega (arith, is, c.requires.end, c.loop-class-test.false)) c.loop-class.invariant
+returns c = held-none c.args.space.now c.args.members.now (At c.args.cluster) c.args.start c.loop-class.class
+    (λ k is. omega (arith, is, c.requires.end, c.loop-class-test.false)) c.loop-class.invariant

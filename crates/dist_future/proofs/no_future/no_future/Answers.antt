@@ -12,4 +12,5 @@ loop-first-preserved c = row-none (AreNoFuture c.args.space.now c.args.members.n
 
 pub returns : goal.returns
 returns c =
-    all-rows c.args.space.now c.args.members.now c.loop-first.first c.variables-first-end.ensures.space (let e = c.variables-first-end.ensures.value in omega (arith, e, c.loop-first-test.false)) c.loop-first.invariant
+    all-rows c.args.space.now c.args.members.now c.loop-first.first c.variables-first-end.ensures.space
+    (let e = c.variables-first-end.ensures.value in omega (arith, e, c.loop-first-test.false)) c.loop-first.invariant

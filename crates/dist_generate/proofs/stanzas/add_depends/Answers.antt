@@ -14,8 +14,14 @@ returns-in_ok-push c =
     let adds = c.in_ok-add_items.ensures in
     let all = items c.args.number state in
     let same : many (λ _. item c.args.number) c.draw-count.result c.draw-count.new.self.state ≡ all =
-    many-at (λ _. item c.args.number) c.draw-count.result (draw 3 state).0 c.draw-count.new.self.state (next_state state) c.draw-count.ensures.value c.draw-count.ensures.moved in
-    let some : 0 < length all.0 = omega (arith, length-many (λ _. item c.args.number) (draw 3 state).0 (next_state state), c.draw-count.ensures.value, c.if-count-gt0.true) in
+    many-at (λ _. item c.args.number) c.draw-count.result (draw 3 state).0 c.draw-count.new.self.state (next_state state) c.draw-count.ensures.value
+    c.draw-count.ensures.moved in
+    let some : 0 < length all.0 = omega (
+      arith,
+      length-many (λ _. item c.args.number) (draw 3 state).0 (next_state state),
+      c.draw-count.ensures.value,
+      c.if-count-gt0.true,
+    ) in
     adds-is (items c.args.number) (λ o. text_of_lines (depends_lines o)) old state _ _ all.0 all.1 refl
     (c.in_ok-push.ensures.items
     ∙ ap (λ (t : List ℕ). t ++ 10 ∷ []) (

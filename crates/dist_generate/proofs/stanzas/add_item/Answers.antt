@@ -17,10 +17,12 @@ loop-place-preserved c =
     record {
       text = elim c.if-place-gt0.branch [
         | then-place-gt0+in_ok-extend_from_slice w ↦
-            next-more each alternative_text (codes " | ") old start c.loop-place.place c.loop-place.text.items c.loop-place.draws.state _ c.if-place-gt0.text.items w.if-place-gt0.true before was
+            next-more each alternative_text (codes " | ") old start c.loop-place.place c.loop-place.text.items c.loop-place.draws.state _
+            c.if-place-gt0.text.items w.if-place-gt0.true before was
             (ap (λ t. t.items) w.text-is ∙ w.in_ok-extend_from_slice.ensures.items) adds.text
         | else-place-gt0 w ↦
-            next-first each alternative_text (codes " | ") old start c.loop-place.place c.loop-place.text.items c.loop-place.draws.state _ (omega (arith, w.if-place-gt0.false)) before was
+            next-first each alternative_text (codes " | ") old start c.loop-place.place c.loop-place.text.items c.loop-place.draws.state _
+            (omega (arith, w.if-place-gt0.false)) before was
             (adds.text ∙ ap (λ t. t.items ++ alternative_text (each c.loop-place.place c.loop-place.draws.state).0) w.text-is)
       ];
       moved = next-moved each start c.loop-place.place c.loop-place.draws.state _ was adds.moved;
@@ -29,8 +31,10 @@ loop-place-preserved c =
 pub returns : goal.returns
 returns c =
     let state = c.args.draws.now.state in
-    let ended : c.loop-place.place ≡ suc (draw 2 state).0 = omega (arith, c.loop-place-test.false, c.loop-place.auto.place-end, c.draw-alternatives.ensures.value) in
-    let same = many-at (λ _. alternative c.args.number) c.loop-place.place (suc (draw 2 state).0) c.draw-alternatives.new.self.state (next_state state) ended c.draw-alternatives.ensures.moved in
+    let ended : c.loop-place.place ≡ suc (draw 2 state).0 =
+    omega (arith, c.loop-place-test.false, c.loop-place.auto.place-end, c.draw-alternatives.ensures.value) in
+    let same = many-at (λ _. alternative c.args.number) c.loop-place.place (suc (draw 2 state).0) c.draw-alternatives.new.self.state (next_state state) ended
+    c.draw-alternatives.ensures.moved in
     record {
       text = c.loop-place.invariant.text ∙ ap (λ r. c.args.text.now.items ++ item_text r.0) same;
       moved = c.loop-place.invariant.moved ∙ ap (λ r. r.1) same;

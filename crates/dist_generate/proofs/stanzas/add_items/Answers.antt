@@ -16,10 +16,12 @@ loop-place-preserved c =
     record {
       text = elim c.if-place-gt0.branch [
         | then-place-gt0+in_ok-extend_from_slice w ↦
-            next-more each item_text (codes ", ") old start c.loop-place.place c.loop-place.text.items c.loop-place.draws.state _ c.if-place-gt0.text.items w.if-place-gt0.true before was
+            next-more each item_text (codes ", ") old start c.loop-place.place c.loop-place.text.items c.loop-place.draws.state _ c.if-place-gt0.text.items
+            w.if-place-gt0.true before was
             (ap (λ t. t.items) w.text-is ∙ w.in_ok-extend_from_slice.ensures.items) adds.text
         | else-place-gt0 w ↦
-            next-first each item_text (codes ", ") old start c.loop-place.place c.loop-place.text.items c.loop-place.draws.state _ (omega (arith, w.if-place-gt0.false)) before was
+            next-first each item_text (codes ", ") old start c.loop-place.place c.loop-place.text.items c.loop-place.draws.state _
+            (omega (arith, w.if-place-gt0.false)) before was
             (adds.text ∙ ap (λ t. t.items ++ item_text (each c.loop-place.place c.loop-place.draws.state).0) w.text-is)
       ];
       moved = next-moved each start c.loop-place.place c.loop-place.draws.state _ was adds.moved;

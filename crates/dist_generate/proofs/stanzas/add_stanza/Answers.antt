@@ -11,7 +11,8 @@ returns c =
     let old = c.args.text.now.items in
     let text = c.add_head.new.text.items in
     let moved = c.draw-digit.ensures.moved in
-    let head = c.in_ok-add_head.ensures ∙ ap (λ d. old ++ text_of_lines (head_lines (record { number = number; digit = d; items = []; conflict = None }))) c.draw-digit.ensures.value in
+    let head = c.in_ok-add_head.ensures ∙ ap (λ d. old ++ text_of_lines (head_lines (record { number = number; digit = d; items = []; conflict = None })))
+    c.draw-digit.ensures.value in
     elim c.if-number-gt0.branch [
       | then-number-gt0+in_ok-add_depends+in_ok-add_conflict w ↦
           stanza-more number c.args.draws.now.state _ moved old text head _ _ c.if-number-gt0.text.items _ _ _ _ w.if-number-gt0.true

@@ -17,4 +17,5 @@ pub returns-clause-rising : goal.returns-clause-rising
 returns-clause-rising c =
     let found : c.in_ok-found.found.items ≡ c.candidates.result.now = c.in_ok-found.ensures.items_if_clones_equal (λ x y h. h) in
     subst AreRising (sym c.keep_in_each.ensures)
-    (AllPairs-filter (λ a b. a < b) (in_each c.args.window.now c.deref.result.now) c.in_ok-found.found.items (subst AreRising (sym found) c.candidates.ensures.rising))
+    (AllPairs-filter (λ a b. a < b) (in_each c.args.window.now c.deref.result.now) c.in_ok-found.found.items
+    (subst AreRising (sym found) c.candidates.ensures.rising))

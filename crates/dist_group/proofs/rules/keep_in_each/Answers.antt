@@ -8,4 +8,5 @@ loop-number-init c = sym (filter-all (in_each c.args.window.now []) c.args.kept.
 
 pub loop-number-preserved : goal.loop-number-preserved
 loop-number-preserved c =
-    c.keep_members.ensures ∙ kept-more c.args.window.now c.args.named.now c.args.kept.now.items c.loop-number.kept.items c.loop-number.number-index c.loop-number-test.true c.loop-number.invariant
+    c.keep_members.ensures ∙ kept-more c.args.window.now c.args.named.now c.args.kept.now.items c.loop-number.kept.items c.loop-number.number-index
+    c.loop-number-test.true c.loop-number.invariant

@@ -32,4 +32,5 @@ pub returns : goal.returns
 returns c =
     let end : c.loop-rest.rest.now ≡ [] = nil_from_length c.loop-rest.rest.now (eqb-true _ _ (sym c.loop-rest-test.ensures)) in
     ReadSoFar-end c.args.repository.now.packages c.args.bytes.now c.loop-rest.number c.loop-rest.members
-    (subst (λ (rest : List ℕ). ReadSoFar c.args.repository.now.packages c.args.bytes.now rest c.loop-rest.number c.loop-rest.members) end c.loop-rest.invariant.read)
+    (subst (λ (rest : List ℕ). ReadSoFar c.args.repository.now.packages c.args.bytes.now rest c.loop-rest.number c.loop-rest.members) end
+    c.loop-rest.invariant.read)

@@ -6,7 +6,8 @@ use Rattle.dist_now.proofs.conflicts.rejected.Goals as goal
 
 pub rejected_by-requires-clause-providers : goal.rejected_by-requires-clause-providers
 rejected_by-requires-clause-providers c =
-    c.conflict_providers-providers.ensures c.get-atom.result.now (record { holder = c.args.package.now; is_holder = c.requires.number; is_atom = c.get-atom.ensures })
+    c.conflict_providers-providers.ensures c.get-atom.result.now
+    (record { holder = c.args.package.now; is_holder = c.requires.number; is_atom = c.get-atom.ensures })
 
 pub loop-place-preserved : goal.loop-place-preserved
 loop-place-preserved c =
@@ -16,10 +17,12 @@ loop-place-preserved c =
     let Of : Option ℕ → Type 0 = IsLeastIfAny (IsRejectedBefore repo members c.args.number atoms (c.loop-place.place + 1)) in
     elim c.match-rejected_by.branch [
       | in-Some w ↦ subst Of (sym w.least-is)
-          (before-some repo members c.args.number atoms c.loop-place.place c.get-atom.result.now c.loop-place.least w.in-Some.other w.lesser.result c.get-atom.ensures c.loop-place.invariant w.in-Some.ensures
+          (before-some repo members c.args.number atoms c.loop-place.place c.get-atom.result.now c.loop-place.least w.in-Some.other w.lesser.result
+          c.get-atom.ensures c.loop-place.invariant w.in-Some.ensures
           w.lesser.ensures.one w.lesser.ensures.at_most_other w.lesser.ensures.at_most_least)
       | in_default w ↦ subst Of (sym w.least-is)
-          (before-none repo members c.args.number atoms c.loop-place.place c.get-atom.result.now c.loop-place.least c.get-atom.ensures c.loop-place.invariant w.in_default.ensures)
+          (before-none repo members c.args.number atoms c.loop-place.place c.get-atom.result.now c.loop-place.least c.get-atom.ensures c.loop-place.invariant
+          w.in_default.ensures)
     ]
 
 pub returns : goal.returns

@@ -7,14 +7,17 @@ use Rattle.dist_now.proofs.conflicts.rejected_by.Goals as goal
 pub returns-then-matches : goal.returns-then-matches
 returns-then-matches c =
     let other = get_or c.args.providers.now c.loop-other.other-index 0 in
-    least-rejected c.args.repo.now c.args.members.now c.args.number c.args.atom.now c.args.providers.now c.loop-other.other-index c.requires.providers c.loop-other.invariant (
+    least-rejected c.args.repo.now c.args.members.now c.args.number c.args.atom.now c.args.providers.now c.loop-other.other-index c.requires.providers
+    c.loop-other.invariant (
       c.if-other-number.true,
       record {
         member = c.if-is_member.ensures.0 refl;
-        has = at-has (Matches c.args.repo.now.architecture c.args.atom.now) c.args.repo.now.packages other c.package.result.now c.package.ensures (c.if-matches.ensures.0 refl);
+        has = at-has (Matches c.args.repo.now.architecture c.args.atom.now) c.args.repo.now.packages other c.package.result.now c.package.ensures
+            (c.if-matches.ensures.0 refl);
       },
     )
 
 pub returns : goal.returns
 returns c =
-    none-rejected c.args.repo.now c.args.members.now c.args.number c.args.atom.now c.args.providers.now c.loop-other.other-index c.loop-other-test.false c.requires.providers c.loop-other.invariant
+    none-rejected c.args.repo.now c.args.members.now c.args.number c.args.atom.now c.args.providers.now c.loop-other.other-index c.loop-other-test.false
+    c.requires.providers c.loop-other.invariant

@@ -11,7 +11,11 @@ use Rattle.dist_now.proofs.faults.unmet_item.Goals as goal
 
 pub overflow_cast-result : goal.overflow_cast-result
 overflow_cast-result c =
-    omega (arith, place-fits c.args.repo.now c.args.number c.args.package.now c.loop-place.place c.requires.within_size c.requires.number c.loop-place.invariant.some)
+    omega (
+      arith,
+      place-fits c.args.repo.now c.args.number c.args.package.now c.loop-place.place c.requires.within_size c.requires.number
+          c.loop-place.invariant.some,
+    )
 
 pub loop-place-preserved : goal.loop-place-preserved
 loop-place-preserved c =

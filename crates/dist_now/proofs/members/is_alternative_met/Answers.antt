@@ -10,5 +10,8 @@ returns-then-matches c = (
 )
 
 pub returns : goal.returns
-returns c =
-    (λ is. cc, λ any. absurd (none-matched c.args.repo.now c.args.members.now c.args.atom.now c.args.providers.now c.loop-number.number-index c.loop-number-test.false c.requires.providers c.loop-number.invariant any))
+returns c = (
+  λ is. cc,
+  λ any. absurd (none-matched c.args.repo.now c.args.members.now c.args.atom.now c.args.providers.now c.loop-number.number-index
+      c.loop-number-test.false c.requires.providers c.loop-number.invariant any),
+)

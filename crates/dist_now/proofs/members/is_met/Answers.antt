@@ -7,7 +7,13 @@ use Rattle.dist_now.proofs.members.is_met.Goals as goal
 pub is_alternative_met-requires-clause-providers : goal.is_alternative_met-requires-clause-providers
 is_alternative_met-requires-clause-providers c =
     c.alternative_providers-providers.ensures c.get-atom.result.now
-    (record { holder = c.requires.item.holder; alternatives = c.args.alternatives.now; is_holder = c.requires.item.is_holder; is_item = c.requires.item.is_item; is_atom = c.get-atom.ensures })
+    (record {
+      holder = c.requires.item.holder;
+      alternatives = c.args.alternatives.now;
+      is_holder = c.requires.item.is_holder;
+      is_item = c.requires.item.is_item;
+      is_atom = c.get-atom.ensures;
+    })
 
 pub returns-then-is_alternative_met-clause-met : goal.returns-then-is_alternative_met-clause-met
 returns-then-is_alternative_met-clause-met c =
@@ -15,7 +21,8 @@ returns-then-is_alternative_met-clause-met c =
 
 pub loop-place-preserved : goal.loop-place-preserved
 loop-place-preserved c =
-    none-at-more (IsMetBy c.args.repo.now c.args.members.now) c.args.alternatives.now c.loop-place.place c.get-atom.result.now c.get-atom.ensures c.loop-place.invariant
+    none-at-more (IsMetBy c.args.repo.now c.args.members.now) c.args.alternatives.now c.loop-place.place c.get-atom.result.now c.get-atom.ensures
+    c.loop-place.invariant
     (λ any. let is = c.if-is_alternative_met.ensures.1 any in cc)
 
 pub returns-clause-met : goal.returns-clause-met

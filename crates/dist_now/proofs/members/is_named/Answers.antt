@@ -11,5 +11,9 @@ returns-then-eq c = (
 )
 
 pub returns : goal.returns
-returns c =
-    (λ is. cc, λ any. absurd (none-named c.args.repo.now c.args.members.now c.args.name.now c.providers-providers.result.now c.loop-number.number-index c.loop-number-test.false (subst (λ (name : List ℕ). AreProviders c.args.repo.now name c.providers-providers.result.now) c.bytes.ensures.value c.providers-providers.ensures) c.loop-number.invariant any))
+returns c = (
+  λ is. cc,
+  λ any. absurd (none-named c.args.repo.now c.args.members.now c.args.name.now c.providers-providers.result.now c.loop-number.number-index
+      c.loop-number-test.false (subst (λ (name : List ℕ). AreProviders c.args.repo.now name c.providers-providers.result.now) c.bytes.ensures.value
+      c.providers-providers.ensures) c.loop-number.invariant any),
+)

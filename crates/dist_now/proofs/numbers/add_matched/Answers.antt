@@ -18,14 +18,17 @@ loop-number-preserved c =
       | then-matches+in_ok-push w ↦
           rw (w.numbers-is, w.in_ok-push.ensures.items)
           (adds-more c.args.numbers.now.items c.loop-number.numbers.items _ Of c.loop-number.number-index c.loop-number.invariant
-          (adds-at c.args.repo.now c.args.providers.now P c.loop-number.number-index c.package.result.now c.loop-number.numbers.items c.package.ensures (w.if-matches.ensures.0 refl)))
+          (adds-at c.args.repo.now c.args.providers.now P c.loop-number.number-index c.package.result.now c.loop-number.numbers.items c.package.ensures
+          (w.if-matches.ensures.0 refl)))
       | else-matches w ↦
           rw w.numbers-is
           (adds-more c.args.numbers.now.items c.loop-number.numbers.items c.loop-number.numbers.items Of c.loop-number.number-index c.loop-number.invariant
-          (adds-not c.args.repo.now c.args.providers.now P c.loop-number.number-index c.package.result.now c.loop-number.numbers.items c.package.ensures (λ matches. false≢true (w.if-matches.ensures.1 matches))))
+          (adds-not c.args.repo.now c.args.providers.now P c.loop-number.number-index c.package.result.now c.loop-number.numbers.items c.package.ensures
+          (λ matches. false≢true (w.if-matches.ensures.1 matches))))
     ]
 
 pub returns : goal.returns
 returns c =
-    adds-all c.args.repo.now c.args.atom.now.name c.args.providers.now (Matches c.args.repo.now.architecture c.args.atom.now) c.loop-number.number-index c.args.numbers.now.items c.loop-number.numbers.items
+    adds-all c.args.repo.now c.args.atom.now.name c.args.providers.now (Matches c.args.repo.now.architecture c.args.atom.now) c.loop-number.number-index
+    c.args.numbers.now.items c.loop-number.numbers.items
     c.loop-number-test.false c.requires (matched-provides c.args.repo.now.architecture c.args.atom.now) c.loop-number.invariant

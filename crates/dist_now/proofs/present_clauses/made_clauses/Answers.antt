@@ -9,7 +9,12 @@ use Rattle.dist_now.proofs.present_clauses.made_clauses.Goals as goal
 pub push_plain-requires-clause-front : goal.push_plain-requires-clause-front
 push_plain-requires-clause-front c =
     let Front : ClauseList → Type 0 = λ set. IsFront c.args.repo.now (Item 0 0) set set in
-    subst Front (sym c.new-set.ensures) (record { clauses = front-start c.args.repo.now; variables = c.len.ensures.value; clause_limit_is = refl; literal_limit_is = refl })
+    subst Front (sym c.new-set.ensures) (record {
+      clauses = front-start c.args.repo.now;
+      variables = c.len.ensures.value;
+      clause_limit_is = refl;
+      literal_limit_is = refl;
+    })
 
 pub returns-in_err-push_plain-clause-err : goal.returns-in_err-push_plain-clause-err
 returns-in_err-push_plain-clause-err c =

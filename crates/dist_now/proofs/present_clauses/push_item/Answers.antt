@@ -11,7 +11,8 @@ use Rattle.dist_now.proofs.present_clauses.push_item.Goals as goal
 pub returns-then-contains-clause-ok : goal.returns-then-contains-clause-ok
 returns-then-contains-clause-ok c =
     let there : Contains c.gather_meeting.new.numbers.items c.args.number =
-    subst (λ (xs : List ℕ). Contains xs c.args.number) c.as_slice.ensures.value (contains-true c.as_slice.result.now c.args.number c.if-contains.ensures.cases) in
+    subst (λ (xs : List ℕ). Contains xs c.args.number) c.as_slice.ensures.value (contains-true c.as_slice.result.now c.args.number c.if-contains.ensures.cases)
+    in
     item-skipped c.args.repo.now c.args.number c.args.place c.args.set.now c.args.set.now c.requires.front
     (itself-meets c.args.repo.now c.args.number c.args.place c.args.alternatives.now c.requires.item ((c.in_default.ensures.exact c.args.number).0 there))
 
@@ -28,8 +29,10 @@ pub add_clause-requires : goal.add_clause-requires
 add_clause-requires c =
     let numbers = c.gather_meeting.new.numbers.items in
     let absent : ¬ Contains numbers c.args.number =
-    subst (λ (xs : List ℕ). ¬ Contains xs c.args.number) c.as_slice.ensures.value (contains-false c.as_slice.result.now c.args.number c.if-contains.ensures.cases) in
-    over-set c.args.set.now.variables (length c.args.repo.now.packages) c.deref.result.now (not_installed c.args.number ∷ map installed numbers) c.requires.front.variables (c.deref.ensures.value ∙ c.in_default-write_item.ensures)
+    subst (λ (xs : List ℕ). ¬ Contains xs c.args.number) c.as_slice.ensures.value
+    (contains-false c.as_slice.result.now c.args.number c.if-contains.ensures.cases) in
+    over-set c.args.set.now.variables (length c.args.repo.now.packages) c.deref.result.now (not_installed c.args.number ∷ map installed numbers)
+    c.requires.front.variables (c.deref.ensures.value ∙ c.in_default-write_item.ensures)
     (item-clause c.args.repo.now (IsMetBy c.args.repo.now.architecture c.args.alternatives.now) c.args.number numbers
     (item-within c.args.repo.now c.args.number c.args.place c.args.alternatives.now c.requires.item) c.in_default.ensures absent)
 
@@ -37,17 +40,25 @@ pub returns-clause-ok : goal.returns-clause-ok
 returns-clause-ok c =
     let numbers = c.gather_meeting.new.numbers.items in
     let absent : ¬ Contains numbers c.args.number =
-    subst (λ (xs : List ℕ). ¬ Contains xs c.args.number) c.as_slice.ensures.value (contains-false c.as_slice.result.now c.args.number c.if-contains.ensures.cases) in
-    let demand = item-demand c.args.repo.now c.args.number c.args.place c.args.alternatives.now c.requires.item (λ here. absent ((c.in_default.ensures.exact c.args.number).1 here)) in
-    let is = item-is-clause c.args.repo.now c.args.number c.args.place c.args.alternatives.now numbers c.deref.result.now c.requires.item c.in_default.ensures (c.deref.ensures.value ∙ c.in_default-write_item.ensures) in
-    pushed-ok c.add_clause.result c.args.set.now c.add_clause.new.set c.deref.result.now (IsFront c.args.repo.now (Item c.args.number (c.args.place + 1)) c.args.set.now) c.add_clause.ensures.ok
+    subst (λ (xs : List ℕ). ¬ Contains xs c.args.number) c.as_slice.ensures.value
+    (contains-false c.as_slice.result.now c.args.number c.if-contains.ensures.cases) in
+    let demand = item-demand c.args.repo.now c.args.number c.args.place c.args.alternatives.now c.requires.item
+    (λ here. absent ((c.in_default.ensures.exact c.args.number).1 here)) in
+    let is = item-is-clause c.args.repo.now c.args.number c.args.place c.args.alternatives.now numbers c.deref.result.now c.requires.item c.in_default.ensures
+    (c.deref.ensures.value ∙ c.in_default-write_item.ensures) in
+    pushed-ok c.add_clause.result c.args.set.now c.add_clause.new.set c.deref.result.now
+    (IsFront c.args.repo.now (Item c.args.number (c.args.place + 1)) c.args.set.now) c.add_clause.ensures.ok
     (item-pushed c.args.repo.now c.args.number c.args.place c.args.set.now c.args.set.now c.deref.result.now c.requires.front demand is)
 
 pub returns-clause-err : goal.returns-clause-err
 returns-clause-err c =
     let numbers = c.gather_meeting.new.numbers.items in
     let absent : ¬ Contains numbers c.args.number =
-    subst (λ (xs : List ℕ). ¬ Contains xs c.args.number) c.as_slice.ensures.value (contains-false c.as_slice.result.now c.args.number c.if-contains.ensures.cases) in
-    let demand = item-demand c.args.repo.now c.args.number c.args.place c.args.alternatives.now c.requires.item (λ here. absent ((c.in_default.ensures.exact c.args.number).1 here)) in
-    let is = item-is-clause c.args.repo.now c.args.number c.args.place c.args.alternatives.now numbers c.deref.result.now c.requires.item c.in_default.ensures (c.deref.ensures.value ∙ c.in_default-write_item.ensures) in
-    pushed-err c.args.repo.now false c.add_clause.result c.args.set.now c.args.set.now (Item c.args.number c.args.place) c.deref.result.now c.requires.front demand is c.add_clause.ensures.err
+    subst (λ (xs : List ℕ). ¬ Contains xs c.args.number) c.as_slice.ensures.value
+    (contains-false c.as_slice.result.now c.args.number c.if-contains.ensures.cases) in
+    let demand = item-demand c.args.repo.now c.args.number c.args.place c.args.alternatives.now c.requires.item
+    (λ here. absent ((c.in_default.ensures.exact c.args.number).1 here)) in
+    let is = item-is-clause c.args.repo.now c.args.number c.args.place c.args.alternatives.now numbers c.deref.result.now c.requires.item c.in_default.ensures
+    (c.deref.ensures.value ∙ c.in_default-write_item.ensures) in
+    pushed-err c.args.repo.now false c.add_clause.result c.args.set.now c.args.set.now (Item c.args.number c.args.place) c.deref.result.now c.requires.front
+    demand is c.add_clause.ensures.err

@@ -7,4 +7,5 @@ loop-number-init c = named-start c.args.repo.now c.args.set.now c.args.set.now c
 
 pub returns-clause-ok : goal.returns-clause-ok
 returns-clause-ok c =
-    named-end c.args.repo.now c.loop-number.number c.args.set.now c.loop-number.set (let e = c.len-number-end.ensures.value in omega (arith, e, c.loop-number-test.false)) c.loop-number.invariant
+    named-end c.args.repo.now c.loop-number.number c.args.set.now c.loop-number.set
+    (let e = c.len-number-end.ensures.value in omega (arith, e, c.loop-number-test.false)) c.loop-number.invariant

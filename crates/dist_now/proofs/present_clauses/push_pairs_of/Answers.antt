@@ -28,25 +28,31 @@ add_clause-requires c =
     let second = get_or c.args.seconds.now c.loop-second.second-index 0 in
     let demand = second-demand c.args.repo.now c.args.first c.args.seconds.now c.loop-second.second-index c.requires.exact c.loop-second-test.true in
     over-set c.loop-second.set.variables (length c.args.repo.now.packages) _ _ c.loop-second.invariant.front.variables
-    (pair-written c.args.repo.now c.args.first second c.not_installed.result c.not_installed-in-loop-second.result c.not_installed.ensures c.not_installed-in-loop-second.ensures)
+    (pair-written c.args.repo.now c.args.first second c.not_installed.result c.not_installed-in-loop-second.result c.not_installed.ensures
+    c.not_installed-in-loop-second.ensures)
     (pair-clause (length c.args.repo.now.packages) c.args.first second demand.0 (pair-within c.args.repo.now c.args.first second demand))
 
 pub returns-in_err-add_clause-clause-err : goal.returns-in_err-add_clause-clause-err
 returns-in_err-add_clause-clause-err c =
     let second = get_or c.args.seconds.now c.loop-second.second-index 0 in
     let demand = second-demand c.args.repo.now c.args.first c.args.seconds.now c.loop-second.second-index c.requires.exact c.loop-second-test.true in
-    let front = pair-next c.args.repo.now c.args.first c.args.seconds.now c.loop-second.second-index c.args.set.now c.loop-second.set c.requires.rising c.requires.exact c.loop-second-test.true c.loop-second.invariant in
+    let front = pair-next c.args.repo.now c.args.first c.args.seconds.now c.loop-second.second-index c.args.set.now c.loop-second.set c.requires.rising
+    c.requires.exact c.loop-second-test.true c.loop-second.invariant in
     let p = err_from_is_err_and c.from_residual.result c.from_residual.ensures.1 in
     rw (p.1, p.2) (stops c.args.repo.now false c.loop-second.set c.args.set.now (Apart c.args.first second) _ _ front demand
-    (pair-written c.args.repo.now c.args.first second c.not_installed.result c.not_installed-in-loop-second.result c.not_installed.ensures c.not_installed-in-loop-second.ensures) c.in_err-add_clause.ensures.err)
+    (pair-written c.args.repo.now c.args.first second c.not_installed.result c.not_installed-in-loop-second.result c.not_installed.ensures
+    c.not_installed-in-loop-second.ensures) c.in_err-add_clause.ensures.err)
 
 pub loop-second-preserved : goal.loop-second-preserved
 loop-second-preserved c =
     let second = get_or c.args.seconds.now c.loop-second.second-index 0 in
     let After : ClauseList → Type 0 = IsPairFront c.args.repo.now c.args.first c.args.seconds.now (c.loop-second.second-index + 1) c.args.set.now in
     subst After (sym c.in_ok-add_clause.ensures.ok)
-    (pair-more c.args.repo.now c.args.first c.args.seconds.now c.loop-second.second-index c.args.set.now c.loop-second.set _ c.requires.rising c.requires.exact c.loop-second-test.true c.loop-second.invariant
-    (pair-written c.args.repo.now c.args.first second c.not_installed.result c.not_installed-in-loop-second.result c.not_installed.ensures c.not_installed-in-loop-second.ensures))
+    (pair-more c.args.repo.now c.args.first c.args.seconds.now c.loop-second.second-index c.args.set.now c.loop-second.set _ c.requires.rising c.requires.exact
+    c.loop-second-test.true c.loop-second.invariant
+    (pair-written c.args.repo.now c.args.first second c.not_installed.result c.not_installed-in-loop-second.result c.not_installed.ensures
+    c.not_installed-in-loop-second.ensures))
 
 pub returns-clause-ok : goal.returns-clause-ok
-returns-clause-ok c = pairs-done c.args.repo.now c.args.first c.args.seconds.now c.loop-second.second-index c.args.set.now c.loop-second.set c.requires.exact c.loop-second-test.false c.loop-second.invariant
+returns-clause-ok c = pairs-done c.args.repo.now c.args.first c.args.seconds.now c.loop-second.second-index c.args.set.now c.loop-second.set c.requires.exact
+    c.loop-second-test.false c.loop-second.invariant

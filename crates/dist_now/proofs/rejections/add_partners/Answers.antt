@@ -16,17 +16,21 @@ loop-place-preserved c = (
 
 pub returns-else-pairs-place-clause-adds : goal.returns-else-pairs-place-clause-adds
 returns-else-pairs-place-clause-adds c =
-    partners-all c.args.pairs.now c.args.number c.args.start c.loop-place.place c.args.numbers.now.items c.loop-place.numbers.items c.requires.in_order c.requires.split c.loop-place.invariant.0
+    partners-all c.args.pairs.now c.args.number c.args.start c.loop-place.place c.args.numbers.now.items c.loop-place.numbers.items c.requires.in_order
+    c.requires.split c.loop-place.invariant.0
     (inr (c.loop-place-test.true, c.if-pairs-place.false)) c.loop-place.invariant.1
 
 pub returns-else-pairs-place-clause-split : goal.returns-else-pairs-place-clause-split
 returns-else-pairs-place-clause-split c =
-    split-next c.args.pairs.now c.args.number c.args.start c.loop-place.place c.requires.in_order c.requires.split c.loop-place.invariant.0 (inr (c.loop-place-test.true, c.if-pairs-place.false))
+    split-next c.args.pairs.now c.args.number c.args.start c.loop-place.place c.requires.in_order c.requires.split c.loop-place.invariant.0
+    (inr (c.loop-place-test.true, c.if-pairs-place.false))
 
 pub returns-after-loop-place-clause-adds : goal.returns-after-loop-place-clause-adds
 returns-after-loop-place-clause-adds c =
-    partners-all c.args.pairs.now c.args.number c.args.start c.loop-place.place c.args.numbers.now.items c.loop-place.numbers.items c.requires.in_order c.requires.split c.loop-place.invariant.0 (inl c.loop-place-test.false) c.loop-place.invariant.1
+    partners-all c.args.pairs.now c.args.number c.args.start c.loop-place.place c.args.numbers.now.items c.loop-place.numbers.items c.requires.in_order
+    c.requires.split c.loop-place.invariant.0 (inl c.loop-place-test.false) c.loop-place.invariant.1
 
 pub returns-after-loop-place-clause-split : goal.returns-after-loop-place-clause-split
 returns-after-loop-place-clause-split c =
-    split-next c.args.pairs.now c.args.number c.args.start c.loop-place.place c.requires.in_order c.requires.split c.loop-place.invariant.0 (inl c.loop-place-test.false)
+    split-next c.args.pairs.now c.args.number c.args.start c.loop-place.place c.requires.in_order c.requires.split c.loop-place.invariant.0
+    (inl c.loop-place-test.false)

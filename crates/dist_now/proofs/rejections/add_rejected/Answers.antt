@@ -10,9 +10,12 @@ add_matched-requires c =
 pub loop-place-preserved : goal.loop-place-preserved
 loop-place-preserved c =
     let atoms = c.args.package.now.conflicts in
-    adds-more c.args.pairs.now.items c.loop-place.pairs.items c.add_matched.new.pairs.items (IsRejectedAt c.args.repo.now c.args.span.start c.args.span.end c.args.number atoms) c.loop-place.place c.loop-place.invariant
-    (rejected-at c.args.repo.now c.args.span.start c.args.span.end c.args.number atoms c.loop-place.place c.get-atom.result.now c.loop-place.pairs.items c.add_matched.new.pairs.items c.get-atom.ensures c.in_ok-add_matched.ensures)
+    adds-more c.args.pairs.now.items c.loop-place.pairs.items c.add_matched.new.pairs.items
+    (IsRejectedAt c.args.repo.now c.args.span.start c.args.span.end c.args.number atoms) c.loop-place.place c.loop-place.invariant
+    (rejected-at c.args.repo.now c.args.span.start c.args.span.end c.args.number atoms c.loop-place.place c.get-atom.result.now c.loop-place.pairs.items
+    c.add_matched.new.pairs.items c.get-atom.ensures c.in_ok-add_matched.ensures)
 
 pub returns-clause-whole : goal.returns-clause-whole
 returns-clause-whole c = λ _.
-    rejected-all c.args.repo.now c.args.span.start c.args.span.end c.args.number c.args.package.now c.loop-place.place c.args.pairs.now.items c.loop-place.pairs.items (let e = c.len-place-end.ensures in omega (arith, e, c.loop-place-test.false)) c.loop-place.invariant
+    rejected-all c.args.repo.now c.args.span.start c.args.span.end c.args.number c.args.package.now c.loop-place.place c.args.pairs.now.items
+    c.loop-place.pairs.items (let e = c.len-place-end.ensures in omega (arith, e, c.loop-place-test.false)) c.loop-place.invariant

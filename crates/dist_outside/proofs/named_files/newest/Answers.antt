@@ -13,7 +13,8 @@ returns-then-eq c =
     let bytes = c.file-item.result.bytes.items in
     let later = get (files_of (drop (c.loop-file.file-index + 1) c.args.files.now)) c.args.name.now in
     ap Some c.deref.ensures.value
-    ∙ sym (ap (λ (same : Bool). cond same (Some bytes) later) (ap (pointwise nat_eq c.args.name.now) (sym c.as_str.ensures.value) ∙ sym c.eq.ensures ∙ c.if-eq.true))
+    ∙ sym (ap (λ (same : Bool). cond same (Some bytes) later)
+    (ap (pointwise nat_eq c.args.name.now) (sym c.as_str.ensures.value) ∙ sym c.eq.ensures ∙ c.if-eq.true))
     ∙ sym here ∙ c.loop-file.invariant
 
 pub loop-file-preserved : goal.loop-file-preserved
@@ -21,7 +22,8 @@ loop-file-preserved c =
     let here = newest_from c.args.files.now c.loop-file.file-index c.file-item.result c.args.name.now c.loop-file-test.true c.file-item.is in
     let bytes = c.file-item.result.bytes.items in
     let later = get (files_of (drop (c.loop-file.file-index + 1) c.args.files.now)) c.args.name.now in
-    sym (ap (λ (same : Bool). cond same (Some bytes) later) (ap (pointwise nat_eq c.args.name.now) (sym c.as_str.ensures.value) ∙ sym c.eq.ensures ∙ c.if-eq.false))
+    sym (ap (λ (same : Bool). cond same (Some bytes) later)
+    (ap (pointwise nat_eq c.args.name.now) (sym c.as_str.ensures.value) ∙ sym c.eq.ensures ∙ c.if-eq.false))
     ∙ sym here ∙ c.loop-file.invariant
 
 pub returns : goal.returns

@@ -20,7 +20,12 @@ pub returns-then-is_all : goal.returns-then-is_all
 returns-then-is_all c =
     let e = rw c.in-Ok-Some.field-0-is at c.in-Ok-Some.ensures in (
       record {
-        given = inr (c.in-Some.field.line, field-is _ _ all c.in-Some.field c.in-Some.ensures (sym (c.is_all.ensures.0 c.if-is_all.true) ∙ c.bytes.ensures.value ∙ e.0), refl);
+        given = inr (
+          c.in-Some.field.line,
+          field-is _ _ all c.in-Some.field c.in-Some.ensures
+              (sym (c.is_all.ensures.0 c.if-is_all.true) ∙ c.bytes.ensures.value ∙ e.0),
+          refl,
+        );
         agrees = inl refl;
       },
       λ is. cc,
@@ -34,7 +39,12 @@ returns-then-not-agrees c =
       value = c.in-Some.field.value.now;
       line = c.in-Some.field.line;
       field = field-of _ _ c.in-Some.field c.in-Some.ensures;
-      cause = inr (e.1, (λ is. both_ways c.is_all.result c.if-is_all.false (c.is_all.ensures.1 (c.bytes.ensures.value ∙ e.0 ∙ is))), (d.0, d.1, λ is. d.2 (is ∙ sym e.0)), refl);
+      cause = inr (
+        e.1,
+        (λ is. both_ways c.is_all.result c.if-is_all.false (c.is_all.ensures.1 (c.bytes.ensures.value ∙ e.0 ∙ is))),
+        (d.0, d.1, λ is. d.2 (is ∙ sym e.0)),
+        refl,
+      );
     }))
 
 pub returns : goal.returns

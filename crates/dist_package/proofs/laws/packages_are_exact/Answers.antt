@@ -11,7 +11,10 @@ returns c =
     let atoms = c.values_are_exact.ensures.atoms in
     let provides = c.values_are_exact.ensures.provides in
     λ text limit. record {
-      one_repository = one_repository (one_read stanzas texts depends atoms provides) (one_fault stanzas texts depends atoms provides) (apart stanzas texts depends atoms provides) c.each_stands_once.ensures.same text limit;
-      one_error = one_error (one_read stanzas texts depends atoms provides) (one_fault stanzas texts depends atoms provides) (apart stanzas texts depends atoms provides) (raw_stanzas text) limit;
-      never_both = never_both (one_read stanzas texts depends atoms provides) (one_fault stanzas texts depends atoms provides) (apart stanzas texts depends atoms provides) text limit;
+      one_repository = one_repository (one_read stanzas texts depends atoms provides) (one_fault stanzas texts depends atoms provides)
+          (apart stanzas texts depends atoms provides) c.each_stands_once.ensures.same text limit;
+      one_error = one_error (one_read stanzas texts depends atoms provides) (one_fault stanzas texts depends atoms provides)
+          (apart stanzas texts depends atoms provides) (raw_stanzas text) limit;
+      never_both = never_both (one_read stanzas texts depends atoms provides) (one_fault stanzas texts depends atoms provides)
+          (apart stanzas texts depends atoms provides) text limit;
     }

@@ -9,5 +9,6 @@ returns-in-Ok-Some c =
     let takes = rw c.in-Ok-Some.field-0-is at c.in-Ok-Some.ensures.answers in
     elim c.in-Err-read_package.ensures [
       | inl none ↦ inl none
-      | inr fault ↦ inr (bad-weaker (HasFieldFault c.args.earlier.now c.in-Ok-Some.stanza) (IsFaulty c.args.earlier.now c.args.reader.now) (λ f h. record { raw = takes.raw; rest = c.next.new.self.left; left = takes.left; cause = inr (c.in-Ok-Some.stanza, takes.reading, h) }) _ fault)
+      | inr fault ↦ inr (bad-weaker (HasFieldFault c.args.earlier.now c.in-Ok-Some.stanza) (IsFaulty c.args.earlier.now c.args.reader.now)
+          (λ f h. record { raw = takes.raw; rest = c.next.new.self.left; left = takes.left; cause = inr (c.in-Ok-Some.stanza, takes.reading, h) }) _ fault)
     ]

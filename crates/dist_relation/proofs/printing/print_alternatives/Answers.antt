@@ -9,4 +9,5 @@ some_atom atoms long e = omega (arith, long, ap length e)
 
 pub returns-else-is_err-clause-reads : goal.returns-else-is_err-clause-reads
 returns-else-is_err-clause-reads c =
-    on_ok_weaker c.print_atoms-printed.result (λ valid. canonical_reads c.args.item.now valid.1 (some_atom c.args.item.now valid.0)) c.print_atoms-printed.ensures.valid
+    on_ok_weaker c.print_atoms-printed.result (λ valid. canonical_reads c.args.item.now valid.1 (some_atom c.args.item.now valid.0))
+    c.print_atoms-printed.ensures.valid

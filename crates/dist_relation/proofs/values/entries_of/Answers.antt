@@ -16,7 +16,8 @@ returns-in_err-rest g c =
     let reading = g.T.Entry.reading in
     let shorter = piece_shorter reading c.requires in
     let p = err_from_is_err_and c.from_residual-in_err-rest.result c.from_residual-in_err-rest.ensures.1 in
-    rw (p.1, p.2) (entries_fail reading shorter c.in_err-rest.field-0.0 c.loop-entries.entries.items c.loop-entries.text.now (items_of reading c.args.value.now) c.in_err-rest.ensures c.loop-entries.invariant)
+    rw (p.1, p.2) (entries_fail reading shorter c.in_err-rest.field-0.0 c.loop-entries.entries.items c.loop-entries.text.now (items_of reading c.args.value.now)
+    c.in_err-rest.ensures c.loop-entries.invariant)
 
 pub loop-entries-smaller : goal.loop-entries-smaller
 loop-entries-smaller g c =
@@ -33,11 +34,13 @@ loop-entries-preserved g c =
     let shorter = piece_shorter reading c.requires in
     let p = c.in_ok-rest.ensures in
     let read : piece_at reading c.loop-entries.text.now ≡ piece_done p.0 (comma ∷ c.in-Some.tail.now) = p.1 ∙ ap (piece_done p.0) c.in-Some.ensures in
-    rw p.2 (entries_more reading shorter c.loop-entries.entries.items c.loop-entries.text.now p.0 c.in-Some.tail.now (items_of reading c.args.value.now) read c.loop-entries.invariant)
+    rw p.2 (entries_more reading shorter c.loop-entries.entries.items c.loop-entries.text.now p.0 c.in-Some.tail.now (items_of reading c.args.value.now) read
+    c.loop-entries.invariant)
 
 pub returns-in-None : goal.returns-in-None
 returns-in-None g c =
     let reading = g.T.Entry.reading in
     let shorter = piece_shorter reading c.requires in
     let p = c.in_ok-rest.ensures in
-    rw p.2 (entries_last reading shorter c.loop-entries.entries.items c.loop-entries.text.now p.0 c.in_ok-rest.rest.now (items_of reading c.args.value.now) p.1 c.in-None.ensures c.loop-entries.invariant)
+    rw p.2 (entries_last reading shorter c.loop-entries.entries.items c.loop-entries.text.now p.0 c.in_ok-rest.rest.now (items_of reading c.args.value.now) p.1
+    c.in-None.ensures c.loop-entries.invariant)

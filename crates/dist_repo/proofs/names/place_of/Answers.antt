@@ -6,19 +6,22 @@ pub loop-low-preserved-in-Less : goal.loop-low-preserved-in-Less
 loop-low-preserved-in-Less c =
     let low = c.loop-low.low in
     let high = c.loop-low.high in
-    turn-up c.args.names.now c.args.name.now c.get.result.now low high (low + (high - low) / 2) c.requires c.loop-low.invariant (omega arith) (omega arith) c.get.ensures c.in-Less.ensures
+    turn-up c.args.names.now c.args.name.now c.get.result.now low high (low + (high - low) / 2) c.requires c.loop-low.invariant (omega arith) (omega arith)
+    c.get.ensures c.in-Less.ensures
 
 pub loop-low-preserved : goal.loop-low-preserved
 loop-low-preserved c =
     let low = c.loop-low.low in
     let high = c.loop-low.high in
-    turn-down c.args.names.now c.args.name.now c.get.result.now low high (low + (high - low) / 2) c.requires c.loop-low.invariant (omega arith) (omega arith) c.get.ensures c.in-Greater.ensures
+    turn-down c.args.names.now c.args.name.now c.get.result.now low high (low + (high - low) / 2) c.requires c.loop-low.invariant (omega arith) (omega arith)
+    c.get.ensures c.in-Greater.ensures
 
 pub returns-in-Equal : goal.returns-in-Equal
 returns-in-Equal c =
     let low = c.loop-low.low in
     let high = c.loop-low.high in
-    turn-found c.args.names.now c.args.name.now c.get.result.now (low + (high - low) / 2) (omega (arith, c.loop-low.invariant.within)) c.get.ensures c.in-Equal.ensures
+    turn-found c.args.names.now c.args.name.now c.get.result.now (low + (high - low) / 2) (omega (arith, c.loop-low.invariant.within)) c.get.ensures
+    c.in-Equal.ensures
 
 pub returns : goal.returns
 returns c = between-none c.args.names.now c.args.name.now c.loop-low.low c.loop-low.high c.loop-low-test.false c.loop-low.invariant

@@ -22,7 +22,8 @@ loop-place-preserved c =
     let name : List ℕ = c.args.name.now in
     let place : ℕ = c.loop-place.place in
     let next : suc place ≡ place + 1 = omega arith in
-    ap (λ k. k * 256 + c.from.result) c.loop-place.invariant ∙ ap (λ k. digits place name * 256 + k) (c.from.ensures ∙ c.byte_at.ensures) ∙ sym (digits-more place name)
+    ap (λ k. k * 256 + c.from.result) c.loop-place.invariant ∙ ap (λ k. digits place name * 256 + k) (c.from.ensures ∙ c.byte_at.ensures)
+    ∙ sym (digits-more place name)
     ∙ ap (λ k. digits k name) next
 
 pub returns : goal.returns

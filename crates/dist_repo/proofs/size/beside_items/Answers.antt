@@ -11,7 +11,14 @@ returns-then-left-count c =
     let item = c.get.result.now in
     let size : List Atom → ℕ = λ item. length item in
     let count = c.len-count.ensures.value in
-    omega (arith, c.loop-place.invariant, c.if-left-count.true, count, sum_by_more_le size items place item (slice_get_within items place item c.get.ensures), ap size (get_or_from_slice_get items place item item c.get.ensures))
+    omega (
+      arith,
+      c.loop-place.invariant,
+      c.if-left-count.true,
+      count,
+      sum_by_more_le size items place item (slice_get_within items place item c.get.ensures),
+      ap size (get_or_from_slice_get items place item item c.get.ensures),
+    )
 
 pub loop-place-preserved : goal.loop-place-preserved
 loop-place-preserved c =
@@ -20,4 +27,11 @@ loop-place-preserved c =
     let item = c.get.result.now in
     let size : List Atom → ℕ = λ item. length item in
     let count = c.len-count.ensures.value in
-    omega (arith, c.loop-place.invariant, c.if-left-count.false, count, sum_by_more size items place item (slice_get_within items place item c.get.ensures), ap size (get_or_from_slice_get items place item item c.get.ensures))
+    omega (
+      arith,
+      c.loop-place.invariant,
+      c.if-left-count.false,
+      count,
+      sum_by_more size items place item (slice_get_within items place item c.get.ensures),
+      ap size (get_or_from_slice_get items place item item c.get.ensures),
+    )

@@ -17,9 +17,11 @@ note_package-requires c = below-bound c.args.architecture.now c.args.packages.no
 pub loop-number-preserved : goal.loop-number-preserved
 loop-number-preserved c =
     let p : Package = c.index-packages-number.result in
-    let Noted : Package → Type 0 = λ x. NotesEach c.loop-number.tally c.note_package.new.self (λ q. IsProvider c.args.architecture.now q x) c.loop-number.number in
+    let Noted : Package → Type 0 = λ x. NotesEach c.loop-number.tally c.note_package.new.self (λ q. IsProvider c.args.architecture.now q x)
+    c.loop-number.number in
     tally-more c.args.architecture.now c.args.packages.now c.loop-number.number p c.loop-number.tally c.note_package.new.self
-    (slice_get_read c.args.packages.now _ c.loop-number.number p refl c.loop-number-test.true c.index-packages-number.is) c.loop-number.invariant (subst Noted c.package.ensures c.in_ok-note_package.ensures)
+    (slice_get_read c.args.packages.now _ c.loop-number.number p refl c.loop-number-test.true c.index-packages-number.is) c.loop-number.invariant
+    (subst Noted c.package.ensures c.in_ok-note_package.ensures)
 
 pub returns : goal.returns
 returns c = tally-all c.args.architecture.now c.args.packages.now c.loop-number.number c.loop-number.tally (omega arith) c.loop-number.invariant

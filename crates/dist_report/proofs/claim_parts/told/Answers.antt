@@ -14,6 +14,7 @@ loop-number-preserved c =
     let test : ℕ → Bool = λ p. option_map_or (is_part part) (slice_get made p) false in
     let is : test n ≡ c.is_told.result = ap (λ (o : Option Claim). option_map_or (is_part part) o false) c.get.ensures ∙ sym c.is_told.ensures in
     elim c.if-is_told.branch [
-      | then-is_told+in_ok-push w ↦ rw w.numbers-is (picked-one test n c.loop-number.numbers.items _ (is ∙ w.if-is_told.true) c.loop-number.invariant w.in_ok-push.ensures.items)
+      | then-is_told+in_ok-push w ↦ rw w.numbers-is (picked-one test n c.loop-number.numbers.items _ (is ∙ w.if-is_told.true) c.loop-number.invariant
+          w.in_ok-push.ensures.items)
       | else-is_told w ↦ rw w.numbers-is (picked-none test n c.loop-number.numbers.items (is ∙ w.if-is_told.false) c.loop-number.invariant)
     ]

@@ -17,5 +17,6 @@ returns c =
       names = names.names;
       are_clusters = clusters.are;
       are_names = subst Told c.in_ok-finder.ensures names.are;
-      is = names.text ∙ ap (λ (t : List ℕ). t ++ second) (clusters.text ∙ ap (λ (t : List ℕ). t ++ first) c.in_ok-out.ensures) ∙ append_assoc (opening packages) first second;
+      is = names.text ∙ ap (λ (t : List ℕ). t ++ second) (clusters.text ∙ ap (λ (t : List ℕ). t ++ first) c.in_ok-out.ensures)
+          ∙ append_assoc (opening packages) first second;
     }

@@ -5,5 +5,7 @@ use Rattle.dist_report.proofs.classes_report.write_class.Goals as goal
 
 pub returns-clause-text : goal.returns-clause-text
 returns-clause-text c =
-    let example = c.in_ok-write_string.ensures ∙ ap (λ (t : List ℕ). c.extend_from_slice-2.new.self.items ++ string_line (codes "        example: ") t) (c.text-2.ensures.value ∙ c.in_ok-example.ensures.text) in
-    joined-class c.args.out.now.items _ _ _ _ _ _ _ _ c.in_ok-extend_from_slice.ensures.items c.in_ok-print_class.ensures.text c.in_ok-extend_from_slice-2.ensures.items example
+    let example = c.in_ok-write_string.ensures ∙ ap (λ (t : List ℕ). c.extend_from_slice-2.new.self.items ++ string_line (codes "        example: ") t)
+    (c.text-2.ensures.value ∙ c.in_ok-example.ensures.text) in
+    joined-class c.args.out.now.items _ _ _ _ _ _ _ _ c.in_ok-extend_from_slice.ensures.items c.in_ok-print_class.ensures.text
+    c.in_ok-extend_from_slice-2.ensures.items example

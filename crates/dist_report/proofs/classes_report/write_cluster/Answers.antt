@@ -11,10 +11,12 @@ pub write_head-requires : goal.write_head-requires
 write_head-requires c =
     let r = c.args.repo.now in
     let members = c.members-members.result.now in
-    members-within r c.args.clusters.now c.requires.clusters c.args.cluster members c.members-members.ensures 0 0 (some-members r c.args.clusters.now c.requires.clusters c.args.cluster members c.members-members.ensures)
+    members-within r c.args.clusters.now c.requires.clusters c.args.cluster members c.members-members.ensures 0 0
+    (some-members r c.args.clusters.now c.requires.clusters c.args.cluster members c.members-members.ensures)
 
 pub write_packages-requires : goal.write_packages-requires
-write_packages-requires c = members-within c.args.repo.now c.args.clusters.now c.requires.clusters c.args.cluster c.members-members.result.now c.members-members.ensures
+write_packages-requires c = members-within c.args.repo.now c.args.clusters.now c.requires.clusters c.args.cluster c.members-members.result.now
+    c.members-members.ensures
 
 pub returns : goal.returns
 returns c =
@@ -25,7 +27,8 @@ returns c =
     let old = c.args.out.now.items in
     let classes = c.in_ok-classes.classes in
     let Of : PackageList → Type 0 = λ s. AreClassesOf s (get_or members n []) (get_or tops n []) classes in
-    let own_members : get_or members n [] ≡ c.members-members.result.now = get_or_from_slice_get members n c.members-members.result.now [] c.members-members.ensures in
+    let own_members : get_or members n [] ≡ c.members-members.result.now =
+    get_or_from_slice_get members n c.members-members.result.now [] c.members-members.ensures in
     let own_top : get_or tops n [] ≡ c.top.result.now = get_or_from_slice_get tops n c.top.result.now [] c.top.ensures in
     let written = joined-three old _ _ _ _ _ _ c.in_ok-write_head.ensures c.in_ok-write_packages.ensures c.in_ok-write_classes.ensures.text in
     record {

@@ -20,7 +20,9 @@ loop-cluster-preserved c =
     let clusters = c.args.clusters.now in
     let before = c.args.out.now.items ++ key_line (codes "clusters:") (length clusters.members == 0) in
     let told = c.in_ok-write_cluster.ensures in
-    told-more r clusters c.loop-cluster.cluster before c.loop-cluster.out.items c.write_cluster.new.out.items told.classes (omega arith) c.requires.clusters.tops.aligned c.loop-cluster.invariant told.are told.examples told.text
+    told-more r clusters c.loop-cluster.cluster before c.loop-cluster.out.items c.write_cluster.new.out.items told.classes (omega arith)
+    c.requires.clusters.tops.aligned c.loop-cluster.invariant told.are told.examples told.text
 
 pub returns : goal.returns
-returns c = told-all c.args.repo.now c.args.clusters.now c.loop-cluster.cluster c.args.out.now.items c.loop-cluster.out.items (omega arith) c.requires.clusters c.loop-cluster.invariant
+returns c = told-all c.args.repo.now c.args.clusters.now c.loop-cluster.cluster c.args.out.now.items c.loop-cluster.out.items (omega arith) c.requires.clusters
+    c.loop-cluster.invariant

@@ -5,4 +5,5 @@ use Rattle.dist_report.proofs.ToldLemmas.{AreToldSoFar}
 use Rattle.dist_report.proofs.classes_report.write_clusters.Given as goal
 
 abbrev pub invariant-loop-cluster : goal.invariant-loop-cluster
-invariant-loop-cluster l = AreToldSoFar l.repo l.clusters l.cluster (l.fn.out.items ++ key_line (codes "clusters:") (length l.clusters.members == 0)) l.out.items
+invariant-loop-cluster l = AreToldSoFar l.repo l.clusters l.cluster (l.fn.out.items ++ key_line (codes "clusters:") (length l.clusters.members == 0))
+    l.out.items

@@ -9,7 +9,8 @@ use Rattle.dist_report.proofs.classes_report.write_head.Goals as goal
 pub returns : goal.returns
 returns c =
     let old = c.args.out.now.items in
-    let first = c.in_ok-write_package.ensures ∙ ap (λ (o : Option Package). old ++ string_line (codes "  - cluster: ") (option_map_or label o [])) (sym c.package-package.ensures) in
+    let first = c.in_ok-write_package.ensures ∙ ap (λ (o : Option Package). old ++ string_line (codes "  - cluster: ") (option_map_or label o []))
+    (sym c.package-package.ensures) in
     let source = c.bytes.ensures.value ∙ ap (λ (o : Option Package). option_map_or (λ (p : Package). p.source) o []) (sym c.package-package.ensures) in
     let second = c.in_ok-write_string.ensures ∙ ap (λ (t : List ℕ). c.write_package.new.out.items ++ string_line (codes "    source: ") t) source in
     let third = c.in_ok-write_string-2.ensures ∙ ap (λ (t : List ℕ). c.write_string.new.out.items ++ string_line (codes "    top: ") t) c.text.ensures.value in

@@ -20,7 +20,9 @@ loop-place-preserved c =
     let names = c.args.names.now in
     let before = c.args.out.now.items ++ key_line (codes "names:") (length names == 0) in
     let told = c.in_ok-write_name.ensures in
-    names-more r names c.loop-place.place before c.loop-place.out.items c.write_name.new.out.items c.get.result.now told.classes c.get.ensures c.loop-place.invariant told.are told.examples told.text
+    names-more r names c.loop-place.place before c.loop-place.out.items c.write_name.new.out.items c.get.result.now told.classes c.get.ensures
+    c.loop-place.invariant told.are told.examples told.text
 
 pub returns : goal.returns
-returns c = names-all c.args.finder.now c.args.names.now c.loop-place.place c.args.out.now.items c.loop-place.out.items (omega arith) c.requires c.loop-place.invariant
+returns c = names-all c.args.finder.now c.args.names.now c.loop-place.place c.args.out.now.items c.loop-place.out.items (omega arith) c.requires
+    c.loop-place.invariant

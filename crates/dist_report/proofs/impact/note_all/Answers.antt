@@ -22,7 +22,8 @@ loop-q-preserved c =
     let old = c.args.lists.now.items in
     let here : q ≡ get_or on k q = get_or_default on k 0 q c.loop-q-test.true in
     let within : q < length old = c.requires.within k 0 c.loop-q-test.true in
-    noted-more c.args.number c.args.on.now c.loop-q.q-index q old c.loop-q.lists.items c.note.new.lists.items c.loop-q-test.true here within c.requires.lower c.loop-q.invariant c.in_ok-note.ensures
+    noted-more c.args.number c.args.on.now c.loop-q.q-index q old c.loop-q.lists.items c.note.new.lists.items c.loop-q-test.true here within c.requires.lower
+    c.loop-q.invariant c.in_ok-note.ensures
 
 pub returns-clause-length : goal.returns-clause-length
 returns-clause-length c = c.loop-q.invariant.same_length
@@ -30,4 +31,5 @@ returns-clause-length c = c.loop-q.invariant.same_length
 pub returns-clause-each : goal.returns-clause-each
 returns-clause-each c = λ q short.
     c.loop-q.invariant.each q short
-    ∙ ap (λ (list : List ℕ). noted c.args.number (is_among list q) (get_or c.args.lists.now.items q [])) (take-past c.args.on.now c.loop-q.q-index (omega arith))
+    ∙ ap (λ (list : List ℕ). noted c.args.number (is_among list q) (get_or c.args.lists.now.items q []))
+    (take-past c.args.on.now c.loop-q.q-index (omega arith))

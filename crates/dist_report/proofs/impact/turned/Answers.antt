@@ -26,11 +26,13 @@ note_all-requires-clause-lower c = turned-lower c.args.claims.now c.args.package
 
 pub loop-number-preserved : goal.loop-number-preserved
 loop-number-preserved c =
-    turned-more c.args.claims.now c.args.packages c.loop-number.number c.get.result.now c.claim_list-on.result.now c.loop-number.lists.items c.note_all.new.lists.items
+    turned-more c.args.claims.now c.args.packages c.loop-number.number c.get.result.now c.claim_list-on.result.now c.loop-number.lists.items
+    c.note_all.new.lists.items
     c.get.ensures c.claim_list-on.ensures c.loop-number.invariant c.in_ok-note_all.ensures.length c.in_ok-note_all.ensures.each
 
 pub returns-clause-length : goal.returns-clause-length
 returns-clause-length c = c.loop-number.invariant.same_length
 
 pub returns-clause-each : goal.returns-clause-each
-returns-clause-each c = turned-all c.args.claims.now c.args.packages c.loop-number.number c.loop-number.lists.items (omega arith) c.requires.one_each c.loop-number.invariant
+returns-clause-each c = turned-all c.args.claims.now c.args.packages c.loop-number.number c.loop-number.lists.items (omega arith) c.requires.one_each
+    c.loop-number.invariant

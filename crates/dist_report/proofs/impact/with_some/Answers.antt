@@ -11,6 +11,7 @@ loop-number-preserved c =
     let test : ℕ → Bool = λ q. has_some (get_or lists q []) in
     let is : test n ≡ c.has_numbers.result = ap has_some (sym c.numbers_at.ensures) ∙ sym c.has_numbers.ensures in
     elim c.if-has_numbers.branch [
-      | then-has_numbers+in_ok-push w ↦ rw w.numbers-is (picked-one test n c.loop-number.numbers.items _ (is ∙ w.if-has_numbers.true) c.loop-number.invariant w.in_ok-push.ensures.items)
+      | then-has_numbers+in_ok-push w ↦ rw w.numbers-is (picked-one test n c.loop-number.numbers.items _ (is ∙ w.if-has_numbers.true) c.loop-number.invariant
+          w.in_ok-push.ensures.items)
       | else-has_numbers w ↦ rw w.numbers-is (picked-none test n c.loop-number.numbers.items (is ∙ w.if-has_numbers.false) c.loop-number.invariant)
     ]

@@ -14,4 +14,5 @@ returns c =
     let opening = strong_opening packages c.args.header.now in
     let part = listed (codes "uninstallable:") (package_line (codes "  - ") packages) (claimed (is_part NotInstallable) made) in
     let first = c.in_ok-write_part.ensures ∙ ap (λ (t : List ℕ). t ++ part) c.in_ok-out.ensures in
-    joined-five opening _ _ _ _ _ _ _ _ _ _ first c.in_ok-write_dependences.ensures c.in_ok-write_impact.ensures c.in_ok-write_part-2.ensures c.in_ok-write_dependences-2.ensures
+    joined-five opening _ _ _ _ _ _ _ _ _ _ first c.in_ok-write_dependences.ensures c.in_ok-write_impact.ensures c.in_ok-write_part-2.ensures
+    c.in_ok-write_dependences-2.ensures

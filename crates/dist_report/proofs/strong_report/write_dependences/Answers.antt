@@ -14,7 +14,8 @@ pub write_lists-requires-clause-within : goal.write_lists-requires-clause-within
 write_lists-requires-clause-within c =
     let packages = length c.args.repo.now.packages in
     let Within : List ℕ → Type 0 = λ list. All (λ p. p < packages) list in
-    subst Within (sym (c.deref.ensures.value ∙ c.in_ok-numbers.ensures)) (claimed-within (is_part (With c.args.kind)) c.args.claims.now packages c.requires.one_each)
+    subst Within (sym (c.deref.ensures.value ∙ c.in_ok-numbers.ensures))
+    (claimed-within (is_part (With c.args.kind)) c.args.claims.now packages c.requires.one_each)
 
 pub returns : goal.returns
 returns c =

@@ -36,7 +36,8 @@ write_turned-requires-clause-within c =
     let long : length made ≡ n = c.requires.one_each ∙ sym count in
     let lists = c.in_ok-lists.lists.items in
     let numbers : c.deref-3.result.now ≡ with_impact made =
-    c.deref-3.ensures.value ∙ c.in_ok-numbers.ensures ∙ ap (λ (l : List (List ℕ)). filter (λ q. has_some (get_or l q [])) (range_with_len 0 n)) c.deref.ensures.value ∙ with-is made n lists long c.in_ok-lists.ensures.each in
+    c.deref-3.ensures.value ∙ c.in_ok-numbers.ensures ∙ ap (λ (l : List (List ℕ)). filter (λ q. has_some (get_or l q [])) (range_with_len 0 n))
+    c.deref.ensures.value ∙ with-is made n lists long c.in_ok-lists.ensures.each in
     let Within : List ℕ → Type 0 = λ list. All (λ q. q < length c.args.repo.now.packages) list in
     let End : ℕ → Type 0 = λ end. All (λ q. q < end) (with_impact made) in
     subst Within (sym numbers) (subst End count (with-within made n lists long c.in_ok-lists.ensures.each))
@@ -50,8 +51,10 @@ returns c =
     let long : length made ≡ n = c.requires.one_each ∙ sym c.len-packages.ensures.value in
     let lists = c.in_ok-lists.lists.items in
     let numbers : c.deref-3.result.now ≡ with_impact made =
-    c.deref-3.ensures.value ∙ c.in_ok-numbers.ensures ∙ ap (λ (l : List (List ℕ)). filter (λ q. has_some (get_or l q [])) (range_with_len 0 n)) c.deref.ensures.value ∙ with-is made n lists long c.in_ok-lists.ensures.each in
+    c.deref-3.ensures.value ∙ c.in_ok-numbers.ensures ∙ ap (λ (l : List (List ℕ)). filter (λ q. has_some (get_or l q [])) (range_with_len 0 n))
+    c.deref.ensures.value ∙ with-is made n lists long c.in_ok-lists.ensures.each in
     c.in_ok-write_turned.ensures
     ∙ ap (λ (list : List ℕ). old ++ listed (codes "impact:") (λ q. entry_lines packages (codes "    of:") q (get_or c.deref-2.result.now q [])) list) numbers
-    ∙ ap (λ (l : List (List ℕ)). old ++ listed (codes "impact:") (λ q. entry_lines packages (codes "    of:") q (get_or l q [])) (with_impact made)) c.deref-2.ensures.value
+    ∙ ap (λ (l : List (List ℕ)). old ++ listed (codes "impact:") (λ q. entry_lines packages (codes "    of:") q (get_or l q [])) (with_impact made))
+    c.deref-2.ensures.value
     ∙ ap (λ (t : List ℕ). old ++ t) (impact-lines made n lists long c.in_ok-lists.ensures.each packages)

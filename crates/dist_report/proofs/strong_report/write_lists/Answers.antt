@@ -1,4 +1,5 @@
-use Rattle.std.proofs.Common.{◌≡◌, ◌<◌, ℕ, Bool, List, [], Option, Some, ◌++◌, append_assoc, append-nil, codes, get_or, length, arith, sym, ap, subst, ◌∙◌, slice_get}
+use Rattle.std.proofs.Common.{◌≡◌, ◌<◌, ℕ, Bool, List, [], Option, Some, ◌++◌, append_assoc, append-nil, codes, get_or, length, arith, sym, ap, subst, ◌∙◌}
+use Rattle.std.proofs.Common.{slice_get}
 use Rattle.std.specs.Prelude.{◌==◌, All}
 use Rattle.std.specs.List.{flat_map}
 use Rattle.std.specs.Option.{option_map_or}
@@ -35,7 +36,8 @@ loop-number-preserved c =
     let before = c.args.out.now.items ++ key_line c.args.key.now (length numbers == 0) in
     let lines : ℕ → List ℕ = λ p. entry_lines packages (codes "    on:") p (list_at kind made p) in
     let is : slice_get numbers c.loop-number.number-index ≡ Some number = slice_get-get_or numbers c.loop-number.number-index 0 c.loop-number-test.true in
-    let own : c.claim_list-list.result.now ≡ list_at kind made number = c.claim_list-list.ensures ∙ sym (ap (λ (o : Option Claim). option_map_or (list_of kind) o []) c.get.ensures) in
+    let own : c.claim_list-list.result.now ≡ list_at kind made number = c.claim_list-list.ensures
+    ∙ sym (ap (λ (o : Option Claim). option_map_or (list_of kind) o []) c.get.ensures) in
     let more = c.in_ok-write_entry.ensures ∙ ap (λ (list : List ℕ). c.loop-number.out.items ++ entry_lines packages (codes "    on:") number list) own in
     lines-more lines numbers c.loop-number.number-index number before c.loop-number.out.items c.write_entry.new.out.items is c.loop-number.invariant more
 

@@ -19,4 +19,5 @@ pub returns : goal.returns
 returns c =
     let packages = c.args.repo.now.packages in
     c.in_ok-write_packages.ensures
-    ∙ ap (λ (list : List ℕ). c.args.out.now.items ++ listed c.args.key.now (package_line (codes "  - ") packages) list) (c.deref.ensures.value ∙ c.in_ok-numbers.ensures)
+    ∙ ap (λ (list : List ℕ). c.args.out.now.items ++ listed c.args.key.now (package_line (codes "  - ") packages) list)
+    (c.deref.ensures.value ∙ c.in_ok-numbers.ensures)

@@ -35,7 +35,8 @@ loop-number-preserved c =
     let before = c.args.out.now.items ++ key_line (codes "impact:") (length numbers == 0) in
     let lines : ℕ → List ℕ = λ q. entry_lines packages (codes "    of:") q (get_or c.args.lists.now q []) in
     let is : slice_get numbers c.loop-number.number-index ≡ Some number = slice_get-get_or numbers c.loop-number.number-index 0 c.loop-number-test.true in
-    let more = c.in_ok-write_entry.ensures ∙ ap (λ (list : List ℕ). c.loop-number.out.items ++ entry_lines packages (codes "    of:") number list) c.numbers_at-list.ensures in
+    let more = c.in_ok-write_entry.ensures ∙ ap (λ (list : List ℕ). c.loop-number.out.items ++ entry_lines packages (codes "    of:") number list)
+    c.numbers_at-list.ensures in
     lines-more lines numbers c.loop-number.number-index number before c.loop-number.out.items c.write_entry.new.out.items is c.loop-number.invariant more
 
 pub returns : goal.returns

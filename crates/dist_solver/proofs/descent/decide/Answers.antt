@@ -23,10 +23,14 @@ returns-in_ok-push-in-Some c =
     let settled : IsSettled log.clauses trues = record {
       consistent = next.consistent;
       no_conflict = All-weaker (λ clause. HasOutcome trues clause Open) (λ clause. ¬ AllFalse trues clause) (λ clause o. o.0) log.clauses c.requires.settled;
-      propagated = All-weaker (λ clause. HasOutcome trues clause Open) (IsPropagated trues) (λ clause o. c.what_settles_a_clause.ensures.neither trues clause o.0 o.1) log.clauses c.requires.settled;
+      propagated = All-weaker (λ clause. HasOutcome trues clause Open) (IsPropagated trues)
+          (λ clause o. c.what_settles_a_clause.ensures.neither trues clause o.0 o.1) log.clauses c.requires.settled;
     } in
-    let more = decided_more log c.args.assumptions.now start trues decision c.requires.decided in_range ((c.requires.cone decision.variable).0 next.in_cone) settled c.requires.started next.unset in
-    (subst (λ s. IsDecided log c.args.assumptions.now s) (sym c.in_ok-push-in-Some.ensures.items) more, omega (arith, ap length c.in_ok-push-in-Some.ensures.items, length_push start decision))
+    let more = decided_more log c.args.assumptions.now start trues decision c.requires.decided in_range ((c.requires.cone decision.variable).0 next.in_cone)
+    settled c.requires.started next.unset in (
+      subst (λ s. IsDecided log c.args.assumptions.now s) (sym c.in_ok-push-in-Some.ensures.items) more,
+      omega (arith, ap length c.in_ok-push-in-Some.ensures.items, length_push start decision),
+    )
 
 pub returns-in_ok-values-in-None : goal.returns-in_ok-values-in-None
 returns-in_ok-values-in-None c =

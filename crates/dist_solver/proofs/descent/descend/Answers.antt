@@ -19,7 +19,8 @@ loop-start-init c =
     } in
     record { decided = subst (λ s. IsDecided log assumptions s) (sym c.in_ok-start.ensures.items) start; variables = c.requires.trail }
 
-went_on : (log : ClauseLog) (assumptions old new : List Literal) (o : Option Descent) → ((end : Descent) → o ≡ Some end → ⊥) → GoesOn log assumptions old new o → IsDecided log assumptions new × (length old < length new)
+went_on : (log : ClauseLog) (assumptions old new : List Literal) (o : Option Descent) → ((end : Descent) → o ≡ Some end → ⊥) → GoesOn log assumptions old new o
+    → IsDecided log assumptions new × (length old < length new)
 went_on log assumptions old new (Some end) not_some h = absurd (not_some end refl)
 went_on log assumptions old new None not_some h = h
 

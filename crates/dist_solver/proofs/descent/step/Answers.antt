@@ -17,5 +17,6 @@ returns-in_ok-conclude-in-Some-clause-ends c =
     let assumptions = c.args.assumptions.now in
     let ends = subst (λ o. EndsFrom log c.deref.result.now c.propagate_from.new.self.literals o) c.in-Some.is c.in_ok-hints.ensures.ends in
     let same = c.deref.ensures.value ∙ sym c.deref-in-Some.ensures.value in
-    c.in_ok-conclude-in-Some.ensures log assumptions refl c.requires.lines_follow (subst (λ s. IsDecided log assumptions s) (sym c.deref-in-Some.ensures.value) c.requires.decided)
+    c.in_ok-conclude-in-Some.ensures log assumptions refl c.requires.lines_follow
+    (subst (λ s. IsDecided log assumptions s) (sym c.deref-in-Some.ensures.value) c.requires.decided)
     (subst (λ s. EndsFalse log.clauses s c.in-Some.hints) same ends.0) ends.1

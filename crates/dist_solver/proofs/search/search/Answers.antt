@@ -11,28 +11,34 @@ use Rattle.dist_solver.proofs.search.search.Goals as goal
 pub descend-requires-clause-cone : goal.descend-requires-clause-cone
 descend-requires-clause-cone c =
     let old = c.args.log.now in
-    let same = inputs_same old c.loop.log c.loop.derived c.args.assumptions.now c.loop.counter c.loop.invariant.adds c.len-clauses.ensures.within.inputs_within in
+    let same = inputs_same old c.loop.log c.loop.derived c.args.assumptions.now c.loop.counter c.loop.invariant.adds
+    c.len-clauses.ensures.within.inputs_within in
     subst (λ cs. (v : ℕ) → Contains c.args.cone.now v ↔ InCone cs c.args.assumptions.now v) (sym same) c.requires.cone
 
 pub returns-in-Model-clause-answer : goal.returns-in-Model-clause-answer
 returns-in-Model-clause-answer c =
     let model = subst (λ e. IsEnd c.loop.log c.args.assumptions.now e) c.in-Model.is c.in_ok-values.ensures.ends in
-    model_of_old c.args.log.now c.loop.log c.loop.derived c.args.assumptions.now c.loop.counter c.loop.invariant.adds c.in-Model.values c.len-clauses.ensures.within.inputs_within model
+    model_of_old c.args.log.now c.loop.log c.loop.derived c.args.assumptions.now c.loop.counter c.loop.invariant.adds c.in-Model.values
+    c.len-clauses.ensures.within.inputs_within model
 
 pub loop-preserved : goal.loop-preserved
 loop-preserved c =
     let log = c.loop.log in
     let assumptions = c.args.assumptions.now in
     let lesson = subst (λ e. IsEnd log assumptions e) c.in-Lesson.is c.in_ok-values.ensures.ends in
-    let as_passed = subst (λ cl. IsLesson log assumptions cl c.as_slice.result.now) (sym c.deref.ensures.value) (subst (λ hs. IsLesson log assumptions c.in-Lesson.clause.items hs) (sym c.as_slice.ensures) lesson) in
+    let as_passed = subst (λ cl. IsLesson log assumptions cl c.as_slice.result.now) (sym c.deref.ensures.value)
+    (subst (λ hs. IsLesson log assumptions c.in-Lesson.clause.items hs) (sym c.as_slice.ensures) lesson) in
     let learned = c.in_ok-learn-in-Lesson.ensures in
     record {
-      adds = adds_more c.args.log.now log c.loop.derived assumptions c.loop.counter c.loop.invariant.adds c.learn.new.log c.learn.new.derived c.deref.result.now c.as_slice.result.now as_passed learned.0 learned.1;
+      adds = adds_more c.args.log.now log c.loop.derived assumptions c.loop.counter c.loop.invariant.adds c.learn.new.log c.learn.new.derived c.deref.result.now
+          c.as_slice.result.now as_passed learned.0 learned.1;
       exact = omega (arith, ap (λ (l : ClauseLog). length l.clauses) learned.0, length_push log.clauses c.deref.result.now, c.loop.invariant.exact);
       lines_follow = subst (λ (l : ClauseLog). EachLineFollows l.inputs l.clauses) (sym learned.0)
-          (c.more_clauses_keep_what_follows.ensures.lines log.inputs log.clauses c.deref.result.now c.as_slice.result.now c.loop.invariant.lines_follow as_passed.follows);
+          (c.more_clauses_keep_what_follows.ensures.lines log.inputs log.clauses c.deref.result.now c.as_slice.result.now c.loop.invariant.lines_follow
+          as_passed.follows);
       variables = c.descend.ensures.same_variables ∙ c.loop.invariant.variables;
     }
 
 pub returns-in_err-learn-in-Lesson-clause-lines_follow : goal.returns-in_err-learn-in-Lesson-clause-lines_follow
-returns-in_err-learn-in-Lesson-clause-lines_follow c = subst (λ (l : ClauseLog). EachLineFollows l.inputs l.clauses) (sym c.in_err-learn-in-Lesson.ensures.0) c.loop.invariant.lines_follow
+returns-in_err-learn-in-Lesson-clause-lines_follow c = subst (λ (l : ClauseLog). EachLineFollows l.inputs l.clauses) (sym c.in_err-learn-in-Lesson.ensures.0)
+    c.loop.invariant.lines_follow

@@ -17,7 +17,8 @@ loop-cluster-preserved c =
     record {
       counted = count-pushed items c.push.new.self.items one n is c.loop-cluster.invariant.counted;
       are = each-pushed Are items c.push.new.self.items one [] n is c.loop-cluster.invariant.counted c.loop-cluster.invariant.are are;
-      examples = each-pushed (λ k classes. AreExampled classes) items c.push.new.self.items one [] n is c.loop-cluster.invariant.counted c.loop-cluster.invariant.examples c.in_ok-new.ensures.each;
+      examples = each-pushed (λ k classes. AreExampled classes) items c.push.new.self.items one [] n is c.loop-cluster.invariant.counted
+          c.loop-cluster.invariant.examples c.in_ok-new.ensures.each;
     }
 
 pub returns : goal.returns

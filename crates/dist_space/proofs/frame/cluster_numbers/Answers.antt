@@ -13,7 +13,8 @@ loop-member-preserved c =
     record {
       counted = ap length c.in_ok-push.ensures.items ∙ length_push numbers c.cluster_of.result ∙ ap (λ (n : ℕ). n + 1) c.loop-member.invariant.counted;
       are = subst (λ (xs : List ℕ). AreNumbers clusters xs (c.loop-member.member + 1)) (sym c.in_ok-push.ensures.items)
-          (numbers-more clusters numbers c.loop-member.member c.cluster_of.result c.loop-member.invariant.counted c.loop-member.invariant.are c.cluster_of.ensures);
+          (numbers-more clusters numbers c.loop-member.member c.cluster_of.result c.loop-member.invariant.counted c.loop-member.invariant.are
+          c.cluster_of.ensures);
     }
 
 pub returns : goal.returns

@@ -5,4 +5,5 @@ use Rattle.dist_space.specs.Numbering.{below, fresh_part}
 use Rattle.dist_space.proofs.numbering.add_names.Given as goal
 
 abbrev pub invariant-loop-name : goal.invariant-loop-name
-invariant-loop-name l = IsExtended l.limit l.initial.meanings.items (flat_map (fresh_part l.frame) (take l.name (below (length l.frame.names)))) l.meanings.items
+invariant-loop-name l = IsExtended l.limit l.initial.meanings.items (flat_map (fresh_part l.frame) (take l.name (below (length l.frame.names))))
+    l.meanings.items

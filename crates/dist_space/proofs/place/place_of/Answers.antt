@@ -6,7 +6,11 @@ use Rattle.dist_space.proofs.place.place_of.Goals.{else-start-len-via-then-start
 use Rattle.dist_space.proofs.place.place_of.Goals as goal
 
 pub loop-start-init : goal.loop-start-init
-loop-start-init c = (omega arith, omega (arith, c.len-end.ensures), between-all c.args.names.now c.args.name.now c.len-end.result (omega (arith, c.len-end.ensures)))
+loop-start-init c = (
+  omega arith,
+  omega (arith, c.len-end.ensures),
+  between-all c.args.names.now c.args.name.now c.len-end.result (omega (arith, c.len-end.ensures)),
+)
 
 pub loop-start-preserved-then-name_stands_before : goal.loop-start-preserved-then-name_stands_before
 loop-start-preserved-then-name_stands_before c =
@@ -15,7 +19,8 @@ loop-start-preserved-then-name_stands_before c =
     let middle = start + (end - start) / 2 in (
       omega (arith, c.loop-start-test.true),
       c.loop-start.invariant.1,
-      between-later c.args.names.now c.args.name.now c.requires.rising start middle end c.loop-start.invariant.2 (omega (arith, c.loop-start-test.true, c.loop-start.invariant.1)) (c.if-name_stands_before.ensures.0 refl),
+      between-later c.args.names.now c.args.name.now c.requires.rising start middle end c.loop-start.invariant.2
+          (omega (arith, c.loop-start-test.true, c.loop-start.invariant.1)) (c.if-name_stands_before.ensures.0 refl),
     )
 
 pub loop-start-preserved : goal.loop-start-preserved
@@ -25,7 +30,8 @@ loop-start-preserved c =
     let middle = start + (end - start) / 2 in (
       omega arith,
       omega (arith, c.loop-start-test.true, c.loop-start.invariant.1),
-      between-earlier c.args.names.now c.args.name.now c.requires.rising start middle end c.loop-start.invariant.2 (omega (arith, c.loop-start-test.true, c.loop-start.invariant.1))
+      between-earlier c.args.names.now c.args.name.now c.requires.rising start middle end c.loop-start.invariant.2
+          (omega (arith, c.loop-start-test.true, c.loop-start.invariant.1))
           (λ less. false≢true (c.if-name_stands_before.ensures.1 less)),
     )
 
@@ -49,7 +55,9 @@ returns-else-start-len c = λ x.
           let at : x ≡ start = place-is c.args.names.now c.args.name.now c.requires.rising start x between there in
           let here : slice_get c.args.names.now start ≡ Some c.args.name.now = ap (λ (i : ℕ). slice_get c.args.names.now i) (sym at) ∙ there in
           absurd (elim c.else-start-len.branch [
-            | else-start-len-via-then-start-len+else-eq w ↦ false≢true (w.if-eq.ensures.same.1 (same_Some w.get.result.now c.args.name.now (sym w.get.ensures ∙ here)))
-            | else-start-len-via-else-start-len w ↦ let short = slice_get_within c.args.names.now start c.args.name.now here in omega (arith, short, w.if-start-len.false, c.len.ensures)
+            | else-start-len-via-then-start-len+else-eq w ↦ false≢true
+                (w.if-eq.ensures.same.1 (same_Some w.get.result.now c.args.name.now (sym w.get.ensures ∙ here)))
+            | else-start-len-via-else-start-len w ↦ let short = slice_get_within c.args.names.now start c.args.name.now here in
+                omega (arith, short, w.if-start-len.false, c.len.ensures)
           ]),
     )

@@ -8,7 +8,8 @@ use Rattle.dist_space.proofs.space.space_of.Goals as goal
 pub returns-in_err-meanings-clause-too_many : goal.returns-in_err-meanings-clause-too_many
 returns-in_err-meanings-clause-too_many c =
     let p = err_from_is_err_and c.from_residual-in_err-meanings.result c.from_residual-in_err-meanings.ensures.1 in
-    exactly-none c.args.repo c.args.essential c.in_ok-frame.frame c.args.variables c.in_err-meanings.field-0.0 c.from_residual-in_err-meanings.result (p.1 ∙ ap (λ (e : SpaceError). Err e) p.2) c.in_ok-frame.ensures c.in_err-meanings.ensures.err
+    exactly-none c.args.repo c.args.essential c.in_ok-frame.frame c.args.variables c.in_err-meanings.field-0.0 c.from_residual-in_err-meanings.result
+    (p.1 ∙ ap (λ (e : SpaceError). Err e) p.2) c.in_ok-frame.ensures c.in_err-meanings.ensures.err
 
 pub invariant_of-result : goal.invariant_of-result
 invariant_of-result c = record {
@@ -17,10 +18,12 @@ invariant_of-result c = record {
 }
 
 pub returns-clause-ok : goal.returns-clause-ok
-returns-clause-ok c = whole-of c.args.repo c.args.essential c.in_ok-frame.frame c.in_ok-meanings.meanings.items c.in_ok-frame.ensures c.in_ok-meanings.ensures.ok.0
+returns-clause-ok c = whole-of c.args.repo c.args.essential c.in_ok-frame.frame c.in_ok-meanings.meanings.items c.in_ok-frame.ensures
+    c.in_ok-meanings.ensures.ok.0
 
 pub returns-clause-too_many : goal.returns-clause-too_many
 returns-clause-too_many c =
     let space : SpaceView = with_meanings c.in_ok-frame.frame c.in_ok-meanings.meanings.items in
     let of = whole-of c.args.repo c.args.essential c.in_ok-frame.frame c.in_ok-meanings.meanings.items c.in_ok-frame.ensures c.in_ok-meanings.ensures.ok.0 in
-    exactly-some c.args.repo c.args.essential space c.args.variables (Ok space) space refl of c.in_ok-meanings.ensures.ok.1 (c.spaces_are_one.ensures c.args.repo c.args.essential)
+    exactly-some c.args.repo c.args.essential space c.args.variables (Ok space) space refl of c.in_ok-meanings.ensures.ok.1
+    (c.spaces_are_one.ensures c.args.repo c.args.essential)

@@ -22,11 +22,13 @@ loop-place-preserved c =
     let s = c.args.space.now in
     let Excluded = Excludes s c.args.number c.args.package.now in
     let Of : Atom → Meaning → Type 0 = λ atom m. IsMatched s atom m × Excluded m in
-    each-more s Excluded Of c.args.package.now.conflicts c.args.variables.now.items c.loop-place.variables.items c.add_atom.new.variables.items c.loop-place.place c.get.result.now c.get.ensures c.loop-place.invariant c.in_ok-add_atom.ensures
+    each-more s Excluded Of c.args.package.now.conflicts c.args.variables.now.items c.loop-place.variables.items c.add_atom.new.variables.items
+    c.loop-place.place c.get.result.now c.get.ensures c.loop-place.invariant c.in_ok-add_atom.ensures
 
 pub returns : goal.returns
 returns c =
     let s = c.args.space.now in
     let Excluded = Excludes s c.args.number c.args.package.now in
     let Of : Atom → Meaning → Type 0 = λ atom m. IsMatched s atom m × Excluded m in
-    each-whole s Excluded Of c.args.package.now.conflicts c.args.variables.now.items c.loop-place.variables.items c.loop-place.place (let e = c.len-place-end.ensures in omega (arith, e, c.loop-place-test.false)) c.loop-place.invariant
+    each-whole s Excluded Of c.args.package.now.conflicts c.args.variables.now.items c.loop-place.variables.items c.loop-place.place
+    (let e = c.len-place-end.ensures in omega (arith, e, c.loop-place-test.false)) c.loop-place.invariant

@@ -8,4 +8,5 @@ use Rattle.dist_space_clauses.proofs.conflicts.add_atoms.Given as goal
 -- what the atoms so far match was added
 abbrev pub invariant-loop-place : goal.invariant-loop-place
 invariant-loop-place l =
-    Gathers l.space l.initial.variables.items l.variables.items (Excludes l.space l.number l.package) (λ m. Any (λ atom. IsMatched l.space atom m × Excludes l.space l.number l.package m) (take l.place l.package.conflicts))
+    Gathers l.space l.initial.variables.items l.variables.items (Excludes l.space l.number l.package)
+    (λ m. Any (λ atom. IsMatched l.space atom m × Excludes l.space l.number l.package m) (take l.place l.package.conflicts))

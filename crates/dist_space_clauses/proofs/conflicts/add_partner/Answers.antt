@@ -15,5 +15,6 @@ returns-then-conflict c =
     let q = c.package.result.now in
     on_ok_weaker c.add_variable.result
     (λ adds. gathers-one s c.args.variables.now.items c.add_variable.new.variables.items (Present c.args.other) (Excludes s c.args.number p)
-    (partner s c.args.number p c.args.other q c.package.ensures.value c.if-number-other.true (subst (λ (r : PackageList). AreInConflict r.architecture p q) c.repo.ensures.value (c.if-conflict.ensures.0 refl))) adds)
+    (partner s c.args.number p c.args.other q c.package.ensures.value c.if-number-other.true
+    (subst (λ (r : PackageList). AreInConflict r.architecture p q) c.repo.ensures.value (c.if-conflict.ensures.0 refl))) adds)
     c.add_variable.ensures

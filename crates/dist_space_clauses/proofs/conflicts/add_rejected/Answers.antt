@@ -21,7 +21,8 @@ returns-then-eq c =
     gathers-weaker s c.args.variables.now.items c.add_partner.new.variables.items First Excluded First All (λ m is both. both.1)
     (λ m is both. elim both.0.0 [
       | inl present ↦ (present, both.1)
-      | inr later ↦ absurd (apart-later s c.args.number p c.args.other c.package-rejected.result.now m c.package-rejected.ensures.value later both.1 (c.if-eq.ensures.same.0 refl))
+      | inr later ↦ absurd (apart-later s c.args.number p c.args.other c.package-rejected.result.now m c.package-rejected.ensures.value later both.1
+          (c.if-eq.ensures.same.0 refl))
     ])
     c.in_ok-add_partner.ensures
 
@@ -37,9 +38,11 @@ returns c =
     let All : Meaning → Type 0 = λ m. (IsOf c.args.other m × IsMatchedBy s atom m) × Excluded m in
     on_ok_weaker c.add_later.result
     (λ adds. gathers-both s c.args.variables.now.items c.add_partner.new.variables.items c.add_later.new.variables.items Excluded First Rest All
-    (gathers-weaker s c.args.variables.now.items c.add_partner.new.variables.items First Excluded First First (λ m is both. both.1) (λ m is both. both) c.in_ok-add_partner.ensures)
+    (gathers-weaker s c.args.variables.now.items c.add_partner.new.variables.items First Excluded First First (λ m is both. both.1) (λ m is both. both)
+    c.in_ok-add_partner.ensures)
     (gathers-weaker s c.add_partner.new.variables.items c.add_later.new.variables.items Rest Excluded Rest Rest
-    (λ m is both. later-apart s c.args.number p c.args.other q atom m c.package-rejected.ensures.value (λ same. false≢true (c.if-eq.ensures.same.1 same)) c.requires.atom c.requires.usable both) (λ m is both. both) adds)
+    (λ m is both. later-apart s c.args.number p c.args.other q atom m c.package-rejected.ensures.value (λ same. false≢true (c.if-eq.ensures.same.1 same))
+    c.requires.atom c.requires.usable both) (λ m is both. both) adds)
     (λ m is both. elim both.0.0 [
       | inl present ↦ inl (present, both.1)
       | inr later ↦ inr (later, both.0.1)

@@ -28,12 +28,15 @@ loop-place-preserved c =
     let s = c.args.space.now in
     let p = c.args.package.now in
     let Of : Provide → Meaning → Type 0 = λ entry. IsOneOf s c.args.number p (numbers_at c.args.rejecting.now entry.name) in
-    each-more s (Excludes s c.args.number p) Of p.provides c.args.variables.now.items c.loop-place.variables.items c.add_rejecting.new.variables.items c.loop-place.place c.get.result.now c.get.ensures c.loop-place.invariant
-    (subst (λ (xs : List ℕ). Gathers s c.loop-place.variables.items c.add_rejecting.new.variables.items (Excludes s c.args.number p) (IsOneOf s c.args.number p xs)) c.of-others.ensures c.in_ok-add_rejecting.ensures)
+    each-more s (Excludes s c.args.number p) Of p.provides c.args.variables.now.items c.loop-place.variables.items c.add_rejecting.new.variables.items
+    c.loop-place.place c.get.result.now c.get.ensures c.loop-place.invariant
+    (subst (λ (xs : List ℕ). Gathers s c.loop-place.variables.items c.add_rejecting.new.variables.items (Excludes s c.args.number p)
+    (IsOneOf s c.args.number p xs)) c.of-others.ensures c.in_ok-add_rejecting.ensures)
 
 pub returns : goal.returns
 returns c =
     let s = c.args.space.now in
     let p = c.args.package.now in
     let Of : Provide → Meaning → Type 0 = λ entry. IsOneOf s c.args.number p (numbers_at c.args.rejecting.now entry.name) in
-    each-whole s (Excludes s c.args.number p) Of p.provides c.args.variables.now.items c.loop-place.variables.items c.loop-place.place (let e = c.len-place-end.ensures in omega (arith, e, c.loop-place-test.false)) c.loop-place.invariant
+    each-whole s (Excludes s c.args.number p) Of p.provides c.args.variables.now.items c.loop-place.variables.items c.loop-place.place
+    (let e = c.len-place-end.ensures in omega (arith, e, c.loop-place-test.false)) c.loop-place.invariant

@@ -9,4 +9,5 @@ use Rattle.dist_space_clauses.proofs.conflicts.add_rejecting_entries.Given as go
 -- those of the entries so far were added
 abbrev pub invariant-loop-place : goal.invariant-loop-place
 invariant-loop-place l =
-    Gathers l.space l.initial.variables.items l.variables.items (Excludes l.space l.number l.package) (λ m. Any (λ entry. IsOneOf l.space l.number l.package (numbers_at l.rejecting entry.name) m) (take l.place l.package.provides))
+    Gathers l.space l.initial.variables.items l.variables.items (Excludes l.space l.number l.package)
+    (λ m. Any (λ entry. IsOneOf l.space l.number l.package (numbers_at l.rejecting entry.name) m) (take l.place l.package.provides))

@@ -28,7 +28,8 @@ returns c =
     let second = c.add_rejecting.new.variables.items in
     let third = c.add_rejecting_entries.new.variables.items in
     let own : Gathers s [] first Excluded Own = subst (λ (xs : List ℕ). Gathers s xs first Excluded Own) c.clear.ensures.items c.in_ok-add_atoms.ensures in
-    let named : Gathers s first second Excluded Named = subst (λ (xs : List ℕ). Gathers s first second Excluded (IsOneOf s c.args.number p xs)) c.of.ensures c.in_ok-add_rejecting.ensures in
+    let named : Gathers s first second Excluded Named = subst (λ (xs : List ℕ). Gathers s first second Excluded (IsOneOf s c.args.number p xs)) c.of.ensures
+    c.in_ok-add_rejecting.ensures in
     in-order s third c.put_in_order.new.variables.items Excluded Excluded (λ m is excluded. excluded)
     (gathers-both s [] first third Excluded Own NotOwn Excluded own
     (gathers-both s first second third Excluded Named Entry NotOwn named c.in_ok-add_rejecting_entries.ensures (λ m is either. either))

@@ -19,7 +19,8 @@ loop-class-init c =
     let p = c.args.package.now in
     let One : Meaning → Type 0 = λ m. m ≡ Present n in
     let first = c.add_variable.new.variables.items in
-    gathers-weaker s [] first One (IsBearer s p.name) One (λ m. (m ≡ Present n) ⊎ UpTo s (λ class x. x ≡ New n class) 0 m) (λ m is same. bearer-present s n p m c.requires.package same) (λ m is either. elim either [
+    gathers-weaker s [] first One (IsBearer s p.name) One (λ m. (m ≡ Present n) ⊎ UpTo s (λ class x. x ≡ New n class) 0 m)
+    (λ m is same. bearer-present s n p m c.requires.package same) (λ m is either. elim either [
       | inl same ↦ same
       | inr up ↦ absurd (omega (arith, up.1))
     ])
@@ -38,9 +39,11 @@ loop-class-preserved c =
     let p = c.args.package.now in
     let class = c.loop-class.class in
     let One : Meaning → Type 0 = λ m. m ≡ New n class in
-    gathers-both s [] c.loop-class.variables.items c.add_variable-in-loop-class.new.variables.items (IsBearer s p.name) (λ m. (m ≡ Present n) ⊎ UpTo s (λ k x. x ≡ New n k) class m) One (λ m. (m ≡ Present n) ⊎ UpTo s (λ k x. x ≡ New n k) (class + 1) m)
+    gathers-both s [] c.loop-class.variables.items c.add_variable-in-loop-class.new.variables.items (IsBearer s p.name)
+    (λ m. (m ≡ Present n) ⊎ UpTo s (λ k x. x ≡ New n k) class m) One (λ m. (m ≡ Present n) ⊎ UpTo s (λ k x. x ≡ New n k) (class + 1) m)
     c.loop-class.invariant
-    (gathers-weaker s c.loop-class.variables.items c.add_variable-in-loop-class.new.variables.items One (IsBearer s p.name) One One (λ m is same. bearer-new s n p class m c.requires.package same) (λ m is same. same) c.in_ok-add_variable-2.ensures)
+    (gathers-weaker s c.loop-class.variables.items c.add_variable-in-loop-class.new.variables.items One (IsBearer s p.name) One One
+    (λ m is same. bearer-new s n p class m c.requires.package same) (λ m is same. same) c.in_ok-add_variable-2.ensures)
     (λ m is either. bearer-more s n class m either)
 
 pub returns : goal.returns
@@ -51,6 +54,8 @@ returns c =
     let Bearer = IsBearer s p.name in
     let e = c.class_count-class-end.ensures ∙ ap (λ (i : ℕ). length (cluster_classes s i)) c.cluster_of.ensures in
     in-order s c.loop-class.variables.items c.put_in_order.new.variables.items Bearer Bearer (λ m is bearer. bearer)
-    (gathers-weaker s [] c.loop-class.variables.items Bearer Bearer (λ m. (m ≡ Present n) ⊎ UpTo s (λ k x. x ≡ New n k) c.loop-class.class m) Bearer (λ m is bearer. bearer)
-    (λ m is bearer. bearer-cases s c.variables-variables.ensures.space n p c.loop-class.class m c.requires.package (omega (arith, e, c.loop-class-test.false)) is bearer) c.loop-class.invariant)
+    (gathers-weaker s [] c.loop-class.variables.items Bearer Bearer (λ m. (m ≡ Present n) ⊎ UpTo s (λ k x. x ≡ New n k) c.loop-class.class m) Bearer
+    (λ m is bearer. bearer)
+    (λ m is bearer. bearer-cases s c.variables-variables.ensures.space n p c.loop-class.class m c.requires.package (omega (arith, e, c.loop-class-test.false))
+    is bearer) c.loop-class.invariant)
     c.put_in_order.ensures.rising c.put_in_order.ensures.same

@@ -14,13 +14,15 @@ use Rattle.dist_space_clauses.proofs.essential.push_name.Goals as goal
 
 pub returns-then-not-package-clause-ok : goal.returns-then-not-package-clause-ok
 returns-then-not-package-clause-ok c =
-    named-skipped c.args.space.now c.variables-variables.ensures.space c.args.set.now c.args.number c.args.package.now c.requires.package c.args.set.now c.if-not-package.true c.requires.front
+    named-skipped c.args.space.now c.variables-variables.ensures.space c.args.set.now c.args.number c.args.package.now c.requires.package c.args.set.now
+    c.if-not-package.true c.requires.front
 
 pub write_positive-requires : goal.write_positive-requires
 write_positive-requires c =
     let s = c.args.space.now in
     let up = c.variables-variables.ensures in
-    in-limit s up.space (IsBearer s c.args.package.now.name) c.gather_bearers.new.variables.items MAX_VARIABLES (omega (arith, up.value, up.stated)) c.in_default.ensures
+    in-limit s up.space (IsBearer s c.args.package.now.name) c.gather_bearers.new.variables.items MAX_VARIABLES (omega (arith, up.value, up.stated))
+    c.in_default.ensures
 
 pub add_clause-requires : goal.add_clause-requires
 add_clause-requires c =
@@ -32,7 +34,8 @@ add_clause-requires c =
     let ordered : IsInOrder s.repository.packages = subst (λ (r : PackageList). IsInOrder r.packages) c.repo.ensures.value c.len-packages.ensures.in_order in
     let written : c.deref.result.now ≡ map positive vs = c.deref.ensures.value ∙ c.in_default-write_positive.ensures in
     let is = name-clause s space p.name vs c.deref.result.now c.in_default.ensures written in
-    subst (λ (k : ℕ). IsClauseOver k c.deref.result.now) (sym c.requires.front.variables) (subst (IsClauseOver _) (sym written) (over-positive s space (IsBearer s p.name) vs c.in_default.ensures))
+    subst (λ (k : ℕ). IsClauseOver k c.deref.result.now) (sym c.requires.front.variables)
+    (subst (IsClauseOver _) (sym written) (over-positive s space (IsBearer s p.name) vs c.in_default.ensures))
 
 pub returns-clause-ok : goal.returns-clause-ok
 returns-clause-ok c =
@@ -45,7 +48,9 @@ returns-clause-ok c =
     let written : c.deref.result.now ≡ map positive vs = c.deref.ensures.value ∙ c.in_default-write_positive.ensures in
     let is = name-clause s space p.name vs c.deref.result.now c.in_default.ensures written in
     on_ok_weaker c.add_clause.result
-    (λ pushed. subst (λ (x : ClauseList). IsNamedFront s (n + 1) c.args.set.now x) (sym pushed) (named-pushed s space c.args.set.now n p c.requires.package ordered c.requires.essential c.if-not-package.false c.args.set.now c.deref.result.now is c.requires.front))
+    (λ pushed. subst (λ (x : ClauseList). IsNamedFront s (n + 1) c.args.set.now x) (sym pushed)
+    (named-pushed s space c.args.set.now n p c.requires.package ordered c.requires.essential c.if-not-package.false c.args.set.now c.deref.result.now is
+    c.requires.front))
     c.add_clause.ensures.ok
 
 pub returns-clause-err : goal.returns-clause-err
@@ -59,6 +64,7 @@ returns-clause-err c =
     let written : c.deref.result.now ≡ map positive vs = c.deref.ensures.value ∙ c.in_default-write_positive.ensures in
     let is = name-clause s space p.name vs c.deref.result.now c.in_default.ensures written in
     IfErr-weaker c.add_clause.result _ _
-    (λ error refused. stops-at s space c.args.set.now c.args.set.now (Required p.name) c.deref.result.now error (name-demand s space c.args.set.now n p c.requires.package ordered c.requires.essential c.if-not-package.false) is
+    (λ error refused. stops-at s space c.args.set.now c.args.set.now (Required p.name) c.deref.result.now error
+    (name-demand s space c.args.set.now n p c.requires.package ordered c.requires.essential c.if-not-package.false) is
     (named-before s space c.args.set.now n p c.requires.package ordered c.requires.essential c.if-not-package.false c.args.set.now c.requires.front) refused)
     c.add_clause.ensures.err

@@ -6,25 +6,30 @@ use Rattle.dist_space_clauses.proofs.GroupFronts.{few-groups, groups-close, grou
 use Rattle.dist_space_clauses.proofs.groups.push_group.Goals as goal
 
 pub loop-variable-init : goal.loop-variable-init
-loop-variable-init c = groups-open c.args.space.now c.variables-variable-end.ensures.space c.args.set.now (number_of c.args.group) c.args.set.now (few-groups c.args.group) c.requires.front
+loop-variable-init c = groups-open c.args.space.now c.variables-variable-end.ensures.space c.args.set.now (number_of c.args.group) c.args.set.now
+    (few-groups c.args.group) c.requires.front
 
 pub push_led-requires-clause-in_range : goal.push_led-requires-clause-in_range
 push_led-requires-clause-in_range c = omega (arith, c.variables-variable-end.ensures.value)
 
 pub push_led-requires-clause-front : goal.push_led-requires-clause-front
-push_led-requires-clause-front c = own-limits c.args.space.now (IsBelow c.args.space.now (number_of c.args.group) c.loop-variable.variable 0) c.args.set.now c.loop-variable.set c.loop-variable.invariant
+push_led-requires-clause-front c = own-limits c.args.space.now (IsBelow c.args.space.now (number_of c.args.group) c.loop-variable.variable 0) c.args.set.now
+    c.loop-variable.set c.loop-variable.invariant
 
 pub returns-in_err-push_led-clause-err : goal.returns-in_err-push_led-clause-err
 returns-in_err-push_led-clause-err c =
     let p = err_from_is_err_and c.from_residual.result c.from_residual.ensures.1 in
-    rw (p.1, p.2) (same-cause c.args.space.now (IsBelow c.args.space.now (number_of c.args.group) c.loop-variable.variable 0) c.args.set.now c.loop-variable.set c.loop-variable.invariant _ c.in_err-push_led.ensures.err)
+    rw (p.1, p.2) (same-cause c.args.space.now (IsBelow c.args.space.now (number_of c.args.group) c.loop-variable.variable 0) c.args.set.now c.loop-variable.set
+    c.loop-variable.invariant _ c.in_err-push_led.ensures.err)
 
 pub loop-variable-preserved : goal.loop-variable-preserved
 loop-variable-preserved c =
     let s = c.args.space.now in
     let g = number_of c.args.group in
-    same-limits s (IsBelow s g c.loop-variable.variable 0) c.args.set.now (IsBelow s g (c.loop-variable.variable + 1) 0) c.loop-variable.set c.push_led.new.set c.loop-variable.invariant c.in_ok-push_led.ensures.ok
+    same-limits s (IsBelow s g c.loop-variable.variable 0) c.args.set.now (IsBelow s g (c.loop-variable.variable + 1) 0) c.loop-variable.set c.push_led.new.set
+    c.loop-variable.invariant c.in_ok-push_led.ensures.ok
 
 pub returns-clause-ok : goal.returns-clause-ok
 returns-clause-ok c =
-    groups-close c.args.space.now c.variables-variable-end.ensures.space c.args.set.now (number_of c.args.group) c.loop-variable.variable c.loop-variable.set (omega (arith, c.variables-variable-end.ensures.value, c.loop-variable-test.false)) c.loop-variable.invariant
+    groups-close c.args.space.now c.variables-variable-end.ensures.space c.args.set.now (number_of c.args.group) c.loop-variable.variable c.loop-variable.set
+    (omega (arith, c.variables-variable-end.ensures.value, c.loop-variable-test.false)) c.loop-variable.invariant

@@ -15,8 +15,10 @@ returns c =
     let Rest = MatchedAnd s atom (IsLaterOf c.args.number) in
     on_ok_weaker c.add_later.result
     (λ adds. gathers-both s c.args.variables.now.items c.add_present.new.variables.items c.add_later.new.variables.items P First Rest P
-    (gathers-weaker s c.args.variables.now.items c.add_present.new.variables.items First P First First (λ m is both. (inl both.0, both.1)) (λ m is both. both) c.in_ok-add_present.ensures)
-    (gathers-weaker s c.add_present.new.variables.items c.add_later.new.variables.items Rest P Rest Rest (λ m is both. (inr both.0, both.1)) (λ m is both. both) adds)
+    (gathers-weaker s c.args.variables.now.items c.add_present.new.variables.items First P First First (λ m is both. (inl both.0, both.1)) (λ m is both. both)
+    c.in_ok-add_present.ensures)
+    (gathers-weaker s c.add_present.new.variables.items c.add_later.new.variables.items Rest P Rest Rest (λ m is both. (inr both.0, both.1)) (λ m is both. both)
+    adds)
     (λ m is both. elim both.0 [
       | inl present ↦ inl (present, both.1)
       | inr later ↦ inr (later, both.1)

@@ -8,4 +8,5 @@ use Rattle.dist_space_clauses.proofs.items.add_packages.Given as goal
 -- what the atom matches of those so far was added
 abbrev pub invariant-loop-number : goal.invariant-loop-number
 invariant-loop-number l =
-    Gathers l.space l.initial.variables.items l.variables.items (IsMatchedBy l.space l.atom) (λ m. Any (λ number. MatchedAnd l.space l.atom (IsOf number) m) (take l.number-index l.providers))
+    Gathers l.space l.initial.variables.items l.variables.items (IsMatchedBy l.space l.atom)
+    (λ m. Any (λ number. MatchedAnd l.space l.atom (IsOf number) m) (take l.number-index l.providers))

@@ -14,5 +14,6 @@ returns-then-matches c =
     let p = c.package.result.now in
     on_ok_weaker c.add_variable.result
     (λ adds. gathers-one s c.args.variables.now.items c.add_variable.new.variables.items (Present c.args.number) (IsMatchedBy s c.args.atom.now)
-    (at-has (Matches s.repository.architecture c.args.atom.now) s.repository.packages c.args.number p c.package.ensures.value (subst (λ (r : PackageList). Matches r.architecture c.args.atom.now p) c.repo.ensures.value (c.if-matches.ensures.0 refl))) adds)
+    (at-has (Matches s.repository.architecture c.args.atom.now) s.repository.packages c.args.number p c.package.ensures.value
+    (subst (λ (r : PackageList). Matches r.architecture c.args.atom.now p) c.repo.ensures.value (c.if-matches.ensures.0 refl))) adds)
     c.add_variable.ensures

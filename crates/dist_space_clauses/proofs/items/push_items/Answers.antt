@@ -19,17 +19,20 @@ pub returns-in_err-push_item-clause-err : goal.returns-in_err-push_item-clause-e
 returns-in_err-push_item-clause-err c =
     let s = c.args.space.now in
     let p = err_from_is_err_and c.from_residual.result c.from_residual.ensures.1 in
-    rw (p.1, p.2) (same-cause s (IsBelow s 4 (variable_of s (Present c.args.number)) c.loop-place.place) c.args.set.now c.loop-place.set c.loop-place.invariant _ c.in_err-push_item.ensures.err)
+    rw (p.1, p.2) (same-cause s (IsBelow s 4 (variable_of s (Present c.args.number)) c.loop-place.place) c.args.set.now c.loop-place.set c.loop-place.invariant
+    _ c.in_err-push_item.ensures.err)
 
 pub loop-place-preserved : goal.loop-place-preserved
 loop-place-preserved c =
     let s = c.args.space.now in
     let v = variable_of s (Present c.args.number) in
-    same-limits s (IsBelow s 4 v c.loop-place.place) c.args.set.now (IsBelow s 4 v (c.loop-place.place + 1)) c.loop-place.set c.push_item.new.set c.loop-place.invariant c.in_ok-push_item.ensures.ok
+    same-limits s (IsBelow s 4 v c.loop-place.place) c.args.set.now (IsBelow s 4 v (c.loop-place.place + 1)) c.loop-place.set c.push_item.new.set
+    c.loop-place.invariant c.in_ok-push_item.ensures.ok
 
 pub returns-clause-ok : goal.returns-clause-ok
 returns-clause-ok c =
     let s = c.args.space.now in
     let is_meaning = slice_get_within s.repository.packages c.args.number c.args.package.now c.requires.package in
-    items-end s c.variables-variables.ensures.space c.args.set.now c.args.number is_meaning c.loop-place.place c.args.package.now c.loop-place.set c.requires.package
+    items-end s c.variables-variables.ensures.space c.args.set.now c.args.number is_meaning c.loop-place.place c.args.package.now c.loop-place.set
+    c.requires.package
     (let e = c.len-place-end.ensures in omega (arith, e, c.loop-place-test.false)) c.loop-place.invariant

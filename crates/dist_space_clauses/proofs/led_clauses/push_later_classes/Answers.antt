@@ -11,23 +11,33 @@ loop-later-init c = classes-start c.args.space.now c.args.set.now c.args.set.now
 
 pub add_pair-requires : goal.add_pair-requires
 add_pair-requires c =
-    pair-over c.args.space.now c.requires.meaning.space c.args.set.now 1 c.args.variable c.loop-later.later (OneClass c.args.cluster c.args.class c.loop-later.later) (At c.args.cluster c.args.class) (At c.args.cluster c.loop-later.later) false false
-    (class-pair c.args.space.now c.args.variable c.args.cluster c.args.class c.loop-later.later c.requires.meaning (omega arith) (omega arith)) c.loop-later.set c.loop-later.invariant c.new.result c.new-in-loop-later.result
-    (c.new.ensures ∙ ap (λ v. literal v false) (sym c.requires.meaning.variable_is)) (c.new-in-loop-later.ensures ∙ ap (λ v. literal v false) c.variable-other.ensures.value)
+    pair-over c.args.space.now c.requires.meaning.space c.args.set.now 1 c.args.variable c.loop-later.later
+    (OneClass c.args.cluster c.args.class c.loop-later.later) (At c.args.cluster c.args.class) (At c.args.cluster c.loop-later.later) false false
+    (class-pair c.args.space.now c.args.variable c.args.cluster c.args.class c.loop-later.later c.requires.meaning (omega arith) (omega arith)) c.loop-later.set
+    c.loop-later.invariant c.new.result c.new-in-loop-later.result
+    (c.new.ensures ∙ ap (λ v. literal v false) (sym c.requires.meaning.variable_is))
+    (c.new-in-loop-later.ensures ∙ ap (λ v. literal v false) c.variable-other.ensures.value)
 
 pub returns-in_err-add_pair-clause-err : goal.returns-in_err-add_pair-clause-err
 returns-in_err-add_pair-clause-err c =
     let p = err_from_is_err_and c.from_residual.result c.from_residual.ensures.1 in
     rw (p.1, p.2)
-    (pair-stops c.args.space.now c.requires.meaning.space c.args.set.now 1 c.args.variable c.loop-later.later (OneClass c.args.cluster c.args.class c.loop-later.later) (At c.args.cluster c.args.class) (At c.args.cluster c.loop-later.later) false false
-    (class-pair c.args.space.now c.args.variable c.args.cluster c.args.class c.loop-later.later c.requires.meaning (omega arith) (omega arith)) c.loop-later.set c.loop-later.invariant c.new.result c.new-in-loop-later.result
-    (c.new.ensures ∙ ap (λ v. literal v false) (sym c.requires.meaning.variable_is)) (c.new-in-loop-later.ensures ∙ ap (λ v. literal v false) c.variable-other.ensures.value) _ c.in_err-add_pair.ensures.err)
+    (pair-stops c.args.space.now c.requires.meaning.space c.args.set.now 1 c.args.variable c.loop-later.later
+    (OneClass c.args.cluster c.args.class c.loop-later.later) (At c.args.cluster c.args.class) (At c.args.cluster c.loop-later.later) false false
+    (class-pair c.args.space.now c.args.variable c.args.cluster c.args.class c.loop-later.later c.requires.meaning (omega arith) (omega arith)) c.loop-later.set
+    c.loop-later.invariant c.new.result c.new-in-loop-later.result
+    (c.new.ensures ∙ ap (λ v. literal v false) (sym c.requires.meaning.variable_is))
+    (c.new-in-loop-later.ensures ∙ ap (λ v. literal v false) c.variable-other.ensures.value) _ c.in_err-add_pair.ensures.err)
 
 pub loop-later-preserved : goal.loop-later-preserved
 loop-later-preserved c =
-    pair-more c.args.space.now c.requires.meaning.space c.args.set.now 1 c.args.variable c.loop-later.later (OneClass c.args.cluster c.args.class c.loop-later.later) (At c.args.cluster c.args.class) (At c.args.cluster c.loop-later.later) false false
-    (class-pair c.args.space.now c.args.variable c.args.cluster c.args.class c.loop-later.later c.requires.meaning (omega arith) (omega arith)) c.loop-later.set c.loop-later.invariant c.new.result c.new-in-loop-later.result
-    (c.new.ensures ∙ ap (λ v. literal v false) (sym c.requires.meaning.variable_is)) (c.new-in-loop-later.ensures ∙ ap (λ v. literal v false) c.variable-other.ensures.value) c.add_pair.new.set c.in_ok-add_pair.ensures.ok
+    pair-more c.args.space.now c.requires.meaning.space c.args.set.now 1 c.args.variable c.loop-later.later
+    (OneClass c.args.cluster c.args.class c.loop-later.later) (At c.args.cluster c.args.class) (At c.args.cluster c.loop-later.later) false false
+    (class-pair c.args.space.now c.args.variable c.args.cluster c.args.class c.loop-later.later c.requires.meaning (omega arith) (omega arith)) c.loop-later.set
+    c.loop-later.invariant c.new.result c.new-in-loop-later.result
+    (c.new.ensures ∙ ap (λ v. literal v false) (sym c.requires.meaning.variable_is))
+    (c.new-in-loop-later.ensures ∙ ap (λ v. literal v false) c.variable-other.ensures.value) c.add_pair.new.set c.in_ok-add_pair.ensures.ok
 
 pub returns-clause-ok : goal.returns-clause-ok
-returns-clause-ok c = classes-end c.args.space.now c.args.set.now c.loop-later.set c.args.variable c.args.cluster c.args.class c.loop-later.later c.requires.meaning (omega arith) c.loop-later.invariant
+returns-clause-ok c = classes-end c.args.space.now c.args.set.now c.loop-later.set c.args.variable c.args.cluster c.args.class c.loop-later.later
+    c.requires.meaning (omega arith) c.loop-later.invariant

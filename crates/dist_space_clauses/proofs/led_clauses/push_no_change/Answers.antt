@@ -16,10 +16,13 @@ returns-clause-ok c =
     on_ok_weaker c.add_pair.result (λ is. today-end c.args.space.now c.args.set.now c.add_pair.new.set c.args.variable c.args.change c.requires.meaning
     (pair-more c.args.space.now c.requires.meaning.space c.args.set.now 6 c.args.variable 0 (today_demand c.args.change) Now c.args.change false false
     (today-pair c.args.space.now c.args.variable c.args.change c.requires.change c.requires.meaning) c.args.set.now c.requires.front c.new.result c.new-2.result
-    (c.new.ensures ∙ ap (λ v. literal v false) c.variable-now.ensures.value) (c.new-2.ensures ∙ ap (λ v. literal v false) (sym c.requires.meaning.variable_is)) c.add_pair.new.set is)) c.add_pair.ensures.ok
+    (c.new.ensures ∙ ap (λ v. literal v false) c.variable-now.ensures.value) (c.new-2.ensures ∙ ap (λ v. literal v false) (sym c.requires.meaning.variable_is))
+    c.add_pair.new.set is)) c.add_pair.ensures.ok
 
 pub returns-clause-err : goal.returns-clause-err
 returns-clause-err c =
-    IfErr-weaker c.add_pair.result _ _ (pair-stops c.args.space.now c.requires.meaning.space c.args.set.now 6 c.args.variable 0 (today_demand c.args.change) Now c.args.change false false
+    IfErr-weaker c.add_pair.result _ _ (pair-stops c.args.space.now c.requires.meaning.space c.args.set.now 6 c.args.variable 0 (today_demand c.args.change) Now
+    c.args.change false false
     (today-pair c.args.space.now c.args.variable c.args.change c.requires.change c.requires.meaning) c.args.set.now c.requires.front c.new.result c.new-2.result
-    (c.new.ensures ∙ ap (λ v. literal v false) c.variable-now.ensures.value) (c.new-2.ensures ∙ ap (λ v. literal v false) (sym c.requires.meaning.variable_is))) c.add_pair.ensures.err
+    (c.new.ensures ∙ ap (λ v. literal v false) c.variable-now.ensures.value) (c.new-2.ensures ∙ ap (λ v. literal v false) (sym c.requires.meaning.variable_is)))
+    c.add_pair.ensures.err

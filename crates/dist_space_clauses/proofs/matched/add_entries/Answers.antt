@@ -9,7 +9,8 @@ pub loop-place-init : goal.loop-place-init
 loop-place-init c =
     let s = c.args.space.now in
     let atom = c.args.atom.now in
-    count-none s c.args.variables.now.items (MatchedAnd s atom (IsKeptOf c.args.member c.args.class)) (λ place. MatchedAnd s atom (λ m. m ≡ Kept c.args.member c.args.class place))
+    count-none s c.args.variables.now.items (MatchedAnd s atom (IsKeptOf c.args.member c.args.class))
+    (λ place. MatchedAnd s atom (λ m. m ≡ Kept c.args.member c.args.class place))
 
 pub loop-place-preserved : goal.loop-place-preserved
 loop-place-preserved c =
@@ -17,8 +18,10 @@ loop-place-preserved c =
     let atom = c.args.atom.now in
     let One = MatchedAnd s atom (λ m. m ≡ Kept c.args.member c.args.class c.loop-place.place) in
     let P = MatchedAnd s atom (IsKeptOf c.args.member c.args.class) in
-    count-more s c.args.variables.now.items c.loop-place.variables.items c.add_entry.new.variables.items P (λ place. MatchedAnd s atom (λ m. m ≡ Kept c.args.member c.args.class place)) c.loop-place.place c.loop-place.invariant
-    (gathers-weaker s c.loop-place.variables.items c.add_entry.new.variables.items One P One One (λ m is both. kept-among s atom c.args.member c.args.class c.loop-place.place m both) (λ m is both. both) c.in_ok-add_entry.ensures)
+    count-more s c.args.variables.now.items c.loop-place.variables.items c.add_entry.new.variables.items P
+    (λ place. MatchedAnd s atom (λ m. m ≡ Kept c.args.member c.args.class place)) c.loop-place.place c.loop-place.invariant
+    (gathers-weaker s c.loop-place.variables.items c.add_entry.new.variables.items One P One One
+    (λ m is both. kept-among s atom c.args.member c.args.class c.loop-place.place m both) (λ m is both. both) c.in_ok-add_entry.ensures)
 
 pub returns : goal.returns
 returns c =

@@ -8,4 +8,5 @@ use Rattle.dist_space_clauses.proofs.matched.add_entries.Given as goal
 -- the entries so far that the atom matches were added
 abbrev pub invariant-loop-place : goal.invariant-loop-place
 invariant-loop-place l =
-    Gathers l.space l.initial.variables.items l.variables.items (MatchedAnd l.space l.atom (IsKeptOf l.member l.class)) (UpTo l.space (λ place. MatchedAnd l.space l.atom (λ m. m ≡ Kept l.member l.class place)) l.place)
+    Gathers l.space l.initial.variables.items l.variables.items (MatchedAnd l.space l.atom (IsKeptOf l.member l.class))
+    (UpTo l.space (λ place. MatchedAnd l.space l.atom (λ m. m ≡ Kept l.member l.class place)) l.place)

@@ -21,20 +21,27 @@ pub returns-then-matches_moved : goal.returns-then-matches_moved
 returns-then-matches_moved c =
     let s = c.args.space.now in
     let entry = c.get-entry.result.now in
-    let example : c.example-example.result.now ≡ example_at (member_classes s c.args.member) c.args.class = c.example-example.ensures ∙ ap (λ (n : ℕ). example_at (cluster_classes s n) c.args.class) c.cluster_of.ensures in
+    let example : c.example-example.result.now ≡ example_at (member_classes s c.args.member) c.args.class = c.example-example.ensures
+    ∙ ap (λ (n : ℕ). example_at (cluster_classes s n) c.args.class) c.cluster_of.ensures in
     let matches : MatchesByEntry s.repository.architecture c.args.atom.now (moved_entry c.args.package.now.version c.example-example.result.now entry) =
-    subst (λ (r : PackageList). MatchesByEntry r.architecture c.args.atom.now (moved_entry c.args.package.now.version c.example-example.result.now entry)) c.repo.ensures.value (c.if-matches_moved.ensures.0 refl) in
+    subst (λ (r : PackageList). MatchesByEntry r.architecture c.args.atom.now (moved_entry c.args.package.now.version c.example-example.result.now entry))
+    c.repo.ensures.value (c.if-matches_moved.ensures.0 refl) in
     on_ok_weaker c.add_variable.result
-    (λ adds. gathers-one s c.args.variables.now.items c.add_variable.new.variables.items (Kept c.args.member c.args.class c.args.place) (IsMatchedBy s c.args.atom.now)
-    (kept-matched s c.args.atom.now c.args.member c.args.class c.args.place c.args.package.now entry c.example-example.result.now c.requires.member c.get-entry.ensures example matches) adds)
+    (λ adds. gathers-one s c.args.variables.now.items c.add_variable.new.variables.items (Kept c.args.member c.args.class c.args.place)
+    (IsMatchedBy s c.args.atom.now)
+    (kept-matched s c.args.atom.now c.args.member c.args.class c.args.place c.args.package.now entry c.example-example.result.now c.requires.member
+    c.get-entry.ensures example matches) adds)
     c.add_variable.ensures
 
 pub returns : goal.returns
 returns c =
     let s = c.args.space.now in
     let entry = c.get-entry.result.now in
-    let example : c.example-example.result.now ≡ example_at (member_classes s c.args.member) c.args.class = c.example-example.ensures ∙ ap (λ (n : ℕ). example_at (cluster_classes s n) c.args.class) c.cluster_of.ensures in
+    let example : c.example-example.result.now ≡ example_at (member_classes s c.args.member) c.args.class = c.example-example.ensures
+    ∙ ap (λ (n : ℕ). example_at (cluster_classes s n) c.args.class) c.cluster_of.ensures in
     gathers-not s c.args.variables.now.items (Kept c.args.member c.args.class c.args.place) (IsMatchedBy s c.args.atom.now)
     (λ matched. false≢true (c.if-matches_moved.ensures.1
-    (subst (λ (r : PackageList). MatchesByEntry r.architecture c.args.atom.now (moved_entry c.args.package.now.version c.example-example.result.now entry)) (sym c.repo.ensures.value)
-    (matched-kept s c.args.atom.now c.args.member c.args.class c.args.place c.args.package.now entry c.example-example.result.now c.requires.member c.get-entry.ensures example matched))))
+    (subst (λ (r : PackageList). MatchesByEntry r.architecture c.args.atom.now (moved_entry c.args.package.now.version c.example-example.result.now entry))
+    (sym c.repo.ensures.value)
+    (matched-kept s c.args.atom.now c.args.member c.args.class c.args.place c.args.package.now entry c.example-example.result.now c.requires.member
+    c.get-entry.ensures example matched))))

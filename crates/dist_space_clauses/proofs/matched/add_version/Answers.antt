@@ -15,7 +15,9 @@ returns c =
     let Rest = MatchedAnd s atom (IsKeptOf c.args.member c.args.class) in
     on_ok_weaker c.add_entries.result
     (λ adds. gathers-both s c.args.variables.now.items c.add_new.new.variables.items c.add_entries.new.variables.items P First Rest P
-    (gathers-weaker s c.args.variables.now.items c.add_new.new.variables.items First P First First (λ m is both. new-of-version s atom c.args.member c.args.class m both) (λ m is both. both) c.in_ok-add_new.ensures)
-    (gathers-weaker s c.add_new.new.variables.items c.add_entries.new.variables.items Rest P Rest Rest (λ m is both. kept-of-version s atom c.args.member c.args.class m both) (λ m is both. both) adds)
+    (gathers-weaker s c.args.variables.now.items c.add_new.new.variables.items First P First First
+    (λ m is both. new-of-version s atom c.args.member c.args.class m both) (λ m is both. both) c.in_ok-add_new.ensures)
+    (gathers-weaker s c.add_new.new.variables.items c.add_entries.new.variables.items Rest P Rest Rest
+    (λ m is both. kept-of-version s atom c.args.member c.args.class m both) (λ m is both. both) adds)
     (λ m is both. version-cases s atom c.args.member c.args.class m both))
     c.add_entries.ensures

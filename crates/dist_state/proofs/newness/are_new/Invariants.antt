@@ -5,6 +5,7 @@ use Rattle.dist_state.proofs.newness.are_new.Given as goal
 
 abbrev pub invariant-loop-before : goal.invariant-loop-before
 invariant-loop-before l = record {
-  new : (number : ℕ) → l.last < number → number ≤ l.before → IsNew (take (number - 1) l.log.clauses) l.log.inputs l.assumptions (clause_at l.log.clauses number);
+  new : (number : ℕ) → l.last < number → number ≤ l.before
+      → IsNew (take (number - 1) l.log.clauses) l.log.inputs l.assumptions (clause_at l.log.clauses number);
   ready : l.scratch ≡ l.log.variables;
 }

@@ -12,7 +12,8 @@ use Rattle.dist_strong.specs.Settling.{SettleStops}
 use Rattle.dist_strong.specs.Window.{WindowView}
 use Rattle.dist_strong.specs.declared.asker.Reply.{Reply}
 use Rattle.dist_strong.specs.declared.asker.Reply.TheVariants as replies
-use Rattle.dist_strong.proofs.Claimed.{alone-over, claim-ask-stops, claim-memory, claimed-found, claimed-uninstallable, claimed-unknown, group-memory, group-stops, new-fits, uninstallable-stops, unknown-stops}
+use Rattle.dist_strong.proofs.Claimed.{alone-over, claim-ask-stops, claim-memory, claimed-found, claimed-uninstallable, claimed-unknown, group-memory}
+use Rattle.dist_strong.proofs.Claimed.{group-stops, new-fits, uninstallable-stops, unknown-stops}
 use Rattle.dist_strong.proofs.OneLine.{by-exit, two-grow}
 use Rattle.dist_strong.proofs.claiming.settle.Goals as goal
 
@@ -30,7 +31,8 @@ ask-requires-clause-question g c =
 pub returns-in_err-question-clause-err : goal.returns-in_err-question-clause-err
 returns-in_err-question-clause-err g c =
     let old : DeskView = g.D.Desk.view c.args.desk.now in
-    by-exit (λ (r : Result Claim WorkError). IfErr r (ClaimStops c.args.package old old c.args.asker.now c.args.window.now)) c.from_residual.result NoMemory c.from_residual.ensures.1
+    by-exit (λ (r : Result Claim WorkError). IfErr r (ClaimStops c.args.package old old c.args.asker.now c.args.window.now)) c.from_residual.result NoMemory
+    c.from_residual.ensures.1
     (claim-memory c.file_grows.ensures.begin c.args.package old c.args.asker.now c.args.window.now)
 
 pub returns-in_err-values-clause-err : goal.returns-in_err-values-clause-err
@@ -53,13 +55,16 @@ returns-in_err-group-in-Found-clause-err g c =
 
 pub first_group-requires : goal.first_group-requires
 first_group-requires g c =
-    (held c.args.asker.now.log.variables c.args.asker.now c.args.window.now c.deref.result.now (yes c.args.package ∷ []) c.in_ok-values.field-0 (replies.Found c.in-Found.values)
+    (held c.args.asker.now.log.variables c.args.asker.now c.args.window.now c.deref.result.now (yes c.args.package ∷ []) c.in_ok-values.field-0
+    (replies.Found c.in-Found.values)
     c.requires.suits.variables (c.deref.ensures.value ∙ c.in_ok-question.ensures) c.in-Found.is refl c.in_ok-values.ensures.holds).0
 
 pub claim_group-requires-clause-fits : goal.claim_group-requires-clause-fits
 claim_group-requires-clause-fits g c =
-    new-fits c.args.asker.now c.ask.new.self c.args.window.now c.first_group.new.window c.in_ok-group-in-Found.group c.args.package c.in-Found.values c.requires.suits c.ask.ensures.limit c.ask.ensures.variables
-    (held c.args.asker.now.log.variables c.args.asker.now c.args.window.now c.deref.result.now (yes c.args.package ∷ []) c.in_ok-values.field-0 (replies.Found c.in-Found.values)
+    new-fits c.args.asker.now c.ask.new.self c.args.window.now c.first_group.new.window c.in_ok-group-in-Found.group c.args.package c.in-Found.values
+    c.requires.suits c.ask.ensures.limit c.ask.ensures.variables
+    (held c.args.asker.now.log.variables c.args.asker.now c.args.window.now c.deref.result.now (yes c.args.package ∷ []) c.in_ok-values.field-0
+    (replies.Found c.in-Found.values)
     c.requires.suits.variables (c.deref.ensures.value ∙ c.in_ok-question.ensures) c.in-Found.is refl c.in_ok-values.ensures.holds)
     c.in_ok-group-in-Found.ensures.group c.in_ok-group-in-Found.ensures.window
 
@@ -68,30 +73,39 @@ returns-in-Found-clause-ok g c =
     let old : DeskView = g.D.Desk.view c.args.desk.now in
     let mid : DeskView = g.D.Desk.view c.ask.new.desk in
     let new : DeskView = g.D.Desk.view c.claim_group.new.desk in
-    let holds = held c.args.asker.now.log.variables c.args.asker.now c.args.window.now c.deref.result.now (yes c.args.package ∷ []) c.in_ok-values.field-0 (replies.Found c.in-Found.values)
+    let holds = held c.args.asker.now.log.variables c.args.asker.now c.args.window.now c.deref.result.now (yes c.args.package ∷ []) c.in_ok-values.field-0
+    (replies.Found c.in-Found.values)
     c.requires.suits.variables (c.deref.ensures.value ∙ c.in_ok-question.ensures) c.in-Found.is refl c.in_ok-values.ensures.holds in
-    IfOk-weaker c.claim_group.result (StrongMore mid new c.ask.new.self c.claim_group.new.asker c.first_group.new.window c.claim_group.new.window c.in_ok-group-in-Found.group)
+    IfOk-weaker c.claim_group.result (StrongMore mid new c.ask.new.self c.claim_group.new.asker c.first_group.new.window c.claim_group.new.window
+    c.in_ok-group-in-Found.group)
     (ClaimMore c.args.package old new c.args.asker.now c.claim_group.new.asker c.args.window.now c.claim_group.new.window)
-    (λ claim more. claimed-found c.file_grows.ensures.twice old mid new c.args.asker.now c.ask.new.self c.claim_group.new.asker c.args.window.now c.first_group.new.window c.claim_group.new.window
+    (λ claim more. claimed-found c.file_grows.ensures.twice old mid new c.args.asker.now c.ask.new.self c.claim_group.new.asker c.args.window.now
+    c.first_group.new.window c.claim_group.new.window
     c.in_ok-group-in-Found.group c.args.package c.in-Found.values
     c.deref.result.now c.in_ok-values.field-0 claim (c.deref.ensures.value ∙ c.in_ok-question.ensures)
-    c.in-Found.is c.in_ok-values.ensures.ok c.requires.suits holds c.in_ok-group-in-Found.ensures.group c.in_ok-group-in-Found.ensures.window more) c.claim_group.ensures.ok
+    c.in-Found.is c.in_ok-values.ensures.ok c.requires.suits holds c.in_ok-group-in-Found.ensures.group c.in_ok-group-in-Found.ensures.window more)
+    c.claim_group.ensures.ok
 
 pub returns-in-Found-clause-err : goal.returns-in-Found-clause-err
 returns-in-Found-clause-err g c =
     let old : DeskView = g.D.Desk.view c.args.desk.now in
     let mid : DeskView = g.D.Desk.view c.ask.new.desk in
     let new : DeskView = g.D.Desk.view c.claim_group.new.desk in
-    let holds = held c.args.asker.now.log.variables c.args.asker.now c.args.window.now c.deref.result.now (yes c.args.package ∷ []) c.in_ok-values.field-0 (replies.Found c.in-Found.values)
+    let holds = held c.args.asker.now.log.variables c.args.asker.now c.args.window.now c.deref.result.now (yes c.args.package ∷ []) c.in_ok-values.field-0
+    (replies.Found c.in-Found.values)
     c.requires.suits.variables (c.deref.ensures.value ∙ c.in_ok-question.ensures) c.in-Found.is refl c.in_ok-values.ensures.holds in
-    IfErr-weaker c.claim_group.result (SettleStops mid new c.ask.new.self c.first_group.new.window c.in_ok-group-in-Found.group) (ClaimStops c.args.package old new c.args.asker.now c.args.window.now)
-    (λ error stops. group-stops c.file_grows.ensures.twice old mid new c.args.asker.now c.ask.new.self c.args.window.now c.first_group.new.window c.in_ok-group-in-Found.group c.args.package c.in-Found.values
+    IfErr-weaker c.claim_group.result (SettleStops mid new c.ask.new.self c.first_group.new.window c.in_ok-group-in-Found.group)
+    (ClaimStops c.args.package old new c.args.asker.now c.args.window.now)
+    (λ error stops. group-stops c.file_grows.ensures.twice old mid new c.args.asker.now c.ask.new.self c.args.window.now c.first_group.new.window
+    c.in_ok-group-in-Found.group c.args.package c.in-Found.values
     c.deref.result.now c.in_ok-values.field-0 error (c.deref.ensures.value ∙ c.in_ok-question.ensures)
-    c.in-Found.is c.in_ok-values.ensures.ok c.requires.suits holds c.in_ok-group-in-Found.ensures.group c.in_ok-group-in-Found.ensures.window stops) c.claim_group.ensures.err
+    c.in-Found.is c.in_ok-values.ensures.ok c.requires.suits holds c.in_ok-group-in-Found.ensures.group c.in_ok-group-in-Found.ensures.window stops)
+    c.claim_group.ensures.err
 
 pub returns-in-Found-clause-grows : goal.returns-in-Found-clause-grows
 returns-in-Found-clause-grows g c =
-    two-grow c.file_grows.ensures.twice c.ask.ensures.grows.0 c.claim_group.ensures.grows.0 (g.D.Desk.view c.args.desk.now) (g.D.Desk.view c.ask.new.desk) (g.D.Desk.view c.claim_group.new.desk)
+    two-grow c.file_grows.ensures.twice c.ask.ensures.grows.0 c.claim_group.ensures.grows.0 (g.D.Desk.view c.args.desk.now) (g.D.Desk.view c.ask.new.desk)
+    (g.D.Desk.view c.claim_group.new.desk)
     c.ask.ensures.grows.1 c.claim_group.ensures.grows.1
 
 pub returns-in_err-put-in-Refuted-clause-err : goal.returns-in_err-put-in-Refuted-clause-err
@@ -108,7 +122,8 @@ returns-in_err-put-in-Refuted-clause-err g c =
 
 pub returns-in_err-put-in-Refuted-clause-grows : goal.returns-in_err-put-in-Refuted-clause-grows
 returns-in_err-put-in-Refuted-clause-grows g c =
-    two-grow c.file_grows.ensures.twice c.ask.ensures.grows.0 c.put.ensures.grows.0 (g.D.Desk.view c.args.desk.now) (g.D.Desk.view c.ask.new.desk) (g.D.Desk.view c.put.new.desk)
+    two-grow c.file_grows.ensures.twice c.ask.ensures.grows.0 c.put.ensures.grows.0 (g.D.Desk.view c.args.desk.now) (g.D.Desk.view c.ask.new.desk)
+    (g.D.Desk.view c.put.new.desk)
     c.ask.ensures.grows.1 c.put.ensures.grows.1
 
 pub returns-in-Refuted-clause-ok : goal.returns-in-Refuted-clause-ok
@@ -123,7 +138,8 @@ returns-in-Refuted-clause-ok g c =
 
 pub returns-in-Refuted-clause-grows : goal.returns-in-Refuted-clause-grows
 returns-in-Refuted-clause-grows g c =
-    two-grow c.file_grows.ensures.twice c.ask.ensures.grows.0 c.put.ensures.grows.0 (g.D.Desk.view c.args.desk.now) (g.D.Desk.view c.ask.new.desk) (g.D.Desk.view c.put.new.desk)
+    two-grow c.file_grows.ensures.twice c.ask.ensures.grows.0 c.put.ensures.grows.0 (g.D.Desk.view c.args.desk.now) (g.D.Desk.view c.ask.new.desk)
+    (g.D.Desk.view c.put.new.desk)
     c.ask.ensures.grows.1 c.put.ensures.grows.1
 
 pub returns-in_err-put-in-Undecided-clause-err : goal.returns-in_err-put-in-Undecided-clause-err
@@ -140,7 +156,8 @@ returns-in_err-put-in-Undecided-clause-err g c =
 
 pub returns-in_err-put-in-Undecided-clause-grows : goal.returns-in_err-put-in-Undecided-clause-grows
 returns-in_err-put-in-Undecided-clause-grows g c =
-    two-grow c.file_grows.ensures.twice c.ask.ensures.grows.0 c.put-in-Undecided.ensures.grows.0 (g.D.Desk.view c.args.desk.now) (g.D.Desk.view c.ask.new.desk) (g.D.Desk.view c.put-in-Undecided.new.desk)
+    two-grow c.file_grows.ensures.twice c.ask.ensures.grows.0 c.put-in-Undecided.ensures.grows.0 (g.D.Desk.view c.args.desk.now) (g.D.Desk.view c.ask.new.desk)
+    (g.D.Desk.view c.put-in-Undecided.new.desk)
     c.ask.ensures.grows.1 c.put-in-Undecided.ensures.grows.1
 
 pub returns-clause-ok : goal.returns-clause-ok
@@ -155,5 +172,6 @@ returns-clause-ok g c =
 
 pub returns-clause-grows : goal.returns-clause-grows
 returns-clause-grows g c =
-    two-grow c.file_grows.ensures.twice c.ask.ensures.grows.0 c.put-in-Undecided.ensures.grows.0 (g.D.Desk.view c.args.desk.now) (g.D.Desk.view c.ask.new.desk) (g.D.Desk.view c.put-in-Undecided.new.desk)
+    two-grow c.file_grows.ensures.twice c.ask.ensures.grows.0 c.put-in-Undecided.ensures.grows.0 (g.D.Desk.view c.args.desk.now) (g.D.Desk.view c.ask.new.desk)
+    (g.D.Desk.view c.put-in-Undecided.new.desk)
     c.ask.ensures.grows.1 c.put-in-Undecided.ensures.grows.1

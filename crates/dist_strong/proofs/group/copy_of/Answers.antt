@@ -8,4 +8,5 @@ returns c =
     let values : List Bool = c.args.values.now in
     ext_get_or false copy values (c.loop-place.invariant.size ∙ sym c.requires) (λ k within.
     let place : (k + 1) - 1 ≡ k = omega arith in
-    ap (λ (n : ℕ). get_or copy n false) (sym place) ∙ c.loop-place.invariant.done (k + 1) (omega arith) (omega (arith, within, c.loop-place.invariant.size)) ∙ ap (λ (n : ℕ). get_or values n false) place)
+    ap (λ (n : ℕ). get_or copy n false) (sym place) ∙ c.loop-place.invariant.done (k + 1) (omega arith) (omega (arith, within, c.loop-place.invariant.size))
+    ∙ ap (λ (n : ℕ). get_or values n false) place)

@@ -5,6 +5,7 @@ use Rattle.dist_strong.proofs.putting.derived_record.Goals as goal
 
 pub returns-clause-form : goal.returns-clause-form
 returns-clause-form c = (
-  subst AreLiterals (sym (c.from_vec.ensures ∙ c.in_ok-words.ensures)) (words-form c.args.log.now.variables c.clause-clause.result.now c.clause-clause.ensures.over_variables),
+  subst AreLiterals (sym (c.from_vec.ensures ∙ c.in_ok-words.ensures))
+      (words-form c.args.log.now.variables c.clause-clause.result.now c.clause-clause.ensures.over_variables),
   subst AreFromOne (sym (c.from_vec-2.ensures ∙ search rules)) c.requires.hints,
 )

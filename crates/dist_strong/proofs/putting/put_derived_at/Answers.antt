@@ -11,5 +11,6 @@ use Rattle.dist_strong.proofs.putting.put_derived_at.Goals as goal
 pub returns-in_err-step-clause-err : goal.returns-in_err-step-clause-err
 returns-in_err-step-clause-err g c =
     let old : DeskView = g.D.Desk.view c.args.desk.now in
-    by-exit (λ (r : Result (Unit {0}) WorkError). IfErr r (PutStops c.args.writer.now (derived_line c.args.log.now.clauses (line_at c.args.derived.now c.args.place)) old old)) c.from_residual.result NoMemory c.from_residual.ensures.1
+    by-exit (λ (r : Result (Unit {0}) WorkError). IfErr r (PutStops c.args.writer.now
+    (derived_line c.args.log.now.clauses (line_at c.args.derived.now c.args.place)) old old)) c.from_residual.result NoMemory c.from_residual.ensures.1
     (λ h before writer line. stops-for-memory h before c.args.writer.now old old writer (c.file_grows.ensures.begin old))

@@ -11,7 +11,8 @@ pub returns-in_err-put_header-clause-err : goal.returns-in_err-put_header-clause
 returns-in_err-put_header-clause-err g c =
     let old : DeskView = g.D.Desk.view c.args.desk.now in
     let new : DeskView = g.D.Desk.view c.put_header.new.desk in
-    by-exit (λ (r : Result (List Claim) WorkError). IfErr r (SweepStops c.args.header.now old new c.args.asker.now c.args.window.now)) c.from_residual.result c.in_err-put_header.field-0.0 c.from_residual.ensures.1
+    by-exit (λ (r : Result (List Claim) WorkError). IfErr r (SweepStops c.args.header.now old new c.args.asker.now c.args.window.now)) c.from_residual.result
+    c.in_err-put_header.field-0.0 c.from_residual.ensures.1
     (sweep-first c.args.header.now old new c.args.asker.now c.args.window.now c.in_err-put_header.field-0.0 c.in_err-put_header.ensures.err)
 
 pub returns-in_err-made-clause-err : goal.returns-in_err-made-clause-err
@@ -19,13 +20,16 @@ returns-in_err-made-clause-err g c =
     let old : DeskView = g.D.Desk.view c.args.desk.now in
     let mid : DeskView = g.D.Desk.view c.put_header.new.desk in
     let new : DeskView = g.D.Desk.view c.put_claims.new.desk in
-    by-exit (λ (r : Result (List Claim) WorkError). IfErr r (SweepStops c.args.header.now old new c.args.asker.now c.args.window.now)) c.from_residual-in_err-made.result c.in_err-made.field-0.0 c.from_residual-in_err-made.ensures.1
+    by-exit (λ (r : Result (List Claim) WorkError). IfErr r (SweepStops c.args.header.now old new c.args.asker.now c.args.window.now))
+    c.from_residual-in_err-made.result c.in_err-made.field-0.0 c.from_residual-in_err-made.ensures.1
     (sweep-later c.file_grows.ensures.twice c.args.header.now old mid new c.args.asker.now c.put_header.new.self c.args.window.now c.in_err-made.field-0.0
-    (header-swept c.args.header.now c.args.asker.now c.put_header.new.self c.args.window.now c.put_header.ensures.rest c.in_ok-put_header.ensures.ok) c.in_ok-put_header.ensures.grew c.in_err-made.ensures.err)
+    (header-swept c.args.header.now c.args.asker.now c.put_header.new.self c.args.window.now c.put_header.ensures.rest c.in_ok-put_header.ensures.ok)
+    c.in_ok-put_header.ensures.grew c.in_err-made.ensures.err)
 
 pub returns-in_err-made-clause-grows : goal.returns-in_err-made-clause-grows
 returns-in_err-made-clause-grows g c =
-    two-grow c.file_grows.ensures.twice c.put_header.ensures.grows.0 c.put_claims.ensures.grows.0 (g.D.Desk.view c.args.desk.now) (g.D.Desk.view c.put_header.new.desk) (g.D.Desk.view c.put_claims.new.desk)
+    two-grow c.file_grows.ensures.twice c.put_header.ensures.grows.0 c.put_claims.ensures.grows.0 (g.D.Desk.view c.args.desk.now)
+    (g.D.Desk.view c.put_header.new.desk) (g.D.Desk.view c.put_claims.new.desk)
     c.put_header.ensures.grows.1 c.put_claims.ensures.grows.1
 
 pub returns-in_err-put-clause-err : goal.returns-in_err-put-clause-err
@@ -34,17 +38,22 @@ returns-in_err-put-clause-err g c =
     let mid : DeskView = g.D.Desk.view c.put_header.new.desk in
     let late : DeskView = g.D.Desk.view c.put_claims.new.desk in
     let new : DeskView = g.D.Desk.view c.put.new.desk in
-    by-exit (λ (r : Result (List Claim) WorkError). IfErr r (SweepStops c.args.header.now old new c.args.asker.now c.args.window.now)) c.from_residual-in_err-put.result c.in_err-put.field-0.0 c.from_residual-in_err-put.ensures.1
-    (sweep-end-stops c.file_grows.ensures.twice c.args.header.now old mid late new c.args.asker.now c.put_header.new.self c.put_claims.new.asker c.args.window.now c.put_claims.new.window c.in_ok-made.made c.in_err-put.field-0.0
-    (header-swept c.args.header.now c.args.asker.now c.put_header.new.self c.args.window.now c.put_header.ensures.rest c.in_ok-put_header.ensures.ok) c.in_ok-put_header.ensures.grew
+    by-exit (λ (r : Result (List Claim) WorkError). IfErr r (SweepStops c.args.header.now old new c.args.asker.now c.args.window.now))
+    c.from_residual-in_err-put.result c.in_err-put.field-0.0 c.from_residual-in_err-put.ensures.1
+    (sweep-end-stops c.file_grows.ensures.twice c.args.header.now old mid late new c.args.asker.now c.put_header.new.self c.put_claims.new.asker
+    c.args.window.now c.put_claims.new.window c.in_ok-made.made c.in_err-put.field-0.0
+    (header-swept c.args.header.now c.args.asker.now c.put_header.new.self c.args.window.now c.put_header.ensures.rest c.in_ok-put_header.ensures.ok)
+    c.in_ok-put_header.ensures.grew
     c.in_ok-made.ensures.ok c.in_ok-made.ensures.one_each c.in_err-put.ensures.err)
 
 pub returns-in_err-put-clause-grows : goal.returns-in_err-put-clause-grows
 returns-in_err-put-clause-grows g c =
     let twice = c.file_grows.ensures.twice in
-    let both = two-grow twice c.put_header.ensures.grows.0 c.put_claims.ensures.grows.0 (g.D.Desk.view c.args.desk.now) (g.D.Desk.view c.put_header.new.desk) (g.D.Desk.view c.put_claims.new.desk)
+    let both = two-grow twice c.put_header.ensures.grows.0 c.put_claims.ensures.grows.0 (g.D.Desk.view c.args.desk.now) (g.D.Desk.view c.put_header.new.desk)
+    (g.D.Desk.view c.put_claims.new.desk)
     c.put_header.ensures.grows.1 c.put_claims.ensures.grows.1 in
-    two-grow twice both.0 c.put.ensures.grows.0 (g.D.Desk.view c.args.desk.now) (g.D.Desk.view c.put_claims.new.desk) (g.D.Desk.view c.put.new.desk) both.1 c.put.ensures.grows.1
+    two-grow twice both.0 c.put.ensures.grows.0 (g.D.Desk.view c.args.desk.now) (g.D.Desk.view c.put_claims.new.desk) (g.D.Desk.view c.put.new.desk) both.1
+    c.put.ensures.grows.1
 
 pub returns-clause-ok : goal.returns-clause-ok
 returns-clause-ok g c =
@@ -52,13 +61,17 @@ returns-clause-ok g c =
     let mid : DeskView = g.D.Desk.view c.put_header.new.desk in
     let late : DeskView = g.D.Desk.view c.put_claims.new.desk in
     let new : DeskView = g.D.Desk.view c.put.new.desk in
-    sweep-whole c.file_grows.ensures.twice c.args.header.now old mid late new c.args.asker.now c.put_header.new.self c.put_claims.new.asker c.put.new.self c.args.window.now c.put_claims.new.window c.in_ok-made.made
-    (header-swept c.args.header.now c.args.asker.now c.put_header.new.self c.args.window.now c.put_header.ensures.rest c.in_ok-put_header.ensures.ok) c.in_ok-put_header.ensures.grew
+    sweep-whole c.file_grows.ensures.twice c.args.header.now old mid late new c.args.asker.now c.put_header.new.self c.put_claims.new.asker c.put.new.self
+    c.args.window.now c.put_claims.new.window c.in_ok-made.made
+    (header-swept c.args.header.now c.args.asker.now c.put_header.new.self c.args.window.now c.put_header.ensures.rest c.in_ok-put_header.ensures.ok)
+    c.in_ok-put_header.ensures.grew
     c.in_ok-made.ensures.ok c.in_ok-made.ensures.one_each c.in_ok-put.ensures.grew c.in_ok-put.ensures.ok
 
 pub returns-clause-grows : goal.returns-clause-grows
 returns-clause-grows g c =
     let twice = c.file_grows.ensures.twice in
-    let both = two-grow twice c.put_header.ensures.grows.0 c.put_claims.ensures.grows.0 (g.D.Desk.view c.args.desk.now) (g.D.Desk.view c.put_header.new.desk) (g.D.Desk.view c.put_claims.new.desk)
+    let both = two-grow twice c.put_header.ensures.grows.0 c.put_claims.ensures.grows.0 (g.D.Desk.view c.args.desk.now) (g.D.Desk.view c.put_header.new.desk)
+    (g.D.Desk.view c.put_claims.new.desk)
     c.put_header.ensures.grows.1 c.put_claims.ensures.grows.1 in
-    two-grow twice both.0 c.put.ensures.grows.0 (g.D.Desk.view c.args.desk.now) (g.D.Desk.view c.put_claims.new.desk) (g.D.Desk.view c.put.new.desk) both.1 c.put.ensures.grows.1
+    two-grow twice both.0 c.put.ensures.grows.0 (g.D.Desk.view c.args.desk.now) (g.D.Desk.view c.put_claims.new.desk) (g.D.Desk.view c.put.new.desk) both.1
+    c.put.ensures.grows.1

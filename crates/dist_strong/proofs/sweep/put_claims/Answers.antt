@@ -14,13 +14,16 @@ returns-in_err-claim-clause-err g c =
     let old : DeskView = g.D.Desk.view c.args.desk.now in
     let mid : DeskView = g.D.Desk.view c.loop-place.desk in
     let new : DeskView = g.D.Desk.view c.settle.new.desk in
-    by-exit (λ (r : Result (List Claim) WorkError). IfErr r (ClaimsStop old new c.args.asker.now c.args.window.now)) c.from_residual.result c.in_err-claim.field-0.0 c.from_residual.ensures.1
-    (one-stops c.file_grows.ensures.twice old mid new c.args.asker.now c.loop-place.asker c.args.window.now c.loop-place.window c.loop-place.made (c.loop-place.place + 1) c.in_err-claim.field-0.0
+    by-exit (λ (r : Result (List Claim) WorkError). IfErr r (ClaimsStop old new c.args.asker.now c.args.window.now)) c.from_residual.result
+    c.in_err-claim.field-0.0 c.from_residual.ensures.1
+    (one-stops c.file_grows.ensures.twice old mid new c.args.asker.now c.loop-place.asker c.args.window.now c.loop-place.window c.loop-place.made
+    (c.loop-place.place + 1) c.in_err-claim.field-0.0
     c.loop-place.invariant.more c.in_err-claim.ensures.err (omega (arith, c.loop-place.invariant.count)))
 
 pub returns-in_err-claim-clause-grows : goal.returns-in_err-claim-clause-grows
 returns-in_err-claim-clause-grows g c =
-    two-grow c.file_grows.ensures.twice c.loop-place.invariant.grows.0 c.settle.ensures.grows.0 (g.D.Desk.view c.args.desk.now) (g.D.Desk.view c.loop-place.desk) (g.D.Desk.view c.settle.new.desk)
+    two-grow c.file_grows.ensures.twice c.loop-place.invariant.grows.0 c.settle.ensures.grows.0 (g.D.Desk.view c.args.desk.now)
+    (g.D.Desk.view c.loop-place.desk) (g.D.Desk.view c.settle.new.desk)
     c.loop-place.invariant.grows.1 c.settle.ensures.grows.1
 
 pub returns-in_err-push-clause-err : goal.returns-in_err-push-clause-err
@@ -28,13 +31,16 @@ returns-in_err-push-clause-err g c =
     let old : DeskView = g.D.Desk.view c.args.desk.now in
     let mid : DeskView = g.D.Desk.view c.loop-place.desk in
     let new : DeskView = g.D.Desk.view c.settle.new.desk in
-    by-exit (λ (r : Result (List Claim) WorkError). IfErr r (ClaimsStop old new c.args.asker.now c.args.window.now)) c.from_residual-in_err-push.result NoMemory c.from_residual-in_err-push.ensures.1
-    (claims-memory c.file_grows.ensures.begin c.file_grows.ensures.twice old mid new c.args.asker.now c.loop-place.asker c.settle.new.asker c.args.window.now c.loop-place.window c.settle.new.window c.loop-place.made c.in_ok-claim.claim
+    by-exit (λ (r : Result (List Claim) WorkError). IfErr r (ClaimsStop old new c.args.asker.now c.args.window.now)) c.from_residual-in_err-push.result NoMemory
+    c.from_residual-in_err-push.ensures.1
+    (claims-memory c.file_grows.ensures.begin c.file_grows.ensures.twice old mid new c.args.asker.now c.loop-place.asker c.settle.new.asker c.args.window.now
+    c.loop-place.window c.settle.new.window c.loop-place.made c.in_ok-claim.claim
     (c.loop-place.place + 1) c.loop-place.invariant.more c.in_ok-claim.ensures.ok (omega (arith, c.loop-place.invariant.count)))
 
 pub returns-in_err-push-clause-grows : goal.returns-in_err-push-clause-grows
 returns-in_err-push-clause-grows g c =
-    two-grow c.file_grows.ensures.twice c.loop-place.invariant.grows.0 c.settle.ensures.grows.0 (g.D.Desk.view c.args.desk.now) (g.D.Desk.view c.loop-place.desk) (g.D.Desk.view c.settle.new.desk)
+    two-grow c.file_grows.ensures.twice c.loop-place.invariant.grows.0 c.settle.ensures.grows.0 (g.D.Desk.view c.args.desk.now)
+    (g.D.Desk.view c.loop-place.desk) (g.D.Desk.view c.settle.new.desk)
     c.loop-place.invariant.grows.1 c.settle.ensures.grows.1
 
 pub loop-place-preserved : goal.loop-place-preserved
@@ -48,7 +54,9 @@ loop-place-preserved g c =
       same = c.in_ok-claim.ensures.suits.variables;
       variables = c.in_ok-claim.ensures.variables ∙ c.loop-place.invariant.variables;
       count = omega (arith, ap length c.in_ok-push.ensures.ok, length-append c.loop-place.made (c.in_ok-claim.claim ∷ []), c.loop-place.invariant.count);
-      more = one-more c.file_grows.ensures.twice old mid new c.args.asker.now c.loop-place.asker c.settle.new.asker c.args.window.now c.loop-place.window c.settle.new.window c.loop-place.made c.push.new.self c.in_ok-claim.claim
+      more = one-more c.file_grows.ensures.twice old mid new c.args.asker.now c.loop-place.asker c.settle.new.asker c.args.window.now c.loop-place.window
+          c.settle.new.window c.loop-place.made c.push.new.self c.in_ok-claim.claim
           (c.loop-place.place + 1) c.loop-place.invariant.more c.in_ok-claim.ensures.ok (omega (arith, c.loop-place.invariant.count)) c.in_ok-push.ensures.ok;
-      grows = two-grow c.file_grows.ensures.twice c.loop-place.invariant.grows.0 c.settle.ensures.grows.0 old mid new c.loop-place.invariant.grows.1 c.settle.ensures.grows.1;
+      grows = two-grow c.file_grows.ensures.twice c.loop-place.invariant.grows.0 c.settle.ensures.grows.0 old mid new c.loop-place.invariant.grows.1
+          c.settle.ensures.grows.1;
     }

@@ -16,4 +16,5 @@ pub returns-clause-there : goal.returns-clause-there
 returns-clause-there c = some c.present_clauses_are_there.ensures
 
 pub returns-clause-one : goal.returns-clause-one
-returns-clause-one c = λ r inputs other essential are others. c.present_clauses_are_one.ensures r essential (inputs essential) (other essential) (are essential) (others essential)
+returns-clause-one c = λ r inputs other essential are others. c.present_clauses_are_one.ensures r essential (inputs essential) (other essential) (are essential)
+    (others essential)

@@ -10,12 +10,14 @@ pub invariant_of-result : goal.invariant_of-result
 invariant_of-result c =
     let end = length c.text.result.now + 1 in
     let count : end ≡ length c.args.self.now + 1 = ap (λ (s : List ℕ). length s + 1) c.text.ensures.value in
-    let is : c.push_tildes.new.text.items ≡ below_text c.args.self.now = c.in_ok-push_tildes.ensures ∙ ap (λ (s : List ℕ). s ++ replicate end tilde) c.new-text.ensures.items ∙ ap (λ n. replicate n tilde) count in
+    let is : c.push_tildes.new.text.items ≡ below_text c.args.self.now = c.in_ok-push_tildes.ensures
+    ∙ ap (λ (s : List ℕ). s ++ replicate end tilde) c.new-text.ensures.items ∙ ap (λ n. replicate n tilde) count in
     below_keeps c.args.self.now c.push_tildes.new.text.items end is (sym (ap length is ∙ length-replicate (length c.args.self.now + 1) tilde ∙ sym count))
 
 pub returns-clause-below : goal.returns-clause-below
 returns-clause-below c =
     let end = length c.text.result.now + 1 in
     let count : end ≡ length c.args.self.now + 1 = ap (λ (s : List ℕ). length s + 1) c.text.ensures.value in
-    let is : c.push_tildes.new.text.items ≡ below_text c.args.self.now = c.in_ok-push_tildes.ensures ∙ ap (λ (s : List ℕ). s ++ replicate end tilde) c.new-text.ensures.items ∙ ap (λ n. replicate n tilde) count in
+    let is : c.push_tildes.new.text.items ≡ below_text c.args.self.now = c.in_ok-push_tildes.ensures
+    ∙ ap (λ (s : List ℕ). s ++ replicate end tilde) c.new-text.ensures.items ∙ ap (λ n. replicate n tilde) count in
     rw is (below_is_below c.args.self.now)

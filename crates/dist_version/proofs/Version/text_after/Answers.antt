@@ -15,6 +15,7 @@ returns c = elim c.match-revision.branch [
   | in-None+in_ok-push-in-None+in_ok-push_extension-in-None w ↦
       let revision : revision_of c.args.self.now ≡ None = sym w.in-None.ensures in
       ap (λ v. v.items) w.text-is ∙ w.in_ok-push_extension-in-None.ensures
-      ∙ ap (λ (s : List ℕ). s ++ extension [] c.args.tildes) (w.in_ok-push-in-None.ensures.ok ∙ ap (λ (s : List ℕ). s ++ hyphen ∷ []) (c.in_ok-text.ensures.ok ∙ c.text.ensures.value))
+      ∙ ap (λ (s : List ℕ). s ++ extension [] c.args.tildes)
+      (w.in_ok-push-in-None.ensures.ok ∙ ap (λ (s : List ℕ). s ++ hyphen ∷ []) (c.in_ok-text.ensures.ok ∙ c.text.ensures.value))
       ∙ above_text-none c.args.self.now c.args.tildes revision
 ]

@@ -10,18 +10,21 @@ pub returns-then-is_ne : goal.returns-then-is_ne
 returns-then-is_ne c =
     let first = c.next_turn-first.ensures in
     let second = c.next_turn-second.ensures in
-    let step = part_cmp-step c.loop-a.a.now c.loop-a.b.now _ _ _ _ c.compare_turns-order.result first.text second.text first.digits second.digits c.compare_turns-order.ensures in
+    let step = part_cmp-step c.loop-a.a.now c.loop-a.b.now _ _ _ _ c.compare_turns-order.result first.text second.text first.digits second.digits
+    c.compare_turns-order.ensures in
     sym (then_stop c.compare_turns-order.result _ c.if-is_ne.ensures) ∙ sym step ∙ c.loop-a.invariant
 
 pub loop-a-preserved : goal.loop-a-preserved
 loop-a-preserved c =
     let first = c.next_turn-first.ensures in
     let second = c.next_turn-second.ensures in
-    let step = part_cmp-step c.loop-a.a.now c.loop-a.b.now _ _ _ _ c.compare_turns-order.result first.text second.text first.digits second.digits c.compare_turns-order.ensures in
+    let step = part_cmp-step c.loop-a.a.now c.loop-a.b.now _ _ _ _ c.compare_turns-order.result first.text second.text first.digits second.digits
+    c.compare_turns-order.ensures in
     ap₂ part_cmp first.rest second.rest ∙ sym (then_go_on c.compare_turns-order.result _ c.if-is_ne.ensures) ∙ sym step ∙ c.loop-a.invariant
 
 pub returns : goal.returns
-returns c = part_cmp-ended c.loop-a.a.now c.loop-a.b.now (no_bytes c.loop-a.a.now c.if-not-is_empty.ensures) (no_bytes c.loop-a.b.now c.if-not-is_empty-2.ensures) ∙ c.loop-a.invariant
+returns c = part_cmp-ended c.loop-a.a.now c.loop-a.b.now (no_bytes c.loop-a.a.now c.if-not-is_empty.ensures)
+    (no_bytes c.loop-a.b.now c.if-not-is_empty-2.ensures) ∙ c.loop-a.invariant
 
 pub loop-a-smaller : goal.loop-a-smaller
 loop-a-smaller c =

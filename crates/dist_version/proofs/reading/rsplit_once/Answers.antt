@@ -11,4 +11,5 @@ returns-in_err-at c =
 pub returns : goal.returns
 returns c =
     let hay = c.args.bytes.now in
-    rw (take_rest hay (c.in_ok-at.at + 1)) (sym (rsplit_once-last c.args.byte hay c.memrchr.result c.memrchr.ensures ∙ ap (λ r. option_map (sides hay) r) c.in_ok-at.was))
+    rw (take_rest hay (c.in_ok-at.at + 1)) (sym (rsplit_once-last c.args.byte hay c.memrchr.result c.memrchr.ensures
+    ∙ ap (λ r. option_map (sides hay) r) c.in_ok-at.was))

@@ -25,20 +25,31 @@ essential_at = record { within = omega arith; is = λ d. refl; own = refl }
 pub returns-clause-options : goal.returns-clause-options
 returns-clause-options c =
     let m = c.args.matches.now in
-    let limit = number_read (λ bs r. ParsesUnsigned 32 10 bs r × ExplainsUnsignedError 10 bs r × HasUnsignedDigitsIfOk bs r) m c.requires 2 (number_option (codes "limit") 1 MAX_LIMIT) 1 MAX_LIMIT limit_at refl (omega arith) (λ u x g. g.0) c.get_one.result c.get_one.ensures.none c.get_one.ensures.value in
-    let size = number_read (λ bs r. ParsesUnsigned 32 10 bs r × ExplainsUnsignedError 10 bs r × HasUnsignedDigitsIfOk bs r) m c.requires 3 (number_option (codes "size") 1 MAX_SIZE) 1 MAX_SIZE size_at refl (omega arith) (λ u x g. g.0) c.get_one-2.result c.get_one-2.ensures.none c.get_one-2.ensures.value in
-    let seed = number_read (λ bs r. ParsesUnsigned 32 10 bs r × ExplainsUnsignedError 10 bs r × HasUnsignedDigitsIfOk bs r) m c.requires 4 (number_option (codes "seed") 0 4294967295) 0 4294967295 seed_at refl (omega arith) (λ u x g. g.0) c.get_one-3.result c.get_one-3.ensures.none c.get_one-3.ensures.value in
-    let essential = flag_read m c.requires 5 essential_rule essential_at refl c.get_flag.result c.get_flag.ensures.none c.get_flag.ensures.value c.get_flag.ensures.other in
+    let limit = number_read (λ bs r. ParsesUnsigned 32 10 bs r × ExplainsUnsignedError 10 bs r × HasUnsignedDigitsIfOk bs r) m c.requires 2
+    (number_option (codes "limit") 1 MAX_LIMIT) 1 MAX_LIMIT limit_at refl (omega arith) (λ u x g. g.0) c.get_one.result c.get_one.ensures.none
+    c.get_one.ensures.value in
+    let size = number_read (λ bs r. ParsesUnsigned 32 10 bs r × ExplainsUnsignedError 10 bs r × HasUnsignedDigitsIfOk bs r) m c.requires 3
+    (number_option (codes "size") 1 MAX_SIZE) 1 MAX_SIZE size_at refl (omega arith) (λ u x g. g.0) c.get_one-2.result c.get_one-2.ensures.none
+    c.get_one-2.ensures.value in
+    let seed = number_read (λ bs r. ParsesUnsigned 32 10 bs r × ExplainsUnsignedError 10 bs r × HasUnsignedDigitsIfOk bs r) m c.requires 4
+    (number_option (codes "seed") 0 4294967295) 0 4294967295 seed_at refl (omega arith) (λ u x g. g.0) c.get_one-3.result c.get_one-3.ensures.none
+    c.get_one-3.ensures.value in
+    let essential = flag_read m c.requires 5 essential_rule essential_at refl c.get_flag.result c.get_flag.ensures.none c.get_flag.ensures.value
+    c.get_flag.ensures.other in
     rw (limit.0, size.0, seed.0, essential) refl
 
 pub returns-clause-limit : goal.returns-clause-limit
 returns-clause-limit c =
     let m = c.args.matches.now in
-    let limit = number_read (λ bs r. ParsesUnsigned 32 10 bs r × ExplainsUnsignedError 10 bs r × HasUnsignedDigitsIfOk bs r) m c.requires 2 (number_option (codes "limit") 1 MAX_LIMIT) 1 MAX_LIMIT limit_at refl (omega arith) (λ u x g. g.0) c.get_one.result c.get_one.ensures.none c.get_one.ensures.value in
+    let limit = number_read (λ bs r. ParsesUnsigned 32 10 bs r × ExplainsUnsignedError 10 bs r × HasUnsignedDigitsIfOk bs r) m c.requires 2
+    (number_option (codes "limit") 1 MAX_LIMIT) 1 MAX_LIMIT limit_at refl (omega arith) (λ u x g. g.0) c.get_one.result c.get_one.ensures.none
+    c.get_one.ensures.value in
     limit_of c.get_one.result limit.1
 
 pub returns-clause-size : goal.returns-clause-size
 returns-clause-size c =
     let m = c.args.matches.now in
-    let size = number_read (λ bs r. ParsesUnsigned 32 10 bs r × ExplainsUnsignedError 10 bs r × HasUnsignedDigitsIfOk bs r) m c.requires 3 (number_option (codes "size") 1 MAX_SIZE) 1 MAX_SIZE size_at refl (omega arith) (λ u x g. g.0) c.get_one-2.result c.get_one-2.ensures.none c.get_one-2.ensures.value in
+    let size = number_read (λ bs r. ParsesUnsigned 32 10 bs r × ExplainsUnsignedError 10 bs r × HasUnsignedDigitsIfOk bs r) m c.requires 3
+    (number_option (codes "size") 1 MAX_SIZE) 1 MAX_SIZE size_at refl (omega arith) (λ u x g. g.0) c.get_one-2.result c.get_one-2.ensures.none
+    c.get_one-2.ensures.value in
     size_of c.get_one-2.result size.1

@@ -4,18 +4,23 @@ use Rattle.dist_cert.proofs.reading.Reader.next.Goals as goal
 
 pub pass-requires-clause-bytes : goal.pass-requires-clause-bytes
 pass-requires-clause-bytes g c =
-    counted c.self.inside.limits c.self.inside.done.given c.read_line.new.self c.in_ok-reached.reached c.in-Feed.is c.in_ok-reached.ensures.end c.line-in-Some.result.now c.line-in-Some.ensures
+    counted c.self.inside.limits c.self.inside.done.given c.read_line.new.self c.in_ok-reached.reached c.in-Feed.is c.in_ok-reached.ensures.end
+    c.line-in-Some.result.now c.line-in-Some.ensures
 
 pub returns-in-None-clause-text : goal.returns-in-None-clause-text
 returns-in-None-clause-text g c =
     record_bad c.self.inside.limits c.self.inside.done.given c.self.inside.done.lines c.self.inside.done.ended c.self.inside.text c.read_line.new.self
-    c.args.self.now c.self.view_is (g.D.Desk.view c.args.desk.now) (g.D.Desk.view c.read_line.new.desk) c.in_ok-reached.reached c.in_ok-reached.ensures.text c.in_ok-reached.ensures.end
-    c.in-Feed.is (record_as c.line-in-Feed.result.now c.read_line.new.self.line c.in_ok-record-in-Feed.field-0 None c.line-in-Feed.ensures c.in-None.is c.in_ok-record-in-Feed.ensures) _ _ c.bad-in-None.ensures
+    c.args.self.now c.self.view_is (g.D.Desk.view c.args.desk.now) (g.D.Desk.view c.read_line.new.desk) c.in_ok-reached.reached c.in_ok-reached.ensures.text
+    c.in_ok-reached.ensures.end
+    c.in-Feed.is (record_as c.line-in-Feed.result.now c.read_line.new.self.line c.in_ok-record-in-Feed.field-0 None c.line-in-Feed.ensures c.in-None.is
+    c.in_ok-record-in-Feed.ensures) _ _ c.bad-in-None.ensures
 
 pub returns-after-matches-clause-text : goal.returns-after-matches-clause-text
 returns-after-matches-clause-text g c =
     record_ok c.self.inside.limits c.self.inside.done.given c.self.inside.done.lines c.self.inside.done.ended c.self.inside.text c.read_line.new.self
-    c.args.self.now c.self.view_is (g.D.Desk.view c.args.desk.now) (g.D.Desk.view c.read_line.new.desk) c.in_ok-reached.reached c.in_ok-reached.ensures.text c.in_ok-reached.ensures.end
+    c.args.self.now c.self.view_is (g.D.Desk.view c.args.desk.now) (g.D.Desk.view c.read_line.new.desk) c.in_ok-reached.reached c.in_ok-reached.ensures.text
+    c.in_ok-reached.ensures.end
     c.in-Feed.is c.if-self.false c.in-Some.step
-    (record_as c.line-in-Feed.result.now c.read_line.new.self.line c.in_ok-record-in-Feed.field-0 (Some c.in-Some.step) c.line-in-Feed.ensures c.in-Some.is c.in_ok-record-in-Feed.ensures)
+    (record_as c.line-in-Feed.result.now c.read_line.new.self.line c.in_ok-record-in-Feed.field-0 (Some c.in-Some.step) c.line-in-Feed.ensures c.in-Some.is
+    c.in_ok-record-in-Feed.ensures)
     c.pass_line.new.self c.pass_line.ensures

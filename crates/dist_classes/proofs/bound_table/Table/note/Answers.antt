@@ -16,7 +16,8 @@ returns-in-Some c =
     let Seen : Entries → Type 0 = λ list. OnOk c.push.result (Notes list n (λ q x. (name ≡ q) × (v ≡ x))) in
     let updates = (c.get_mut.follows.holds c.push.new.self).3 (search rules) in
     subst Seen c.self.view_is
-    (on_ok_weaker c.push.result (λ adds. noted-updated t n name v c.push.new.self (λ q. updates.0 q) (adds ∙ ap (λ (list : List (List ℕ)). list ++ v ∷ []) (sym here))) c.push.ensures)
+    (on_ok_weaker c.push.result (λ adds. noted-updated t n name v c.push.new.self (λ q. updates.0 q)
+    (adds ∙ ap (λ (list : List (List ℕ)). list ++ v ∷ []) (sym here))) c.push.ensures)
 
 pub returns : goal.returns
 returns c =
@@ -25,8 +26,10 @@ returns c =
     let v = c.args.version.now in
     let was : t ≡ c.args.self.now = ap (λ (m : BTreeMap (List ℕ) (List (List ℕ))). m.entries) c.get_mut.follows.holds-at-none ∙ c.self.view_is in
     let none : versions_at c.self.inside.versions.entries name ≡ [] = ap (λ (o : Option (List (List ℕ))). unwrap_or o []) (sym c.in_default.ensures.value) in
-    let none_here : versions_at t name ≡ [] = ap (λ (m : BTreeMap (List ℕ) (List (List ℕ))). versions_at m.entries name) c.get_mut.follows.holds-at-none ∙ none in
+    let none_here : versions_at t name ≡ [] = ap (λ (m : BTreeMap (List ℕ) (List (List ℕ))). versions_at m.entries name) c.get_mut.follows.holds-at-none
+    ∙ none in
     let n = c.insert.new.self.entries in
     let Seen : Entries → Type 0 = λ list. Notes list n (λ q x. (name ≡ q) × (v ≡ x)) in
     subst Seen was
-    (noted-updated t n name v c.in_ok-versions.versions (λ q. c.in_ok-insert.ensures.updates.0 q) (c.in_ok-versions.ensures ∙ ap (λ (list : List (List ℕ)). list ++ v ∷ []) (sym none_here)))
+    (noted-updated t n name v c.in_ok-versions.versions (λ q. c.in_ok-insert.ensures.updates.0 q)
+    (c.in_ok-versions.ensures ∙ ap (λ (list : List (List ℕ)). list ++ v ∷ []) (sym none_here)))

@@ -7,7 +7,8 @@ use Rattle.dist_classes.proofs.bound_table.Table.note_item.Goals as goal
 pub loop-place-preserved : goal.loop-place-preserved
 loop-place-preserved c =
     let P : List ℕ → List ℕ → Atom → Type 0 = λ q v atom. IsAtomBound c.args.repo.now.architecture q v atom in
-    notes-more P c.args.self.now c.loop-place.self c.note_atom.new.self c.args.item.now c.loop-place.place c.get.result.now c.get.ensures c.loop-place.invariant c.in_ok-note_atom.ensures
+    notes-more P c.args.self.now c.loop-place.self c.note_atom.new.self c.args.item.now c.loop-place.place c.get.result.now c.get.ensures c.loop-place.invariant
+    c.in_ok-note_atom.ensures
 
 pub returns : goal.returns
 returns c =

@@ -9,5 +9,6 @@ returns-clause-some c =
     let classes = c.self.inside.classes.items in
     let class : Class = c.index.result.now in
     let Within : List Class → Type 0 = λ list. c.args.place < length list in
-    let at : slice_get classes c.args.place ≡ Some class = slice_get-get_or classes c.args.place class (subst Within (sym c.self.view_is) c.requires) ∙ ap (λ k. Some k) (sym c.index.ensures) in
+    let at : slice_get classes c.args.place ≡ Some class = slice_get-get_or classes c.args.place class (subst Within (sym c.self.view_is) c.requires)
+    ∙ ap (λ k. Some k) (sym c.index.ensures) in
     all-have classes c.self.invariant c.args.place class at

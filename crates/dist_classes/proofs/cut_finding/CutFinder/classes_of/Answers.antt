@@ -17,5 +17,6 @@ returns c =
     let sorted = c.sort.new.self.items in
     let From : List (List ℕ) → Type 0 = λ old. Adds old found (IsBoundOn r (IsNameOfCluster r c.args.members.now)) in
     let adds = subst From c.new-found.ensures.items c.in_ok-collect_members.ensures in
-    IfOk-weaker c.classes_above.result (λ classes. classes ≡ classes_above top (cuts_after top c.deref.result.now)) (AreClassesOf r c.args.members.now top) (λ classes is. cluster-classes r c.args.members.now top found sorted classes adds c.in_ok-sort.ensures.permutation c.in_ok-sort.ensures.sorted
+    IfOk-weaker c.classes_above.result (λ classes. classes ≡ classes_above top (cuts_after top c.deref.result.now)) (AreClassesOf r c.args.members.now top)
+    (λ classes is. cluster-classes r c.args.members.now top found sorted classes adds c.in_ok-sort.ensures.permutation c.in_ok-sort.ensures.sorted
     (is ∙ ap (λ (texts : List (List ℕ)). classes_above top (cuts_after top texts)) c.deref.ensures.value)) c.classes_above.ensures

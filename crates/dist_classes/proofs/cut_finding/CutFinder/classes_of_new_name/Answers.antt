@@ -16,5 +16,6 @@ returns c =
     let sorted = c.sort.new.self.items in
     let From : List (List ℕ) → Type 0 = λ old. Adds old found (IsBoundOn r (λ other. other ≡ name)) in
     let adds = subst From c.new-found.ensures.items c.in_ok-collect.ensures in
-    IfOk-weaker c.classes_of_all.result (λ classes. classes ≡ classes_of_all (cuts_of c.deref.result.now)) (AreClassesOfName r name) (λ classes is. name-classes r name found sorted classes adds c.in_ok-sort.ensures.permutation c.in_ok-sort.ensures.sorted
+    IfOk-weaker c.classes_of_all.result (λ classes. classes ≡ classes_of_all (cuts_of c.deref.result.now)) (AreClassesOfName r name)
+    (λ classes is. name-classes r name found sorted classes adds c.in_ok-sort.ensures.permutation c.in_ok-sort.ensures.sorted
     (is ∙ ap (λ (texts : List (List ℕ)). classes_of_all (cuts_of texts)) c.deref.ensures.value)) c.classes_of_all.ensures

@@ -21,7 +21,9 @@ loop-number-preserved c =
     let p : Package = c.package.result.now in
     let At : PackageList → Type 0 = λ r. slice_get r.packages number ≡ Some p in
     members-more c.args.self.now members c.loop-number.number-index number p c.args.found.now.items c.loop-number.found.items c.collect_package.new.found.items
-    (slice_get-get_or members c.loop-number.number-index 0 c.loop-number-test.true) (subst At c.self.view_is c.package.ensures) c.loop-number.invariant c.in_ok-collect_package.ensures
+    (slice_get-get_or members c.loop-number.number-index 0 c.loop-number-test.true) (subst At c.self.view_is c.package.ensures) c.loop-number.invariant
+    c.in_ok-collect_package.ensures
 
 pub returns : goal.returns
-returns c = members-all c.args.self.now c.args.members.now c.loop-number.number-index c.args.found.now.items c.loop-number.found.items (omega arith) c.loop-number.invariant
+returns c = members-all c.args.self.now c.args.members.now c.loop-number.number-index c.args.found.now.items c.loop-number.found.items (omega arith)
+    c.loop-number.invariant

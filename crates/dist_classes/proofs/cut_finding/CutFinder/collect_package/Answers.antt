@@ -26,14 +26,17 @@ loop-place-preserved c =
     elim c.if-is_moving.branch [
       | then-is_moving+in_ok-collect-2 w ↦
           subst Found (sym (ap (λ v. v.items) w.found-is))
-          (moved-more r r.architecture p place entry a b w.collect-then-is_moving.new.found.items c.get-entry.ensures (subst Moves c.self.view_is (c.is_moving.ensures.0 w.if-is_moving.true))
+          (moved-more r r.architecture p place entry a b w.collect-then-is_moving.new.found.items c.get-entry.ensures
+          (subst Moves c.self.view_is (c.is_moving.ensures.0 w.if-is_moving.true))
           c.loop-place.invariant w.in_ok-collect-2.ensures)
       | else-is_moving w ↦
           subst Found (sym (ap (λ v. v.items) w.found-is))
-          (moved-still r r.architecture p place entry a b c.get-entry.ensures (subst Still c.self.view_is (λ moves. false≢true (sym w.if-is_moving.false ∙ c.is_moving.ensures.1 moves)))
+          (moved-still r r.architecture p place entry a b c.get-entry.ensures
+          (subst Still c.self.view_is (λ moves. false≢true (sym w.if-is_moving.false ∙ c.is_moving.ensures.1 moves)))
           c.loop-place.invariant)
     ]
 
 pub returns : goal.returns
 returns c =
-    let r = c.args.self.now in moved-all r r.architecture c.args.package.now c.loop-place.place c.args.found.now.items c.loop-place.found.items (omega arith) c.loop-place.invariant
+    let r = c.args.self.now in moved-all r r.architecture c.args.package.now c.loop-place.place c.args.found.now.items c.loop-place.found.items (omega arith)
+    c.loop-place.invariant

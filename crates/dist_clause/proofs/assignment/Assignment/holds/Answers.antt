@@ -29,5 +29,6 @@ returns-else-not-makes_true c =
     let within : c.loop-number.number - 1 < length c.args.clauses.now.clauses = omega (arith, c.len-number-end.ensures.value) in
     let here = subst (λ clause. MakesTrue (value_of c.args.self.now) clause) c.clause.ensures.value (c.makes_true.ensures.0 c.if-not-makes_true.false) in
     let more = All-more (MakesTrue (value_of c.args.self.now)) c.args.clauses.now.clauses (c.loop-number.number - 1) [] within c.loop-number.invariant here in
-    let all : take (c.loop-number.number - 1 + 1) c.args.clauses.now.clauses ≡ c.args.clauses.now.clauses = take_all (c.loop-number.number - 1 + 1) c.args.clauses.now.clauses (omega (arith, c.len-number-end.ensures.value)) in
+    let all : take (c.loop-number.number - 1 + 1) c.args.clauses.now.clauses ≡ c.args.clauses.now.clauses =
+    take_all (c.loop-number.number - 1 + 1) c.args.clauses.now.clauses (omega (arith, c.len-number-end.ensures.value)) in
     (λ _. subst (λ clauses. IsModel (value_of c.args.self.now) clauses) all more, λ _. refl)

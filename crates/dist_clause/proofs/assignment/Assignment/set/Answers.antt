@@ -18,4 +18,5 @@ returns c =
     let written = with_items_is c.self.inside.words c.set_bit.new.words long in
     let sets = subst (λ words. SetsBit words c.set_bit.new.words (c.args.variable - 1) c.args.value) c.deref_mut.ensures.value c.set_bit.ensures in
     let changed = bits-set c.self.inside.words.items c.set_bit.new.words (c.args.variable - 1) c.args.value c.self.inside.variables sets below in
-    ap (λ words. bits words c.self.inside.variables) written ∙ (changed ∙ ap (λ (values : List Bool). set values (c.args.variable - 1) c.args.value) c.self.view_is)
+    ap (λ words. bits words c.self.inside.variables) written
+    ∙ (changed ∙ ap (λ (values : List Bool). set values (c.args.variable - 1) c.args.value) c.self.view_is)

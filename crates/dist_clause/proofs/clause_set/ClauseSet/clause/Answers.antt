@@ -10,4 +10,5 @@ returns-clause-over_variables c =
     let inside : c.args.number - 1 < length c.self.inside.clauses = omega arith in
     let over = All-get_or (IsClauseOver c.self.inside.variables) c.self.inside.clauses (c.args.number - 1) [] inside c.self.invariant.within.over_variables in
     let variables = ap (λ (set : ClauseList). set.variables) c.self.view_is in
-    subst (λ clause. IsClauseOver c.args.self.now.variables clause) (sym c.get.ensures) (subst (λ n. IsClauseOver n (get_or c.self.inside.clauses (c.args.number - 1) [])) variables over)
+    subst (λ clause. IsClauseOver c.args.self.now.variables clause) (sym c.get.ensures)
+    (subst (λ n. IsClauseOver n (get_or c.self.inside.clauses (c.args.number - 1) [])) variables over)

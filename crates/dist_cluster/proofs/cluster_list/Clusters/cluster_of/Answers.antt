@@ -17,5 +17,6 @@ returns c =
     let Has : ClusterList → Type 0 = λ list. Any (λ cluster. Contains cluster c.args.member) list.members in
     let v = c.self.inside in
     let short = listed-place v.members v.tops.items v.cluster_of.items c.self.invariant c.args.member (subst Has (sym c.self.view_is) c.requires) in
-    let Exact : ClusterList → Type 0 = λ list. (e : ℕ) → (IsIn list.members e c.args.member → e ≡ c.index.result.now) × (e ≡ c.index.result.now → IsIn list.members e c.args.member) in
+    let Exact : ClusterList → Type 0 = λ list. (e : ℕ) → (IsIn list.members e c.args.member → e ≡ c.index.result.now)
+    × (e ≡ c.index.result.now → IsIn list.members e c.args.member) in
     subst Exact c.self.view_is (listed-exact v.members v.tops.items v.cluster_of.items c.self.invariant c.args.member c.index.result.now short c.index.ensures)

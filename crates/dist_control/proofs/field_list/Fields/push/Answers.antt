@@ -12,4 +12,5 @@ invariant_of-self-2 c =
     let fields = c.self.inside.items.items in
     let now = ap (map field_text) c.in_ok-push.ensures.ok ∙ map-append field_text fields (c.args.field ∷ []) in
     subst (AreMarked (set marks c.mark_of-mark.result _)) (sym now)
-    (marks-push marks (map field_text fields) (field_text c.args.field) c.mark_of-mark.result c.self.invariant c.mark_of-mark.ensures.mark c.mark_of-mark.ensures.within)
+    (marks-push marks (map field_text fields) (field_text c.args.field) c.mark_of-mark.result c.self.invariant c.mark_of-mark.ensures.mark
+    c.mark_of-mark.ensures.within)

@@ -14,7 +14,8 @@ returns-in-Open-clause-answer c =
     let i = c.loop-hint.hint-index in
     let hint = get_or c.args.hints.now i 0 in (
       λ e. absurd (false≢true e),
-      λ h. absurd (hints_refused c.args.self.now.clauses c.args.literals.now.literals c.args.hints.now i c.loop-hint.literals.literals c.loop-hint.ended c.loop-hint-test.true
+      λ h. absurd (hints_refused c.args.self.now.clauses c.args.literals.now.literals c.args.hints.now i c.loop-hint.literals.literals c.loop-hint.ended
+          c.loop-hint-test.true
           (ends_open c.args.self.now.clauses c.loop-hint.literals.literals hint (drop (i + 1) c.args.hints.now) c.in-Open.ensures.1) c.loop-hint.invariant.0 h),
     )
 
@@ -34,21 +35,26 @@ loop-hint-preserved c =
       | in-Conflict w ↦
           let h = w.in-Conflict.ensures in
           let step = ends_conflict clauses trues hint rest h.1 h.2 in
-          let more = hints_more clauses c.args.literals.now.literals c.args.hints.now i trues trues c.loop-hint.ended true c.loop-hint-test.true step c.loop-hint.invariant.0 in
+          let more = hints_more clauses c.args.literals.now.literals c.args.hints.now i trues trues c.loop-hint.ended true c.loop-hint-test.true step
+          c.loop-hint.invariant.0 in
           let same = h.0 in (
-            subst (λ ended. SoFar c.take_hint.new.literals.literals ended) (sym w.ended-is) (subst (λ ts. SoFar ts true) (sym (ap (λ (t : LiteralList). t.literals) same)) more),
+            subst (λ ended. SoFar c.take_hint.new.literals.literals ended) (sym w.ended-is)
+                (subst (λ ts. SoFar ts true) (sym (ap (λ (t : LiteralList). t.literals) same)) more),
             ap (λ (t : LiteralList). t.variables) same ∙ c.loop-hint.invariant.1,
           )
       | in-Unit w ↦
           let h = w.in-Unit.ensures in
           let step = ends_unit clauses trues hint rest w.in-Unit.field-0 h.1 h.2 in
-          let more = hints_more clauses c.args.literals.now.literals c.args.hints.now i trues (trues ++ w.in-Unit.field-0 ∷ []) c.loop-hint.ended false c.loop-hint-test.true step c.loop-hint.invariant.0 in
+          let more = hints_more clauses c.args.literals.now.literals c.args.hints.now i trues (trues ++ w.in-Unit.field-0 ∷ []) c.loop-hint.ended false
+          c.loop-hint-test.true step c.loop-hint.invariant.0 in
           let same = h.0 in (
-            subst (λ ended. SoFar c.take_hint.new.literals.literals ended) (sym w.ended-is) (subst (λ ts. SoFar ts false) (sym (ap (λ (t : LiteralList). t.literals) same)) more),
+            subst (λ ended. SoFar c.take_hint.new.literals.literals ended) (sym w.ended-is)
+                (subst (λ ts. SoFar ts false) (sym (ap (λ (t : LiteralList). t.literals) same)) more),
             ap (λ (t : LiteralList). t.variables) same ∙ c.loop-hint.invariant.1,
           )
     ]
 
 pub returns-clause-answer : goal.returns-clause-answer
 returns-clause-answer c =
-    hints_all c.args.self.now.clauses c.args.literals.now.literals c.args.hints.now c.loop-hint.hint-index c.loop-hint.literals.literals c.loop-hint.ended c.loop-hint-test.false c.loop-hint.invariant.0
+    hints_all c.args.self.now.clauses c.args.literals.now.literals c.args.hints.now c.loop-hint.hint-index c.loop-hint.literals.literals c.loop-hint.ended
+    c.loop-hint-test.false c.loop-hint.invariant.0

@@ -3,4 +3,5 @@ use Rattle.dist_derive.proofs.FollowsLemmas.{HintsSoFar}
 use Rattle.dist_derive.proofs.log.Log.ends_false.Given as goal
 
 abbrev pub invariant-loop-hint : goal.invariant-loop-hint
-invariant-loop-hint l = HintsSoFar l.self.clauses l.initial.literals.literals l.hints l.hint-index l.literals.literals l.ended × (l.literals.variables ≡ l.self.variables)
+invariant-loop-hint l = HintsSoFar l.self.clauses l.initial.literals.literals l.hints l.hint-index l.literals.literals l.ended
+    × (l.literals.variables ≡ l.self.variables)

@@ -20,7 +20,8 @@ returns-then-not-assume_all-clause-answer c =
       λ e. absurd (false≢true e),
       λ h.
           let t = subst (λ clause. LeavesFirstUnset clauses assumptions clause) c.in-Some.ensures.cases.0 h in
-          absurd (unset_refused clauses assumptions c.in-Some.first.now c.in-Some.rest.now c.deny.new.self.literals c.assume_all.new.self.literals c.assume_all.new.self.literals
+          absurd (unset_refused clauses assumptions c.in-Some.first.now c.in-Some.rest.now c.deny.new.self.literals c.assume_all.new.self.literals
+          c.assume_all.new.self.literals
           (ap (λ (x : LiteralList). x.literals) c.deny.ensures) (c.assume_all.ensures.refused c.if-not-assume_all.true) t.0 t.1),
     )
 
@@ -31,7 +32,8 @@ returns-then-not-propagate-clause-answer c =
       λ e. absurd (false≢true e),
       λ h.
           let t = subst (λ clause. LeavesFirstUnset clauses assumptions clause) c.in-Some.ensures.cases.0 h in
-          absurd (unset_refuted clauses assumptions c.in-Some.first.now c.in-Some.rest.now c.deny.new.self.literals c.assume_all.new.self.literals c.propagate.new.literals.literals
+          absurd (unset_refuted clauses assumptions c.in-Some.first.now c.in-Some.rest.now c.deny.new.self.literals c.assume_all.new.self.literals
+          c.propagate.new.literals.literals
           (ap (λ (x : LiteralList). x.literals) c.deny.ensures) c.assume_all.ensures.least (c.propagate.ensures.refuted c.if-not-propagate.true) t.0 t.1),
     )
 
@@ -41,12 +43,15 @@ returns-clause-answer c =
     let assumptions = c.args.assumptions.now in
     let denied = ap (λ (x : LiteralList). x.literals) c.deny.ensures in (
       λ e.
-          let trues = leaves_unset_end clauses assumptions c.in-Some.first.now c.in-Some.rest.now c.deny.new.self.literals c.assume_all.new.self.literals c.propagate.new.literals.literals denied
-          c.assume_all.ensures.kept (c.assume_all.ensures.assumed c.if-not-assume_all.false) c.propagate.ensures.kept (c.propagate.ensures.settled c.if-not-propagate.false)
+          let trues = leaves_unset_end clauses assumptions c.in-Some.first.now c.in-Some.rest.now c.deny.new.self.literals c.assume_all.new.self.literals
+          c.propagate.new.literals.literals denied
+          c.assume_all.ensures.kept (c.assume_all.ensures.assumed c.if-not-assume_all.false) c.propagate.ensures.kept
+          (c.propagate.ensures.settled c.if-not-propagate.false)
           c.is_unset.ensures.consistent (c.is_unset.ensures.answer.0 e) in
           subst (λ clause. LeavesFirstUnset clauses assumptions clause) (sym c.in-Some.ensures.cases.0) (c.propagate.new.literals.literals, trues),
       λ h.
           let t = subst (λ clause. LeavesFirstUnset clauses assumptions clause) c.in-Some.ensures.cases.0 h in
-          c.is_unset.ensures.answer.1 (unset_at_end clauses assumptions c.in-Some.first.now c.in-Some.rest.now c.deny.new.self.literals c.assume_all.new.self.literals c.propagate.new.literals.literals
+          c.is_unset.ensures.answer.1 (unset_at_end clauses assumptions c.in-Some.first.now c.in-Some.rest.now c.deny.new.self.literals
+          c.assume_all.new.self.literals c.propagate.new.literals.literals
           denied c.assume_all.ensures.least c.propagate.ensures.forced t.0 t.1),
     )

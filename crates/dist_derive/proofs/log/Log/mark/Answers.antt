@@ -9,14 +9,16 @@ pub loop-init : goal.loop-init
 loop-init c = (
   record {
     assumed = c.include_all.ensures.included;
-    least = λ has assumed under. c.include_all.ensures.least has (subst (λ (s : VariableList). HasAll has s.members) (sym c.requires.empty) (All-nil (λ v. has v ≡ true))) assumed;
+    least = λ has assumed under. c.include_all.ensures.least has
+        (subst (λ (s : VariableList). HasAll has s.members) (sym c.requires.empty) (All-nil (λ v. has v ≡ true))) assumed;
   },
   c.include_all.ensures.grows.same_variables ∙ ap (λ (s : VariableList). s.variables) c.requires.empty,
 )
 
 pub loop-preserved : goal.loop-preserved
 loop-preserved c = (
-  reaches_more (take c.args.inputs c.args.self.now.clauses) c.args.assumptions.now c.loop.cone c.walk.new.cone c.walk.result c.loop.invariant.0 c.walk.ensures.grows c.walk.ensures.least,
+  reaches_more (take c.args.inputs c.args.self.now.clauses) c.args.assumptions.now c.loop.cone c.walk.new.cone c.walk.result c.loop.invariant.0
+      c.walk.ensures.grows c.walk.ensures.least,
   c.walk.ensures.grows.same_variables ∙ c.loop.invariant.1,
 )
 

@@ -10,6 +10,8 @@ returns-clause-answer c =
     let inputs = take c.args.inputs c.args.self.now.clauses in
     let assumptions = c.args.assumptions.now in
     let members = c.mark.new.cone.members in (
-      λ e. All-weaker (λ (l : Literal). Contains members l.variable) (λ (l : Literal). InCone inputs assumptions l.variable) (λ l h. (c.mark.ensures.exact l.variable).0 h) c.args.clause.now (c.has_clause.ensures.0 e),
-      λ h. c.has_clause.ensures.1 (All-weaker (λ (l : Literal). InCone inputs assumptions l.variable) (λ (l : Literal). Contains members l.variable) (λ l g. (c.mark.ensures.exact l.variable).1 g) c.args.clause.now h),
+      λ e. All-weaker (λ (l : Literal). Contains members l.variable) (λ (l : Literal). InCone inputs assumptions l.variable)
+          (λ l h. (c.mark.ensures.exact l.variable).0 h) c.args.clause.now (c.has_clause.ensures.0 e),
+      λ h. c.has_clause.ensures.1 (All-weaker (λ (l : Literal). InCone inputs assumptions l.variable) (λ (l : Literal). Contains members l.variable)
+          (λ l g. (c.mark.ensures.exact l.variable).1 g) c.args.clause.now h),
     )

@@ -33,7 +33,8 @@ returns-in-Conflict-clause-found c =
     let place = c.loop-place.place in
     let clauses = c.args.self.now.clauses in
     let whole = take c.args.last clauses in
-    let so_far = subst (λ cs. SweepsSoFar cs c.args.literals.now c.loop-place.literals c.loop-place.grown) (sym (take-take place c.args.last clauses (omega arith))) c.loop-place.invariant in
+    let so_far = subst (λ cs. SweepsSoFar cs c.args.literals.now c.loop-place.literals c.loop-place.grown)
+    (sym (take-take place c.args.last clauses (omega arith))) c.loop-place.invariant in
     let at_place : clause_at clauses (place + 1) ≡ get_or whole place [] =
     ap (λ k. get_or clauses k []) (let e : place + 1 - 1 ≡ place = omega arith in e) ∙ sym (get_or-take c.args.last clauses place [] c.loop-place-test.true) in
     let within : place < length whole = omega (arith, length-take c.args.last clauses, c.requires.last) in
@@ -64,13 +65,16 @@ loop-place-preserved c =
 
 pub returns-then-grown-clause-forced : goal.returns-then-grown-clause-forced
 returns-then-grown-clause-forced c =
-    (sweeps_to c.args.self.now.clauses c.loop-place.place c.args.last c.args.literals.now c.loop-place.literals c.loop-place.grown (omega arith) c.loop-place.invariant).forced
+    (sweeps_to c.args.self.now.clauses c.loop-place.place c.args.last c.args.literals.now c.loop-place.literals c.loop-place.grown (omega arith)
+    c.loop-place.invariant).forced
 
 pub returns-clause-forced : goal.returns-clause-forced
 returns-clause-forced c =
-    (sweeps_to c.args.self.now.clauses c.loop-place.place c.args.last c.args.literals.now c.loop-place.literals c.loop-place.grown (omega arith) c.loop-place.invariant).forced
+    (sweeps_to c.args.self.now.clauses c.loop-place.place c.args.last c.args.literals.now c.loop-place.literals c.loop-place.grown (omega arith)
+    c.loop-place.invariant).forced
 
 pub returns-clause-found : goal.returns-clause-found
 returns-clause-found c =
-    let still = (sweeps_to c.args.self.now.clauses c.loop-place.place c.args.last c.args.literals.now c.loop-place.literals c.loop-place.grown (omega arith) c.loop-place.invariant).still c.if-grown.false in
+    let still = (sweeps_to c.args.self.now.clauses c.loop-place.place c.args.last c.args.literals.now c.loop-place.literals c.loop-place.grown (omega arith)
+    c.loop-place.invariant).still c.if-grown.false in
     subst (λ (t : LiteralList). AllOpen t.literals (take c.args.last c.args.self.now.clauses)) (sym still.0) still.1

@@ -10,9 +10,11 @@ loop-place-preserved c =
     let place = c.loop-place.place in
     let clauses = c.args.self.now.clauses in
     let within : place < length clauses = omega (arith, c.requires.inputs) in
-    let more = walks_more (take place clauses) c.clause.result.now c.args.cone.now c.loop-place.cone c.close_at-grown.new.self c.loop-place.grown c.close_at-grown.result
+    let more = walks_more (take place clauses) c.clause.result.now c.args.cone.now c.loop-place.cone c.close_at-grown.new.self c.loop-place.grown
+    c.close_at-grown.result
     c.loop-place.invariant c.close_at-grown.ensures.grows c.close_at-grown.ensures.closed c.close_at-grown.ensures.least in
-    subst (λ cs. WalksSoFar cs c.args.cone.now c.close_at-grown.new.self (c.loop-place.grown || c.close_at-grown.result)) (sym (clause_item clauses place c.clause.result.now within c.clause.ensures.value)) more
+    subst (λ cs. WalksSoFar cs c.args.cone.now c.close_at-grown.new.self (c.loop-place.grown || c.close_at-grown.result))
+    (sym (clause_item clauses place c.clause.result.now within c.clause.ensures.value)) more
 
 walked : (c : goal.After-loop-place) → WalksSoFar (take c.args.inputs c.args.self.now.clauses) c.args.cone.now c.loop-place.cone c.loop-place.grown
 walked c =

@@ -29,18 +29,22 @@ returns-then-not-assume-clause-least c = λ trues all assumed.
 pub returns-then-not-assume-clause-refused : goal.returns-then-not-assume-clause-refused
 returns-then-not-assume-clause-refused c = λ _ trues all assumed consistent.
     let before = c.loop-literal.invariant.least trues all (All-take (Contains trues) c.loop-literal.literal-index c.args.literals.now assumed) in
-    let here = All-item (Contains trues) c.args.literals.now c.loop-literal.literal-index c.literal-item.result c.loop-literal-test.true c.literal-item.is assumed in
+    let here = All-item (Contains trues) c.args.literals.now c.loop-literal.literal-index c.literal-item.result c.loop-literal-test.true c.literal-item.is
+    assumed in
     consistent c.literal-item.result here (All-contains (Contains trues) c.loop-literal.self.literals (negation c.literal-item.result) before (refused c).1)
 
 pub loop-literal-preserved : goal.loop-literal-preserved
 loop-literal-preserved c =
     let i = c.loop-literal.literal-index in
     let step = subst (λ b. Assumes c.loop-literal.self c.assume.new.self c.literal-item.result b) c.if-not-assume.false c.assume.ensures in
-    let more = assumes_more c.args.self.now c.loop-literal.self c.assume.new.self (take i c.args.literals.now) c.literal-item.result c.loop-literal.invariant step in
-    subst (λ xs. AssumesSoFar c.args.self.now c.assume.new.self xs) (sym (take_item c.args.literals.now i c.literal-item.result c.loop-literal-test.true c.literal-item.is)) more
+    let more = assumes_more c.args.self.now c.loop-literal.self c.assume.new.self (take i c.args.literals.now) c.literal-item.result c.loop-literal.invariant
+    step in
+    subst (λ xs. AssumesSoFar c.args.self.now c.assume.new.self xs)
+    (sym (take_item c.args.literals.now i c.literal-item.result c.loop-literal-test.true c.literal-item.is)) more
 
 whole : (c : goal.After-loop-literal) → AssumesSoFar c.args.self.now c.loop-literal.self c.args.literals.now
-whole c = subst (λ xs. AssumesSoFar c.args.self.now c.loop-literal.self xs) (take_all c.loop-literal.literal-index c.args.literals.now c.loop-literal-test.false) c.loop-literal.invariant
+whole c = subst (λ xs. AssumesSoFar c.args.self.now c.loop-literal.self xs)
+    (take_all c.loop-literal.literal-index c.args.literals.now c.loop-literal-test.false) c.loop-literal.invariant
 
 pub returns-clause-assumed : goal.returns-clause-assumed
 returns-clause-assumed c = λ _. (whole c).assumed

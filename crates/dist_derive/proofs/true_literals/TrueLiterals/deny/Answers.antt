@@ -11,5 +11,6 @@ make_true-requires-clause-unset c =
     let variable = ap (λ (l : Literal). l.variable) c.negated.ensures in
     let denied = ap (λ (t : LiteralList). t.literals) c.loop-literal.invariant in
     let none = λ (m : Literal) (same : m.variable ≡ c.literal-item.result.variable) (h : Contains c.loop-literal.self.literals m).
-    not_denied c.args.self.now.variables c.args.clause.now i c.literal-item.result m c.requires.clause c.loop-literal-test.true c.literal-item.is same (subst (λ ts. Contains ts m) denied h) in
+    not_denied c.args.self.now.variables c.args.clause.now i c.literal-item.result m c.requires.clause c.loop-literal-test.true c.literal-item.is same
+    (subst (λ ts. Contains ts m) denied h) in
     (λ h. none c.negated.result variable h, λ h. none (negation c.negated.result) variable h)

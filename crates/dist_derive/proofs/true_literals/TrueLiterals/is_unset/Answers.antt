@@ -15,11 +15,13 @@ returns-clause-answer c =
     let literals = ap (λ (t : LiteralList). t.literals) c.self.view_is in
     let same = c.variable.ensures.value in (
       λ e.
-          let out : ¬ Contains members l.variable = λ h. false≢true (sym (not-true c.contains.result e) ∙ c.contains.ensures.1 (subst (λ v. Contains members v) (sym same) h)) in
+          let out : ¬ Contains members l.variable = λ h. false≢true
+          (sym (not-true c.contains.result e) ∙ c.contains.ensures.1 (subst (λ v. Contains members v) (sym same) h)) in
           subst (λ trues. IsUnset trues l) literals (λ h. out (valued-Contains signs members l h).0, λ h. out (valued-Contains signs members (negation l) h).0),
       λ unset.
           let fresh = fresh-from_unset signs members l (subst (λ trues. IsUnset trues l) (sym literals) unset) in
-          let no : c.contains.result ≡ false = false_from_ne_true c.contains.result (λ e. fresh (subst (λ v. Contains members v) same (c.contains.ensures.0 e))) in
+          let no : c.contains.result ≡ false = false_from_ne_true c.contains.result
+          (λ e. fresh (subst (λ v. Contains members v) same (c.contains.ensures.0 e))) in
           ap not no,
     )
 

@@ -10,7 +10,8 @@ pub add-requires-clause-fresh : goal.add-requires-clause-fresh
 add-requires-clause-fresh c = λ h.
     let literals = ap (λ (t : LiteralList). t.literals) c.self.view_is in
     let unset = subst (λ trues. IsUnset trues c.args.literal) (sym literals) c.requires.unset in
-    fresh-from_unset c.self.inside.signs c.self.inside.touched.members c.args.literal unset (subst (λ v. Contains c.self.inside.touched.members v) c.variable-variable.ensures.value h)
+    fresh-from_unset c.self.inside.signs c.self.inside.touched.members c.args.literal unset
+    (subst (λ v. Contains c.self.inside.touched.members v) c.variable-variable.ensures.value h)
 
 pub returns-clause-added : goal.returns-clause-added
 returns-clause-added c =
@@ -22,11 +23,15 @@ returns-clause-added c =
     let same_variable = c.variable-variable.ensures.value in
     let unset = subst (λ trues. IsUnset trues l) (sym literals) c.requires.unset in
     let fresh = fresh-from_unset signs members l unset in
-    let more : c.add.new.self.members ≡ members ++ l.variable ∷ [] = ap (λ (s : VariableList). s.members) c.add.ensures.added ∙ ap (λ v. members ++ v ∷ []) same_variable in
+    let more : c.add.new.self.members ≡ members ++ l.variable ∷ [] = ap (λ (s : VariableList). s.members) c.add.ensures.added
+    ∙ ap (λ v. members ++ v ∷ []) same_variable in
     let in_range = subst (λ ms. All (λ v. (1 ≤ v) × (v ≤ c.add.new.self.variables)) ms) more c.add.ensures.in_range in
-    let signs_is : c.set.new.self ≡ set signs (l.variable - 1) l.positive = c.set.ensures ∙ (ap (λ v. set signs (v - 1) c.positive.result) same_variable ∙ ap (λ b. set signs (l.variable - 1) b) c.positive.ensures) in
-    let added = valued-add signs members l c.add.new.self.variables in_range (omega (arith, c.variable-variable.ensures.from_one)) (omega (arith, c.self.invariant, c.requires.in_range)) fresh in
+    let signs_is : c.set.new.self ≡ set signs (l.variable - 1) l.positive = c.set.ensures
+    ∙ (ap (λ v. set signs (v - 1) c.positive.result) same_variable ∙ ap (λ b. set signs (l.variable - 1) b) c.positive.ensures) in
+    let added = valued-add signs members l c.add.new.self.variables in_range (omega (arith, c.variable-variable.ensures.from_one))
+    (omega (arith, c.self.invariant, c.requires.in_range)) fresh in
     let all : valued c.set.new.self c.add.new.self.members ≡ c.args.self.now.literals ++ l ∷ [] =
-    ap (λ bs. valued bs c.add.new.self.members) signs_is ∙ (ap (λ ms. valued (set signs (l.variable - 1) l.positive) ms) more ∙ (added ∙ ap (λ ts. ts ++ l ∷ []) literals)) in
+    ap (λ bs. valued bs c.add.new.self.members) signs_is ∙ (ap (λ ms. valued (set signs (l.variable - 1) l.positive) ms) more
+    ∙ (added ∙ ap (λ ts. ts ++ l ∷ []) literals)) in
     let same_variables : c.add.new.self.variables ≡ c.args.self.now.variables = ap (λ (s : VariableList). s.variables) c.add.ensures.added ∙ variables in
     cc

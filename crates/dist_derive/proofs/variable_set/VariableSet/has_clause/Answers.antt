@@ -11,7 +11,8 @@ pub returns-then-not-contains : goal.returns-then-not-contains
 returns-then-not-contains c = (
   λ e. absurd (false≢true e),
   λ all.
-      let here = All-item (λ (l : Literal). Contains c.args.self.now.members l.variable) c.args.clause.now c.loop-literal.literal-index c.literal-item.result c.loop-literal-test.true c.literal-item.is all in
+      let here = All-item (λ (l : Literal). Contains c.args.self.now.members l.variable) c.args.clause.now c.loop-literal.literal-index c.literal-item.result
+      c.loop-literal-test.true c.literal-item.is all in
       let yes = c.contains.ensures.1 (subst (λ v. Contains c.args.self.now.members v) (sym c.variable.ensures.value) here) in
       absurd (false≢true (sym c.if-not-contains.true ∙ yes)),
 )
@@ -26,5 +27,8 @@ loop-literal-preserved c =
     (All-push (λ (m : Literal). Contains c.args.self.now.members m.variable) (take i clause) l c.loop-literal.invariant here)
 
 pub returns : goal.returns
-returns c =
-    (λ _. subst (λ xs. All (λ (m : Literal). Contains c.args.self.now.members m.variable) xs) (take_all c.loop-literal.literal-index c.args.clause.now c.loop-literal-test.false) c.loop-literal.invariant, λ _. refl)
+returns c = (
+  λ _. subst (λ xs. All (λ (m : Literal). Contains c.args.self.now.members m.variable) xs)
+      (take_all c.loop-literal.literal-index c.args.clause.now c.loop-literal-test.false) c.loop-literal.invariant,
+  λ _. refl,
+)

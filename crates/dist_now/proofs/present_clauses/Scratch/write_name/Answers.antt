@@ -8,4 +8,5 @@ pub add_installed-requires : goal.add_installed-requires
 add_installed-requires c =
     let numbers = c.gather_named.new.numbers.items in
     subst (λ (xs : List ℕ). All (λ k. k < MAX_VARIABLES) xs) (sym c.deref.ensures.value)
-    (below-more (length c.args.repo.now.packages) MAX_VARIABLES numbers (omega (arith, c.requires)) (numbers-below c.args.repo.now _ numbers c.in_ok-gather_named.ensures))
+    (below-more (length c.args.repo.now.packages) MAX_VARIABLES numbers (omega (arith, c.requires))
+    (numbers-below c.args.repo.now _ numbers c.in_ok-gather_named.ensures))

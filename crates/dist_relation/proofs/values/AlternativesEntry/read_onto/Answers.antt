@@ -19,10 +19,12 @@ pub returns-in_err-others : goal.returns-in_err-others
 unfolding alternatives_at
 returns-in_err-others c =
     let p = err_from_is_err_and c.from_residual-in_err-others.result c.from_residual-in_err-others.ensures.1 in
-    rw (p.1, p.2) (others_fail bar (atom_at Depends) (atom_shorter Depends) c.in_err-others.field-0.0 c.args.text.now c.in_ok-first.first c.in_ok-first.rest.now c.in_ok-first.ensures c.in_err-others.ensures)
+    rw (p.1, p.2) (others_fail bar (atom_at Depends) (atom_shorter Depends) c.in_err-others.field-0.0 c.args.text.now c.in_ok-first.first c.in_ok-first.rest.now
+    c.in_ok-first.ensures c.in_err-others.ensures)
 
 pub returns : goal.returns
 unfolding alternatives_at
 returns c =
-    let read = with_others bar (atom_at Depends) (atom_shorter Depends) c.args.text.now c.in_ok-first.first c.in_ok-first.rest.now (c.in_ok-others.others.items, c.in_ok-others.rest.now) c.in_ok-first.ensures c.in_ok-others.ensures in
+    let read = with_others bar (atom_at Depends) (atom_shorter Depends) c.args.text.now c.in_ok-first.first c.in_ok-first.rest.now
+    (c.in_ok-others.others.items, c.in_ok-others.rest.now) c.in_ok-first.ensures c.in_ok-others.ensures in
     (c.from_atoms.result, read ∙ ap (λ (list : List Atom). done list c.in_ok-others.rest.now) (sym c.from_atoms.ensures), c.in_ok-push.ensures.items)

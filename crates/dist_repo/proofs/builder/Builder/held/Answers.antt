@@ -11,9 +11,13 @@ pub returns-in-Some-clause-found : goal.returns-in-Some-clause-found
 returns-in-Some-clause-found c =
     let k : Package = c.package.result.now in
     let at_key : k ≡ c.in-Some.held.now = c.package.ensures in
-    let found = found-entry (is_at (package_cmp c.args.key.now)) c.self.inside.packages.entries k c.in-Some.line.now (sym c.in-Some.ensures.key ∙ ap (λ (p : Package). Some p) (sym at_key)) (sym c.in-Some.ensures.value) in
-    let There : List Held → Type 0 = λ held. Contains held (k, c.in-Some.line.now) in
-    (subst There c.self.view_is found, subst (λ (x : Package). IsSamePackage x c.args.key.now) (sym at_key) (same-back c.args.key.now c.in-Some.held.now (same-from_tied c.args.key.now c.in-Some.held.now c.in-Some.ensures.same_key)))
+    let found = found-entry (is_at (package_cmp c.args.key.now)) c.self.inside.packages.entries k c.in-Some.line.now
+    (sym c.in-Some.ensures.key ∙ ap (λ (p : Package). Some p) (sym at_key)) (sym c.in-Some.ensures.value) in
+    let There : List Held → Type 0 = λ held. Contains held (k, c.in-Some.line.now) in (
+      subst There c.self.view_is found,
+      subst (λ (x : Package). IsSamePackage x c.args.key.now) (sym at_key)
+          (same-back c.args.key.now c.in-Some.held.now (same-from_tied c.args.key.now c.in-Some.held.now c.in-Some.ensures.same_key)),
+    )
 
 pub returns-in-Some-clause-in_order : goal.returns-in-Some-clause-in_order
 returns-in-Some-clause-in_order c = subst AreInOrder c.self.view_is (in-order c.self.inside.packages.entries c.self.invariant.sorted)

@@ -15,5 +15,8 @@ returns-clause-new c =
     let old = c.self.inside.packages.entries in
     let Free : List Held → Type 0 = λ held. IsFree held c.args.key in
     let Adds : List Held → Type 0 = λ held. IsPermutation ((c.args.key, c.args.line) ∷ held) c.insert.new.self.entries in
-    let Gives : List Held → Type 0 = λ held. IsPermutation ((c.args.key, c.args.line) ∷ old) held in
-    (refl, subst Adds c.self.view_is (subst Gives (sym c.in_default.ensures.entries) (insert-permutes old c.args.key c.args.line (subst Free (sym c.self.view_is) c.requires.free))))
+    let Gives : List Held → Type 0 = λ held. IsPermutation ((c.args.key, c.args.line) ∷ old) held in (
+      refl,
+      subst Adds c.self.view_is (subst Gives (sym c.in_default.ensures.entries)
+          (insert-permutes old c.args.key c.args.line (subst Free (sym c.self.view_is) c.requires.free))),
+    )

@@ -13,5 +13,7 @@ returns-then-is_ne c =
     let o = c.cmp-by_prefix.result in
     let rest = version_cmp p.version q.version in
     let decided : is_ne o ≡ true = sym c.is_ne.ensures ∙ c.if-is_ne.true in
-    let by_name = prefixes-decide c.self.inside.prefix c.other.inside.prefix p.name q.name o c.self.invariant c.other.invariant c.cmp-by_prefix.ensures decided in
-    sym (then-decided o rest decided) ∙ ap (λ x. ordering_then x rest) by_name ∙ ap (λ x. package_cmp x q) c.self.view_is ∙ ap (package_cmp c.args.self.now) c.other.view_is
+    let by_name = prefixes-decide c.self.inside.prefix c.other.inside.prefix p.name q.name o c.self.invariant c.other.invariant c.cmp-by_prefix.ensures
+    decided in
+    sym (then-decided o rest decided) ∙ ap (λ x. ordering_then x rest) by_name ∙ ap (λ x. package_cmp x q) c.self.view_is
+    ∙ ap (package_cmp c.args.self.now) c.other.view_is

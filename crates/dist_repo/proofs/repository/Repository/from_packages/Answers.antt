@@ -11,6 +11,8 @@ invariant_of-result c =
     record {
       in_order = c.requires.in_order;
       few = c.requires.few;
-      index = index-from_tally (record { architecture = c.args.architecture; packages = c.args.packages.items }) tally c.in_ok-index.index.names c.in_ok-index.index.numbers
-          (subst Tallied c.deref.ensures.value c.in_ok-tally_of.ensures) c.in_ok-index.ensures.names c.in_ok-index.ensures.numbers c.in_ok-index.ensures.in_order c.in_ok-index.ensures.rising;
+      index = index-from_tally (record { architecture = c.args.architecture; packages = c.args.packages.items }) tally c.in_ok-index.index.names
+          c.in_ok-index.index.numbers
+          (subst Tallied c.deref.ensures.value c.in_ok-tally_of.ensures) c.in_ok-index.ensures.names c.in_ok-index.ensures.numbers
+          c.in_ok-index.ensures.in_order c.in_ok-index.ensures.rising;
     }

@@ -11,8 +11,10 @@ pub returns-then-eq : goal.returns-then-eq
 returns-then-eq c =
     let packages = c.self.inside.packages.items in
     let NotFlat : List Package → Type 0 = λ list. ¬ IsFlat list in
-    let same = sym c.name.ensures ∙ (bytes_eq-Decides c.name.result.now c.name-in-loop-number.result.now).0 (sym c.if-eq.ensures) ∙ c.name-in-loop-number.ensures in
-    let not_flat = not_flat-at packages c.loop-number.number c.index.result.now c.index-in-loop-number.result.now (omega arith) (omega arith) c.index.ensures c.index-in-loop-number.ensures same in
+    let same = sym c.name.ensures ∙ (bytes_eq-Decides c.name.result.now c.name-in-loop-number.result.now).0 (sym c.if-eq.ensures)
+    ∙ c.name-in-loop-number.ensures in
+    let not_flat = not_flat-at packages c.loop-number.number c.index.result.now c.index-in-loop-number.result.now (omega arith) (omega arith) c.index.ensures
+    c.index-in-loop-number.ensures same in
     ((λ e. absurd (false≢true e)), λ flat. absurd (subst NotFlat (ap (λ (r : PackageList). r.packages) c.self.view_is) not_flat flat))
 
 pub returns : goal.returns

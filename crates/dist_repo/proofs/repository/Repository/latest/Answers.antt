@@ -11,7 +11,8 @@ use Rattle.dist_repo.proofs.repository.Repository.latest.Goals as goal
 pub from_packages-requires-clause-in_order : goal.from_packages-requires-clause-in_order
 from_packages-requires-clause-in_order c =
     let Ordered : List Package → Type 0 = IsInOrder in
-    subst Ordered (sym (c.in_ok-newest_of.ensures ∙ ap last_of_names c.deref.ensures.value)) (in_order-kept c.self.inside.packages.items c.self.invariant.in_order)
+    subst Ordered (sym (c.in_ok-newest_of.ensures ∙ ap last_of_names c.deref.ensures.value))
+    (in_order-kept c.self.inside.packages.items c.self.invariant.in_order)
 
 pub from_packages-requires-clause-few : goal.from_packages-requires-clause-few
 from_packages-requires-clause-few c =
@@ -30,7 +31,8 @@ returns c =
     ] in
     IfOk-weaker c.from_packages.result _ (IsLatestOf c.args.self.now)
     (λ latest is.
-    let made : latest ≡ record { architecture = inside.architecture; packages = last_of_names inside.packages } = is ∙ (λ i. record { architecture = architecture i; packages = packages i }) in
+    let made : latest ≡ record { architecture = inside.architecture; packages = last_of_names inside.packages } = is
+    ∙ (λ i. record { architecture = architecture i; packages = packages i }) in
     let Of : PackageList → Type 0 = IsLatestOf inside in
     let From : PackageList → Type 0 = λ r. IsLatestOf r latest in
     subst From c.self.view_is (subst Of (sym made) (is-latest inside c.self.invariant.in_order))) c.from_packages.ensures

@@ -7,7 +7,8 @@ use Rattle.dist_repo.proofs.repository.Repository.providers.Goals as goal
 pub returns-in-Some : goal.returns-in-Some
 returns-in-Some c =
     let Provided : PackageList → Type 0 = λ r. AreProviders r c.args.name.now c.get.result.now in
-    subst Provided c.self.view_is (provided-at _ c.self.inside.index.names c.self.inside.index.numbers c.in-Some.place c.args.name.now c.get.result.now c.self.invariant.index c.in-Some.ensures c.get.ensures)
+    subst Provided c.self.view_is (provided-at _ c.self.inside.index.names c.self.inside.index.numbers c.in-Some.place c.args.name.now c.get.result.now
+    c.self.invariant.index c.in-Some.ensures c.get.ensures)
 
 pub returns-in-None : goal.returns-in-None
 returns-in-None c =

@@ -12,7 +12,8 @@ invariant_of-self-2 c =
     let Ends : List ℕ → Type 0 = λ list. EndsWith list c.args.number in
     let Bounded : List ℕ → Type 0 = λ list. (k : ℕ) → Contains list k → k ≤ c.args.number in
     let Rising : List ℕ → Type 0 = IsStrictlyIncreasing in
-    let other : ¬ EndsWith xs c.args.number = λ last. false≢true (sym c.if-ends_with.false ∙ c.ends_with.ensures.1 (subst Ends (sym c.as_slice.ensures) last)) in
+    let other : ¬ EndsWith xs c.args.number = λ last. false≢true (sym c.if-ends_with.false ∙ c.ends_with.ensures.1 (subst Ends (sym c.as_slice.ensures) last))
+    in
     subst Rising (sym c.in_ok-push.ensures.ok) (increasing-push xs c.args.number c.self.invariant (subst Bounded (sym c.self.view_is) c.requires) other)
 
 pub returns-then-ends_with-clause-ok : goal.returns-then-ends_with-clause-ok

@@ -19,12 +19,14 @@ loop-key-preserved c =
     let name = c.in-Some.key.now in
     let list = c.in-Some.list.now in
     let names : c.push.new.self ≡ c.loop-key.names ++ name ∷ [] = c.in_ok-push.ensures.ok ∙ ap (λ (x : List ℕ). c.loop-key.names ++ x ∷ []) c.bytes.ensures in
-    let numbers : c.push-in-loop-key.new.self ≡ c.loop-key.numbers ++ list ∷ [] = c.in_ok-push-2.ensures.ok ∙ ap (λ (x : List ℕ). c.loop-key.numbers ++ x ∷ []) c.as_slice.ensures.value in
+    let numbers : c.push-in-loop-key.new.self ≡ c.loop-key.numbers ++ list ∷ [] = c.in_ok-push-2.ensures.ok
+    ∙ ap (λ (x : List ℕ). c.loop-key.numbers ++ x ∷ []) c.as_slice.ensures.value in
     let Left : List (List ℕ × List ℕ) → Type 0 = λ entries. IsFlattened c.args.self.now entries c.loop-key.names c.loop-key.numbers in
     let Names : List (List ℕ) → Type 0 = λ lists. IsFlattened c.args.self.now c.next.new.self lists (c.loop-key.numbers ++ list ∷ []) in
     let Numbers : List (List ℕ) → Type 0 = λ lists. IsFlattened c.args.self.now c.next.new.self c.push.new.self lists in
     subst Numbers (sym numbers) (subst Names (sym names)
-    (flattened-more c.args.self.now c.next.new.self c.loop-key.names c.loop-key.numbers name list (subst Left c.in-Some.ensures.steps c.loop-key.invariant) c.as_slice.ensures.rising))
+    (flattened-more c.args.self.now c.next.new.self c.loop-key.names c.loop-key.numbers name list (subst Left c.in-Some.ensures.steps c.loop-key.invariant)
+    c.as_slice.ensures.rising))
 
 pub returns-clause-names : goal.returns-clause-names
 returns-clause-names c =

@@ -6,23 +6,30 @@ use Rattle.dist_repo.proofs.tally.Tally.note_package.Goals as goal
 use Rattle.dist_repo.proofs.tally.Tally.note_package.Goals.{then-is_usable+in_ok-note-2, else-is_usable}
 
 pub loop-place-init : goal.loop-place-init
-loop-place-init c = each-name c.args.self.now c.note.new.self c.args.architecture.now c.args.package.now c.bytes.result.now c.args.number c.bytes.ensures.value c.in_ok-note.ensures
+loop-place-init c = each-name c.args.self.now c.note.new.self c.args.architecture.now c.args.package.now c.bytes.result.now c.args.number c.bytes.ensures.value
+    c.in_ok-note.ensures
 
 pub note-requires-then-is_usable : goal.note-requires-then-is_usable
 note-requires-then-is_usable c =
-    bound-after c.args.self.now c.loop-place.self (IsProviderBy c.args.architecture.now c.args.package.now c.loop-place.place) c.args.number c.loop-place.invariant c.requires c.bytes-then-is_usable.result.now
+    bound-after c.args.self.now c.loop-place.self (IsProviderBy c.args.architecture.now c.args.package.now c.loop-place.place) c.args.number
+    c.loop-place.invariant c.requires c.bytes-then-is_usable.result.now
 
 pub loop-place-preserved : goal.loop-place-preserved
 loop-place-preserved c =
-    let Noted : List (List ℕ × List ℕ) → Type 0 = λ tally. NotesEach c.args.self.now tally (IsProviderBy c.args.architecture.now c.args.package.now (c.loop-place.place + 1)) c.args.number in
+    let Noted : List (List ℕ × List ℕ) → Type 0 = λ tally. NotesEach c.args.self.now tally
+    (IsProviderBy c.args.architecture.now c.args.package.now (c.loop-place.place + 1)) c.args.number in
     elim c.if-is_usable.branch [
       | then-is_usable+in_ok-note-2 w ↦ subst Noted (sym w.self-is)
-          (each-usable c.args.self.now c.loop-place.self w.note-then-is_usable.new.self c.args.architecture.now c.args.package.now c.loop-place.place c.get-entry.result.now w.bytes-then-is_usable.result.now
-          c.args.number c.get-entry.ensures w.bytes-then-is_usable.ensures.value (c.is_usable.ensures.0 w.if-is_usable.true) c.loop-place.invariant w.in_ok-note-2.ensures)
+          (each-usable c.args.self.now c.loop-place.self w.note-then-is_usable.new.self c.args.architecture.now c.args.package.now c.loop-place.place
+          c.get-entry.result.now w.bytes-then-is_usable.result.now
+          c.args.number c.get-entry.ensures w.bytes-then-is_usable.ensures.value (c.is_usable.ensures.0 w.if-is_usable.true) c.loop-place.invariant
+          w.in_ok-note-2.ensures)
       | else-is_usable w ↦ subst Noted (sym w.self-is)
-          (each-unusable c.args.self.now c.loop-place.self c.args.architecture.now c.args.package.now c.loop-place.place c.get-entry.result.now c.args.number c.get-entry.ensures
+          (each-unusable c.args.self.now c.loop-place.self c.args.architecture.now c.args.package.now c.loop-place.place c.get-entry.result.now c.args.number
+          c.get-entry.ensures
           (λ usable. false≢true (sym w.if-is_usable.false ∙ c.is_usable.ensures.1 usable)) c.loop-place.invariant)
     ]
 
 pub returns : goal.returns
-returns c = each-all c.args.self.now c.loop-place.self c.args.architecture.now c.args.package.now c.loop-place.place c.args.number (omega arith) c.loop-place.invariant
+returns c = each-all c.args.self.now c.loop-place.self c.args.architecture.now c.args.package.now c.loop-place.place c.args.number (omega arith)
+    c.loop-place.invariant

@@ -21,4 +21,5 @@ loop-variable-preserved c =
     (set_from trues (get_or c.args.cone.now i 0) c.value.result c.value.ensures.value (c.is_none.ensures ∙ ap not c.if-is_none.false))
 
 pub returns : goal.returns
-returns c = subst (λ vs. All (IsSet c.args.self.now.literals) vs) (take_all c.loop-variable.variable-index c.args.cone.now c.loop-variable-test.false) c.loop-variable.invariant
+returns c = subst (λ vs. All (IsSet c.args.self.now.literals) vs) (take_all c.loop-variable.variable-index c.args.cone.now c.loop-variable-test.false)
+    c.loop-variable.invariant

@@ -20,8 +20,10 @@ returns-in_ok-hints-in-Some-clause-ends c =
     let steps = subst (λ ts. AreUnitSteps clauses ts g.steps) same g.are_unit in
     let numbers = ap (λ (t : TrailList). t.reasons) g.grown ∙ ap (λ (t : TrailList). t.reasons ++ map (λ (s : Step). s.number) g.steps) c.restart.ensures in
     let hints = c.in_ok-hints-in-Some.ensures ∙ ap (λ ns. ns ++ number ∷ []) numbers in
-    let ends = c.unit_steps_are_hints.ensures.hints clauses start g.steps number steps conflict.0 (subst (λ ts. AllFalse ts (clause_at clauses number)) grown conflict.1) in
-    let few = c.unit_steps_are_hints.ensures.few c.args.log.now.variables clauses start g.steps c.len-clauses.ensures.within.over_variables c.requires.start steps in (
+    let ends = c.unit_steps_are_hints.ensures.hints clauses start g.steps number steps conflict.0
+    (subst (λ ts. AllFalse ts (clause_at clauses number)) grown conflict.1) in
+    let few = c.unit_steps_are_hints.ensures.few c.args.log.now.variables clauses start g.steps c.len-clauses.ensures.within.over_variables c.requires.start
+    steps in (
       subst (λ h. EndsFalse clauses start h) (sym hints) ends,
       omega (arith, ap length hints, length_push (map (λ (s : Step). s.number) g.steps) number, length-map g.steps (λ (s : Step). s.number), few),
     )
@@ -31,5 +33,7 @@ returns-in-None-clause-ends c =
     let clauses = c.args.log.now.clauses in
     let g = c.in_ok-number.ensures.grows in
     let same = ap (λ (t : TrailList). t.literals) c.restart.ensures in
-    let grown = ap (λ (t : TrailList). t.literals) g.grown ∙ ap (λ ls. ls ++ map (λ (s : Step). s.made_true) g.steps) same in
-    (subst (λ ts. ContainsAll ts c.args.start.now) (sym grown) (has_front c.args.start.now (map (λ (s : Step). s.made_true) g.steps)), subst (λ o. Ends clauses c.propagate.new.self.literals o) c.in-None.is c.in_ok-number.ensures.ends)
+    let grown = ap (λ (t : TrailList). t.literals) g.grown ∙ ap (λ ls. ls ++ map (λ (s : Step). s.made_true) g.steps) same in (
+      subst (λ ts. ContainsAll ts c.args.start.now) (sym grown) (has_front c.args.start.now (map (λ (s : Step). s.made_true) g.steps)),
+      subst (λ o. Ends clauses c.propagate.new.self.literals o) c.in-None.is c.in_ok-number.ensures.ends,
+    )

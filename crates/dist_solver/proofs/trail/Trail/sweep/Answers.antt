@@ -29,13 +29,15 @@ loop-place-preserved c =
     let next = c.visit.new.self in
     let within : place < length clauses = omega (arith, c.len-place-end.ensures.value) in
     let same : place + 1 - 1 ≡ place = omega arith in
-    let item : take (place + 1) clauses ≡ take place clauses ++ clause ∷ [] = take_more clauses place [] within ∙ ap (λ k. take place clauses ++ get_or clauses k [] ∷ []) (sym same) in
+    let item : take (place + 1) clauses ≡ take place clauses ++ clause ∷ [] = take_more clauses place [] within
+    ∙ ap (λ k. take place clauses ++ get_or clauses k [] ∷ []) (sym same) in
     let So_far : List (List Literal) → Bool → Type 0 = λ cs grown. SweepsSoFar clauses cs start next grown in
     elim c.match-branch-2.branch [
       | in-Unit w ↦
           let h = subst (λ o. Visits clauses now next (place + 1) o) w.in-Unit.is c.in_ok-visit.ensures.visits in
           let one = grows_one clauses now next (place + 1) w.in-Unit.field-0 (omega arith, omega arith) h.1 h.0 in
-          let longer : length next.literals ≡ length now.literals + 1 = ap (λ (t : TrailList). length t.literals) h.0 ∙ length_push now.literals w.in-Unit.field-0 in
+          let longer : length next.literals ≡ length now.literals + 1 = ap (λ (t : TrailList). length t.literals) h.0
+          ∙ length_push now.literals w.in-Unit.field-0 in
           let more = sweeps_unit clauses (take place clauses) clause start now next c.loop-place.grown c.loop-place.invariant one longer h.2 in
           subst (λ cs. So_far cs c.match-branch-2.grown) (sym item) (subst (λ g. So_far (take place clauses ++ clause ∷ []) g) (sym w.grown-is) more)
       | in-Open w ↦

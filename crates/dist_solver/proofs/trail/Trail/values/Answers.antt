@@ -15,7 +15,8 @@ loop-variable-preserved c =
     let more = All-get_or (λ w. (1 ≤ w) × (w ≤ c.args.self.now.variables)) cone i 0 c.loop-variable-test.true c.requires.in_range in
     let in_range : v ≤ length values = omega (arith, more.1, c.loop-variable.invariant.variables) in
     let so_far = values_more trues (take i cone) values v c.value.result more.0 in_range c.value.ensures.value c.loop-variable.invariant.values in
-    let written : c.set.new.self ≡ set values (v - 1) (unwrap_or c.value.result false) = c.set.ensures ∙ ap (λ b. set values (v - 1) b) c.unwrap_or-value.ensures in
+    let written : c.set.new.self ≡ set values (v - 1) (unwrap_or c.value.result false) = c.set.ensures
+    ∙ ap (λ b. set values (v - 1) b) c.unwrap_or-value.ensures in
     record {
       values = subst (λ ms. ValuesSoFar trues ms c.set.new.self) (sym (take_more cone i 0 c.loop-variable-test.true))
           (subst (λ vs. ValuesSoFar trues (take i cone ++ v ∷ []) vs) (sym written) so_far);
@@ -26,4 +27,5 @@ pub returns-clause-values : goal.returns-clause-values
 returns-clause-values c =
     let cone = c.args.cone.now in
     values_all c.args.self.now.literals cone c.loop-variable.values
-    (subst (λ ms. ValuesSoFar c.args.self.now.literals ms c.loop-variable.values) (take_all c.loop-variable.variable-index cone c.loop-variable-test.false) c.loop-variable.invariant.values)
+    (subst (λ ms. ValuesSoFar c.args.self.now.literals ms c.loop-variable.values) (take_all c.loop-variable.variable-index cone c.loop-variable-test.false)
+    c.loop-variable.invariant.values)

@@ -11,4 +11,5 @@ returns-clause-within c =
     let s : SpaceView = c.args.self.now in
     let frame = (subst IsSizedFrame c.self.view_is c.self.invariant).frame in
     let is = ap (λ (v : SpaceView). slice_get v.clusters.members c.args.cluster) (sym c.self.view_is) ∙ c.members.ensures in
-    subst (λ (xs : List ℕ). All (λ (m : ℕ). m < length s.repository.packages) xs) (get_or_from_slice_get s.clusters.members c.args.cluster c.members.result.now [] is) (members-within s frame c.args.cluster c.requires)
+    subst (λ (xs : List ℕ). All (λ (m : ℕ). m < length s.repository.packages) xs)
+    (get_or_from_slice_get s.clusters.members c.args.cluster c.members.result.now [] is) (members-within s frame c.args.cluster c.requires)

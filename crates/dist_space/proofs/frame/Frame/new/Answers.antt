@@ -10,7 +10,8 @@ cluster_numbers-requires-clause-within c = λ k m is_in. omega (arith, member-wi
 
 pub invariant_of-result : goal.invariant_of-result
 invariant_of-result c = record {
-  frame = framed c.args.repo c.args.essential c.in_ok-clusters.clusters c.in_ok-cluster_of.cluster_of.items c.in_ok-classes.classes.items c.in_ok-names.names c.in_ok-classes.name_classes.items
+  frame = framed c.args.repo c.args.essential c.in_ok-clusters.clusters c.in_ok-cluster_of.cluster_of.items c.in_ok-classes.classes.items c.in_ok-names.names
+      c.in_ok-classes.name_classes.items
       c.requires.flat c.in_ok-clusters.ensures c.in_ok-cluster_of.ensures c.in_ok-classes.ensures.clusters c.in_ok-names.ensures c.in_ok-classes.ensures.names;
   size = c.requires.within_size;
   few_names = omega arith;
@@ -18,7 +19,8 @@ invariant_of-result c = record {
 
 pub returns : goal.returns
 returns c = record {
-  frame = framed c.args.repo c.args.essential c.in_ok-clusters.clusters c.in_ok-cluster_of.cluster_of.items c.in_ok-classes.classes.items c.in_ok-names.names c.in_ok-classes.name_classes.items
+  frame = framed c.args.repo c.args.essential c.in_ok-clusters.clusters c.in_ok-cluster_of.cluster_of.items c.in_ok-classes.classes.items c.in_ok-names.names
+      c.in_ok-classes.name_classes.items
       c.requires.flat c.in_ok-clusters.ensures c.in_ok-cluster_of.ensures c.in_ok-classes.ensures.clusters c.in_ok-names.ensures c.in_ok-classes.ensures.names;
   repository = refl;
   essential_is = refl;

@@ -12,11 +12,13 @@ is-at c =
     let s : SpaceView = c.args.self.now in
     let m : Meaning = c.index.result.now in
     let short : c.args.variable - 1 < length s.meanings = omega (arith, c.requires.from_one, c.requires.in_range) in
-    let at : get_or s.meanings (c.args.variable - 1) m ≡ m = ap (λ (v : SpaceView). get_or v.meanings (c.args.variable - 1) m) (sym c.self.view_is) ∙ sym c.index.ensures in
+    let at : get_or s.meanings (c.args.variable - 1) m ≡ m = ap (λ (v : SpaceView). get_or v.meanings (c.args.variable - 1) m) (sym c.self.view_is)
+    ∙ sym c.index.ensures in
     slice_get-get_or s.meanings (c.args.variable - 1) m short ∙ ap (λ (x : Meaning). Some x) at
 
 pub returns-clause-back : goal.returns-clause-back
-returns-clause-back c = variable-back c.args.self.now c.index.result.now c.args.variable (subst IsWhole c.self.view_is c.self.invariant).space c.requires.from_one (is-at c)
+returns-clause-back c = variable-back c.args.self.now c.index.result.now c.args.variable (subst IsWhole c.self.view_is c.self.invariant).space
+    c.requires.from_one (is-at c)
 
 pub returns-clause-of : goal.returns-clause-of
 returns-clause-of c =

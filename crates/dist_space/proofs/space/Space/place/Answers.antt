@@ -20,4 +20,5 @@ returns c =
     let point = IsPartitionPoint-from_clause (before_it s m) c.as_slice-meanings.result.now c.partition_point.result c.partition_point.ensures.partitioned
     (subst (IsPartitionedBy (before_it s m)) same parted) (λ a r q k. search rules) in
     subst (λ (xs : List Meaning). slice_get xs c.partition_point.result ≡ Some m) (sym same)
-    (point-is s m c.as_slice-meanings.result.now c.partition_point.result (subst (AllPairs (StandsBefore s)) same space.meanings.rising) (subst (λ (xs : List Meaning). Contains xs m) same there) point)
+    (point-is s m c.as_slice-meanings.result.now c.partition_point.result (subst (AllPairs (StandsBefore s)) same space.meanings.rising)
+    (subst (λ (xs : List Meaning). Contains xs m) same there) point)

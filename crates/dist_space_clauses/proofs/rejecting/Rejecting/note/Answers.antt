@@ -16,7 +16,8 @@ returns-in-Some c =
     let Seen : Entries → Type 0 = λ list. OnOk c.push.result (Notes list n (λ q x. (name ≡ q) × (v ≡ x))) in
     let updates = (c.get_mut.follows.holds c.push.new.self).3 (search rules) in
     subst Seen c.self.view_is
-    (on_ok_weaker c.push.result (λ adds. noted-updated t n name v c.push.new.self (λ q. updates.0 q) (adds ∙ ap (λ (list : List ℕ). list ++ v ∷ []) (sym here))) c.push.ensures)
+    (on_ok_weaker c.push.result (λ adds. noted-updated t n name v c.push.new.self (λ q. updates.0 q) (adds ∙ ap (λ (list : List ℕ). list ++ v ∷ []) (sym here)))
+    c.push.ensures)
 
 pub returns : goal.returns
 returns c =
@@ -29,4 +30,5 @@ returns c =
     let n = c.insert.new.self.entries in
     let Seen : Entries → Type 0 = λ list. Notes list n (λ q x. (name ≡ q) × (v ≡ x)) in
     subst Seen was
-    (noted-updated t n name v c.in_ok-numbers.numbers (λ q. c.in_ok-insert.ensures.updates.0 q) (c.in_ok-numbers.ensures ∙ ap (λ (list : List ℕ). list ++ v ∷ []) (sym none_here)))
+    (noted-updated t n name v c.in_ok-numbers.numbers (λ q. c.in_ok-insert.ensures.updates.0 q)
+    (c.in_ok-numbers.ensures ∙ ap (λ (list : List ℕ). list ++ v ∷ []) (sym none_here)))

@@ -18,10 +18,13 @@ loop-place-init c =
     let clauses : List (List Literal) = inputs_of c.args.log.now in
     let value : ℕ → Bool = is_among c.args.variables.now in
     let rising = subst (IsNonDecreasingBy (λ (x : ℕ × ℕ). x.0)) (sym c.deref.ensures.value) c.self.invariant in
-    let part = subst (λ (xs : List (ℕ × ℕ)). IsPartitionPoint (λ y. nat_lt y.0 c.args.variable ≡ true) (λ y. nat_lt y.0 c.args.variable ≡ false) xs c.partition_point-start.result) c.deref.ensures.value
-    (IsPartitionPoint-from_clause (λ (x : ℕ × ℕ). nat_lt x.0 c.args.variable) c.deref.result.now c.partition_point-start.result c.partition_point-start.ensures.partitioned
+    let part = subst (λ (xs : List (ℕ × ℕ)). IsPartitionPoint (λ y. nat_lt y.0 c.args.variable ≡ true) (λ y. nat_lt y.0 c.args.variable ≡ false) xs
+    c.partition_point-start.result) c.deref.ensures.value
+    (IsPartitionPoint-from_clause (λ (x : ℕ × ℕ). nat_lt x.0 c.args.variable) c.deref.result.now c.partition_point-start.result
+    c.partition_point-start.ensures.partitioned
     (IsPartitionedBy-ltb (λ (x : ℕ × ℕ). x.0) c.deref.result.now c.args.variable rising) (λ a r f' k. search rules)) in
-    none-before value clauses pairs c.args.variable c.partition_point-start.result (λ k d before. ltb-true (get_or pairs k d).0 c.args.variable (part.0 k d (omega arith) before))
+    none-before value clauses pairs c.args.variable c.partition_point-start.result
+    (λ k d before. ltb-true (get_or pairs k d).0 c.args.variable (part.0 k d (omega arith) before))
 
 pub returns-then-denied-variable : goal.returns-then-denied-variable
 returns-then-denied-variable c =
@@ -29,8 +32,10 @@ returns-then-denied-variable c =
     let clauses : List (List Literal) = inputs_of c.args.log.now in
     let value : ℕ → Bool = is_among c.args.variables.now in
     let rising = subst (IsNonDecreasingBy (λ (x : ℕ × ℕ). x.0)) (sym c.deref.ensures.value) c.self.invariant in
-    let part = subst (λ (xs : List (ℕ × ℕ)). IsPartitionPoint (λ y. nat_lt y.0 c.args.variable ≡ true) (λ y. nat_lt y.0 c.args.variable ≡ false) xs c.partition_point-start.result) c.deref.ensures.value
-    (IsPartitionPoint-from_clause (λ (x : ℕ × ℕ). nat_lt x.0 c.args.variable) c.deref.result.now c.partition_point-start.result c.partition_point-start.ensures.partitioned
+    let part = subst (λ (xs : List (ℕ × ℕ)). IsPartitionPoint (λ y. nat_lt y.0 c.args.variable ≡ true) (λ y. nat_lt y.0 c.args.variable ≡ false) xs
+    c.partition_point-start.result) c.deref.ensures.value
+    (IsPartitionPoint-from_clause (λ (x : ℕ × ℕ). nat_lt x.0 c.args.variable) c.deref.result.now c.partition_point-start.result
+    c.partition_point-start.ensures.partitioned
     (IsPartitionedBy-ltb (λ (x : ℕ × ℕ). x.0) c.deref.result.now c.args.variable rising) (λ a r f' k. search rules)) in
     let place = c.loop-place.place in
     let x : ℕ × ℕ = c.index.result.now in
@@ -39,7 +44,8 @@ returns-then-denied-variable c =
     let low : c.args.variable ≤ (get_or pairs place x).0 = ltb-false (get_or pairs place x).0 c.args.variable (part.1 place x (omega arith) within) in
     let same : (get_or pairs place x).0 ≡ x.0 = ap (λ (y : ℕ × ℕ). y.0) here in
     let past : c.args.variable < x.0 = omega (arith, low, same, c.if-denied-variable.true) in (
-      (λ yes. subst (λ (ps : List (ℕ × ℕ)). AreTrue value clauses ps c.args.variable) c.self.view_is (true-at-end value clauses pairs c.args.variable place x c.self.invariant within here past c.loop-place.invariant)),
+      (λ yes. subst (λ (ps : List (ℕ × ℕ)). AreTrue value clauses ps c.args.variable) c.self.view_is
+          (true-at-end value clauses pairs c.args.variable place x c.self.invariant within here past c.loop-place.invariant)),
       λ all. refl,
     )
 
@@ -83,9 +89,11 @@ returns-then-not-makes_true c =
     let denials = subst (AreDenialsOf clauses) (sym c.self.view_is) c.requires.denials in
     let is = (denials x.0 x.1).0 (place, within, here) in
     let front : clause_at clauses x.1 ≡ c.clause.result.now = front-clause c.args.log.now.clauses c.args.log.now.inputs x.1 is.0.0
-    (let size = length-take-le c.args.log.now.inputs c.args.log.now.clauses (omega (arith, c.inputs-within.ensures.value, c.inputs-within.ensures.within)) in let high = is.0.1 in omega (arith, high, size))
+    (let size = length-take-le c.args.log.now.inputs c.args.log.now.clauses (omega (arith, c.inputs-within.ensures.value, c.inputs-within.ensures.within)) in
+    let high = is.0.1 in omega (arith, high, size))
     ∙ sym c.clause.ensures.value in
-    let there = subst (λ (ps : List (ℕ × ℕ)). Contains ps (c.args.variable, x.1)) c.self.view_is (subst (λ (v : ℕ). Contains pairs (v, x.1)) c.if-denied-variable.false (place, within, here)) in (
+    let there = subst (λ (ps : List (ℕ × ℕ)). Contains ps (c.args.variable, x.1)) c.self.view_is
+    (subst (λ (v : ℕ). Contains pairs (v, x.1)) c.if-denied-variable.false (place, within, here)) in (
       (λ no. absurd (false≢true no)),
       λ all. absurd (false≢true (sym c.if-not-makes_true.true ∙ c.makes_true.ensures.1 (subst (MakesTrue value) front (all x.1 there)))),
     )
@@ -102,6 +110,8 @@ loop-place-preserved c =
     let denials = subst (AreDenialsOf clauses) (sym c.self.view_is) c.requires.denials in
     let is = (denials x.0 x.1).0 (place, within, here) in
     let front : clause_at clauses x.1 ≡ c.clause.result.now = front-clause c.args.log.now.clauses c.args.log.now.inputs x.1 is.0.0
-    (let size = length-take-le c.args.log.now.inputs c.args.log.now.clauses (omega (arith, c.inputs-within.ensures.value, c.inputs-within.ensures.within)) in let high = is.0.1 in omega (arith, high, size))
+    (let size = length-take-le c.args.log.now.inputs c.args.log.now.clauses (omega (arith, c.inputs-within.ensures.value, c.inputs-within.ensures.within)) in
+    let high = is.0.1 in omega (arith, high, size))
     ∙ sym c.clause.ensures.value in
-    true-more value clauses pairs c.args.variable place x within here (subst (MakesTrue value) (sym front) (c.makes_true.ensures.0 c.if-not-makes_true.false)) c.loop-place.invariant
+    true-more value clauses pairs c.args.variable place x within here (subst (MakesTrue value) (sym front) (c.makes_true.ensures.0 c.if-not-makes_true.false))
+    c.loop-place.invariant

@@ -19,7 +19,8 @@ pub returns-then-not-are_true-2 : goal.returns-then-not-are_true-2
 returns-then-not-are_true-2 c = (
   (λ no. absurd (false≢true no)),
   λ model. absurd (false≢true (sym c.if-not-are_true-2.true
-      ∙ c.are_true-in-loop-variable.ensures.1 (from-model (is_among c.args.variables.now) (inputs_of c.args.log.now) c.args.self.now _ c.requires.denials model))),
+      ∙ c.are_true-in-loop-variable.ensures.1 (from-model (is_among c.args.variables.now) (inputs_of c.args.log.now) c.args.self.now _ c.requires.denials
+      model))),
 )
 
 pub loop-variable-preserved : goal.loop-variable-preserved

@@ -7,7 +7,8 @@ use Rattle.dist_state.proofs.state.State.derive.Goals as goal
 
 pub invariant_of-self : goal.invariant_of-self
 invariant_of-self c =
-    let is = grown c.self.inside.log c.append.new.log (clause_of c.args.literals.now) c.append.result (omega (arith, c.inputs-within.ensures.value, c.inputs-within.ensures.within)) c.append.ensures.ok c.append.ensures.stays in (
+    let is = grown c.self.inside.log c.append.new.log (clause_of c.args.literals.now) c.append.result
+    (omega (arith, c.inputs-within.ensures.value, c.inputs-within.ensures.within)) c.append.ensures.ok c.append.ensures.stays in (
       is.variables ∙ c.self.invariant.0,
       subst (λ (cs : List (List Literal)). AreDenialsOf cs c.self.inside.denials) (sym is.inputs) c.self.invariant.1,
       c.self.invariant.2,

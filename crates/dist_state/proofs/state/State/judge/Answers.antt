@@ -30,13 +30,15 @@ returns-in-Unknown-clause-told c =
     let found = c.judge_claim-in-Unknown.result in
     let next : Bool = is_next c.args.self.now.next c.args.self.now.packages c.in-Unknown.package in
     subst (λ (step : CertRecord). Tells c.args.self.now step found) (sym c.in-Unknown.is)
-    (subst (λ (b : Bool). TellsClaim next b found) (c.is_undecided.ensures ∙ ap (λ (s : StateView). s.group.undecided.alone) c.self.view_is) c.judge_claim-in-Unknown.ensures)
+    (subst (λ (b : Bool). TellsClaim next b found) (c.is_undecided.ensures ∙ ap (λ (s : StateView). s.group.undecided.alone) c.self.view_is)
+    c.judge_claim-in-Unknown.ensures)
 
 pub returns-in-Strong-clause-told : goal.returns-in-Strong-clause-told
 returns-in-Strong-clause-told c =
     let found = c.judge_strong.result in
     let p = c.in-Strong.package in
-    let Told : StateView → Bool → List ℕ → List ℕ → List ℕ → Type 0 = λ s next named on undecided. IfOk found (TellsStrong next s.window s.group s.packages p named on undecided) in
+    let Told : StateView → Bool → List ℕ → List ℕ → List ℕ → Type 0 =
+    λ s next named on undecided. IfOk found (TellsStrong next s.window s.group s.packages p named on undecided) in
     let inside : StateView = record {
       limit = c.self.inside.limit;
       packages = c.self.inside.packages;
@@ -47,8 +49,10 @@ returns-in-Strong-clause-told c =
       group = c.self.inside.group;
       claims = c.self.inside.claims;
     } in
-    let here : Told inside c.is_next.result c.as_slice-in-Strong.result.now c.as_slice-in-Strong-2.result.now c.as_slice-in-Strong-3.result.now = c.judge_strong.ensures in
-    let named = subst (λ xs. Told inside c.is_next.result xs c.as_slice-in-Strong-2.result.now c.as_slice-in-Strong-3.result.now) c.as_slice-in-Strong.ensures here in
+    let here : Told inside c.is_next.result c.as_slice-in-Strong.result.now c.as_slice-in-Strong-2.result.now c.as_slice-in-Strong-3.result.now =
+    c.judge_strong.ensures in
+    let named = subst (λ xs. Told inside c.is_next.result xs c.as_slice-in-Strong-2.result.now c.as_slice-in-Strong-3.result.now) c.as_slice-in-Strong.ensures
+    here in
     let on = subst (λ xs. Told inside c.is_next.result c.in-Strong.named xs c.as_slice-in-Strong-3.result.now) c.as_slice-in-Strong-2.ensures named in
     let undecided = subst (λ xs. Told inside c.is_next.result c.in-Strong.named c.in-Strong.on xs) c.as_slice-in-Strong-3.ensures on in
     let next : Told inside (is_next inside.next inside.packages p) c.in-Strong.named c.in-Strong.on c.in-Strong.undecided

@@ -11,7 +11,8 @@ use Rattle.dist_strong.proofs.group.Group.left.Goals.{then-is_left+in_ok-push, e
 upto-more : (left : List ℕ) (n : ℕ) → All (λ q. q ≤ n) left → All (λ q. q ≤ n + 1) left
 upto-more left n upto k d within = let least = upto k d within in omega (arith, least)
 
-left-more : (w : WindowView) (group : GroupView) (n : ℕ) (left : List ℕ) → AreLeftUpto w group n left → IsLeft w group (n + 1) → AreLeftUpto w group (n + 1) (left ++ (n + 1) ∷ [])
+left-more : (w : WindowView) (group : GroupView) (n : ℕ) (left : List ℕ) → AreLeftUpto w group n left → IsLeft w group (n + 1)
+    → AreLeftUpto w group (n + 1) (left ++ (n + 1) ∷ [])
 left-more w group n left are one = record {
   rising = rising-push left n (n + 1) are.rising are.upto (omega arith);
   upto = All-push (λ q. q ≤ n + 1) left (n + 1) (upto-more left n are.upto) (omega arith);
@@ -22,7 +23,8 @@ left-more w group n left are one = record {
   ];
 }
 
-left-passed : (w : WindowView) (group : GroupView) (n : ℕ) (left : List ℕ) → AreLeftUpto w group n left → ¬ IsLeft w group (n + 1) → AreLeftUpto w group (n + 1) left
+left-passed : (w : WindowView) (group : GroupView) (n : ℕ) (left : List ℕ) → AreLeftUpto w group n left → ¬ IsLeft w group (n + 1)
+    → AreLeftUpto w group (n + 1) left
 left-passed w group n left are none = record {
   rising = are.rising;
   upto = upto-more left n are.upto;
@@ -40,7 +42,9 @@ loop-place-preserved c =
     let place = c.loop-place.place in
     elim c.if-is_left.branch [
       | then-is_left+in_ok-push x ↦
-          rw (x.left-is, x.in_ok-push.ensures.items) (left-more w group place c.loop-place.left.items c.loop-place.invariant (c.is_left.ensures.0 x.if-is_left.true))
+          rw (x.left-is, x.in_ok-push.ensures.items) (left-more w group place c.loop-place.left.items c.loop-place.invariant
+          (c.is_left.ensures.0 x.if-is_left.true))
       | else-is_left x ↦
-          rw x.left-is (left-passed w group place c.loop-place.left.items c.loop-place.invariant (λ is. true≢false (sym (c.is_left.ensures.1 is) ∙ x.if-is_left.false)))
+          rw x.left-is (left-passed w group place c.loop-place.left.items c.loop-place.invariant
+          (λ is. true≢false (sym (c.is_left.ensures.1 is) ∙ x.if-is_left.false)))
     ]

@@ -7,7 +7,8 @@ use Rattle.dist_strong.proofs.window.Window.numbers_with.Goals as goal
 use Rattle.dist_strong.proofs.window.Window.numbers_with.Goals.{then-has_at+in_ok-push, else-has_at}
 
 -- the installation at a place, by its number
-at-place : (w : WindowView) (place number p : ℕ) (b : Bool) → (w.count - length w.kept + 1) + place ≡ number → value_of (slice_index_or w.kept place []) p ≡ b → value_of (kept_at w number) p ≡ b
+at-place : (w : WindowView) (place number p : ℕ) (b : Bool) → (w.count - length w.kept + 1) + place ≡ number → value_of (slice_index_or w.kept place []) p ≡ b
+    → value_of (kept_at w number) p ≡ b
 at-place w place number p b is has =
     let same : number - (w.count - length w.kept + 1) ≡ place = omega (arith, is) in
     ap (λ (k : ℕ). value_of (slice_index_or w.kept k []) p) same ∙ has
@@ -24,7 +25,8 @@ loop-place-preserved c =
       | then-has_at+in_ok-push x ↦
           let e = filter-from (λ n. value_of (kept_at w n) c.args.«package») first place (first + place) true refl
           (at-place w place (first + place) c.args.«package» true refl (sym c.has_at.ensures ∙ x.if-has_at.true)) in
-          rw x.numbers-is (x.in_ok-push.ensures.items ∙ ap (λ (ns : List ℕ). ns ++ ((c.self.inside.count - c.len.result + place) + 1) ∷ []) c.loop-place.invariant
+          rw x.numbers-is (x.in_ok-push.ensures.items ∙ ap (λ (ns : List ℕ). ns ++ ((c.self.inside.count - c.len.result + place) + 1) ∷ [])
+          c.loop-place.invariant
           ∙ ap (λ (n : ℕ). filter (λ m. value_of (kept_at w m) c.args.«package») (range_with_len first place) ++ n ∷ []) number ∙ sym e)
       | else-has_at x ↦
           let e = filter-from (λ n. value_of (kept_at w n) c.args.«package») first place (first + place) false refl
