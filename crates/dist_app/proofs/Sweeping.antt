@@ -27,7 +27,7 @@ use Rattle.dist_app.specs.Due.{LeavesCut, Stops, SweepStops}
 use Rattle.dist_app.specs.PackagesStage.{PackagesStage}
 use Rattle.dist_app.specs.Refusal.{refusal_of}
 use Rattle.dist_app.specs.Stages.{Ending, Goes, Ends, answered, refused}
-use Rattle.dist_app.specs.Strong.{ClausesStage, IsSweepGivenUp, IsStopped, IsSwept}
+use Rattle.dist_app.specs.Strong.{ClausesStage, IsSweepGivenUp, IsSweepStopped, IsSwept}
 use Rattle.dist_app.specs.declared.refusal.Refusal.{Refusal}
 use Rattle.dist_app.specs.declared.refusal.Refusal.TheVariants as refusal
 use Rattle.dist_app.specs.declared.status.Status.{Status}
@@ -92,7 +92,7 @@ module _ (r : PackageList) (essential : Bool) (limit : ℕ) (limits : Limits) (n
 
   stopped : (limit_of : What) → Exact (Err (work.TooLarge limit_of)) → (work.TooLarge limit_of ≢ work.TooLarge what.Clauses)
       → (work.TooLarge limit_of ≢ work.TooLarge what.Literals)
-      → IsStopped old.files limits name essential limit r (refused new.files (refusal.TooLarge limit_of))
+      → IsSweepStopped old.files limits name essential limit r (refused new.files (refusal.TooLarge limit_of))
       → SweepStops r essential limit limits name old new (refusal.TooLarge limit_of)
   stopped limit_of exact no_clauses no_literals stop =
       inr (inl (kept (Err (work.TooLarge limit_of)) exact (λ e. cc) (λ e. no_clauses (error_is e)) (λ e. no_literals (error_is e)), stop))
@@ -205,7 +205,7 @@ module _ (packages name : List ℕ) (essential : Bool) (limit : ℕ) (limits : L
         inr (
           tt,
           kept,
-          inr (subst (λ (f : Option Files). IsStopped f limits name essential limit r (refused new.files why)) reads.files_stay
+          inr (subst (λ (f : Option Files). IsSweepStopped f limits name essential limit r (refused new.files why)) reads.files_stay
               stop),
         ),
       ))

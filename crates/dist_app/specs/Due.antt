@@ -9,7 +9,7 @@ use Rattle.dist_strong.specs.Sweep.{IsCutSweep}
 use Rattle.dist_words.specs.CommandLine.{CommandLine}
 use Rattle.dist_app.specs.Command.{CommandDecides, CommandIsGivenUp, IsApart}
 use Rattle.dist_app.specs.Stages.{Ending, Ends, Goes, answered, refused}
-use Rattle.dist_app.specs.Strong.{ClausesStage, IsStopped, IsSwept}
+use Rattle.dist_app.specs.Strong.{ClausesStage, IsSweepStopped, IsSwept}
 use Rattle.dist_app.specs.declared.refusal.Refusal.{Refusal}
 use Rattle.dist_app.specs.declared.refusal.Refusal.TheVariants.{ReadFault, WriteFault, NoMemory}
 use Rattle.dist_app.specs.declared.status.Status.{Status}
@@ -33,13 +33,12 @@ LeavesCut r essential limit limits name files left =
     (left ≡ files) ⊎ ((text : List ℕ) × IsCutSweep r essential limit limits text × (left ≡ with_file files name text))
 
 -- A sweep was given up: its clauses pass a number, a later line does, a fault of writing was counted, or memory was
--- wanted,
--- perhaps for the report alone.
+-- wanted, perhaps for the report alone.
 abbrev pub SweepStops : PackageList → Bool → ℕ → Limits → (name : List ℕ) → DeskView → DeskView → Refusal → Type 0
 SweepStops r essential limit limits name old new refusal =
     (ClausesStage old.files limits essential r (Ends (refused new.files refusal)))
     ⊎ (ClausesStage old.files limits essential r (Goes tt)
-    × IsStopped old.files limits name essential limit r (refused new.files refusal))
+    × IsSweepStopped old.files limits name essential limit r (refused new.files refusal))
     ⊎ ((refusal ≡ WriteFault) × Rose old.write_faults new.write_faults
     × ClausesStage old.files limits essential r (Goes tt)
     × LeavesCut r essential limit limits name old.files new.files)

@@ -35,8 +35,7 @@ IsCarriedOut DoneWithUndecided = Unit {0}
 IsCarriedOut status = ⊥
 
 -- PACKAGES has a repository, and CERT holds a whole certificate over it, of kind strong, with the command's mode and
--- limit.
--- What it claims is true, and its report was printed. All other files are as before.
+-- limit. What it claims is true, and its report was printed. All other files are as before.
 pub record ProvesStrong (limits : Limits) (packages cert : List ℕ) (essential : Bool) (limit : ℕ) (result : Status)
     (desk desk' : DeskView) (out out' : SinkView) : Type 0 where
   pub repository : PackageList
@@ -50,10 +49,8 @@ pub record ProvesStrong (limits : Limits) (packages cert : List ℕ) (essential 
   pub status : result ≡ claims_status made
 
 -- PACKAGES has a repository, and the file CERT was accepted over it, whoever wrote it, with a first line and claims.
--- The line
--- is of kind strong and has the repository's numbers, what is claimed is true at its mode, and the report was printed.
--- All
--- files are as before.
+-- The line is of kind strong and has the repository's numbers, what is claimed is true at its mode, and the report was
+-- printed. All files are as before.
 pub record ProvesCheck (limits : Limits) (packages cert : List ℕ) (result : Status) (desk desk' : DeskView)
     (out out' : SinkView) : Type 0 where
   pub repository : PackageList
@@ -79,8 +76,7 @@ CheckIsProved words limits result desk desk' out out' = (packages cert : List �
     → ProvesCheck limits packages cert result desk desk' out out'
 
 -- A question that an accepted text leaves undecided is hard: its limit is at most 3 to the power of the number of
--- variables
--- that it reaches.
+-- variables that it reaches.
 abbrev pub UndecidedAreHard : Limits → Type 0
 UndecidedAreHard limits = (r : PackageList) (inputs : Bool → List (List Literal)) (text : List ℕ) (h : Header)
     (steps : List CertRecord) (question : List Word) (cone : List ℕ)

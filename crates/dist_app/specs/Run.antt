@@ -56,8 +56,7 @@ IsUnread words files ending = (line : CommandLine) × (command_of words ≡ Some
     × (ending ≡ refused files ReadFault)
 
 -- The ends that may come at any time: a fault of reading, and want of memory, with nothing printed and all files as
--- before;
--- and a fault of writing, and want of memory, in the midst of a file or with a front of a decided text printed.
+-- before; and a fault of writing, and want of memory, in the midst of a file or with a front of a decided text printed.
 abbrev pub IsInterrupted : List (List ℕ) → Option Files → Limits → Ending → Type 0
 IsInterrupted words files limits ending =
     IsUnread words files ending
@@ -85,8 +84,7 @@ abbrev pub TellsFiles : DeskView → Type 0
 TellsFiles desk = (files : Files) × (desk.files ≡ Some files)
 
 -- The desk writes no longer, and no count of it fell. It was only read, but by a command that writes a file; bad words,
--- and a
--- command that is apart from it, leave it as it is.
+-- and a command that is apart from it, leave it as it is.
 pub record Leaves (words : List (List ℕ)) (old new : DeskView) : Type 0 where
   pub not_writing : IsNotWriting new.mode
   pub read_faults_stand : old.read_faults ≤ new.read_faults
@@ -114,15 +112,12 @@ pub record Runs (words : List (List ℕ)) (limits : Limits) (result : Status) (d
   pub words_refused : (result ≡ status.BadWords) → IsBadWords words
   pub words_told : IsBadWords words → (result ≡ status.BadWords) ⊎ (result ≡ status.NoMemory)
   -- Faults are told only where they were counted: of the desk where the command was given up while it wrote, and of
-  -- `out` where
-  -- the text of an answer is cut short.
+  -- `out` where the text of an answer is cut short.
   pub read_fault : result ≡ status.ReadFault → Rose desk.read_faults desk'.read_faults
   pub write_fault : result ≡ status.WriteFault → IsWriteFault words desk.files limits ending desk desk' out out'
   -- Where the desk tells its files and no fault of reading is counted, a refusal that the inputs decide before anything
-  -- is
-  -- written is the end, but for want of memory. Where no fault is counted, the end is one that the inputs decide, but
-  -- for want
-  -- of memory.
+  -- is written is the end, but for want of memory. Where no fault is counted, the end is one that the inputs decide,
+  -- but for want of memory.
   pub refusal_comes : TellsFiles desk → ¬ Rose desk.read_faults desk'.read_faults → (end : Ending)
       → Refuses words desk.files limits end
       → (ending ≡ end) ⊎ (result ≡ status.NoMemory)

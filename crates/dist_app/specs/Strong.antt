@@ -27,8 +27,8 @@ ClausesStage files limits essential r (Ends ending) =
     × (ending ≡ refused files (TooLarge Literals)))
 
 -- The sweep came to its end: CERT holds its certificate, and its claims are reported. The last argument of `header_of`
--- is the
--- input clauses, which the first line counts. A report tells only the limit of that line, so here they are left empty.
+-- is the input clauses, which the first line counts. A report tells only the limit of that line, so here they are left
+-- empty.
 pub record IsSwept (files : Option Files) (limits : Limits) (cert : List ℕ) (essential : Bool) (limit : ℕ)
     (r : PackageList) (ending : Ending) : Type 0 where
   pub made : List Claim
@@ -38,7 +38,7 @@ pub record IsSwept (files : Option Files) (limits : Limits) (cert : List ℕ) (e
       (strong_lines r.packages (header_of r essential limit []) made)
 
 -- The sweep stopped, since one line more would pass a number: CERT holds the lines until then.
-pub record IsStopped (files : Option Files) (limits : Limits) (cert : List ℕ) (essential : Bool) (limit : ℕ)
+pub record IsSweepStopped (files : Option Files) (limits : Limits) (cert : List ℕ) (essential : Bool) (limit : ℕ)
     (r : PackageList) (ending : Ending) : Type 0 where
   pub what : What
   pub text : List ℕ
@@ -47,7 +47,7 @@ pub record IsStopped (files : Option Files) (limits : Limits) (cert : List ℕ) 
 
 abbrev pub Sweeps : Option Files → Limits → (cert : List ℕ) → Bool → ℕ → PackageList → Ending → Type 0
 Sweeps files limits cert essential limit r ending = IsSwept files limits cert essential limit r ending
-    ⊎ IsStopped files limits cert essential limit r ending
+    ⊎ IsSweepStopped files limits cert essential limit r ending
 
 -- PACKAGES is read and taken apart, then the input clauses are made. The first stage that is refused decides.
 abbrev pub StrongStages : Option Files → Limits → (packages : List ℕ) → Bool → (PackageList → Ending → Type 0) → Ending
@@ -58,8 +58,7 @@ StrongStages files limits packages essential Last =
     Last r))
 
 -- The sweep was given up, for a fault of writing or want of memory. CERT is as before, or holds the lines until then,
--- perhaps
--- with a front of one line more behind them.
+-- perhaps with a front of one line more behind them.
 pub record IsSweepGivenUp (files : Option Files) (limits : Limits) (packages cert : List ℕ) (essential : Bool)
     (limit : ℕ) (refusal : Refusal) (ending : Ending) : Type 0 where
   pub repository : PackageList

@@ -26,8 +26,7 @@ ArchiveStage files limits size seed (Ends ending) =
     × (ending ≡ refused files (TooLarge Stanzas)))
 
 -- A certificate of the archive, plain and with the limit of a question where none is given, is accepted, and the
--- summary of
--- its claims is told.
+-- summary of its claims is told.
 pub record IsTried (files : Option Files) (limits : Limits) (size : ℕ) (r : PackageList) (ending : Ending) : Type 0
   where
     pub made : List Claim

@@ -1,6 +1,5 @@
 -- Laws of rows whose keys rise: rows of the same keys are the same rows, and rows of the keys before one are a front of
--- the rows
--- of all. No public clause cites them; proofs of the crates above do.
+-- the rows of all. No public clause cites them; proofs of the crates above do.
 use Rattle.std.proofs.Common.{◌≡◌, ℕ, ◌<◌, List, [], ◌∷◌, ◌++◌, map, map-id, refl, sym, ap, ap₂, subst, ◌∙◌, arith, inl}
 use Rattle.std.proofs.Common.{inr}
 use Rattle.std.specs.Prelude.{All, AllPairs, Any, Contains}

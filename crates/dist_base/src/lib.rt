@@ -47,6 +47,3 @@ pub const MAX_LIMIT: u32 = 1_000_000;
 
 /// Packages of a made archive.
 pub const MAX_SIZE: u32 = 2_000;
-
-#[cfg(test)]
-mod tests;

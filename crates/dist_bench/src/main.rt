@@ -1,4 +1,5 @@
-// Does one job of a library over standard input, for the measurements of bench/. The first word says which.
+// Does jobs of a library, for the measurements of bench/: one over standard input, where its word stands alone; or one after
+// another, where behind each word its file stands.
 #![tactic(auto)]
 
 mod counted;
@@ -13,19 +14,27 @@ mod versions;
 
 use anyhow::{Result, bail};
 use job::{Job, answer};
-use std::env;
 use std::io::{self, Write};
+use std::{env, fs};
 
-fn main(rt: HostRuntime) -> Result<()> {
-    let word = env::args(&rt)?.nth(1);
-    let Some(job) = Job::of(word.as_ref().map_or("", |word| word.as_str())) else {
-        bail!("the first word is no job");
+/// Prints what the job of a word answers on a text.
+fn print_answer(rt: &HostRuntime, word: &str, text: &str) -> Result<()> {
+    let Some(job) = Job::of(word) else {
+        bail!("{word} is no job");
     };
-    let text = io::read_to_string(rt.alloc(), rt.reader())?;
-    let answer = answer(rt.alloc(), job, text.as_str())?;
-    io::writer(&rt).write_all(&answer)?;
+    let answer = answer(rt.alloc(), job, text)?;
+    io::writer(rt).write_all(&answer)?;
     Ok(())
 }
 
-#[cfg(test)]
-mod tests;
+fn main(rt: HostRuntime) -> Result<()> {
+    let mut words = env::args(&rt)?.skip(1);
+    while let Some(word) = words.next() {
+        let text = match words.next() {
+            Some(file) => fs::read_to_string(&rt, file.as_str())?,
+            None => io::read_to_string(rt.alloc(), rt.reader())?,
+        };
+        print_answer(&rt, word.as_str(), text.as_str())?;
+    }
+    Ok(())
+}

@@ -1,6 +1,5 @@
 -- Serves private contracts: the record that a letter and words are of, if they are of any. A line that has a form has
--- that
--- of this record.
+-- that of this record.
 use Rattle.std.specs.Prelude.{ℕ, zero, suc, List, [], ◌∷◌, map, nat_eq, if◌then◌else◌}
 use Rattle.dist_cert.specs.Form.{Word}
 use Rattle.dist_cert.specs.declared.records.CertRecord.{CertRecord}

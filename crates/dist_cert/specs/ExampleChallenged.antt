@@ -1,7 +1,6 @@
 -- Worked example: a certificate of kind challenged is accepted as a whole. The archive has `libx` of version 1, and
--- `p`, which
--- depends on `libx (<< 2)`. Of libx's later versions the classes are `>> 1, << 2`, `= 2` and `>> 2`, of p's there is
--- one.
+-- `p`, which depends on `libx (<< 2)`. Of libx's later versions the classes are `>> 1, << 2`, `= 2` and `>> 2`, of p's
+-- there is one.
 use Rattle.std.specs.Prelude.{◌≡◌, ℕ, ◌+◌, ◌-◌, ◌≤◌, true, false, List, [], ◌∷◌, ◌++◌, codes, slice_index_or}
 use Rattle.dist_outside.specs.declared.limits.Limits.{Limits}
 use Rattle.dist_clause.specs.Formula.{Literal, literal, IsModel}
@@ -15,8 +14,7 @@ use Rattle.dist_cert.specs.Accepted.{Accepted}
 use Rattle.dist_cert.specs.ExampleText.{ended_lines}
 
 -- ---- the space of its futures: variable 1 is Now; 2 and 3 are libx and p as they are; 4, 6 and 8 say that libx is at
--- its
--- first, second and third class, and 5, 7 and 9 that it is installed so; 10 and 11 say the same of p and its class
+-- its first, second and third class, and 5, 7 and 9 that it is installed so; 10 and 11 say the same of p and its class
 
 -- at least one of two literals is false
 abbrev pub not_both : ℕ → ℕ → List Literal

@@ -36,7 +36,6 @@ abbrev pub two_lines : List ℕ
 two_lines = ended_lines (codes "distfuture-certificate 1 strong plain 10000 0 0 0" ∷ codes "e" ∷ [])
 
 -- It is accepted and claims nothing, where a line may have as many bytes as its longest one. The law
--- `examples_are_accepted`
--- says that it is so.
+-- `examples_are_accepted` says that it is so.
 abbrev pub EmptyIsAccepted : Type 0
 EmptyIsAccepted = (limits : Limits) → 50 ≤ limits.record_line → Accepted empty_archive limits two_lines header []

@@ -38,8 +38,7 @@ without_claim = ended_lines (
     )
 
 -- Without its hint line 5 does not follow; without the claim line 9 ends too early. Each of these is the refusal, where
--- a line
--- may have as many bytes as the longest one. The law `edits_are_refused` says that it is so.
+-- a line may have as many bytes as the longest one. The law `edits_are_refused` says that it is so.
 abbrev pub HintIsMissed : Type 0
 HintIsMissed = (limits : Limits) → 50 ≤ limits.record_line
     → Refusal archive_of_two limits without_hint (record { line = 5; cause = causes.BadLine })

@@ -1,6 +1,5 @@
 -- Laws of the definitions of `Groups`, which lemmas of several crates cite: the open question, the closed ones, the
--- group, the
--- claims and the installations of some lines, with lines more behind them.
+-- group, the claims and the installations of some lines, with lines more behind them.
 use Rattle.std.proofs.Common.{◌≡◌, ◌⊎◌, inl, inr, ℕ, ◌<◌, ◌||◌, Bool, true, false, List, [], ◌∷◌, ◌++◌, length, get_or}
 use Rattle.std.proofs.Common.{refl, sym, ap, subst, ◌∙◌, append_assoc, append-nil, arith, length-append, if◌then◌else◌}
 use Rattle.std.specs.List.{All, AllPass, flat_map, list_any}

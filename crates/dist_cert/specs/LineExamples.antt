@@ -1,6 +1,5 @@
 -- Worked examples: the lines of the certificate of ten lines as records, their claims, installations and groups, and
--- edits of
--- them with their faults.
+-- edits of them with their faults.
 use Rattle.std.proofs.Common.{◌≡◌, List, [], ◌∷◌, ◌++◌, length, refl, ap, arith, lit<, length-append}
 use Rattle.dist_cert.specs.declared.records.CertRecord.{CertRecord}
 use Rattle.dist_cert.specs.declared.records.CertRecord.TheVariants.{Question, Refuted, Installation, Undecided, Strong}

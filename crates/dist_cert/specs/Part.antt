@@ -1,6 +1,5 @@
 -- What a writer of certificates may have written so far. It keeps more rules than an accepted text has to: it asks for
--- the
--- next claim alone, asks nothing twice for a claim, and spends no more lines on a question than the limit.
+-- the next claim alone, asks nothing twice for a claim, and spends no more lines on a question than the limit.
 use Rattle.std.specs.Prelude.{◌≡◌, ◌≢◌, ◌⊎◌, ℕ, ◌+◌, ◌<◌, ◌≤◌, List, [], ◌∷◌, ◌++◌, AllPairs, Any, Contains, length}
 use Rattle.dist_base.specs.Front.{IsFrontOf}
 use Rattle.dist_clause.specs.ClauseList.{literal_count}
@@ -26,8 +25,7 @@ use Rattle.dist_cert.specs.Writing.{ended}
 -- ---- questions
 
 -- The question is one that a claim on the package may need: its own question, the package without another one (kind
--- strong),
--- or the package at a class of a cluster that has not got it (kind challenged).
+-- strong), or the package at a class of a cluster that has not got it (kind challenged).
 abbrev pub IsQuestionOn : Matter → CertKind → ℕ → List Word → Type 0
 IsQuestionOn matter kinds.Strong p question = (question ≡ claim_question matter kinds.Strong p)
     ⊎ ((q : ℕ) × (question ≡ yes p ∷ no q ∷ []))

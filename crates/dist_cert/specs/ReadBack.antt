@@ -14,8 +14,7 @@ use Rattle.dist_cert.specs.Refusal.{certificate_text}
 use Rattle.dist_cert.specs.Reading.{ReaderView, HeaderAnswers, RecordAnswers, past_line}
 
 -- A writer can have written these lines within the limits: each has its form and is short enough with its line feed,
--- the
--- last one and no other is the end, and the whole is within its limit.
+-- the last one and no other is the end, and the whole is within its limit.
 pub record CanBeWritten (limits : Limits) (h : Header) (steps : List CertRecord) : Type 0 where
   pub header : HasHeaderForm (header_text h) h
   pub header_short : length (header_text h) < limits.record_line

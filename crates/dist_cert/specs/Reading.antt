@@ -19,8 +19,7 @@ use Rattle.dist_cert.specs.Refusal.{IsOneLine, BeginsWith, IsTooLong, IsCutBehin
 -- ---- a reader
 
 -- the limits, the bytes that came and were not given yet, how many bytes were given, and how many lines, and whether
--- the
--- end was one of them
+-- the end was one of them
 pub record ReaderView : Type 0 where
   pub limits : Limits
   pub held : List ℕ
@@ -77,8 +76,7 @@ HeaderFault r rest causes.BadHeader = KeepsLimits r.limits r.given rest × HasNo
 HeaderFault r rest cause = ⊥
 
 -- When each answer is given, and what is left then. Each two exclude one another (law `reader_is_exact`), but for a
--- fault
--- of the desk and want of memory, which may come in place of any.
+-- fault of the desk and want of memory, which may come in place of any.
 abbrev pub HeaderAnswers : ReaderView → List ℕ → List ℕ → Result Header ReadCertError → Type 0
 HeaderAnswers r rest more (Ok h) = IsHeaderNext r rest more h
 HeaderAnswers r rest more (Err (Bad fault)) = HeaderFault r rest fault.cause × (more ≡ rest)

@@ -1,9 +1,11 @@
 //! The lines of certificates; sweeps, certificates and their checks, and the reports of claims, over repositories of a few
-//! stanzas. Tests alone.
+//! stanzas; whole trials. Tests alone.
 #![tactic(auto)]
 
 #[cfg(test)]
 mod accepted;
+#[cfg(test)]
+mod claim_rules;
 #[cfg(test)]
 mod faults;
 #[cfg(test)]
@@ -24,3 +26,5 @@ mod strong_reports;
 mod sweeps;
 #[cfg(test)]
 mod texts;
+#[cfg(test)]
+mod trials;

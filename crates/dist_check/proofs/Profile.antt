@@ -186,7 +186,10 @@ first-of Has causes.WrongClaim has none = inr (
                 none causes.BadLine (lit< tt),
                 inr (
                   none causes.NotAFuture (lit< tt),
-                  inr (none causes.NotAnInstallation (lit< tt), inr (none causes.LimitNotReached (lit< tt), inr (none causes.NotNew (lit< tt), inl (has, refl)))),
+                  inr (
+                    none causes.NotAnInstallation (lit< tt),
+                    inr (none causes.LimitNotReached (lit< tt), inr (none causes.NotNew (lit< tt), inl (has, refl))),
+                  ),
                 ),
               ),
             ),

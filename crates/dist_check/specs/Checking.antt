@@ -43,8 +43,7 @@ HasInputsWithin inputs limits text = (h : Header) (line more : List ℕ) → Beg
     → HasHeaderForm line h → h.kind ≡ kinds.Strong → AreInputsWithin limits (inputs h.essential)
 
 -- The first line has this first fault, and does not pass the number of bytes before. Where it is bad, the clauses do
--- not
--- pass a number before.
+-- not pass a number before.
 pub record StopsFirst (r : PackageList) (limits : Limits) (text : List ℕ) (cause : CertCause) : Type 0 where
   pub inputs : Bool → List (List Literal)
   pub are_inputs : AreInputs r inputs
@@ -140,8 +139,7 @@ TextCause old new (Work (TooLarge Certificate)) = Unit {0}
 TextCause old new (Work error) = ⊥
 
 -- Whatever the desk tells, too many input clauses or literals are told only of a repository of which the clauses pass
--- that
--- number, at one mode.
+-- that number, at one mode.
 abbrev pub LargeCause : PackageList → Limits → ReadCertError → Type 0
 LargeCause r limits (Work (TooLarge Clauses)) = (essential : Bool)
     × PassesClauses r essential limits.clauses limits.literals

@@ -1,6 +1,5 @@
 -- How cuts are taken from version texts in order: the first of those that are equal, and none that isn't above `low`.
--- No
--- public clause cites it.
+-- No public clause cites it.
 use Rattle.std.specs.Prelude.{ℕ, List, [], ◌∷◌, if◌then◌else◌}
 use Rattle.std.specs.Cmp.{IsTotalOrder}
 use Rattle.std.specs.Cmp.Lexicographic.{slice_cmp}

@@ -1,6 +1,5 @@
 -- Laws of the order of versions, as it is used: what is below, above and equal. No public clause cites them; proofs do,
--- those of
--- the crates above too.
+-- those of the crates above too.
 use Rattle.std.proofs.Common.{◌≡◌, ◌⊎◌, ℕ, List, Ordering, Less, Equal, Greater, refl, sym, ap, ◌∙◌, inl, inr}
 use Rattle.std.specs.Ordering.{ordering_reverse}
 use Rattle.std.proofs.lemmas.Cmp.{alike_right, tied_back, tied_itself}

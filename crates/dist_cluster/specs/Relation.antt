@@ -1,8 +1,6 @@
 -- Which packages are in one source cluster, this project's own rule: those that are built from one source package at
--- one
--- version, and have equal versions of their own. A rebuild of one of them alone, a version with `+b1` at its end,
--- leaves it in
--- its cluster.
+-- one version, and have equal versions of their own. A rebuild of one of them alone, a version with `+b1` at its end,
+-- leaves it in its cluster.
 use Rattle.std.specs.Prelude.{◌≡◌, ℕ, List, IsSomeAnd, slice_get}
 use Rattle.std.specs.declared.cmp.Ordering.TheVariants.{Equal}
 use Rattle.dist_version.specs.Order.{version_cmp}
@@ -15,8 +13,7 @@ pub record Member : Type 0 where
   pub version : List ℕ
 
 -- The names of the sources are the same bytes, the versions of the sources are equal, and so are the packages' own
--- versions
--- without rebuild suffix. Equal versions may differ in their texts.
+-- versions without rebuild suffix. Equal versions may differ in their texts.
 pub record AreClustered (a b : Member) : Type 0 where
   pub source : a.source ≡ b.source
   pub source_version : version_cmp a.source_version b.source_version ≡ Equal

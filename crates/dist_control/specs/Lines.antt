@@ -13,7 +13,6 @@ lines [] = []
 lines (byte ∷ bytes) = if byte == line_feed then [] ∷ lines bytes else in_front byte (lines bytes)
 
 -- A text is cut at a line feed, or it is the line and nothing comes after it. That the line has no line feed of its own
--- is for
--- `lines` to say.
+-- is for `lines` to say.
 abbrev pub IsCutAtLine : (text line after : List ℕ) → Type 0
 IsCutAtLine text line after = (text ≡ line ++ line_feed ∷ after) ⊎ ((text ≡ line) × (after ≡ []))

@@ -1,8 +1,6 @@
 -- The archives that may come of a flat repository (after Abate, Di Cosmo, Treinen and Zacchiroli, "Learning from the
--- future of
--- component repositories", 2012): packages may go, source clusters may move to later versions as a whole, and packages
--- of new
--- names may come. This project's own rules say what new packages provide.
+-- future of component repositories", 2012): packages may go, source clusters may move to later versions as a whole, and
+-- packages of new names may come. This project's own rules say what new packages provide.
 use Rattle.std.specs.Prelude.{◌≡◌, ◌⊎◌, ℕ, List, Any, Contains}
 use Rattle.std.specs.declared.cmp.Ordering.TheVariants.{Equal}
 use Rattle.dist_version.specs.Order.{version_cmp, IsBelow}
@@ -30,8 +28,7 @@ abbrev pub Stays : PackageList → List Package → Package → Type 0
 Stays r future c = (q n : Package) → IsInClusterOf r c q → Contains future n → n.name ≡ q.name → n ≡ q
 
 -- Every package of the future with a name of c's cluster is a new version of it, and there is one version above the top
--- to
--- which the versions of all of them are equal.
+-- to which the versions of all of them are equal.
 pub record Moves (r : PackageList) (future : List Package) (c : Package) : Type 0 where
   pub version : List ℕ
   pub above : IsAboveCluster r c version
@@ -48,10 +45,8 @@ IsProvided r name = Any (λ q. Any (IsEntryOf r.architecture name) q.provides) r
 
 -- A future of the repository: one package of a name at most; the packages of each cluster that are left stay or move
 -- together; and a package of a name that no package of the repository has provides nothing, and does not have a name
--- that
--- is provided there (virtual names stay virtual). All else is free: which packages are left, and what new ones depend
--- on and
--- conflict with.
+-- that is provided there (virtual names stay virtual). All else is free: which packages are left, and what new ones
+-- depend on and conflict with.
 pub record IsFuture (r : PackageList) (future : List Package) : Type 0 where
   pub one_of_a_name : IsFlat future
   pub clusters : (c : Package) → Contains r.packages c → Stays r future c ⊎ Moves r future c

@@ -1,6 +1,5 @@
 -- Where an assignment does not stand for a future and a healthy installation in it: four kinds of fault, tried in this
--- order,
--- each with its least place.
+-- order, each with its least place.
 use Rattle.std.specs.Prelude.{◌≡◌, ◌⊎◌, ℕ, ◌<◌, Bool, true, false, List, length, slice_index}
 use Rattle.dist_base.specs.Least.{IsLeast, IsLeastPair, IsNoPair}
 use Rattle.dist_repo.specs.PackageList.{IsPackageAnd}
@@ -31,8 +30,7 @@ pub record SomeHolds (s : SpaceView) (values : List Bool) (P : Meaning → Type 
 -- ---- no future
 
 -- What no future has together: two classes of a cluster, or of a new name; a package as it is today, and a class of its
--- cluster;
--- and today's archive has no class of a cluster, and no package of a new name.
+-- cluster; and today's archive has no class of a cluster, and no package of a new name.
 abbrev pub AreApart : SpaceView → Meaning → Meaning → Type 0
 AreApart s (At c k) (At d l) = (c ≡ d) × (k < l)
 AreApart s (Fresh x k) (Fresh y l) = (x ≡ y) × (k < l)
@@ -42,8 +40,7 @@ AreApart s Now (Fresh x k) = Unit {0}
 AreApart s m n = ⊥
 
 -- What a future never has without the other: a new version without the class of its cluster, and a kept entry without
--- the new
--- version that has it.
+-- the new version that has it.
 abbrev pub Needs : SpaceView → Meaning → Meaning → Type 0
 Needs s (New r k) (At c l) = (slice_index s.cluster_of r ≡ c) × (k ≡ l)
 Needs s (Kept r k j) (New q l) = (r ≡ q) × (k ≡ l)

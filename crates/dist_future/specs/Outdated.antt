@@ -1,6 +1,5 @@
 -- Outdated packages, and versions that challenge packages (after Abate, Di Cosmo, Treinen and Zacchiroli, "Learning
--- from the
--- future of component repositories", 2012), at mode essential or plain, for a flat repository.
+-- from the future of component repositories", 2012), at mode essential or plain, for a flat repository.
 use Rattle.std.specs.Prelude.{◌≡◌, ℕ, Bool, List, Any, Contains}
 use Rattle.std.specs.declared.cmp.Ordering.TheVariants.{Equal}
 use Rattle.dist_version.specs.Order.{version_cmp}
@@ -48,8 +47,7 @@ pub record IsInstallableAt (essential : Bool) (r : PackageList) (c : Package) (v
     pub installable : IsInstallableIn essential r future p
 
 -- A version above the top of the cluster of c challenges a package outside of that cluster: the package is installable
--- today,
--- and in no future that holds the cluster at that version. Other clusters may move in such a future too.
+-- today, and in no future that holds the cluster at that version. Other clusters may move in such a future too.
 pub record Challenges (essential : Bool) (r : PackageList) (c : Package) (version : List ℕ) (p : Package) : Type 0 where
   pub cluster : Contains r.packages c
   pub package_there : Contains r.packages p

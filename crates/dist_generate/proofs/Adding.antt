@@ -5,7 +5,7 @@ use Rattle.std.specs.Prelude.{codes, if◌then◌else◌}
 use Rattle.std.specs.List.{flat_map, join_by}
 use Rattle.std.proofs.lemmas.List.Concat.{flat_map-append}
 use Rattle.dist_generate.specs.Draws.{Drawing, next_state, draw, give, ◌>>=◌, many}
-use Rattle.dist_generate.specs.Generator.{Alternative, Drawn, item, items, item_text, conflict, depends_lines, conflicts_lines, head_lines, text_of_lines}
+use Rattle.dist_generate.specs.Generator.{Alternative, Drawn, item, items, item_text, conflict, depends_lines, conflicts_lines, stanza_head, text_of_lines}
 use Rattle.dist_generate.specs.Generator.{drawn, stanza_text}
 use Rattle.dist_generate.specs.Steps.{Adds}
 use Rattle.dist_generate.proofs.Joins.{joined-first, joined-more}
@@ -101,14 +101,14 @@ abbrev bare : (number digit : ℕ) → Drawn
 bare number digit = record { number = number; digit = digit; items = []; conflict = None }
 
 module _ (number state first : ℕ) (moved : first ≡ next_state state) (old text : List ℕ)
-    (head : text ≡ old ++ text_of_lines (head_lines (bare number (draw 3 state).0))) where
+    (head : text ≡ old ++ text_of_lines (stanza_head (bare number (draw 3 state).0))) where
   -- the stanza of number 0
   pub stanza-first : (new : List ℕ) (after : ℕ) → number ≤ 0 → after ≡ first → new ≡ text ++ 10 ∷ [] → Adds (drawn number) stanza_text old state new after
   stanza-first new after none same here =
       let is_zero : (number == 0) ≡ true = eq-eqb number 0 (omega arith) in
       adds-is (drawn number) stanza_text old state new after (bare number (draw 3 state).0) (next_state state)
       (ap (λ b. drawn_where b number state) is_zero)
-      (here ∙ ap (λ (t : List ℕ). t ++ 10 ∷ []) head ∙ sym (pieces old (head_lines (bare number (draw 3 state).0)) [] []
+      (here ∙ ap (λ (t : List ℕ). t ++ 10 ∷ []) head ∙ sym (pieces old (stanza_head (bare number (draw 3 state).0)) [] []
       ∙ ap (λ (t : List ℕ). t ++ 10 ∷ []) (append-nil _ ∙ append-nil _)))
       (same ∙ moved)
 
@@ -135,7 +135,7 @@ module _ (number state first : ℕ) (moved : first ≡ next_state state) (old te
       (depends.text ∙ ap (λ r. text ++ text_of_lines (depends_lines r.0)) first_items
       ∙ ap (λ (t : List ℕ). t ++ text_of_lines (depends_lines drawn_items.0)) head)
       )
-      ∙ sym (pieces old (head_lines (bare number (draw 3 state).0)) (depends_lines drawn_items.0) (conflicts_lines drawn_conflict.0)))
+      ∙ sym (pieces old (stanza_head (bare number (draw 3 state).0)) (depends_lines drawn_items.0) (conflicts_lines drawn_conflict.0)))
       (same ∙ conflicts.moved ∙ ap (λ r. r.1) then_conflict)
 
 -- ---- one more stanza

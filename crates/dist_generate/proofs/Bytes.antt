@@ -5,7 +5,7 @@ use Rattle.std.specs.Prelude.{codes, decimal, if◌then◌else◌}
 use Rattle.std.specs.List.{list_all, flat_map, join_by}
 use Rattle.std.proofs.lemmas.List.{append-nil}
 use Rattle.std.proofs.lemmas.Fmt.{length-decimal-le}
-use Rattle.dist_generate.specs.Generator.{Alternative, Drawn, bound_text, alternative_text, item_text, depends_lines, conflicts_lines, field_lines}
+use Rattle.dist_generate.specs.Generator.{Alternative, Drawn, drawn_bound, alternative_text, item_text, depends_lines, conflicts_lines, field_lines}
 use Rattle.dist_generate.specs.Generator.{stanza_lines, stanza_text, text_of_lines}
 use Rattle.dist_generate.proofs.Small.{AreTargets, IsItem, AreItems, IsTarget, IsSmall, small}
 use Rattle.dist_generate.proofs.Digits.{decimal-passes, all-append}
@@ -25,7 +25,7 @@ bound-short false false = omega arith
 alternative-short : (c : Alternative) → c.target < 10000 → length (alternative_text c) ≤ 12
 alternative-short c h = omega (
   arith,
-  length-append (decimal c.target) (bound_text c.bound),
+  length-append (decimal c.target) (drawn_bound c.bound),
   decimal-short c.target h,
   bound-short (c.bound == 2) (c.bound == 3),
 )
@@ -108,7 +108,7 @@ inner-bound false true = refl
 inner-bound false false = refl
 
 inner-alternative : (c : Alternative) → c.target < 10000 → list_all is_inner (alternative_text c) ≡ true
-inner-alternative c h = all-append is_inner (decimal c.target) (bound_text c.bound) (inner-number c.target h) (inner-bound (c.bound == 2) (c.bound == 3))
+inner-alternative c h = all-append is_inner (decimal c.target) (drawn_bound c.bound) (inner-number c.target h) (inner-bound (c.bound == 2) (c.bound == 3))
 
 inner-item : (item : List Alternative) → AreTargets item → list_all is_inner (item_text item) ≡ true
 inner-item [] are = refl

@@ -12,7 +12,7 @@ use Rattle.dist_package.specs.Named.{value_of, name_of as field_name}
 use Rattle.dist_package.specs.PackageOf.{IsPackageOf, ReadsName, ReadsVersionField, ReadsSource, ReadsArchitecture, all}
 use Rattle.dist_package.specs.declared.error.RelationField.TheVariants.{Depends, Conflicts}
 use Rattle.dist_relation.specs.Grammar.{ReadsDepends, ReadsAtoms}
-use Rattle.dist_generate.specs.Generator.{Alternative, Drawn, bound_text, alternative_text, item_text, depends_lines, conflicts_lines, field_lines}
+use Rattle.dist_generate.specs.Generator.{Alternative, Drawn, drawn_bound, alternative_text, item_text, depends_lines, conflicts_lines, field_lines}
 use Rattle.dist_generate.specs.Packages.{name_of, atom_of, conflicts_of, version_of, package_of}
 use Rattle.dist_generate.proofs.Small.{AreTargets, IsItem, AreItems, IsTarget, IsSmall, small}
 use Rattle.dist_generate.proofs.RawStanzas.{raw_of, sound-drawn}
@@ -27,7 +27,7 @@ ends-bound digits e false true = ends-append digits (codes " (<< 2)") (record { 
 ends-bound digits e false false = subst Ends (sym (append-nil digits)) e
 
 ends-alternative : (c : Alternative) → c.target < 10000 → Ends (alternative_text c)
-ends-alternative c h = ends-append (codes "g") (decimal c.target ++ bound_text c.bound)
+ends-alternative c h = ends-append (codes "g") (decimal c.target ++ drawn_bound c.bound)
     (ends-bound (decimal c.target) (ends-decimal c.target (small c.target h)) (c.bound == 2) (c.bound == 3))
 
 ends-item : (c : Alternative) (cs : List Alternative) → AreTargets (c ∷ cs) → Ends (item_text (c ∷ cs))

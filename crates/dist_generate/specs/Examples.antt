@@ -27,8 +27,8 @@ unfolding next_state
 two_packages = refl
 
 pub their_text : generated 2 0
-    ≡ codes
-    "Package: g0\nVersion: 1.2\nArchitecture: all\nSource: s0\n\nPackage: g1\nVersion: 1.1\nArchitecture: all\nSource: s0\nDepends: g0 (>= 1) | g0, g0 (>= 1) | g0 (<< 2)\n\n"
+    ≡ codes "Package: g0\nVersion: 1.2\nArchitecture: all\nSource: s0\n\nPackage: g1\nVersion: 1.1\n"
+    ++ codes "Architecture: all\nSource: s0\nDepends: g0 (>= 1) | g0, g0 (>= 1) | g0 (<< 2)\n\n"
 unfolding next_state digits
 their_text = refl
 

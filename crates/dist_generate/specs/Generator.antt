@@ -53,12 +53,12 @@ drawn number = do
 -- ---- what is written
 
 -- version 1 or later, or below version 2, or none
-abbrev pub bound_text : ℕ → List ℕ
-bound_text bound = if bound == 2 then codes " (>= 1)" else if bound == 3 then codes " (<< 2)" else []
+abbrev pub drawn_bound : ℕ → List ℕ
+drawn_bound bound = if bound == 2 then codes " (>= 1)" else if bound == 3 then codes " (<< 2)" else []
 
 -- the names of packages are g and their numbers
 abbrev pub alternative_text : Alternative → List ℕ
-alternative_text alternative = codes "g" ++ (decimal alternative.target ++ bound_text alternative.bound)
+alternative_text alternative = codes "g" ++ (decimal alternative.target ++ drawn_bound alternative.bound)
 
 -- alternatives with bars in between
 abbrev pub item_text : List Alternative → List ℕ
@@ -75,8 +75,8 @@ conflicts_lines None = []
 conflicts_lines (Some other) = (codes "Conflicts: g" ++ decimal other) ∷ []
 
 -- the lines that each stanza has; packages two and two have one source
-abbrev pub head_lines : Drawn → List (List ℕ)
-head_lines drawn =
+abbrev pub stanza_head : Drawn → List (List ℕ)
+stanza_head drawn =
     (codes "Package: g" ++ decimal drawn.number)
     ∷ (codes "Version: 1." ++ decimal drawn.digit)
     ∷ codes "Architecture: all"
@@ -85,7 +85,7 @@ head_lines drawn =
 
 -- the lines of a stanza
 abbrev pub field_lines : Drawn → List (List ℕ)
-field_lines drawn = head_lines drawn ++ (depends_lines drawn.items ++ conflicts_lines drawn.conflict)
+field_lines drawn = stanza_head drawn ++ (depends_lines drawn.items ++ conflicts_lines drawn.conflict)
 
 -- and the empty line after it
 abbrev pub stanza_lines : Drawn → List (List ℕ)

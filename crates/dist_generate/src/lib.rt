@@ -10,6 +10,3 @@ mod stanzas;
 
 pub use laws::generated_texts_are_archives;
 pub use stanzas::generate;
-
-#[cfg(test)]
-mod tests;

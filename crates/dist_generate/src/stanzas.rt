@@ -4,7 +4,7 @@ ghost use Rattle.std.specs.List.{join_by};
 ghost use Rattle.dist_base.specs.declared.TheConstants.{MAX_SIZE};
 ghost use Rattle.dist_generate.specs.Draws.{many};
 ghost use Rattle.dist_generate.specs.Generator.{alternative, item, items, conflict, drawn, generated};
-ghost use Rattle.dist_generate.specs.Generator.{bound_text, alternative_text, item_text, depends_lines, conflicts_lines, head_lines, stanza_text, text_of_lines};
+ghost use Rattle.dist_generate.specs.Generator.{drawn_bound, alternative_text, item_text, depends_lines, conflicts_lines, stanza_head, stanza_text, text_of_lines};
 ghost use Rattle.dist_generate.specs.Steps.{Adds};
 
 use crate::draws::Draws;
@@ -33,7 +33,7 @@ fn add_line(text: &mut Vec<u8>, before: &[u8], number: u32) -> Result<(), AllocE
 /// Adds the lines that each stanza has.
 fn add_head(text: &mut Vec<u8>, number: u32, digit: u32) -> Result<(), AllocError>
     ensures { OnOk result (text.new.items ≡ text.old.items
-        ++ text_of_lines (head_lines (record { number = number; digit = digit; items = []; conflict = None }))) }
+        ++ text_of_lines (stanza_head (record { number = number; digit = digit; items = []; conflict = None }))) }
 {
     add_line(text, b"Package: g", number)?;
     add_line(text, b"Version: 1.", digit)?;
@@ -44,7 +44,7 @@ fn add_head(text: &mut Vec<u8>, number: u32, digit: u32) -> Result<(), AllocErro
 
 /// The bound of an alternative.
 fn bound_bytes(bound: u32) -> &'static [u8]
-    ensures { result.now ≡ bound_text bound }
+    ensures { result.now ≡ drawn_bound bound }
 {
     match bound {
         2 => b" (>= 1)",

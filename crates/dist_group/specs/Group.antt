@@ -9,8 +9,7 @@ use Rattle.dist_group.specs.Window.{WindowView, kept_at, has_member}
 use Rattle.dist_group.specs.Closed.{ClosedView}
 
 -- The questions of a group that were refuted, those that were closed as undecided, and the packages that are in all of
--- its
--- installations that have the claim's package, if there are any.
+-- its installations that have the claim's package, if there are any.
 pub record GroupView : Type 0 where
   pub refuted : ClosedView
   pub undecided : ClosedView
@@ -44,8 +43,7 @@ abbrev pub always : WindowView → Option (List ℕ) → List ℕ → List ℕ
 always w common named = filter (in_each w named) (candidates w common named)
 
 -- The rules of a claim that p strongly depends on some packages and perhaps on others, as tests of what is kept: those
--- of
--- its lists alone, and all of them.
+-- of its lists alone, and all of them.
 pub record AreListsRight (w : WindowView) (group : GroupView) (packages p : ℕ) (named on undecided : List ℕ) : Type 0
   where
     pub names : in_each w named p ≡ true

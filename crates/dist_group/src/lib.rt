@@ -7,11 +7,9 @@ mod group;
 mod number_set;
 mod numbers;
 mod rules;
-#[cfg(test)]
-mod tests;
 mod window;
 
 pub use group::Group;
-pub use numbers::has;
+pub use numbers::{has, is_rising};
 pub use rules::judge_rules;
 pub use window::Window;

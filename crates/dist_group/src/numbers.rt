@@ -4,7 +4,7 @@ ghost use Rattle.std.specs.List.{list_all, list_any};
 ghost use Rattle.dist_cert.specs.Rising.{AreRising, is_among};
 
 /// Whether each number is below the next one.
-pub(crate) fn is_rising(numbers: &[u32]) -> bool
+pub fn is_rising(numbers: &[u32]) -> bool
     ensures { IsTrue result ↔ AreRising numbers.now }
 {
     for place in 1..numbers.len() {

@@ -1,6 +1,5 @@
 -- The clauses of the present, with a variable for each package: what a healthy installation must meet, a clause for
--- each
--- demand.
+-- each demand.
 use Rattle.std.specs.Prelude.{◌≡◌, ◌⊎◌, ◌↔◌, ℕ, ◌+◌, ◌<◌, Bool, true, false, List, [], ◌∷◌, Option, All, AllPairs, Any}
 use Rattle.std.specs.Prelude.{Contains, IsSomeAnd, map, slice_get}
 use Rattle.std.specs.Cmp.Lexicographic.{slice_cmp}
@@ -43,8 +42,7 @@ pub data Demand : Type 0 where
   Required : (name : List ℕ) → Demand
 
 -- The demands of a repository: each item that its own package doesn't meet, two packages of one name or in conflict,
--- and
--- at mode essential the names of the essential packages.
+-- and at mode essential the names of the essential packages.
 abbrev pub IsDemand : PackageList → Bool → Demand → Type 0
 IsDemand r essential (Item number place) = IsItemAnd r number place (λ p item. ¬ IsMetBy r.architecture item p)
 IsDemand r essential (Apart first second) =
@@ -69,8 +67,7 @@ IsBefore (Required name) (Apart n k) = ⊥
 IsBefore (Required name) (Required other) = slice_cmp nat_cmp name other ≡ Less
 
 -- The clause of a demand: without the package, or with one that meets the item; without the first, or without the
--- second;
--- with a package of the name.
+-- second; with a package of the name.
 abbrev pub IsClauseFor : PackageList → Demand → List Literal → Type 0
 IsClauseFor r (Item number place) clause =
     (numbers : List ℕ) × IsItemAnd r number place (λ p item. AreNumbersOf r (IsMetBy r.architecture item) numbers)

@@ -27,6 +27,3 @@ pub use whole::{desk_write_whole, read_whole, write_whole};
 
 /// How many bytes of a file are moved at once.
 pub const PIECE: usize = 65_536;
-
-#[cfg(test)]
-mod tests;

@@ -1,7 +1,6 @@
 -- The first fault of a value that is no relation, which is this project's own rule: everything before its place is a
--- correct start by the grammar, and the value doesn't go on from there as it must.
--- Names, operators and versions are the longest runs of their bytes, and white space is skipped: so `Stops` says that a
--- run couldn't be longer.
+-- correct start by the grammar, and the value doesn't go on from there as it must. Names, operators and versions are
+-- the longest runs of their bytes, and white space is skipped: so `Stops` says that a run couldn't be longer.
 use Rattle.std.specs.Prelude.{IsTrue, ◌≡◌, ◌≢◌, ◌⊎◌, ℕ, ◌-◌, Bool, true, false, ◌||◌, ◌==◌, List, [], ◌∷◌, ◌++◌, length}
 use Rattle.std.specs.Prelude.{take_while, Option, Some}
 use Rattle.std.specs.Char.{is_ascii_alphanumeric}

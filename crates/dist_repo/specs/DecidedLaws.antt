@@ -1,6 +1,5 @@
 -- What is asked of packages and atoms is decided: one way holds or the other. No public clause cites these laws; proofs
--- of the
--- crates above do.
+-- of the crates above do.
 use Rattle.std.proofs.Common.{◌≡◌, ◌⊎◌, ℕ, zero, suc, Bool, true, false, List, [], ◌∷◌, Some, None, Option, refl, ap}
 use Rattle.std.proofs.Common.{arith, inl, inr, slice_get}
 use Rattle.std.specs.Prelude.{Any, IfSome, IsSomeAnd, bytes_eq, codes}

@@ -1,6 +1,5 @@
 -- Worked examples: a package that depends on another one, its installations and its strong dependency; and the newest
--- of two
--- versions.
+-- of two versions.
 use Rattle.std.specs.Prelude.{◌≡◌, ◌≢◌, ℕ, zero, suc, ◌<◌, false, List, [], ◌∷◌, None, All, AllPairs, Any, Contains}
 use Rattle.std.specs.Prelude.{length, slice_index_or, codes, refl}
 use Rattle.std.proofs.Common.{inl, inr, lit<, sym, subst, ap, ◌∙◌, arith}

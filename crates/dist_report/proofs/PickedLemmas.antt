@@ -7,7 +7,7 @@ use Rattle.std.proofs.lemmas.List.Elements.{All-filter, filter-append}
 use Rattle.std.proofs.lemmas.List.FromFn.{get_or-range_with_len, length-range_with_len}
 use Rattle.std.specs.Option.{option_map_or}
 use Rattle.dist_cert.specs.declared.records.Claim.{Claim}
-use Rattle.dist_report.specs.StrongReport.{claimed}
+use Rattle.dist_report.specs.StrongReport.{packages_with}
 
 range-last : (a n j : ℕ) → a + n ≡ j → range_with_len a (suc n) ≡ range_with_len a n ++ j ∷ []
 range-last a zero j e = let same : a ≡ j = omega arith in ap (λ (k : ℕ). k ∷ []) same
@@ -70,7 +70,7 @@ pub lines-same-within : (f g : ℕ → List ℕ) (n : ℕ) (xs : List ℕ) → (
 lines-same-within f g n xs same within = lines-same f g xs (λ k d short. same (get_or xs k d) (within k d short))
 
 -- packages that are told
-pub claimed-within : (test : Claim → Bool) (made : List Claim) (packages : ℕ) → length made ≡ packages → All (λ k. k < packages) (claimed test made)
+pub claimed-within : (test : Claim → Bool) (made : List Claim) (packages : ℕ) → length made ≡ packages → All (λ k. k < packages) (packages_with test made)
 claimed-within test made packages long =
-    let Within : ℕ → Type 0 = λ end. All (λ k. k < end) (claimed test made) in
+    let Within : ℕ → Type 0 = λ end. All (λ k. k < end) (packages_with test made) in
     subst Within long (picked-within (λ p. option_map_or test (slice_get made p) false) (length made))

@@ -57,11 +57,11 @@ abbrev pub name_lines : ToldName → List ℕ
 name_lines n = string_line (codes "  - name: ") n.name ++ listed (codes "    classes:") class_lines n.classes
 
 -- what kind of report it is, and how many packages there are
-abbrev pub opening : List Package → List ℕ
-opening packages = codes "report: \"classes\"\npackages: " ++ (decimal (length packages) ++ codes "\n")
+abbrev pub first_lines : List Package → List ℕ
+first_lines packages = codes "report: \"classes\"\npackages: " ++ (decimal (length packages) ++ codes "\n")
 
 abbrev pub classes_lines : List Package → List ToldCluster → List ToldName → List ℕ
-classes_lines packages clusters names = opening packages
+classes_lines packages clusters names = first_lines packages
     ++ (listed (codes "clusters:") (cluster_lines packages) clusters ++ listed (codes "names:") name_lines names)
 
 -- The text is the report of the repository's classes. There is one at most (the law `classes_texts_are_one`).

@@ -35,10 +35,12 @@ alone = record { members = 0 ∷ []; top = codes "1"; classes = Above (codes "1"
 foo_example :
     classes_lines (program ∷ []) (alone ∷ [])
     (record { name = codes "foo"; classes = Below (codes "1") ∷ Point (codes "1") ∷ Above (codes "1") ∷ [] } ∷ [])
-    ≡ codes
-    "report: \"classes\"\npackages: 1\nclusters:\n  - cluster: \"p=1\"\n    source: \"p\"\n    top: \"1\"\n    members:\n      - \"p=1\"\n    classes:\n      - class: \">> 1\"\n        example: \"1-0A\"\n"
-    ++ codes
-    "names:\n  - name: \"foo\"\n    classes:\n      - class: \"<< 1\"\n        example: \"~~\"\n      - class: \"= 1\"\n        example: \"1\"\n      - class: \">> 1\"\n        example: \"1-0A\"\n"
+    ≡ codes "report: \"classes\"\npackages: 1\nclusters:\n  - cluster: \"p=1\"\n    source: \"p\"\n"
+    ++ codes "    top: \"1\"\n    members:\n      - \"p=1\"\n    classes:\n      - class: \">> 1\"\n"
+    ++ codes "        example: \"1-0A\"\n"
+    ++ codes "names:\n  - name: \"foo\"\n    classes:\n      - class: \"<< 1\"\n        example: \"~~\"\n"
+    ++ codes "      - class: \"= 1\"\n        example: \"1\"\n      - class: \">> 1\"\n"
+    ++ codes "        example: \"1-0A\"\n"
 unfolding digits above_text after_epoch upstream_of revision_of
 foo_example = refl
 
@@ -67,10 +69,10 @@ library_example :
       top = codes "1.0-1";
       classes = Between (codes "1.0-1") (codes "2.0") ∷ Point (codes "2.0") ∷ [];
     })
-    ≡ codes
-    "  - cluster: \"libx=1.0-1\"\n    source: \"x\"\n    top: \"1.0-1\"\n    members:\n      - \"libx=1.0-1\"\n      - \"libx=1.0-1\"\n"
-    ++ codes
-    "    classes:\n      - class: \">> 1.0-1, << 2.0\"\n        example: \"1.0-1A~~~\"\n      - class: \"= 2.0\"\n        example: \"2.0\"\n"
+    ≡ codes "  - cluster: \"libx=1.0-1\"\n    source: \"x\"\n    top: \"1.0-1\"\n    members:\n"
+    ++ codes "      - \"libx=1.0-1\"\n      - \"libx=1.0-1\"\n"
+    ++ codes "    classes:\n      - class: \">> 1.0-1, << 2.0\"\n        example: \"1.0-1A~~~\"\n"
+    ++ codes "      - class: \"= 2.0\"\n        example: \"2.0\"\n"
 unfolding above_text after_epoch upstream_of revision_of
 library_example = refl
 

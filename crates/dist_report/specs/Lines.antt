@@ -1,6 +1,5 @@
 -- The lines of a report, in the block style of YAML 1.2 (chapter 8). Strings stand in double quotes: no byte of a name,
--- of a
--- version or of a class's text needs an escape there.
+-- of a version or of a class's text needs an escape there.
 use Rattle.std.specs.Prelude.{ℕ, Bool, List, ◌++◌, ◌==◌, codes, length, if◌then◌else◌}
 use Rattle.std.specs.List.{flat_map}
 

@@ -1,6 +1,5 @@
 -- Strings that stand in double quotes as they are (YAML 1.2, sections 5.1 and 5.7): their bytes are printable ones of
--- ASCII, and
--- none is `"` or `\`.
+-- ASCII, and none is `"` or `\`.
 use Rattle.std.specs.Prelude.{◌≢◌, ℕ, ◌≤◌, List, [], ◌∷◌, All}
 use Rattle.dist_version.specs.Spelling.{IsVersion}
 use Rattle.dist_classes.specs.declared.class_value.Class.{Class}

@@ -35,19 +35,19 @@ header = record {
 -- a needs b or c, and both of those need d
 diamond_example :
     strong_lines four header (Strong (3 ∷ []) [] ∷ Strong (3 ∷ []) [] ∷ Strong (3 ∷ []) [] ∷ Strong [] [] ∷ [])
-    ≡ codes
-    "report: \"strong\"\nlimit: 10000\npackages: 4\nuninstallable: []\nstrong:\n  - package: \"a=1\"\n    on:\n      - \"d=1\"\n"
+    ≡ codes "report: \"strong\"\nlimit: 10000\npackages: 4\nuninstallable: []\nstrong:\n"
+    ++ codes "  - package: \"a=1\"\n    on:\n      - \"d=1\"\n"
     ++ codes "  - package: \"b=1\"\n    on:\n      - \"d=1\"\n  - package: \"c=1\"\n    on:\n      - \"d=1\"\n"
-    ++ codes
-    "impact:\n  - package: \"d=1\"\n    of:\n      - \"a=1\"\n      - \"b=1\"\n      - \"c=1\"\nundecided: []\nundecided_pairs: []\n"
+    ++ codes "impact:\n  - package: \"d=1\"\n    of:\n      - \"a=1\"\n      - \"b=1\"\n      - \"c=1\"\n"
+    ++ codes "undecided: []\nundecided_pairs: []\n"
 unfolding digits
 diamond_example = refl
 
 -- one that isn't installable, one of which nothing is known, and one with an undecided dependency
 other_example :
     strong_lines four header (Uninstallable ∷ Unknown ∷ Strong [] (3 ∷ []) ∷ Strong [] [] ∷ [])
-    ≡ codes
-    "report: \"strong\"\nlimit: 10000\npackages: 4\nuninstallable:\n  - \"a=1\"\nstrong: []\nimpact: []\nundecided:\n  - \"b=1\"\n"
+    ≡ codes "report: \"strong\"\nlimit: 10000\npackages: 4\nuninstallable:\n  - \"a=1\"\nstrong: []\n"
+    ++ codes "impact: []\nundecided:\n  - \"b=1\"\n"
     ++ codes "undecided_pairs:\n  - package: \"c=1\"\n    on:\n      - \"d=1\"\n"
 unfolding digits
 other_example = refl

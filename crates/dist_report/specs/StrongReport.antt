@@ -1,6 +1,5 @@
 -- The report of strong dependencies: what is claimed of the packages, put into lists. Packages are given by their
--- numbers, and
--- each list follows them.
+-- numbers, and each list follows them.
 use Rattle.std.specs.Prelude.{◌==◌, ℕ, Bool, true, false, not, List, [], ◌++◌, codes, decimal, filter, length}
 use Rattle.std.specs.Prelude.{slice_get}
 use Rattle.std.specs.List.{range_with_len}
@@ -39,8 +38,8 @@ has_some numbers = not (length numbers == 0)
 -- ---- the packages that are told
 
 -- those whose claims pass a test
-abbrev pub claimed : (Claim → Bool) → List Claim → List ℕ
-claimed test made = filter (λ p. option_map_or test (slice_get made p) false) (range_with_len 0 (length made))
+abbrev pub packages_with : (Claim → Bool) → List Claim → List ℕ
+packages_with test made = filter (λ p. option_map_or test (slice_get made p) false) (range_with_len 0 (length made))
 
 abbrev pub strong_at : List Claim → ℕ → List ℕ
 strong_at made p = option_map_or strong_on (slice_get made p) []
@@ -71,10 +70,10 @@ strong_opening packages header = codes "report: \"strong\"\nlimit: "
 abbrev pub strong_lines : List Package → Header → List Claim → List ℕ
 strong_lines packages header made =
     strong_opening packages header
-    ++ (listed (codes "uninstallable:") (package_line (codes "  - ") packages) (claimed is_uninstallable made)
+    ++ (listed (codes "uninstallable:") (package_line (codes "  - ") packages) (packages_with is_uninstallable made)
     ++ (listed (codes "strong:") (λ p. entry_lines packages (codes "    on:") p (strong_at made p))
-    (claimed (λ c. has_some (strong_on c)) made)
+    (packages_with (λ c. has_some (strong_on c)) made)
     ++ (listed (codes "impact:") (λ q. entry_lines packages (codes "    of:") q (impact_at made q)) (with_impact made)
-    ++ (listed (codes "undecided:") (package_line (codes "  - ") packages) (claimed is_unknown made)
+    ++ (listed (codes "undecided:") (package_line (codes "  - ") packages) (packages_with is_unknown made)
     ++ listed (codes "undecided_pairs:") (λ p. entry_lines packages (codes "    on:") p (undecided_at made p))
-    (claimed (λ c. has_some (undecided_on c)) made)))))
+    (packages_with (λ c. has_some (undecided_on c)) made)))))

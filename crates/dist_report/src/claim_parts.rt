@@ -1,7 +1,7 @@
 //! What the parts of the report of strong dependencies take of the claims.
 ghost use Rattle.std.specs.Prelude.{◌≡◌, IfOk, length};
 ghost use Rattle.dist_report.specs.ClaimParts.{is_part, list_of};
-ghost use Rattle.dist_report.specs.StrongReport.{claimed};
+ghost use Rattle.dist_report.specs.StrongReport.{packages_with};
 
 use dist_cert::{Claim, Claims};
 use std::alloc::{AllocError, Global};
@@ -52,7 +52,7 @@ pub(crate) fn told(
     part: Part,
 ) -> Result<Vec<u32>, AllocError>
     requires { length claims.now ≡ packages }
-    ensures { IfOk result (λ numbers. numbers.items ≡ claimed (is_part part) claims.now) }
+    ensures { IfOk result (λ numbers. numbers.items ≡ packages_with (is_part part) claims.now) }
 {
     let mut numbers = Vec::new(alloc);
     for number in 0..packages {

@@ -3,7 +3,7 @@ ghost use Rattle.std.specs.Prelude.{◌≡◌, ◌++◌, ◌<◌, [], All, IfOk,
 ghost use Rattle.dist_classes.specs.Answers.{AreClustersOf};
 ghost use Rattle.dist_classes.specs.ClassList.{HasExample, HasVersions};
 ghost use Rattle.dist_classes.specs.NewNames.{AreNewNames};
-ghost use Rattle.dist_report.specs.ClassesReport.{IsClassesText, class_lines, head_lines, opening};
+ghost use Rattle.dist_report.specs.ClassesReport.{IsClassesText, class_lines, head_lines, first_lines};
 ghost use Rattle.dist_report.specs.Lines.{listed};
 ghost use Rattle.dist_report.specs.Written.{TellsCluster, TellsClusters, TellsName, TellsNames};
 
@@ -137,7 +137,7 @@ fn write_names<'a>(
 
 /// The lines before the clusters.
 fn opened(alloc: Global, repo: &Repository) -> Result<Vec<u8>, AllocError>
-    ensures { IfOk result (λ out. out.items ≡ opening repo.now.packages) }
+    ensures { IfOk result (λ out. out.items ≡ first_lines repo.now.packages) }
 {
     let mut out = Vec::from_slice(alloc, b"report: \"classes\"\npackages: ")?;
     let mut buffer = Buffer::new();

@@ -6,7 +6,7 @@ ghost use Rattle.dist_report.specs.ClaimParts.{is_part, list_at};
 ghost use Rattle.dist_report.specs.declared.claim_parts.Part.TheVariants.{With};
 ghost use Rattle.dist_report.specs.Lines.{listed};
 ghost use Rattle.dist_report.specs.PackageText.{package_line};
-ghost use Rattle.dist_report.specs.StrongReport.{claimed, entry_lines, impact_at, strong_lines, strong_opening, with_impact};
+ghost use Rattle.dist_report.specs.StrongReport.{packages_with, entry_lines, impact_at, strong_lines, strong_opening, with_impact};
 
 use crate::claim_parts::{Dependence, Part, claim_list, told};
 use crate::impact::{numbers_at, turned, with_some};
@@ -43,7 +43,7 @@ fn write_part(
     part: Part,
 ) -> Result<(), AllocError>
     requires { AreClaimsOf (length repo.now.packages) claims.now }
-    ensures { OnOk result (out.new.items ≡ out.old.items ++ listed key.now (package_line (codes "  - ") repo.now.packages) (claimed (is_part part) claims.now)) }
+    ensures { OnOk result (out.new.items ≡ out.old.items ++ listed key.now (package_line (codes "  - ") repo.now.packages) (packages_with (is_part part) claims.now)) }
 {
     let numbers = told(alloc, claims, repo.len(), part)?;
     write_packages(out, repo, key, b"  - ", &numbers)?;
@@ -81,7 +81,7 @@ fn write_dependences(
     kind: Dependence,
 ) -> Result<(), AllocError>
     requires { AreClaimsOf (length repo.now.packages) claims.now }
-    ensures { OnOk result (out.new.items ≡ out.old.items ++ listed key.now (λ p. entry_lines repo.now.packages (codes "    on:") p (list_at kind claims.now p)) (claimed (is_part (With kind)) claims.now)) }
+    ensures { OnOk result (out.new.items ≡ out.old.items ++ listed key.now (λ p. entry_lines repo.now.packages (codes "    on:") p (list_at kind claims.now p)) (packages_with (is_part (With kind)) claims.now)) }
 {
     let numbers = told(alloc, claims, repo.len(), Part::With(kind))?;
     write_lists(out, repo, claims, key, kind, &numbers)?;

@@ -1,7 +1,9 @@
-//! Repositories of a few stanzas: the files that they are read from, their clusters, and what is answered and told of them.
-//! Tests alone.
+//! Repositories of a few stanzas: the files that they are read from, their clusters, and what is answered and told of them;
+//! archives of a size and a seed. Tests alone.
 #![tactic(auto)]
 
+#[cfg(test)]
+mod archives;
 #[cfg(test)]
 mod builder;
 #[cfg(test)]

@@ -19,8 +19,7 @@ pub record IsModelUnder (log : ClauseLog) (assumptions : List Literal) (values :
   pub assumed : All (IsTrueLiteral (value_of values)) assumptions
 
 -- Refuted: the clause of the negated assumptions follows from the log by the hints, so that no model of the input
--- clauses
--- makes the assumptions true.
+-- clauses makes the assumptions true.
 pub record IsRefutation (log : ClauseLog) (assumptions : List Literal) (hints : List ℕ) : Type 0 where
   pub follows : Follows log.clauses (map negation assumptions) hints
   pub short : IsShort log.variables hints

@@ -14,8 +14,7 @@ use Rattle.dist_solver.specs.declared.descent.Descent.{Descent}
 use Rattle.dist_solver.specs.declared.descent.Descent.TheVariants.{Model, Refutation, Lesson}
 
 -- The last literal of a start is a decision: propagation from the literals before it had ended without a conflict, and
--- it
--- was unset then.
+-- it was unset then.
 pub record IsDecision (clauses : List (List Literal)) (assumptions start : List Literal) : Type 0 where
   pub front : List Literal
   pub last : Literal

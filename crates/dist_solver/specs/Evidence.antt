@@ -19,8 +19,7 @@ abbrev pub IsShort : ℕ → List ℕ → Type 0
 IsShort variables hints = length hints ≤ variables + 1
 
 -- What a question adds to the log under its assumptions: at most `limit` lines, each following by its recorded hints
--- and
--- new when it was added. `derived` is these lines and no others, and nothing else of the log changes.
+-- and new when it was added. `derived` is these lines and no others, and nothing else of the log changes.
 pub record Adds (old new : ClauseLog) (derived : List DerivedLine) (assumptions : List Literal) (limit : ℕ) : Type 0
   where
     pub lines : List (List Literal)

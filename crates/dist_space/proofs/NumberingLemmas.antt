@@ -281,7 +281,8 @@ module _ (s : SpaceView) (frame : IsFrame s) where
       let here : k < length (member_classes s r) = subst (λ (x : ℕ). k < length (cluster_classes s x)) (sym is) inside in
       let p = in-package s frame c r short member in
       let within = slice_get_within s.repository.packages r p.package_is p.is in
-      elim (contains-cons (New r k) m (map (λ j. Kept r k j) (usable_from s.repository.architecture 0 (provided_by (slice_get s.repository.packages r)))) there) [
+      let entries = usable_from s.repository.architecture 0 (provided_by (slice_get s.repository.packages r)) in
+      elim (contains-cons (New r k) m (map (λ j. Kept r k j) entries) there) [
         | inl same ↦ subst (IsMeaning s) same (within, here)
         | inr later ↦
             let from = in-map (λ j. Kept r k j) (usable_from s.repository.architecture 0 (provided_by (slice_get s.repository.packages r))) m later in

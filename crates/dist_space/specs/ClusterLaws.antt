@@ -1,6 +1,5 @@
 -- Laws of packages and clusters of a frame: a name has one package, a package has one cluster, and a cluster has
--- exactly what is
--- clustered with one of it. No public clause cites them; proofs do, those of the crates above too.
+-- exactly what is clustered with one of it. No public clause cites them; proofs do, those of the crates above too.
 use Rattle.std.proofs.Common.{◌≡◌, ◌≢◌, ℕ, ◌<◌, List, [], Some, length, get_or, map, sym, ap, subst, ◌∙◌, inl, inr}
 use Rattle.std.proofs.Common.{arith, slice_get}
 use Rattle.std.specs.Prelude.{AllPairs, Contains, IsSomeAnd, slice_index}

@@ -1,6 +1,5 @@
 -- Laws of lists that are put together of parts, one after another: what is in them, and how their elements are related.
--- No
--- public clause cites them; proofs do, those of the crates above too.
+-- No public clause cites them; proofs do, those of the crates above too.
 use Rattle.std.proofs.Common.{◌≡◌, ◌⊎◌, ℕ, zero, suc, ◌<◌, List, [], ◌∷◌, ◌++◌, length, get_or, map, refl, sym, ap}
 use Rattle.std.proofs.Common.{subst, zero-add, ◌∙◌, inl, inr, arith}
 use Rattle.std.specs.Prelude.{AllPairs, Contains}

@@ -1,6 +1,5 @@
 -- The space of the futures of a flat repository: what its variables mean, and in which order they stand. New versions
--- are
--- taken by classes, each with an example.
+-- are taken by classes, each with an example.
 use Rattle.std.specs.Prelude.{◌≡◌, ◌↔◌, ℕ, ◌+◌, ◌<◌, ◌≤◌, Bool, List, [], ◌∷◌, Option, None, Some, AllPairs, Any}
 use Rattle.std.specs.Prelude.{Contains, IfSome, IsSomeAnd, count_by, length, slice_get, slice_index, slice_index_or}
 use Rattle.std.specs.Prelude.{if◌then◌else◌}
@@ -28,9 +27,8 @@ use Rattle.dist_space.specs.declared.meaning.Meaning.{Meaning}
 use Rattle.dist_space.specs.declared.meaning.Meaning.TheVariants.{Now, Present, At, New, Kept, Fresh}
 
 -- What contracts see of a space: the repository and the mode; the clusters, for each package the number of its cluster,
--- and
--- for each cluster its classes; the new names, and for each its classes; and what the variables mean, from the first
--- one on.
+-- and for each cluster its classes; the new names, and for each its classes; and what the variables mean, from the
+-- first one on.
 pub record SpaceView : Type 0 where
   pub repository : PackageList
   pub essential : Bool
@@ -76,8 +74,7 @@ IsChange (Fresh x k) = Unit {0}
 IsChange m = ⊥
 
 -- The order of variables: Now, then the packages; then by cluster and class, first the class itself and then each
--- member's new
--- version, which its kept entries follow; then by new name and class.
+-- member's new version, which its kept entries follow; then by new name and class.
 abbrev pub key_of : SpaceView → Meaning → List ℕ
 key_of s Now = 0 ∷ []
 key_of s (Present r) = 1 ∷ r ∷ []
@@ -122,10 +119,8 @@ abbrev pub MeetsBound : Atom → List ℕ → Type 0
 MeetsBound atom version = IfSome atom.bound (λ bound. Satisfies version bound)
 
 -- A usable atom is matched by a package of the repository as ever; by a new version where it has the name and the
--- example of
--- the class meets its bound; by a kept entry of it as the new version at the example has it; and by a package of a new
--- name
--- where the example of its class meets the bound.
+-- example of the class meets its bound; by a kept entry of it as the new version at the example has it; and by a
+-- package of a new name where the example of its class meets the bound.
 abbrev pub IsMatchedBy : SpaceView → Atom → Meaning → Type 0
 IsMatchedBy s atom Now = ⊥
 IsMatchedBy s atom (Present r) = IsPackageAnd s.repository.packages r (Matches s.repository.architecture atom)

@@ -1,6 +1,5 @@
 -- Laws of the variables of a space: each meaning of the space has a place, its value is found there, and one variable
--- has one
--- meaning. No public clause cites them; proofs do, those of the crates above too.
+-- has one meaning. No public clause cites them; proofs do, those of the crates above too.
 use Rattle.std.proofs.Common.{◌≡◌, ℕ, zero, suc, ◌+◌, ◌-◌, ◌<◌, ◌≤◌, Bool, false, cond, List, [], ◌∷◌, Some, Ordering}
 use Rattle.std.proofs.Common.{Less, nat_cmp, length, get_or, map, refl, sym, ap, subst, ◌∙◌, arith, slice_get}
 use Rattle.std.specs.Prelude.{AllPairs, count_by}

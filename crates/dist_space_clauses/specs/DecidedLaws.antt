@@ -1,6 +1,5 @@
 -- What demands ask is decided: one way holds or the other. No public clause cites these laws; proofs do, those of the
--- crate above
--- too.
+-- crate above too.
 use Rattle.std.proofs.Common.{◌≡◌, ℕ, ◌<◌, List, arith, inl, inr, slice_get}
 use Rattle.std.specs.Prelude.{IsSomeAnd}
 use Rattle.dist_relation.specs.declared.atom.Atom.{Atom}

@@ -1,6 +1,5 @@
 -- The clauses of a space: what an assignment must meet to stand for a future and a healthy installation in it, a clause
--- for
--- each demand.
+-- for each demand.
 use Rattle.std.specs.Prelude.{◌≡◌, ◌≢◌, ◌↔◌, ℕ, ◌<◌, true, false, List, [], ◌∷◌, All, AllPairs, Any, Contains}
 use Rattle.std.specs.Prelude.{IsSomeAnd, length, map, slice_get, slice_index}
 use Rattle.std.specs.Cmp.Lexicographic.{slice_cmp}
@@ -26,12 +25,10 @@ abbrev pub no : SpaceView → Meaning → Literal
 no s m = literal (variable_of s m) false
 
 -- What an assignment must meet. Of a cluster: one class at most; none where a member is installed as it is today; its
--- class
--- where a new version of that class is installed; the new version where an entry of it is kept. Of a new name: one
--- class at
--- most. Of a package as it is today: an item, by its place; that another package is not installed. Of the archive of
--- today:
--- that a cluster is not at a class, and that there is no package of a new name. And that a name is installed.
+-- class where a new version of that class is installed; the new version where an entry of it is kept. Of a new name:
+-- one class at most. Of a package as it is today: an item, by its place; that another package is not installed. Of the
+-- archive of today: that a cluster is not at a class, and that there is no package of a new name. And that a name is
+-- installed.
 pub data Demand : Type 0 where
   OneClass : (cluster first second : ℕ) → Demand
   Gone : (member class : ℕ) → Demand
@@ -56,8 +53,7 @@ IsItemAnd s number place P = IsPackageAnd s.repository.packages number
     (λ p. IsSomeAnd (slice_get p.depends place) (P p))
 
 -- The demands of a space: the numbers are in range; an item is none that its own package meets; and at mode essential
--- the names
--- of the repository's essential packages are required.
+-- the names of the repository's essential packages are required.
 abbrev pub IsDemand : SpaceView → Demand → Type 0
 IsDemand s (OneClass c k l) = (k < l) × (l < length (cluster_classes s c))
 IsDemand s (Gone r k) = IsMeaning s (New r k)

@@ -31,8 +31,7 @@ pub record QuestionView : Type 0 where
   pub last : ℕ
 
 -- The limit of the first line, the number of packages, the clauses, installations and group, the open question, the
--- package
--- of the next claim, and the claims.
+-- package of the next claim, and the claims.
 pub record StateView : Type 0 where
   pub limit : ℕ
   pub packages : ℕ

@@ -35,8 +35,7 @@ OfSweep r essential limit P = (inputs : Bool → List (List Literal)) × AreInpu
     × P inputs (header_of r essential limit (inputs essential))
 
 -- The text is a whole certificate of these claims, of kind strong, at this mode and with this limit: it is accepted,
--- keeps
--- the numbers, and is one that a sweep may write.
+-- keeps the numbers, and is one that a sweep may write.
 abbrev pub IsSweep : PackageList → Bool → ℕ → Limits → List Claim → List ℕ → Type 0
 IsSweep r essential limit limits made text =
     OfSweep r essential limit (λ inputs h. IsCompleted r limits text h made
@@ -53,8 +52,7 @@ IsCutSweep r essential limit limits text =
     OfSweep r essential limit (λ inputs h. IsCutPart (subject_of r inputs) limits h text)
 
 -- The desk writes no longer. The file is as before, or holds what a sweep may have written so far, perhaps with a front
--- of
--- one line more behind it. All other files are as before.
+-- of one line more behind it. All other files are as before.
 pub record LeavesPart (r : PackageList) (essential : Bool) (limit : ℕ) (limits : Limits) (name : List ℕ)
     (old new : DeskView) : Type 0 where
   pub files : (new.files ≡ old.files) ⊎ ((text : List ℕ) × IsCutSweep r essential limit limits text

@@ -26,8 +26,7 @@ abbrev pub packages_of : List Package → List ℕ → List Package
 packages_of packages variables = members_of packages (truth_of (length packages) variables)
 
 -- The packages are the variables, and an installation is healthy at the mode. There are no clusters, and each set
--- stands
--- for the one future that is the present.
+-- stands for the one future that is the present.
 abbrev pub matter_of : PackageList → Bool → List (List Literal) → Matter
 matter_of r essential inputs = record {
   packages = length r.packages;

@@ -25,8 +25,7 @@ pub record OfArchive (size seed : ℕ) (limits : Limits) (P : PackageList → Ty
   pub holds : P repository
 
 -- A whole certificate of the repository, plain and with the limit of a question where none is given, is accepted, and
--- what is
--- told is the summary of its claims, and whether one of them has a mark.
+-- what is told is the summary of its claims, and whether one of them has a mark.
 pub record IsTrial (size : ℕ) (limits : Limits) (done : Trial) (r : PackageList) : Type 0 where
   pub made : List Claim
   pub text : List ℕ
@@ -35,8 +34,7 @@ pub record IsTrial (size : ℕ) (limits : Limits) (done : Trial) (r : PackageLis
   pub undecided : done.undecided ≡ list_any has_mark made
 
 -- When each answer is given. Want of memory may come in place of any, and the number of a line or of a certificate is
--- passed
--- by a part of a sweep.
+-- passed by a part of a sweep.
 abbrev pub TrialAnswers : (size seed : ℕ) → Limits → Result Trial WorkError → Type 0
 TrialAnswers size seed limits (Ok done) = OfArchive size seed limits (IsTrial size limits done)
 TrialAnswers size seed limits (Err (TooLarge Bytes)) = limits.bytes < length (generated size seed)

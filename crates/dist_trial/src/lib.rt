@@ -13,6 +13,3 @@ mod trying;
 pub use laws::marks_are_counted;
 pub use trials::Trial;
 pub use trying::trial;
-
-#[cfg(test)]
-mod tests;

@@ -18,7 +18,7 @@ use Rattle.clap.specs.declared.parser.matches.ArgMatches.{ArgMatches}
 use Rattle.clap.proofs.CallerReads.{signed_reads}
 use Rattle.clap.proofs.WalkLemmas.{one_text-rows}
 use Rattle.dist_base.specs.declared.TheConstants.{MAX_LIMIT, MAX_SIZE}
-use Rattle.dist_words.specs.Clap.{Options as Chosen, number_of, options_of, simple_command, taken_of}
+use Rattle.dist_words.specs.Clap.{Options as Chosen, option_number, options_of, simple_command, taken_of}
 use Rattle.dist_words.specs.Lines.{IsLimit, IsSize}
 use Rattle.dist_words.specs.SimpleCommand.{IsMatched}
 use Rattle.dist_words.specs.Table.{accepted, in_table}
@@ -79,7 +79,7 @@ ReadsNumber text r = ParsesUnsigned 32 10 text r
 pub number_read : {E : Type 0} (G : Text → Result ℕ E → Type 0) (m : ArgMatches) → IsMatched m → (k : ℕ) (rule : Rule) (least greatest : ℕ) → IsAt k rule
     → rule.parser ≡ Some (values.Signed (pos least) (pos greatest)) → greatest < 2 ^ 32 → ((u : Text) (x : Result ℕ E) → G u x → ParsesUnsigned 32 10 u x)
     → (r : Option ℕ) → (one_text (found_of m) rule.id ≡ None → r ≡ None) → ((t : Text) → one_text (found_of m) rule.id ≡ Some t → ReadsOne G t r)
-    → (r ≡ number_of rule.id (rows_of (found_of m))) × IfSome r (λ n. (least ≤ n) × (n ≤ greatest))
+    → (r ≡ option_number rule.id (rows_of (found_of m))) × IfSome r (λ n. (least ≤ n) × (n ≤ greatest))
 number_read {E} G m matched k rule least greatest at parser fits only r none some = go (one_text (found_of m) rule.id) refl
   where
     number : Option Text → Option ℕ
@@ -91,7 +91,8 @@ number_read {E} G m matched k rule least greatest at parser fits only r none som
     with : (t : Text) (o : Option ℕ) (n : ℕ) → o ≡ Some n → ReadsOne G t o → o ≡ Some (digits_value 10 (without_leading_plus t))
     with t o n is read = is ∙ ap Some (value t n (subst (λ (p : Option ℕ). ReadsOne G t p) is read))
 
-    go : (o : Option Text) → one_text (found_of m) rule.id ≡ o → (r ≡ number_of rule.id (rows_of (found_of m))) × IfSome r (λ n. (least ≤ n) × (n ≤ greatest))
+    go : (o : Option Text) → one_text (found_of m) rule.id ≡ o
+        → (r ≡ option_number rule.id (rows_of (found_of m))) × IfSome r (λ n. (least ≤ n) × (n ≤ greatest))
     go None e = (
       none e ∙ sym (ap number (sym (one_text-rows (found_of m) rule.id) ∙ e)),
       subst (λ (o : Option ℕ). IfSome o (λ n. (least ≤ n) × (n ≤ greatest))) (sym (none e)) tt,
@@ -100,7 +101,7 @@ number_read {E} G m matched k rule least greatest at parser fits only r none som
         let got = passes m matched k rule at (values.Signed (pos least) (pos greatest)) parser t e in
         let read : ReadsOne G (without_minus got.0) r = subst (λ (u : Text). ReadsOne G u r) got.1 (some t e) in
         let n = signed_reads E G 32 least greatest got.0 r read only fits got.2 in
-        let rows : number_of rule.id (rows_of (found_of m)) ≡ Some (digits_value 10 (without_leading_plus t)) =
+        let rows : option_number rule.id (rows_of (found_of m)) ≡ Some (digits_value 10 (without_leading_plus t)) =
         ap number (sym (one_text-rows (found_of m) rule.id) ∙ e) in
         (with t r n.0 n.1 (some t e) ∙ sym rows, subst (λ (o : Option ℕ). IfSome o (λ n. (least ≤ n) × (n ≤ greatest))) (sym n.1) (n.2, n.3))
 

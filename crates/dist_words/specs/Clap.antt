@@ -60,14 +60,14 @@ pub record Taken : Type 0 where
   pub options : Options
 
 -- the number of an option that stands
-abbrev pub number_of : Text → List Row → Option ℕ
-number_of name rows = option_map (λ text. digits_value 10 (without_leading_plus text)) (one_of name rows)
+abbrev pub option_number : Text → List Row → Option ℕ
+option_number name rows = option_map (λ text. digits_value 10 (without_leading_plus text)) (one_of name rows)
 
 abbrev pub options_of : List Row → Options
 options_of rows = record {
-  limit = number_of (codes "limit") rows;
-  size = number_of (codes "size") rows;
-  seed = number_of (codes "seed") rows;
+  limit = option_number (codes "limit") rows;
+  size = option_number (codes "size") rows;
+  seed = option_number (codes "seed") rows;
   essential = bytes_eq (unwrap_or (one_of (codes "essential") rows) []) (codes "true");
 }
 

@@ -2,8 +2,7 @@
 use Rattle.std.specs.Prelude.{ℕ, List, Bool}
 
 -- A command with the names of its files and its options: how many derived lines leave a question undecided, whether
--- every
--- installation has the essential names, and the size and the seed of an archive that is made.
+-- every installation has the essential names, and the size and the seed of an archive that is made.
 pub data CommandLine : Type 0 where
   Health : (packages list : List ℕ) → CommandLine
   Classes : (packages : List ℕ) → CommandLine

@@ -73,8 +73,7 @@ abbrev pub accepted : Taken → Option CommandLine
 accepted t = in_table (unwrap_or t.command []) t.files t.options
 
 -- The command of the words: what `clap` states that it matches, accepted by the table. There is none where `clap`
--- states
--- that it refuses the words, or the table has none.
+-- states that it refuses the words, or the table has none.
 unfoldable pub command_of : List Text → Option CommandLine
 command_of words = if is_empty (fault_of simple_command words) then accepted (taken words) else None
 

@@ -10,6 +10,3 @@ mod taken;
 pub use command::{CertFiles, Command, HealthFiles, StrongWords, TryWords};
 pub use error::WordsError;
 pub use table::command_of;
-
-#[cfg(test)]
-mod tests;

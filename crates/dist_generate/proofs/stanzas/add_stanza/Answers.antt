@@ -1,6 +1,6 @@
 use Rattle.std.proofs.Common.{◌++◌, [], ◌∷◌, ap, ◌∙◌}
 use Rattle.std.specs.Prelude.{None}
-use Rattle.dist_generate.specs.Generator.{head_lines, text_of_lines}
+use Rattle.dist_generate.specs.Generator.{stanza_head, text_of_lines}
 use Rattle.dist_generate.proofs.Adding.{stanza-first, stanza-more}
 use Rattle.dist_generate.proofs.stanzas.add_stanza.Goals as goal
 use Rattle.dist_generate.proofs.stanzas.add_stanza.Goals.{then-number-gt0+in_ok-add_depends+in_ok-add_conflict, else-number-gt0}
@@ -11,7 +11,7 @@ returns c =
     let old = c.args.text.now.items in
     let text = c.add_head.new.text.items in
     let moved = c.draw-digit.ensures.moved in
-    let head = c.in_ok-add_head.ensures ∙ ap (λ d. old ++ text_of_lines (head_lines (record { number = number; digit = d; items = []; conflict = None })))
+    let head = c.in_ok-add_head.ensures ∙ ap (λ d. old ++ text_of_lines (stanza_head (record { number = number; digit = d; items = []; conflict = None })))
     c.draw-digit.ensures.value in
     elim c.if-number-gt0.branch [
       | then-number-gt0+in_ok-add_depends+in_ok-add_conflict w ↦

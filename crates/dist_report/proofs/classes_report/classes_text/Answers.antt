@@ -1,6 +1,6 @@
 use Rattle.std.proofs.Common.{◌++◌, append_assoc, ℕ, List, codes, ap, subst, ◌∙◌}
 use Rattle.dist_repo.specs.PackageList.{PackageList}
-use Rattle.dist_report.specs.ClassesReport.{AreToldNames, cluster_lines, name_lines, opening}
+use Rattle.dist_report.specs.ClassesReport.{AreToldNames, cluster_lines, name_lines, first_lines}
 use Rattle.dist_report.specs.Lines.{listed}
 use Rattle.dist_report.proofs.classes_report.classes_text.Goals as goal
 
@@ -18,5 +18,5 @@ returns c =
       are_clusters = clusters.are;
       are_names = subst Told c.in_ok-finder.ensures names.are;
       is = names.text ∙ ap (λ (t : List ℕ). t ++ second) (clusters.text ∙ ap (λ (t : List ℕ). t ++ first) c.in_ok-out.ensures)
-          ∙ append_assoc (opening packages) first second;
+          ∙ append_assoc (first_lines packages) first second;
     }

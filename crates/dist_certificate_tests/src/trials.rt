@@ -2,8 +2,8 @@
 ghost use Rattle.std.specs.Prelude.{◌≤◌};
 ghost use Rattle.dist_subject.specs.Limited.{AreStated};
 
-use super::*;
 use dist_outside::{Limits, What, WorkError};
+use dist_trial::{marks_are_counted, trial};
 use std::alloc::Global;
 use std::test::Fail;
 

@@ -1,10 +1,9 @@
 //! A claim on strong dependencies, and what is kept for it.
 ghost use Rattle.std.specs.Prelude.{◌+◌, ◌<◌, ◌≤◌, OnOk};
 
-use crate::numbers::is_rising;
-use crate::{Group, Window, judge_rules};
 use dist_cert::CertCause::{Incomplete, WrongClaim};
 use dist_cert::{CertCause, Items};
+use dist_group::{Group, Window, is_rising, judge_rules};
 use std::alloc::{AllocError, Global};
 use std::test::Fail;
 

@@ -1,5 +1,5 @@
 //! The words of each command, and words that are of none.
-use crate::{Command, WordsError, command_of};
+use dist_words::{Command, WordsError, command_of};
 use std::alloc::{AllocError, Global};
 use std::test::Fail;
 

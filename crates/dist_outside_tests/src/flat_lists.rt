@@ -1,5 +1,5 @@
 //! A list of lists against plain slices.
-use crate::Flat;
+use dist_base::Flat;
 use std::test::Fail;
 
 #[test]

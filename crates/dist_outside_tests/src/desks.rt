@@ -1,5 +1,5 @@
 //! Tests over desks and sinks in memory, and one over the real file system.
-use crate::{
+use dist_outside::{
     Desk, Limits, MemoryDesk, MemorySink, RealDesk, Sink, StdSink, Trouble, What, WorkError,
     desk_only_reads, desk_write_whole, file_grows, file_holds, read_whole, sink_grows, write_whole,
 };
@@ -117,6 +117,33 @@ fn a_file_of_the_system_is_written_and_read(rt: HostRuntime) -> Result<(), Fail>
     assert_eq!(rt; bytes?.as_slice(), b"0123456789".as_slice());
     assert_eq!(rt; desk.start_read(path), Err(Trouble::Failed));
     assert_eq!(rt; desk.create("no such folder/file"), Err(Trouble::Failed));
+    Ok(())
+}
+
+#[test]
+fn a_longer_file_of_the_system_is_made_empty(rt: HostRuntime) -> Result<(), Fail> {
+    let alloc = rt.alloc();
+    let path = "dist_outside_longer_file.txt";
+    let mut desk = RealDesk::new(alloc, &rt);
+    desk.create(path)?;
+    desk_write_whole(&mut desk, b"0123456789")?;
+    desk.close()?;
+    desk.create(path)?;
+    desk_write_whole(&mut desk, b"abc")?;
+    desk.close()?;
+    let bytes = read_whole(alloc, &mut desk, path, 10);
+    fs::remove_file(&rt, path)?;
+    assert_eq!(rt; bytes?.as_slice(), b"abc".as_slice());
+    Ok(())
+}
+
+/// A small piece waits for the close, which is the first call that the device refuses.
+#[test]
+fn a_full_device_is_told_when_the_file_is_closed(rt: HostRuntime) -> Result<(), Fail> {
+    let mut desk = RealDesk::new(rt.alloc(), &rt);
+    desk.create("/dev/full")?;
+    desk_write_whole(&mut desk, b"text")?;
+    assert_eq!(rt; desk.close(), Err(Trouble::Failed));
     Ok(())
 }
 

@@ -1,5 +1,5 @@
 //! Archives of some sizes and seeds. The expected texts and numbers are those of another program.
-use super::*;
+use dist_generate::generate;
 use std::test::Fail;
 
 const ONE: &str = "Package: g0
