@@ -1,9 +1,12 @@
-"""Prints a part of a Packages file: a package, and all that its relations lead to, until there are so many stanzas.
+#!/usr/bin/env python3
+"""Prints a part of a Packages file: the essential packages, a package, and all that their relations lead to, until there are so
+many stanzas. On standard error it tells how many stanzas the part has and how many it leaves out, and how many of the part lack
+something by that: an item of their Pre-Depends or Depends that the file can meet and the part cannot.
 
 Usage: closed-part.py PACKAGES NAME COUNT
 
-Breadth first from the package of that name: Pre-Depends and Depends, each alternative, each package of the name and each that
-provides it. Where the number is reached, what is left out is missing as it would be in a smaller archive.
+Breadth first: Pre-Depends and Depends, each alternative, each package of the name and each that provides it. The essential
+packages and what they lead to are taken whole, whatever COUNT is, since every installation has them at mode essential.
 """
 
 import re
@@ -11,27 +14,47 @@ import sys
 from collections import deque
 
 path, start, count = sys.argv[1], sys.argv[2], int(sys.argv[3])
-stanzas, by_name, leads = [], {}, []
-for stanza in open(path, "rb").read().split(b"\n\n"):
-    fields = {}
+stanzas, by_name, items, essential = [], {}, [], []
+with open(path, "rb") as file:
+    text = file.read()
+for stanza in text.split(b"\n\n"):
+    fields, name = {}, None
     for line in stanza.split(b"\n"):
-        if line[:1] not in b" \t" and b":" in line:
+        if line[:1] in (b" ", b"\t") and name:
+            fields[name] += line
+        elif b":" in line:
             name, value = line.split(b":", 1)
             fields[name] = value
     if b"Package" not in fields:
         continue
     number = len(stanzas)
     stanzas.append(stanza)
-    named = lambda field: [re.split(rb"[ (:\[]", atom.strip())[0] for atom in re.split(rb"[,|]", fields.get(field, b"")) if atom.strip()]
-    for name in [fields[b"Package"].strip(), *named(b"Provides")]:
+    names = lambda text, cut: [re.split(rb"[ (:\[]", part.strip())[0] for part in re.split(cut, text) if part.strip()]
+    for name in [fields[b"Package"].strip(), *names(fields.get(b"Provides", b""), rb",")]:
         by_name.setdefault(name, []).append(number)
-    leads.append(named(b"Pre-Depends") + named(b"Depends"))
+    wants = fields.get(b"Pre-Depends", b"") + b"," + fields.get(b"Depends", b"")
+    items.append([names(item, rb"\|") for item in wants.split(b",") if item.strip()])
+    if fields.get(b"Essential", b"").strip() == b"yes":
+        essential.append(number)
 
-found, waiting = set(), deque(by_name.get(start.encode(), []))
-while waiting and len(found) < count:
-    number = waiting.popleft()
-    if number not in found:
-        found.add(number)
-        for name in leads[number]:
-            waiting.extend(by_name.get(name, []))
+
+def lead(found, begin, most):
+    """Adds what some packages lead to, until there are so many."""
+    waiting = deque(begin)
+    while waiting and len(found) < most:
+        number = waiting.popleft()
+        if number not in found:
+            found.add(number)
+            for item in items[number]:
+                for name in item:
+                    waiting.extend(by_name.get(name, []))
+
+
+found = set()
+lead(found, essential, len(stanzas) + 1)
+lead(found, by_name.get(start.encode(), []), count)
+can_be_met = lambda item, among: any(number in among for name in item for number in by_name.get(name, []))
+everything = range(len(stanzas))
+lacking = sum(any(can_be_met(item, everything) and not can_be_met(item, found) for item in items[number]) for number in found)
 sys.stdout.buffer.write(b"".join(stanzas[number] + b"\n\n" for number in sorted(found)))
+print(f"{len(found)} stanzas, {len(stanzas) - len(found)} left out; {lacking} of the part lack something by that", file=sys.stderr)

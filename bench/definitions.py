@@ -1,9 +1,10 @@
 #!/usr/bin/env python3
 """Lists the definitions that a reader must believe: those that the clauses of public functions reach, through the definitions
 of specs/ that they name. Words of the kit's own library, and the types of src/ themselves, are not listed.
-Usage: definitions.py [--twice | --docs] [FILE FUNCTION]..    crates/dist_app/src/top_call.rt run where none is named
+Usage: definitions.py [--twice | --page | --check] [FILE FUNCTION]..    crates/dist_app/src/top_call.rt run where none is named
   --twice  only the names that are defined more than once among them
-  --docs   only what docs/DEFINITIONS.md has in its first part and the clauses do not reach, or the other way round"""
+  --page   docs/DEFINITIONS.md, made from the comments above the definitions
+  --check  ends with a fault where docs/DEFINITIONS.md is not that page, or a definition has no words above it"""
 import os
 import re
 import sys
@@ -19,13 +20,21 @@ class File:
     """The definitions of a file of specs/, each with the words of its text, and what the file imports."""
 
     def __init__(self, path):
-        self.path, self.bodies, self.lines = path, {}, {}
+        self.path, self.bodies, self.lines, self.entries = path, {}, {}, []
         with open(f"{TOP}/{path}", encoding="utf-8") as it:
             text = it.read()
         self.names, self.modules = imports(text)
-        name = None
+        name, words, self.head, self.equations = None, [], "", {}
+        is_apart = True
         for number, line in enumerate(text.split("\n"), 1):
+            if line.startswith("-- ----"):
+                words = []
+            elif line.startswith("--"):
+                words.append(line[2:].strip())
+            elif line.startswith(("use ", "pub use ")) and words:
+                self.head, words = " ".join(words), []
             if not line.strip() or line.startswith(("--", "use ", "pub use ", "pub mod ", "mod ", "module ")):
+                is_apart = is_apart or not line.strip()
                 continue
             if not line.startswith(" "):
                 begun = BEGINS.match(line)
@@ -33,8 +42,13 @@ class File:
                     name = begun[1]
                     self.bodies.setdefault(name, "")
                     self.lines.setdefault(name, number)
+                    if words or is_apart or not self.entries:
+                        self.entries.append((" ".join(words), []))
+                    self.entries[-1][1].append(name)
+                    words, is_apart = [], False
                 elif line.split()[0] in self.bodies:
                     name = line.split()[0]
+                    self.equations.setdefault(name, []).append(line)
             if name:
                 self.bodies[name] += re.sub(r'"(?:\\.|[^"])*"|--.*', " ", line) + "\n"
 
@@ -120,11 +134,89 @@ def all_reached(starts):
     return found
 
 
-def documented():
-    """The names in the first part of docs/DEFINITIONS.md: those between backquotes at the start of an entry."""
-    with open(f"{TOP}/docs/DEFINITIONS.md", encoding="utf-8") as it:
-        first = it.read().split("\n## What need not be believed")[0]
-    return {name for entry in re.findall(r"^[-|] (`[^\n]*?`)(?: \||: )", first, re.M) for name in re.findall(r"`([^`]+)`", entry)}
+# The chapters of the page, in the order of the subject, each with its crates.
+CHAPTERS = [
+    ("Versions (Debian Policy 5.6.12)", ["dist_version"]),
+    ("Relations (Debian Policy 7.1)", ["dist_relation"]),
+    ("Control text (Debian Policy 5.1)", ["dist_control"]),
+    ("Packages, match, conflict, healthy installations (Debian Policy chapter 7)", ["dist_repo"]),
+    ("Packages files", ["dist_package"]),
+    ("LIST, and the health of a set", ["dist_list", "dist_now"]),
+    ("Source clusters, and classes of later versions", ["dist_cluster", "dist_classes"]),
+    ("Clauses, what follows, and what is new", ["dist_clause", "dist_derive"]),
+    ("Certificates", ["dist_cert"]),
+    ("What certificates speak of, and what their claims mean", ["dist_subject", "dist_check"]),
+    ("What a sweep may write", ["dist_strong"]),
+    ("Reports", ["dist_report"]),
+    ("Made archives, and trials on them", ["dist_generate", "dist_trial"]),
+    ("Files and streams", ["dist_base", "dist_outside"]),
+    ("The command line", ["dist_words"]),
+    ("The commands, and the theorem", ["dist_app"]),
+]
+HEAD = """# Definitions
+
+What the contracts speak of. This page is made by `bench/definitions.py --page` from the comments above the definitions.
+
+The first part has exactly the definitions that the contract of `run` reaches: {count} names. A reader who believes them, and the Rattle kit,
+need believe nothing of the code. The second part has the other words of public contracts: those of single libraries, and of the questions
+about the future, which have no command yet.
+
+# Part one: what must be believed
+"""
+SECOND = "# Part two: the other words of public contracts\n"
+# Files of specs/ that hold no definition of a public contract.
+APART = ("Laws", "Examples", "Private", "Lib")
+
+
+def in_order(paths):
+    """Files of one crate, each behind those that it imports."""
+    done = []
+
+    def put(path):
+        if path not in done:
+            for module, _ in load(path).names.values():
+                other = file_of(module)
+                if other in paths and other != path:
+                    put(other)
+            done.append(path) if path not in done else None
+
+    for path in sorted(paths):
+        put(path)
+    return done
+
+
+def entries_of(path, wanted):
+    """The entries of a file: names that are wanted, and the words above them, or else the one short line that defines it."""
+    file = load(path)
+    for words, names in file.entries:
+        told = [name for name in names if wanted(path, name)]
+        if told and not words and len(told) == 1 and len(file.equations.get(told[0], [])) == 1:
+            words = f"`{file.equations[told[0]][0]}`"
+        if told:
+            yield told, words
+
+
+def part(wanted):
+    lines = []
+    for title, crates in CHAPTERS:
+        chapter = []
+        for crate in crates:
+            folder = f"crates/{crate}/specs"
+            paths = [f"{folder}/{name}" for name in os.listdir(f"{TOP}/{folder}") if name.endswith(".antt") and not name[:-5].endswith(APART)]
+            for path in in_order(paths):
+                entries = list(entries_of(path, wanted))
+                if entries:
+                    chapter.append(f"**`{path}`**\n")
+                    chapter += [f"- {', '.join(f'`{name}`' for name in told)}: {words}" for told, words in entries]
+                    chapter.append("")
+        if chapter:
+            lines += [f"## {title}\n", *chapter]
+    return lines
+
+
+def page(found):
+    first = lambda path, name: (path, name) in found
+    return "\n".join([HEAD.format(count=len(found)), *part(first), SECOND, *part(lambda path, name: not first(path, name))])
 
 
 def main(words):
@@ -138,16 +230,19 @@ def main(words):
         for name, paths in sorted(by_name.items()):
             if len(paths) > 1:
                 print(name, *sorted(paths))
-    elif option == "--docs":
-        names = {name for _, name in found}
-        for name in sorted(names - documented()):
-            print(f"docs/DEFINITIONS.md lacks {name}")
-        for name in sorted(documented() - names):
-            print(f"docs/DEFINITIONS.md has {name}, which need not be believed")
+    elif option == "--page":
+        print(page(found), end="")
+    elif option == "--check":
+        bare = [f"{path} {told[0]}" for path in {path for path, _ in found} for told, words in entries_of(path, lambda *at: at in found) if not words]
+        with open(f"{TOP}/docs/DEFINITIONS.md", encoding="utf-8") as it:
+            if it.read() != page(found):
+                bare.append("docs/DEFINITIONS.md is old: bench/definitions.py --page > docs/DEFINITIONS.md")
+        print("\n".join(bare) or "docs/DEFINITIONS.md is as the definitions say")
+        return 1 if bare else 0
     else:
         for (path, name), line in sorted(found.items()):
             print(f"{path}:{line} {name}")
         print(f"{len(found)} definitions in {len({path for path, _ in found})} files")
 
 
-main(sys.argv[1:])
+sys.exit(main(sys.argv[1:]))

@@ -1,17 +1,17 @@
 #!/usr/bin/env python3
-"""Times `health` on files made to be slow to read, at half a size and at the whole of it, and prints the growth and the ratio
-to a count of the file's lines. Linear work doubles; the square of the size would be four times as much.
-Usage: hostile.py PROGRAM"""
-import os, random, subprocess, sys, tempfile, time
+"""Times the program on files made to be slow, at half a size and at the whole of it. It prints for each the seconds, the growth,
+and the memory against the bytes of the files, and ends with a fault where doubling the size costs more than 2.6 times as much,
+or the memory is more than twelve times the files. What takes under a tenth of a second is not judged.
+Usage: hostile.py PROGRAM [BENCH [WORD..]]    the program and dist_bench, as `rt run` leaves them; the rows whose name has a WORD"""
+import os
+import random
+import subprocess
+import sys
+import tempfile
+import time
 
-
-def best(words, runs=3):
-    times = []
-    for _ in range(runs):
-        start = time.perf_counter()
-        subprocess.run(words, stdout=subprocess.DEVNULL, stderr=subprocess.DEVNULL)
-        times.append(time.perf_counter() - start)
-    return min(times)
+MOST_GROWTH, MOST_MEMORY, LEAST_SECONDS = 2.6, 12, 0.1
+LONG = "lib" + "x" * 61
 
 
 def stanza(name, version="1", more=""):
@@ -24,30 +24,148 @@ def shuffled(items):
     return items
 
 
-LONG = "lib" + "x" * 61
+def header(mode="plain", numbers="1 1 1"):
+    return f"distfuture-certificate 1 strong {mode} 10000 {numbers}\n"
 
-MAKERS = {
-    "one stanza of so many different fields": (1_000_000, lambda n: stanza("a", more="".join(f"F{k}: \n" for k in shuffled(range(n))))),
-    "one field of so many lines": (1_000_000, lambda n: stanza("a", more="Description: a\n" + " b\n" * n)),
-    "one package of so many alternatives": (1_000_000, lambda n: stanza("a", more="Depends: " + " | ".join(f"b{k}" for k in range(n)) + "\n")),
-    "one package of so many items": (1_000_000, lambda n: stanza("a", more="Depends: " + ", ".join(f"b{k}" for k in range(n)) + "\n")),
-    "so many versions of one name": (200_000, lambda n: "".join(stanza("a", k) for k in shuffled(range(n)))),
-    "so many names of one long front": (200_000, lambda n: "".join(stanza(f"{LONG}{k:07}") for k in shuffled(range(n)))),
-    "so many names, the last first": (200_000, lambda n: "".join(stanza(f"{k:07}") for k in range(n, 0, -1))),
-    "one name provided so many times": (200_000, lambda n: "".join(stanza(f"p{k}", more="Provides: a\n") for k in range(n))),
-    "so many blank lines": (10_000_000, lambda n: "\n" * n + stanza("a")),
+
+# ---- what is run on a file: the words, and the other file
+
+# An empty set: reading alone.
+def read(packages):
+    return ["health", "packages", "list"], packages, ""
+
+
+# All packages of some names: the set is judged.
+def judged(packages, members):
+    return ["health", "packages", "list"], packages, members
+
+
+# A certificate whose first line is refused, once the clauses were made.
+def clauses(packages, mode="plain"):
+    return ["check", "packages", "list"], packages, header(mode)
+
+
+def checked(packages, certificate):
+    return ["check", "packages", "list"], packages, certificate
+
+
+def classes(packages):
+    return ["classes", "packages"], packages, ""
+
+
+# The clauses of futures, which dist_bench makes.
+def futures(packages):
+    return ["bench", "count-future-clauses", "packages"], packages, ""
+
+
+# ---- the files
+
+def asked_by_many(n):
+    """Packages that ask for one version each of a name that as many provide, each at another version."""
+    asks = "".join(stanza(f"p{k:06}", more=f"Depends: a (= {k})\n") for k in range(n // 2))
+    offers = "".join(stanza(f"q{k:06}", more=f"Provides: a (= {k})\n") for k in range(n // 2))
+    return asks + offers, "".join(f"{letter}{k:06} 1\n" for letter in "pq" for k in range(n // 2))
+
+
+def hints(n):
+    """A derived line of n / 5 literals under a clause of as many, and one false hint n times behind it."""
+    wide = n // 5
+    packages = "".join(stanza(f"a{k:06}") for k in range(wide))
+    packages += stanza("z", more="Depends: " + " | ".join(f"a{k:06}" for k in range(wide)) + "\n")
+    literals = " ".join([f"-{wide + 1}"] + [str(k + 1) for k in range(wide)])
+    return packages, header("plain", f"{wide + 1} {wide + 1} 1") + f"d {literals} 0{' 1' * n}\n"
+
+
+def wide_line(n):
+    """An installation of so many variables that none of them is there."""
+    return stanza("a"), header("plain", "1 1 0") + "m " + " ".join(str(k) for k in range(1, n)) + "\n"
+
+
+def many_entries(n):
+    """A library with n / 4 entries and n / 20 bounds on another name, and n / 2 atoms on the library."""
+    entries = ", ".join(f"e{k}" for k in range(n // 4))
+    bounds = "".join(stanza(f"b{k:06}", more=f"Depends: libx (<< {k + 2})\n") for k in range(n // 20))
+    atoms = stanza("p", more="Depends: " + ", ".join(["libx (<< 1)"] * (n // 2)) + "\n")
+    return stanza("libx", more=f"Provides: {entries}\n") + bounds + atoms
+
+
+ROWS = {
+    "one stanza of so many different fields": (1_000_000, lambda n: read(stanza("a", more="".join(f"F{k}: \n" for k in shuffled(range(n)))))),
+    "one field of so many lines": (1_000_000, lambda n: read(stanza("a", more="Description: a\n" + " b\n" * n))),
+    "one package of so many alternatives": (1_000_000, lambda n: read(stanza("a", more="Depends: " + " | ".join(f"b{k}" for k in range(n)) + "\n"))),
+    "one package of so many items": (1_000_000, lambda n: read(stanza("a", more="Depends: " + ", ".join(f"b{k}" for k in range(n)) + "\n"))),
+    "so many versions of one name": (200_000, lambda n: read("".join(stanza("a", k) for k in shuffled(range(n))))),
+    "so many versions with 600 equal bytes in front": (50_000, lambda n: read("".join(stanza("a", "1." + "a" * 600 + str(k)) for k in shuffled(range(n))))),
+    "so many names of one long front": (200_000, lambda n: read("".join(stanza(f"{LONG}{k:07}") for k in shuffled(range(n))))),
+    "so many names, the last first": (200_000, lambda n: read("".join(stanza(f"{k:07}") for k in range(n, 0, -1)))),
+    "one name provided so many times": (200_000, lambda n: read("".join(stanza(f"p{k}", more="Provides: a\n") for k in range(n)))),
+    "so many blank lines": (10_000_000, lambda n: read("\n" * n + stanza("a"))),
+    "so many lists of blanks between commas": (50_000, lambda n: read("".join(stanza(f"p{k}", more="Depends: a" + "," * 63 + "\n") for k in range(n)))),
+    "so many packages that ask for a version of one name": (40_000, lambda n: judged(*asked_by_many(n))),
+    "so many members of one name": (100_000, lambda n: judged("".join(stanza("a", k) for k in range(n)), f"a {n - 1}\n")),
+    "the clauses of as many": (40_000, lambda n: clauses(asked_by_many(n)[0])),
+    "the clauses of one conflict told again and again": (20_000, lambda n: clauses(
+        "".join(stanza(f"p{k}", more="Provides: x\n") for k in range(n)) + stanza("q", more="Conflicts: " + ", ".join(["x"] * (n // 20)) + "\n"))),
+    "the clauses of one alternative told again and again": (20_000, lambda n: clauses(
+        "".join(stanza(f"p{k}", more="Provides: x\n") for k in range(n)) + stanza("q", more="Depends: " + " | ".join(["x"] * (n // 20)) + "\n"))),
+    "the clauses of so many essential packages of one name": (6_000, lambda n: clauses(
+        "".join(stanza("a", k, "Essential: yes\n") for k in range(n)), "essential")),
+    "more clauses than may be": (40_000, lambda n: clauses("".join(stanza(f"p{k}", more="Provides: x\nConflicts: x\n") for k in range(n)))),
+    "one false hint told again and again": (100_000, lambda n: checked(*hints(n))),
+    "one line of so many numbers": (6_000_000, lambda n: checked(*wide_line(n))),
+    "the classes of one entry told again and again": (8_000, lambda n: classes(
+        stanza("libx", more="Provides: " + ", ".join(["a (= 1)"] * n) + "\n") + stanza("p", more="Conflicts: " + ", ".join(f"a (>= {k})" for k in range(n)) + "\n"))),
+    "the clauses of futures of so many entries": (8_000, lambda n: futures(many_entries(n))),
 }
 
-program = sys.argv[1]
-with tempfile.TemporaryDirectory() as folder:
-    path = f"{folder}/packages"
-    for told, (size, make) in MAKERS.items():
-        times = []
-        for count in (size // 2, size):
-            with open(path, "w") as file:
-                file.write(make(count))
-            times.append(best([program, "health", path, os.devnull]))
-        answer = subprocess.run([program, "health", path, os.devnull], capture_output=True, text=True)
-        lines = best(["wc", "-l", path])
-        print(f"{told}: {size}, {os.path.getsize(path)} bytes: {times[1]:.3f} s, {times[1] / times[0]:.2f} times half of it,"
-              f" {times[1] / lines:.0f} times wc -l, status {answer.returncode} {answer.stdout.strip()}{answer.stderr.strip()}")
+
+def best(words, folder, runs=2):
+    """The least seconds, the most memory in bytes, and how it ended."""
+    seconds, memory = [], []
+    for _ in range(runs):
+        start = time.perf_counter()
+        with open(f"{folder}/out", "wb") as out, open(f"{folder}/err", "wb") as err:
+            child = subprocess.Popen(words, cwd=folder, stdout=out, stderr=err)
+            _, status, used = os.wait4(child.pid, 0)
+        seconds.append(time.perf_counter() - start)
+        memory.append(used.ru_maxrss * 1024)
+    with open(f"{folder}/err", encoding="utf-8") as err:
+        return min(seconds), max(memory), f"status {os.waitstatus_to_exitcode(status)} {err.read().strip()}"
+
+
+def main(program, bench=None, *chosen):
+    programs = {"bench": bench and os.path.abspath(bench)}
+    faults = 0
+    with tempfile.TemporaryDirectory() as folder:
+        for name in ("packages", "list"):
+            open(f"{folder}/{name}", "w").close()
+        _, empty, _ = best([os.path.abspath(program), "health", "packages", "list"], folder)
+        for told, (size, make) in ROWS.items():
+            if chosen and not any(word in told for word in chosen):
+                continue
+            results = []
+            for count in (size // 2, size):
+                words, packages, other = make(count)
+                for name, text in (("packages", packages), ("list", other)):
+                    with open(f"{folder}/{name}", "w") as file:
+                        file.write(text)
+                which = programs.get(words[0], os.path.abspath(program))
+                if not which:
+                    break
+                results.append(best([which, *(words[1:] if words[0] in programs else words)], folder))
+            if len(results) < 2:
+                print(f"{told}: not tried, no dist_bench was named")
+                continue
+            (half, _, _), (whole, memory, ended) = results
+            bytes_read = len(packages) + len(other)
+            growth, times = whole / half, max(memory - empty, 0) / bytes_read
+            is_slow = whole >= LEAST_SECONDS and growth > MOST_GROWTH
+            is_large = times > MOST_MEMORY and memory - empty > 2**24
+            faults += is_slow + is_large
+            print(f"{told}: {size}, {bytes_read} bytes: {whole:.3f} s, {growth:.2f} times half of it, memory {times:.1f} times the files, {ended}"
+                  f"{'  TOO SLOW' if is_slow else ''}{'  TOO LARGE' if is_large else ''}", flush=True)
+    print(f"{faults} faults")
+    return 1 if faults else 0
+
+
+sys.exit(main(*sys.argv[1:]))

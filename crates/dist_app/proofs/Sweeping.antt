@@ -69,7 +69,7 @@ module _ (r : PackageList) (essential : Bool) (limit : ℕ) (limits : Limits) (n
   claims_of hold made in_order (text, holds, sweep) = (sweep_means hold r essential limit limits text made in_order sweep).are_claims
 
   pub swept : (made : List Claim) (status : Status) (text : List ℕ) → SweepAnswers r essential limit limits name old new (Ok made) → status ≡ claims_status made
-      → text ≡ strong_lines r.packages (header_of r essential limit []) made → IsSwept old.files limits name essential limit r (answered new.files status text)
+      → text ≡ strong_lines r.packages limit made → IsSwept old.files limits name essential limit r (answered new.files status text)
   swept made status text (bytes, holds, sweep) status_is text_is = record {
     made = made;
     text = bytes;
@@ -84,9 +84,9 @@ module _ (r : PackageList) (essential : Bool) (limit : ℕ) (limits : Limits) (n
         refl,
         inr (
           claims_status made,
-          strong_lines r.packages (header_of r essential limit []) made,
+          strong_lines r.packages limit made,
           kept (Ok made) exact (λ e. cc) (λ e. cc) (λ e. cc),
-          swept made (claims_status made) (strong_lines r.packages (header_of r essential limit []) made) answers refl refl,
+          swept made (claims_status made) (strong_lines r.packages limit made) answers refl refl,
         ),
       )))
 

@@ -42,7 +42,7 @@ CertificateStage files limits cert r (Ends ending) = (result : Result Verdict Wo
 abbrev pub Reports : Option Files → PackageList → (Header × List Claim) → Ending → Type 0
 Reports files r accepted ending =
     AcceptedMeans r accepted.0 accepted.1 × (ending
-    ≡ answered files (claims_status accepted.1) (strong_lines r.packages accepted.0 accepted.1))
+    ≡ answered files (claims_status accepted.1) (strong_lines r.packages accepted.0.limit accepted.1))
 
 -- PACKAGES is read and taken apart first, then CERT is judged. The first stage that is refused decides.
 abbrev pub CheckStages : Option Files → Limits → (packages cert : List ℕ)

@@ -15,7 +15,7 @@ use Rattle.dist_cert.specs.declared.records.Claim.{Claim}
 use Rattle.dist_cert.specs.declared.records.Header.{Header}
 use Rattle.dist_subject.specs.Completed.{IsCompleted}
 use Rattle.dist_subject.specs.Present.{AreInputs, subject_of}
-use Rattle.dist_strong.specs.Sweep.{IsSweep, header_of}
+use Rattle.dist_strong.specs.Sweep.{IsSweep}
 use Rattle.dist_check.specs.Answers.{AcceptedMeans}
 use Rattle.dist_check.specs.Checking.{OfText}
 use Rattle.dist_check.specs.Means.{Means}
@@ -45,7 +45,7 @@ pub record ProvesStrong (limits : Limits) (packages cert : List ℕ) (essential 
   pub certificate : IsSweep repository essential limit limits made text
   pub files : desk'.files ≡ with_file desk.files cert text
   pub means : Means essential repository made
-  pub printed : Grew (strong_lines repository.packages (header_of repository essential limit []) made) out out'
+  pub printed : Grew (strong_lines repository.packages limit made) out out'
   pub status : result ≡ claims_status made
 
 -- PACKAGES has a repository, and the file CERT was accepted over it, whoever wrote it, with a first line and claims.
@@ -61,7 +61,7 @@ pub record ProvesCheck (limits : Limits) (packages cert : List ℕ) (result : St
   pub accepted : OfText (file_bytes desk.files cert) (λ text. IsCompleted repository limits text header made)
   pub files : desk'.files ≡ desk.files
   pub means : AcceptedMeans repository header made
-  pub printed : Grew (strong_lines repository.packages header made) out out'
+  pub printed : Grew (strong_lines repository.packages header.limit made) out out'
   pub status : result ≡ claims_status made
 
 -- the same of a run with these words

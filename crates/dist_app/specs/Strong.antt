@@ -7,7 +7,7 @@ use Rattle.dist_outside.specs.declared.trouble.What.TheVariants.{Clauses, Litera
 use Rattle.dist_repo.specs.PackageList.{PackageList}
 use Rattle.dist_now.specs.PresentSet.{PassesClauses, PassesLiterals}
 use Rattle.dist_cert.specs.declared.records.Claim.{Claim}
-use Rattle.dist_strong.specs.Sweep.{IsSweep, IsFull, IsCutSweep, header_of}
+use Rattle.dist_strong.specs.Sweep.{IsSweep, IsFull, IsCutSweep}
 use Rattle.dist_report.specs.StrongReport.{strong_lines}
 use Rattle.dist_app.specs.Claims.{claims_status}
 use Rattle.dist_app.specs.PackagesStage.{PackagesStage}
@@ -26,16 +26,14 @@ ClausesStage files limits essential r (Ends ending) =
     × PassesLiterals r essential limits.clauses limits.literals
     × (ending ≡ refused files (TooLarge Literals)))
 
--- The sweep came to its end: CERT holds its certificate, and its claims are reported. The last argument of `header_of`
--- is the input clauses, which the first line counts. A report tells only the limit of that line, so here they are left
--- empty.
+-- The sweep came to its end: CERT holds its certificate, and its claims are reported.
 pub record IsSwept (files : Option Files) (limits : Limits) (cert : List ℕ) (essential : Bool) (limit : ℕ)
     (r : PackageList) (ending : Ending) : Type 0 where
   pub made : List Claim
   pub text : List ℕ
   pub certificate : IsSweep r essential limit limits made text
   pub is : ending ≡ answered (with_file files cert text) (claims_status made)
-      (strong_lines r.packages (header_of r essential limit []) made)
+      (strong_lines r.packages limit made)
 
 -- The sweep stopped, since one line more would pass a number: CERT holds the lines until then.
 pub record IsSweepStopped (files : Option Files) (limits : Limits) (cert : List ℕ) (essential : Bool) (limit : ℕ)

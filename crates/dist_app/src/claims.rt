@@ -33,7 +33,7 @@ pub(crate) fn tell_claims(
     requires kind { header.now.kind ≡ Strong }
     requires claims { AreClaimsOf (length repository.now.packages) claims.now }
     ensures status { IfOk result (λ answer. answer.status ≡ claims_status claims.now) }
-    ensures text { IfOk result (λ answer. answer.text.items ≡ strong_lines repository.now.packages header.now claims.now) }
+    ensures text { IfOk result (λ answer. answer.text.items ≡ strong_lines repository.now.packages header.now.limit claims.now) }
 {
     let text = text(alloc, repository, header, claims)?;
     Ok(Answer {

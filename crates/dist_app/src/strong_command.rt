@@ -3,7 +3,6 @@ ghost use Rattle.std.specs.Prelude.{◌≡◌, [], IfOk, IfErr, length};
 ghost use Rattle.dist_outside.specs.Files.{IsNotWriting};
 ghost use Rattle.dist_repo.specs.Order.{IsInOrder};
 ghost use Rattle.dist_repo.specs.Size.{IsWithinSize};
-ghost use Rattle.dist_strong.specs.Sweep.{header_of};
 ghost use Rattle.dist_subject.specs.Claims.{AreClaimsOf};
 ghost use Rattle.dist_report.specs.StrongReport.{strong_lines};
 ghost use Rattle.dist_words.specs.CommandLine.{Strong};
@@ -96,7 +95,7 @@ fn report(
     requires { AreClaimsOf (length repository.now.packages) claims.now }
     ensures status { IfOk result (λ answer. answer.status ≡ claims_status claims.now) }
     ensures text { IfOk result (λ answer. answer.text.items
-        ≡ strong_lines repository.now.packages (header_of repository.now words.now.essential words.now.limit []) claims.now) }
+        ≡ strong_lines repository.now.packages words.now.limit claims.now) }
 {
     let packages = repository.len();
     // The report tells the limit alone of what stands here.

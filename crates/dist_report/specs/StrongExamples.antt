@@ -1,9 +1,7 @@
 -- Worked examples: reports of strong dependencies.
 use Rattle.std.specs.Fmt.{digits}
 use Rattle.std.specs.Prelude.{◌≡◌, ℕ, List, [], ◌∷◌, ◌++◌, codes, false, refl}
-use Rattle.dist_cert.specs.declared.records.CertKind.TheVariants as kinds
 use Rattle.dist_cert.specs.declared.records.Claim.TheVariants.{Uninstallable, Unknown, Strong}
-use Rattle.dist_cert.specs.declared.records.Header.{Header}
 use Rattle.dist_repo.specs.declared.package.Package.{Package}
 use Rattle.dist_report.specs.StrongReport.{strong_lines}
 
@@ -22,19 +20,9 @@ named name = record {
 abbrev four : List Package
 four = named (codes "a") ∷ named (codes "b") ∷ named (codes "c") ∷ named (codes "d") ∷ []
 
-abbrev header : Header
-header = record {
-  kind = kinds.Strong;
-  limit = 10000;
-  packages = 4;
-  variables = 4;
-  clauses = 3;
-  essential = false;
-}
-
 -- a needs b or c, and both of those need d
 diamond_example :
-    strong_lines four header (Strong (3 ∷ []) [] ∷ Strong (3 ∷ []) [] ∷ Strong (3 ∷ []) [] ∷ Strong [] [] ∷ [])
+    strong_lines four 10000 (Strong (3 ∷ []) [] ∷ Strong (3 ∷ []) [] ∷ Strong (3 ∷ []) [] ∷ Strong [] [] ∷ [])
     ≡ codes "report: \"strong\"\nlimit: 10000\npackages: 4\nuninstallable: []\nstrong:\n"
     ++ codes "  - package: \"a=1\"\n    on:\n      - \"d=1\"\n"
     ++ codes "  - package: \"b=1\"\n    on:\n      - \"d=1\"\n  - package: \"c=1\"\n    on:\n      - \"d=1\"\n"
@@ -45,7 +33,7 @@ diamond_example = refl
 
 -- one that isn't installable, one of which nothing is known, and one with an undecided dependency
 other_example :
-    strong_lines four header (Uninstallable ∷ Unknown ∷ Strong [] (3 ∷ []) ∷ Strong [] [] ∷ [])
+    strong_lines four 10000 (Uninstallable ∷ Unknown ∷ Strong [] (3 ∷ []) ∷ Strong [] [] ∷ [])
     ≡ codes "report: \"strong\"\nlimit: 10000\npackages: 4\nuninstallable:\n  - \"a=1\"\nstrong: []\n"
     ++ codes "impact: []\nundecided:\n  - \"b=1\"\n"
     ++ codes "undecided_pairs:\n  - package: \"c=1\"\n    on:\n      - \"d=1\"\n"

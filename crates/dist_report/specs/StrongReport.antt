@@ -7,7 +7,6 @@ use Rattle.std.specs.Option.{option_map_or}
 use Rattle.dist_cert.specs.Rising.{is_among}
 use Rattle.dist_cert.specs.declared.records.Claim.{Claim}
 use Rattle.dist_cert.specs.declared.records.Claim.TheVariants.{Uninstallable, Unknown, Strong}
-use Rattle.dist_cert.specs.declared.records.Header.{Header}
 use Rattle.dist_repo.specs.declared.package.Package.{Package}
 use Rattle.dist_report.specs.Lines.{listed}
 use Rattle.dist_report.specs.PackageText.{package_line}
@@ -63,13 +62,13 @@ entry_lines packages key number list = package_line (codes "  - package: ") pack
     ++ listed key (package_line (codes "      - ") packages) list
 
 -- what kind of report it is, how many derived lines closed a question, and how many packages there are
-abbrev pub strong_opening : List Package → Header → List ℕ
-strong_opening packages header = codes "report: \"strong\"\nlimit: "
-    ++ (decimal header.limit ++ (codes "\npackages: " ++ (decimal (length packages) ++ codes "\n")))
+abbrev pub strong_opening : List Package → (limit : ℕ) → List ℕ
+strong_opening packages limit = codes "report: \"strong\"\nlimit: "
+    ++ (decimal limit ++ (codes "\npackages: " ++ (decimal (length packages) ++ codes "\n")))
 
-abbrev pub strong_lines : List Package → Header → List Claim → List ℕ
-strong_lines packages header made =
-    strong_opening packages header
+abbrev pub strong_lines : List Package → (limit : ℕ) → List Claim → List ℕ
+strong_lines packages limit made =
+    strong_opening packages limit
     ++ (listed (codes "uninstallable:") (package_line (codes "  - ") packages) (packages_with is_uninstallable made)
     ++ (listed (codes "strong:") (λ p. entry_lines packages (codes "    on:") p (strong_at made p))
     (packages_with (λ c. has_some (strong_on c)) made)

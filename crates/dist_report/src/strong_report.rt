@@ -126,12 +126,12 @@ fn write_impact(
 }
 
 /// The lines before the first list.
-fn opened(alloc: Global, repo: &Repository, header: &Header) -> Result<Vec<u8>, AllocError>
-    ensures { IfOk result (λ out. out.items ≡ strong_opening repo.now.packages header.now) }
+fn opened(alloc: Global, repo: &Repository, limit: u32) -> Result<Vec<u8>, AllocError>
+    ensures { IfOk result (λ out. out.items ≡ strong_opening repo.now.packages limit) }
 {
     let mut out = Vec::from_slice(alloc, b"report: \"strong\"\nlimit: ")?;
     let mut buffer = Buffer::new();
-    out.extend_from_slice(buffer.format(header.limit).as_bytes())?;
+    out.extend_from_slice(buffer.format(limit).as_bytes())?;
     out.extend_from_slice(b"\npackages: ")?;
     out.extend_from_slice(buffer.format(repo.len()).as_bytes())?;
     out.push(b'\n')?;
@@ -149,9 +149,9 @@ pub fn text(
 ) -> Result<Vec<u8>, AllocError>
     requires kind { header.now.kind ≡ Strong }
     requires claims { AreClaimsOf (length repo.now.packages) claims.now }
-    ensures { IfOk result (λ text. text.items ≡ strong_lines repo.now.packages header.now claims.now) }
+    ensures { IfOk result (λ text. text.items ≡ strong_lines repo.now.packages header.now.limit claims.now) }
 {
-    let mut out = opened(alloc, repo, header)?;
+    let mut out = opened(alloc, repo, header.limit)?;
     write_part(
         alloc,
         &mut out,

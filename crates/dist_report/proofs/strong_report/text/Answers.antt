@@ -11,7 +11,7 @@ pub returns : goal.returns
 returns c =
     let packages = c.args.repo.now.packages in
     let made = c.args.claims.now in
-    let opening = strong_opening packages c.args.header.now in
+    let opening = strong_opening packages c.args.header.now.limit in
     let part = listed (codes "uninstallable:") (package_line (codes "  - ") packages) (packages_with (is_part NotInstallable) made) in
     let first = c.in_ok-write_part.ensures ∙ ap (λ (t : List ℕ). t ++ part) c.in_ok-out.ensures in
     joined-five opening _ _ _ _ _ _ _ _ _ _ first c.in_ok-write_dependences.ensures c.in_ok-write_impact.ensures c.in_ok-write_part-2.ensures
