@@ -279,6 +279,31 @@ Package: d4\nVersion: 1\nProvides: d\nConflicts: d\n
 Package: d5\nVersion: 1\nProvides: d\nConflicts: d\n
 Package: p\nVersion: 1\nDepends: a1 | b1 | c1 | d1, a2 | b2 | c2 | d2, a3 | b3 | c3 | d3, a4 | b4 | c4 | d4, a5 | b5 | c5 | d5\n";
 
+// The twenty of them, a package that wants five, one that another package or that one meets, and the other package.
+const EITHER: &str = "Package: a1\nVersion: 1\nProvides: a\nConflicts: a\n
+Package: a2\nVersion: 1\nProvides: a\nConflicts: a\n
+Package: a3\nVersion: 1\nProvides: a\nConflicts: a\n
+Package: a4\nVersion: 1\nProvides: a\nConflicts: a\n
+Package: a5\nVersion: 1\nProvides: a\nConflicts: a\n
+Package: b1\nVersion: 1\nProvides: b\nConflicts: b\n
+Package: b2\nVersion: 1\nProvides: b\nConflicts: b\n
+Package: b3\nVersion: 1\nProvides: b\nConflicts: b\n
+Package: b4\nVersion: 1\nProvides: b\nConflicts: b\n
+Package: b5\nVersion: 1\nProvides: b\nConflicts: b\n
+Package: c1\nVersion: 1\nProvides: c\nConflicts: c\n
+Package: c2\nVersion: 1\nProvides: c\nConflicts: c\n
+Package: c3\nVersion: 1\nProvides: c\nConflicts: c\n
+Package: c4\nVersion: 1\nProvides: c\nConflicts: c\n
+Package: c5\nVersion: 1\nProvides: c\nConflicts: c\n
+Package: d1\nVersion: 1\nProvides: d\nConflicts: d\n
+Package: d2\nVersion: 1\nProvides: d\nConflicts: d\n
+Package: d3\nVersion: 1\nProvides: d\nConflicts: d\n
+Package: d4\nVersion: 1\nProvides: d\nConflicts: d\n
+Package: d5\nVersion: 1\nProvides: d\nConflicts: d\n
+Package: h\nVersion: 1\nDepends: a1 | b1 | c1 | d1, a2 | b2 | c2 | d2, a3 | b3 | c3 | d3, a4 | b4 | c4 | d4, a5 | b5 | c5 | d5\n
+Package: p\nVersion: 1\nDepends: q | h\n
+Package: q\nVersion: 1\n";
+
 /// A question that is left undecided after one line.
 pub(crate) const UNDECIDED: Row = Row {
     words: &["strong", "packages", "cert", "--limit=1"],
@@ -296,6 +321,26 @@ undecided_pairs: []
 ",
     after: After::Begins("distfuture-certificate 1 strong plain 1 21 21 45\n"),
     ..NONE
+};
+
+/// A package of which nothing is known, and a pair.
+const UNDECIDED_PAIR: Row = Row {
+    packages: EITHER,
+    out: "report: \"strong\"
+limit: 1
+packages: 23
+uninstallable: []
+strong: []
+impact: []
+undecided:
+  - \"h=1\"
+undecided_pairs:
+  - package: \"p=1\"
+    on:
+      - \"q=1\"
+",
+    after: After::Begins("distfuture-certificate 1 strong plain 1 23 23 46\n"),
+    ..UNDECIDED
 };
 
 // The same, with lines enough.
@@ -320,7 +365,10 @@ const TABLES: [Table; 4] = [
     ("dependencies are reported", &REPORTS),
     ("faults are told", &FAULTS),
     ("limits are kept", &LIMITS),
-    ("a question is left undecided", &[UNDECIDED, DECIDED]),
+    (
+        "questions are left undecided",
+        &[UNDECIDED, DECIDED, UNDECIDED_PAIR],
+    ),
 ];
 
 #[test]
