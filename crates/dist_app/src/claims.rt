@@ -1,15 +1,13 @@
 //! What is told of the claims of a certificate.
-ghost use Rattle.std.specs.Prelude.{◌≡◌, IfOk, length};
-ghost use Rattle.dist_cert.specs.declared.records.CertKind.TheVariants.{Strong};
-ghost use Rattle.dist_subject.specs.Claims.{AreClaimsOf};
+ghost use Rattle.std.specs.Prelude.{◌≡◌, IfOk};
 ghost use Rattle.dist_report.specs.StrongReport.{strong_lines};
 ghost use Rattle.dist_app.specs.Claims.{claims_status, marked_status};
 
 use crate::answer::Answer;
 use crate::status::Status;
-use dist_cert::{Claims, Header};
+use dist_cert::Claims;
 use dist_repo::Repository;
-use dist_report::{some_has_mark, text};
+use dist_report::{some_has_mark, strong_text};
 use std::alloc::{AllocError, Global};
 
 /// The status of a run that reports claims, by whether something is left undecided.
@@ -27,15 +25,13 @@ pub(crate) fn marked_status(undecided: bool) -> Status
 pub(crate) fn tell_claims(
     alloc: Global,
     repository: &Repository,
-    header: &Header,
+    limit: u32,
     claims: &Claims,
 ) -> Result<Answer, AllocError>
-    requires kind { header.now.kind ≡ Strong }
-    requires claims { AreClaimsOf (length repository.now.packages) claims.now }
     ensures status { IfOk result (λ answer. answer.status ≡ claims_status claims.now) }
-    ensures text { IfOk result (λ answer. answer.text.items ≡ strong_lines repository.now.packages header.now.limit claims.now) }
+    ensures text { IfOk result (λ answer. answer.text.items ≡ strong_lines repository.now.packages limit claims.now) }
 {
-    let text = text(alloc, repository, header, claims)?;
+    let text = strong_text(alloc, repository, limit, claims)?;
     Ok(Answer {
         status: marked_status(some_has_mark(claims)),
         text,

@@ -1,33 +1,15 @@
 //! Reports of strong dependencies, whole.
-ghost use Rattle.std.specs.Prelude.{◌≡◌, ◌++◌, ◌∷◌, [], IfSome, IsTrue, length};
-ghost use Rattle.dist_cert.specs.declared.records.Claim.{Claim};
-ghost use Rattle.dist_cert.specs.declared.records.CertKind.TheVariants.{Strong};
-ghost use Rattle.dist_subject.specs.Claims.{AreClaimsOf};
-
 use crate::stanzas::repository;
-use dist_cert::{CertKind, Claim, Claims, Header, Items, Numbers};
+use dist_cert::{Claim, Claims, Items, Numbers};
 use dist_repo::Repository;
-use dist_report::{some_has_mark, text};
+use dist_report::{some_has_mark, strong_text};
 use std::alloc::Global;
 
-/// A first line of kind strong.
-fn header(packages: u32, clauses: u32) -> Header
-    ensures { result.kind ≡ Strong }
-{
-    Header {
-        kind: CertKind::Strong,
-        limit: 10000,
-        packages,
-        variables: packages,
-        clauses,
-        essential: false,
-    }
-}
+/// The limit of the certificates.
+const LIMIT: u32 = 10_000;
 
 /// The list of some numbers.
-fn numbers(alloc: Global, list: &[u32]) -> Option<Numbers>
-    ensures { IfSome result (λ numbers. numbers ≡ list.now) }
-{
+fn numbers(alloc: Global, list: &[u32]) -> Option<Numbers> {
     match list.to_vec(alloc) {
         Ok(list) => Some(Items::from_vec(list)),
         Err(_) => None,
@@ -35,18 +17,14 @@ fn numbers(alloc: Global, list: &[u32]) -> Option<Numbers>
 }
 
 /// What a package depends on strongly, and the undecided ones.
-fn strong(alloc: Global, on: &[u32], undecided: &[u32]) -> Option<Claim>
-    ensures { IfSome result (λ claim. claim ≡ Claim.Strong on.now undecided.now) }
-{
+fn strong(alloc: Global, on: &[u32], undecided: &[u32]) -> Option<Claim> {
     let on = numbers(alloc, on)?;
     let undecided = numbers(alloc, undecided)?;
     Some(Claim::Strong(on, undecided))
 }
 
 /// Adds what a package depends on strongly, and the undecided ones.
-fn push_strong(alloc: Global, claims: &mut Claims, on: &[u32], undecided: &[u32]) -> bool
-    ensures { IsTrue result → claims.new ≡ claims.old ++ (Claim.Strong on.now undecided.now ∷ []) }
-{
+fn push_strong(alloc: Global, claims: &mut Claims, on: &[u32], undecided: &[u32]) -> bool {
     match strong(alloc, on, undecided) {
         Some(claim) => claims.push(claim).is_ok(),
         None => false,
@@ -54,9 +32,7 @@ fn push_strong(alloc: Global, claims: &mut Claims, on: &[u32], undecided: &[u32]
 }
 
 /// The claims of the diamond.
-fn diamond_claims(alloc: Global) -> Option<Claims>
-    ensures { IfSome result (λ claims. AreClaimsOf 4 claims) }
-{
+fn diamond_claims(alloc: Global) -> Option<Claims> {
     let mut claims = Claims::new(alloc);
     if push_strong(alloc, &mut claims, &[3], &[])
         && push_strong(alloc, &mut claims, &[3], &[])
@@ -69,9 +45,7 @@ fn diamond_claims(alloc: Global) -> Option<Claims>
 }
 
 /// Claims of each kind.
-fn marked_claims(alloc: Global) -> Option<Claims>
-    ensures { IfSome result (λ claims. AreClaimsOf 4 claims) }
-{
+fn marked_claims(alloc: Global) -> Option<Claims> {
     let mut claims = Claims::new(alloc);
     if claims.push(Claim::Uninstallable).is_ok()
         && claims.push(Claim::Unknown).is_ok()
@@ -84,32 +58,20 @@ fn marked_claims(alloc: Global) -> Option<Claims>
 }
 
 /// Whether the report of four packages is this text.
-fn text_is(
-    alloc: Global,
-    repo: &Repository,
-    header: &Header,
-    claims: &Claims,
-    expected: &str,
-) -> bool
-    requires kind { header.now.kind ≡ Strong }
-    requires claims { AreClaimsOf 4 claims.now }
-{
+fn text_is(alloc: Global, repo: &Repository, claims: &Claims, expected: &str) -> bool {
     if repo.len() != 4 {
         return false;
     }
-    match text(alloc, repo, header, claims) {
+    match strong_text(alloc, repo, LIMIT, claims) {
         Ok(text) => text.as_slice() == expected.as_bytes(),
         Err(_) => false,
     }
 }
 
 /// Whether the report of the four packages of some stanzas is this text.
-fn told(alloc: Global, stanzas: &str, header: &Header, claims: &Claims, expected: &str) -> bool
-    requires kind { header.now.kind ≡ Strong }
-    requires claims { AreClaimsOf 4 claims.now }
-{
+fn told(alloc: Global, stanzas: &str, claims: &Claims, expected: &str) -> bool {
     match repository(alloc, stanzas) {
-        Some(repo) => text_is(alloc, &repo, header, claims, expected),
+        Some(repo) => text_is(alloc, &repo, claims, expected),
         None => false,
     }
 }
@@ -145,7 +107,7 @@ undecided_pairs: []
 fn diamond_is_told(alloc: Global) -> bool {
     match diamond_claims(alloc) {
         Some(claims) => {
-            told(alloc, DIAMOND_STANZAS, &header(4, 3), &claims, DIAMOND) && !some_has_mark(&claims)
+            told(alloc, DIAMOND_STANZAS, &claims, DIAMOND) && !some_has_mark(&claims)
         }
         None => false,
     }
@@ -177,9 +139,7 @@ undecided_pairs:
 /// Whether claims of each kind are told, with a mark.
 fn marks_are_told(alloc: Global) -> bool {
     match marked_claims(alloc) {
-        Some(claims) => {
-            told(alloc, MARKED_STANZAS, &header(4, 2), &claims, MARKED) && some_has_mark(&claims)
-        }
+        Some(claims) => { told(alloc, MARKED_STANZAS, &claims, MARKED) && some_has_mark(&claims) }
         None => false,
     }
 }
@@ -204,7 +164,7 @@ fn none_are_told(alloc: Global, repo: &Repository, expected: &str) -> bool {
     if repo.len() != 0 {
         return false;
     }
-    match text(alloc, repo, &header(0, 0), &Claims::new(alloc)) {
+    match strong_text(alloc, repo, LIMIT, &Claims::new(alloc)) {
         Ok(text) => text.as_slice() == expected.as_bytes(),
         Err(_) => false,
     }

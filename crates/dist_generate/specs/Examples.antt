@@ -1,5 +1,5 @@
 -- Worked examples, computed.
-use Rattle.std.specs.Prelude.{◌≡◌, ℕ, [], ◌∷◌, codes, refl, Some, None}
+use Rattle.std.specs.Prelude.{◌++◌, ◌≡◌, ℕ, [], ◌∷◌, codes, refl, Some, None}
 use Rattle.std.specs.Fmt.{digits}
 use Rattle.dist_generate.specs.Draws.{next_state, draw, many}
 use Rattle.dist_generate.specs.Generator.{Alternative, generated, generated_packages, stanza_text}

@@ -64,11 +64,12 @@ pub record AreNoted (number : ℕ) (on : List ℕ) (old new : List (List ℕ)) :
 pub noted-none : (number : ℕ) (lists : List (List ℕ)) → AreNoted number [] lists lists
 noted-none number lists = record { same_length = refl; each = λ q short. refl }
 
-noted-at : (number : ℕ) (on : List ℕ) (k x : ℕ) (old lists new : List (List ℕ)) → k < length on → x ≡ get_or on k x → x < length old
+noted-at : (number : ℕ) (on : List ℕ) (k x : ℕ) (old lists new : List (List ℕ)) → k < length on → x ≡ get_or on k x
     → All (λ list. All (λ p. p < number) list) old → AreNoted number (take k on) old lists → new ≡ set lists x (ended_by (get_or lists x []) number)
     → (q : ℕ) → q < length old → get_or new q [] ≡ noted number (is_among (take (k + 1) on) q) (get_or old q [])
-noted-at number on k x old lists new short here within lower so_far now q inner = elim (cases_eq q x) [
+noted-at number on k x old lists new short here lower so_far now q inner = elim (cases_eq q x) [
   | inl same ↦
+      let within : x < length old = omega (arith, inner, same) in
       let inside : x < length lists = omega (arith, so_far.same_length) in
       let put : get_or new x [] ≡ ended_by (get_or lists x []) number = ap (λ (l : List (List ℕ)). get_or l x []) now
       ∙ get_or-set_same lists x (ended_by (get_or lists x []) number) [] inside in
@@ -87,10 +88,10 @@ noted-at number on k x old lists new short here within lower so_far now q inner 
       kept ∙ so_far.each q inner ∙ ap (λ (b : Bool). noted number b (get_or old q [])) (sym among)
 ]
 
-pub noted-more : (number : ℕ) (on : List ℕ) (k x : ℕ) (old lists new : List (List ℕ)) → k < length on → x ≡ get_or on k x → x < length old
+pub noted-more : (number : ℕ) (on : List ℕ) (k x : ℕ) (old lists new : List (List ℕ)) → k < length on → x ≡ get_or on k x
     → All (λ list. All (λ p. p < number) list) old → AreNoted number (take k on) old lists → new ≡ set lists x (ended_by (get_or lists x []) number)
     → AreNoted number (take (k + 1) on) old new
-noted-more number on k x old lists new short here within lower so_far now = record {
+noted-more number on k x old lists new short here lower so_far now = record {
   same_length = ap length now ∙ length-set lists x (ended_by (get_or lists x []) number) ∙ so_far.same_length;
-  each = noted-at number on k x old lists new short here within lower so_far now;
+  each = noted-at number on k x old lists new short here lower so_far now;
 }

@@ -70,7 +70,5 @@ pub lines-same-within : (f g : ℕ → List ℕ) (n : ℕ) (xs : List ℕ) → (
 lines-same-within f g n xs same within = lines-same f g xs (λ k d short. same (get_or xs k d) (within k d short))
 
 -- packages that are told
-pub claimed-within : (test : Claim → Bool) (made : List Claim) (packages : ℕ) → length made ≡ packages → All (λ k. k < packages) (packages_with test made)
-claimed-within test made packages long =
-    let Within : ℕ → Type 0 = λ end. All (λ k. k < end) (packages_with test made) in
-    subst Within long (picked-within (λ p. option_map_or test (slice_get made p) false) (length made))
+pub claimed-within : (test : Claim → Bool) (made : List Claim) → All (λ k. k < length made) (packages_with test made)
+claimed-within test made = picked-within (λ p. option_map_or test (slice_get made p) false) (length made)

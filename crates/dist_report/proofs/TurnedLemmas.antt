@@ -5,41 +5,11 @@ use Rattle.std.specs.Prelude.{All, filter}
 use Rattle.std.specs.List.{range_with_len}
 use Rattle.std.specs.Option.{option_map_or}
 use Rattle.std.proofs.lemmas.List.{get_or_default}
-use Rattle.std.proofs.lemmas.List.Elements.{All-nil}
 use Rattle.dist_cert.specs.Rising.{is_among}
 use Rattle.dist_cert.specs.declared.records.Claim.{Claim}
-use Rattle.dist_cert.specs.declared.records.Claim.TheVariants.{Uninstallable, Unknown, Strong, Outdated, Alive, Challenged}
-use Rattle.dist_subject.specs.Claims.{NamesOthers}
-use Rattle.dist_report.specs.ClaimParts.{list_of, noted}
-use Rattle.dist_report.specs.StrongReport.{impact_at, strong_at, strong_on, undecided_on}
-use Rattle.dist_report.specs.declared.claim_parts.Dependence.{Dependence}
-use Rattle.dist_report.specs.declared.claim_parts.Dependence.TheVariants as kinds
+use Rattle.dist_report.specs.ClaimParts.{noted}
+use Rattle.dist_report.specs.StrongReport.{impact_at, strong_at, strong_on}
 use Rattle.dist_report.proofs.PickedLemmas.{picked-none, picked-one, picked-within}
-
-abbrev IsBelow : ℕ → ℕ → Type 0
-IsBelow packages q = q < packages
-
--- ---- the lists of a claim name packages
-
-strong-within : (packages number : ℕ) (claim : Claim) → NamesOthers packages number claim → All (IsBelow packages) (strong_on claim)
-strong-within packages number Uninstallable named = All-nil (IsBelow packages)
-strong-within packages number Unknown named = All-nil (IsBelow packages)
-strong-within packages number (Strong on undecided) named = λ k d short. (named.0 k d short).0
-strong-within packages number Outdated named = All-nil (IsBelow packages)
-strong-within packages number Alive named = All-nil (IsBelow packages)
-strong-within packages number (Challenged by undecided) named = All-nil (IsBelow packages)
-
-undecided-within : (packages number : ℕ) (claim : Claim) → NamesOthers packages number claim → All (IsBelow packages) (undecided_on claim)
-undecided-within packages number Uninstallable named = All-nil (IsBelow packages)
-undecided-within packages number Unknown named = All-nil (IsBelow packages)
-undecided-within packages number (Strong on undecided) named = λ k d short. (named.1 k d short).0
-undecided-within packages number Outdated named = All-nil (IsBelow packages)
-undecided-within packages number Alive named = All-nil (IsBelow packages)
-undecided-within packages number (Challenged by undecided) named = All-nil (IsBelow packages)
-
-pub list-within : (packages number : ℕ) (kind : Dependence) (claim : Claim) → NamesOthers packages number claim → All (λ q. q < packages) (list_of kind claim)
-list-within packages number kinds.Strong claim named = strong-within packages number claim named
-list-within packages number kinds.Undecided claim named = undecided-within packages number claim named
 
 -- ---- the lists so far
 

@@ -1,5 +1,5 @@
 //! What the parts of the report of strong dependencies take of the claims.
-ghost use Rattle.std.specs.Prelude.{◌≡◌, IfOk, length};
+ghost use Rattle.std.specs.Prelude.{◌≡◌, ◌<◌, ◌^◌, IfOk, length};
 ghost use Rattle.dist_report.specs.ClaimParts.{is_part, list_of};
 ghost use Rattle.dist_report.specs.StrongReport.{packages_with};
 
@@ -44,20 +44,15 @@ fn is_told(claim: &Claim, part: Part) -> bool
     }
 }
 
-/// The packages that a part tells, of so many.
-pub(crate) fn told(
-    alloc: Global,
-    claims: &Claims,
-    packages: u32,
-    part: Part,
-) -> Result<Vec<u32>, AllocError>
-    requires { length claims.now ≡ packages }
+/// The packages that a part tells.
+pub(crate) fn told(alloc: Global, claims: &Claims, part: Part) -> Result<Vec<u32>, AllocError>
+    requires { length claims.now < 2 ^ 32 }
     ensures { IfOk result (λ numbers. numbers.items ≡ packages_with (is_part part) claims.now) }
 {
     let mut numbers = Vec::new(alloc);
-    for number in 0..packages {
-        if is_told(claims.get(number as usize), part) {
-            numbers.push(number)?;
+    for number in 0..claims.len() {
+        if is_told(claims.get(number), part) {
+            numbers.push(number as u32)?;
         }
     }
     Ok(numbers)

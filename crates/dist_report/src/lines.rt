@@ -1,5 +1,5 @@
 //! The lines that reports are made of: a key with a string, a key with a list, a package of a list, a list of packages.
-ghost use Rattle.std.specs.Prelude.{◌≡◌, ◌++◌, ◌<◌, All, OnErr, OnOk, length};
+ghost use Rattle.std.specs.Prelude.{◌≡◌, ◌++◌, OnErr, OnOk};
 ghost use Rattle.dist_base.specs.Front.{IsFrontOf};
 ghost use Rattle.dist_report.specs.Lines.{key_line, listed, string_line};
 ghost use Rattle.dist_report.specs.PackageText.{label, package_line};
@@ -67,6 +67,22 @@ pub(crate) fn write_package(
     Ok(())
 }
 
+/// Adds the package of a number, or an empty string where there is none.
+pub(crate) fn write_numbered(
+    out: &mut Vec<u8>,
+    repo: &Repository,
+    before: &[u8],
+    number: u32,
+) -> Result<(), AllocError>
+    ensures { OnOk result (out.new.items ≡ out.old.items ++ package_line before.now repo.now.packages number) }
+{
+    if number < repo.len() {
+        write_package(out, before, repo.package(number))
+    } else {
+        write_string(out, before, b"")
+    }
+}
+
 /// Adds a list of packages, by their numbers, behind its key.
 pub(crate) fn write_packages(
     out: &mut Vec<u8>,
@@ -75,12 +91,11 @@ pub(crate) fn write_packages(
     before: &[u8],
     numbers: &[u32],
 ) -> Result<(), AllocError>
-    requires { All (λ number. number < length repo.now.packages) numbers.now }
     ensures { OnOk result (out.new.items ≡ out.old.items ++ listed key.now (package_line before.now repo.now.packages) numbers.now) }
 {
     write_key(out, key, numbers.is_empty())?;
     for number in numbers {
-        write_package(out, before, repo.package(*number))?;
+        write_numbered(out, repo, before, *number)?;
     }
     Ok(())
 }

@@ -1,7 +1,5 @@
 //! The report of strong dependencies. The text is one vector, and each of its lists one walk over the packages.
-ghost use Rattle.std.specs.Prelude.{◌≡◌, ◌++◌, ◌<◌, [], All, IfOk, OnOk, length, slice_index_or, codes};
-ghost use Rattle.dist_cert.specs.declared.records.CertKind.TheVariants.{Strong};
-ghost use Rattle.dist_subject.specs.Claims.{AreClaimsOf};
+ghost use Rattle.std.specs.Prelude.{◌≡◌, ◌++◌, ◌<◌, ◌^◌, [], All, IfOk, OnOk, length, slice_index_or, codes};
 ghost use Rattle.dist_report.specs.ClaimParts.{is_part, list_at};
 ghost use Rattle.dist_report.specs.declared.claim_parts.Part.TheVariants.{With};
 ghost use Rattle.dist_report.specs.Lines.{listed};
@@ -10,8 +8,8 @@ ghost use Rattle.dist_report.specs.StrongReport.{packages_with, entry_lines, imp
 
 use crate::claim_parts::{Dependence, Part, claim_list, told};
 use crate::impact::{numbers_at, turned, with_some};
-use crate::lines::{write_key, write_package, write_packages};
-use dist_cert::{Claims, Header, Numbers};
+use crate::lines::{write_key, write_numbered, write_packages};
+use dist_cert::{Claims, Numbers};
 use dist_repo::Repository;
 use itoa::Buffer;
 use std::alloc::{AllocError, Global};
@@ -24,11 +22,9 @@ fn write_entry(
     number: u32,
     list: &[u32],
 ) -> Result<(), AllocError>
-    requires package { number < length repo.now.packages }
-    requires list { All (λ q. q < length repo.now.packages) list.now }
     ensures { OnOk result (out.new.items ≡ out.old.items ++ entry_lines repo.now.packages key.now number list.now) }
 {
-    write_package(out, b"  - package: ", repo.package(number))?;
+    write_numbered(out, repo, b"  - package: ", number)?;
     write_packages(out, repo, key, b"      - ", list)?;
     Ok(())
 }
@@ -42,10 +38,10 @@ fn write_part(
     key: &[u8],
     part: Part,
 ) -> Result<(), AllocError>
-    requires { AreClaimsOf (length repo.now.packages) claims.now }
+    requires { length claims.now < 2 ^ 32 }
     ensures { OnOk result (out.new.items ≡ out.old.items ++ listed key.now (package_line (codes "  - ") repo.now.packages) (packages_with (is_part part) claims.now)) }
 {
-    let numbers = told(alloc, claims, repo.len(), part)?;
+    let numbers = told(alloc, claims, part)?;
     write_packages(out, repo, key, b"  - ", &numbers)?;
     Ok(())
 }
@@ -59,8 +55,7 @@ fn write_lists(
     kind: Dependence,
     numbers: &[u32],
 ) -> Result<(), AllocError>
-    requires claims { AreClaimsOf (length repo.now.packages) claims.now }
-    requires within { All (λ p. p < length repo.now.packages) numbers.now }
+    requires within { All (λ p. p < length claims.now) numbers.now }
     ensures { OnOk result (out.new.items ≡ out.old.items ++ listed key.now (λ p. entry_lines repo.now.packages (codes "    on:") p (list_at kind claims.now p)) numbers.now) }
 {
     write_key(out, key, numbers.is_empty())?;
@@ -80,10 +75,10 @@ fn write_dependences(
     key: &[u8],
     kind: Dependence,
 ) -> Result<(), AllocError>
-    requires { AreClaimsOf (length repo.now.packages) claims.now }
+    requires { length claims.now < 2 ^ 32 }
     ensures { OnOk result (out.new.items ≡ out.old.items ++ listed key.now (λ p. entry_lines repo.now.packages (codes "    on:") p (list_at kind claims.now p)) (packages_with (is_part (With kind)) claims.now)) }
 {
-    let numbers = told(alloc, claims, repo.len(), Part::With(kind))?;
+    let numbers = told(alloc, claims, Part::With(kind))?;
     write_lists(out, repo, claims, key, kind, &numbers)?;
     Ok(())
 }
@@ -95,9 +90,7 @@ fn write_turned(
     lists: &[Numbers],
     numbers: &[u32],
 ) -> Result<(), AllocError>
-    requires length { length lists.now ≡ length repo.now.packages }
-    requires each { All (λ list. All (λ p. p < length repo.now.packages) list) lists.now }
-    requires within { All (λ q. q < length repo.now.packages) numbers.now }
+    requires { All (λ q. q < length lists.now) numbers.now }
     ensures { OnOk result (out.new.items ≡ out.old.items ++ listed (codes "impact:") (λ q. entry_lines repo.now.packages (codes "    of:") q (slice_index_or lists.now q [])) numbers.now) }
 {
     write_key(out, b"impact:", numbers.is_empty())?;
@@ -115,12 +108,11 @@ fn write_impact(
     repo: &Repository,
     claims: &Claims,
 ) -> Result<(), AllocError>
-    requires { AreClaimsOf (length repo.now.packages) claims.now }
+    requires { length claims.now < 2 ^ 32 }
     ensures { OnOk result (out.new.items ≡ out.old.items ++ listed (codes "impact:") (λ q. entry_lines repo.now.packages (codes "    of:") q (impact_at claims.now q)) (with_impact claims.now)) }
 {
-    let packages = repo.len();
-    let lists = turned(alloc, claims, packages)?;
-    let numbers = with_some(alloc, &lists, packages)?;
+    let lists = turned(alloc, claims)?;
+    let numbers = with_some(alloc, &lists)?;
     write_turned(out, repo, &lists, &numbers)?;
     Ok(())
 }
@@ -141,17 +133,19 @@ fn opened(alloc: Global, repo: &Repository, limit: u32) -> Result<Vec<u8>, Alloc
 /// The report of what an accepted certificate claims of the packages of a repository.
 ///
 /// Its time and memory are linear in the packages and the listed pairs.
-pub fn text(
+pub fn strong_text(
     alloc: Global,
     repo: &Repository,
-    header: &Header,
+    limit: u32,
     claims: &Claims,
 ) -> Result<Vec<u8>, AllocError>
-    requires kind { header.now.kind ≡ Strong }
-    requires claims { AreClaimsOf (length repo.now.packages) claims.now }
-    ensures { IfOk result (λ text. text.items ≡ strong_lines repo.now.packages header.now.limit claims.now) }
+    ensures { IfOk result (λ text. text.items ≡ strong_lines repo.now.packages limit claims.now) }
 {
-    let mut out = opened(alloc, repo, header.limit)?;
+    if claims.len() > u32::MAX as usize {
+        // No memory has numbers for so many packages.
+        return Err(AllocError);
+    }
+    let mut out = opened(alloc, repo, limit)?;
     write_part(
         alloc,
         &mut out,

@@ -1,21 +1,15 @@
 use Rattle.std.proofs.Common.{subst, sym}
 use Rattle.dist_app.specs.Due.{SweepStops}
 use Rattle.dist_app.specs.declared.refusal.Refusal.{Refusal}
-use Rattle.dist_app.proofs.Sweeping.{claims_of, swept, unreported, sweep_refused}
+use Rattle.dist_app.proofs.Sweeping.{swept, unreported, sweep_refused}
 use Rattle.dist_app.proofs.strong_command.sweep.Goals as goal
 
-pub report-requires : goal.report-requires
-report-requires g c =
-    claims_of c.args.repository.now c.args.words.now.essential c.args.words.now.limit c.args.limits.now c.args.words.now.cert.now
-    (g.D.Desk.view c.args.desk.now) (g.D.Desk.view c.strong.new.desk)
-    c.accepted_claims_hold.ensures c.in-Ok.claims c.requires.in_order c.in-Ok.ensures.answers
-
-pub returns-in-Ok-report-clause-swept : goal.returns-in-Ok-report-clause-swept
-returns-in-Ok-report-clause-swept g c =
+pub returns-in-Ok-tell_claims-clause-swept : goal.returns-in-Ok-tell_claims-clause-swept
+returns-in-Ok-tell_claims-clause-swept g c =
     swept c.args.repository.now c.args.words.now.essential c.args.words.now.limit c.args.limits.now c.args.words.now.cert.now (g.D.Desk.view c.args.desk.now)
     (g.D.Desk.view c.strong.new.desk)
-    c.in-Ok.claims c.in-Ok-report.answer.status c.in-Ok-report.answer.text.items c.in-Ok.ensures.answers c.in-Ok-report.ensures.status
-    c.in-Ok-report.ensures.text
+    c.in-Ok.claims c.in-Ok-tell_claims.answer.status c.in-Ok-tell_claims.answer.text.items c.in-Ok.ensures.answers c.in-Ok-tell_claims.ensures.status
+    c.in-Ok-tell_claims.ensures.text
 
 pub returns-in-Ok-clause-stops : goal.returns-in-Ok-clause-stops
 returns-in-Ok-clause-stops g c =

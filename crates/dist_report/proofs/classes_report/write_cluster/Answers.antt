@@ -14,10 +14,6 @@ write_head-requires c =
     members-within r c.args.clusters.now c.requires.clusters c.args.cluster members c.members-members.ensures 0 0
     (some-members r c.args.clusters.now c.requires.clusters c.args.cluster members c.members-members.ensures)
 
-pub write_packages-requires : goal.write_packages-requires
-write_packages-requires c = members-within c.args.repo.now c.args.clusters.now c.requires.clusters c.args.cluster c.members-members.result.now
-    c.members-members.ensures
-
 pub returns : goal.returns
 returns c =
     let r = c.args.repo.now in

@@ -9,11 +9,6 @@ use Rattle.dist_report.proofs.impact.note_all.Goals as goal
 pub loop-q-init : goal.loop-q-init
 loop-q-init c = noted-none c.args.number c.args.lists.now.items
 
-pub note-requires : goal.note-requires
-note-requires c =
-    let within = c.requires.within c.loop-q.q-index 0 c.loop-q-test.true in
-    omega (arith, within, c.loop-q.invariant.same_length)
-
 pub loop-q-preserved : goal.loop-q-preserved
 loop-q-preserved c =
     let on = c.args.on.now in
@@ -21,8 +16,7 @@ loop-q-preserved c =
     let q = get_or on k 0 in
     let old = c.args.lists.now.items in
     let here : q ≡ get_or on k q = get_or_default on k 0 q c.loop-q-test.true in
-    let within : q < length old = c.requires.within k 0 c.loop-q-test.true in
-    noted-more c.args.number c.args.on.now c.loop-q.q-index q old c.loop-q.lists.items c.note.new.lists.items c.loop-q-test.true here within c.requires.lower
+    noted-more c.args.number c.args.on.now c.loop-q.q-index q old c.loop-q.lists.items c.note.new.lists.items c.loop-q-test.true here c.requires
     c.loop-q.invariant c.in_ok-note.ensures
 
 pub returns-clause-length : goal.returns-clause-length

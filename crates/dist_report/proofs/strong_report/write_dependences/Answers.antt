@@ -7,15 +7,11 @@ use Rattle.dist_report.specs.declared.claim_parts.Part.TheVariants.{With}
 use Rattle.dist_report.proofs.PickedLemmas.{claimed-within}
 use Rattle.dist_report.proofs.strong_report.write_dependences.Goals as goal
 
-pub told-requires : goal.told-requires
-told-requires c = c.requires.one_each ∙ sym c.len.ensures.value
-
-pub write_lists-requires-clause-within : goal.write_lists-requires-clause-within
-write_lists-requires-clause-within c =
-    let packages = length c.args.repo.now.packages in
-    let Within : List ℕ → Type 0 = λ list. All (λ p. p < packages) list in
-    subst Within (sym (c.deref.ensures.value ∙ c.in_ok-numbers.ensures))
-    (claimed-within (is_part (With c.args.kind)) c.args.claims.now packages c.requires.one_each)
+pub write_lists-requires : goal.write_lists-requires
+write_lists-requires c =
+    let Within : List ℕ → Type 0 = λ list. All (λ p. p < length c.args.claims.now) list in
+    let within : Within c.deref.result.now = subst Within (sym (c.deref.ensures.value ∙ c.in_ok-numbers.ensures)) (claimed-within (is_part (With c.args.kind)) c.args.claims.now) in
+    record { within = within }
 
 pub returns : goal.returns
 returns c =

@@ -9,6 +9,4 @@ use Rattle.dist_report.proofs.strong_report.write_entry.Goals as goal
 pub returns : goal.returns
 returns c =
     let old = c.args.out.now.items in
-    let first = c.in_ok-write_package.ensures ∙ ap (λ (o : Option Package). old ++ string_line (codes "  - package: ") (option_map_or label o []))
-    (sym c.package.ensures) in
-    joined-two old _ _ _ _ first c.in_ok-write_packages.ensures
+    joined-two old _ _ _ _ c.in_ok-write_numbered.ensures c.in_ok-write_packages.ensures

@@ -9,7 +9,6 @@ use Rattle.dist_report.specs.ClaimParts.{list_at, list_of}
 use Rattle.dist_report.specs.Lines.{key_line}
 use Rattle.dist_report.specs.StrongReport.{entry_lines}
 use Rattle.dist_report.proofs.LineLemmas.{lines-all, lines-more}
-use Rattle.dist_report.proofs.TurnedLemmas.{list-within}
 use Rattle.dist_report.proofs.strong_report.write_lists.Goals as goal
 
 pub loop-number-init : goal.loop-number-init
@@ -17,14 +16,6 @@ loop-number-init c =
     let old = c.args.out.now.items in
     c.in_ok-write_key.ensures ∙ ap (λ (b : Bool). old ++ key_line c.args.key.now b) c.is_empty.ensures
     ∙ sym (append-nil (old ++ key_line c.args.key.now (length c.args.numbers.now == 0)))
-
-pub write_entry-requires-clause-list : goal.write_entry-requires-clause-list
-write_entry-requires-clause-list c =
-    let packages = length c.args.repo.now.packages in
-    let number = get_or c.args.numbers.now c.loop-number.number-index 0 in
-    let claim = c.get.result.now in
-    let Within : List ℕ → Type 0 = λ list. All (λ q. q < packages) list in
-    subst Within (sym c.claim_list-list.ensures) (list-within packages number c.args.kind claim (c.requires.claims.named number claim c.get.ensures))
 
 pub loop-number-preserved : goal.loop-number-preserved
 loop-number-preserved c =

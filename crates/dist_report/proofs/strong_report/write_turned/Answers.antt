@@ -13,20 +13,6 @@ loop-number-init c =
     c.in_ok-write_key.ensures ∙ ap (λ (b : Bool). old ++ key_line (codes "impact:") b) c.is_empty.ensures
     ∙ sym (append-nil (old ++ key_line (codes "impact:") (length c.args.numbers.now == 0)))
 
-pub numbers_at-list-requires : goal.numbers_at-list-requires
-numbers_at-list-requires c =
-    let packages = length c.args.repo.now.packages in
-    let within : get_or c.args.numbers.now c.loop-number.number-index 0 < packages = c.requires.within c.loop-number.number-index 0 c.loop-number-test.true in
-    omega (arith, within, c.requires.length)
-
-pub write_entry-requires-clause-list : goal.write_entry-requires-clause-list
-write_entry-requires-clause-list c =
-    let packages = length c.args.repo.now.packages in
-    let number = get_or c.args.numbers.now c.loop-number.number-index 0 in
-    let Within : List ℕ → Type 0 = λ list. All (λ q. q < packages) list in
-    let within : number < packages = c.requires.within c.loop-number.number-index 0 c.loop-number-test.true in
-    subst Within (sym c.numbers_at-list.ensures) (c.requires.each number [] (omega (arith, within, c.requires.length)))
-
 pub loop-number-preserved : goal.loop-number-preserved
 loop-number-preserved c =
     let packages = c.args.repo.now.packages in
