@@ -1,13 +1,14 @@
 -- What two parts begin with alike, and which ends in no digit, does not tell in their order.
 use Rattle.std.proofs.Common.{◌≡◌, ℕ, ◌-◌, ◌<◌, ◌≤◌, true, false, zero, suc, get_or, List, [], ◌∷◌, ◌++◌, append_assoc, length, map, take}
-use Rattle.std.proofs.Common.{take-append-drop, drop, Equal, int_cmp, nat_cmp}
+use Rattle.std.proofs.Common.{take-append-drop, drop, reverse, Equal, int_cmp, nat_cmp}
 use Rattle.std.proofs.Common.{refl, sym, ap, ap₂, ◌∙◌, inl, inr, arith}
 use Rattle.std.specs.Char.{is_ascii_digit}
-use Rattle.std.specs.List.{list_all}
+use Rattle.std.specs.List.{list_all, suffix_len}
 use Rattle.std.specs.Ordering.{ordering_then}
-use Rattle.std.proofs.lemmas.Bool.{and_parts, cases_Bool}
+use Rattle.std.proofs.lemmas.Bool.{and_parts, cases_Bool, cases_order}
 use Rattle.std.proofs.lemmas.Cmp.{tied_itself, int_cmp_total}
-use Rattle.std.proofs.lemmas.List.{take-take}
+use Rattle.std.proofs.lemmas.List.{take-take, get_or-reverse, length-reverse}
+use Rattle.std.proofs.lemmas.List.Sums.{prefix_len_stops}
 use Rattle.std.specs.Str.Parse.{digits_value}
 use Rattle.std.proofs.lemmas.List.Folds.{list_all-append}
 use Rattle.dist_version.specs.Order.{weight_of, text_start, digit_start, after_text, weights_cmp, part_cmp}
@@ -76,6 +77,24 @@ pub ends_at : (part : List ℕ) (end : ℕ) → 0 < end → end ≤ length part 
 ends_at part end some within =
     let last : end ≡ suc (end - 1) = omega (arith, some) in
     ap (λ n. ends_in_digit (take n part)) last ∙ ends_at-suc part (end - 1) (omega (arith, some, within))
+
+-- without the digits at the end
+pub ends_without_digits : (part : List ℕ) → ends_in_digit (take (length part - suffix_len is_ascii_digit part) part) ≡ false
+ends_without_digits part = elim (cases_order (length part - digits) 0) [
+  | inl none ↦ ap (λ n. ends_in_digit (take n part)) none
+  | inr apart ↦ elim apart [
+    | inl less ↦ absurd (omega (arith, less))
+    | inr some ↦ ends_at part (length part - digits) some (omega arith) ∙ ap (λ n. is_ascii_digit (get_or part n 0)) (place some)
+        ∙ ap is_ascii_digit (sym (get_or-reverse part digits 0 (omega (arith, some))))
+        ∙ prefix_len_stops is_ascii_digit (reverse part) 0 (omega (arith, some, length-reverse part))
+  ]
+]
+  where
+    digits : ℕ
+    digits = suffix_len is_ascii_digit part
+
+    place : 0 < length part - digits → length part - digits - 1 ≡ length part - 1 - digits
+    place some = omega (arith, some)
 
 -- the same of two parts that begin with the same bytes, as far as the last that is no digit
 pub after_common : (a b : List ℕ) (n end : ℕ) → take n a ≡ take n b → end ≤ n → ends_in_digit (take end (take n a)) ≡ false

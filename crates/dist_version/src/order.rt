@@ -1,7 +1,7 @@
 //! The order of two parts of versions, by turns: a start without digits, and then a run of digits, which is never computed.
 ghost use Rattle.std.specs.Prelude.{◌≡◌, ◌+◌, ◌≤◌, IsTrue, false, length, map, take, drop, not, ◌==◌};
 ghost use Rattle.std.specs.Char.{is_ascii_digit};
-ghost use Rattle.std.specs.List.{list_all, prefix_len};
+ghost use Rattle.std.specs.List.{list_all, prefix_len, suffix_len};
 ghost use Rattle.std.specs.Ordering.{nat_cmp, ordering_then};
 ghost use Rattle.std.specs.Str.Parse.{digits_value};
 ghost use Rattle.dist_version.specs.Spelling.{digit_zero};
@@ -131,8 +131,9 @@ fn compare_turns(a: &Turn, b: &Turn) -> Ordering
 const STEP: usize = 16;
 
 /// The length of a common start, in whole steps. The start may go on.
-fn equal_len(a: &[u8], b: &[u8]) -> usize
-    ensures within { result ≤ length a.now }
+fn equal_steps(a: &[u8], b: &[u8]) -> usize
+    ensures within_a { result ≤ length a.now }
+    ensures within_b { result ≤ length b.now }
     ensures same { take result a.now ≡ take result b.now }
 {
     let shorter = a.len().min(b.len());
@@ -143,16 +144,28 @@ fn equal_len(a: &[u8], b: &[u8]) -> usize
     end
 }
 
-/// The length without the digits at the end.
-fn undigited_len(part: &[u8]) -> usize
-    ensures within { result ≤ length part.now }
-    ensures ends { ends_in_digit (take result part.now) ≡ false }
+/// The length of the longest common start.
+fn equal_len(a: &[u8], b: &[u8]) -> usize
+    ensures within { result ≤ length a.now }
+    ensures same { take result a.now ≡ take result b.now }
 {
-    let mut end = part.len();
-    while end > 0 && part[end - 1].is_ascii_digit() {
-        end -= 1;
+    let shorter = a.len().min(b.len());
+    let mut end = equal_steps(a, b);
+    while end < shorter && a[end] == b[end] {
+        end += 1;
     }
     end
+}
+
+/// How many digits stand at the end.
+fn last_digits_len(part: &[u8]) -> usize
+    ensures value { result ≡ suffix_len is_ascii_digit part.now }
+    ensures within { result ≤ length part.now }
+{
+    part.iter()
+        .rev()
+        .take_while(|byte| byte.is_ascii_digit())
+        .count()
 }
 
 /// What follows a common start of two parts, which ends in no digit: a run of digits is compared as a whole.
@@ -160,7 +173,8 @@ fn after_common<'a>(a: &'a [u8], b: &'a [u8]) -> (&'a [u8], &'a [u8])
     ensures order { part_cmp result.0.now result.1.now ≡ part_cmp a.now b.now }
     ensures shorter { length result.0.now + length result.1.now ≤ length a.now + length b.now }
 {
-    let end = undigited_len(&a[..equal_len(a, b)]);
+    let common = &a[..equal_len(a, b)];
+    let end = common.len() - last_digits_len(common);
     (&a[end..], &b[end..])
 }
 
