@@ -5,6 +5,7 @@ ghost use Rattle.dist_relation.specs.Equality.{op_eq, qualifier_eq, bound_eq, at
 ghost use Rattle.dist_relation.specs.Grammar.{allows_operator};
 ghost use Rattle.dist_relation.specs.Faults.{allows_bar};
 
+use crate::copying::TryClone;
 use crate::name::Name;
 use dist_version::Version;
 use std::alloc::AllocError;
@@ -90,11 +91,8 @@ pub fn satisfies(version: &Version, bound: &Bound) -> bool
     }
 }
 
-impl Bound {
-    /// The same, with memory of its own.
-    fn copy(&self) -> Result<Bound, AllocError>
-        ensures { IfOk result (λ bound. bound ≡ self.now) }
-    {
+impl TryClone for Bound {
+    fn try_clone(&self) -> Result<Bound, AllocError> {
         Ok(Bound {
             op: self.op,
             version: self.version.try_clone()?,
@@ -102,11 +100,8 @@ impl Bound {
     }
 }
 
-impl Qualifier {
-    /// The same, with memory of its own.
-    fn copy(&self) -> Result<Qualifier, AllocError>
-        ensures { IfOk result (λ qualifier. qualifier ≡ self.now) }
-    {
+impl TryClone for Qualifier {
+    fn try_clone(&self) -> Result<Qualifier, AllocError> {
         match self {
             Qualifier::Plain => Ok(Qualifier::Plain),
             Qualifier::Named(name) => Ok(Qualifier::Named(name.try_clone()?)),
@@ -114,36 +109,22 @@ impl Qualifier {
     }
 }
 
-impl Atom {
-    /// The same, with memory of its own.
-    pub(crate) fn copy(&self) -> Result<Atom, AllocError>
-        ensures { IfOk result (λ atom. atom ≡ self.now) }
-    {
-        let bound = match &self.bound {
-            None => None,
-            Some(bound) => Some(bound.copy()?),
-        };
+impl TryClone for Atom {
+    fn try_clone(&self) -> Result<Atom, AllocError> {
         Ok(Atom {
             name: self.name.try_clone()?,
-            qualifier: self.qualifier.copy()?,
-            bound,
+            qualifier: self.qualifier.try_clone()?,
+            bound: self.bound.try_clone()?,
         })
     }
 }
 
-impl Provide {
-    /// The same, with memory of its own.
-    pub(crate) fn copy(&self) -> Result<Provide, AllocError>
-        ensures { IfOk result (λ provide. provide ≡ self.now) }
-    {
-        let version = match &self.version {
-            None => None,
-            Some(version) => Some(version.try_clone()?),
-        };
+impl TryClone for Provide {
+    fn try_clone(&self) -> Result<Provide, AllocError> {
         Ok(Provide {
             name: self.name.try_clone()?,
-            qualifier: self.qualifier.copy()?,
-            version,
+            qualifier: self.qualifier.try_clone()?,
+            version: self.version.try_clone()?,
         })
     }
 }

@@ -3,6 +3,7 @@
 
 mod atom;
 mod bytes;
+mod copying;
 mod error;
 mod laws;
 mod lists;
@@ -12,9 +13,10 @@ mod reading;
 mod values;
 
 pub use atom::{Atom, Bound, Op, Provide, Qualifier, satisfies};
+pub use copying::TryClone;
 pub use error::RelationError;
 pub use laws::{faults_come, items_take_bytes, values_are_exact};
-pub use lists::{Alternatives, Atoms, Items, Provides};
+pub use lists::{Alternatives, Atoms, Entries, Items, Provides};
 pub use name::Name;
 pub use printing::print_alternatives;
 pub use values::{read_atoms, read_depends, read_provides};

@@ -4,6 +4,7 @@ ghost use Rattle.std.specs.Cmp.Lexicographic.{pointwise};
 ghost use Rattle.dist_relation.specs.Equality.{atom_eq, provide_eq};
 
 use crate::atom::{Atom, Provide};
+use crate::copying::{TryClone, clone_all};
 use std::alloc::AllocError;
 use std::marker::Model;
 
@@ -62,199 +63,85 @@ impl Alternatives {
         ensures { IfOk result (λ list. list ≡ self.now) }
     {
         Ok(Alternatives {
-            first: self.first.copy()?,
-            others: clone_atoms(&self.others)?,
+            first: self.first.try_clone()?,
+            others: clone_all(&self.others)?,
         })
     }
+}
+
+/// What a relation field lists, in its order.
+#[derive(Debug, Drop)]
+pub struct Entries<T> {
+    entries: Vec<T>,
 }
 
 /// Dependencies, of each of which one alternative is wanted.
-#[derive(Debug, Drop)]
-pub struct Items {
-    items: Vec<Alternatives>,
-}
-
-impl Model for Items {
-    ghost use Rattle.std.specs.Prelude.{ℕ, List};
-    ghost use Rattle.dist_relation.specs.declared.atom.Atom.{Atom};
-
-    ghost Value = { List (List Atom) };
-
-    ghost view = { λ list. list.items.items };
-}
-
-impl Items {
-    /// The list of these.
-    pub(crate) fn from_vec(items: Vec<Alternatives>) -> Items
-        ensures { result ≡ items.items }
-    {
-        Items { items }
-    }
-
-    /// How many there are.
-    pub fn len(&self) -> usize
-        ensures { result ≡ length self.now }
-    {
-        self.items.len()
-    }
-
-    /// The one at a place, from 0.
-    pub fn get(&self, place: usize) -> &Alternatives
-        requires { place < length self.now }
-        ensures { slice_get self.now place ≡ Some result.now }
-    {
-        &self.items[place]
-    }
-
-    /// Adds the dependencies of another list at the end. After an `Err` this list is unchanged, and the other is given up.
-    pub fn append(&mut self, more: Items) -> Result<(), AllocError>
-        ensures ok { OnOk result (self.new ≡ self.old ++ more) }
-        ensures err { OnErr result (self.new ≡ self.old) }
-    {
-        // Most packages have one of the two fields alone.
-        if self.items.is_empty() {
-            *self = more;
-            return Ok(());
-        }
-        let mut more = more.items;
-        self.items.append(&mut more)
-    }
-
-    /// The same list, with memory of its own.
-    pub fn try_clone(&self) -> Result<Items, AllocError>
-        ensures { IfOk result (λ list. list ≡ self.now) }
-    {
-        let mut items = Vec::with_capacity(*self.items.allocator(), self.items.len())?;
-        for item in &self.items {
-            items.push(item.try_clone()?)?;
-        }
-        Ok(Items { items })
-    }
-}
+pub type Items = Entries<Alternatives>;
 
 /// Atoms, as those of a Conflicts field.
-#[derive(Debug, Drop)]
-pub struct Atoms {
-    atoms: Vec<Atom>,
+pub type Atoms = Entries<Atom>;
+
+/// Entries of a Provides field.
+pub type Provides = Entries<Provide>;
+
+impl<T> Model for Entries<T> {
+    ghost use Rattle.std.specs.Prelude.{List};
+
+    ghost Value = { List T };
+
+    ghost view = { λ list. list.entries.items };
 }
 
-impl Model for Atoms {
-    ghost use Rattle.std.specs.Prelude.{ℕ, List};
-    ghost use Rattle.dist_relation.specs.declared.atom.Atom.{Atom};
-
-    ghost Value = { List Atom };
-
-    ghost view = { λ list. list.atoms.items };
-}
-
-impl Atoms {
+impl<T> Entries<T> {
     /// The list of these.
-    pub(crate) fn from_vec(atoms: Vec<Atom>) -> Atoms
-        ensures { result ≡ atoms.items }
+    pub(crate) fn from_vec(entries: Vec<T>) -> Entries<T>
+        ensures { result ≡ entries.items }
     {
-        Atoms { atoms }
+        Entries { entries }
     }
 
     /// How many there are.
     pub fn len(&self) -> usize
         ensures { result ≡ length self.now }
     {
-        self.atoms.len()
+        self.entries.len()
     }
 
     /// The one at a place, from 0.
-    pub fn get(&self, place: usize) -> &Atom
+    pub fn get(&self, place: usize) -> &T
         requires { place < length self.now }
         ensures { slice_get self.now place ≡ Some result.now }
     {
-        &self.atoms[place]
+        &self.entries[place]
     }
+}
 
-    /// Adds the atoms of another list at the end. After an `Err` this list is unchanged, and the other is given up.
-    pub fn append(&mut self, more: Atoms) -> Result<(), AllocError>
+impl<T: Drop> Entries<T> {
+    /// Adds those of another list at the end. After an `Err` this list is unchanged, and the other is given up.
+    pub fn append(&mut self, more: Entries<T>) -> Result<(), AllocError>
         ensures ok { OnOk result (self.new ≡ self.old ++ more) }
         ensures err { OnErr result (self.new ≡ self.old) }
     {
         // Most packages have one of the two fields alone.
-        if self.atoms.is_empty() {
+        if self.entries.is_empty() {
             *self = more;
             return Ok(());
         }
-        let mut more = more.atoms;
-        self.atoms.append(&mut more)
+        let mut more = more.entries;
+        self.entries.reserve_exact(more.len())?;
+        self.entries.append(&mut more)
     }
+}
 
+impl<T: TryClone> Entries<T> {
     /// The same list, with memory of its own.
-    pub fn try_clone(&self) -> Result<Atoms, AllocError>
+    pub fn try_clone(&self) -> Result<Entries<T>, AllocError>
         ensures { IfOk result (λ list. list ≡ self.now) }
     {
-        Ok(Atoms {
-            atoms: clone_atoms(&self.atoms)?,
+        Ok(Entries {
+            entries: clone_all(&self.entries)?,
         })
     }
-}
-
-/// Entries of a Provides field.
-#[derive(Debug, Drop)]
-pub struct Provides {
-    provides: Vec<Provide>,
-}
-
-impl Model for Provides {
-    ghost use Rattle.std.specs.Prelude.{ℕ, List};
-    ghost use Rattle.dist_relation.specs.declared.atom.Provide.{Provide};
-
-    ghost Value = { List Provide };
-
-    ghost view = { λ list. list.provides.items };
-}
-
-impl Provides {
-    /// The list of these.
-    pub(crate) fn from_vec(provides: Vec<Provide>) -> Provides
-        ensures { result ≡ provides.items }
-    {
-        Provides { provides }
-    }
-
-    /// How many there are.
-    pub fn len(&self) -> usize
-        ensures { result ≡ length self.now }
-    {
-        self.provides.len()
-    }
-
-    /// The one at a place, from 0.
-    pub fn get(&self, place: usize) -> &Provide
-        requires { place < length self.now }
-        ensures { slice_get self.now place ≡ Some result.now }
-    {
-        &self.provides[place]
-    }
-
-    /// The same list, with memory of its own.
-    pub fn try_clone(&self) -> Result<Provides, AllocError>
-        ensures { IfOk result (λ list. list ≡ self.now) }
-    {
-        let alloc = *self.provides.allocator();
-        let mut provides = Vec::with_capacity(alloc, self.provides.len())?;
-        for provide in &self.provides {
-            provides.push(provide.copy()?)?;
-        }
-        Ok(Provides { provides })
-    }
-}
-
-/// The same atoms, with memory of their own.
-fn clone_atoms(atoms: &Vec<Atom>) -> Result<Vec<Atom>, AllocError>
-    ensures { IfOk result (λ copies. copies.items ≡ atoms.now.items) }
-{
-    let alloc = *atoms.allocator();
-    let mut copies = Vec::with_capacity(alloc, atoms.len())?;
-    for atom in atoms {
-        copies.push(atom.copy()?)?;
-    }
-    Ok(copies)
 }
 
 impl PartialEq for Alternatives {
@@ -293,7 +180,7 @@ impl PartialEq for Items {
         ensures value { result ≡ pointwise (pointwise atom_eq) self.now other.now }
         ensures same { IsTrue result ↔ (self.now ≡ other.now) }
     {
-        self.items == other.items
+        self.entries == other.entries
     }
 }
 
@@ -316,7 +203,7 @@ impl PartialEq for Atoms {
         ensures value { result ≡ pointwise atom_eq self.now other.now }
         ensures same { IsTrue result ↔ (self.now ≡ other.now) }
     {
-        self.atoms == other.atoms
+        self.entries == other.entries
     }
 }
 
@@ -339,7 +226,7 @@ impl PartialEq for Provides {
         ensures value { result ≡ pointwise provide_eq self.now other.now }
         ensures same { IsTrue result ↔ (self.now ≡ other.now) }
     {
-        self.provides == other.provides
+        self.entries == other.entries
     }
 }
 

@@ -69,7 +69,11 @@ pub(crate) fn entries_of<T: Entry>(alloc: Global, value: &[u8]) -> Result<Vec<T>
         let rest = read_piece(alloc, text, &mut entries)?;
         match after_byte(rest, b',') {
             Some(tail) => text = tail,
-            None => return Ok(entries),
+            None => {
+                // The list is kept: it gives back what commas with no entry behind them took.
+                entries.shrink_to_fit();
+                return Ok(entries);
+            }
         }
     }
 }
@@ -85,7 +89,10 @@ fn atoms_of(alloc: Global, text: &[u8]) -> Result<(Vec<Atom>, &[u8]), ReadError>
         atoms.push(atom)?;
         match after_byte(rest, b'|') {
             Some(tail) => text = tail,
-            None => return Ok((atoms, rest)),
+            None => {
+                atoms.shrink_to_fit();
+                return Ok((atoms, rest));
+            }
         }
     }
 }

@@ -31,11 +31,11 @@ use Rattle.dist_version.proofs.Steps.{room, revision_size}
 use Rattle.dist_version.proofs.Then.{nat_cmp-same, nat_cmp-less}
 use Rattle.dist_version.proofs.Turns.{text_weights, part_cmp-turn, part_cmp-empty, after_turn-shorter_by_one, take_while-all}
 
-abbrev other_byte : ℕ → Bool
+abbrev pub other_byte : ℕ → Bool
 other_byte b = not (is_ascii_digit b)
 
 -- the bytes don't go on with one that passes
-abbrev Halts : (ℕ → Bool) → List ℕ → Type 0
+abbrev pub Halts : (ℕ → Bool) → List ℕ → Type 0
 Halts test [] = Unit {0}
 Halts test (b ∷ bs) = test b ≡ false
 
@@ -57,15 +57,15 @@ halts-drop test (x ∷ xs) = elim (cases_Bool (test x)) [
 -- ---- one turn, put together and taken apart
 
 -- what the first turn of a part is, and what is left
-record Turned (part first number left : List ℕ) : Type 0 where
-  text : text_start part ≡ first
-  digits : digit_start (after_text part) ≡ number
-  rest : after_turn part ≡ left
+pub record Turned (part first number left : List ℕ) : Type 0 where
+  pub text : text_start part ≡ first
+  pub digits : digit_start (after_text part) ≡ number
+  pub rest : after_turn part ≡ left
 
 taken : (test : ℕ → Bool) (a b : List ℕ) → list_all test a ≡ true → Halts test b → take (prefix_len test (a ++ b)) (a ++ b) ≡ a
 taken test a b all halts = rw (prefix_len-at test a b all halts) (take-append_seam a b)
 
-turned : (t d x : List ℕ) → list_all other_byte t ≡ true → list_all is_ascii_digit d ≡ true → Halts other_byte (d ++ x) → Halts is_ascii_digit x
+pub turned : (t d x : List ℕ) → list_all other_byte t ≡ true → list_all is_ascii_digit d ≡ true → Halts other_byte (d ++ x) → Halts is_ascii_digit x
     → Turned (t ++ (d ++ x)) t d x
 turned t d x texts digits stop halt =
     let first : text_start (t ++ (d ++ x)) ≡ t = taken other_byte t (d ++ x) texts stop in
@@ -184,7 +184,7 @@ letter_least b letter = elim (cases_Bool (b == 65)) [
 ]
 
 -- the first bytes without digits of what begins with such a byte
-text_start-cons : (c : ℕ) (cs : List ℕ) → is_ascii_digit c ≡ false → text_start (c ∷ cs) ≡ c ∷ text_start cs
+pub text_start-cons : (c : ℕ) (cs : List ℕ) → is_ascii_digit c ≡ false → text_start (c ∷ cs) ≡ c ∷ text_start cs
 text_start-cons c cs other = rw (other, one-add) refl
 
 -- what is above nothing is above `A` and so many tildes, where it begins with no digit and has no more bytes
@@ -250,7 +250,7 @@ digits_halt [] [] y h some = absurd (omega (arith, some))
 digits_halt [] (b ∷ x) y h some = h
 digits_halt (b ∷ d) x y h some = h
 
-digit_other : (b : ℕ) → is_ascii_digit b ≡ true → other_byte b ≡ false
+pub digit_other : (b : ℕ) → is_ascii_digit b ≡ true → other_byte b ≡ false
 digit_other b h = rw h refl
 
 extended_turn-at : (n : ℕ) (part t d x : List ℕ) → part ≡ t ++ (d ++ x) → text_start part ≡ t → digit_start (after_text part) ≡ d → after_turn part ≡ x

@@ -1,10 +1,11 @@
 //! The order of two parts of versions, by turns: a start without digits, and then a run of digits, which is never computed.
-ghost use Rattle.std.specs.Prelude.{◌≡◌, ◌≤◌, IsTrue, length, map, drop, not, ◌==◌};
+ghost use Rattle.std.specs.Prelude.{◌≡◌, ◌+◌, ◌≤◌, IsTrue, false, length, map, take, drop, not, ◌==◌};
 ghost use Rattle.std.specs.Char.{is_ascii_digit};
-ghost use Rattle.std.specs.List.{list_all, prefix_len};
+ghost use Rattle.std.specs.List.{list_all, prefix_len, suffix_len};
 ghost use Rattle.std.specs.Ordering.{nat_cmp, ordering_then};
 ghost use Rattle.std.specs.Str.Parse.{digits_value};
 ghost use Rattle.dist_version.specs.Spelling.{digit_zero};
+ghost use Rattle.dist_version.specs.Between.{ends_in_digit};
 ghost use Rattle.dist_version.specs.Order.{weight_of, weight_at, text_start, digit_start, after_text, after_turn, weights_cmp, part_cmp};
 
 use std::cmp::Ordering;
@@ -126,6 +127,57 @@ fn compare_turns(a: &Turn, b: &Turn) -> Ordering
     compare_digits(a.digits, b.digits)
 }
 
+/// How many bytes are compared at a step.
+const STEP: usize = 16;
+
+/// The length of a common start, in whole steps. The start may go on.
+fn equal_steps(a: &[u8], b: &[u8]) -> usize
+    ensures within_a { result ≤ length a.now }
+    ensures within_b { result ≤ length b.now }
+    ensures same { take result a.now ≡ take result b.now }
+{
+    let shorter = a.len().min(b.len());
+    let mut end = 0;
+    while STEP <= shorter - end && a[end..end + STEP] == b[end..end + STEP] {
+        end += STEP;
+    }
+    end
+}
+
+/// The length of the longest common start.
+fn equal_len(a: &[u8], b: &[u8]) -> usize
+    ensures within { result ≤ length a.now }
+    ensures same { take result a.now ≡ take result b.now }
+{
+    let shorter = a.len().min(b.len());
+    let mut end = equal_steps(a, b);
+    while end < shorter && a[end] == b[end] {
+        end += 1;
+    }
+    end
+}
+
+/// How many digits stand at the end.
+fn last_digits_len(part: &[u8]) -> usize
+    ensures value { result ≡ suffix_len is_ascii_digit part.now }
+    ensures within { result ≤ length part.now }
+{
+    part.iter()
+        .rev()
+        .take_while(|byte| byte.is_ascii_digit())
+        .count()
+}
+
+/// What follows a common start of two parts, which ends in no digit: a run of digits is compared as a whole.
+fn after_common<'a>(a: &'a [u8], b: &'a [u8]) -> (&'a [u8], &'a [u8])
+    ensures order { part_cmp result.0.now result.1.now ≡ part_cmp a.now b.now }
+    ensures shorter { length result.0.now + length result.1.now ≤ length a.now + length b.now }
+{
+    let common = &a[..equal_len(a, b)];
+    let end = common.len() - last_digits_len(common);
+    (&a[end..], &b[end..])
+}
+
 /// Compares two upstream versions, or two revisions.
 pub(crate) fn compare_parts(a: &[u8], b: &[u8]) -> Ordering
     ensures { result ≡ part_cmp a.now b.now }
@@ -133,8 +185,9 @@ pub(crate) fn compare_parts(a: &[u8], b: &[u8]) -> Ordering
     let mut a = a;
     let mut b = b;
     while !a.is_empty() || !b.is_empty() {
-        let first = next_turn(a);
-        let second = next_turn(b);
+        let (left, right) = after_common(a, b);
+        let first = next_turn(left);
+        let second = next_turn(right);
         let order = compare_turns(&first, &second);
         if order.is_ne() {
             return order;

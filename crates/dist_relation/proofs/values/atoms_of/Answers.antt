@@ -34,5 +34,5 @@ loop-atoms-preserved c =
 
 pub returns-in-None : goal.returns-in-None
 returns-in-None c =
-    rw c.in_ok-push.ensures.items (loop_last bar (atom_at Depends) (atom_shorter Depends) c.loop-atoms.atoms.items c.loop-atoms.text.now c.in_ok-atom.atom
+    rw (c.shrink_to_fit.ensures.items, c.in_ok-push.ensures.items) (loop_last bar (atom_at Depends) (atom_shorter Depends) c.loop-atoms.atoms.items c.loop-atoms.text.now c.in_ok-atom.atom
     c.in_ok-atom.rest.now (alternatives_at c.args.text.now) c.in_ok-atom.ensures c.in-None.ensures c.loop-atoms.invariant)

@@ -42,5 +42,5 @@ returns-in-None g c =
     let reading = g.T.Entry.reading in
     let shorter = piece_shorter reading c.requires in
     let p = c.in_ok-rest.ensures in
-    rw p.2 (entries_last reading shorter c.loop-entries.entries.items c.loop-entries.text.now p.0 c.in_ok-rest.rest.now (items_of reading c.args.value.now) p.1
+    rw (c.shrink_to_fit.ensures.items, p.2) (entries_last reading shorter c.loop-entries.entries.items c.loop-entries.text.now p.0 c.in_ok-rest.rest.now (items_of reading c.args.value.now) p.1
     c.in-None.ensures c.loop-entries.invariant)

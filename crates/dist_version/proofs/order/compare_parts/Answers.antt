@@ -10,17 +10,22 @@ pub returns-then-is_ne : goal.returns-then-is_ne
 returns-then-is_ne c =
     let first = c.next_turn-first.ensures in
     let second = c.next_turn-second.ensures in
-    let step = part_cmp-step c.loop-a.a.now c.loop-a.b.now _ _ _ _ c.compare_turns-order.result first.text second.text first.digits second.digits
+    let left = c.after_common.result.0.now in
+    let right = c.after_common.result.1.now in
+    let step = part_cmp-step left right _ _ _ _ c.compare_turns-order.result first.text second.text first.digits second.digits
     c.compare_turns-order.ensures in
-    sym (then_stop c.compare_turns-order.result _ c.if-is_ne.ensures) ∙ sym step ∙ c.loop-a.invariant
+    sym (then_stop c.compare_turns-order.result _ c.if-is_ne.ensures) ∙ sym step ∙ c.after_common.ensures.order ∙ c.loop-a.invariant
 
 pub loop-a-preserved : goal.loop-a-preserved
 loop-a-preserved c =
     let first = c.next_turn-first.ensures in
     let second = c.next_turn-second.ensures in
-    let step = part_cmp-step c.loop-a.a.now c.loop-a.b.now _ _ _ _ c.compare_turns-order.result first.text second.text first.digits second.digits
+    let left = c.after_common.result.0.now in
+    let right = c.after_common.result.1.now in
+    let step = part_cmp-step left right _ _ _ _ c.compare_turns-order.result first.text second.text first.digits second.digits
     c.compare_turns-order.ensures in
-    ap₂ part_cmp first.rest second.rest ∙ sym (then_go_on c.compare_turns-order.result _ c.if-is_ne.ensures) ∙ sym step ∙ c.loop-a.invariant
+    ap₂ part_cmp first.rest second.rest ∙ sym (then_go_on c.compare_turns-order.result _ c.if-is_ne.ensures) ∙ sym step
+    ∙ c.after_common.ensures.order ∙ c.loop-a.invariant
 
 pub returns : goal.returns
 returns c = part_cmp-ended c.loop-a.a.now c.loop-a.b.now (no_bytes c.loop-a.a.now c.if-not-is_empty.ensures)
@@ -30,8 +35,8 @@ pub loop-a-smaller : goal.loop-a-smaller
 loop-a-smaller c =
     let first = ap length c.next_turn-first.ensures.rest in
     let second = ap length c.next_turn-second.ensures.rest in
-    let a = after_turn-shorter_by_one c.loop-a.a.now in
-    let b = after_turn-shorter_by_one c.loop-a.b.now in
+    let a = after_turn-shorter_by_one c.after_common.result.0.now in
+    let b = after_turn-shorter_by_one c.after_common.result.1.now in
     elim c.if-not-is_empty.branch [
       | then-not-is_empty w ↦ omega (arith, first, second, a, b, some_bytes c.loop-a.a.now w.if-not-is_empty.ensures)
       | else-not-is_empty+then-not-is_empty-2 w ↦ omega (arith, first, second, a, b, some_bytes c.loop-a.b.now w.if-not-is_empty-2.ensures)
