@@ -103,6 +103,11 @@ after_at [] b all = refl
 after_at ((zero, s) ∷ a) b all = absurd (let bad : 1 ≤ 0 = All-head (λ w. 1 ≤ w.0) (zero, s) a all in omega arith)
 after_at ((suc n, s) ∷ a) b all = after_at a b (All-tail (λ w. 1 ≤ w.0) (suc n, s) a all)
 
+pub before_all : (a : List Word) → All (λ w. 1 ≤ w.0) a → before a ≡ a
+before_all [] all = refl
+before_all ((zero, s) ∷ a) all = absurd (let bad : 1 ≤ 0 = All-head (λ w. 1 ≤ w.0) (zero, s) a all in omega arith)
+before_all ((suc n, s) ∷ a) all = ap (λ l. (suc n, s) ∷ l) (before_all a (All-tail (λ w. 1 ≤ w.0) (suc n, s) a all))
+
 pub numbers_of_plains : (ns : List ℕ) → numbers (plains ns) ≡ ns
 numbers_of_plains [] = refl
 numbers_of_plains (n ∷ ns) = ap (λ l. n ∷ l) (numbers_of_plains ns)
@@ -121,34 +126,45 @@ pairs_from_one (p ∷ ps) all =
     let there = pairs_from_one ps (All-tail (λ q. (1 ≤ q.0) × (1 ≤ q.1)) p ps all) in
     All-cons (λ w. 1 ≤ w.0) (plain p.0) (plain p.1 ∷ pair_words ps) here.0 (All-cons (λ w. 1 ≤ w.0) (plain p.1) (pair_words ps) here.1 there)
 
+-- the numbers of a last list, and those of a list before a 0
+last_numbers : (ns : List ℕ) → AreFromOne ns → numbers (before (plains ns)) ≡ ns
+last_numbers ns all = ap numbers (before_all (plains ns) (plains_from_one ns all)) ∙ numbers_of_plains ns
+
+last_pairs : (ps : List (ℕ × ℕ)) → ArePairs ps → pairs (before (pair_words ps)) ≡ ps
+last_pairs ps all = ap pairs (before_all (pair_words ps) (pairs_from_one ps all)) ∙ pairs_of_words ps
+
+first_numbers : (ns : List ℕ) (b : List Word) → AreFromOne ns → numbers (before (plains ns ++ (separator ∷ b))) ≡ ns
+first_numbers ns b all = ap numbers (before_at (plains ns) b (plains_from_one ns all)) ∙ numbers_of_plains ns
+
 pub decoded_of : (step : CertRecord) → KeepsRules step → decoded (letter step) (words step) ≡ step
-decoded_of (Question literals) rules = refl
+decoded_of (Question literals) rules = ap Question (before_all literals rules.1.0)
 decoded_of (Derived literals hints) rules =
     let l = before_at literals (plains hints) rules.0.0 in
-    let h = ap numbers (after_at literals (plains hints) rules.0.0) ∙ numbers_of_plains hints in
+    let h = ap (λ ws. numbers (before ws)) (after_at literals (plains hints) rules.0.0) ∙ last_numbers hints rules.1 in
     λ i. Derived (l i) (h i)
-decoded_of (Refuted hints) rules = ap Refuted (numbers_of_plains hints)
-decoded_of (Installation variables) rules = ap Installation (numbers_of_plains variables)
+decoded_of (Refuted hints) rules = ap Refuted (last_numbers hints rules)
+decoded_of (Installation variables) rules = ap Installation (last_numbers variables rules.0)
 decoded_of Undecided rules = refl
 decoded_of (NotInstallable p) rules = refl
 decoded_of (Unknown p) rules = refl
 decoded_of (Strong p installations on undecided) rules =
-    let one = plains_from_one installations rules.2 in
-    let two = plains_from_one on rules.3 in
-    let i1 = ap numbers (before_at (plains installations) (plains on ++ (separator ∷ plains undecided)) one) ∙ numbers_of_plains installations in
-    let behind = after_at (plains installations) (plains on ++ (separator ∷ plains undecided)) one in
-    let i2 = ap (λ l. numbers (before l)) behind ∙ (ap numbers (before_at (plains on) (plains undecided) two) ∙ numbers_of_plains on) in
-    let i3 = ap (λ l. numbers (after l)) behind ∙ (ap numbers (after_at (plains on) (plains undecided) two) ∙ numbers_of_plains undecided) in
+    let lists = plains on ++ (separator ∷ plains undecided) in
+    let behind = after_at (plains installations) lists (plains_from_one installations rules.2) in
+    let last = after_at (plains on) (plains undecided) (plains_from_one on rules.3) in
+    let i1 = first_numbers installations lists rules.2 in
+    let i2 = ap (λ l. numbers (before l)) behind ∙ first_numbers on (plains undecided) rules.3 in
+    let i3 = ap (λ l. numbers (before (after l))) behind ∙ (ap (λ l. numbers (before l)) last ∙ last_numbers undecided rules.4) in
     λ i. Strong p (i1 i) (i2 i) (i3 i)
 decoded_of (Outdated p) rules = refl
 decoded_of (Alive p installation) rules = refl
 decoded_of (Challenged p installations by undecided) rules =
-    let one = plains_from_one installations rules.2 in
+    let lists = pair_words by ++ (separator ∷ pair_words undecided) in
     let two = pairs_from_one by rules.3 in
-    let i1 = ap numbers (before_at (plains installations) (pair_words by ++ (separator ∷ pair_words undecided)) one) ∙ numbers_of_plains installations in
-    let behind = after_at (plains installations) (pair_words by ++ (separator ∷ pair_words undecided)) one in
+    let behind = after_at (plains installations) lists (plains_from_one installations rules.2) in
+    let last = after_at (pair_words by) (pair_words undecided) two in
+    let i1 = first_numbers installations lists rules.2 in
     let i2 = ap (λ l. pairs (before l)) behind ∙ (ap pairs (before_at (pair_words by) (pair_words undecided) two) ∙ pairs_of_words by) in
-    let i3 = ap (λ l. pairs (after l)) behind ∙ (ap pairs (after_at (pair_words by) (pair_words undecided) two) ∙ pairs_of_words undecided) in
+    let i3 = ap (λ l. pairs (before (after l))) behind ∙ (ap (λ l. pairs (before l)) last ∙ last_pairs undecided rules.4) in
     λ i. Challenged p (i1 i) (i2 i) (i3 i)
 decoded_of End rules = refl
 

@@ -95,21 +95,23 @@ small_decoded c ws small =
     let behind : AreSmall (rest ws) = small_rest ws small in
     let named : AreSmall (plains (numbers (before (rest ws)))) = small_numbers (before (rest ws)) (small_before (rest ws) behind) in
     let lists : AreSmall (after (rest ws)) = small_after (rest ws) behind in
+    let last : AreSmall (before (after (after (rest ws)))) = small_before _ (small_after _ lists) in
     let none : AreSmall [] = All-nil (λ v. IsSmall v.0) in
-    either (nat_eq c 113) _ _ small (
-    either (nat_eq c 100) _ _ (separated (before ws) (plains (numbers (after ws))) (small_before ws small) (small_numbers (after ws) (small_after ws small))) (
-    either (nat_eq c 102) _ _ (small_numbers ws small) (
-    either (nat_eq c 109) _ _ (small_numbers ws small) (
+    either (nat_eq c 113) _ _ (small_before ws small) (
+    either (nat_eq c 100) _ _ (separated (before ws) (plains (numbers (before (after ws)))) (small_before ws small)
+    (small_numbers (before (after ws)) (small_before (after ws) (small_after ws small)))) (
+    either (nat_eq c 102) _ _ (small_numbers (before ws) (small_before ws small)) (
+    either (nat_eq c 109) _ _ (small_numbers (before ws) (small_before ws small)) (
     either (nat_eq c 117) _ _ none (
     either (nat_eq c 120) _ _ alone (
     either (nat_eq c 121) _ _ alone (
     either (nat_eq c 115) _ _ (small_cons (plain (first ws)) _ claimed (separated _ _ named
-    (separated _ _ (small_numbers _ (small_before _ lists)) (small_numbers _ (small_after _ lists))))) (
+    (separated _ _ (small_numbers _ (small_before _ lists)) (small_numbers _ last)))) (
     either (nat_eq c 111) _ _ alone (
     either (nat_eq c 97) _ _ (small_cons (plain (first ws)) (plain (first (rest ws)) ∷ []) claimed (one_small (first (rest ws)) (small_first (rest ws) behind)))
     (
     either (nat_eq c 99) _ _ (small_cons (plain (first ws)) _ claimed (separated _ _ named
-    (separated _ _ (small_pairs _ (small_before _ lists)) (small_pairs _ (small_after _ lists))))) none))))))))))
+    (separated _ _ (small_pairs _ (small_before _ lists)) (small_pairs _ last)))) none))))))))))
 
 -- ---- what a line is read as
 

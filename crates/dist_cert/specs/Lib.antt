@@ -14,6 +14,7 @@ pub mod LooseWords
 pub mod LooseHeader
 pub mod Decoded
 pub mod Accepted
+pub mod Tried
 pub mod ClearForms
 pub mod OneVerdict
 pub mod SomeVerdict

@@ -1,6 +1,8 @@
 -- Serves private contracts: the words of a line as they are read first, whatever its bytes are.
-use Rattle.std.specs.Prelude.{ℕ, ◌+◌, ◌-◌, ◌*◌, ◌%◌, ◌^◌, true, false, List, [], ◌∷◌, nat_eq, if◌then◌else◌}
+use Rattle.std.specs.Prelude.{◌≡◌, ℕ, ◌+◌, ◌-◌, ◌*◌, ◌%◌, ◌^◌, ◌≤◌, true, false, List, [], ◌∷◌, length, drop, nat_eq}
+use Rattle.std.specs.Prelude.{Option, Some, None, if◌then◌else◌}
 use Rattle.dist_cert.specs.Form.{Word}
+use Rattle.dist_cert.specs.Decoded.{before, after}
 
 -- a number with one digit more, as it fits into 32 bits
 abbrev pub with_digit : ℕ → ℕ → ℕ
@@ -20,3 +22,17 @@ words_from word (byte ∷ bytes) = if nat_eq byte 32 then (word ∷ words_from (
 abbrev pub loose_words : List ℕ → List Word
 loose_words [] = []
 loose_words (byte ∷ bytes) = words_from (0, true) bytes
+
+-- the first word of these bytes, and how many bytes it has: behind it are those of the other words
+abbrev pub IsWord : List ℕ → Word × ℕ → Type 0
+IsWord bytes read = (read.1 ≤ length bytes) × (words_from (0, true) bytes ≡ read.0 ∷ loose_words (drop read.1 bytes))
+
+-- the next word, where one is left
+abbrev pub Gives : List Word → List Word → Option Word → Type 0
+Gives old new None = (old ≡ []) × (new ≡ [])
+Gives old new (Some word) = old ≡ word ∷ new
+
+-- the next word before the first 0, where one is left
+abbrev pub GivesListed : List Word → List Word → Option Word → Type 0
+GivesListed old new None = (before old ≡ []) × (new ≡ after old)
+GivesListed old new (Some word) = (old ≡ word ∷ new) × (before old ≡ word ∷ before new) × (after old ≡ after new)

@@ -6,7 +6,7 @@ ghost use Rattle.dist_cert.specs.LooseHeader.{kind_in, mode_in, header_with, loo
 
 use crate::decoding::decode;
 use crate::line_text::{add_header_text, add_record_text, kind_word, mode_word};
-use crate::loose_words::read_words;
+use crate::loose_words::Words;
 use crate::records::{CertKind, CertRecord, Header};
 use crate::rules::keeps_rules;
 use dist_base::MAX_LIMIT;
@@ -19,7 +19,6 @@ const BEFORE_KIND: usize = 25;
 #[derive(Drop)]
 pub(crate) struct Forms {
     alloc: Global,
-    words: Vec<(u32, bool)>,
     text: Vec<u8>,
     variables: Vec<u32>,
 }
@@ -29,7 +28,6 @@ impl Forms {
     pub(crate) fn new(alloc: Global) -> Forms {
         Forms {
             alloc,
-            words: Vec::new(alloc),
             text: Vec::new(alloc),
             variables: Vec::new(alloc),
         }
@@ -42,8 +40,7 @@ impl Forms {
         match line {
             [] => Ok(None),
             [letter, text @ ..] => {
-                read_words(&mut self.words, text)?;
-                let step = decode(self.alloc, *letter, &self.words)?;
+                let step = decode(self.alloc, *letter, &mut Words::new(text))?;
                 if self.is_record(&step, line)? {
                     Ok(Some(step))
                 } else {
@@ -67,7 +64,7 @@ impl Forms {
     pub(crate) fn header(&mut self, line: &[u8]) -> Result<Option<Header>, AllocError>
         ensures { IfOk result (IsReadAsHeader line.now) }
     {
-        match self.loosely(line)? {
+        match loosely(line) {
             None => Ok(None),
             Some(header) => {
                 if self.is_header(&header, line)? {
@@ -79,20 +76,6 @@ impl Forms {
         }
     }
 
-    /// The header that a line is of, if it is of any.
-    fn loosely(&mut self, line: &[u8]) -> Result<Option<Header>, AllocError>
-        ensures { IfOk result (λ found. found ≡ loose_header line.now) }
-    {
-        let kind = kind_of(line);
-        let essential = mode_of(line, kind);
-        let before = BEFORE_KIND + 1 + kind_word(kind).len() + mode_word(essential).len();
-        if line.len() < before {
-            return Ok(None);
-        }
-        read_words(&mut self.words, &line[before..])?;
-        Ok(numbered(kind, essential, &self.words))
-    }
-
     /// Whether a header keeps the rule of its limit and the line is its text.
     fn is_header(&mut self, header: &Header, line: &[u8]) -> Result<bool, AllocError>
         ensures { IfOk result (λ is. IsTrue is ↔ (KeepsLimit header.now × (header_text header.now ≡ line.now))) }
@@ -102,6 +85,19 @@ impl Forms {
         let within = header.limit >= 1 && header.limit <= MAX_LIMIT;
         Ok(within && self.text.as_slice() == line)
     }
+}
+
+/// The header that a line is of, if it is of any.
+fn loosely(line: &[u8]) -> Option<Header>
+    ensures { result ≡ loose_header line.now }
+{
+    let kind = kind_of(line);
+    let essential = mode_of(line, kind);
+    let before = BEFORE_KIND + 1 + kind_word(kind).len() + mode_word(essential).len();
+    if line.len() < before {
+        return None;
+    }
+    numbered(kind, essential, &mut Words::new(&line[before..]))
 }
 
 /// The kind of a first line, by the first letter of its word.
@@ -127,11 +123,16 @@ fn mode_of(line: &[u8], kind: CertKind) -> bool
 }
 
 /// The header of four numbers.
-fn numbered(kind: CertKind, essential: bool, words: &[(u32, bool)]) -> Option<Header>
-    ensures { result ≡ header_with kind essential words.now }
+fn numbered(kind: CertKind, essential: bool, words: &mut Words) -> Option<Header>
+    ensures { result ≡ header_with kind essential words.old }
 {
-    match words {
-        [limit, packages, variables, clauses] => Some(Header {
+    let limit = words.next()?;
+    let packages = words.next()?;
+    let variables = words.next()?;
+    let clauses = words.next()?;
+    match words.next() {
+        Some(_) => None,
+        None => Some(Header {
             kind,
             limit: limit.0,
             packages: packages.0,
@@ -139,6 +140,5 @@ fn numbered(kind: CertKind, essential: bool, words: &[(u32, bool)]) -> Option<He
             clauses: clauses.0,
             essential,
         }),
-        _ => None,
     }
 }

@@ -181,7 +181,7 @@ in-each r inputs h steps x before step after k j p q named is at_k at_j each dep
 down : (numbers : List ℕ) (k : ℕ) → Contains numbers (k + 1) → Contains (from_zero numbers) k
 down numbers k there = let e : k + 1 - 1 ≡ k = omega arith in subst (Contains (from_zero numbers)) e (contains-map (λ n. n - 1) numbers (k + 1) there)
 
-up : (numbers : List ℕ) (k : ℕ) → AreFromOne numbers → Contains (from_zero numbers) k → Contains numbers (k + 1)
+pub up : (numbers : List ℕ) (k : ℕ) → AreFromOne numbers → Contains (from_zero numbers) k → Contains numbers (k + 1)
 up numbers k from_one there =
     let image = image-of (λ n. n - 1) numbers k there in
     let low : 1 ≤ image.of = All-contains (λ n. 1 ≤ n) numbers image.of from_one image.there in
@@ -246,7 +246,7 @@ strong-names before k h r inputs named on undecided rules twice =
 
 -- ---- any claim
 
-next-number : (count packages p : ℕ) → ¬ Any (λ q. (q ≢ count + 1) ⊎ (packages < q)) (p ∷ []) → (p ≡ count + 1) × (p ≤ packages)
+pub next-number : (count packages p : ℕ) → ¬ Any (λ q. (q ≢ count + 1) ⊎ (packages < q)) (p ∷ []) → (p ≡ count + 1) × (p ≤ packages)
 next-number count packages p none =
     let Wrong : ℕ → Type 0 = λ q. (q ≢ count + 1) ⊎ (packages < q) in (
       stable (cases_eq p (count + 1)) (λ other. none (any-head Wrong p [] (inl other))),

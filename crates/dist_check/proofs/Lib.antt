@@ -6,6 +6,8 @@ mod GroupLemmas
 mod MemberLemmas
 mod Claims
 mod Whole
+mod TriedTold
+mod TriedMarks
 mod Hard
 mod Above
 mod Profile

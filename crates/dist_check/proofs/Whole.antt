@@ -59,13 +59,13 @@ claim-or-none (lines.Challenged p i by undecided) = inr (record {
 })
 
 -- a claim line with its place among claims
-record IsLineOfClaim (steps : List CertRecord) (number : ℕ) (claim : Claim) : Type 0 where
-  before : List CertRecord
-  step : CertRecord
-  after : List CertRecord
-  is : steps ≡ before ++ step ∷ after
-  one : claim_in step ≡ claim ∷ []
-  count : claim_count before ≡ number
+pub record IsLineOfClaim (steps : List CertRecord) (number : ℕ) (claim : Claim) : Type 0 where
+  pub before : List CertRecord
+  pub step : CertRecord
+  pub after : List CertRecord
+  pub is : steps ≡ before ++ step ∷ after
+  pub one : claim_in step ≡ claim ∷ []
+  pub count : claim_count before ≡ number
 
 pub claim-count-push : (before : List CertRecord) (step : CertRecord) → claim_count (before ++ step ∷ []) ≡ claim_count before + length (claimed step)
 claim-count-push before step =
@@ -100,7 +100,7 @@ at-place step steps claim one rest (suc m) at =
     let e : 1 + m ≡ suc m = omega arith in
     subst (λ n. IsLineOfClaim (step ∷ steps) n claim) e (later-claim step steps 1 m claim (ap (λ (ns : List ℕ). length ns) one.of) (rest m at))
 
-find-claim : (steps : List CertRecord) (claim : Claim) (number : ℕ) → slice_get (claims_in steps) number ≡ Some claim → IsLineOfClaim steps number claim
+pub find-claim : (steps : List CertRecord) (claim : Claim) (number : ℕ) → slice_get (claims_in steps) number ≡ Some claim → IsLineOfClaim steps number claim
 find-claim [] claim number at = cc
 find-claim (step ∷ steps) claim number at = elim (claim-or-none step) [
   | inl none ↦

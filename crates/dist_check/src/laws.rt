@@ -12,10 +12,11 @@ ghost use Rattle.dist_cert.specs.declared.records.Claim.{Claim};
 ghost use Rattle.dist_cert.specs.declared.records.Header.{Header};
 ghost use Rattle.dist_cert.specs.Accepted.{IsAcceptedAs};
 ghost use Rattle.dist_cert.specs.Form.{Word};
+ghost use Rattle.dist_cert.specs.Tried.{AreMarksTried};
 ghost use Rattle.dist_cert.specs.Groups.{clause_of, IsUndecidedIn};
 ghost use Rattle.dist_check.specs.declared.verdict.Verdict.{Verdict};
 ghost use Rattle.dist_check.specs.Answers.{Answers, IsOfText, IsVerdict};
-ghost use Rattle.dist_subject.specs.Present.{IsAccepted, IsRefused, AreInputs, subject_of};
+ghost use Rattle.dist_subject.specs.Present.{IsAccepted, IsRefused, AreInputs, matter_of, subject_of};
 ghost use Rattle.dist_check.specs.Means.{Means};
 
 use dist_cert::forms_are_clear;
@@ -43,6 +44,15 @@ pub fn undecided_questions_are_hard()
 {
     forms_are_clear();
     new_lines_are_few();
+}
+
+/// Each mark of an accepted text was worked for: its question is closed as undecided in the text, behind at least as many
+/// derived lines as the limit, each of which follows by its hints and was new.
+pub fn marks_are_tried()
+    ensures { (r : PackageList) (inputs : Bool → List (List Literal)) (limits : Limits) (text : List ℕ) (h : Header) (steps : List CertRecord)
+        → IsAcceptedAs (subject_of r inputs) limits text h steps → AreMarksTried (matter_of r h.essential (inputs h.essential)) h.kind h.limit steps }
+{
+    forms_are_clear();
 }
 
 /// What the check answers of a text is the text's verdict, and there is no other one.

@@ -9,7 +9,7 @@ mod verdict;
 
 pub use file::check;
 pub use laws::{
-    accepted_claims_hold, each_text_has_a_verdict, texts_have_one_answer, texts_have_one_verdict,
-    undecided_questions_are_hard,
+    accepted_claims_hold, each_text_has_a_verdict, marks_are_tried, texts_have_one_answer,
+    texts_have_one_verdict, undecided_questions_are_hard,
 };
 pub use verdict::Verdict;

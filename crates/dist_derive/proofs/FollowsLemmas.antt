@@ -1,15 +1,16 @@
 -- One hint after another.
-use Rattle.std.proofs.Common.{◌≡◌, ℕ, ◌↔◌, ◌⊎◌, ⊎_elim, inl, inr, Bool, true, false, List, [], ◌∷◌, ◌++◌, ◌+◌, ◌<◌, ◌≤◌, length, get_or, drop, refl, subst}
+use Rattle.std.proofs.Common.{◌≡◌, ℕ, ◌↔◌, ◌⊎◌, ⊎_elim, inl, inr, Bool, true, false, List, [], ◌∷◌, ◌++◌, ◌+◌, ◌<◌, ◌≤◌, length, get_or, drop, refl, subst, sym}
 use Rattle.std.proofs.lemmas.List.{drop_more, drop_all}
 use Rattle.std.proofs.lemmas.Bool.{false≢true}
-use Rattle.dist_clause.specs.Formula.{Literal}
+use Rattle.std.proofs.lemmas.List.Elements.{All-push, All-weaker, Contains-append_left}
+use Rattle.dist_clause.specs.Formula.{Literal, negation}
 use Rattle.dist_clause.specs.ClauseList.{clause_at}
-use Rattle.dist_derive.specs.Propagation.{AllFalse, IsUnit}
+use Rattle.dist_derive.specs.Propagation.{IsFalse, AllFalse, IsUnit}
 use Rattle.dist_derive.specs.Follows.{IsNumberOf, EndsFalse}
 use Rattle.dist_derive.specs.TrueLiterals.{LiteralList, HasOutcome}
 use Rattle.dist_derive.specs.declared.true_literals.Outcome.{Outcome}
 use Rattle.dist_derive.specs.declared.true_literals.Outcome.TheVariants.{Conflict, Unit as UnitClause, Open}
-use Rattle.dist_derive.specs.Hints.{TakesHint}
+use Rattle.dist_derive.specs.Hints.{TakesHint, AreConflicts}
 use Rattle.dist_derive.proofs.OutcomeLemmas.{not_unit, same_unit}
 
 -- the hints that are left end in a false clause, or none is left and the last one's clause was false
@@ -80,3 +81,29 @@ pub takes_hint_kept : (clauses : List (List Literal)) (old : LiteralList) (hint 
 takes_hint_kept clauses old hint Conflict number h not_unit = (refl, number, h)
 takes_hint_kept clauses old hint (UnitClause l) number h not_unit = absurd (not_unit l refl)
 takes_hint_kept clauses old hint Open number h not_unit = (refl, λ _. h)
+
+-- a clause that is false by now is remembered or not
+pub conflicts_more : (clauses : List (List Literal)) (trues : List Literal) (old new : List ℕ) (hint : ℕ) → AreConflicts clauses trues old
+    → IsNumberOf clauses hint → AllFalse trues (clause_at clauses hint) → (new ≡ old) ⊎ (new ≡ old ++ hint ∷ []) → AreConflicts clauses trues new
+conflicts_more clauses trues old new hint known number all grown = ⊎_elim
+    (λ same. subst (λ numbers. AreConflicts clauses trues numbers) (sym same) known)
+    (λ more. subst (λ numbers. AreConflicts clauses trues numbers) (sym more)
+    (All-push (λ k. IsNumberOf clauses k × AllFalse trues (clause_at clauses k)) old hint known (number, all)))
+    grown
+
+-- a clause that was false stays false, whatever a hint makes true
+pub conflicts_kept : (clauses : List (List Literal)) (old new : LiteralList) (numbers : List ℕ) (hint : ℕ) (o : Outcome) → TakesHint clauses old new hint o
+    → AreConflicts clauses old.literals numbers → AreConflicts clauses new.literals numbers
+conflicts_kept clauses old new numbers hint Conflict h known = subst (λ (t : LiteralList). AreConflicts clauses t.literals numbers) (sym h.0) known
+conflicts_kept clauses old new numbers hint Open h known = subst (λ (t : LiteralList). AreConflicts clauses t.literals numbers) (sym h.0) known
+conflicts_kept clauses old new numbers hint (UnitClause l) h known =
+    let trues = old.literals in
+    subst (λ (t : LiteralList). AreConflicts clauses t.literals numbers) (sym h.0)
+    (All-weaker (λ k. IsNumberOf clauses k × AllFalse trues (clause_at clauses k))
+    (λ k. IsNumberOf clauses k × AllFalse (trues ++ l ∷ []) (clause_at clauses k))
+    (λ k x. (
+      x.0,
+      All-weaker (IsFalse trues) (IsFalse (trues ++ l ∷ [])) (λ m false_before. Contains-append_left trues (l ∷ []) (negation m) false_before)
+          (clause_at clauses k) x.1,
+    ))
+    numbers known)

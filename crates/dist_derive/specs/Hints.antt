@@ -1,5 +1,5 @@
 -- What taking one hint does to the true literals.
-use Rattle.std.specs.Prelude.{◌≡◌, ◌≤◌, ℕ, List, [], ◌∷◌, ◌++◌, length}
+use Rattle.std.specs.Prelude.{◌≡◌, ◌≤◌, ℕ, List, [], ◌∷◌, ◌++◌, length, All}
 use Rattle.dist_clause.specs.Formula.{Literal}
 use Rattle.dist_clause.specs.ClauseList.{clause_at}
 use Rattle.dist_derive.specs.Propagation.{AllFalse, IsUnit}
@@ -17,3 +17,8 @@ TakesHint clauses old new hint (UnitClause l) =
     × (length new.literals ≤ new.variables)
 TakesHint clauses old new hint Open = (new ≡ old)
     × (IsNumberOf clauses hint → HasOutcome old.literals (clause_at clauses hint) Open)
+
+-- the clauses of these numbers are false
+abbrev pub AreConflicts : List (List Literal) → List Literal → List ℕ → Type 0
+AreConflicts clauses trues numbers =
+    All (λ number. IsNumberOf clauses number × AllFalse trues (clause_at clauses number)) numbers

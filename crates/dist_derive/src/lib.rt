@@ -3,6 +3,7 @@
 #![tactic(auto)]
 
 mod cone;
+mod conflicts;
 mod follows;
 mod laws;
 mod log;

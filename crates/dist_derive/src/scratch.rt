@@ -2,6 +2,7 @@
 
 ghost use Rattle.std.specs.Prelude.{◌≡◌, IfOk};
 
+use crate::conflicts::Conflicts;
 use crate::true_literals::TrueLiterals;
 use crate::variable_set::VariableSet;
 use std::alloc::{AllocError, Global};
@@ -12,6 +13,7 @@ use std::marker::Model;
 pub struct Scratch {
     pub(crate) literals: TrueLiterals,
     pub(crate) cone: VariableSet,
+    pub(crate) conflicts: Conflicts,
 }
 
 impl Model for Scratch {
@@ -22,7 +24,7 @@ impl Model for Scratch {
 
     ghost view = { λ a. a.literals.variables };
 
-    ghost invariant = { λ a. IsReady a.literals a.cone };
+    ghost invariant = { λ a. IsReady a.literals a.cone a.conflicts };
 }
 
 impl Scratch {
@@ -32,6 +34,18 @@ impl Scratch {
     {
         let literals = TrueLiterals::new(alloc, variables)?;
         let cone = VariableSet::new(alloc, variables)?;
-        Ok(Scratch { literals, cone })
+        let conflicts = Conflicts::new(alloc)?;
+        Ok(Scratch {
+            literals,
+            cone,
+            conflicts,
+        })
+    }
+
+    /// Makes room for logs of so many clauses, so that hints that repeat cost little. More clauses are allowed.
+    pub fn make_room(&mut self, alloc: Global, clauses: u32) -> Result<(), AllocError>
+        ensures { self.new ≡ self.old }
+    {
+        self.conflicts.make_room(alloc, clauses)
     }
 }

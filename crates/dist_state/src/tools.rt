@@ -18,6 +18,7 @@ use std::marker::Model;
 pub struct Tools {
     scratch: Scratch,
     clause: Vec<Lit>,
+    alloc: Global,
 }
 
 impl Model for Tools {
@@ -36,6 +37,7 @@ impl Tools {
         Ok(Tools {
             scratch: Scratch::new(alloc, variables)?,
             clause: Vec::new(alloc),
+            alloc,
         })
     }
 
@@ -53,6 +55,7 @@ impl Tools {
     {
         let _stated = log.variables();
         write_clause(&mut self.clause, literals)?;
+        self.scratch.make_room(self.alloc, log.len())?;
         Ok(log.follows(&mut self.scratch, &self.clause, hints))
     }
 
@@ -70,6 +73,7 @@ impl Tools {
     {
         let _stated = log.variables();
         write_negated(&mut self.clause, assumptions)?;
+        self.scratch.make_room(self.alloc, log.len())?;
         Ok(log.follows(&mut self.scratch, &self.clause, hints))
     }
 

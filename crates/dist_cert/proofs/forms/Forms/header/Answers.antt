@@ -4,8 +4,8 @@ use Rattle.dist_cert.proofs.HeaderForms.{no_header, other_header}
 use Rattle.dist_cert.proofs.forms.Forms.header.Goals as goal
 
 pub returns-in-None : goal.returns-in-None
-returns-in-None c = no_header c.args.line.now _ c.in_ok-loosely.ensures c.in-None.is
+returns-in-None c = no_header c.args.line.now _ c.loosely.ensures c.in-None.is
 
 pub returns-else-branch : goal.returns-else-branch
-returns-else-branch c = other_header c.args.line.now _ c.in-Some.header c.in_ok-loosely.ensures c.in-Some.is
+returns-else-branch c = other_header c.args.line.now _ c.in-Some.header c.loosely.ensures c.in-Some.is
     (λ kept. false≢true (sym c.if-branch.false ∙ c.in_ok-is_header-in-Some.ensures.1 kept))

@@ -1,0 +1,13 @@
+use Rattle.std.proofs.Common.{◌≡◌, ◌++◌, length}
+use Rattle.dist_cert.specs.Decoded as of
+use Rattle.dist_cert.proofs.loose_words.Words.literals.Given as goal
+
+-- the literals so far, and those of the words left, are all
+abbrev pub invariant-loop-word : goal.invariant-loop-word
+invariant-loop-word l = record {
+  read : l.list ++ of.before l.self ≡ of.before l.initial.self;
+  behind : of.after l.self ≡ of.after l.initial.self;
+}
+
+abbrev pub decreases-loop-word : goal.decreases-loop-word
+decreases-loop-word l = length l.self
