@@ -8,15 +8,15 @@ use Rattle.std.proofs.lemmas.Cmp.{nat_list_cmp_total}
 use Rattle.std.proofs.lemmas.Option.{get_or_from_slice_get, slice_get_within}
 use Rattle.dist_base.specs.ListLaws.{at-has, element-is, has-at, some-element, within-from}
 use Rattle.dist_clause.specs.ClauseList.{ClauseList}
+use Rattle.dist_clause.specs.DemandLaws.{set-more, set-shift}
 use Rattle.dist_clause.specs.Formula.{Literal}
 use Rattle.dist_version.specs.Order.{version_cmp}
 use Rattle.dist_repo.specs.Order.{IsInOrder, package_cmp}
 use Rattle.dist_repo.specs.PackageList.{PackageList, IsPackageAnd}
 use Rattle.dist_repo.specs.declared.package.Package.{Package}
 use Rattle.dist_now.specs.Gathering.{IsEssentialSet, IsNamedBelow, IsNamedFront, IsNamedSoFar, IsPlainSet}
-use Rattle.dist_now.specs.PresentClauses.{Demand, Item, Apart, Required, IsBefore, IsClauseFor, IsDemand}
+use Rattle.dist_now.specs.PresentClauses.{Demand, Item, Apart, Required, IsBefore, IsClauseFor, IsDemand, present_demands}
 use Rattle.dist_now.specs.PresentSet.{IsSetOf}
-use Rattle.dist_now.proofs.FrontLemmas.{set-more, set-shift}
 use Rattle.dist_now.proofs.ModelLemmas.{IsEssentialOf, required-at, required-from}
 use Rattle.dist_now.proofs.NameLemmas.{between-named, same_names, then-less}
 
@@ -112,7 +112,7 @@ abbrev NamedBefore : PackageList → ℕ → Demand → Type 0
 NamedBefore r number e = IsDemand r true e × IsNamedSoFar r number e
 
 pub named-start : (r : PackageList) (limits set : ClauseList) → IsPlainSet r limits set → IsNamedFront r 0 limits set
-named-start r limits set of = set-shift r (IsDemand r false) (NamedBefore r 0) limits.clause_limit limits.literal_limit set to from of
+named-start r limits set of = set-shift (present_demands r) (IsDemand r false) (NamedBefore r 0) limits.clause_limit limits.literal_limit set to from of
   where
     to : (d : Demand) → IsDemand r false d → NamedBefore r 0 d
     to (Item a b) demand = (demand, tt)
@@ -126,7 +126,7 @@ named-start r limits set of = set-shift r (IsDemand r false) (NamedBefore r 0) l
 
 pub named-end : (r : PackageList) (number : ℕ) (limits set : ClauseList) → length r.packages ≤ number → IsNamedFront r number limits set
     → IsEssentialSet r limits set
-named-end r number limits set past of = set-shift r (NamedBefore r number) (IsDemand r true) limits.clause_limit limits.literal_limit set (λ d before. before.0)
+named-end r number limits set past of = set-shift (present_demands r) (NamedBefore r number) (IsDemand r true) limits.clause_limit limits.literal_limit set (λ d before. before.0)
     from of
   where
     from : (d : Demand) → IsDemand r true d → NamedBefore r number d
@@ -158,7 +158,7 @@ named-wider r number (Required name) before = (before.0, below-wider r number na
 pub named-skipped : (r : PackageList) (number : ℕ) (p : Package) (limits set : ClauseList) → slice_get r.packages number ≡ Some p → (p.essential ≡ false)
     ⊎ IsNamedBelow r number p.name → IsNamedFront r number limits set
     → IsNamedFront r (number + 1) limits set
-named-skipped r number p limits set is skipped of = set-shift r (NamedBefore r number) (NamedBefore r (number + 1)) limits.clause_limit limits.literal_limit set
+named-skipped r number p limits set is skipped of = set-shift (present_demands r) (NamedBefore r number) (NamedBefore r (number + 1)) limits.clause_limit limits.literal_limit set
     (named-wider r number) from of
   where
     from : (d : Demand) → NamedBefore r (number + 1) d → NamedBefore r number d
@@ -210,7 +210,7 @@ before-name r number p name ordered is demand less =
 pub named-before : (r : PackageList) (number : ℕ) (p : Package) (c l : ℕ) (set : ClauseList) → IsInOrder r.packages → slice_get r.packages number ≡ Some p
     → ¬ IsNamedBelow r number p.name → IsSetOf r (NamedBefore r number) c l set
     → IsSetOf r (λ e. IsDemand r true e × IsBefore e (Required p.name)) c l set
-named-before r number p c l set ordered is first of = set-shift r (NamedBefore r number) (λ e. IsDemand r true e × IsBefore e (Required p.name)) c l set to from
+named-before r number p c l set ordered is first of = set-shift (present_demands r) (NamedBefore r number) (λ e. IsDemand r true e × IsBefore e (Required p.name)) c l set to from
     of
   where
     to : (d : Demand) → NamedBefore r number d → IsDemand r true d × IsBefore d (Required p.name)
@@ -228,7 +228,7 @@ pub named-pushed : (r : PackageList) (number : ℕ) (p : Package) (limits set : 
     → IsNamedFront r number limits set → IsClauseFor r (Required p.name) clause
     → IsNamedFront r (number + 1) limits (record set { clauses = set.clauses ++ clause ∷ [] })
 named-pushed r number p limits set clause ordered is essential first of is_clause =
-    set-more r (NamedBefore r number) (NamedBefore r (number + 1)) limits.clause_limit limits.literal_limit set (Required p.name) clause of is_clause below
+    set-more (present_demands r) (NamedBefore r number) (NamedBefore r (number + 1)) limits.clause_limit limits.literal_limit set (Required p.name) clause of is_clause below
     cases (named-wider r number)
     (required-from r.packages number p is essential, some-below r (number + 1) number p.name p (omega arith) is essential refl)
   where

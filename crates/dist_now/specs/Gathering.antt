@@ -1,10 +1,8 @@
 -- What is gathered on the way to the clauses of the present.
-use Rattle.std.specs.Prelude.{◌≡◌, ◌⊎◌, ◌↔◌, ℕ, ◌+◌, ◌<◌, ◌≤◌, Bool, true, false, List, Any, Contains, length}
+use Rattle.std.specs.Prelude.{◌≡◌, ◌⊎◌, ◌↔◌, ℕ, ◌<◌, ◌≤◌, Bool, true, false, List, Any, Contains, length}
 use Rattle.std.specs.Prelude.{slice_index_or}
-use Rattle.dist_clause.specs.ClauseList.{ClauseList, literal_count}
-use Rattle.dist_clause.specs.Formula.{Literal}
+use Rattle.dist_clause.specs.ClauseList.{ClauseList}
 use Rattle.dist_clause.specs.declared.clause_set.PushError.{PushError}
-use Rattle.dist_clause.specs.declared.clause_set.PushError.TheVariants.{TooManyClauses, TooManyLiterals, NoMemory}
 use Rattle.dist_repo.specs.Match.{Matches}
 use Rattle.dist_repo.specs.PackageList.{PackageList, IsPackageAnd}
 use Rattle.dist_repo.specs.declared.package.Package.{Package}
@@ -49,15 +47,6 @@ IsRejectingPair r pair = (n : ℕ) × IsPackageAnd r.packages n (λ p. IsPairWit
 pub record AreSplitAt (pairs : List (ℕ × ℕ)) (number place : ℕ) : Type 0 where
   pub before : (k : ℕ) (d : ℕ × ℕ) → k < place → k < length pairs → (slice_index_or pairs k d).0 < number
   pub behind : (k : ℕ) (d : ℕ × ℕ) → place ≤ k → k < length pairs → number ≤ (slice_index_or pairs k d).0
-
--- why a clause was refused by a set within its limits
-abbrev pub IsRefused : ClauseList → List Literal → PushError → Type 0
-IsRefused set clause TooManyClauses = (literal_count set.clauses ≤ set.literal_limit)
-    × (length set.clauses ≡ set.clause_limit)
-IsRefused set clause TooManyLiterals =
-    (literal_count set.clauses ≤ set.literal_limit) × (length set.clauses < set.clause_limit)
-    × (set.literal_limit < literal_count set.clauses + length clause)
-IsRefused set clause NoMemory = Unit {0}
 
 -- the set has a variable for each package and the limits of another set, and holds the clauses before a demand's at
 -- mode plain

@@ -11,7 +11,7 @@ ghost use Rattle.dist_now.specs.Members.{IsItemAt};
 ghost use Rattle.dist_now.specs.PresentClauses.{Apart, Item, Required, IsClauseFor, IsDemand, installed, not_installed};
 ghost use Rattle.dist_now.specs.PresentSet.{IsCause, IsSetOf, PassesClauses, PassesLiterals};
 
-use crate::clause_text::{add_clause, add_installed, not_installed};
+use crate::clause_text::{add_installed, not_installed};
 use crate::numbers::{add_versions, gather_meeting, gather_named, put_in_order};
 use crate::rejections::{add_partners, next_rejections};
 use dist_base::{MAX_CLAUSES, MAX_LITERALS, MAX_PACKAGES, MAX_VARIABLES};
@@ -88,7 +88,7 @@ fn push_item(
     if let Err(AllocError) = scratch.write_item(number) {
         return Err(PushError::NoMemory);
     }
-    add_clause(set, &scratch.clause)
+    set.push(&scratch.clause)
 }
 
 /// Adds the clauses of a package's items.
@@ -150,7 +150,7 @@ fn push_pairs_of(
     ensures err { IfErr result (IsCauseAt repo.now false set.old) }
 {
     for second in seconds {
-        add_clause(set, &[not_installed(first), not_installed(*second)])?;
+        set.push(&[not_installed(first), not_installed(*second)])?;
     }
     Ok(())
 }
@@ -294,7 +294,7 @@ fn push_name(
     if let Err(AllocError) = scratch.write_name(repo, &package.name) {
         return Err(PushError::NoMemory);
     }
-    add_clause(set, &scratch.clause)
+    set.push(&scratch.clause)
 }
 
 /// Adds the clauses of the names of essential packages.
