@@ -1,5 +1,5 @@
 -- What is gathered on the way to the clauses of the present.
-use Rattle.std.specs.Prelude.{◌≡◌, ◌⊎◌, ◌↔◌, ℕ, ◌<◌, ◌≤◌, Bool, true, false, List, Any, Contains, length}
+use Rattle.std.specs.Prelude.{◌≡◌, ◌⊎◌, ◌↔◌, ℕ, ◌+◌, ◌<◌, ◌≤◌, Bool, true, false, List, Any, Contains, MatchOption, Option, length}
 use Rattle.std.specs.Prelude.{slice_index_or}
 use Rattle.dist_clause.specs.ClauseList.{ClauseList}
 use Rattle.dist_clause.specs.declared.clause_set.PushError.{PushError}
@@ -61,6 +61,20 @@ IsPlainSet r limits set = IsSetOf r (IsDemand r false) limits.clause_limit limit
 abbrev pub IsNamedBelow : PackageList → ℕ → List ℕ → Type 0
 IsNamedBelow r number name = (k : ℕ) × (k < number)
     × IsPackageAnd r.packages k (λ p. (p.essential ≡ true) × (p.name ≡ name))
+
+-- no package from one number up to another is essential
+abbrev pub HasNoEssential : PackageList → (start end : ℕ) → Type 0
+HasNoEssential r start end = (k : ℕ) → start ≤ k → k < end → ¬ IsPackageAnd r.packages k (λ p. p.essential ≡ true)
+
+-- the last essential package before one
+pub record IsEssentialBefore (r : PackageList) (number k : ℕ) : Type 0 where
+  pub earlier : k < number
+  pub essential : IsPackageAnd r.packages k (λ p. p.essential ≡ true)
+  pub last : HasNoEssential r (k + 1) number
+
+-- the same, where there is one
+abbrev pub IsLastEssential : PackageList → ℕ → Option ℕ → Type 0
+IsLastEssential r number last = MatchOption last (HasNoEssential r 0 number) (IsEssentialBefore r number)
 
 -- a demand other than a name, or the name of an essential package with a lesser number
 abbrev pub IsNamedSoFar : PackageList → ℕ → Demand → Type 0
