@@ -1,8 +1,9 @@
 -- What is gathered on the way to the clauses of the present.
 use Rattle.std.specs.Prelude.{◌≡◌, ◌⊎◌, ◌↔◌, ℕ, ◌+◌, ◌<◌, ◌≤◌, Bool, true, false, List, Any, Contains, MatchOption, Option, length}
-use Rattle.std.specs.Prelude.{slice_index_or}
+use Rattle.std.specs.Prelude.{IsSomeAnd, slice_get, slice_index_or}
 use Rattle.dist_clause.specs.ClauseList.{ClauseList}
 use Rattle.dist_clause.specs.declared.clause_set.PushError.{PushError}
+use Rattle.dist_relation.specs.declared.atom.Atom.{Atom}
 use Rattle.dist_repo.specs.Match.{Matches}
 use Rattle.dist_repo.specs.PackageList.{PackageList, IsPackageAnd}
 use Rattle.dist_repo.specs.declared.package.Package.{Package}
@@ -12,6 +13,11 @@ use Rattle.dist_now.specs.PresentSet.{IsCause, IsSetOf}
 -- those with a property are added to a list, in some order
 abbrev pub Adds : {X : Type 0} → (old new : List X) → (X → Type 0) → Type 0
 Adds {X} old new P = (x : X) → Contains new x ↔ (Contains old x ⊎ P x)
+
+-- the alternative at a place of an item matches the package of a number
+abbrev pub IsMatchedAt : PackageList → (item : List Atom) → (place number : ℕ) → Type 0
+IsMatchedAt r item place number = IsSomeAnd (slice_get item place)
+    (λ atom. IsPackageAnd r.packages number (Matches r.architecture atom))
 
 -- the pair has the lesser of two different numbers first
 pub record IsPairOf (n k : ℕ) (pair : ℕ × ℕ) : Type 0 where

@@ -225,13 +225,15 @@ fn push_pairs(
 {
     let end = repo.len();
     let mut first = 0;
+    let mut width = end;
     while first < end {
-        let next = match next_rejections(alloc, repo, first) {
+        let next = match next_rejections(alloc, repo, first, width) {
             Ok(next) => next,
             Err(AllocError) => return Err(PushError::NoMemory),
         };
         push_pairs_from(repo, first, next.end, &next.pairs, numbers, set)?;
         first = next.end;
+        width = next.width;
     }
     Ok(())
 }
