@@ -1,5 +1,7 @@
 pub mod Formula
 pub mod ClauseList
+pub mod Demands
+pub mod DemandLaws
 pub mod Bits
 pub mod Stored
 pub mod Words

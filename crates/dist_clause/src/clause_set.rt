@@ -1,8 +1,9 @@
 //! Lists of clauses, kept flat: 64 million literals and 16 million clauses take 320 MB.
 
-ghost use Rattle.std.specs.Prelude.{◌≡◌, ◌+◌, ◌<◌, ◌≤◌, ◌↔◌, [], ◌∷◌, ◌++◌, length, OnOk, OnErr, Err};
+ghost use Rattle.std.specs.Prelude.{◌≡◌, ◌+◌, ◌<◌, ◌≤◌, ◌↔◌, [], ◌∷◌, ◌++◌, length, IfErr, OnOk, OnErr, Err};
 ghost use Rattle.dist_clause.specs.Formula.{IsClauseOver};
 ghost use Rattle.dist_clause.specs.ClauseList.{clause_at, literal_count, IsWithinLimits};
+ghost use Rattle.dist_clause.specs.Demands.{IsRefused};
 
 use crate::Lit;
 use dist_base::{Flat, MAX_CLAUSES, MAX_LITERALS, MAX_VARIABLES};
@@ -95,6 +96,7 @@ impl ClauseSet {
         ensures too_many_literals { (result ≡ Err PushError.TooManyLiterals)
             ↔ (length self.old.clauses < self.old.clause_limit)
             × (self.old.literal_limit < literal_count self.old.clauses + length clause.now) }
+        ensures cause { IfErr result (IsRefused self.old clause.now) }
     {
         if self.clauses.len() >= self.clause_limit as usize {
             return Err(PushError::TooManyClauses);

@@ -1,5 +1,5 @@
 -- Lists to which those with a property are added, one after another.
-use Rattle.std.proofs.Common.{◌≡◌, ◌↔◌, ℕ, ◌+◌, ◌<◌, List, [], ◌∷◌, ◌++◌, subst, arith, inl, inr}
+use Rattle.std.proofs.Common.{◌≡◌, ◌↔◌, ℕ, ◌+◌, ◌<◌, ◌≤◌, List, [], ◌∷◌, ◌++◌, subst, arith, inl, inr}
 use Rattle.std.specs.Prelude.{Contains}
 use Rattle.std.proofs.lemmas.Bool.{cases_lt}
 use Rattle.std.proofs.lemmas.List.Elements.{Contains-append_left, Contains-push, Contains-push_cases}
@@ -82,3 +82,31 @@ adds-exact new P adds x = (
   ]),
   λ p. (adds x).1 (inr p),
 )
+
+-- what a place adds is there from an earlier one
+pub adds-repeated : {X : Type 0} (old new : List X) (P : ℕ → X → Type 0) (count earlier : ℕ) → earlier < count
+    → ((x : X) → P count x → P earlier x) → AddsUpTo old new P count → AddsUpTo old new P (count + 1)
+adds-repeated old new P count earlier less same adds =
+    adds-more old new new P count adds (λ x. (
+      (λ there. inl there),
+      λ either. elim either [
+        | inl there ↦ there
+        | inr here ↦ (adds x).1 (inr (earlier, less, same x here))
+      ],
+    ))
+
+-- the same ones in another list
+pub adds-moved : {X : Type 0} (old mid new : List X) (P : X → Type 0) → ((x : X) → Contains new x ↔ Contains mid x) → Adds old mid P → Adds old new P
+adds-moved old mid new P same adds x = ((λ there. (adds x).0 ((same x).0 there)), λ either. (same x).1 ((adds x).1 either))
+
+-- at the places from one up to another nothing is added
+pub adds-rest : {X : Type 0} (old new : List X) (P : ℕ → X → Type 0) (count more : ℕ) → count ≤ more
+    → ((i : ℕ) (x : X) → count ≤ i → i < more → ¬ P i x) → AddsUpTo old new P count → AddsUpTo old new P more
+adds-rest {X} old new P count more up none adds =
+    adds-same old new (UpTo P count) (UpTo P more) (λ x here. (here.0, omega (arith, here.1), here.2)) from adds
+  where
+    from : (x : X) → UpTo P more x → UpTo P count x
+    from x here = elim (cases_lt here.0 count) [
+      | inl less ↦ (here.0, less, here.2)
+      | inr past ↦ absurd (none here.0 x past here.1 here.2)
+    ]

@@ -1,22 +1,22 @@
--- Clauses of demands: one list for a repository, its fronts, and what adds a clause to a front.
-use Rattle.std.proofs.Common.{◌≡◌, ◌⊎◌, ℕ, ◌<◌, Bool, List, [], ◌∷◌, ◌++◌, length, get_or, map, nat_cmp, Less, refl, sym, ap, subst, ◌∙◌, arith, inl, inr, Some}
+-- The order of demands, and the one clause of each.
+use Rattle.std.proofs.Common.{◌≡◌, ℕ, Bool, List, ◌∷◌, map, nat_cmp, Ordering, Less, Equal, Greater, refl, sym, ap, subst, ◌∙◌, arith, inl, inr, Some}
 use Rattle.std.proofs.Common.{slice_get}
-use Rattle.std.specs.Prelude.{Any, IsSomeAnd}
+use Rattle.std.specs.Prelude.{IsSomeAnd}
 use Rattle.std.specs.Cmp.Lexicographic.{slice_cmp}
+use Rattle.std.specs.Ordering.{ordering_reverse}
+use Rattle.std.proofs.lemmas.Bool.{cases_lt}
 use Rattle.std.proofs.lemmas.Cmp.{nat_list_cmp_total}
-use Rattle.std.proofs.lemmas.List.{get_or_default, map-append}
-use Rattle.std.proofs.lemmas.List.Elements.{All-nil, All-push}
-use Rattle.std.proofs.lemmas.List.Quantifiers.{all_pairs_push, Any-push}
-use Rattle.dist_base.specs.ListLaws.{any-cases, any-head, any-later, element-is, has-at, some-element}
-use Rattle.dist_base.specs.RowLaws.{HasOneImage, IsAsymmetric, rows-front, rows-same, same-numbers}
+use Rattle.dist_base.specs.ListLaws.{element-is, has-at, some-element}
+use Rattle.dist_base.specs.RowLaws.{IsAsymmetric, same-numbers}
+use Rattle.dist_clause.specs.DemandLaws.{Compared, IsOrderly, goes-on, is_before, is_behind, is_same}
 use Rattle.dist_clause.specs.Formula.{Literal}
 use Rattle.dist_relation.specs.declared.atom.Atom.{Atom}
 use Rattle.dist_repo.specs.PackageList.{PackageList}
 use Rattle.dist_repo.specs.declared.package.Package.{Package}
-use Rattle.dist_now.specs.PresentClauses.{Demand, Item, Apart, Required, AreClausesOf, AreNumbersOf, ArePresentClauses, AreClausesBefore, IsBefore, IsClauseFor}
-use Rattle.dist_now.specs.PresentClauses.{IsDemand, IsLesser, IsItemAnd, IsMetBy, installed, not_installed}
+use Rattle.dist_now.specs.PresentClauses.{Demand, Item, Apart, Required, AreNumbersOf, ArePresentClauses, AreClausesBefore, IsBefore, IsClauseFor}
+use Rattle.dist_now.specs.PresentClauses.{IsDemand, IsLesser, IsItemAnd, IsMetBy, installed, not_installed, present_demands}
 use Rattle.dist_now.specs.PresentLaws.{GoesOn}
-use Rattle.dist_now.proofs.HealthyLemmas.{pairs-none}
+use Rattle.dist_now.proofs.NameLemmas.{same_names}
 
 -- ---- the order of demands
 
@@ -40,6 +40,72 @@ demands-asymmetric (Apart a b) (Required name) less more = more
 demands-asymmetric (Required a) (Item n k) less more = less
 demands-asymmetric (Required a) (Apart n k) less more = less
 demands-asymmetric (Required a) (Required b) less more = names-asymmetric a b less more
+
+lesser-trans : (a b m l n k : ℕ) → IsLesser a b m l → IsLesser m l n k → IsLesser a b n k
+lesser-trans a b m l n k (inl x) (inl y) = inl (omega arith)
+lesser-trans a b m l n k (inl x) (inr y) = inl (omega (arith, y.0))
+lesser-trans a b m l n k (inr x) (inl y) = inl (omega (arith, x.0))
+lesser-trans a b m l n k (inr x) (inr y) = inr (x.0 ∙ y.0, omega (arith, x.1, y.1))
+
+before-trans : (x e d : Demand) → IsBefore x e → IsBefore e d → IsBefore x d
+before-trans (Item a b) (Item m l) (Item n k) first second = lesser-trans a b m l n k first second
+before-trans (Item a b) (Item m l) (Apart n k) first second = tt
+before-trans (Item a b) (Item m l) (Required name) first second = tt
+before-trans (Item a b) (Apart m l) (Item n k) first second = absurd second
+before-trans (Item a b) (Apart m l) (Apart n k) first second = tt
+before-trans (Item a b) (Apart m l) (Required name) first second = tt
+before-trans (Item a b) (Required other) (Item n k) first second = absurd second
+before-trans (Item a b) (Required other) (Apart n k) first second = tt
+before-trans (Item a b) (Required other) (Required name) first second = tt
+before-trans (Apart a b) (Item m l) d first second = absurd first
+before-trans (Apart a b) (Apart m l) (Item n k) first second = absurd second
+before-trans (Apart a b) (Apart m l) (Apart n k) first second = lesser-trans a b m l n k first second
+before-trans (Apart a b) (Apart m l) (Required name) first second = tt
+before-trans (Apart a b) (Required other) (Item n k) first second = absurd second
+before-trans (Apart a b) (Required other) (Apart n k) first second = absurd second
+before-trans (Apart a b) (Required other) (Required name) first second = tt
+before-trans (Required a) (Item m l) d first second = absurd first
+before-trans (Required a) (Apart m l) d first second = absurd first
+before-trans (Required a) (Required other) (Item n k) first second = absurd second
+before-trans (Required a) (Required other) (Apart n k) first second = absurd second
+before-trans (Required a) (Required other) (Required name) first second = nat_list_cmp_total.trans a other name first second
+
+pairs-compared : (r : PackageList) (make : ℕ → ℕ → Demand) → ((a b n k : ℕ) → IsLesser a b n k → IsBefore (make a b) (make n k)) → (a b n k : ℕ) → Compared (present_demands r) (make a b) (make n k)
+pairs-compared r make lesser a b n k =
+    elim (cases_lt a n) [
+      | inl less ↦ is_before (lesser a b n k (inl less))
+      | inr more ↦ elim (cases_lt n a) [
+        | inl less ↦ is_behind (lesser n k a b (inl less))
+        | inr also ↦
+            let first : a ≡ n = omega arith in
+            elim (cases_lt b k) [
+              | inl less ↦ is_before (lesser a b n k (inr (first, less)))
+              | inr past ↦ elim (cases_lt k b) [
+                | inl less ↦ is_behind (lesser n k a b (inr (sym first, less)))
+                | inr most ↦ let second : b ≡ k = omega arith in is_same (λ i. make (first i) (second i))
+              ]
+            ]
+      ]
+    ]
+
+names-compared : (r : PackageList) (a b : List ℕ) → Compared (present_demands r) (Required a) (Required b)
+names-compared r a b = by (slice_cmp nat_cmp a b) refl
+  where
+    by : (o : Ordering) → slice_cmp nat_cmp a b ≡ o → Compared (present_demands r) (Required a) (Required b)
+    by Less is = is_before is
+    by Equal is = is_same (ap (λ (x : List ℕ). Required x) (same_names a b is))
+    by Greater is = is_behind (nat_list_cmp_total.antisymm b a ∙ ap ordering_reverse is)
+
+pub compared : (r : PackageList) (d e : Demand) → Compared (present_demands r) d e
+compared r (Item a b) (Item n k) = pairs-compared r (λ x y. Item x y) (λ x y z w h. h) a b n k
+compared r (Item a b) (Apart n k) = is_before tt
+compared r (Item a b) (Required name) = is_before tt
+compared r (Apart a b) (Item n k) = is_behind tt
+compared r (Apart a b) (Apart n k) = pairs-compared r (λ x y. Apart x y) (λ x y z w h. h) a b n k
+compared r (Apart a b) (Required name) = is_before tt
+compared r (Required a) (Item n k) = is_behind tt
+compared r (Required a) (Apart n k) = is_behind tt
+compared r (Required a) (Required b) = names-compared r a b
 
 -- ---- one clause for each demand
 
@@ -86,105 +152,14 @@ one-clause r (Apart first second) clause other is also = is ∙ sym also
 one-clause r (Required name) clause other (numbers, are, is) (others, more, also) =
     is ∙ ap (λ (xs : List ℕ). map installed xs) (one-numbers r (λ p. p.name ≡ name) numbers others are more) ∙ sym also
 
--- ---- rows
-
+-- a demand and its clause
 abbrev pub Row : Type 0
 Row = Demand × List Literal
 
-one-image : (r : PackageList) → HasOneImage (λ (a : Row). a.0) (λ a. IsClauseFor r a.0 a.1) (λ a. a.1)
-one-image r x y same first second =
-    let Of : Demand → Type 0 = λ d. IsClauseFor r d x.1 in one-clause r y.0 x.1 y.1 (subst Of same first) second
+pub orderly : (r : PackageList) → IsOrderly (present_demands r)
+orderly r = record { asymmetric = demands-asymmetric; transitive = before-trans; one_clause = one-clause r }
 
-pub one-list : (r : PackageList) (P : Demand → Type 0) (clauses other : List (List Literal)) → AreClausesOf r P clauses → AreClausesOf r P other
-    → other ≡ clauses
-one-list r P clauses other are also =
-    also.are ∙ rows-same (λ (a : Row). a.0) IsBefore (λ a. IsClauseFor r a.0 a.1) (λ a. a.1) demands-asymmetric (one-image r) are.rows also.rows are.rising
-    also.rising are.each also.each
-    (λ d has. (also.exact d).1 ((are.exact d).0 has)) (λ d has. (are.exact d).1 ((also.exact d).0 has))
-    ∙ sym are.are
-
--- the clauses go on behind those of the demands before one, with the clause of that one
-pub goes-on-of : (r : PackageList) (P : Demand → Type 0) (d : Demand) (whole front : List (List Literal)) (clause : List Literal) → AreClausesOf r P whole
-    → AreClausesOf r (λ e. P e × IsBefore e d) front → P d → IsClauseFor r d clause
-    → GoesOn whole front clause
-goes-on-of r P d whole front clause are before here is_clause =
-    let on = rows-front (λ (a : Row). a.0) IsBefore (λ a. IsClauseFor r a.0 a.1) (λ a. a.1) demands-asymmetric (one-image r) (d, clause) is_clause are.rows
-    before.rows are.rising before.rising are.each before.each
-    ((are.exact d).1 here) (λ e has below. (before.exact e).1 ((are.exact e).0 has, below)) (λ e has. (are.exact e).1 ((before.exact e).0 has).0)
-    (λ e has. ((before.exact e).0 has).1) in
-    record { rest = on.rest; is = are.are ∙ on.is ∙ ap (λ (xs : List (List Literal)). xs ++ clause ∷ on.rest) (sym before.are) }
-
-pub goes-on : (r : PackageList) (essential : Bool) (d : Demand) (whole front : List (List Literal)) (clause : List Literal)
+pub goes-on-of : (r : PackageList) (essential : Bool) (d : Demand) (whole front : List (List Literal)) (clause : List Literal)
     → ArePresentClauses r essential whole → AreClausesBefore r essential d front
     → IsDemand r essential d → IsClauseFor r d clause → GoesOn whole front clause
-goes-on r essential d = goes-on-of r (IsDemand r essential) d
-
--- ---- fronts
-
--- the same clauses, of demands with a property that comes to the same
-pub clauses-shift : (r : PackageList) (P Q : Demand → Type 0) (clauses : List (List Literal)) → ((d : Demand) → P d → Q d) → ((d : Demand) → Q d → P d)
-    → AreClausesOf r P clauses → AreClausesOf r Q clauses
-clauses-shift r P Q clauses to from of =
-    record {
-      rows = of.rows;
-      rising = of.rising;
-      exact = λ d. ((λ has. to d ((of.exact d).0 has)), λ q. (of.exact d).1 (from d q));
-      each = of.each;
-      are = of.are;
-    }
-
-pub clauses-none : (r : PackageList) (P : Demand → Type 0) → ((d : Demand) → ¬ P d) → AreClausesOf r P []
-clauses-none r P none = record {
-  rows = [];
-  rising = pairs-none (λ a b. IsBefore a.0 b.0);
-  exact = λ d. ((λ has. absurd (omega (arith, has.2))), λ p. absurd (none d p));
-  each = All-nil (λ a. IsClauseFor r a.0 a.1);
-  are = refl;
-}
-
-any-push-cases : {X : Type 0} (P : X → Type 0) (xs : List X) (y : X) → Any P (xs ++ y ∷ []) → Any P xs ⊎ P y
-any-push-cases P [] y any = elim (any-cases P y [] any) [
-  | inl here ↦ inr here
-  | inr later ↦ inl later
-]
-any-push-cases P (x ∷ xs) y any = elim (any-cases P x (xs ++ y ∷ []) any) [
-  | inl here ↦ inl (any-head P x xs here)
-  | inr later ↦ elim (any-push-cases P xs y later) [
-    | inl there ↦ inl (any-later P x xs there)
-    | inr last ↦ inr last
-  ]
-]
-
-any-push-left : {X : Type 0} (P : X → Type 0) (xs : List X) (y : X) → Any P xs → Any P (xs ++ y ∷ [])
-any-push-left P [] y any = absurd (omega (arith, any.2))
-any-push-left P (x ∷ xs) y any = elim (any-cases P x xs any) [
-  | inl here ↦ any-head P x (xs ++ y ∷ []) here
-  | inr later ↦ any-later P x (xs ++ y ∷ []) (any-push-left P xs y later)
-]
-
--- one more clause behind the others, of a demand that is behind theirs
-pub clauses-more : (r : PackageList) (P Q : Demand → Type 0) (clauses : List (List Literal)) (d : Demand) (clause : List Literal) → AreClausesOf r P clauses
-    → IsClauseFor r d clause
-    → ((e : Demand) → P e → IsBefore e d) → ((e : Demand) → Q e → P e ⊎ (d ≡ e)) → ((e : Demand) → P e → Q e) → Q d → AreClausesOf r Q (clauses ++ clause ∷ [])
-clauses-more r P Q clauses d clause of is below cases wider here =
-    let row : Row = (d, clause) in
-    record {
-      rows = of.rows ++ row ∷ [];
-      rising = all_pairs_push (λ (a b : Row). IsBefore a.0 b.0) of.rows row of.rising
-          (λ k e short. below (get_or of.rows k e).0 ((of.exact (get_or of.rows k e).0).0 (has-itself of.rows k e short)));
-      exact = λ e. (
-        (λ has. elim (any-push-cases (λ (a : Row). a.0 ≡ e) of.rows row has) [
-          | inl there ↦ wider e ((of.exact e).0 there)
-          | inr same ↦ subst Q same here
-        ]),
-        λ q. elim (cases e q) [
-          | inl p ↦ any-push-left (λ (a : Row). a.0 ≡ e) of.rows row ((of.exact e).1 p)
-          | inr same ↦ Any-push (λ (a : Row). a.0 ≡ e) of.rows row same
-        ],
-      );
-      each = All-push (λ (a : Row). IsClauseFor r a.0 a.1) of.rows row of.each is;
-      are = ap (λ (xs : List (List Literal)). xs ++ clause ∷ []) of.are ∙ sym (map-append (λ (a : Row). a.1) of.rows (row ∷ []));
-    }
-  where
-    has-itself : (rows : List Row) (k : ℕ) (e : Row) → k < length rows → Any (λ a. a.0 ≡ (get_or rows k e).0) rows
-    has-itself rows k e short = (k, get_or rows k e, short, get_or_default rows k (get_or rows k e) e short, refl)
+goes-on-of r essential d = goes-on (present_demands r) (orderly r) (IsDemand r essential) d

@@ -5,74 +5,20 @@ use Rattle.std.specs.Prelude.{IsSomeAnd}
 use Rattle.std.proofs.lemmas.Bool.{cases_lt}
 use Rattle.dist_base.specs.ListLaws.{has-at, within-from}
 use Rattle.dist_clause.specs.ClauseList.{ClauseList}
+use Rattle.dist_clause.specs.DemandLaws.{cause-chain, clauses-none, clauses-shift, set-more, set-shift}
+use Rattle.dist_clause.specs.Demands as made
 use Rattle.dist_clause.specs.Formula.{Literal}
 use Rattle.dist_clause.specs.declared.clause_set.PushError.{PushError}
 use Rattle.dist_clause.specs.declared.clause_set.PushError.TheVariants.{TooManyClauses, TooManyLiterals, NoMemory}
 use Rattle.dist_repo.specs.PackageList.{PackageList}
 use Rattle.dist_repo.specs.declared.package.Package.{Package}
-use Rattle.dist_now.specs.Gathering.{IsCauseAt, IsFront, IsPlainSet, IsRefused}
-use Rattle.dist_now.specs.PresentClauses.{Demand, Item, Apart, Required, AreClausesOf, IsBefore, IsClauseFor, IsDemand, IsMetBy}
-use Rattle.dist_now.specs.PresentSet.{IsCause, IsSetOf, IsStopped}
-use Rattle.dist_now.proofs.DemandLists.{clauses-more, clauses-none, clauses-shift}
+use Rattle.dist_now.specs.Gathering.{IsCauseAt, IsFront, IsPlainSet}
+use Rattle.dist_now.specs.PresentClauses.{Demand, Item, Apart, Required, AreClausesOf, IsBefore, IsClauseFor, IsDemand, IsMetBy, present_demands}
+use Rattle.dist_now.specs.PresentSet.{IsCause, IsSetOf}
 
 -- the demands before one
 abbrev pub Before : PackageList → Demand → Demand → Type 0
 Before r d e = IsDemand r false e × IsBefore e d
-
--- a set of the same clauses, of demands with a property that comes to the same
-pub set-shift : (r : PackageList) (P Q : Demand → Type 0) (c l : ℕ) (set : ClauseList) → ((d : Demand) → P d → Q d) → ((d : Demand) → Q d → P d)
-    → IsSetOf r P c l set → IsSetOf r Q c l set
-set-shift r P Q c l set to from of = record {
-  clauses = clauses-shift r P Q set.clauses to from of.clauses;
-  variables = of.variables;
-  clause_limit_is = of.clause_limit_is;
-  literal_limit_is = of.literal_limit_is;
-}
-
--- one more clause in the set
-pub set-more : (r : PackageList) (P Q : Demand → Type 0) (c l : ℕ) (set : ClauseList) (d : Demand) (clause : List Literal) → IsSetOf r P c l set
-    → IsClauseFor r d clause
-    → ((e : Demand) → P e → IsBefore e d) → ((e : Demand) → Q e → P e ⊎ (d ≡ e)) → ((e : Demand) → P e → Q e) → Q d
-    → IsSetOf r Q c l (record set { clauses = set.clauses ++ clause ∷ [] })
-set-more r P Q c l set d clause of is below cases wider here = record {
-  clauses = clauses-more r P Q set.clauses d clause of.clauses is below cases wider here;
-  variables = of.variables;
-  clause_limit_is = of.clause_limit_is;
-  literal_limit_is = of.literal_limit_is;
-}
-
--- ---- why a set stops at a clause
-
-pub stops : (r : PackageList) (essential : Bool) (set limits : ClauseList) (d : Demand) (clause : List Literal) (error : PushError)
-    → IsSetOf r (λ e. IsDemand r essential e × IsBefore e d) limits.clause_limit limits.literal_limit set → IsDemand r essential d → IsClauseFor r d clause
-    → IsRefused set clause error → IsCauseAt r essential limits error
-stops r essential set limits d clause TooManyClauses of demand is refused =
-    let c = of.clause_limit_is in let l = of.literal_limit_is in
-    record {
-      demand = d;
-      is_demand = demand;
-      clause = clause;
-      is_clause = is;
-      front = set.clauses;
-      before = of.clauses;
-      clauses_kept = omega (arith, refused.1, c);
-      literals_kept = omega (arith, refused.0, l);
-      passes = refused.1 ∙ c;
-    }
-stops r essential set limits d clause TooManyLiterals of demand is refused =
-    let c = of.clause_limit_is in let l = of.literal_limit_is in
-    record {
-      demand = d;
-      is_demand = demand;
-      clause = clause;
-      is_clause = is;
-      front = set.clauses;
-      before = of.clauses;
-      clauses_kept = omega (arith, refused.1, c);
-      literals_kept = omega (arith, refused.0, l);
-      passes = (omega (arith, refused.1, c), omega (arith, refused.2, l));
-    }
-stops r essential set limits d clause NoMemory of demand is refused = tt
 
 -- ---- items
 
@@ -80,7 +26,7 @@ not-required : (r : PackageList) (name : List ℕ) → ¬ IsDemand r false (Requ
 not-required r name there = omega (arith, there.1)
 
 pub front-start : (r : PackageList) → AreClausesOf r (Before r (Item 0 0)) []
-front-start r = clauses-none r (Before r (Item 0 0)) none
+front-start r = clauses-none (present_demands r) (Before r (Item 0 0)) none
   where
     none : (d : Demand) → ¬ Before r (Item 0 0) d
     none (Item n k) (demand, inl less) = omega arith
@@ -107,13 +53,13 @@ pub item-pushed : (r : PackageList) (n k : ℕ) (limits set : ClauseList) (claus
     → IsClauseFor r (Item n k) clause
     → IsFront r (Item n (k + 1)) limits (record set { clauses = set.clauses ++ clause ∷ [] })
 item-pushed r n k limits set clause of demand is =
-    set-more r (Before r (Item n k)) (Before r (Item n (k + 1))) limits.clause_limit limits.literal_limit set (Item n k) clause of is (λ e before. before.1)
+    set-more (present_demands r) (Before r (Item n k)) (Before r (Item n (k + 1))) limits.clause_limit limits.literal_limit set (Item n k) clause of is (λ e before. before.1)
     (item-cases r n k) (item-wider r n k) (demand, inr (refl, omega arith))
 
 pub item-skipped : (r : PackageList) (n k : ℕ) (limits set : ClauseList) → IsFront r (Item n k) limits set → ¬ IsDemand r false (Item n k)
     → IsFront r (Item n (k + 1)) limits set
 item-skipped r n k limits set of none =
-    set-shift r (Before r (Item n k)) (Before r (Item n (k + 1))) limits.clause_limit limits.literal_limit set (item-wider r n k)
+    set-shift (present_demands r) (Before r (Item n k)) (Before r (Item n (k + 1))) limits.clause_limit limits.literal_limit set (item-wider r n k)
     (λ e before. elim (item-cases r n k e before) [
       | inl earlier ↦ earlier
       | inr same ↦ absurd (none (subst (IsDemand r false) (sym same) before.0))
@@ -121,7 +67,7 @@ item-skipped r n k limits set of none =
 
 pub items-end : (r : PackageList) (n k : ℕ) (p : Package) (limits set : ClauseList) → slice_get r.packages n ≡ Some p → length p.depends ≤ k
     → IsFront r (Item n k) limits set → IsFront r (Item (n + 1) 0) limits set
-items-end r n k p limits set is past of = set-shift r (Before r (Item n k)) (Before r (Item (n + 1) 0)) limits.clause_limit limits.literal_limit set to from of
+items-end r n k p limits set is past of = set-shift (present_demands r) (Before r (Item n k)) (Before r (Item (n + 1) 0)) limits.clause_limit limits.literal_limit set to from of
   where
     to : (d : Demand) → Before r (Item n k) d → Before r (Item (n + 1) 0) d
     to (Item a b) (demand, inl less) = (demand, inl (omega arith))
@@ -146,7 +92,7 @@ item-within : (r : PackageList) (a b : ℕ) → IsDemand r false (Item a b) → 
 item-within r a b demand = within-from (λ q. IsSomeAnd (slice_get q.depends b) (λ item. ¬ IsMetBy r.architecture item q)) r.packages a demand
 
 pub all-items : (r : PackageList) (n : ℕ) (limits set : ClauseList) → length r.packages ≤ n → IsFront r (Item n 0) limits set → IsFront r (Apart 0 0) limits set
-all-items r n limits set past of = set-shift r (Before r (Item n 0)) (Before r (Apart 0 0)) limits.clause_limit limits.literal_limit set to from of
+all-items r n limits set past of = set-shift (present_demands r) (Before r (Item n 0)) (Before r (Apart 0 0)) limits.clause_limit limits.literal_limit set to from of
   where
     to : (d : Demand) → Before r (Item n 0) d → Before r (Apart 0 0) d
     to (Item a b) (demand, before) = (demand, tt)
@@ -163,7 +109,7 @@ all-items r n limits set past of = set-shift r (Before r (Item n 0)) (Before r (
 
 pub pair-shifted : (r : PackageList) (n k m : ℕ) (limits set : ClauseList) → k ≤ m → ((i : ℕ) → k ≤ i → i < m → ¬ IsDemand r false (Apart n i))
     → IsFront r (Apart n k) limits set → IsFront r (Apart n m) limits set
-pair-shifted r n k m limits set up none of = set-shift r (Before r (Apart n k)) (Before r (Apart n m)) limits.clause_limit limits.literal_limit set to from of
+pair-shifted r n k m limits set up none of = set-shift (present_demands r) (Before r (Apart n k)) (Before r (Apart n m)) limits.clause_limit limits.literal_limit set to from of
   where
     to : (d : Demand) → Before r (Apart n k) d → Before r (Apart n m) d
     to (Item a b) (demand, before) = (demand, tt)
@@ -184,7 +130,7 @@ pub pair-pushed : (r : PackageList) (n k : ℕ) (limits set : ClauseList) (claus
     → IsDemand r false (Apart n k) → IsClauseFor r (Apart n k) clause
     → IsFront r (Apart n (k + 1)) limits (record set { clauses = set.clauses ++ clause ∷ [] })
 pair-pushed r n k limits set clause of demand is =
-    set-more r (Before r (Apart n k)) (Before r (Apart n (k + 1))) limits.clause_limit limits.literal_limit set (Apart n k) clause of is (λ e before. before.1)
+    set-more (present_demands r) (Before r (Apart n k)) (Before r (Apart n (k + 1))) limits.clause_limit limits.literal_limit set (Apart n k) clause of is (λ e before. before.1)
     cases wider (demand, inr (refl, omega arith))
   where
     cases : (d : Demand) → Before r (Apart n (k + 1)) d → Before r (Apart n k) d ⊎ (Apart n k ≡ d)
@@ -204,7 +150,7 @@ pair-pushed r n k limits set clause of demand is =
 
 pub pairs-end : (r : PackageList) (n k : ℕ) (limits set : ClauseList) → ((i : ℕ) → k ≤ i → ¬ IsDemand r false (Apart n i)) → IsFront r (Apart n k) limits set
     → IsFront r (Apart (n + 1) 0) limits set
-pairs-end r n k limits set none of = set-shift r (Before r (Apart n k)) (Before r (Apart (n + 1) 0)) limits.clause_limit limits.literal_limit set to from of
+pairs-end r n k limits set none of = set-shift (present_demands r) (Before r (Apart n k)) (Before r (Apart (n + 1) 0)) limits.clause_limit limits.literal_limit set to from of
   where
     to : (d : Demand) → Before r (Apart n k) d → Before r (Apart (n + 1) 0) d
     to (Item a b) (demand, before) = (demand, tt)
@@ -227,7 +173,7 @@ pairs-end r n k limits set none of = set-shift r (Before r (Apart n k)) (Before 
     from (Required name) (demand, before) = absurd before
 
 pub all-pairs : (r : PackageList) (n : ℕ) (limits set : ClauseList) → length r.packages ≤ n → IsFront r (Apart n 0) limits set → IsPlainSet r limits set
-all-pairs r n limits set past of = set-shift r (Before r (Apart n 0)) (IsDemand r false) limits.clause_limit limits.literal_limit set (λ d before. before.0)
+all-pairs r n limits set past of = set-shift (present_demands r) (Before r (Apart n 0)) (IsDemand r false) limits.clause_limit limits.literal_limit set (λ d before. before.0)
     from of
   where
     from : (d : Demand) → IsDemand r false d → Before r (Apart n 0) d
@@ -249,15 +195,15 @@ before-relation r essential (Item n k) (Required name) is demand before = absurd
 before-relation r essential (Apart n k) (Required name) is demand before = absurd before
 before-relation r essential (Required other) (Required name) is demand before = absurd (not-required r other is)
 
-stopped-too : (r : PackageList) (essential : Bool) (c l : ℕ) (Passes : List (List Literal) → List Literal → Type 0) → IsStopped r false c l Passes
-    → IsStopped r essential c l Passes
+stopped-too : (r : PackageList) (essential : Bool) (c l : ℕ) (Passes : List (List Literal) → List Literal → Type 0) → made.IsStopped (present_demands r) (IsDemand r false) c l Passes
+    → made.IsStopped (present_demands r) (IsDemand r essential) c l Passes
 stopped-too r essential c l Passes stop = record {
   demand = stop.demand;
   is_demand = relation-demand r essential stop.demand stop.is_demand;
   clause = stop.clause;
   is_clause = stop.is_clause;
   front = stop.front;
-  before = clauses-shift r (λ e. IsDemand r false e × IsBefore e stop.demand) (λ e. IsDemand r essential e × IsBefore e stop.demand) stop.front
+  before = clauses-shift (present_demands r) (λ e. IsDemand r false e × IsBefore e stop.demand) (λ e. IsDemand r essential e × IsBefore e stop.demand) stop.front
       (λ e before. (relation-demand r essential e before.0, before.1))
       (λ e before. (before-relation r essential stop.demand e stop.is_demand before.0 before.1, before.1)) stop.before;
   clauses_kept = stop.clauses_kept;
@@ -270,23 +216,9 @@ cause-too r essential c l TooManyClauses cause = stopped-too r essential c l _ c
 cause-too r essential c l TooManyLiterals cause = stopped-too r essential c l _ cause
 cause-too r essential c l NoMemory cause = tt
 
--- ---- one set after another
+-- ---- the cause of a later call's refusal, whose set has the same limits
 
-pub set-own : (r : PackageList) (P : Demand → Type 0) (c l : ℕ) (set : ClauseList) → IsSetOf r P c l set → IsSetOf r P set.clause_limit set.literal_limit set
-set-own r P c l set of = record { clauses = of.clauses; variables = of.variables; clause_limit_is = refl; literal_limit_is = refl }
-
-pub set-chain : (r : PackageList) (P Q : Demand → Type 0) (c l : ℕ) (set new : ClauseList) → IsSetOf r P c l set
-    → IsSetOf r Q set.clause_limit set.literal_limit new → IsSetOf r Q c l new
-set-chain r P Q c l set new of then = record {
-  clauses = then.clauses;
-  variables = then.variables;
-  clause_limit_is = then.clause_limit_is ∙ of.clause_limit_is;
-  literal_limit_is = then.literal_limit_is ∙ of.literal_limit_is;
-}
-
-pub cause-chain : (r : PackageList) (essential : Bool) (P : Demand → Type 0) (c l : ℕ) (set : ClauseList) (error : PushError) → IsSetOf r P c l set
-    → IsCauseAt r essential set error → IsCause r essential c l error
-cause-chain r essential P c l set error of cause =
-    let First : ℕ → Type 0 = λ n. IsCause r essential n set.literal_limit error in
-    let Second : ℕ → Type 0 = λ n. IsCause r essential c n error in
-    subst Second of.literal_limit_is (subst First of.clause_limit_is cause)
+pub cause-later : (r : PackageList) (essential : Bool) (P : Demand → Type 0) (limits set : ClauseList) (error : PushError)
+    → IsSetOf r P limits.clause_limit limits.literal_limit set → IsCauseAt r essential set error → IsCauseAt r essential limits error
+cause-later r essential P limits set error =
+    cause-chain (present_demands r) P (IsDemand r essential) limits.clause_limit limits.literal_limit set error

@@ -21,5 +21,4 @@ pub mod ClauseShape
 pub mod NameFronts
 pub mod PairFronts
 pub mod PushLemmas
-pub mod ExactLemmas
 pub mod SomeClauses

@@ -1,28 +1,24 @@
 -- Fronts of the clauses of mode essential, up to a name.
 use Rattle.std.proofs.Common.{◌≡◌, ◌≢◌, ◌⊎◌, ℕ, ◌+◌, ◌<◌, ◌≤◌, true, false, List, [], ◌∷◌, ◌++◌, length, get_or, nat_cmp, Ordering, Less, Equal, Greater, refl}
-use Rattle.std.proofs.Common.{sym, ap, subst, ◌∙◌, arith, inl, inr, Some, slice_get}
+use Rattle.std.proofs.Common.{sym, ap, subst, ◌∙◌, arith, inl, inr, None, Option, Some, slice_get}
 use Rattle.std.specs.Cmp.Lexicographic.{slice_cmp}
 use Rattle.std.specs.Ordering.{ordering_reverse}
 use Rattle.std.proofs.lemmas.Bool.{cases_lt, false≢true}
 use Rattle.std.proofs.lemmas.Cmp.{nat_list_cmp_total}
 use Rattle.std.proofs.lemmas.Option.{get_or_from_slice_get, slice_get_within}
-use Rattle.dist_base.specs.ListLaws.{at-has, element-is, has-at, some-element, within-from}
+use Rattle.dist_base.specs.ListLaws.{at-has, at-more, element-is, has-at, some-element, within-from}
 use Rattle.dist_clause.specs.ClauseList.{ClauseList}
+use Rattle.dist_clause.specs.DemandLaws.{set-more, set-shift}
 use Rattle.dist_clause.specs.Formula.{Literal}
 use Rattle.dist_version.specs.Order.{version_cmp}
 use Rattle.dist_repo.specs.Order.{IsInOrder, package_cmp}
 use Rattle.dist_repo.specs.PackageList.{PackageList, IsPackageAnd}
 use Rattle.dist_repo.specs.declared.package.Package.{Package}
-use Rattle.dist_now.specs.Gathering.{IsEssentialSet, IsNamedBelow, IsNamedFront, IsNamedSoFar, IsPlainSet}
-use Rattle.dist_now.specs.PresentClauses.{Demand, Item, Apart, Required, IsBefore, IsClauseFor, IsDemand}
+use Rattle.dist_now.specs.Gathering.{HasNoEssential, IsEssentialBefore, IsEssentialSet, IsLastEssential, IsNamedBelow, IsNamedFront, IsNamedSoFar, IsPlainSet}
+use Rattle.dist_now.specs.PresentClauses.{Demand, Item, Apart, Required, IsBefore, IsClauseFor, IsDemand, present_demands}
 use Rattle.dist_now.specs.PresentSet.{IsSetOf}
-use Rattle.dist_now.proofs.FrontLemmas.{set-more, set-shift}
 use Rattle.dist_now.proofs.ModelLemmas.{IsEssentialOf, required-at, required-from}
 use Rattle.dist_now.proofs.NameLemmas.{between-named, same_names, then-less}
-
--- no package from one number up to another is an essential one of the name
-abbrev pub HasNoneFrom : PackageList → (number : ℕ) → List ℕ → (before : ℕ) → Type 0
-HasNoneFrom r number name before = (k : ℕ) → before ≤ k → k < number → ¬ IsPackageAnd r.packages k (IsEssentialOf name)
 
 -- ---- the order of names
 
@@ -66,41 +62,67 @@ essential-at r k name here =
     let holds : IsEssentialOf name q = has-at (IsEssentialOf name) r.packages k q is_q here in
     record { it = q; is = is_q; essential = holds.0; named = holds.1 }
 
-pub none-more : (r : PackageList) (number : ℕ) (name : List ℕ) (before : ℕ) (q : Package) → slice_get r.packages before ≡ Some q → q.essential ≡ false
-    → HasNoneFrom r number name (before + 1) → HasNoneFrom r number name before
-none-more r number name before q is plain none k low high here =
-    elim (cases_lt before k) [
-      | inl later ↦ none k (omega arith) high here
-      | inr most ↦
-          let same : k ≡ before = omega arith in
-          let e = essential-at r k name here in
-          let first = e.is in
-          let there : slice_get r.packages k ≡ Some q = ap (λ (i : ℕ). slice_get r.packages i) same ∙ is in
-          let it : e.it ≡ q = cc in
-          false≢true (sym plain ∙ ap (λ (x : Package). x.essential) (sym it) ∙ e.essential)
-    ]
+essential-only : (r : PackageList) (k : ℕ) (name : List ℕ) → IsPackageAnd r.packages k (IsEssentialOf name)
+    → IsPackageAnd r.packages k (λ p. p.essential ≡ true)
+essential-only r k name here = at-more (IsEssentialOf name) (λ p. p.essential ≡ true) (λ p both. both.0) r.packages k here
 
-pub none-named : (r : PackageList) (number before : ℕ) (p q : Package) → IsInOrder r.packages → before < number → slice_get r.packages number ≡ Some p
-    → slice_get r.packages before ≡ Some q → q.name ≢ p.name
-    → HasNoneFrom r number p.name (before + 1) → ¬ IsNamedBelow r number p.name
-none-named r number before p q ordered short is_p is_q other none below =
+pub none-named : (r : PackageList) (number : ℕ) (name : List ℕ) → HasNoEssential r 0 number → ¬ IsNamedBelow r number name
+none-named r number name none below = none below.0 (omega arith) below.1 (essential-only r below.0 name below.2)
+
+-- the last essential package before one tells whether its name came before
+pub last-named : (r : PackageList) (number before : ℕ) (p q : Package) → IsInOrder r.packages → slice_get r.packages number ≡ Some p
+    → slice_get r.packages before ≡ Some q → IsEssentialBefore r number before → IsNamedBelow r number p.name → q.name ≡ p.name
+last-named r number before p q ordered is_p is_q of below =
     let e = essential-at r below.0 p.name below.2 in
     elim (cases_lt before below.0) [
-      | inl later ↦ none below.0 (omega arith) below.1 below.2
+      | inl later ↦ absurd (of.last below.0 (omega arith) below.1 (essential-only r below.0 p.name below.2))
       | inr earlier ↦ elim (cases_lt below.0 before) [
-        | inl less ↦ other (between-named r.packages below.0 before number e.it q p ordered less (omega arith) (slice_get_within r.packages number p is_p) e.is
-            is_q is_p e.named)
+        | inl less ↦ between-named r.packages below.0 before number e.it q p ordered less (omega (arith, of.earlier)) (slice_get_within r.packages number p is_p)
+            e.is is_q is_p e.named
         | inr more ↦
             let same : below.0 ≡ before = omega arith in
             let first = e.is in
             let there : slice_get r.packages below.0 ≡ Some q = ap (λ (i : ℕ). slice_get r.packages i) same ∙ is_q in
             let it : e.it ≡ q = cc in
-            other (ap (λ (x : Package). x.name) (sym it) ∙ e.named)
+            ap (λ (x : Package). x.name) (sym it) ∙ e.named
       ]
     ]
 
-pub none-below : (r : PackageList) (number : ℕ) (name : List ℕ) → HasNoneFrom r number name 0 → ¬ IsNamedBelow r number name
-none-below r number name none below = none below.0 (omega arith) below.1 below.2
+pub named-last : (r : PackageList) (number before : ℕ) (p q : Package) → slice_get r.packages before ≡ Some q → IsEssentialBefore r number before
+    → q.name ≡ p.name → IsNamedBelow r number p.name
+named-last r number before p q is_q of same = (
+  before,
+  of.earlier,
+  at-has (IsEssentialOf p.name) r.packages before q is_q (has-at (λ x. x.essential ≡ true) r.packages before q is_q of.essential, same),
+)
+
+pub last-here : (r : PackageList) (number : ℕ) (p : Package) → slice_get r.packages number ≡ Some p → p.essential ≡ true
+    → IsEssentialBefore r (number + 1) number
+last-here r number p is essential = record {
+  earlier = omega arith;
+  essential = at-has (λ x. x.essential ≡ true) r.packages number p is essential;
+  last = λ k low high. absurd (omega arith);
+}
+
+no-more : (r : PackageList) (start number : ℕ) (p : Package) → slice_get r.packages number ≡ Some p → p.essential ≡ false
+    → HasNoEssential r start number → HasNoEssential r start (number + 1)
+no-more r start number p is plain none k low high here =
+    elim (cases_lt k number) [
+      | inl early ↦ none k low early here
+      | inr most ↦
+          let same : k ≡ number = omega arith in
+          let there : slice_get r.packages k ≡ Some p = ap (λ (i : ℕ). slice_get r.packages i) same ∙ is in
+          false≢true (sym plain ∙ has-at (λ x. x.essential ≡ true) r.packages k p there here)
+    ]
+
+pub last-stays : (r : PackageList) (number : ℕ) (p : Package) (last : Option ℕ) → slice_get r.packages number ≡ Some p → p.essential ≡ false
+    → IsLastEssential r number last → IsLastEssential r (number + 1) last
+last-stays r number p None is plain none = no-more r 0 number p is plain none
+last-stays r number p (Some k) is plain of = record {
+  earlier = omega (arith, of.earlier);
+  essential = of.essential;
+  last = no-more r (k + 1) number p is plain of.last;
+}
 
 pub some-below : (r : PackageList) (number before : ℕ) (name : List ℕ) (q : Package) → before < number → slice_get r.packages before ≡ Some q
     → q.essential ≡ true → q.name ≡ name → IsNamedBelow r number name
@@ -112,7 +134,7 @@ abbrev NamedBefore : PackageList → ℕ → Demand → Type 0
 NamedBefore r number e = IsDemand r true e × IsNamedSoFar r number e
 
 pub named-start : (r : PackageList) (limits set : ClauseList) → IsPlainSet r limits set → IsNamedFront r 0 limits set
-named-start r limits set of = set-shift r (IsDemand r false) (NamedBefore r 0) limits.clause_limit limits.literal_limit set to from of
+named-start r limits set of = set-shift (present_demands r) (IsDemand r false) (NamedBefore r 0) limits.clause_limit limits.literal_limit set to from of
   where
     to : (d : Demand) → IsDemand r false d → NamedBefore r 0 d
     to (Item a b) demand = (demand, tt)
@@ -126,7 +148,7 @@ named-start r limits set of = set-shift r (IsDemand r false) (NamedBefore r 0) l
 
 pub named-end : (r : PackageList) (number : ℕ) (limits set : ClauseList) → length r.packages ≤ number → IsNamedFront r number limits set
     → IsEssentialSet r limits set
-named-end r number limits set past of = set-shift r (NamedBefore r number) (IsDemand r true) limits.clause_limit limits.literal_limit set (λ d before. before.0)
+named-end r number limits set past of = set-shift (present_demands r) (NamedBefore r number) (IsDemand r true) limits.clause_limit limits.literal_limit set (λ d before. before.0)
     from of
   where
     from : (d : Demand) → IsDemand r true d → NamedBefore r number d
@@ -158,7 +180,7 @@ named-wider r number (Required name) before = (before.0, below-wider r number na
 pub named-skipped : (r : PackageList) (number : ℕ) (p : Package) (limits set : ClauseList) → slice_get r.packages number ≡ Some p → (p.essential ≡ false)
     ⊎ IsNamedBelow r number p.name → IsNamedFront r number limits set
     → IsNamedFront r (number + 1) limits set
-named-skipped r number p limits set is skipped of = set-shift r (NamedBefore r number) (NamedBefore r (number + 1)) limits.clause_limit limits.literal_limit set
+named-skipped r number p limits set is skipped of = set-shift (present_demands r) (NamedBefore r number) (NamedBefore r (number + 1)) limits.clause_limit limits.literal_limit set
     (named-wider r number) from of
   where
     from : (d : Demand) → NamedBefore r (number + 1) d → NamedBefore r number d
@@ -210,7 +232,7 @@ before-name r number p name ordered is demand less =
 pub named-before : (r : PackageList) (number : ℕ) (p : Package) (c l : ℕ) (set : ClauseList) → IsInOrder r.packages → slice_get r.packages number ≡ Some p
     → ¬ IsNamedBelow r number p.name → IsSetOf r (NamedBefore r number) c l set
     → IsSetOf r (λ e. IsDemand r true e × IsBefore e (Required p.name)) c l set
-named-before r number p c l set ordered is first of = set-shift r (NamedBefore r number) (λ e. IsDemand r true e × IsBefore e (Required p.name)) c l set to from
+named-before r number p c l set ordered is first of = set-shift (present_demands r) (NamedBefore r number) (λ e. IsDemand r true e × IsBefore e (Required p.name)) c l set to from
     of
   where
     to : (d : Demand) → NamedBefore r number d → IsDemand r true d × IsBefore d (Required p.name)
@@ -228,7 +250,7 @@ pub named-pushed : (r : PackageList) (number : ℕ) (p : Package) (limits set : 
     → IsNamedFront r number limits set → IsClauseFor r (Required p.name) clause
     → IsNamedFront r (number + 1) limits (record set { clauses = set.clauses ++ clause ∷ [] })
 named-pushed r number p limits set clause ordered is essential first of is_clause =
-    set-more r (NamedBefore r number) (NamedBefore r (number + 1)) limits.clause_limit limits.literal_limit set (Required p.name) clause of is_clause below
+    set-more (present_demands r) (NamedBefore r number) (NamedBefore r (number + 1)) limits.clause_limit limits.literal_limit set (Required p.name) clause of is_clause below
     cases (named-wider r number)
     (required-from r.packages number p is essential, some-below r (number + 1) number p.name p (omega arith) is essential refl)
   where

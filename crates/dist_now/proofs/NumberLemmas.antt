@@ -1,8 +1,10 @@
 -- Numbers of packages, gathered from the providers of names.
-use Rattle.std.proofs.Common.{◌≡◌, ◌↔◌, ℕ, ◌<◌, ◌≤◌, List, [], ◌∷◌, ◌++◌, length, get_or, refl, sym, ap, ◌∙◌, arith, Some, slice_get}
-use Rattle.std.specs.Prelude.{Contains, IsSomeAnd}
+use Rattle.std.proofs.Common.{◌≡◌, ◌↔◌, ℕ, ◌<◌, ◌≤◌, List, [], ◌∷◌, ◌++◌, length, get_or, refl, sym, ap, ◌∙◌, arith, inl, inr, Some, slice_get}
+use Rattle.std.specs.Prelude.{Contains}
 use Rattle.std.specs.List.Sorted.{IsStrictlyIncreasing}
+use Rattle.std.proofs.lemmas.Bool.{cases_lt}
 use Rattle.std.proofs.lemmas.List.{get_or_default}
+use Rattle.std.proofs.lemmas.List.Kept.{AllPairs-from_increasing}
 use Rattle.std.proofs.lemmas.Option.{slice_get-get_or}
 use Rattle.dist_base.specs.ListLaws.{any-at, at-has, at-more, element-is, has-at, some-element, within-from}
 use Rattle.dist_relation.specs.declared.atom.Atom.{Atom}
@@ -10,7 +12,7 @@ use Rattle.dist_repo.specs.Match.{Matches}
 use Rattle.dist_repo.specs.PackageList.{PackageList, IsPackageAnd}
 use Rattle.dist_repo.specs.Providers.{AreProviders, IsProvider}
 use Rattle.dist_repo.specs.declared.package.Package.{Package}
-use Rattle.dist_now.specs.Gathering.{Adds}
+use Rattle.dist_now.specs.Gathering.{Adds, IsMatchedAt}
 use Rattle.dist_now.specs.PresentClauses.{AreNumbersOf, IsMetBy}
 use Rattle.dist_now.proofs.AddsLemmas.{UpTo, AddsUpTo, adds-exact, adds-nothing, adds-one, adds-same}
 
@@ -21,6 +23,19 @@ pub provider-within : (r : PackageList) (name : List ℕ) (providers : List ℕ)
     → get_or providers k 0 < length r.packages
 provider-within r name providers k are short =
     within-from (IsProvider r.architecture name) r.packages (get_or providers k 0) ((are.exact (get_or providers k 0)).0 (contains-index providers k short))
+
+-- among numbers that rise, those before one that is below a bound are below it, and those behind one that is not are not
+pub rises-below : (xs : List ℕ) (k m bound : ℕ) → IsStrictlyIncreasing xs → k ≤ m → m < length xs → get_or xs m 0 < bound → get_or xs k 0 < bound
+rises-below xs k m bound rising up short below = elim (cases_lt k m) [
+  | inl less ↦ let h = AllPairs-from_increasing xs rising k m 0 less short in omega arith
+  | inr most ↦ let same : k ≡ m = omega arith in let h = ap (λ (i : ℕ). get_or xs i 0) same in omega arith
+]
+
+pub rises-from : (xs : List ℕ) (m k bound : ℕ) → IsStrictlyIncreasing xs → m ≤ k → k < length xs → bound ≤ get_or xs m 0 → bound ≤ get_or xs k 0
+rises-from xs m k bound rising up short past = elim (cases_lt m k) [
+  | inl less ↦ let h = AllPairs-from_increasing xs rising m k 0 less short in omega arith
+  | inr most ↦ let same : m ≡ k = omega arith in let h = ap (λ (i : ℕ). get_or xs i 0) same in omega arith
+]
 
 -- the number at a place, if its package has a property
 abbrev pub IsAtAnd : (r : PackageList) (providers : List ℕ) (P : Package → Type 0) → ℕ → ℕ → Type 0
@@ -51,10 +66,6 @@ adds-all r name providers P count old new past are provides adds =
     adds
 
 -- ---- the packages that meet an item
-
--- matched by the alternative at a place
-abbrev pub IsMatchedAt : (r : PackageList) (item : List Atom) → ℕ → ℕ → Type 0
-IsMatchedAt r item i k = IsSomeAnd (slice_get item i) (λ atom. IsPackageAnd r.packages k (Matches r.architecture atom))
 
 pub matched-at : (r : PackageList) (item : List Atom) (i : ℕ) (atom : Atom) (old new : List ℕ) → slice_get item i ≡ Some atom
     → Adds old new (λ k. IsPackageAnd r.packages k (Matches r.architecture atom)) → Adds old new (IsMatchedAt r item i)

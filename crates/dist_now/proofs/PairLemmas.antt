@@ -1,11 +1,12 @@
 -- Pairs of numbers of packages of which one rejects the other.
-use Rattle.std.proofs.Common.{◌≡◌, ◌↔◌, ℕ, ◌≤◌, List, [], ◌∷◌, ◌++◌, length, get_or, sym, ap, subst, ◌∙◌, arith, inl, inr, Some, slice_get}
+use Rattle.std.proofs.Common.{◌≡◌, ◌↔◌, ℕ, ◌<◌, ◌≤◌, List, [], ◌∷◌, ◌++◌, length, get_or, sym, ap, subst, ◌∙◌, arith, inl, inr, Some, slice_get}
 use Rattle.std.specs.Prelude.{Contains, IsSomeAnd}
+use Rattle.std.proofs.lemmas.Bool.{cases_lt}
 use Rattle.std.proofs.lemmas.List.{get_or_default}
 use Rattle.std.proofs.lemmas.Option.{slice_get-get_or}
 use Rattle.dist_base.specs.ListLaws.{any-at, at-has, at-more, element-is, has-at, some-element, within-from}
 use Rattle.dist_relation.specs.declared.atom.Atom.{Atom}
-use Rattle.dist_repo.specs.Match.{Matches}
+use Rattle.dist_repo.specs.Match.{IsUsable, Matches}
 use Rattle.dist_repo.specs.PackageList.{PackageList, IsPackageAnd}
 use Rattle.dist_repo.specs.Providers.{AreProviders}
 use Rattle.dist_repo.specs.declared.package.Package.{Package}
@@ -61,31 +62,60 @@ pair-not r start end number other P p pairs is none =
 abbrev pub IsPairAt : (r : PackageList) (start end number : ℕ) (providers : List ℕ) (P : Package → Type 0) (i : ℕ) → ℕ × ℕ → Type 0
 IsPairAt r start end number providers P i = IsPairWithin r start end number (get_or providers i 0) P
 
+-- a pair whose two numbers are below a span, or behind it, is not looked for
+pub pair-below : (r : PackageList) (start end number other : ℕ) (P : Package → Type 0) (pair : ℕ × ℕ) → other < start
+    → ¬ IsPairWithin r start end number other P pair
+pair-below r start end number other P pair below at = elim at.is_pair.are [
+  | inl h ↦ let rising = at.is_pair.rising in let low = at.is_in.0 in omega (arith, h.0, h.1)
+  | inr h ↦ let low = at.is_in.0 in omega (arith, h.0, h.1)
+]
+
+pub pair-behind : (r : PackageList) (start end number other : ℕ) (P : Package → Type 0) (pair : ℕ × ℕ) → end ≤ number → end ≤ other
+    → ¬ IsPairWithin r start end number other P pair
+pair-behind r start end number other P pair past also at = elim at.is_pair.are [
+  | inl h ↦ let high = at.is_in.1 in omega (arith, h.0, h.1)
+  | inr h ↦ let high = at.is_in.1 in omega (arith, h.0, h.1)
+]
+
 -- a pair that is looked for, of a package and one that has a property
 abbrev pub IsWith : (r : PackageList) (start end number : ℕ) (P : Package → Type 0) → ℕ × ℕ → Type 0
 IsWith r start end number P pair = IsPairIn start end pair × IsPairWith r number P pair
 
-pub pairs-all : (r : PackageList) (start end number : ℕ) (atom : Atom) (providers : List ℕ) (count : ℕ) (old new : List (ℕ × ℕ)) → length providers ≤ count
+pub pairs-all : (r : PackageList) (start end number : ℕ) (atom : Atom) (providers : List ℕ) (count : ℕ) (old new : List (ℕ × ℕ))
+    → ((i : ℕ) (pair : ℕ × ℕ) → count ≤ i → i < length providers → ¬ IsPairAt r start end number providers (Matches r.architecture atom) i pair)
     → AreProviders r atom.name providers
     → AddsUpTo old new (IsPairAt r start end number providers (Matches r.architecture atom)) count
     → Adds old new (IsWith r start end number (Matches r.architecture atom))
-pairs-all r start end number atom providers count old new past are adds =
-    let P : Package → Type 0 = Matches r.architecture atom in
+pairs-all r start end number atom providers count old new rest are adds =
     adds-same old new (UpTo (IsPairAt r start end number providers P) count) (IsWith r start end number P)
-    (λ x up. (up.2.is_in, record { other = get_or providers up.0 0; is_pair = up.2.is_pair; has = up.2.has }))
-    (λ x both.
-    let with = both.1 in
-    let there : Contains providers with.other = (are.exact with.other).1 (at-more P _ (matched-provides r.architecture atom) r.packages with.other with.has) in
-    let is : get_or providers there.0 0 ≡ with.other = get_or_default providers there.0 0 with.other there.1 ∙ there.2 in (
-      there.0,
-      omega (arith, there.1, past),
-      record {
-        is_pair = subst (λ (k : ℕ). IsPairOf number k x) (sym is) with.is_pair;
-        is_in = both.0;
-        has = subst (λ (k : ℕ). IsPackageAnd r.packages k P) (sym is) with.has;
-      },
-    ))
-    adds
+    (λ x up. (up.2.is_in, record { other = get_or providers up.0 0; is_pair = up.2.is_pair; has = up.2.has })) from adds
+  where
+    P : Package → Type 0
+    P = Matches r.architecture atom
+
+    from : (x : ℕ × ℕ) → IsWith r start end number P x → UpTo (IsPairAt r start end number providers P) count x
+    from x both =
+        let with = both.1 in
+        let there : Contains providers with.other = (are.exact with.other).1 (at-more P _ (matched-provides r.architecture atom) r.packages with.other with.has) in
+        let is : get_or providers there.0 0 ≡ with.other = get_or_default providers there.0 0 with.other there.1 ∙ there.2 in
+        let here : IsPairAt r start end number providers P there.0 x = record {
+          is_pair = subst (λ (k : ℕ). IsPairOf number k x) (sym is) with.is_pair;
+          is_in = both.0;
+          has = subst (λ (k : ℕ). IsPackageAnd r.packages k P) (sym is) with.has;
+        } in
+        elim (cases_lt there.0 count) [
+          | inl less ↦ (there.0, less, here)
+          | inr past ↦ absurd (rest there.0 x past there.1 here)
+        ]
+
+-- an atom whose qualifier is not usable matches nothing
+pub pairs-none : (r : PackageList) (start end number : ℕ) (atom : Atom) (pairs : List (ℕ × ℕ)) → ¬ IsUsable r.architecture atom.qualifier
+    → Adds pairs pairs (IsWith r start end number (Matches r.architecture atom))
+pairs-none r start end number atom pairs none =
+    let P : Package → Type 0 = Matches r.architecture atom in
+    adds-nothing pairs (IsWith r start end number P)
+    (λ x both. let with = both.1 in
+    none (has-at P r.packages with.other _ (element-is P r.packages with.other with.has) with.has).usable)
 
 -- ---- the pairs of a package and those that it rejects
 
@@ -145,6 +175,17 @@ pairs-of r start end n p old new is adds =
     adds-same old new (IsWith r start end n (Rejects r p)) (IsPairOfPackage r start end n)
     (λ x here. at-has (λ (q : Package). IsWith r start end n (Rejects r q) x) r.packages n p is here)
     (λ x here. has-at (λ (q : Package). IsWith r start end n (Rejects r q) x) r.packages n p is here) adds
+
+-- a package before a span has no pair that is looked for
+pub none-before : (r : PackageList) (start end n : ℕ) (pair : ℕ × ℕ) → n < start → ¬ IsPairOfPackage r start end n pair
+none-before r start end n pair before here =
+    let Of : Package → Type 0 = λ p. IsWith r start end n (Rejects r p) pair in
+    let p = some-element Of r.packages n here in
+    let with : IsWith r start end n (Rejects r p) pair = has-at Of r.packages n p (element-is Of r.packages n here) here in
+    elim with.1.is_pair.are [
+      | inl h ↦ let low = with.0.0 in omega (arith, h.0, before)
+      | inr h ↦ let low = with.0.0 in let rising = with.1.is_pair.rising in omega (arith, h.0, h.1, before)
+    ]
 
 pub rejecting-all : (r : PackageList) (start end count : ℕ) (old new : List (ℕ × ℕ)) → length r.packages ≤ count
     → AddsUpTo [] old (IsPairOfPackage r start end) count → ((x : ℕ × ℕ) → Contains new x → Contains old x) → ((x : ℕ × ℕ) → Contains old x → Contains new x)

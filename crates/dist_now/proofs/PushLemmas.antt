@@ -1,22 +1,16 @@
 -- What one call that adds a clause does to a front.
-use Rattle.std.proofs.Common.{◌≡◌, ℕ, ◌<◌, ◌≤◌, Bool, true, false, List, [], ◌∷◌, ◌++◌, length, get_or, map, sym, subst, ◌∙◌, arith, slice_get, eqb, eqb-true}
+use Rattle.std.proofs.Common.{◌≡◌, ℕ, ◌<◌, ◌≤◌, true, false, List, ◌∷◌, length, get_or, map, sym, subst, ◌∙◌, arith, slice_get, eqb, eqb-true}
 use Rattle.std.proofs.Common.{eq-eqb}
-use Rattle.std.specs.Prelude.{Contains, IsSomeAnd, IfErr, OnOk, Result}
+use Rattle.std.specs.Prelude.{Contains, IsSomeAnd}
 use Rattle.std.proofs.lemmas.Bool.{false≢true}
 use Rattle.std.proofs.lemmas.Option.{slice_get_within}
-use Rattle.std.proofs.lemmas.Result.{IfErr-weaker, on_ok_weaker}
 use Rattle.dist_base.specs.ListLaws.{at-has, has-at}
-use Rattle.dist_clause.specs.ClauseList.{ClauseList}
 use Rattle.dist_clause.specs.Formula.{Literal, IsClauseOver}
-use Rattle.dist_clause.specs.declared.clause_set.PushError.{PushError}
 use Rattle.dist_relation.specs.declared.atom.Atom.{Atom}
 use Rattle.dist_repo.specs.PackageList.{PackageList, IsPackageAnd}
 use Rattle.dist_repo.specs.declared.package.Package.{Package}
-use Rattle.dist_now.specs.Gathering.{IsCauseAt, IsRefused}
 use Rattle.dist_now.specs.Members.{IsItemAt}
-use Rattle.dist_now.specs.PresentClauses.{Demand, Item, AreNumbersOf, IsBefore, IsClauseFor, IsDemand, IsMetBy, installed, not_installed}
-use Rattle.dist_now.specs.PresentSet.{IsSetOf}
-use Rattle.dist_now.proofs.FrontLemmas.{stops}
+use Rattle.dist_now.specs.PresentClauses.{Item, AreNumbersOf, IsClauseFor, IsDemand, IsMetBy, installed, not_installed}
 
 -- ---- a test whether a number is there
 
@@ -62,18 +56,3 @@ item-within r n k item at = slice_get_within r.packages n at.holder at.is_holder
 pub over-set : (variables n : ℕ) (clause made : List Literal) → variables ≡ n → clause ≡ made → IsClauseOver n made → IsClauseOver variables clause
 over-set variables n clause made same is over =
     let First : ℕ → Type 0 = λ k. IsClauseOver k clause in subst First (sym same) (subst (IsClauseOver n) (sym is) over)
-
--- ---- the set after a call
-
--- what a call promises that adds a clause
-pub pushed-ok : (result : Result (Unit {0}) PushError) (set new : ClauseList) (clause : List Literal) (After : ClauseList → Type 0)
-    → OnOk result (new ≡ record set { clauses = set.clauses ++ clause ∷ [] })
-    → After (record set { clauses = set.clauses ++ clause ∷ [] }) → OnOk result (After new)
-pushed-ok result set new clause After ok holds = on_ok_weaker result (λ is. subst After (sym is) holds) ok
-
-pub pushed-err : (r : PackageList) (essential : Bool) (result : Result (Unit {0}) PushError) (set limits : ClauseList) (d : Demand) (clause : List Literal)
-    → IsSetOf r (λ e. IsDemand r essential e × IsBefore e d) limits.clause_limit limits.literal_limit set → IsDemand r essential d → IsClauseFor r d clause
-    → IfErr result (IsRefused set clause) → IfErr result (IsCauseAt r essential limits)
-pushed-err r essential result set limits d clause of demand is err =
-    IfErr-weaker result (IsRefused set clause) (IsCauseAt r essential limits)
-    (λ error refused. stops r essential set limits d clause error of demand is refused) err

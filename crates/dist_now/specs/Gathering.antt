@@ -1,10 +1,9 @@
 -- What is gathered on the way to the clauses of the present.
-use Rattle.std.specs.Prelude.{◌≡◌, ◌⊎◌, ◌↔◌, ℕ, ◌+◌, ◌<◌, ◌≤◌, Bool, true, false, List, Any, Contains, length}
-use Rattle.std.specs.Prelude.{slice_index_or}
-use Rattle.dist_clause.specs.ClauseList.{ClauseList, literal_count}
-use Rattle.dist_clause.specs.Formula.{Literal}
+use Rattle.std.specs.Prelude.{◌≡◌, ◌⊎◌, ◌↔◌, ℕ, ◌+◌, ◌<◌, ◌≤◌, Bool, true, false, List, Any, Contains, MatchOption, Option, length}
+use Rattle.std.specs.Prelude.{IsSomeAnd, slice_get, slice_index_or}
+use Rattle.dist_clause.specs.ClauseList.{ClauseList}
 use Rattle.dist_clause.specs.declared.clause_set.PushError.{PushError}
-use Rattle.dist_clause.specs.declared.clause_set.PushError.TheVariants.{TooManyClauses, TooManyLiterals, NoMemory}
+use Rattle.dist_relation.specs.declared.atom.Atom.{Atom}
 use Rattle.dist_repo.specs.Match.{Matches}
 use Rattle.dist_repo.specs.PackageList.{PackageList, IsPackageAnd}
 use Rattle.dist_repo.specs.declared.package.Package.{Package}
@@ -14,6 +13,11 @@ use Rattle.dist_now.specs.PresentSet.{IsCause, IsSetOf}
 -- those with a property are added to a list, in some order
 abbrev pub Adds : {X : Type 0} → (old new : List X) → (X → Type 0) → Type 0
 Adds {X} old new P = (x : X) → Contains new x ↔ (Contains old x ⊎ P x)
+
+-- the alternative at a place of an item matches the package of a number
+abbrev pub IsMatchedAt : PackageList → (item : List Atom) → (place number : ℕ) → Type 0
+IsMatchedAt r item place number = IsSomeAnd (slice_get item place)
+    (λ atom. IsPackageAnd r.packages number (Matches r.architecture atom))
 
 -- the pair has the lesser of two different numbers first
 pub record IsPairOf (n k : ℕ) (pair : ℕ × ℕ) : Type 0 where
@@ -50,15 +54,6 @@ pub record AreSplitAt (pairs : List (ℕ × ℕ)) (number place : ℕ) : Type 0 
   pub before : (k : ℕ) (d : ℕ × ℕ) → k < place → k < length pairs → (slice_index_or pairs k d).0 < number
   pub behind : (k : ℕ) (d : ℕ × ℕ) → place ≤ k → k < length pairs → number ≤ (slice_index_or pairs k d).0
 
--- why a clause was refused by a set within its limits
-abbrev pub IsRefused : ClauseList → List Literal → PushError → Type 0
-IsRefused set clause TooManyClauses = (literal_count set.clauses ≤ set.literal_limit)
-    × (length set.clauses ≡ set.clause_limit)
-IsRefused set clause TooManyLiterals =
-    (literal_count set.clauses ≤ set.literal_limit) × (length set.clauses < set.clause_limit)
-    × (set.literal_limit < literal_count set.clauses + length clause)
-IsRefused set clause NoMemory = Unit {0}
-
 -- the set has a variable for each package and the limits of another set, and holds the clauses before a demand's at
 -- mode plain
 abbrev pub IsFront : PackageList → Demand → (limits set : ClauseList) → Type 0
@@ -72,6 +67,20 @@ IsPlainSet r limits set = IsSetOf r (IsDemand r false) limits.clause_limit limit
 abbrev pub IsNamedBelow : PackageList → ℕ → List ℕ → Type 0
 IsNamedBelow r number name = (k : ℕ) × (k < number)
     × IsPackageAnd r.packages k (λ p. (p.essential ≡ true) × (p.name ≡ name))
+
+-- no package from one number up to another is essential
+abbrev pub HasNoEssential : PackageList → (start end : ℕ) → Type 0
+HasNoEssential r start end = (k : ℕ) → start ≤ k → k < end → ¬ IsPackageAnd r.packages k (λ p. p.essential ≡ true)
+
+-- the last essential package before one
+pub record IsEssentialBefore (r : PackageList) (number k : ℕ) : Type 0 where
+  pub earlier : k < number
+  pub essential : IsPackageAnd r.packages k (λ p. p.essential ≡ true)
+  pub last : HasNoEssential r (k + 1) number
+
+-- the same, where there is one
+abbrev pub IsLastEssential : PackageList → ℕ → Option ℕ → Type 0
+IsLastEssential r number last = MatchOption last (HasNoEssential r 0 number) (IsEssentialBefore r number)
 
 -- a demand other than a name, or the name of an essential package with a lesser number
 abbrev pub IsNamedSoFar : PackageList → ℕ → Demand → Type 0

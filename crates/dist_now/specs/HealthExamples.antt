@@ -1,7 +1,7 @@
 -- A worked example of health: package a depends on b, and b conflicts with a.
-use Rattle.std.specs.Prelude.{◌≡◌, ℕ, zero, suc, ◌<◌, true, false, Bool, List, [], ◌∷◌, None, Option, Any, unwrap_or}
+use Rattle.std.specs.Prelude.{◌≡◌, ℕ, zero, suc, ◌<◌, true, false, Bool, [], ◌∷◌, None, Option, Any, unwrap_or}
 use Rattle.std.specs.Prelude.{codes, length, refl}
-use Rattle.std.proofs.Common.{ap, arith, get_or, inl, inr, lit<, subst, sym}
+use Rattle.std.proofs.Common.{ap, arith, get_or, inl, inr, subst, sym}
 use Rattle.std.proofs.lemmas.Bool.{false≢true}
 use Rattle.std.proofs.lemmas.Option.{none-some}
 use Rattle.dist_base.specs.Least.{IsAtMost}

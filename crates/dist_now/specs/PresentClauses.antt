@@ -1,11 +1,13 @@
 -- The clauses of the present, with a variable for each package: what a healthy installation must meet, a clause for
 -- each demand.
-use Rattle.std.specs.Prelude.{◌≡◌, ◌⊎◌, ◌↔◌, ℕ, ◌+◌, ◌<◌, Bool, true, false, List, [], ◌∷◌, Option, All, AllPairs, Any}
-use Rattle.std.specs.Prelude.{Contains, IsSomeAnd, map, slice_get}
+use Rattle.std.specs.Prelude.{◌≡◌, ◌⊎◌, ◌↔◌, ℕ, ◌+◌, ◌<◌, Bool, true, false, List, [], ◌∷◌, Option, Any}
+use Rattle.std.specs.Prelude.{Contains, IsSomeAnd, length, map, slice_get}
 use Rattle.std.specs.Cmp.Lexicographic.{slice_cmp}
 use Rattle.std.specs.List.Sorted.{IsStrictlyIncreasing}
 use Rattle.std.specs.Ordering.{nat_cmp}
 use Rattle.std.specs.declared.cmp.Ordering.TheVariants.{Less}
+use Rattle.dist_clause.specs.Demands as made
+use Rattle.dist_clause.specs.Demands.{Demands}
 use Rattle.dist_clause.specs.Formula.{Literal, literal}
 use Rattle.dist_relation.specs.declared.atom.Atom.{Atom}
 use Rattle.dist_repo.specs.Conflict.{AreInConflict}
@@ -76,13 +78,17 @@ IsClauseFor r (Apart first second) clause = clause ≡ not_installed first ∷ n
 IsClauseFor r (Required name) clause = (numbers : List ℕ) × AreNumbersOf r (λ p. p.name ≡ name) numbers
     × (clause ≡ map installed numbers)
 
+-- the demands of a repository in their order, and the clause of each
+abbrev pub present_demands : PackageList → Demands Demand
+present_demands r = record {
+  IsBefore = IsBefore;
+  IsClauseFor = IsClauseFor r;
+  variables = length r.packages;
+}
+
 -- The clauses of the demands with a property: one for each demand, in the order of demands.
-pub record AreClausesOf (r : PackageList) (P : Demand → Type 0) (clauses : List (List Literal)) : Type 0 where
-  pub rows : List (Demand × List Literal)
-  pub rising : AllPairs (λ a b. IsBefore a.0 b.0) rows
-  pub exact : (d : Demand) → Any (λ a. a.0 ≡ d) rows ↔ P d
-  pub each : All (λ a. IsClauseFor r a.0 a.1) rows
-  pub are : clauses ≡ map (λ a. a.1) rows
+abbrev pub AreClausesOf : PackageList → (Demand → Type 0) → List (List Literal) → Type 0
+AreClausesOf r = made.AreClausesOf (present_demands r)
 
 -- The clauses of the present, at mode essential or plain.
 abbrev pub ArePresentClauses : PackageList → Bool → List (List Literal) → Type 0

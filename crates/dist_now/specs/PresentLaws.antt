@@ -1,5 +1,6 @@
 -- What the clauses of the present mean.
-use Rattle.std.specs.Prelude.{◌≡◌, ◌≢◌, ◌↔◌, Bool, List, ◌∷◌, ◌++◌, AllPairs, Contains, length}
+use Rattle.std.specs.Prelude.{◌≡◌, ◌≢◌, ◌↔◌, Bool, List, AllPairs, Contains, length}
+use Rattle.dist_base.specs.RowLaws.{Continues}
 use Rattle.dist_clause.specs.Formula.{Literal, IsModel, value_of}
 use Rattle.dist_repo.specs.PackageList.{PackageList}
 use Rattle.dist_repo.specs.Strong.{IsInstallation}
@@ -23,9 +24,8 @@ pub record AreModelsInstallations (r : PackageList) (essential : Bool) (clauses 
       → (values : List Bool) × IsModelOf r clauses values × AreSamePackages members (members_of r.packages values)
 
 -- the list goes on with the clause behind its front
-pub record GoesOn (whole front : List (List Literal)) (clause : List Literal) : Type 0 where
-  pub rest : List (List Literal)
-  pub is : whole ≡ front ++ clause ∷ rest
+abbrev pub GoesOn : (whole front : List (List Literal)) → List Literal → Type 0
+GoesOn = Continues
 
 -- No package stands twice.
 abbrev pub HasNoRepeats : List Package → Type 0

@@ -1,27 +1,51 @@
 //! Whether a set of packages is a healthy installation: the kinds of fault in their order.
-ghost use Rattle.std.specs.Prelude.{◌≡◌};
+ghost use Rattle.std.specs.Prelude.{◌≡◌, ◌<◌, ◌↔◌, ℕ, IsTrue, Some, slice_get};
 ghost use Rattle.dist_base.specs.Least.{IsLeastIfAny};
 ghost use Rattle.dist_repo.specs.Size.{IsWithinSize};
 ghost use Rattle.dist_now.specs.Fit.{IsOneEach};
+ghost use Rattle.dist_now.specs.Gathering.{IsLastEssential};
 ghost use Rattle.dist_now.specs.Health.{IsHealth, IsMissing};
 
 use crate::conflicts::conflict;
+use crate::essentials::{has_essential_before, last_essential};
 use crate::faults::{two_versions, unmet};
 use crate::kinds::Health;
 use crate::members::is_named;
 use dist_clause::Assignment;
-use dist_repo::Repository;
+use dist_repo::{Package, Repository};
+
+/// Whether a package is essential and no member has its name, where that is not so of those before it.
+fn is_missing(
+    repo: &Repository,
+    members: &Assignment,
+    last: Option<u32>,
+    number: u32,
+    package: &Package,
+) -> bool
+    requires one_each { IsOneEach repo.now members.now }
+    requires number { slice_get repo.now.packages number ≡ Some «package».now }
+    requires last { IsLastEssential repo.now number last }
+    requires earlier { (k : ℕ) → k < number → ¬ IsMissing repo.now members.now k }
+    ensures { IsTrue result ↔ IsMissing repo.now members.now number }
+{
+    if !package.essential || has_essential_before(repo, last, number, package) {
+        return false;
+    }
+    !is_named(repo, members, &package.name)
+}
 
 /// The least essential package whose name no member has.
 fn missing(repo: &Repository, members: &Assignment) -> Option<u32>
     requires { IsOneEach repo.now members.now }
     ensures { IsLeastIfAny (IsMissing repo.now members.now) result }
 {
+    let mut last = None;
     for number in 0..repo.len() {
         let package = repo.package(number);
-        if package.essential && !is_named(repo, members, &package.name) {
+        if is_missing(repo, members, last, number, package) {
             return Some(number);
         }
+        last = last_essential(repo, last, number, package);
     }
     None
 }

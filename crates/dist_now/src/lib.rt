@@ -3,6 +3,7 @@
 
 mod clause_text;
 mod conflicts;
+mod essentials;
 mod faults;
 mod judging;
 mod kinds;

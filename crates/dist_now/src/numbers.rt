@@ -1,16 +1,19 @@
 //! Numbers of packages that a clause speaks of, gathered into one vector that is used again and again.
-ghost use Rattle.std.specs.Prelude.{◌≡◌, ◌≢◌, ◌<◌, ◌↔◌, ℕ, Any, Contains, OnOk, Some, slice_get};
+ghost use Rattle.std.specs.Prelude.{◌≡◌, ◌≢◌, ◌<◌, ◌≤◌, ◌↔◌, ℕ, Any, Contains, OnOk, Some, length, slice_get, slice_index_or};
 ghost use Rattle.std.specs.List.Sorted.{IsStrictlyIncreasing};
 ghost use Rattle.dist_repo.specs.Match.{Matches};
 ghost use Rattle.dist_repo.specs.PackageList.{IsPackageAnd};
 ghost use Rattle.dist_repo.specs.Providers.{AreProviders};
-ghost use Rattle.dist_now.specs.Gathering.{Adds};
+ghost use Rattle.dist_now.specs.Gathering.{Adds, IsMatchedAt};
 ghost use Rattle.dist_now.specs.Members.{IsItemAt};
 ghost use Rattle.dist_now.specs.PresentClauses.{AreNumbersOf, IsMetBy};
 
 use dist_relation::{Alternatives, Atom, Name};
-use dist_repo::{Package, Repository};
+use dist_repo::{Package, Repeats, Repository};
 use std::alloc::AllocError;
+
+/// So many numbers are kept before repeated ones among them are looked for.
+const MANY: usize = 1 << 16;
 
 /// Puts numbers in their order, each once.
 pub(crate) fn put_in_order(numbers: &mut Vec<u32>)
@@ -19,6 +22,26 @@ pub(crate) fn put_in_order(numbers: &mut Vec<u32>)
 {
     numbers.sort_unstable();
     numbers.dedup();
+}
+
+/// The first place of a number that is not below a bound, among numbers that rise.
+pub(crate) fn place_from(numbers: &[u32], bound: u32) -> usize
+    requires { IsStrictlyIncreasing numbers.now }
+    ensures to_len { result ≤ length numbers.now }
+    ensures below { (k : ℕ) → k < result → slice_index_or numbers.now k 0 < bound }
+    ensures from { (k : ℕ) → result ≤ k → k < length numbers.now → bound ≤ slice_index_or numbers.now k 0 }
+{
+    let mut low = 0;
+    let mut high = numbers.len();
+    while low < high {
+        let middle = low + (high - low) / 2;
+        if numbers[middle] < bound {
+            low = middle + 1;
+        } else {
+            high = middle;
+        }
+    }
+    low
 }
 
 /// Adds the packages that an atom matches.
@@ -31,12 +54,46 @@ fn add_matched(
     requires { AreProviders repo.now atom.now.name providers.now }
     ensures { OnOk result (Adds numbers.old.items numbers.new.items (λ k. IsPackageAnd repo.now.packages k (Matches repo.now.architecture atom.now))) }
 {
+    // A qualifier that is not usable is looked at once, and not for each provider.
+    if !repo.usable(&atom.qualifier) {
+        return Ok(());
+    }
     for number in providers {
         if repo.matches(atom, repo.package(*number)) {
             numbers.push(*number)?;
         }
     }
     Ok(())
+}
+
+/// Adds the packages that the alternative at a place of an item matches.
+fn add_alternative(
+    repo: &Repository,
+    number: u32,
+    item: usize,
+    place: usize,
+    alternatives: &Alternatives,
+    numbers: &mut Vec<u32>,
+) -> Result<(), AllocError>
+    requires item { IsItemAt repo.now.packages number item alternatives.now }
+    requires place { place < length alternatives.now }
+    ensures { OnOk result (Adds numbers.old.items numbers.new.items (IsMatchedAt repo.now alternatives.now place)) }
+{
+    let atom = alternatives.get(place);
+    let providers = repo.alternative_providers(number, item, place);
+    add_matched(repo, atom, providers, numbers)
+}
+
+/// Puts numbers in order, each once, where they are more than a limit, so that alternatives that match the same packages
+/// take no more memory than these. Answers the next limit.
+fn thin(numbers: &mut Vec<u32>, limit: usize) -> usize
+    ensures { (k : ℕ) → Contains numbers.new.items k ↔ Contains numbers.old.items k }
+{
+    if numbers.len() <= limit {
+        return limit;
+    }
+    put_in_order(numbers);
+    numbers.len().saturating_mul(2).max(limit)
 }
 
 /// Gathers the packages that meet the item at a place of a package.
@@ -51,10 +108,13 @@ pub(crate) fn gather_meeting(
     ensures { OnOk result (AreNumbersOf repo.now (IsMetBy repo.now.architecture alternatives.now) numbers.new.items) }
 {
     numbers.clear();
+    let repeats = Repeats::of_item(*numbers.allocator(), alternatives)?;
+    let mut limit = MANY;
     for place in 0..alternatives.len() {
-        let atom = alternatives.get(place);
-        let providers = repo.alternative_providers(number, item, place);
-        add_matched(repo, atom, providers, numbers)?;
+        if !repeats.is_repeated_in_item(alternatives, place) {
+            add_alternative(repo, number, item, place, alternatives, numbers)?;
+            limit = thin(numbers, limit);
+        }
     }
     put_in_order(numbers);
     Ok(())

@@ -1,17 +1,18 @@
 //! The clauses of the present, made in their order, so that the first limit that they pass ends the work. The time goes
 //! into the providers of the names in atoms, and into the literals that are written.
-ghost use Rattle.std.specs.Prelude.{◌≡◌, ◌+◌, ◌<◌, ◌≤◌, ◌↔◌, ◌∷◌, ℕ, false, true, All, Contains, IfErr, IfOk, IsTrue, OnOk, Some, slice_get, length, map};
+ghost use Rattle.std.specs.Prelude.{◌≡◌, ◌+◌, ◌<◌, ◌≤◌, ◌↔◌, ◌∷◌, ℕ, false, true, All, Contains, IfErr, IfOk, OnOk, Some, slice_get, length, map};
 ghost use Rattle.std.specs.List.Sorted.{IsNonDecreasingBy, IsStrictlyIncreasing};
 ghost use Rattle.dist_base.specs.declared.TheConstants.{MAX_CLAUSES, MAX_LITERALS, MAX_PACKAGES, MAX_VARIABLES};
 ghost use Rattle.dist_base.specs.Answers.{IsExactly};
 ghost use Rattle.dist_clause.specs.ClauseList.{IsWithinLimits};
 ghost use Rattle.dist_clause.specs.declared.clause_set.PushError.TheVariants.{TooManyClauses, TooManyLiterals, NoMemory};
-ghost use Rattle.dist_now.specs.Gathering.{AreSplitAt, IsCauseAt, IsEssentialSet, IsFront, IsNamedBelow, IsNamedFront, IsPairIn, IsPlainSet, IsRejectingPair};
+ghost use Rattle.dist_now.specs.Gathering.{AreSplitAt, IsCauseAt, IsEssentialSet, IsFront, IsLastEssential, IsNamedFront, IsPairIn, IsPlainSet, IsRejectingPair};
 ghost use Rattle.dist_now.specs.Members.{IsItemAt};
 ghost use Rattle.dist_now.specs.PresentClauses.{Apart, Item, Required, IsClauseFor, IsDemand, installed, not_installed};
 ghost use Rattle.dist_now.specs.PresentSet.{IsCause, IsSetOf, PassesClauses, PassesLiterals};
 
-use crate::clause_text::{add_clause, add_installed, not_installed};
+use crate::clause_text::{add_installed, not_installed};
+use crate::essentials::{has_essential_before, last_essential};
 use crate::numbers::{add_versions, gather_meeting, gather_named, put_in_order};
 use crate::rejections::{add_partners, next_rejections};
 use dist_base::{MAX_CLAUSES, MAX_LITERALS, MAX_PACKAGES, MAX_VARIABLES};
@@ -88,7 +89,7 @@ fn push_item(
     if let Err(AllocError) = scratch.write_item(number) {
         return Err(PushError::NoMemory);
     }
-    add_clause(set, &scratch.clause)
+    set.push(&scratch.clause)
 }
 
 /// Adds the clauses of a package's items.
@@ -150,7 +151,7 @@ fn push_pairs_of(
     ensures err { IfErr result (IsCauseAt repo.now false set.old) }
 {
     for second in seconds {
-        add_clause(set, &[not_installed(first), not_installed(*second)])?;
+        set.push(&[not_installed(first), not_installed(*second)])?;
     }
     Ok(())
 }
@@ -224,13 +225,15 @@ fn push_pairs(
 {
     let end = repo.len();
     let mut first = 0;
+    let mut width = end;
     while first < end {
-        let next = match next_rejections(alloc, repo, first) {
+        let next = match next_rejections(alloc, repo, first, width) {
             Ok(next) => next,
             Err(AllocError) => return Err(PushError::NoMemory),
         };
         push_pairs_from(repo, first, next.end, &next.pairs, numbers, set)?;
         first = next.end;
+        width = next.width;
     }
     Ok(())
 }
@@ -251,50 +254,31 @@ fn push_plain(
     push_pairs(alloc, repo, &mut scratch.numbers, set)
 }
 
-/// Whether an essential package before one has its name.
-fn has_essential_before(repo: &Repository, number: u32, package: &Package) -> bool
-    requires { slice_get repo.now.packages number ≡ Some «package».now }
-    ensures { IsTrue result ↔ IsNamedBelow repo.now number «package».now.name }
-{
-    // Packages are in the order of their names, as this call tells, so those of one name stand together.
-    let _end = repo.len();
-    let mut before = number;
-    while before > 0 {
-        before -= 1;
-        let other = repo.package(before);
-        if other.name != package.name {
-            return false;
-        }
-        if other.essential {
-            return true;
-        }
-    }
-    false
-}
-
 /// Adds the clause of the name of a package, if the package is the first essential one of its name.
 fn push_name(
     repo: &Repository,
     number: u32,
     package: &Package,
+    last: Option<u32>,
     scratch: &mut Scratch,
     set: &mut ClauseSet,
 ) -> Result<(), PushError>
     requires packages { length repo.now.packages ≤ MAX_PACKAGES }
     requires number { slice_get repo.now.packages number ≡ Some «package».now }
+    requires last { IsLastEssential repo.now number last }
     requires front { IsNamedFront repo.now number set.old set.old }
     ensures ok { OnOk result (IsNamedFront repo.now (number + 1) set.old set.new) }
     ensures err { IfErr result (IsCauseAt repo.now true set.old) }
 {
     // What this call tells is that packages are in order.
     let _end = repo.len();
-    if !package.essential || has_essential_before(repo, number, package) {
+    if !package.essential || has_essential_before(repo, last, number, package) {
         return Ok(());
     }
     if let Err(AllocError) = scratch.write_name(repo, &package.name) {
         return Err(PushError::NoMemory);
     }
-    add_clause(set, &scratch.clause)
+    set.push(&scratch.clause)
 }
 
 /// Adds the clauses of the names of essential packages.
@@ -308,8 +292,11 @@ fn push_names(
     ensures ok { OnOk result (IsEssentialSet repo.now set.old set.new) }
     ensures err { IfErr result (IsCauseAt repo.now true set.old) }
 {
+    let mut last = None;
     for number in 0..repo.len() {
-        push_name(repo, number, repo.package(number), scratch, set)?;
+        let package = repo.package(number);
+        push_name(repo, number, package, last, scratch, set)?;
+        last = last_essential(repo, last, number, package);
     }
     Ok(())
 }

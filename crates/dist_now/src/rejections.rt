@@ -7,12 +7,13 @@ ghost use Rattle.dist_repo.specs.Match.{Matches};
 ghost use Rattle.dist_repo.specs.Providers.{AreProviders};
 ghost use Rattle.dist_now.specs.Gathering.{Adds, AreSplitAt, IsPairIn, IsPairOf, IsPairWithin, IsPairWith, IsRejectingPair, Rejects};
 
+use crate::numbers::place_from;
 use dist_relation::Atom;
-use dist_repo::{Package, Repository};
+use dist_repo::{Package, Repeats, Repository};
 use std::alloc::{AllocError, Global};
 
 /// How many pairs are kept at a time, unless they all have one lesser number.
-const ROOM: usize = 16_000_000;
+const ROOM: usize = 2_000_000;
 
 /// Numbers from one up to another.
 #[derive(Clone, Copy)]
@@ -37,11 +38,12 @@ impl Span {
     }
 }
 
-/// Pairs in the order of their first numbers, and where the next ones begin.
+/// Pairs in the order of their first numbers, where the next ones begin, and at how many numbers they are to be looked for.
 #[derive(Drop)]
 pub(crate) struct NextPairs {
     pub(crate) pairs: Vec<(u32, u32)>,
     pub(crate) end: u32,
+    pub(crate) width: u32,
 }
 
 /// Two different numbers, the lesser one first.
@@ -91,8 +93,18 @@ fn add_matched(
     requires { AreProviders repo.now atom.now.name providers.now }
     ensures { OnOk result (Adds pairs.old.items pairs.new.items (λ pair. IsPairIn span.start span.end pair × IsPairWith repo.now number (Matches repo.now.architecture atom.now) pair)) }
 {
-    for other in providers {
-        add_match(repo, number, atom, *other, span, pairs)?;
+    if !repo.usable(&atom.qualifier) {
+        return Ok(());
+    }
+    // Of the providers before these, and behind them, no pair has a first number of the span.
+    let from = place_from(providers, span.start);
+    let to = if number < span.end {
+        providers.len()
+    } else {
+        place_from(providers, span.end)
+    };
+    for place in from..to {
+        add_match(repo, number, atom, providers[place], span, pairs)?;
     }
     Ok(())
 }
@@ -109,10 +121,13 @@ fn add_rejected(
     ensures whole { IfOk result (λ whole. IsTrue whole → Adds pairs.old.items pairs.new.items (λ pair. IsPairIn span.start span.end pair × IsPairWith repo.now number (Rejects repo.now «package».now) pair)) }
     ensures wide { IfOk result (λ whole. whole ≡ false → span.start + 1 < span.end) }
 {
+    let repeats = Repeats::of_conflicts(*pairs.allocator(), &package.conflicts)?;
     for place in 0..package.conflicts.len() {
-        let atom = package.conflicts.get(place);
-        let providers = repo.conflict_providers(number, place);
-        add_matched(repo, number, atom, providers, span, pairs)?;
+        if !repeats.is_repeated_in_conflicts(&package.conflicts, place) {
+            let atom = package.conflicts.get(place);
+            let providers = repo.conflict_providers(number, place);
+            add_matched(repo, number, atom, providers, span, pairs)?;
+        }
         if pairs.len() > ROOM && span.is_wide() {
             return Ok(false);
         }
@@ -132,7 +147,8 @@ fn rejections(
     ensures wide { IfOk result (λ found. found ≡ None → span.start + 1 < span.end) }
 {
     let mut pairs = Vec::new(alloc);
-    for number in 0..repo.len() {
+    // The pairs of a package have no greater first number than its own.
+    for number in span.start..repo.len() {
         if !add_rejected(repo, number, repo.package(number), span, &mut pairs)? {
             return Ok(None);
         }
@@ -141,11 +157,21 @@ fn rejections(
     Ok(Some(pairs))
 }
 
-/// The pairs with first numbers from one on, as many as there is room for.
+/// At how many numbers the next pairs are looked for, after those that were found at some.
+fn next_width(width: u32, found: usize) -> u32 {
+    if found < ROOM / 2 {
+        width.saturating_mul(2)
+    } else {
+        width
+    }
+}
+
+/// The pairs with first numbers from one on: at so many numbers, or as many as there is room for.
 pub(crate) fn next_rejections(
     alloc: Global,
     repo: &Repository,
     start: u32,
+    width: u32,
 ) -> Result<NextPairs, AllocError>
     requires { start < length repo.now.packages }
     ensures later { IfOk result (λ next. start < next.end) }
@@ -153,10 +179,13 @@ pub(crate) fn next_rejections(
     ensures exact { IfOk result (λ next. (pair : ℕ × ℕ) → Contains next.pairs.items pair ↔ (IsPairIn start next.end pair × IsRejectingPair repo.now pair)) }
     ensures in_order { IfOk result (λ next. IsNonDecreasingBy (λ pair. pair.0) next.pairs.items) }
 {
-    let mut end = repo.len();
+    let mut end = start.saturating_add(width.max(1)).min(repo.len());
     'halving: loop {
         match rejections(alloc, repo, Span { start, end })? {
-            Some(pairs) => return Ok(NextPairs { pairs, end }),
+            Some(pairs) => {
+                let width = next_width(end - start, pairs.len());
+                return Ok(NextPairs { pairs, end, width });
+            }
             None => end = start + (end - start) / 2,
         }
     }

@@ -1,11 +1,19 @@
 use Rattle.std.proofs.Common.{refl}
 use Rattle.std.proofs.lemmas.Bool.{false≢true}
+use Rattle.dist_base.specs.ListLaws.{element-is, has-at}
 use Rattle.dist_repo.specs.Match.{Matches}
-use Rattle.dist_now.proofs.AddsLemmas.{adds-more}
+use Rattle.dist_repo.specs.PackageList.{IsPackageAnd}
+use Rattle.dist_now.proofs.AddsLemmas.{adds-more, adds-nothing}
 use Rattle.dist_now.proofs.MemberLemmas.{matched-provides}
 use Rattle.dist_now.proofs.NumberLemmas.{IsAtAnd, adds-all, adds-at, adds-not, provider-within}
 use Rattle.dist_now.proofs.numbers.add_matched.Goals.{then-matches+in_ok-push, else-matches}
 use Rattle.dist_now.proofs.numbers.add_matched.Goals as goal
+
+pub returns-then-not-usable : goal.returns-then-not-usable
+returns-then-not-usable c =
+    adds-nothing c.args.numbers.now.items (λ k. IsPackageAnd c.args.repo.now.packages k (Matches c.args.repo.now.architecture c.args.atom.now))
+    (λ k here. false≢true (c.if-not-usable.ensures.1
+    (has-at (Matches c.args.repo.now.architecture c.args.atom.now) c.args.repo.now.packages k _ (element-is _ c.args.repo.now.packages k here) here).usable))
 
 pub package-requires : goal.package-requires
 package-requires c = provider-within c.args.repo.now c.args.atom.now.name c.args.providers.now c.loop-number.number-index c.requires c.loop-number-test.true

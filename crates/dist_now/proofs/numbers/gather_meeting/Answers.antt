@@ -1,37 +1,25 @@
-use Rattle.std.proofs.Common.{arith, []}
-use Rattle.dist_now.proofs.AddsLemmas.{adds-more}
-use Rattle.dist_now.proofs.NumberLemmas.{IsMatchedAt, matched-at, meeting-all}
+use Rattle.std.proofs.Common.{◌+◌, arith, [], refl}
+use Rattle.dist_now.specs.Gathering.{IsMatchedAt}
+use Rattle.dist_now.proofs.AddsLemmas.{UpTo, adds-more, adds-moved, adds-repeated}
+use Rattle.dist_now.proofs.NumberLemmas.{meeting-all}
+use Rattle.dist_now.proofs.numbers.gather_meeting.Goals.{then-not-is_repeated_in_item+in_ok-add_alternative, else-not-is_repeated_in_item}
 use Rattle.dist_now.proofs.numbers.gather_meeting.Goals as goal
-
-pub alternative_providers-providers-requires : goal.alternative_providers-providers-requires
-alternative_providers-providers-requires c = (
-  c.get-atom.result.now,
-  record {
-    holder = c.requires.holder;
-    alternatives = c.args.alternatives.now;
-    is_holder = c.requires.is_holder;
-    is_item = c.requires.is_item;
-    is_atom = c.get-atom.ensures;
-  },
-)
-
-pub add_matched-requires : goal.add_matched-requires
-add_matched-requires c =
-    c.alternative_providers-providers.ensures c.get-atom.result.now
-    (record {
-      holder = c.requires.holder;
-      alternatives = c.args.alternatives.now;
-      is_holder = c.requires.is_holder;
-      is_item = c.requires.is_item;
-      is_atom = c.get-atom.ensures;
-    })
 
 pub loop-place-preserved : goal.loop-place-preserved
 loop-place-preserved c =
-    adds-more [] c.loop-place.numbers.items c.add_matched.new.numbers.items (IsMatchedAt c.args.repo.now c.args.alternatives.now) c.loop-place.place
-    c.loop-place.invariant
-    (matched-at c.args.repo.now c.args.alternatives.now c.loop-place.place c.get-atom.result.now c.loop-place.numbers.items c.add_matched.new.numbers.items
-    c.get-atom.ensures c.in_ok-add_matched.ensures)
+    let P = IsMatchedAt c.args.repo.now c.args.alternatives.now in
+    elim c.if-not-is_repeated_in_item.branch [
+      | then-not-is_repeated_in_item+in_ok-add_alternative w ↦
+          rw w.numbers-is
+          (adds-moved [] w.add_alternative.new.numbers.items w.thin-limit.new.numbers.items (UpTo P (c.loop-place.place + 1)) w.thin-limit.ensures
+          (adds-more [] c.loop-place.numbers.items w.add_alternative.new.numbers.items P c.loop-place.place c.loop-place.invariant
+          w.in_ok-add_alternative.ensures))
+      | else-not-is_repeated_in_item w ↦
+          let earlier = w.if-not-is_repeated_in_item.ensures refl in
+          rw w.numbers-is
+          (adds-repeated [] c.loop-place.numbers.items P c.loop-place.place earlier.0 earlier.1
+          (λ x here. rw earlier.2 here) c.loop-place.invariant)
+    ]
 
 pub returns : goal.returns
 returns c =

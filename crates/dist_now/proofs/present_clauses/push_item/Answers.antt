@@ -1,11 +1,12 @@
 use Rattle.std.proofs.Common.{ℕ, ◌+◌, false, List, ◌∷◌, length, map, arith, subst, ◌∙◌}
 use Rattle.std.specs.Prelude.{Contains}
 use Rattle.dist_base.specs.declared.TheConstants.{MAX_VARIABLES}
+use Rattle.dist_clause.specs.DemandLaws.{pushed-err, pushed-ok}
 use Rattle.dist_now.specs.Gathering.{IsFront}
-use Rattle.dist_now.specs.PresentClauses.{Item, IsMetBy, installed, not_installed}
+use Rattle.dist_now.specs.PresentClauses.{Item, IsMetBy, installed, not_installed, IsDemand, present_demands}
 use Rattle.dist_now.proofs.ClauseShape.{below-more, item-clause, numbers-below}
 use Rattle.dist_now.proofs.FrontLemmas.{item-pushed, item-skipped}
-use Rattle.dist_now.proofs.PushLemmas.{contains-false, contains-true, item-demand, item-is-clause, item-within, itself-meets, over-set, pushed-err, pushed-ok}
+use Rattle.dist_now.proofs.PushLemmas.{contains-false, contains-true, item-demand, item-is-clause, item-within, itself-meets, over-set}
 use Rattle.dist_now.proofs.present_clauses.push_item.Goals as goal
 
 pub returns-then-contains-clause-ok : goal.returns-then-contains-clause-ok
@@ -25,8 +26,8 @@ write_item-requires-clause-numbers c =
     below-more (length c.args.repo.now.packages) MAX_VARIABLES c.gather_meeting.new.numbers.items (omega (arith, c.requires.packages))
     (numbers-below c.args.repo.now (IsMetBy c.args.repo.now.architecture c.args.alternatives.now) c.gather_meeting.new.numbers.items c.in_default.ensures)
 
-pub add_clause-requires : goal.add_clause-requires
-add_clause-requires c =
+pub push-requires : goal.push-requires
+push-requires c =
     let numbers = c.gather_meeting.new.numbers.items in
     let absent : ¬ Contains numbers c.args.number =
     subst (λ (xs : List ℕ). ¬ Contains xs c.args.number) c.as_slice.ensures.value
@@ -46,8 +47,8 @@ returns-clause-ok c =
     (λ here. absent ((c.in_default.ensures.exact c.args.number).1 here)) in
     let is = item-is-clause c.args.repo.now c.args.number c.args.place c.args.alternatives.now numbers c.deref.result.now c.requires.item c.in_default.ensures
     (c.deref.ensures.value ∙ c.in_default-write_item.ensures) in
-    pushed-ok c.add_clause.result c.args.set.now c.add_clause.new.set c.deref.result.now
-    (IsFront c.args.repo.now (Item c.args.number (c.args.place + 1)) c.args.set.now) c.add_clause.ensures.ok
+    pushed-ok c.push.result c.args.set.now c.push.new.self c.deref.result.now
+    (IsFront c.args.repo.now (Item c.args.number (c.args.place + 1)) c.args.set.now) c.push.ensures.ok
     (item-pushed c.args.repo.now c.args.number c.args.place c.args.set.now c.args.set.now c.deref.result.now c.requires.front demand is)
 
 pub returns-clause-err : goal.returns-clause-err
@@ -60,5 +61,5 @@ returns-clause-err c =
     (λ here. absent ((c.in_default.ensures.exact c.args.number).1 here)) in
     let is = item-is-clause c.args.repo.now c.args.number c.args.place c.args.alternatives.now numbers c.deref.result.now c.requires.item c.in_default.ensures
     (c.deref.ensures.value ∙ c.in_default-write_item.ensures) in
-    pushed-err c.args.repo.now false c.add_clause.result c.args.set.now c.args.set.now (Item c.args.number c.args.place) c.deref.result.now c.requires.front
-    demand is c.add_clause.ensures.err
+    pushed-err (present_demands c.args.repo.now) (IsDemand c.args.repo.now false) c.push.result c.args.set.now c.args.set.now (Item c.args.number c.args.place) c.deref.result.now c.requires.front
+    demand is c.push.ensures.cause

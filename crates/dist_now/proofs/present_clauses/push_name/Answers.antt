@@ -1,11 +1,12 @@
 use Rattle.std.proofs.Common.{◌+◌, true, length, map, sym, subst, ◌∙◌, inl, inr, refl}
 use Rattle.std.proofs.lemmas.Bool.{false≢true}
+use Rattle.dist_clause.specs.DemandLaws.{pushed-err, pushed-ok}
 use Rattle.dist_now.specs.Gathering.{IsNamedBelow, IsNamedFront}
-use Rattle.dist_now.specs.PresentClauses.{Required, IsClauseFor, installed}
+use Rattle.dist_now.specs.PresentClauses.{Required, IsClauseFor, installed, IsDemand, present_demands}
 use Rattle.dist_now.proofs.ClauseShape.{installed-clause}
 use Rattle.dist_now.proofs.ModelLemmas.{required-from}
 use Rattle.dist_now.proofs.NameFronts.{named-before, named-pushed, named-skipped}
-use Rattle.dist_now.proofs.PushLemmas.{over-set, pushed-err, pushed-ok}
+use Rattle.dist_now.proofs.PushLemmas.{over-set}
 use Rattle.dist_now.proofs.present_clauses.push_name.Goals.{then-not-package-via-then-not-package}
 use Rattle.dist_now.proofs.present_clauses.push_name.Goals.{then-not-package-via-else-not-package+then-has_essential_before}
 use Rattle.dist_now.proofs.present_clauses.push_name.Goals as goal
@@ -19,8 +20,8 @@ returns-then-not-package-clause-ok c =
     ])
     c.requires.front
 
-pub add_clause-requires : goal.add_clause-requires
-add_clause-requires c =
+pub push-requires : goal.push-requires
+push-requires c =
     let is = c.in_default.ensures in
     over-set c.args.set.now.variables (length c.args.repo.now.packages) c.deref.result.now (map installed is.0) c.requires.front.variables
     (c.deref.ensures.value ∙ is.2)
@@ -31,8 +32,8 @@ returns-clause-ok c =
     let first : ¬ IsNamedBelow c.args.repo.now c.args.number c.args.package.now.name = λ below. false≢true (c.if-has_essential_before.ensures.1 below) in
     let is : IsClauseFor c.args.repo.now (Required c.args.package.now.name) c.deref.result.now =
     subst (IsClauseFor c.args.repo.now (Required c.args.package.now.name)) (sym c.deref.ensures.value) c.in_default.ensures in
-    pushed-ok c.add_clause.result c.args.set.now c.add_clause.new.set c.deref.result.now (IsNamedFront c.args.repo.now (c.args.number + 1) c.args.set.now)
-    c.add_clause.ensures.ok
+    pushed-ok c.push.result c.args.set.now c.push.new.self c.deref.result.now (IsNamedFront c.args.repo.now (c.args.number + 1) c.args.set.now)
+    c.push.ensures.ok
     (named-pushed c.args.repo.now c.args.number c.args.package.now c.args.set.now c.args.set.now c.deref.result.now c.len-end.ensures.in_order c.requires.number
     c.if-not-package.false first c.requires.front is)
 
@@ -41,7 +42,7 @@ returns-clause-err c =
     let first : ¬ IsNamedBelow c.args.repo.now c.args.number c.args.package.now.name = λ below. false≢true (c.if-has_essential_before.ensures.1 below) in
     let is : IsClauseFor c.args.repo.now (Required c.args.package.now.name) c.deref.result.now =
     subst (IsClauseFor c.args.repo.now (Required c.args.package.now.name)) (sym c.deref.ensures.value) c.in_default.ensures in
-    pushed-err c.args.repo.now true c.add_clause.result c.args.set.now c.args.set.now (Required c.args.package.now.name) c.deref.result.now
+    pushed-err (present_demands c.args.repo.now) (IsDemand c.args.repo.now true) c.push.result c.args.set.now c.args.set.now (Required c.args.package.now.name) c.deref.result.now
     (named-before c.args.repo.now c.args.number c.args.package.now c.args.set.now.clause_limit c.args.set.now.literal_limit c.args.set.now
     c.len-end.ensures.in_order c.requires.number first c.requires.front)
-    (required-from c.args.repo.now.packages c.args.number c.args.package.now c.requires.number c.if-not-package.false) is c.add_clause.ensures.err
+    (required-from c.args.repo.now.packages c.args.number c.args.package.now c.requires.number c.if-not-package.false) is c.push.ensures.cause

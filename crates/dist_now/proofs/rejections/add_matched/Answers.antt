@@ -1,19 +1,47 @@
+use Rattle.std.proofs.Common.{arith, get_or}
+use Rattle.std.proofs.lemmas.Bool.{false≢true}
 use Rattle.dist_repo.specs.Match.{Matches}
-use Rattle.dist_now.proofs.AddsLemmas.{adds-more}
+use Rattle.dist_now.proofs.AddsLemmas.{adds-more, adds-none}
 use Rattle.dist_now.proofs.NumberLemmas.{provider-within}
-use Rattle.dist_now.proofs.PairLemmas.{IsPairAt, pairs-all}
+use Rattle.dist_now.proofs.PairLemmas.{IsPairAt, pair-behind, pair-below, pairs-all, pairs-none}
+use Rattle.dist_now.proofs.rejections.add_matched.Goals.{else-number-span, then-number-span}
 use Rattle.dist_now.proofs.rejections.add_matched.Goals as goal
 
-pub add_match-requires : goal.add_match-requires
-add_match-requires c = provider-within c.args.repo.now c.args.atom.now.name c.args.providers.now c.loop-other.other-index c.requires c.loop-other-test.true
+pub returns-then-not-usable : goal.returns-then-not-usable
+returns-then-not-usable c =
+    pairs-none c.args.repo.now c.args.span.start c.args.span.end c.args.number c.args.atom.now c.args.pairs.now.items
+    (λ usable. false≢true (c.if-not-usable.ensures.1 usable))
 
-pub loop-other-preserved : goal.loop-other-preserved
-loop-other-preserved c =
-    adds-more c.args.pairs.now.items c.loop-other.pairs.items c.add_match.new.pairs.items
+pub loop-place-init : goal.loop-place-init
+loop-place-init c =
+    let P = Matches c.args.repo.now.architecture c.args.atom.now in
+    adds-none c.args.pairs.now.items (IsPairAt c.args.repo.now c.args.span.start c.args.span.end c.args.number c.args.providers.now P) c.place_from-from.result
+    (λ i x less. pair-below c.args.repo.now c.args.span.start c.args.span.end c.args.number (get_or c.args.providers.now i 0) P x
+    (c.place_from-from.ensures.below i less))
+
+pub add_match-requires : goal.add_match-requires
+add_match-requires c = provider-within c.args.repo.now c.args.atom.now.name c.args.providers.now c.loop-place.place c.requires
+    (elim c.if-number-span.branch [
+      | then-number-span w ↦ let to = w.to-is in omega (arith, to, c.loop-place-test.true)
+      | else-number-span w ↦ let to = w.to-is in omega (arith, to, c.loop-place-test.true, w.place_from-to.ensures.to_len)
+    ])
+
+pub loop-place-preserved : goal.loop-place-preserved
+loop-place-preserved c =
+    adds-more c.args.pairs.now.items c.loop-place.pairs.items c.add_match.new.pairs.items
     (IsPairAt c.args.repo.now c.args.span.start c.args.span.end c.args.number c.args.providers.now (Matches c.args.repo.now.architecture c.args.atom.now))
-    c.loop-other.other-index c.loop-other.invariant c.in_ok-add_match.ensures
+    c.loop-place.place c.loop-place.invariant c.in_ok-add_match.ensures
 
 pub returns : goal.returns
 returns c =
-    pairs-all c.args.repo.now c.args.span.start c.args.span.end c.args.number c.args.atom.now c.args.providers.now c.loop-other.other-index
-    c.args.pairs.now.items c.loop-other.pairs.items c.loop-other-test.false c.requires c.loop-other.invariant
+    let P = Matches c.args.repo.now.architecture c.args.atom.now in
+    pairs-all c.args.repo.now c.args.span.start c.args.span.end c.args.number c.args.atom.now c.args.providers.now c.loop-place.place
+    c.args.pairs.now.items c.loop-place.pairs.items
+    (λ i pair past short. elim c.if-number-span.branch [
+      | then-number-span w ↦ let to = w.to-is in absurd (omega (arith, to, c.loop-place-test.false))
+      | else-number-span w ↦
+          let to = w.to-is in
+          pair-behind c.args.repo.now c.args.span.start c.args.span.end c.args.number (get_or c.args.providers.now i 0) P pair w.if-number-span.false
+          (w.place_from-to.ensures.from i (omega (arith, to, c.loop-place-test.false)) short)
+    ])
+    c.requires c.loop-place.invariant

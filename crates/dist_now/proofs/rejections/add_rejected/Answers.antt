@@ -1,6 +1,7 @@
-use Rattle.std.proofs.Common.{arith}
-use Rattle.dist_now.proofs.AddsLemmas.{adds-more}
+use Rattle.std.proofs.Common.{arith, refl}
+use Rattle.dist_now.proofs.AddsLemmas.{adds-more, adds-repeated}
 use Rattle.dist_now.proofs.PairLemmas.{IsRejectedAt, rejected-all, rejected-at}
+use Rattle.dist_now.proofs.rejections.add_rejected.Goals.{else-not-is_repeated_in_conflicts, then-not-is_repeated_in_conflicts+in_ok-add_matched}
 use Rattle.dist_now.proofs.rejections.add_rejected.Goals as goal
 
 pub add_matched-requires : goal.add_matched-requires
@@ -10,10 +11,19 @@ add_matched-requires c =
 pub loop-place-preserved : goal.loop-place-preserved
 loop-place-preserved c =
     let atoms = c.args.package.now.conflicts in
-    adds-more c.args.pairs.now.items c.loop-place.pairs.items c.add_matched.new.pairs.items
-    (IsRejectedAt c.args.repo.now c.args.span.start c.args.span.end c.args.number atoms) c.loop-place.place c.loop-place.invariant
-    (rejected-at c.args.repo.now c.args.span.start c.args.span.end c.args.number atoms c.loop-place.place c.get-atom.result.now c.loop-place.pairs.items
-    c.add_matched.new.pairs.items c.get-atom.ensures c.in_ok-add_matched.ensures)
+    let P = IsRejectedAt c.args.repo.now c.args.span.start c.args.span.end c.args.number atoms in
+    elim c.if-not-is_repeated_in_conflicts.branch [
+      | then-not-is_repeated_in_conflicts+in_ok-add_matched w ↦
+          rw w.pairs-is
+          (adds-more c.args.pairs.now.items c.loop-place.pairs.items w.add_matched.new.pairs.items P c.loop-place.place c.loop-place.invariant
+          (rejected-at c.args.repo.now c.args.span.start c.args.span.end c.args.number atoms c.loop-place.place w.get-atom.result.now c.loop-place.pairs.items
+          w.add_matched.new.pairs.items w.get-atom.ensures w.in_ok-add_matched.ensures))
+      | else-not-is_repeated_in_conflicts w ↦
+          let earlier = w.if-not-is_repeated_in_conflicts.ensures refl in
+          rw w.pairs-is
+          (adds-repeated c.args.pairs.now.items c.loop-place.pairs.items P c.loop-place.place earlier.0 earlier.1 (λ x here. rw earlier.2 here)
+          c.loop-place.invariant)
+    ]
 
 pub returns-clause-whole : goal.returns-clause-whole
 returns-clause-whole c = λ _.

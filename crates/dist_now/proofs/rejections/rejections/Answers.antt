@@ -1,8 +1,14 @@
 use Rattle.std.proofs.Common.{ℕ, arith, rules, []}
 use Rattle.std.proofs.lemmas.List.Sorted.{Contains-permutation, IsNonDecreasingBy-from_sort_by_key, IsPermutation-sym}
-use Rattle.dist_now.proofs.AddsLemmas.{adds-more}
-use Rattle.dist_now.proofs.PairLemmas.{IsPairOfPackage, pairs-of, rejecting-all}
+use Rattle.dist_now.proofs.AddsLemmas.{adds-more, adds-none}
+use Rattle.dist_now.proofs.PairLemmas.{IsPairOfPackage, none-before, pairs-of, rejecting-all}
 use Rattle.dist_now.proofs.rejections.rejections.Goals as goal
+
+pub loop-number-init : goal.loop-number-init
+loop-number-init c =
+    rw c.new-pairs.ensures.items
+    (adds-none [] (IsPairOfPackage c.args.repo.now c.args.span.start c.args.span.end) c.args.span.start
+    (λ i x before. none-before c.args.repo.now c.args.span.start c.args.span.end i x before))
 
 pub loop-number-preserved : goal.loop-number-preserved
 loop-number-preserved c =
