@@ -1,8 +1,10 @@
 -- What is found of versions in bounds: on the names of a package, of the members of a cluster, and the classes of them.
-use Rattle.std.proofs.Common.{◌≡◌, ◌⊎◌, ◌↔◌, ℕ, ◌+◌, ◌≤◌, List, [], ◌++◌, length, take, Option, Some, sym, subst, inl, inr, arith, slice_get}
+use Rattle.std.proofs.Common.{◌≡◌, ◌⊎◌, ◌↔◌, ℕ, ◌+◌, ◌≤◌, List, [], ◌∷◌, ◌++◌, length, take, Option, Some, sym, subst, ◌∙◌, inl, inr, refl, arith, slice_get}
+use Rattle.std.proofs.Common.{append-nil, append_assoc}
 use Rattle.std.specs.Prelude.{Any, Contains, IsPermutation, IsSomeAnd}
 use Rattle.std.specs.List.Sorted.{IsSorted}
-use Rattle.std.proofs.lemmas.List.Elements.{Contains-append_left, Contains-append_right, Contains-append_cases}
+use Rattle.std.proofs.lemmas.List.Elements.{Contains-append_left, Contains-append_right, Contains-append_cases, Contains-push}
+use Rattle.std.proofs.lemmas.List.Elements.{Contains-push_cases}
 use Rattle.std.proofs.lemmas.List.Sorted.{Contains-permutation, IsPermutation-sym}
 use Rattle.dist_relation.specs.declared.atom.Provide.{Provide}
 use Rattle.dist_repo.specs.PackageList.{PackageList, IsPackageAnd}
@@ -93,90 +95,108 @@ adds-table r table name a b tabled is v =
 abbrev pub IsMovedBy : Option (List ℕ) → Package → ℕ → List ℕ → Type 0
 IsMovedBy architecture p count n = (p.name ≡ n) ⊎ Any (λ entry. IsMoving architecture p entry × (entry.name ≡ n)) (take count p.provides)
 
-pub moved-none : (r : PackageList) (architecture : Option (List ℕ)) (p : Package) (a b : List (List ℕ)) → Adds a b (IsBoundOn r (λ other. other ≡ p.name))
-    → Adds a b (IsBoundOn r (IsMovedBy architecture p 0))
-moved-none r architecture p a b adds =
-    adds-iff a b (IsBoundOn r (λ other. other ≡ p.name)) (IsBoundOn r (IsMovedBy architecture p 0))
-    (on-iff r (λ other. other ≡ p.name) (IsMovedBy architecture p 0) (λ n. (
-      (λ same. inl (sym same)),
-      λ either. elim either [
-        | inl h ↦ sym h
-        | inr any ↦ absurd (any-none (λ (entry : Provide). IsMoving architecture p entry × (entry.name ≡ n)) p.provides any)
-      ],
-    ))) adds
+module _ (architecture : Option (List ℕ)) (p : Package) where
+  pub moved-none : (a b : List (List ℕ)) → Adds a b (λ n. p.name ≡ n) → Adds a b (IsMovedBy architecture p 0)
+  moved-none a b adds =
+      adds-iff a b (λ n. p.name ≡ n) (IsMovedBy architecture p 0) (λ n. (
+        (λ same. inl same),
+        λ either. elim either [
+          | inl h ↦ h
+          | inr any ↦ absurd (any-none (λ (entry : Provide). IsMoving architecture p entry × (entry.name ≡ n)) p.provides any)
+        ],
+      )) adds
 
-pub moved-more : (r : PackageList) (architecture : Option (List ℕ)) (p : Package) (k : ℕ) (entry : Provide) (a b c : List (List ℕ))
-    → slice_get p.provides k ≡ Some entry → IsMoving architecture p entry →
-    Adds a b (IsBoundOn r (IsMovedBy architecture p k)) → Adds b c (IsBoundOn r (λ other. other ≡ entry.name))
-    → Adds a c (IsBoundOn r (IsMovedBy architecture p (k + 1)))
-moved-more r architecture p k entry a b c here moving first second =
-    on-more r a b c (IsMovedBy architecture p k) (λ other. other ≡ entry.name) (IsMovedBy architecture p (k + 1)) (λ n.
-    let taken = any-take (λ (e : Provide). IsMoving architecture p e × (e.name ≡ n)) p.provides k entry here in (
-      (λ either. elim either [
-        | inl h ↦ elim h [ inl g ↦ inl g | inr any ↦ inr (taken.0 (inl any)) ]
-        | inr same ↦ inr (taken.0 (inr (moving, sym same)))
-      ]),
-      λ either. elim either [
-        | inl g ↦ inl (inl g)
-        | inr any ↦ elim (taken.1 any) [ inl h ↦ inl (inr h) | inr h ↦ inr (sym h.1) ]
-      ],
-    )) first second
+  pub moved-more : (k : ℕ) (entry : Provide) (a b c : List (List ℕ)) → slice_get p.provides k ≡ Some entry → IsMoving architecture p entry
+      → Adds a b (IsMovedBy architecture p k) → Adds b c (λ n. entry.name ≡ n) → Adds a c (IsMovedBy architecture p (k + 1))
+  moved-more k entry a b c here moving first second =
+      adds-iff a c (λ n. IsMovedBy architecture p k n ⊎ (entry.name ≡ n)) (IsMovedBy architecture p (k + 1)) (λ n.
+      let taken = any-take (λ (e : Provide). IsMoving architecture p e × (e.name ≡ n)) p.provides k entry here in (
+        (λ either. elim either [
+          | inl h ↦ elim h [ inl g ↦ inl g | inr any ↦ inr (taken.0 (inl any)) ]
+          | inr same ↦ inr (taken.0 (inr (moving, same)))
+        ]),
+        λ either. elim either [
+          | inl g ↦ inl (inl g)
+          | inr any ↦ elim (taken.1 any) [ inl h ↦ inl (inr h) | inr h ↦ inr h.1 ]
+        ],
+      )) (adds-both a b c (IsMovedBy architecture p k) (λ n. entry.name ≡ n) first second)
 
-pub moved-still : (r : PackageList) (architecture : Option (List ℕ)) (p : Package) (k : ℕ) (entry : Provide) (a b : List (List ℕ))
-    → slice_get p.provides k ≡ Some entry → ¬ IsMoving architecture p entry →
-    Adds a b (IsBoundOn r (IsMovedBy architecture p k)) → Adds a b (IsBoundOn r (IsMovedBy architecture p (k + 1)))
-moved-still r architecture p k entry a b here still adds =
-    adds-iff a b (IsBoundOn r (IsMovedBy architecture p k)) (IsBoundOn r (IsMovedBy architecture p (k + 1)))
-    (on-iff r (IsMovedBy architecture p k) (IsMovedBy architecture p (k + 1)) (λ n.
-    let taken = any-take (λ (e : Provide). IsMoving architecture p e × (e.name ≡ n)) p.provides k entry here in (
-      (λ either. elim either [ inl g ↦ inl g | inr any ↦ inr (taken.0 (inl any)) ]),
-      λ either. elim either [
-        | inl g ↦ inl g
-        | inr any ↦ elim (taken.1 any) [ inl h ↦ inr h | inr h ↦ absurd (still h.0) ]
-      ],
-    ))) adds
+  pub moved-still : (k : ℕ) (entry : Provide) (a b : List (List ℕ)) → slice_get p.provides k ≡ Some entry → ¬ IsMoving architecture p entry
+      → Adds a b (IsMovedBy architecture p k) → Adds a b (IsMovedBy architecture p (k + 1))
+  moved-still k entry a b here still adds =
+      adds-iff a b (IsMovedBy architecture p k) (IsMovedBy architecture p (k + 1)) (λ n.
+      let taken = any-take (λ (e : Provide). IsMoving architecture p e × (e.name ≡ n)) p.provides k entry here in (
+        (λ either. elim either [ inl g ↦ inl g | inr any ↦ inr (taken.0 (inl any)) ]),
+        λ either. elim either [
+          | inl g ↦ inl g
+          | inr any ↦ elim (taken.1 any) [ inl h ↦ inr h | inr h ↦ absurd (still h.0) ]
+        ],
+      )) adds
 
-pub moved-all : (r : PackageList) (architecture : Option (List ℕ)) (p : Package) (k : ℕ) (a b : List (List ℕ)) → length p.provides ≤ k
-    → Adds a b (IsBoundOn r (IsMovedBy architecture p k)) →
-    Adds a b (IsBoundOn r (IsMovedName architecture p))
-moved-all r architecture p k a b past adds =
-    adds-iff a b (IsBoundOn r (IsMovedBy architecture p k)) (IsBoundOn r (IsMovedName architecture p))
-    (on-iff r (IsMovedBy architecture p k) (IsMovedName architecture p) (λ n.
-    let whole = any-whole (λ (e : Provide). IsMoving architecture p e × (e.name ≡ n)) p.provides k past in (
-      (λ either. elim either [ inl g ↦ inl g | inr any ↦ inr (whole.0 any) ]),
-      λ either. elim either [ inl g ↦ inl g | inr any ↦ inr (whole.1 any) ],
-    ))) adds
+  pub moved-all : (k : ℕ) (a b : List (List ℕ)) → length p.provides ≤ k → Adds a b (IsMovedBy architecture p k) → Adds a b (IsMovedName architecture p)
+  moved-all k a b past adds =
+      adds-iff a b (IsMovedBy architecture p k) (IsMovedName architecture p) (λ n.
+      let whole = any-whole (λ (e : Provide). IsMoving architecture p e × (e.name ≡ n)) p.provides k past in (
+        (λ either. elim either [ inl g ↦ inl g | inr any ↦ inr (whole.0 any) ]),
+        λ either. elim either [ inl g ↦ inl g | inr any ↦ inr (whole.1 any) ],
+      )) adds
 
 -- ---- the names of the members of a cluster
 
-members-iff : (r : PackageList) (a b : List (List ℕ)) (A B : List ℕ → Type 0) → ((n : List ℕ) → A n ↔ B n) → Adds a b (IsBoundOn r A) → Adds a b (IsBoundOn r B)
-members-iff r a b A B same adds = adds-iff a b (IsBoundOn r A) (IsBoundOn r B) (on-iff r A B same) adds
+-- a name of the package of a number
+abbrev pub IsNameOf : PackageList → List ℕ → ℕ → Type 0
+IsNameOf r n number = IsPackageAnd r.packages number (λ p. IsMovedName r.architecture p n)
 
-pub members-none : (r : PackageList) (members : List ℕ) (a : List (List ℕ)) → Adds a a (IsBoundOn r (IsNameOfCluster r (take 0 members)))
-members-none r members a = adds-nothing a (IsBoundOn r (IsNameOfCluster r (take 0 members)))
-    (λ v on. any-none (λ (number : ℕ). IsPackageAnd r.packages number (λ p. IsMovedName r.architecture p on.atom.name)) members on.allowed)
-
-pub members-more : (r : PackageList) (members : List ℕ) (k number : ℕ) (p : Package) (a b c : List (List ℕ)) → slice_get members k ≡ Some number
-    → slice_get r.packages number ≡ Some p →
-    Adds a b (IsBoundOn r (IsNameOfCluster r (take k members))) → Adds b c (IsBoundOn r (IsMovedName r.architecture p))
-    → Adds a c (IsBoundOn r (IsNameOfCluster r (take (k + 1) members)))
-members-more r members k number p a b c here at first second =
-    on-more r a b c (IsNameOfCluster r (take k members)) (IsMovedName r.architecture p) (IsNameOfCluster r (take (k + 1) members)) (λ n.
-    let Has : ℕ → Type 0 = λ j. IsPackageAnd r.packages j (λ q. IsMovedName r.architecture q n) in
+pub member-named : (r : PackageList) (number : ℕ) (p : Package) (a b : List (List ℕ)) → slice_get r.packages number ≡ Some p
+    → Adds a b (IsMovedName r.architecture p) → Adds a b (λ n. IsNameOf r n number)
+member-named r number p a b at adds =
+    adds-iff a b (IsMovedName r.architecture p) (λ n. IsNameOf r n number) (λ n.
     let Is : Option Package → Type 0 = λ o. IsSomeAnd o (λ q. IsMovedName r.architecture q n) in
-    let taken = any-take Has members k number here in (
-      (λ either. elim either [
-        | inl any ↦ taken.0 (inl any)
-        | inr h ↦ taken.0 (inr (subst Is (sym at) h))
-      ]),
-      λ any. elim (taken.1 any) [ inl h ↦ inl h | inr h ↦ inr (subst Is at h) ],
-    )) first second
+    ((λ h. subst Is (sym at) h), λ h. subst Is at h)) adds
 
-pub members-all : (r : PackageList) (members : List ℕ) (k : ℕ) (a b : List (List ℕ)) → length members ≤ k
-    → Adds a b (IsBoundOn r (IsNameOfCluster r (take k members))) → Adds a b (IsBoundOn r (IsNameOfCluster r members))
-members-all r members k a b past adds =
-    members-iff r a b (IsNameOfCluster r (take k members)) (IsNameOfCluster r members)
-    (λ n. any-whole (λ (number : ℕ). IsPackageAnd r.packages number (λ p. IsMovedName r.architecture p n)) members k past) adds
+-- ---- the versions in bounds on names, one after another
+
+-- the versions on the names before those that are left
+pub record AreCollected (r : PackageList) (keys rest : List (List ℕ)) (a b : List (List ℕ)) : Type 0 where
+  pub done : List (List ℕ)
+  pub split : done ++ rest ≡ keys
+  pub adds : Adds a b (IsBoundOn r (Contains done))
+
+pub collected-none : (r : PackageList) (keys a : List (List ℕ)) → AreCollected r keys keys a a
+collected-none r keys a = record {
+  done = [];
+  split = refl;
+  adds = adds-nothing a (IsBoundOn r (Contains [])) (λ v on. let there = on.allowed in omega (arith, there.1));
+}
+
+pub collected-more : (r : PackageList) (keys rest : List (List ℕ)) (name : List ℕ) (a b c : List (List ℕ)) → AreCollected r keys (name ∷ rest) a b
+    → Adds b c (IsBoundOn r (λ other. other ≡ name)) → AreCollected r keys rest a c
+collected-more r keys rest name a b c of more = record {
+  done = of.done ++ name ∷ [];
+  split = append_assoc of.done (name ∷ []) rest ∙ of.split;
+  adds = on-more r a b c (Contains of.done) (λ other. other ≡ name) (Contains (of.done ++ name ∷ [])) (λ n. (
+    (λ either. elim either [
+      | inl h ↦ Contains-append_left of.done (name ∷ []) n h
+      | inr h ↦ subst (λ (x : List ℕ). Contains (of.done ++ name ∷ []) x) (sym h) (Contains-push of.done name)
+    ]),
+    λ there. elim (Contains-push_cases of.done name n there) [ inl h ↦ inl h | inr h ↦ inr (sym h) ],
+  )) of.adds more;
+}
+
+pub collected-all : (r : PackageList) (keys a b : List (List ℕ)) → AreCollected r keys [] a b → Adds a b (IsBoundOn r (Contains keys))
+collected-all r keys a b of =
+    let whole : of.done ≡ keys = sym (append-nil of.done) ∙ of.split in
+    subst (λ (xs : List (List ℕ)). Adds a b (IsBoundOn r (Contains xs))) whole of.adds
+
+-- the names were those of a cluster
+pub members-all : (r : PackageList) (members : List ℕ) (keys a b : List (List ℕ)) → Adds [] keys (IsNameOfCluster r members)
+    → Adds a b (IsBoundOn r (Contains keys)) → Adds a b (IsBoundOn r (IsNameOfCluster r members))
+members-all r members keys a b names adds =
+    adds-iff a b (IsBoundOn r (Contains keys)) (IsBoundOn r (IsNameOfCluster r members))
+    (on-iff r (Contains keys) (IsNameOfCluster r members) (λ n. (
+      (λ there. elim ((names n).0 there) [ inl h ↦ absurd (omega (arith, h.1)) | inr h ↦ h ]),
+      λ named. (names n).1 (inr named),
+    ))) adds
 
 -- ---- the classes
 

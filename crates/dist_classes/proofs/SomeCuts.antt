@@ -1,7 +1,7 @@
 -- Each cluster and each new name has its classes, and each repository has its new names: the atoms are gone through, and no memory is
 -- asked for.
-use Rattle.std.proofs.Common.{◌≡◌, ◌⊎◌, ◌↔◌, ℕ, List, [], ◌∷◌, Option, None, Some, Equal, refl, ap, subst, ◌∙◌, inl, inr, arith, nat_cmp, slice_get}
-use Rattle.std.specs.Prelude.{Any, Contains, IsSomeAnd}
+use Rattle.std.proofs.Common.{◌≡◌, ◌⊎◌, ℕ, List, [], ◌∷◌, Option, None, Some, Equal, refl, ap, subst, inl, inr, arith, nat_cmp, slice_get}
+use Rattle.std.specs.Prelude.{Any, IsSomeAnd}
 use Rattle.std.specs.Cmp.Lexicographic.{slice_cmp}
 use Rattle.std.specs.Ordering.{is_gt}
 use Rattle.std.proofs.lemmas.Cmp.{nat_list_cmp_total}
@@ -19,7 +19,7 @@ use Rattle.dist_classes.specs.Atoms.{IsBoundOn}
 use Rattle.dist_classes.specs.ClassList.{classes_above, classes_of_all}
 use Rattle.dist_classes.specs.Cuts.{IsClusterCut, IsNameCut, IsNameOfCluster}
 use Rattle.dist_classes.specs.NewNames.{AreNewNames, IsFreshAtom}
-use Rattle.dist_classes.specs.NewVersion.{IsAt, IsMovedName, IsMoving}
+use Rattle.dist_classes.specs.NewVersion.{IsMovedName, IsMoving}
 use Rattle.dist_classes.specs.Sorted.{cuts_after, cuts_of, text_cmp, text_total}
 use Rattle.dist_classes.specs.declared.class_value.Class.{Class}
 use Rattle.dist_classes.proofs.FreshLemmas.{HasFresh, names-from, same_names}

@@ -1,5 +1,5 @@
 //! The classes of a cluster and of a new name: their cuts are the versions that atoms have in bounds on their names.
-ghost use Rattle.std.specs.Prelude.{◌≡◌, ◌<◌, ◌↔◌, ◌⊎◌, [], ℕ, List, All, Any, IfOk, IsSomeAnd, IsTrue, OnOk, length, slice_get, slice_index_or};
+ghost use Rattle.std.specs.Prelude.{◌≡◌, ◌<◌, ◌↔◌, ◌⊎◌, [], ℕ, List, All, Any, Contains, IfOk, IsSomeAnd, IsTrue, OnOk, length, slice_get, slice_index_or};
 ghost use Rattle.dist_repo.specs.PackageList.{IsPackageAnd};
 ghost use Rattle.dist_classes.specs.Answers.{AreClassesOf, AreClassesOfName, AreClustersOf};
 ghost use Rattle.dist_classes.specs.Atoms.{IsBoundOn};
@@ -9,12 +9,13 @@ ghost use Rattle.dist_classes.specs.Table.{Adds};
 
 use crate::bound_table::{Table, table_of};
 use crate::class_list::{Classes, classes_above, classes_of_all};
-use crate::keys::TextKey;
+use crate::keys::{NameKey, TextKey};
 use dist_cluster::Clusters;
 use dist_relation::{Name, Provide};
 use dist_repo::{Package, Repository};
 use dist_version::Version;
 use std::alloc::{AllocError, Global};
+use std::collections::BTreeSet;
 use std::marker::Model;
 
 /// A repository with the versions in bounds of its atoms, name by name, which gives the classes of each cluster and of each
@@ -70,20 +71,49 @@ impl<'a> CutFinder<'a> {
         self.table.collect(name, found)
     }
 
-    /// Adds the versions in bounds on the names that a new version of a package has at its own version.
-    fn collect_package(
+    /// Adds the names that a new version of a package has at its own version.
+    fn note_moved(
         &self,
         package: &'a Package,
-        found: &mut Vec<TextKey<'a>>,
+        names: &mut BTreeSet<NameKey<'a>>,
     ) -> Result<(), AllocError>
-        ensures { OnOk result (Adds found.old.items found.new.items (IsBoundOn self.now (IsMovedName self.now.architecture «package».now))) }
+        ensures { OnOk result (Adds names.old.keys names.new.keys (IsMovedName self.now.architecture «package».now)) }
     {
-        self.collect(&package.name, found)?;
+        names.insert(NameKey {
+            name: &package.name,
+        })?;
         for place in 0..package.provides.len() {
             let entry = package.provides.get(place);
             if is_moving(self.repo, package, entry) {
-                self.collect(&entry.name, found)?;
+                names.insert(NameKey { name: &entry.name })?;
             }
+        }
+        Ok(())
+    }
+
+    /// The names of the members of a cluster, each once.
+    fn names_of(&self, members: &[u32]) -> Result<BTreeSet<NameKey<'a>>, AllocError>
+        requires { All (λ number. number < length self.now.packages) members.now }
+        ensures { IfOk result (λ names. Adds [] names.keys (IsNameOfCluster self.now members.now)) }
+    {
+        let mut names = BTreeSet::new(self.alloc);
+        for number in members {
+            self.note_moved(self.repo.package(*number), &mut names)?;
+        }
+        Ok(names)
+    }
+
+    /// Adds the versions in bounds on some names.
+    fn collect_names(
+        &self,
+        names: &BTreeSet<NameKey<'a>>,
+        found: &mut Vec<TextKey<'a>>,
+    ) -> Result<(), AllocError>
+        ensures { OnOk result (Adds found.old.items found.new.items (IsBoundOn self.now (Contains names.now.keys))) }
+    {
+        let keys = names.iter();
+        for key in keys {
+            self.collect(key.name(), found)?;
         }
         Ok(())
     }
@@ -97,10 +127,8 @@ impl<'a> CutFinder<'a> {
         requires { All (λ number. number < length self.now.packages) members.now }
         ensures { OnOk result (Adds found.old.items found.new.items (IsBoundOn self.now (IsNameOfCluster self.now members.now))) }
     {
-        for number in members {
-            self.collect_package(self.repo.package(*number), found)?;
-        }
-        Ok(())
+        let names = self.names_of(members)?;
+        self.collect_names(&names, found)
     }
 
     /// The classes of the versions above the top of a cluster.
