@@ -5,7 +5,7 @@ use Rattle.dist_outside.specs.DeskView.{DeskView, OnlyReads}
 use Rattle.dist_outside.specs.declared.limits.Limits.{Limits}
 use Rattle.dist_words.specs.CommandLine.{CommandLine}
 use Rattle.dist_app.specs.Command.{CommandDecides, IsApart}
-use Rattle.dist_app.specs.Due.{IsDue, IsPartGivenUp, Stops}
+use Rattle.dist_app.specs.DuePrivate.{IsDue, IsPartGivenUp, Stops}
 use Rattle.dist_app.specs.Stages.{Ending, answered, refused}
 use Rattle.dist_app.specs.declared.refusal.Refusal.{Refusal}
 use Rattle.dist_app.specs.declared.status.Status.{Status}

@@ -10,9 +10,9 @@ use Rattle.dist_outside.specs.declared.trouble.WorkError.{WorkError}
 use Rattle.dist_outside.specs.declared.trouble.WorkError.TheVariants as work
 use Rattle.dist_words.specs.CommandLine.{CommandLine}
 use Rattle.dist_words.specs.Table.{IsBadWords, command_of}
-use Rattle.dist_app.specs.Carried.{IsAnswered, IsRefused, Prints}
+use Rattle.dist_app.specs.CarriedPrivate.{IsAnswered, IsRefused, Prints}
 use Rattle.dist_app.specs.Command.{CommandDecides, CommandIsGivenUp, IsApart, OnlyReadsFiles}
-use Rattle.dist_app.specs.Due.{LeavesDesk, Stops}
+use Rattle.dist_app.specs.DuePrivate.{LeavesDesk, Stops}
 use Rattle.dist_app.specs.Refusal.{status_of, refusal_text, refusal_of}
 use Rattle.dist_app.specs.Run.{Comes, IsCutShort, Leaves}
 use Rattle.dist_app.specs.Stages.{refused, answered}

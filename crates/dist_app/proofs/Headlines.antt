@@ -9,7 +9,7 @@ use Rattle.dist_cert.specs.declared.records.Claim.{Claim}
 use Rattle.dist_cert.specs.declared.records.Header.{Header}
 use Rattle.dist_words.specs.CommandLine.{CommandLine, Strong, Check}
 use Rattle.dist_words.specs.Table.{command_of}
-use Rattle.dist_app.specs.Carried.{IsAnswered}
+use Rattle.dist_app.specs.CarriedPrivate.{IsAnswered}
 use Rattle.dist_app.specs.Check.{CertificateStage, CheckStages, Reports}
 use Rattle.dist_app.specs.Command.{CommandDecides}
 use Rattle.dist_app.specs.Headline.{CheckIsProved, IsCarriedOut, ProvesCheck, ProvesStrong, StrongIsProved}

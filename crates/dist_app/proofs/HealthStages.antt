@@ -4,7 +4,7 @@ use Rattle.dist_outside.specs.Files.{Files}
 use Rattle.dist_outside.specs.DeskView.{DeskView, OnlyReads}
 use Rattle.dist_outside.specs.declared.limits.Limits.{Limits}
 use Rattle.dist_repo.specs.PackageList.{PackageList}
-use Rattle.dist_app.specs.Due.{IsDue, IsPartGivenUp}
+use Rattle.dist_app.specs.DuePrivate.{IsDue, IsPartGivenUp}
 use Rattle.dist_app.specs.Health.{ListStage, Judges, ListStages}
 use Rattle.dist_app.specs.PackagesStage.{PackagesStage}
 use Rattle.dist_app.specs.Stages.{Ending, Step, Goes, Ends, Then, answered}

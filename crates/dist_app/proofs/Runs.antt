@@ -9,11 +9,11 @@ use Rattle.dist_outside.specs.declared.trouble.WorkError.{WorkError}
 use Rattle.dist_outside.specs.declared.trouble.WorkError.TheVariants as work
 use Rattle.dist_words.specs.CommandLine.{CommandLine}
 use Rattle.dist_words.specs.Table.{IsBadWords, command_of}
-use Rattle.dist_app.specs.Carried.{IsAnswered, IsRefused}
+use Rattle.dist_app.specs.CarriedPrivate.{IsAnswered, IsRefused}
 use Rattle.dist_app.specs.Refusal.{status_of, refusal_text}
 use Rattle.dist_app.specs.Run.{Decides, Refuses, Comes, IsCutShort, IsRunGivenUp, IsInterrupted, IsTold, Leaves, TellsFiles, Runs}
 use Rattle.dist_app.specs.Stages.{Ending, Excludes}
-use Rattle.dist_app.specs.Writes.{Writes}
+use Rattle.dist_app.specs.WritesPrivate.{Writes}
 use Rattle.dist_app.specs.declared.refusal.Refusal.{Refusal}
 use Rattle.dist_app.specs.declared.refusal.Refusal.TheVariants as refusal
 use Rattle.dist_app.specs.declared.status.Status.{Status}

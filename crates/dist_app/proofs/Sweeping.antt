@@ -23,7 +23,7 @@ use Rattle.dist_report.specs.StrongReport.{strong_lines}
 use Rattle.dist_words.specs.CommandLine.{Strong}
 use Rattle.dist_app.specs.Claims.{claims_status}
 use Rattle.dist_app.specs.Command.{CommandDecides}
-use Rattle.dist_app.specs.Due.{LeavesCut, Stops, SweepStops}
+use Rattle.dist_app.specs.DuePrivate.{LeavesCut, Stops, SweepStops}
 use Rattle.dist_app.specs.PackagesStage.{PackagesStage}
 use Rattle.dist_app.specs.Refusal.{refusal_of}
 use Rattle.dist_app.specs.Stages.{Ending, Goes, Ends, answered, refused}

@@ -11,7 +11,7 @@ use Rattle.dist_repo.specs.PackageList.{PackageList}
 use Rattle.dist_trial.specs.Trial.{IsTrial, OfArchive, TrialAnswers}
 use Rattle.dist_trial.specs.declared.trials.Trial.{Trial}
 use Rattle.dist_app.specs.Claims.{claims_status, marked_status}
-use Rattle.dist_app.specs.Due.{IsPartGivenUp}
+use Rattle.dist_app.specs.DuePrivate.{IsPartGivenUp}
 use Rattle.dist_app.specs.Refusal.{refusal_of}
 use Rattle.dist_app.specs.Stages.{Goes, answered}
 use Rattle.dist_app.specs.Strong.{ClausesStage}

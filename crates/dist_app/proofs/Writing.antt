@@ -1,7 +1,7 @@
 -- Texts that are written in pieces.
 use Rattle.std.proofs.Common.{◌≡◌, ℕ, zero, ◌≤◌, ◌<◌, suc, inl, inr, List, [], ◌∷◌, ◌++◌, length, take, drop, get_or, refl, ap, sym, ◌∙◌, append_assoc, subst}
 use Rattle.std.proofs.Common.{Bor, Result, Ok, Err, OnOk, OnErr, IfErr, arith}
-use Rattle.dist_app.specs.Writes.{Writes}
+use Rattle.dist_app.specs.WritesPrivate.{Writes}
 use Rattle.std.specs.List.{flat_map}
 use Rattle.std.proofs.lemmas.Bool.{cases_lt}
 use Rattle.dist_outside.specs.Counts.{Rose}

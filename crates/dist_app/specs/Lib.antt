@@ -1,4 +1,4 @@
-pub mod Carried
+pub mod CarriedPrivate
 pub mod CauseText
 pub mod Check
 pub mod Claims
@@ -6,7 +6,7 @@ pub mod Classes
 pub mod Try
 pub mod Command
 pub mod Complete
-pub mod Due
+pub mod DuePrivate
 pub mod FaultText
 pub mod Headline
 pub mod Health
@@ -18,4 +18,4 @@ pub mod Stages
 pub mod Status
 pub mod Strong
 pub mod TextStage
-pub mod Writes
+pub mod WritesPrivate

@@ -4,7 +4,7 @@ ghost use Rattle.dist_outside.specs.DeskView.{OnlyReads};
 ghost use Rattle.dist_outside.specs.Files.{IsNotWriting};
 ghost use Rattle.dist_repo.specs.Size.{IsWithinSize};
 ghost use Rattle.dist_app.specs.Check.{CertificateStage, CheckStages, Reports};
-ghost use Rattle.dist_app.specs.Due.{IsDue};
+ghost use Rattle.dist_app.specs.DuePrivate.{IsDue};
 ghost use Rattle.dist_app.specs.Run.{IsWithinStated};
 ghost use Rattle.dist_app.specs.Stages.{Then, answered};
 

@@ -4,7 +4,7 @@ ghost use Rattle.dist_outside.specs.Files.{IsNotWriting};
 ghost use Rattle.dist_outside.specs.DeskView.{OnlyReads};
 ghost use Rattle.dist_words.specs.Lines.{HasLimit, line_of};
 ghost use Rattle.dist_app.specs.Command.{CommandDecides, IsApart, OnlyReadsFiles};
-ghost use Rattle.dist_app.specs.Due.{LeavesDesk, Stops};
+ghost use Rattle.dist_app.specs.DuePrivate.{LeavesDesk, Stops};
 ghost use Rattle.dist_app.specs.Run.{IsWithinStated};
 ghost use Rattle.dist_app.specs.Stages.{answered};
 

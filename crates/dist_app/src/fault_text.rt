@@ -1,7 +1,7 @@
 //! The line that tells a fault of a Packages file.
 ghost use Rattle.std.specs.Prelude.{◌≡◌, ◌++◌};
 ghost use Rattle.dist_app.specs.FaultText.{version_text, field_text, relation_name, place_of, kind_name, carried_text};
-ghost use Rattle.dist_app.specs.Writes.{Writes};
+ghost use Rattle.dist_app.specs.WritesPrivate.{Writes};
 
 use crate::pieces::write_pieces;
 use dist_outside::{Sink, WorkError};

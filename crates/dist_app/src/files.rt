@@ -9,7 +9,7 @@ ghost use Rattle.dist_app.specs.Stages.{Goes, Ends};
 ghost use Rattle.dist_app.specs.TextStage.{TextStage};
 ghost use Rattle.dist_app.specs.PackagesStage.{PackagesStage};
 ghost use Rattle.dist_app.specs.RepositoryStage.{RepositoryStage};
-ghost use Rattle.dist_app.specs.Due.{IsDue, IsPartGivenUp};
+ghost use Rattle.dist_app.specs.DuePrivate.{IsDue, IsPartGivenUp};
 ghost use Rattle.dist_app.specs.Run.{IsWithinStated};
 
 use crate::refusal::{Refusal, refusal_of};

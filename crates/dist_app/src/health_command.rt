@@ -6,7 +6,7 @@ ghost use Rattle.dist_repo.specs.Size.{IsWithinSize};
 ghost use Rattle.dist_app.specs.Stages.{Ending, Goes, Ends, Then, answered};
 ghost use Rattle.dist_app.specs.TextStage.{TextStage};
 ghost use Rattle.dist_app.specs.Health.{HealthStages, Judges, ListStage, ListStages};
-ghost use Rattle.dist_app.specs.Due.{IsDue, IsPartGivenUp};
+ghost use Rattle.dist_app.specs.DuePrivate.{IsDue, IsPartGivenUp};
 ghost use Rattle.dist_app.specs.Run.{IsWithinStated};
 
 use crate::answer::Answer;

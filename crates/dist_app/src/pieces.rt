@@ -1,7 +1,7 @@
 //! Texts that are written in pieces, so that they take no memory.
 ghost use Rattle.std.specs.Prelude.{◌≡◌};
 ghost use Rattle.std.specs.List.{flat_map};
-ghost use Rattle.dist_app.specs.Writes.{Writes};
+ghost use Rattle.dist_app.specs.WritesPrivate.{Writes};
 
 use dist_outside::{Sink, WorkError, sink_grows, write_whole};
 

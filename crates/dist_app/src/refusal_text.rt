@@ -1,7 +1,7 @@
 //! The line on `err` of a run that was given up. It takes no memory.
 ghost use Rattle.std.specs.Prelude.{◌≡◌, ◌++◌, codes};
 ghost use Rattle.dist_app.specs.Refusal.{limit_text, reason_text, refusal_text};
-ghost use Rattle.dist_app.specs.Writes.{Writes};
+ghost use Rattle.dist_app.specs.WritesPrivate.{Writes};
 
 use crate::cause_text::cause_text;
 use crate::fault_text::write_kind;

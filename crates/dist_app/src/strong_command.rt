@@ -8,7 +8,7 @@ ghost use Rattle.dist_words.specs.CommandLine.{Strong};
 ghost use Rattle.dist_words.specs.Lines.{IsLimit};
 ghost use Rattle.dist_app.specs.Claims.{claims_status};
 ghost use Rattle.dist_app.specs.Command.{CommandDecides};
-ghost use Rattle.dist_app.specs.Due.{LeavesDesk, Stops, SweepStops};
+ghost use Rattle.dist_app.specs.DuePrivate.{LeavesDesk, Stops, SweepStops};
 ghost use Rattle.dist_app.specs.Run.{IsWithinStated};
 ghost use Rattle.dist_app.specs.Stages.{Goes, answered};
 ghost use Rattle.dist_app.specs.Strong.{ClausesStage, IsSwept};

@@ -4,7 +4,7 @@ ghost use Rattle.dist_outside.specs.Files.{IsNotWriting};
 ghost use Rattle.dist_app.specs.Complete.{IsComplete};
 ghost use Rattle.dist_app.specs.Headline.{CheckIsProved, StrongIsProved, UndecidedAreHard};
 ghost use Rattle.dist_app.specs.Run.{IsWithinStated, Leaves, Runs, stated_limits};
-ghost use Rattle.dist_app.specs.Carried.{IsAnswered, IsRefused, Prints};
+ghost use Rattle.dist_app.specs.CarriedPrivate.{IsAnswered, IsRefused, Prints};
 
 use crate::answer::Answer;
 use crate::command::run_command;

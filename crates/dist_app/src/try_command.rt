@@ -2,7 +2,7 @@
 ghost use Rattle.std.specs.Prelude.{IfErr, IfOk, Option};
 ghost use Rattle.dist_outside.specs.Files.{Files};
 ghost use Rattle.dist_words.specs.Lines.{IsSize};
-ghost use Rattle.dist_app.specs.Due.{IsPartGivenUp};
+ghost use Rattle.dist_app.specs.DuePrivate.{IsPartGivenUp};
 ghost use Rattle.dist_app.specs.Run.{IsWithinStated};
 ghost use Rattle.dist_app.specs.Stages.{answered};
 ghost use Rattle.dist_app.specs.Try.{Tries, TryStages};

@@ -1,4 +1,5 @@
 pub mod Answers
+pub mod Ascii
 pub mod Front
 pub mod Least
 pub mod ListLaws

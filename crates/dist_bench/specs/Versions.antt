@@ -31,12 +31,12 @@ version_line version = version ++ codes "\n"
 
 -- a fault of a version, as one of a job
 abbrev pub IsVersionFault : List ℕ → JobError → Type 0
-IsVersionFault line (NoVersion fault) = version.HasFault line fault
+IsVersionFault line (NoVersion fault) = version.IsTextFault line fault
 IsVersionFault line error = ⊥
 
 -- a line that is neither
 abbrev pub HasVersionFault : List ℕ → VersionError → Type 0
-HasVersionFault line fault = (line ≢ []) × version.HasFault line fault
+HasVersionFault line fault = (line ≢ []) × version.IsTextFault line fault
 
 -- the same, as why a job has no answer
 abbrev pub HasLineFault : List ℕ → JobError → Type 0

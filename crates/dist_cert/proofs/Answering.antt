@@ -15,8 +15,8 @@ use Rattle.dist_cert.specs.declared.records.Header.{Header}
 use Rattle.dist_cert.specs.Refusal.{IsOneLine, BeginsWith}
 use Rattle.dist_cert.specs.Reading.{ReaderView, in_front, text_left, WhereTold, KeepsLimits, HeaderAnswers, RecordAnswers}
 use Rattle.dist_cert.specs.Held.{Held}
-use Rattle.dist_cert.specs.LineReading.{unread, held_text, text_held, Ends, EndsAt, HasFeed, HasEnd, AtFileEnd}
-use Rattle.dist_cert.specs.LooseHeader.{IsReadAs, IsReadAsHeader}
+use Rattle.dist_cert.specs.LineReadingPrivate.{unread, held_text, text_held, Ends, EndsAt, HasFeed, HasEnd, AtFileEnd}
+use Rattle.dist_cert.specs.LooseHeaderPrivate.{IsReadAs, IsReadAsHeader}
 use Rattle.dist_cert.proofs.Filling.{told_weaker}
 use Rattle.dist_cert.proofs.LineEnds.{begins}
 

@@ -2,6 +2,7 @@
 use Rattle.std.proofs.Common.{◌≡◌, ◌≢◌, ◌⊎◌, ⊎_elim, inl, inr, ℕ, List, [], ◌∷◌, Option, Some, None, Result, Ok, Err, length, refl, ap, sym, subst, ◌∙◌, arith}
 use Rattle.std.proofs.Common.{length-append}
 use Rattle.std.proofs.lemmas.Bool.{false≢true}
+use Rattle.dist_base.specs.Ascii.{line_feed}
 use Rattle.dist_outside.specs.declared.trouble.What.TheVariants.{Certificate}
 use Rattle.dist_outside.specs.declared.trouble.WorkError.TheVariants.{TooLarge}
 use Rattle.dist_cert.specs.declared.faults.CertCause.{CertCause}
@@ -11,12 +12,12 @@ use Rattle.dist_cert.specs.declared.faults.ReadCertError.TheVariants.{Bad, Work}
 use Rattle.dist_cert.specs.declared.records.CertRecord.{CertRecord}
 use Rattle.dist_cert.specs.declared.records.Header.{Header}
 use Rattle.dist_cert.specs.Form.{HasForm, HasHeaderForm}
-use Rattle.dist_cert.specs.OneVerdict.{one_line}
-use Rattle.dist_cert.specs.Refusal.{line_feed, IsOneLine, BeginsWith}
+use Rattle.dist_cert.specs.OneVerdictLaws.{one_line}
+use Rattle.dist_cert.specs.Refusal.{IsOneLine, BeginsWith}
 use Rattle.dist_cert.specs.Reading.{ReaderView, PassesWhole, IsHeaderNext, HeaderFault, HeaderAnswers, IsRecordNext, IsAtEnd, RecordFault, RecordAnswers}
-use Rattle.dist_cert.specs.ReadBack.{IsGiven}
-use Rattle.dist_cert.specs.ByRecords.{whole_line}
-use Rattle.dist_cert.specs.ExactReader.{IsRefusedFor, IsTooLarge, ReaderIsExact}
+use Rattle.dist_cert.specs.ReadBackLaws.{IsGiven}
+use Rattle.dist_cert.specs.ByRecordsLaws.{whole_line}
+use Rattle.dist_cert.specs.ExactReaderLaws.{IsRefusedFor, IsTooLarge, ReaderIsExact}
 use Rattle.dist_cert.proofs.OneLine.{clear}
 
 -- a text that begins with a line and its line feed is more than one line

@@ -16,9 +16,9 @@ use Rattle.dist_cert.specs.GroupLaws.{opened}
 use Rattle.dist_cert.specs.ClaimRules.{yes, IsNamed, IsPairFor, IsPairBelow, HasNone, IsCovered, challenge_question, HoldsChallenged, OmitsPair}
 use Rattle.dist_cert.specs.Refusal.{certificate_text}
 use Rattle.dist_cert.specs.Accepted.{Accepted}
-use Rattle.dist_cert.specs.ByRecords.{AreSound, IsSound, IsSoundHeader, accepted_by_records}
-use Rattle.dist_cert.specs.ExampleChallenged.{one_class, moves, needs, stays, space, archive_of_libx, header, fourteen_lines, by_two_classes}
-use Rattle.dist_cert.specs.ExampleChallenged.{ChallengedIsAccepted}
+use Rattle.dist_cert.specs.ByRecordsLaws.{AreSound, IsSound, IsSoundHeader, accepted_by_records}
+use Rattle.dist_cert.specs.ChallengedExamples.{one_class, moves, needs, stays, space, archive_of_libx, header, fourteen_lines, by_two_classes}
+use Rattle.dist_cert.specs.ChallengedExamples.{ChallengedIsAccepted}
 use Rattle.dist_cert.proofs.ExampleTests.{makes_true, has, lacks, ends-false, is-model}
 use Rattle.dist_cert.proofs.ExampleLines.{keeps_installation, keeps_hints, from-one, question-line, refuted-line, installation-line, end-line}
 use Rattle.dist_cert.proofs.ExampleLines.{claims-challenged, sound, sound-more}

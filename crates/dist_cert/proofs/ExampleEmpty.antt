@@ -6,8 +6,8 @@ use Rattle.dist_cert.specs.declared.records.CertRecord.TheVariants.{End}
 use Rattle.dist_cert.specs.Form.{record_text, header_text}
 use Rattle.dist_cert.specs.Refusal.{certificate_text}
 use Rattle.dist_cert.specs.Accepted.{Accepted}
-use Rattle.dist_cert.specs.ByRecords.{IsSoundHeader, accepted_by_records}
-use Rattle.dist_cert.specs.ExampleEmpty.{nothing, empty_archive, header, two_lines, EmptyIsAccepted}
+use Rattle.dist_cert.specs.ByRecordsLaws.{IsSoundHeader, accepted_by_records}
+use Rattle.dist_cert.specs.EmptyExamples.{nothing, empty_archive, header, two_lines, EmptyIsAccepted}
 use Rattle.dist_cert.proofs.ExampleLines.{end-line}
 use Rattle.dist_cert.proofs.OneLine.{clear}
 

@@ -2,15 +2,16 @@
 use Rattle.std.proofs.Common.{◌≡◌, ℕ, List, [], ◌∷◌, ◌++◌, refl, subst, arith, lit<}
 use Rattle.std.specs.Fmt.{digits}
 use Rattle.std.proofs.lemmas.List.Elements.{All-nil}
+use Rattle.dist_base.specs.Ascii.{line_feed}
 use Rattle.dist_cert.specs.declared.faults.CertCause.TheVariants as causes
 use Rattle.dist_cert.specs.declared.records.CertRecord.TheVariants.{Question, Refuted, Installation, End}
 use Rattle.dist_cert.specs.Form.{IsSmall, record_text}
 use Rattle.dist_cert.specs.ClaimRules.{yes, no}
-use Rattle.dist_cert.specs.Refusal.{line_feed, lines_text, certificate_text, Refusal}
-use Rattle.dist_cert.specs.ByRecords.{refused_by_record}
-use Rattle.dist_cert.specs.ExampleTenLines.{two, archive_of_two, header}
+use Rattle.dist_cert.specs.Refusal.{lines_text, certificate_text, Refusal}
+use Rattle.dist_cert.specs.ByRecordsLaws.{refused_by_record}
+use Rattle.dist_cert.specs.TenLinesExamples.{two, archive_of_two, header}
 use Rattle.dist_cert.specs.LineExamples.{asking, asked, claim_on_a, on_b, claim_on_b}
-use Rattle.dist_cert.specs.ExampleRefused.{without_hint, without_claim, HintIsMissed, ClaimIsMissed}
+use Rattle.dist_cert.specs.RefusedExamples.{without_hint, without_claim, HintIsMissed, ClaimIsMissed}
 use Rattle.dist_cert.proofs.ExampleLines.{from-one, no-hints, ends-early}
 use Rattle.dist_cert.proofs.ExampleTenLines.{header-sound, asking-sound, on-b-sound}
 use Rattle.dist_cert.proofs.OneLine.{clear}

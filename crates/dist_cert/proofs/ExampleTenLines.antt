@@ -14,8 +14,8 @@ use Rattle.dist_cert.specs.Groups.{numbered, group, IsRefutedIn}
 use Rattle.dist_cert.specs.ClaimRules.{yes, no, IsNamed, HoldsStrong, OmitsPackage}
 use Rattle.dist_cert.specs.Refusal.{certificate_text}
 use Rattle.dist_cert.specs.Accepted.{Accepted}
-use Rattle.dist_cert.specs.ByRecords.{AreSound, IsSoundHeader, accepted_by_records}
-use Rattle.dist_cert.specs.ExampleTenLines.{two, archive_of_two, header, ten_lines, on_b_and_on_nothing, TenLinesAreAccepted}
+use Rattle.dist_cert.specs.ByRecordsLaws.{AreSound, IsSoundHeader, accepted_by_records}
+use Rattle.dist_cert.specs.TenLinesExamples.{two, archive_of_two, header, ten_lines, on_b_and_on_nothing, TenLinesAreAccepted}
 use Rattle.dist_cert.specs.LineExamples.{asking, asked, on_a, claim_on_a, on_b, claim_on_b, all_lines}
 use Rattle.dist_cert.proofs.ExampleTests.{pairs-by, has, lacks, ends-false}
 use Rattle.dist_cert.proofs.ExampleLines.{from-one, question-line, refuted-line, installation-line, end-line, claims-strong, sound, sound-more}

@@ -9,7 +9,7 @@ use Rattle.dist_outside.specs.Files.{Files, Mode, Idle, Reading, Writing, file_b
 use Rattle.dist_outside.specs.DeskView.{DeskView}
 use Rattle.dist_outside.specs.Reading.{moved, bytes_from, bytes_left, GivesNext, ReadsNext}
 use Rattle.dist_cert.specs.Reading.{WhereTold}
-use Rattle.dist_cert.specs.LineReading.{unread, Filled}
+use Rattle.dist_cert.specs.LineReadingPrivate.{unread, Filled}
 
 -- the rest of a piece, once more of it was taken
 pub skipped : (bytes : List ℕ) (start count end : ℕ) → start ≤ end → end ≤ length bytes → count ≤ length (slice_range bytes start end)

@@ -5,7 +5,7 @@ use Rattle.dist_cert.specs.declared.records.CertKind.TheVariants as kinds
 use Rattle.dist_cert.specs.declared.records.Header.{Header}
 use Rattle.dist_cert.specs.Form.{words_text, kind_text, mode_text, header_text, KeepsLimit, HasHeaderForm}
 use Rattle.dist_cert.specs.LooseWords.{loose_words}
-use Rattle.dist_cert.specs.LooseHeader.{kind_in, mode_in, before_numbers, header_with, loose_header}
+use Rattle.dist_cert.specs.LooseHeaderPrivate.{kind_in, mode_in, before_numbers, header_with, loose_header}
 use Rattle.dist_cert.proofs.OneForm.{header_words, header_words_small}
 use Rattle.dist_cert.proofs.LooseLemmas.{words_read}
 

@@ -3,8 +3,9 @@ use Rattle.std.proofs.Common.{◌≡◌, ◌≢◌, ℕ, zero, suc, ◌+◌, ◌
 use Rattle.std.proofs.Common.{subst, ◌∙◌, arith, length-append, append_assoc}
 use Rattle.std.proofs.lemmas.List.{take-append-le}
 use Rattle.std.proofs.lemmas.List.Elements.{All-tail, All-take}
+use Rattle.dist_base.specs.Ascii.{line_feed}
 use Rattle.dist_outside.specs.declared.limits.Limits.{Limits}
-use Rattle.dist_cert.specs.Refusal.{line_feed, IsOneLine, IsTooLong}
+use Rattle.dist_cert.specs.Refusal.{IsOneLine, IsTooLong}
 use Rattle.dist_cert.specs.Reading.{in_front, WhereTold, PassesWhole, KeepsLimits}
 use Rattle.dist_cert.specs.Held.{Held}
 use Rattle.dist_outside.specs.declared.trouble.What.TheVariants.{Certificate}
@@ -12,7 +13,7 @@ use Rattle.dist_outside.specs.declared.trouble.WorkError.{WorkError}
 use Rattle.dist_outside.specs.declared.trouble.WorkError.TheVariants.{TooLarge}
 use Rattle.dist_cert.specs.declared.lines.Reached.{Reached}
 use Rattle.dist_cert.specs.declared.lines.Reached.TheVariants.{Feed, File, Within}
-use Rattle.dist_cert.specs.LineReading.{held_text, KeepsText, IsReached, came, IsJudged, Ends, EndsOr}
+use Rattle.dist_cert.specs.LineReadingPrivate.{held_text, KeepsText, IsReached, came, IsJudged, Ends, EndsOr}
 
 -- ---- what is told
 

@@ -6,7 +6,7 @@ use Rattle.std.proofs.lemmas.Fmt.{decimal_by_steps, decimal_injective}
 use Rattle.dist_cert.specs.Form.{Word, word_text, signed_text, words_text, plain, plains, pair_words, separator, letter, words, AreFromOne, ArePairs}
 use Rattle.dist_cert.specs.Form.{KeepsRules, IsSmall, HasForm, kind_text, mode_text, HasHeaderForm}
 use Rattle.dist_cert.proofs.Parts.{HasNoSpace, IsBehind}
-use Rattle.dist_cert.specs.Decoded.{before, after, numbers, pairs, decoded}
+use Rattle.dist_cert.specs.DecodedPrivate.{before, after, numbers, pairs, decoded}
 use Rattle.dist_cert.specs.declared.records.CertKind.{CertKind}
 use Rattle.dist_cert.specs.declared.records.CertKind.TheVariants as kinds
 use Rattle.dist_cert.specs.declared.records.CertRecord.{CertRecord}

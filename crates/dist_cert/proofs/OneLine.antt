@@ -3,6 +3,7 @@ use Rattle.std.proofs.Common.{◌≡◌, ◌≢◌, ◌==◌, ℕ, Bool, true, f
 use Rattle.std.specs.List.{All, list_all}
 use Rattle.std.proofs.lemmas.Bool.{false≢true, and_parts}
 use Rattle.std.proofs.lemmas.List.Elements.{All-head, All-tail, All-cons, All-nil, All-append}
+use Rattle.dist_base.specs.Ascii.{line_feed}
 use Rattle.dist_cert.specs.declared.records.CertKind.{CertKind}
 use Rattle.dist_cert.specs.declared.records.CertKind.TheVariants as kinds
 use Rattle.dist_cert.specs.declared.records.CertRecord.{CertRecord}
@@ -11,8 +12,8 @@ use Rattle.dist_cert.specs.declared.records.CertRecord.TheVariants.{Outdated, Al
 use Rattle.dist_cert.specs.declared.records.Header.{Header}
 use Rattle.dist_cert.specs.Form.{Word, IsSmall, signed_text, word_text, words_text, plains, letter, words, record_text, HasForm, kind_text, mode_text}
 use Rattle.dist_cert.specs.Form.{header_text, HasHeaderForm}
-use Rattle.dist_cert.specs.Refusal.{line_feed, IsOneLine}
-use Rattle.dist_cert.specs.ClearForms.{FormsAreClear}
+use Rattle.dist_cert.specs.Refusal.{IsOneLine}
+use Rattle.dist_cert.specs.ClearFormsLaws.{FormsAreClear}
 use Rattle.dist_cert.proofs.OneForm.{Digits, digits_of_decimal, header_words_small, one_record, one_header}
 
 digits_line : (cs : List ℕ) → Digits cs → IsOneLine cs

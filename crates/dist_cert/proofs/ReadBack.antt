@@ -2,14 +2,15 @@
 use Rattle.std.proofs.Common.{◌≡◌, ℕ, suc, ◌+◌, ◌-◌, ◌<◌, ◌≤◌, true, false, List, [], ◌∷◌, ◌++◌, All, length, refl, ap, sym, subst, ◌∙◌, arith, append_assoc}
 use Rattle.std.proofs.Common.{length-append}
 use Rattle.std.proofs.lemmas.List.Elements.{All-head, All-tail, All-nil}
+use Rattle.dist_base.specs.Ascii.{line_feed}
 use Rattle.dist_outside.specs.declared.limits.Limits.{Limits}
 use Rattle.dist_cert.specs.declared.records.CertRecord.{CertRecord}
 use Rattle.dist_cert.specs.declared.records.CertRecord.TheVariants.{End}
 use Rattle.dist_cert.specs.declared.records.Header.{Header}
 use Rattle.dist_cert.specs.Form.{record_text, HasForm, IsSmall, is_end, header_text, HasHeaderForm}
-use Rattle.dist_cert.specs.Refusal.{line_feed, lines_text, certificate_text}
+use Rattle.dist_cert.specs.Refusal.{lines_text, certificate_text}
 use Rattle.dist_cert.specs.Reading.{ReaderView, KeepsLimits, IsHeaderNext, IsRecordNext, IsAtEnd, past_line}
-use Rattle.dist_cert.specs.ReadBack.{CanBeWritten, GivesRecords, GivesText}
+use Rattle.dist_cert.specs.ReadBackLaws.{CanBeWritten, GivesRecords, GivesText}
 use Rattle.dist_cert.proofs.ExactReader.{header_given, record_given, text_ends}
 use Rattle.dist_cert.proofs.LineEnds.{past}
 use Rattle.dist_cert.proofs.OneLine.{clear}

@@ -5,7 +5,7 @@ use Rattle.std.specs.Prelude.{if◌then◌else◌}
 use Rattle.std.proofs.lemmas.List.Elements.{All-head, All-tail, All-cons, All-nil, All-append}
 use Rattle.dist_cert.specs.declared.records.CertRecord.{CertRecord}
 use Rattle.dist_cert.specs.Form.{Word, plain, plains, pair_words, separator, letter, words, words_text, record_text, KeepsRules, IsSmall, HasForm}
-use Rattle.dist_cert.specs.Decoded.{before, after, numbers, pairs, first, rest, decoded}
+use Rattle.dist_cert.specs.DecodedPrivate.{before, after, numbers, pairs, first, rest, decoded}
 use Rattle.dist_cert.specs.LooseWords.{with_digit, with_byte, words_from, loose_words}
 use Rattle.dist_cert.proofs.OneForm.{heads, tails, not_empty, decoded_of}
 use Rattle.dist_cert.proofs.LooseLemmas.{words_read}

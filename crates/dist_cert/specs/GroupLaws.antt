@@ -12,7 +12,7 @@ use Rattle.dist_cert.specs.declared.records.CertRecord.TheVariants.{Question, De
 use Rattle.dist_cert.specs.Form.{Word}
 use Rattle.dist_cert.specs.Groups.{is_some_number, claimed, claim_count, is_claim, installed_in, installations, group}
 use Rattle.dist_cert.specs.Groups.{leaves_open, IsOpen, HasOpenQuestion, IsClosedBy}
-use Rattle.dist_cert.specs.SomeVerdict.{split_push}
+use Rattle.dist_cert.specs.SomeVerdictLaws.{split_push}
 
 -- what holds of each element holds of one that stands between others
 pub all-at : {X : Type 0} (P : X → Type 0) (xs front : List X) (b : X) (cs : List X) → xs ≡ front ++ b ∷ cs → All P xs

@@ -8,7 +8,7 @@ use Rattle.dist_cert.specs.Groups.{installations, claim_count, group, IsOpen}
 use Rattle.dist_cert.specs.ClaimRules.{yes, no}
 use Rattle.dist_cert.specs.LineRules.{IsOutOfRange, IsOutOfOrder, IsTooEarly}
 use Rattle.dist_cert.specs.Accepted.{claims_in}
-use Rattle.dist_cert.specs.ExampleTenLines.{two, header, on_b_and_on_nothing}
+use Rattle.dist_cert.specs.TenLinesExamples.{two, header, on_b_and_on_nothing}
 
 -- the lines before line 5, that line, and the claim on a
 abbrev pub asking : List CertRecord

@@ -2,7 +2,7 @@
 use Rattle.std.specs.Prelude.{◌≡◌, ℕ, ◌+◌, ◌-◌, ◌*◌, ◌%◌, ◌^◌, ◌≤◌, true, false, List, [], ◌∷◌, length, drop, nat_eq}
 use Rattle.std.specs.Prelude.{Option, Some, None, if◌then◌else◌}
 use Rattle.dist_cert.specs.Form.{Word}
-use Rattle.dist_cert.specs.Decoded.{before, after}
+use Rattle.dist_cert.specs.DecodedPrivate.{before, after}
 
 -- a number with one digit more, as it fits into 32 bits
 abbrev pub with_digit : ℕ → ℕ → ℕ

@@ -1,6 +1,7 @@
 -- Worked examples: what a reader answers to the last line of a text, behind it, and where a limit is passed.
 use Rattle.std.proofs.Common.{◌≡◌, ℕ, true, false, List, [], ◌∷◌, Some, None, Ok, Err, refl, arith, lit<, lit≤}
 use Rattle.std.proofs.lemmas.List.Elements.{All-nil, All-cons}
+use Rattle.dist_base.specs.Ascii.{line_feed}
 use Rattle.dist_outside.specs.declared.limits.Limits.{Limits}
 use Rattle.dist_outside.specs.declared.trouble.What.TheVariants.{Certificate}
 use Rattle.dist_outside.specs.declared.trouble.WorkError.TheVariants.{TooLarge}
@@ -8,7 +9,7 @@ use Rattle.dist_cert.specs.declared.faults.CertCause.TheVariants as causes
 use Rattle.dist_cert.specs.declared.faults.ReadCertError.TheVariants.{Bad, Work}
 use Rattle.dist_cert.specs.declared.records.CertRecord.TheVariants.{End}
 use Rattle.dist_cert.specs.Form.{IsSmall, record_text}
-use Rattle.dist_cert.specs.Refusal.{line_feed, IsOneLine}
+use Rattle.dist_cert.specs.Refusal.{IsOneLine}
 use Rattle.dist_cert.specs.Reading.{ReaderView, RecordAnswers, past_line}
 
 -- 100 bytes of a whole and `line` of a line; these are given before

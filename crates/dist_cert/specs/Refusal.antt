@@ -1,6 +1,7 @@
 -- The faults of a text, line by line, and the first of them.
 use Rattle.std.specs.Prelude.{◌≡◌, ◌≢◌, ◌⊎◌, ℕ, ◌+◌, ◌≤◌, List, [], ◌∷◌, ◌++◌, All, Contains, length, take}
 use Rattle.std.specs.List.{flat_map}
+use Rattle.dist_base.specs.Ascii.{line_feed}
 use Rattle.dist_outside.specs.declared.limits.Limits.{Limits}
 use Rattle.dist_cert.specs.declared.faults.CertCause.{CertCause}
 use Rattle.dist_cert.specs.declared.faults.CertCause.TheVariants as causes
@@ -13,9 +14,6 @@ use Rattle.dist_cert.specs.Subject.{Matter, Subject}
 use Rattle.dist_cert.specs.LineRules.{HasRecordFault}
 
 -- ---- lines of a text
-
-abbrev pub line_feed : ℕ
-line_feed = 10
 
 -- no line feed stands in the bytes
 abbrev pub IsOneLine : List ℕ → Type 0

@@ -1,6 +1,6 @@
 //! The record that a letter and words are of, if they are of any. Whether they are is tested afterwards.
 ghost use Rattle.std.specs.Prelude.{◌≡◌, IfOk};
-ghost use Rattle.dist_cert.specs.Decoded as of;
+ghost use Rattle.dist_cert.specs.DecodedPrivate as of;
 
 use crate::loose_words::Words;
 use crate::records::CertRecord;

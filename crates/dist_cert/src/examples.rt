@@ -1,8 +1,8 @@
 //! Worked examples: whole texts that are accepted, and two that are refused.
-ghost use Rattle.dist_cert.specs.ExampleChallenged.{ChallengedIsAccepted};
-ghost use Rattle.dist_cert.specs.ExampleEmpty.{EmptyIsAccepted};
-ghost use Rattle.dist_cert.specs.ExampleRefused.{ClaimIsMissed, HintIsMissed};
-ghost use Rattle.dist_cert.specs.ExampleTenLines.{TenLinesAreAccepted};
+ghost use Rattle.dist_cert.specs.ChallengedExamples.{ChallengedIsAccepted};
+ghost use Rattle.dist_cert.specs.EmptyExamples.{EmptyIsAccepted};
+ghost use Rattle.dist_cert.specs.RefusedExamples.{ClaimIsMissed, HintIsMissed};
+ghost use Rattle.dist_cert.specs.TenLinesExamples.{TenLinesAreAccepted};
 
 /// A law: these three certificates are accepted as a whole, each over the archive that its file states. One is of kind strong
 /// and has ten lines, one is that of the empty archive, and one is of kind challenged.

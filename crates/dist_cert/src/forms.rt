@@ -2,7 +2,7 @@
 //! made and compared with the line, so that no rule of spelling is tested twice.
 ghost use Rattle.std.specs.Prelude.{◌≡◌, ◌↔◌, IsTrue, IfOk};
 ghost use Rattle.dist_cert.specs.Form.{record_text, KeepsRules, header_text, KeepsLimit};
-ghost use Rattle.dist_cert.specs.LooseHeader.{kind_in, mode_in, header_with, loose_header, IsReadAs, IsReadAsHeader};
+ghost use Rattle.dist_cert.specs.LooseHeaderPrivate.{kind_in, mode_in, header_with, loose_header, IsReadAs, IsReadAsHeader};
 
 use crate::decoding::decode;
 use crate::line_text::{add_header_text, add_record_text, kind_word, mode_word};

@@ -3,8 +3,8 @@ ghost use Rattle.std.specs.Prelude.{◌≡◌, ℕ, List, [], ◌∷◌, ◌++�
 ghost use Rattle.dist_outside.specs.declared.limits.Limits.{Limits};
 ghost use Rattle.dist_cert.specs.Form.{HasForm, HasHeaderForm};
 ghost use Rattle.dist_cert.specs.Refusal.{certificate_text};
-ghost use Rattle.dist_cert.specs.ReadBack.{CanBeWritten, GivesText};
-ghost use Rattle.dist_cert.specs.ExactReader.{ReaderIsExact};
+ghost use Rattle.dist_cert.specs.ReadBackLaws.{CanBeWritten, GivesText};
+ghost use Rattle.dist_cert.specs.ExactReaderLaws.{ReaderIsExact};
 ghost use Rattle.dist_cert.specs.declared.records.CertRecord.{CertRecord};
 ghost use Rattle.dist_cert.specs.declared.records.CertRecord.TheVariants.{End};
 ghost use Rattle.dist_cert.specs.declared.records.Header.{Header};

@@ -1,12 +1,13 @@
 //! The line of a file that is being read, and what came behind it.
 ghost use Rattle.std.specs.Prelude.{◌≡◌, ◌≢◌, ◌+◌, ◌^◌, ◌<◌, ◌≤◌, [], ◌∷◌, true, false, ℕ, List, length, drop, IfOk, IfErr, OnOk, OnErr};
+ghost use Rattle.dist_base.specs.Ascii.{line_feed};
 ghost use Rattle.dist_outside.specs.Files.{IsReading};
 ghost use Rattle.dist_outside.specs.DeskView.{OnlyReads};
 ghost use Rattle.dist_outside.specs.Reading.{ReadCause};
-ghost use Rattle.dist_cert.specs.Refusal.{line_feed, IsOneLine};
+ghost use Rattle.dist_cert.specs.Refusal.{IsOneLine};
 ghost use Rattle.dist_cert.specs.Reading.{WhereTold};
 ghost use Rattle.dist_cert.specs.Held.{Held};
-ghost use Rattle.dist_cert.specs.LineReading.{held_text, text_held, IsReached, KeepsText, Ends, EndsAt, EndsOr, HasEnd, HasEndOr, LineCause, IsJudged};
+ghost use Rattle.dist_cert.specs.LineReadingPrivate.{held_text, text_held, IsReached, KeepsText, Ends, EndsAt, EndsOr, HasEnd, HasEndOr, LineCause, IsJudged};
 
 use crate::pieces::Piece;
 use dist_outside::{Desk, Limits, What, WorkError};

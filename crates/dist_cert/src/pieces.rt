@@ -4,7 +4,7 @@ ghost use Rattle.dist_outside.specs.Files.{IsReading};
 ghost use Rattle.dist_outside.specs.DeskView.{OnlyReads};
 ghost use Rattle.dist_outside.specs.Reading.{ReadCause};
 ghost use Rattle.dist_cert.specs.Reading.{WhereTold};
-ghost use Rattle.dist_cert.specs.LineReading.{unread, Filled};
+ghost use Rattle.dist_cert.specs.LineReadingPrivate.{unread, Filled};
 
 use dist_outside::{Desk, PIECE, Trouble, WorkError};
 use std::alloc::Global;

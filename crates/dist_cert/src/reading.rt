@@ -2,7 +2,7 @@
 ghost use Rattle.std.specs.Prelude.{◌≡◌, ◌+◌, ◌-◌, ◌^◌, ◌<◌, ◌≤◌, [], false, length};
 ghost use Rattle.dist_outside.specs.Files.{IsReading};
 ghost use Rattle.dist_outside.specs.DeskView.{OnlyReads};
-ghost use Rattle.dist_cert.specs.LineReading.{AtFileEnd};
+ghost use Rattle.dist_cert.specs.LineReadingPrivate.{AtFileEnd};
 ghost use Rattle.dist_cert.specs.Reading.{text_left, WhereTold, HeaderAnswers, HeaderCause, GivesHeader, RecordAnswers, RecordCause, GivesRecord};
 
 use crate::faults::{CertCause, CertFault, ReadCertError};

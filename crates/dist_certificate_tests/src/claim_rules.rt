@@ -3,7 +3,7 @@ ghost use Rattle.std.specs.Prelude.{◌+◌, ◌<◌, ◌≤◌, OnOk};
 
 use dist_cert::CertCause::{Incomplete, WrongClaim};
 use dist_cert::{CertCause, Items};
-use dist_group::{Group, Window, is_rising, judge_rules};
+use dist_check_group::{Group, Window, is_rising, judge_rules};
 use std::alloc::{AllocError, Global};
 use std::test::Fail;
 

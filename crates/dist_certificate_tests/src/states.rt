@@ -1,8 +1,8 @@
 //! Lines, one after another.
 use dist_cert::CertRecord;
+use dist_check_state::{State, Tools, take_line};
 use dist_clause::ClauseSet;
 use dist_derive::Log;
-use dist_state::{State, Tools, take_line};
 use std::test::Fail;
 
 #[test]

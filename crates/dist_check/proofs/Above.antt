@@ -5,7 +5,7 @@ use Rattle.std.proofs.lemmas.Bool.{ltb-true, ltb-false, or_cases, or_parts, fals
 use Rattle.std.proofs.lemmas.List.Elements.{All-nil, All-cons}
 use Rattle.dist_base.specs.ListLaws.{any-head, any-later}
 use Rattle.dist_cert.specs.Form.{Word}
-use Rattle.dist_state.specs.State.{names_above, is_above}
+use Rattle.dist_check_state.specs.State.{names_above, is_above}
 
 pub none-above : (last : ℕ) (numbers : List ℕ) → is_above last numbers ≡ false → All (λ number. number ≤ last) numbers
 none-above last [] none = All-nil (λ number. number ≤ last)

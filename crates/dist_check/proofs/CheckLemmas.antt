@@ -6,6 +6,7 @@ use Rattle.std.proofs.lemmas.Bool.{false≢true, or_cases, or_left, or_right, or
 use Rattle.std.proofs.lemmas.Grind.{flat_map-append}
 use Rattle.std.proofs.lemmas.List.{append-nil, take-append-le}
 use Rattle.std.proofs.lemmas.List.Elements.{All-nil, All-push, All-take}
+use Rattle.dist_base.specs.Ascii.{line_feed}
 use Rattle.dist_outside.specs.declared.limits.Limits.{Limits}
 use Rattle.dist_clause.specs.Formula.{Literal}
 use Rattle.dist_repo.specs.Order.{IsInOrder}
@@ -18,23 +19,23 @@ use Rattle.dist_cert.specs.declared.records.CertKind.TheVariants as kinds
 use Rattle.dist_cert.specs.declared.records.CertRecord.{CertRecord}
 use Rattle.dist_cert.specs.declared.records.CertRecord.TheVariants.{Derived, End}
 use Rattle.dist_cert.specs.declared.records.Header.{Header}
-use Rattle.dist_cert.specs.ByRecords.{whole_line, line_to_record, record_to_line, map_first}
-use Rattle.dist_cert.specs.ClearForms.{FormsAreClear}
+use Rattle.dist_cert.specs.ByRecordsLaws.{whole_line, line_to_record, record_to_line, map_first}
+use Rattle.dist_cert.specs.ClearFormsLaws.{FormsAreClear}
 use Rattle.dist_cert.specs.Form.{Word, record_text, HasForm, is_end, header_text, HasHeaderForm}
 use Rattle.dist_cert.specs.Groups.{clause_of, derived}
 use Rattle.dist_cert.specs.LineRules.{HasRecordFault}
-use Rattle.dist_cert.specs.OneVerdict.{one_line}
+use Rattle.dist_cert.specs.OneVerdictLaws.{one_line}
 use Rattle.dist_cert.specs.Reading.{ReaderView, PassesWhole, KeepsLimits, HeaderFault, RecordFault}
-use Rattle.dist_cert.specs.Refusal.{line_feed, IsOneLine, BeginsWith, lines_text, certificate_text, Fits, IsTooLong, HasFirstFault, HasLineFault, in_order}
+use Rattle.dist_cert.specs.Refusal.{IsOneLine, BeginsWith, lines_text, certificate_text, Fits, IsTooLong, HasFirstFault, HasLineFault, in_order}
 use Rattle.dist_cert.specs.Refusal.{IsFirstOf, AreFaultless}
-use Rattle.dist_cert.specs.SomeVerdict.{split_push, grown}
+use Rattle.dist_cert.specs.SomeVerdictLaws.{split_push, grown}
 use Rattle.dist_check.specs.Checking.{IsReached, HasInputsWithin, StopsFirst, StopsLater, StopsAtDerived, HasLargeInputs}
 use Rattle.dist_subject.specs.Present.{AreInputs, matter_of, subject_of}
 use Rattle.dist_check.specs.Limited.{AreInputsWithin}
 use Rattle.dist_check.specs.Start.{IsUnfit}
-use Rattle.dist_cert.specs.ListFacts.{contains-cases, contains-later}
+use Rattle.dist_cert.specs.ListLaws.{contains-cases, contains-later}
 use Rattle.dist_check.proofs.Profile.{IsFaultless, HasFirst}
-use Rattle.dist_check.specs.Checked.{AreRight, HaveForms}
+use Rattle.dist_check.specs.CheckedPrivate.{AreRight, HaveForms}
 
 -- ---- inputs
 

@@ -17,7 +17,7 @@ use Rattle.dist_cert.specs.declared.records.CertRecord.{CertRecord}
 use Rattle.dist_cert.specs.declared.records.CertRecord.TheVariants as lines
 use Rattle.dist_cert.specs.declared.records.Claim.{Claim}
 use Rattle.dist_cert.specs.declared.records.Header.{Header}
-use Rattle.dist_cert.specs.ClearForms.{FormsAreClear}
+use Rattle.dist_cert.specs.ClearFormsLaws.{FormsAreClear}
 use Rattle.dist_cert.specs.Groups.{derived, installations}
 use Rattle.dist_cert.specs.Reading.{ReaderView, WhereTold, PassesWhole, RecordAnswers, RecordCause}
 use Rattle.dist_cert.specs.Refusal.{IsTooLong, certificate_text, AreFaultless}
@@ -25,9 +25,9 @@ use Rattle.dist_check.specs.Checking.{IsReached, TextAnswers, OfText}
 use Rattle.dist_subject.specs.Completed.{KeepsNumbers, IsCompleted}
 use Rattle.dist_check.specs.Means.{Means}
 use Rattle.dist_subject.specs.Present.{subject_of}
-use Rattle.dist_state.specs.State.{StateView}
+use Rattle.dist_check_state.specs.State.{StateView}
 use Rattle.dist_check.proofs.CheckLemmas.{ended-from, record-refused, end-none}
-use Rattle.dist_check.specs.Checked.{TextAt, IsChecked}
+use Rattle.dist_check.specs.CheckedPrivate.{TextAt, IsChecked}
 use Rattle.dist_check.proofs.LineLemmas.{WhatFollows, sound-rule}
 use Rattle.dist_check.proofs.Whole.{ModelsAreInstallations, records-mean}
 

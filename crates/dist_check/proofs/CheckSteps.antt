@@ -22,7 +22,7 @@ use Rattle.dist_cert.specs.declared.records.CertRecord.{CertRecord}
 use Rattle.dist_cert.specs.declared.records.CertRecord.TheVariants as lines
 use Rattle.dist_cert.specs.declared.records.Claim.{Claim}
 use Rattle.dist_cert.specs.declared.records.Header.{Header}
-use Rattle.dist_cert.specs.ClearForms.{FormsAreClear}
+use Rattle.dist_cert.specs.ClearFormsLaws.{FormsAreClear}
 use Rattle.dist_cert.specs.Form.{Word, record_text, HasForm, header_text}
 use Rattle.dist_cert.specs.Groups.{clause_of, derived}
 use Rattle.dist_cert.specs.Reading.{ReaderView, WhereTold, PassesWhole, KeepsLimits, IsHeaderNext, IsRecordNext, HeaderAnswers, HeaderCause, GivesHeader}
@@ -30,13 +30,13 @@ use Rattle.dist_cert.specs.Reading.{RecordAnswers, RecordCause, GivesRecord}
 use Rattle.dist_cert.specs.Refusal.{Fits, AreFaultless}
 use Rattle.dist_check.specs.Checking.{StopsAtDerived, StopsFirst, TextAnswers, TextCause, OfText}
 use Rattle.dist_subject.specs.Present.{matter_of, subject_of}
-use Rattle.dist_state.specs.Since.{IsAppendCause}
+use Rattle.dist_check_state.specs.Since.{IsAppendCause}
 use Rattle.dist_check.specs.Start.{IsStart, StartAnswers}
-use Rattle.dist_state.specs.State.{StateView, Tells, Becomes, StopsAt, LineStops, TakesLine}
+use Rattle.dist_check_state.specs.State.{StateView, Tells, Becomes, StopsAt, LineStops, TakesLine}
 use Rattle.dist_check.proofs.CheckLemmas.{ThereAreClauses, ClausesAreOne, inputs_by, are-inputs, header-refused, header-unfit, large-inputs, starts-faultless}
 use Rattle.dist_check.proofs.CheckLemmas.{from-ended, ended-push, IsLineNext, step-refused, step-reached, stops-derived, right-push, right-none, forms-push}
 use Rattle.dist_check.proofs.CheckLemmas.{text-push}
-use Rattle.dist_check.specs.Checked.{TextAt, IsChecked}
+use Rattle.dist_check.specs.CheckedPrivate.{TextAt, IsChecked}
 use Rattle.dist_check.proofs.CheckState.{lines-are, numbers-of}
 use Rattle.dist_check.proofs.Next.{told-verdict, becomes-at, starts-at}
 use Rattle.dist_check.proofs.Profile.{IsFaultless}

@@ -30,7 +30,7 @@ use Rattle.dist_subject.specs.Claims.{NamesOthers}
 use Rattle.dist_check.specs.Means.{Says}
 use Rattle.dist_check.proofs.Told.{IsTold, stable, most-told, less-told, bool-told, number-told}
 use Rattle.dist_check.proofs.Places.{contains-map, image-of}
-use Rattle.dist_check.specs.Checked.{AreRight, HaveForms}
+use Rattle.dist_check.specs.CheckedPrivate.{AreRight, HaveForms}
 use Rattle.dist_check.proofs.LineLemmas.{IsSoundRule, refuted-true}
 use Rattle.dist_check.proofs.GroupLemmas.{group-behind, installation-healthy, recent-there}
 use Rattle.dist_check.proofs.MemberLemmas.{member-from, member-at, package-there, variable-there, packages-told}

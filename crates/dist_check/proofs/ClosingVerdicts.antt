@@ -19,9 +19,9 @@ use Rattle.dist_cert.specs.Groups.{clause_of, derived, derived_in, claim_count, 
 use Rattle.dist_cert.specs.ClaimRules.{yes, HoldsClaim}
 use Rattle.dist_cert.specs.LineRules.{HasRecordFault}
 use Rattle.dist_subject.specs.Present.{matter_of}
-use Rattle.dist_state.specs.Since.{AreNewFrom}
-use Rattle.dist_state.specs.State.{QuestionView, StateView, is_next, TellsUndecided, TellsClaim, TellsEnd}
-use Rattle.dist_check.specs.At.{IsQuestionOf, IsAt}
+use Rattle.dist_check_state.specs.Since.{AreNewFrom}
+use Rattle.dist_check_state.specs.State.{QuestionView, StateView, is_next, TellsUndecided, TellsClaim, TellsEnd}
+use Rattle.dist_check.specs.AtPrivate.{IsQuestionOf, IsAt}
 use Rattle.dist_check.proofs.Profile.{rank, may_have, faultless-from, first-from}
 use Rattle.dist_cert.specs.GroupLaws.{one-open}
 use Rattle.dist_check.proofs.Verdicts.{IsVerdict, each-new, new-from-each}

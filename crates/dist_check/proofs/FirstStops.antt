@@ -1,6 +1,7 @@
 -- Where the check of a text stops in its first line.
 use Rattle.std.proofs.Common.{◌≡◌, ℕ, ◌+◌, ◌<◌, Bool, List, [], ◌∷◌, ◌++◌, Ok, Err, length, refl, ap, sym, subst, ◌∙◌, append_assoc, arith, length-append}
 use Rattle.std.proofs.lemmas.List.Sums.{sum_by-append, sum_by-cons}
+use Rattle.dist_base.specs.Ascii.{line_feed}
 use Rattle.dist_outside.specs.declared.limits.Limits.{Limits}
 use Rattle.dist_outside.specs.declared.trouble.What.TheVariants.{Bytes, Stanzas, Variables, Clauses, Literals, Lines, LineLiterals, Certificate, RecordLine}
 use Rattle.dist_outside.specs.declared.trouble.WorkError.TheVariants.{ReadFault, WriteFault, TooLarge, NoMemory}
@@ -15,12 +16,12 @@ use Rattle.dist_cert.specs.declared.faults.CertCause.TheVariants as causes
 use Rattle.dist_cert.specs.declared.faults.CertFault.{CertFault}
 use Rattle.dist_cert.specs.declared.records.CertRecord.{CertRecord}
 use Rattle.dist_cert.specs.declared.records.Header.{Header}
-use Rattle.dist_cert.specs.ByRecords.{whole_line}
-use Rattle.dist_cert.specs.ClearForms.{FormsAreClear}
+use Rattle.dist_cert.specs.ByRecordsLaws.{whole_line}
+use Rattle.dist_cert.specs.ClearFormsLaws.{FormsAreClear}
 use Rattle.dist_cert.specs.Form.{header_text, HasHeaderForm}
-use Rattle.dist_cert.specs.OneVerdict.{has_first, one_first, one_line}
+use Rattle.dist_cert.specs.OneVerdictLaws.{has_first, one_first, one_line}
 use Rattle.dist_cert.specs.Reading.{PassesWhole}
-use Rattle.dist_cert.specs.Refusal.{line_feed, IsOneLine, BeginsWith, lines_text, HasFirstFault, in_order, IsFirstOf}
+use Rattle.dist_cert.specs.Refusal.{IsOneLine, BeginsWith, lines_text, HasFirstFault, in_order, IsFirstOf}
 use Rattle.dist_check.specs.Checking.{HasInputsWithin, HasLargeInputs}
 use Rattle.dist_check.specs.Limited.{AreInputsWithin}
 use Rattle.dist_check.specs.declared.verdict.Verdict.TheVariants.{Accepted, Refused}

@@ -8,8 +8,8 @@ use Rattle.dist_cert.specs.declared.records.CertRecord.TheVariants.{Installation
 use Rattle.dist_cert.specs.declared.records.Header.{Header}
 use Rattle.dist_cert.specs.Subject.{Matter}
 use Rattle.dist_cert.specs.Groups.{is_claim, group, installations, installation_at, IsRecent}
-use Rattle.dist_cert.specs.ListFacts.{contains-cases}
-use Rattle.dist_check.specs.Checked.{AreRight}
+use Rattle.dist_cert.specs.ListLaws.{contains-cases}
+use Rattle.dist_check.specs.CheckedPrivate.{AreRight}
 
 -- the lines before a group
 pub record IsBehind (lines behind : List CertRecord) : Type 0 where

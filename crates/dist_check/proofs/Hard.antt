@@ -12,7 +12,7 @@ use Rattle.dist_cert.specs.Subject.{Matter}
 use Rattle.dist_cert.specs.Groups.{clause_of, derived, numbered, IsUndecidedIn}
 use Rattle.dist_check.proofs.Told.{stable, most-told}
 use Rattle.dist_check.proofs.TriedMarks.{tried}
-use Rattle.dist_check.specs.Checked.{AreRight}
+use Rattle.dist_check.specs.CheckedPrivate.{AreRight}
 
 -- the law of dist_derive
 abbrev pub NewLinesAreFew : Type 0

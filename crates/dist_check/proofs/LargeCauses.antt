@@ -14,7 +14,7 @@ use Rattle.dist_cert.specs.declared.records.Header.{Header}
 use Rattle.dist_cert.specs.Reading.{ReaderView, HeaderCause, RecordCause}
 use Rattle.dist_check.specs.Checking.{LargeCause}
 use Rattle.dist_check.specs.Start.{StartAnswers}
-use Rattle.dist_state.specs.State.{StateView, LineStops}
+use Rattle.dist_check_state.specs.State.{StateView, LineStops}
 
 pub header-large : (r : PackageList) (limits : Limits) (old new : ReaderView) (before after : DeskView) (error : ReadCertError)
     → HeaderCause old new before after (Err error) → LargeCause r limits error

@@ -13,7 +13,7 @@ use Rattle.dist_cert.specs.Form.{Word}
 use Rattle.dist_cert.specs.Subject.{Matter}
 use Rattle.dist_cert.specs.Groups.{clause_of, derived_in, derived, numbered, IsOpen, IsRefutedIn}
 use Rattle.dist_check.proofs.Told.{stable, clause-told}
-use Rattle.dist_check.specs.Checked.{AreRight}
+use Rattle.dist_check.specs.CheckedPrivate.{AreRight}
 
 -- what follows is true in each model of the clauses
 abbrev pub IsSoundRule : Type 0

@@ -20,7 +20,7 @@ use Rattle.dist_now.specs.PresentLaws.{AreModelsInstallations, AreSamePackages}
 use Rattle.dist_subject.specs.TruthLaws.{truth-at, truth-length}
 use Rattle.dist_subject.specs.Present.{truth_of, packages_of}
 use Rattle.dist_check.proofs.Told.{model-told, IsTold}
-use Rattle.dist_cert.specs.ListFacts.{any-from, both-flags, contains-cases, contains-later, from-any}
+use Rattle.dist_cert.specs.ListLaws.{any-from, both-flags, contains-cases, contains-later, from-any}
 use Rattle.dist_cert.specs.Rising.{is_among}
 
 -- ---- truth values

@@ -16,15 +16,15 @@ use Rattle.dist_cert.specs.Form.{KeepsRules}
 use Rattle.dist_cert.specs.Groups.{clause_of, derived, derived_in, installed_in, installations, is_claim, claimed, claim_count, group, leaves_open}
 use Rattle.dist_cert.specs.Accepted.{claim_in, claims_in}
 use Rattle.dist_subject.specs.Present.{matter_of}
-use Rattle.dist_group.specs.Window.{WindowView, latest}
-use Rattle.dist_group.specs.Closed.{Closes}
-use Rattle.dist_group.specs.Group.{GroupView}
-use Rattle.dist_state.specs.State.{QuestionView, StateView, Tells, Becomes, empty_group, after_claim, TellsRefuted, TellsUndecided}
-use Rattle.dist_check.specs.At.{IsQuestionOf, IsGroupOf, IsAt}
+use Rattle.dist_check_group.specs.Window.{WindowView, latest}
+use Rattle.dist_check_group.specs.Closed.{Closes}
+use Rattle.dist_check_group.specs.Group.{GroupView}
+use Rattle.dist_check_state.specs.State.{QuestionView, StateView, Tells, Becomes, empty_group, after_claim, TellsRefuted, TellsUndecided}
+use Rattle.dist_check.specs.AtPrivate.{IsQuestionOf, IsGroupOf, IsAt}
 use Rattle.dist_check.proofs.ClosingVerdicts.{undecided-verdict, end-verdict, installable-verdict, unknown-verdict, outdated-verdict, alive-verdict}
 use Rattle.dist_check.proofs.ClosingVerdicts.{challenged-verdict}
 use Rattle.dist_cert.specs.GroupLaws.{IsOpening, opened, none-open, none-first}
-use Rattle.dist_check.specs.Checked.{AreInputsOf, AreRight, HaveForms}
+use Rattle.dist_check.specs.CheckedPrivate.{AreInputsOf, AreRight, HaveForms}
 use Rattle.dist_check.proofs.Steps.{derived-push, derived-same, installed-push, installed-same, latest-push, question-stays, group-first, group-same}
 use Rattle.dist_check.proofs.Steps.{group-installed, group-refuted, group-undecided, group-after_claim}
 use Rattle.dist_check.proofs.StrongVerdicts.{strong-verdict}

@@ -8,8 +8,8 @@ use Rattle.dist_cert.specs.declared.faults.CertFault.{CertFault}
 use Rattle.dist_cert.specs.declared.records.Claim.{Claim}
 use Rattle.dist_cert.specs.declared.records.Header.{Header}
 use Rattle.dist_cert.specs.Accepted.{Accepted}
-use Rattle.dist_cert.specs.ClearForms.{FormsAreClear}
-use Rattle.dist_cert.specs.OneVerdict.{one_refusal, never_both, one_acceptance}
+use Rattle.dist_cert.specs.ClearFormsLaws.{FormsAreClear}
+use Rattle.dist_cert.specs.OneVerdictLaws.{one_refusal, never_both, one_acceptance}
 use Rattle.dist_cert.specs.Refusal.{Refusal}
 use Rattle.dist_check.specs.declared.verdict.Verdict.{Verdict}
 use Rattle.dist_check.specs.declared.verdict.Verdict.TheVariants as verdicts

@@ -2,7 +2,7 @@
 use Rattle.std.proofs.Common.{◌≡◌, inl, inr, ℕ, zero, suc, ◌<◌, List, [], ◌∷◌, ◌++◌, length, get_or, map, refl, ap, ◌∙◌, arith, length-append}
 use Rattle.std.specs.List.{Contains}
 use Rattle.std.proofs.lemmas.List.{get_or_at, get_or-map, length-map}
-use Rattle.dist_cert.specs.ListFacts.{contains-cases, contains-later}
+use Rattle.dist_cert.specs.ListLaws.{contains-cases, contains-later}
 
 -- the list is cut before an element
 pub record IsCutAt {X : Type 0} (xs : List X) (x : X) : Type 0 where

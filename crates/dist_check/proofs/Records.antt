@@ -1,6 +1,7 @@
 -- The lines of an accepted text have no fault as records, its header fits, and it has an end.
 use Rattle.std.proofs.Common.{◌≡◌, inl, inr, ℕ, List, [], ◌∷◌, ◌++◌, ◌<◌, refl, sym, subst, ◌∙◌, append_assoc, arith}
 use Rattle.std.specs.List.{Contains}
+use Rattle.dist_base.specs.Ascii.{line_feed}
 use Rattle.dist_outside.specs.declared.limits.Limits.{Limits}
 use Rattle.dist_cert.specs.declared.faults.CertCause.{CertCause}
 use Rattle.dist_cert.specs.declared.faults.CertCause.TheVariants as causes
@@ -12,12 +13,12 @@ use Rattle.dist_cert.specs.declared.records.Header.{Header}
 use Rattle.dist_cert.specs.Form.{record_text, HasForm, header_text}
 use Rattle.dist_cert.specs.Subject.{Subject}
 use Rattle.dist_cert.specs.LineRules.{HasRecordFault}
-use Rattle.dist_cert.specs.Refusal.{line_feed, lines_text, Fits, HasLineFault}
+use Rattle.dist_cert.specs.Refusal.{lines_text, Fits, HasLineFault}
 use Rattle.dist_cert.specs.Accepted.{IsAcceptedAs}
-use Rattle.dist_cert.specs.ClearForms.{FormsAreClear}
-use Rattle.dist_cert.specs.OneVerdict.{first_line_of}
+use Rattle.dist_cert.specs.ClearFormsLaws.{FormsAreClear}
+use Rattle.dist_cert.specs.OneVerdictLaws.{first_line_of}
 use Rattle.dist_cert.specs.GroupLaws.{all-at}
-use Rattle.dist_check.specs.Checked.{AreRight}
+use Rattle.dist_check.specs.CheckedPrivate.{AreRight}
 use Rattle.dist_check.proofs.Told.{IsTold, stable, contains-told}
 
 to-line : FormsAreClear → (subject : Subject) (limits : Limits) (h : Header) (before : List CertRecord) (step : CertRecord) (more : List ℕ)

@@ -15,12 +15,12 @@ use Rattle.dist_cert.specs.Form.{Word}
 use Rattle.dist_cert.specs.Groups.{derived_in, derived, installed_in, installations, is_claim, group, leaves_open, IsOpen, IsRefutedIn, IsUndecidedIn}
 use Rattle.dist_cert.specs.ClaimRules.{yes, no}
 use Rattle.dist_cert.specs.Rising.{is_among}
-use Rattle.dist_group.specs.Window.{latest}
-use Rattle.dist_group.specs.Closed.{ClosedView, asks_alone, asks_without, Closes}
-use Rattle.dist_group.specs.Group.{GroupView, narrowed, common_with}
-use Rattle.dist_state.specs.State.{QuestionView, empty_group}
-use Rattle.dist_check.specs.At.{IsQuestionOf, AreClosed, IsCommonOf, IsGroupOf}
-use Rattle.dist_cert.specs.ListFacts.{any-from, contains-cases, contains-later, from-any}
+use Rattle.dist_check_group.specs.Window.{latest}
+use Rattle.dist_check_group.specs.Closed.{ClosedView, asks_alone, asks_without, Closes}
+use Rattle.dist_check_group.specs.Group.{GroupView, narrowed, common_with}
+use Rattle.dist_check_state.specs.State.{QuestionView, empty_group}
+use Rattle.dist_check.specs.AtPrivate.{IsQuestionOf, AreClosed, IsCommonOf, IsGroupOf}
+use Rattle.dist_cert.specs.ListLaws.{any-from, contains-cases, contains-later, from-any}
 use Rattle.dist_cert.specs.GroupLaws.{IsOpening, IsAsked, one-open, still-open, none-still, closed-push, closed-more, closed-here, none-closed, group-push}
 use Rattle.dist_cert.specs.GroupLaws.{group-claim, asked-in-group}
 

@@ -4,6 +4,7 @@ use Rattle.std.proofs.Common.{arith, length-append}
 use Rattle.std.specs.List.{All}
 use Rattle.std.proofs.lemmas.Grind.{flat_map-append}
 use Rattle.std.proofs.lemmas.List.Sums.{sum_by-append, sum_by-cons}
+use Rattle.dist_base.specs.Ascii.{line_feed}
 use Rattle.dist_outside.specs.declared.limits.Limits.{Limits}
 use Rattle.dist_outside.specs.declared.trouble.What.TheVariants.{Bytes, Stanzas, Variables, Clauses, Literals, Lines, LineLiterals, Certificate, RecordLine}
 use Rattle.dist_outside.specs.declared.trouble.WorkError.{WorkError}
@@ -17,14 +18,14 @@ use Rattle.dist_cert.specs.declared.records.CertRecord.TheVariants.{Derived}
 use Rattle.dist_cert.specs.declared.records.Claim.{Claim}
 use Rattle.dist_cert.specs.declared.records.Header.{Header}
 use Rattle.dist_cert.specs.Accepted.{claims_in}
-use Rattle.dist_cert.specs.ByRecords.{within}
-use Rattle.dist_cert.specs.ClearForms.{FormsAreClear}
+use Rattle.dist_cert.specs.ByRecordsLaws.{within}
+use Rattle.dist_cert.specs.ClearFormsLaws.{FormsAreClear}
 use Rattle.dist_cert.specs.Form.{Word, record_text, header_text, HasForm}
 use Rattle.dist_cert.specs.Groups.{clause_of, derived, derived_in}
 use Rattle.dist_cert.specs.GroupLaws.{all-at}
-use Rattle.dist_cert.specs.OneVerdict.{has_first, one_first, one_line, first_line_of, not_faulty, nothing_more, readings, IsShorter}
+use Rattle.dist_cert.specs.OneVerdictLaws.{has_first, one_first, one_line, first_line_of, not_faulty, nothing_more, readings, IsShorter}
 use Rattle.dist_cert.specs.Reading.{PassesWhole, KeepsLimits}
-use Rattle.dist_cert.specs.Refusal.{line_feed, IsOneLine, BeginsWith, lines_text, certificate_text, HasLineFault, in_order, IsFirstOf, AreFaultless}
+use Rattle.dist_cert.specs.Refusal.{IsOneLine, BeginsWith, lines_text, certificate_text, HasLineFault, in_order, IsFirstOf, AreFaultless}
 use Rattle.dist_cert.specs.Subject.{Subject}
 use Rattle.dist_subject.specs.Completed.{KeepsNumbers}
 use Rattle.dist_check.specs.declared.verdict.Verdict.{Verdict}

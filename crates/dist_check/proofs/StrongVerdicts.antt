@@ -23,14 +23,14 @@ use Rattle.dist_cert.specs.GroupLaws.{all-at}
 use Rattle.dist_cert.specs.ClaimRules.{yes, no, IsNamed, IsInEach, HoldsStrong, OmitsPackage}
 use Rattle.dist_subject.specs.Present.{matter_of}
 use Rattle.dist_cert.specs.Rising.{is_among}
-use Rattle.dist_group.specs.Window.{kept_at, has_member}
-use Rattle.dist_group.specs.Group.{candidates, in_each, is_always, PassesStrong, TellsRules, omits_package}
-use Rattle.dist_state.specs.State.{StateView, is_next, TellsStrong}
-use Rattle.dist_check.specs.At.{IsCommonOf, IsAt}
+use Rattle.dist_check_group.specs.Window.{kept_at, has_member}
+use Rattle.dist_check_group.specs.Group.{candidates, in_each, is_always, PassesStrong, TellsRules, omits_package}
+use Rattle.dist_check_state.specs.State.{StateView, is_next, TellsStrong}
+use Rattle.dist_check.specs.AtPrivate.{IsCommonOf, IsAt}
 use Rattle.dist_check.proofs.ClosingVerdicts.{on-strong, number-verdict, wrong-verdict, right-verdict, incomplete-verdict}
 use Rattle.dist_check.proofs.GroupLemmas.{line-of, recent-there}
-use Rattle.dist_check.specs.Checked.{AreRight, HaveForms}
-use Rattle.dist_cert.specs.ListFacts.{any-from, from-any}
+use Rattle.dist_check.specs.CheckedPrivate.{AreRight, HaveForms}
+use Rattle.dist_cert.specs.ListLaws.{any-from, from-any}
 use Rattle.dist_check.proofs.TestLemmas.{Tests, all-tested, any-tested, none-tested, among-tests, other-tests}
 use Rattle.dist_check.proofs.Told.{IsTold, stable, most-told, less-told}
 use Rattle.dist_check.proofs.Verdicts.{IsVerdict}

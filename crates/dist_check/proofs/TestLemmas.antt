@@ -6,7 +6,7 @@ use Rattle.std.proofs.lemmas.Bool.{not-true, not_from_false}
 use Rattle.std.proofs.lemmas.List.Elements.{All-nil, All-cons, All-head, All-tail}
 use Rattle.dist_base.specs.ListLaws.{any-cases, any-head, any-later}
 use Rattle.dist_cert.specs.Rising.{is_among}
-use Rattle.dist_cert.specs.ListFacts.{any-from, contains-later, from-any}
+use Rattle.dist_cert.specs.ListLaws.{any-from, contains-later, from-any}
 
 -- a test that is passed where a fact holds, of the numbers of a list
 abbrev pub Tests : (ℕ → Bool) → (ℕ → Type 0) → List ℕ → Type 0

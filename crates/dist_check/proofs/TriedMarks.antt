@@ -1,5 +1,6 @@
 -- The marks of records without faults: each question was tried.
-use Rattle.std.proofs.Common.{◌≡◌, inl, inr, ℕ, zero, suc, ◌+◌, ◌-◌, ◌<◌, ◌≤◌, true, List, [], ◌∷◌, ◌++◌, length, get_or, map, Some, refl, sym, ap, subst, ◌∙◌, append_assoc, arith, slice_get}
+use Rattle.std.proofs.Common.{◌≡◌, inl, inr, ℕ, zero, suc, ◌+◌, ◌-◌, ◌<◌, ◌≤◌, true, List, [], ◌∷◌, ◌++◌, length, get_or, map, Some, refl, sym, ap, subst, ◌∙◌}
+use Rattle.std.proofs.Common.{append_assoc, arith, slice_get}
 use Rattle.std.specs.List.{All, Contains}
 use Rattle.std.proofs.lemmas.List.Elements.{All-contains}
 use Rattle.dist_clause.specs.Formula.{negation}
@@ -18,7 +19,7 @@ use Rattle.dist_cert.specs.GroupLaws.{all-at, closed-more}
 use Rattle.dist_cert.specs.Groups.{clause_of, derived, numbered, is_claim, claim_count, group, IsOpen, IsUndecidedIn}
 use Rattle.dist_cert.specs.Subject.{Matter}
 use Rattle.dist_cert.specs.Tried.{EachFollows, IsTried, marked, AreMarksTried}
-use Rattle.dist_check.specs.Checked.{AreRight, HaveForms}
+use Rattle.dist_check.specs.CheckedPrivate.{AreRight, HaveForms}
 use Rattle.dist_check.proofs.Told.{stable, less-told}
 use Rattle.dist_check.proofs.TriedTold.{ends-told, undecided-in-told, closed-front}
 use Rattle.dist_check.proofs.Places.{image-of}
@@ -97,9 +98,12 @@ no-mark x there = omega (arith, there.1)
 
 unknown-left : (matter : Matter) (kind : CertKind) (before : List CertRecord) (p : ℕ) (question : List Word)
     → Contains (claim_question matter kind p ∷ []) question → HoldsClaim matter kind before (lines.Unknown p) → IsUndecidedIn (group before) question
-unknown-left matter kinds.Strong before p question there holds = subst (IsUndecidedIn (group before)) (alone (claim_question matter kinds.Strong p) question there) holds
-unknown-left matter kinds.Outdated before p question there holds = subst (IsUndecidedIn (group before)) (alone (claim_question matter kinds.Outdated p) question there) holds
-unknown-left matter kinds.Challenged before p question there holds = subst (IsUndecidedIn (group before)) (alone (claim_question matter kinds.Challenged p) question there) holds
+unknown-left matter kinds.Strong before p question there holds =
+    subst (IsUndecidedIn (group before)) (alone (claim_question matter kinds.Strong p) question there) holds
+unknown-left matter kinds.Outdated before p question there holds =
+    subst (IsUndecidedIn (group before)) (alone (claim_question matter kinds.Outdated p) question there) holds
+unknown-left matter kinds.Challenged before p question there holds =
+    subst (IsUndecidedIn (group before)) (alone (claim_question matter kinds.Challenged p) question there) holds
 
 strong-left : (matter : Matter) (kind : CertKind) (before : List CertRecord) (p : ℕ) (named on undecided : List ℕ) (question : List Word)
     → AreFromOne undecided → Contains (map (λ q. yes p ∷ no (q + 1) ∷ []) (from_zero undecided)) question

@@ -20,12 +20,12 @@ use Rattle.dist_cert.specs.declared.records.Header.{Header}
 use Rattle.dist_cert.specs.Form.{Word}
 use Rattle.dist_cert.specs.Groups.{clause_of, derived, numbered}
 use Rattle.dist_cert.specs.LineRules.{HasRecordFault}
-use Rattle.dist_check.specs.Checked.{AreInputsOf}
+use Rattle.dist_check.specs.CheckedPrivate.{AreInputsOf}
 use Rattle.dist_subject.specs.Present.{matter_of, packages_of}
 use Rattle.dist_cert.specs.Rising.{is_among}
-use Rattle.dist_state.specs.Since.{AreNewFrom}
-use Rattle.dist_state.specs.State.{QuestionView, StateView, names_above, is_above, TellsQuestion, TellsDerived, TellsRefuted, TellsInstallation}
-use Rattle.dist_check.specs.At.{IsQuestionOf, IsAt}
+use Rattle.dist_check_state.specs.Since.{AreNewFrom}
+use Rattle.dist_check_state.specs.State.{QuestionView, StateView, names_above, is_above, TellsQuestion, TellsDerived, TellsRefuted, TellsInstallation}
+use Rattle.dist_check.specs.AtPrivate.{IsQuestionOf, IsAt}
 use Rattle.dist_check.proofs.Above.{none-above, some-above, words-above}
 use Rattle.dist_check.proofs.MemberLemmas.{model-installed, installed-model}
 use Rattle.dist_check.proofs.Profile.{rank, may_have, IsFaultless, HasFirst, faultless-from, first-from}

@@ -18,7 +18,7 @@ use Rattle.dist_cert.specs.declared.records.Claim.TheVariants as claims
 use Rattle.dist_cert.specs.declared.records.Header.{Header}
 use Rattle.dist_cert.specs.Groups.{claimed, claim_count}
 use Rattle.dist_cert.specs.Accepted.{from_zero, pairs_from_zero, claim_in, claims_in}
-use Rattle.dist_cert.specs.ClearForms.{FormsAreClear}
+use Rattle.dist_cert.specs.ClearFormsLaws.{FormsAreClear}
 use Rattle.dist_subject.specs.Present.{subject_of, IsAccepted}
 use Rattle.dist_check.specs.Means.{Means}
 use Rattle.dist_check.proofs.Told.{stable, less-told}

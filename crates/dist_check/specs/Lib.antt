@@ -1,7 +1,7 @@
 pub mod Limited
 pub mod Start
 pub mod Checking
-pub mod At
-pub mod Checked
+pub mod AtPrivate
+pub mod CheckedPrivate
 pub mod Answers
 pub mod Means

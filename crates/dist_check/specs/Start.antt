@@ -15,7 +15,7 @@ use Rattle.dist_cert.specs.declared.faults.ReadCertError.TheVariants.{Bad, Work}
 use Rattle.dist_cert.specs.declared.records.CertKind.TheVariants as kinds
 use Rattle.dist_cert.specs.declared.records.Header.{Header}
 use Rattle.dist_check.specs.Limited.{AreInputsWithin}
-use Rattle.dist_state.specs.State.{StateView, empty_group}
+use Rattle.dist_check_state.specs.State.{StateView, empty_group}
 
 -- the numbers of a first line are those of the packages and of the clauses
 pub record HasNumbers (r : PackageList) (clauses : List (List Literal)) (h : Header) : Type 0 where

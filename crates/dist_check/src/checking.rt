@@ -6,18 +6,18 @@ ghost use Rattle.dist_outside.specs.Reading.{bytes_left};
 ghost use Rattle.dist_repo.specs.Size.{IsWithinSize};
 ghost use Rattle.dist_cert.specs.Reading.{text_left};
 ghost use Rattle.dist_check.specs.Answers.{AcceptedMeans};
-ghost use Rattle.dist_check.specs.Checked.{IsChecked};
+ghost use Rattle.dist_check.specs.CheckedPrivate.{IsChecked};
 ghost use Rattle.dist_check.specs.Checking.{LargeCause, OfText, TextAnswers, TextCause};
 ghost use Rattle.dist_subject.specs.Limited.{AreStated};
 ghost use Rattle.dist_check.specs.Means.{Means};
 
 use crate::start::start;
 use dist_cert::{Claims, Header, ReadCertError, Reader, forms_are_clear};
+use dist_check_state::{State, Tools, take_line};
 use dist_derive::lines_keep_models;
 use dist_now::{models_are_installations, present_clauses_are_one, present_clauses_are_there};
 use dist_outside::{Desk, Limits};
 use dist_repo::Repository;
-use dist_state::{State, Tools, take_line};
 use std::alloc::Global;
 
 /// What was read of an accepted certificate.

@@ -6,12 +6,12 @@ ghost use Rattle.dist_check.specs.Limited.{large_by};
 ghost use Rattle.dist_subject.specs.Limited.{AreStated};
 
 use dist_cert::{CertCause, CertFault, CertKind, Header, ReadCertError};
+use dist_check_state::State;
 use dist_clause::{ClauseSet, PushError};
 use dist_derive::Log;
 use dist_now::clauses_of;
 use dist_outside::{Limits, What, WorkError};
 use dist_repo::Repository;
-use dist_state::State;
 use std::alloc::Global;
 
 /// The fault of a first line that does not fit.

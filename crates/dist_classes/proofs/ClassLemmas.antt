@@ -4,8 +4,8 @@ use Rattle.std.specs.Prelude.{Any}
 use Rattle.dist_version.specs.Order.{version_cmp, IsBelow}
 use Rattle.dist_classes.specs.ClassList.{classes_above, classes_of_all, IsOfClassAt, IsInOneClass}
 use Rattle.dist_classes.specs.Cuts.{Rises, RisesFrom}
-use Rattle.dist_classes.specs.VersionOrder.{above-below, alike-left, alike-right, below-above, below-trans, cases-order, equal-back, less-not_equal}
-use Rattle.dist_classes.specs.VersionOrder.{not-above_below, not-both}
+use Rattle.dist_classes.specs.VersionOrderLaws.{above-below, alike-left, alike-right, below-above, below-trans, cases-order, equal-back, less-not_equal}
+use Rattle.dist_classes.specs.VersionOrderLaws.{not-above_below, not-both}
 
 -- a version of a class above a top is above it
 pub above-top : (top : List ℕ) (cuts : List (List ℕ)) → RisesFrom top cuts → (v : List ℕ) (number : ℕ) → IsOfClassAt (classes_above top cuts) number v

@@ -14,7 +14,7 @@ use Rattle.dist_classes.specs.ClassList.{HasExample, HasVersions, classes_above,
 use Rattle.dist_classes.specs.Cuts.{Rises, RisesFrom}
 use Rattle.dist_classes.specs.declared.class_value.Class.{Class}
 use Rattle.dist_classes.specs.declared.class_value.Class.TheVariants.{Point, Between, Above, Below, Any}
-use Rattle.dist_classes.specs.VersionOrder.{equal-itself}
+use Rattle.dist_classes.specs.VersionOrderLaws.{equal-itself}
 
 -- what the law of density says
 pub record IsDense : Type 0 where

@@ -14,7 +14,7 @@ use Rattle.dist_classes.specs.Atoms.{IsBoundOn}
 use Rattle.dist_classes.specs.ClassList.{classes_above, classes_of_all}
 use Rattle.dist_classes.specs.Cuts.{IsClusterCut, IsNameCut, IsNameOfCluster}
 use Rattle.dist_classes.specs.NewVersion.{IsMovedName, IsMoving}
-use Rattle.dist_classes.specs.Sorted.{cuts_after, cuts_of, text_cmp}
+use Rattle.dist_classes.specs.SortedPrivate.{cuts_after, cuts_of, text_cmp}
 use Rattle.dist_classes.specs.Table.{Adds, Entries, IsTableOf, versions_at}
 use Rattle.dist_classes.specs.declared.class_value.Class.{Class}
 use Rattle.dist_classes.proofs.SortedLemmas.{cuts-above, cuts-all, cuts-rise, ordered-from_sorted}

@@ -16,7 +16,7 @@ use Rattle.dist_classes.specs.ClassList.{classes_above, classes_of_all, AreInOne
 use Rattle.dist_classes.specs.Cuts.{AreCuts, IsClusterCut, IsNameCut, IsNameOfCluster, RisesFrom}
 use Rattle.dist_classes.specs.NewVersion.{AreCarried, IsAt, IsCarried, IsMovedName, IsNewVersionOf, IsOfNewName}
 use Rattle.dist_classes.proofs.ClassLemmas.{IsTold, same-side, same-side_of_all}
-use Rattle.dist_classes.specs.VersionOrder.{alike-left, cases-order, less-not_equal}
+use Rattle.dist_classes.specs.VersionOrderLaws.{alike-left, cases-order, less-not_equal}
 
 some-of : {X : Type 0} (P : X → Type 0) (o : Option X) → IsSomeAnd o P → (x : X) × (o ≡ Some x) × P x
 some-of P None h = absurd h

@@ -20,7 +20,7 @@ use Rattle.dist_classes.specs.ClassList.{classes_above, classes_of_all}
 use Rattle.dist_classes.specs.Cuts.{IsClusterCut, IsNameCut, IsNameOfCluster}
 use Rattle.dist_classes.specs.NewNames.{AreNewNames, IsFreshAtom}
 use Rattle.dist_classes.specs.NewVersion.{IsMovedName, IsMoving}
-use Rattle.dist_classes.specs.Sorted.{cuts_after, cuts_of, text_cmp, text_total}
+use Rattle.dist_classes.specs.SortedPrivate.{cuts_after, cuts_of, text_cmp, text_total}
 use Rattle.dist_classes.specs.declared.class_value.Class.{Class}
 use Rattle.dist_classes.proofs.FreshLemmas.{HasFresh, names-from, same_names}
 use Rattle.dist_classes.proofs.SomeSets.{AreStrict, Found, InOrder, found-any, found-either, found-iff, found-none, found-one, in-order, same-texts}

@@ -9,7 +9,7 @@ use Rattle.std.specs.Ordering.{ordering_reverse, ordering_then}
 use Rattle.std.proofs.lemmas.List.Elements.{Contains-append_cases, Contains-append_left, Contains-append_right}
 use Rattle.dist_base.specs.ListLaws.{any-cases}
 use Rattle.dist_version.specs.Order.{version_cmp}
-use Rattle.dist_classes.specs.Sorted.{text_cmp}
+use Rattle.dist_classes.specs.SortedPrivate.{text_cmp}
 use Rattle.dist_classes.specs.Table.{Adds}
 use Rattle.dist_classes.proofs.FoundCuts.{adds-iff, adds-nothing}
 use Rattle.dist_classes.proofs.FreshLemmas.{contains-cases, contains-here, contains-later, same_names}

@@ -12,10 +12,10 @@ use Rattle.std.proofs.lemmas.Slice.Eq.{bytes_eq-Decides}
 use Rattle.std.proofs.lemmas.List.Sorted.{ranks_by, sorted_far}
 use Rattle.dist_version.specs.Order.{version_cmp, IsBelow}
 use Rattle.dist_classes.specs.Cuts.{AreCuts, IsLeastText, Rises, RisesFrom}
-use Rattle.dist_classes.specs.Sorted.{cuts_after, cuts_of, text_cmp, text_total}
+use Rattle.dist_classes.specs.SortedPrivate.{cuts_after, cuts_of, text_cmp, text_total}
 use Rattle.dist_classes.proofs.ClassLemmas.{IsTold}
-use Rattle.dist_classes.specs.VersionOrder.{above-below, below-above, below-trans, cases-order, equal-back, equal-itself, less-not_equal, not-above_below}
-use Rattle.dist_classes.specs.VersionOrder.{not-both}
+use Rattle.dist_classes.specs.VersionOrderLaws.{above-below, below-above, below-trans, cases-order, equal-back, equal-itself, less-not_equal, not-above_below}
+use Rattle.dist_classes.specs.VersionOrderLaws.{not-both}
 
 -- ---- texts in order
 

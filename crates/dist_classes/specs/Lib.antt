@@ -4,7 +4,7 @@ pub mod ClassList
 pub mod Answers
 pub mod NewVersion
 pub mod NewNames
-pub mod Sorted
+pub mod SortedPrivate
 pub mod Table
 pub mod Examples
-pub mod VersionOrder
+pub mod VersionOrderLaws

@@ -3,7 +3,7 @@ ghost use Rattle.std.specs.Prelude.{◌≡◌, ◌++◌, ◌∷◌, ◌↔◌, �
 ghost use Rattle.dist_version.specs.Order.{IsBelow};
 ghost use Rattle.dist_classes.specs.ClassList.{HasVersions, IsOfClass, IsOfClassAt, classes_above, classes_of_all, AreClassesAbove, AreClassesOfAll};
 ghost use Rattle.dist_classes.specs.Cuts.{Rises, RisesFrom};
-ghost use Rattle.dist_classes.specs.Sorted.{cuts_after, cuts_of};
+ghost use Rattle.dist_classes.specs.SortedPrivate.{cuts_after, cuts_of};
 
 use crate::class_value::Class;
 use crate::keys::TextKey;

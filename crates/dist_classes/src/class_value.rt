@@ -1,7 +1,7 @@
 //! A class of versions, an example of it, and its text.
 ghost use Rattle.std.specs.Prelude.{◌≡◌, ◌++◌, IfOk, OnOk, OnErr};
 ghost use Rattle.dist_version.specs.Spelling.{IsVersion};
-ghost use Rattle.dist_relation.specs.Written.{Extends};
+ghost use Rattle.dist_relation.specs.WrittenPrivate.{Extends};
 ghost use Rattle.dist_classes.specs.ClassList.{HasExample, IsOfClass, HasVersions, class_text, example_text};
 
 use dist_version::{Version, versions_are_dense};

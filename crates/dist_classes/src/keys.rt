@@ -35,7 +35,7 @@ impl<'a> TextKey<'a> {
 }
 
 impl Ord for TextKey<'_> {
-    ghost use Rattle.dist_classes.specs.Sorted.{text_cmp, text_total};
+    ghost use Rattle.dist_classes.specs.SortedPrivate.{text_cmp, text_total};
     ghost use Rattle.std.proofs.Common.{refl};
 
     ghost cmp = { text_cmp };
@@ -58,7 +58,7 @@ impl Ord for TextKey<'_> {
 impl PartialOrd for TextKey<'_> {
     ghost use Rattle.std.specs.Cmp.{partial_order_from_total};
     ghost use Rattle.std.specs.Ordering.{as_partial_cmp};
-    ghost use Rattle.dist_classes.specs.Sorted.{text_cmp, text_total};
+    ghost use Rattle.dist_classes.specs.SortedPrivate.{text_cmp, text_total};
 
     ghost partial_cmp = { as_partial_cmp text_cmp };
 
@@ -72,7 +72,7 @@ impl PartialOrd for TextKey<'_> {
 impl PartialEq for TextKey<'_> {
     ghost use Rattle.std.specs.Cmp.{eq_by_cmp_equiv, partial_equiv_from_equiv};
     ghost use Rattle.std.specs.Ordering.{eq_by_cmp};
-    ghost use Rattle.dist_classes.specs.Sorted.{text_cmp, text_total};
+    ghost use Rattle.dist_classes.specs.SortedPrivate.{text_cmp, text_total};
 
     ghost eq = { eq_by_cmp text_cmp };
 
@@ -85,7 +85,7 @@ impl PartialEq for TextKey<'_> {
 
 impl Eq for TextKey<'_> {
     ghost use Rattle.std.specs.Cmp.{eq_by_cmp_equiv};
-    ghost use Rattle.dist_classes.specs.Sorted.{text_cmp, text_total};
+    ghost use Rattle.dist_classes.specs.SortedPrivate.{text_cmp, text_total};
 
     ghost laws = { eq_by_cmp_equiv text_total };
 }

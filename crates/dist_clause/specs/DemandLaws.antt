@@ -12,8 +12,9 @@ use Rattle.dist_base.specs.Answers.{IsExactly}
 use Rattle.dist_base.specs.ListLaws.{any-cases, any-head, any-later}
 use Rattle.dist_base.specs.RowLaws.{Continues, HasOneImage, IsAsymmetric, rows-front, rows-same}
 use Rattle.dist_clause.specs.ClauseList.{ClauseList, IsWithinLimits, literal_count}
-use Rattle.dist_clause.specs.Demands.{Demands, AreClausesOf, AreClausesBefore, IsCause, IsCauseAt, IsRefused, IsSetLike}
-use Rattle.dist_clause.specs.Demands.{IsSetOf, IsStopped, PassesClauses, PassesLiterals}
+use Rattle.dist_clause.specs.Demands.{Demands, AreClausesFor, AreClausesBefore, IsCause, IsCauseAt, IsRefused}
+use Rattle.dist_clause.specs.Demands.{IsSetLike}
+use Rattle.dist_clause.specs.Demands.{IsSetOf, IsStopped, PassesClauseLimit, PassesLiteralLimit}
 use Rattle.dist_clause.specs.Formula.{Literal}
 use Rattle.dist_clause.specs.declared.clause_set.PushError.{PushError}
 use Rattle.dist_clause.specs.declared.clause_set.PushError.TheVariants.{TooManyClauses, TooManyLiterals, NoMemory}
@@ -35,7 +36,7 @@ pub data Compared {D : Type 0} (demands : Demands D) (d e : D) : Type 0 where
 
 -- the same clauses, of demands with a property that comes to the same
 pub clauses-shift : {D : Type 0} (demands : Demands D) (P Q : D → Type 0) (clauses : List (List Literal))
-    → ((d : D) → P d → Q d) → ((d : D) → Q d → P d) → AreClausesOf demands P clauses → AreClausesOf demands Q clauses
+    → ((d : D) → P d → Q d) → ((d : D) → Q d → P d) → AreClausesFor demands P clauses → AreClausesFor demands Q clauses
 clauses-shift demands P Q clauses to from of = record {
   rows = of.rows;
   rising = of.rising;
@@ -44,7 +45,7 @@ clauses-shift demands P Q clauses to from of = record {
   are = of.are;
 }
 
-pub clauses-none : {D : Type 0} (demands : Demands D) (P : D → Type 0) → ((d : D) → ¬ P d) → AreClausesOf demands P []
+pub clauses-none : {D : Type 0} (demands : Demands D) (P : D → Type 0) → ((d : D) → ¬ P d) → AreClausesFor demands P []
 clauses-none demands P none = record {
   rows = [];
   rising = λ i j x before short. absurd (omega arith);
@@ -75,9 +76,9 @@ any-push-left P (x ∷ xs) y any = elim (any-cases P x xs any) [
 
 -- one more clause behind the others, of a demand that is behind theirs
 pub clauses-more : {D : Type 0} (demands : Demands D) (P Q : D → Type 0) (clauses : List (List Literal)) (d : D)
-    (clause : List Literal) → AreClausesOf demands P clauses → demands.IsClauseFor d clause
+    (clause : List Literal) → AreClausesFor demands P clauses → demands.IsClauseFor d clause
     → ((e : D) → P e → demands.IsBefore e d) → ((e : D) → Q e → P e ⊎ (d ≡ e)) → ((e : D) → P e → Q e) → Q d
-    → AreClausesOf demands Q (clauses ++ clause ∷ [])
+    → AreClausesFor demands Q (clauses ++ clause ∷ [])
 clauses-more {D} demands P Q clauses d clause of is below cases wider here =
     let row : D × List Literal = (d, clause) in
     record {
@@ -208,7 +209,7 @@ one-image {D} demands orderly x y same first second =
     let Of : D → Type 0 = λ d. demands.IsClauseFor d x.1 in orderly.one_clause y.0 x.1 y.1 (subst Of same first) second
 
 pub one-list : {D : Type 0} (demands : Demands D) → IsOrderly demands → (P : D → Type 0)
-    (clauses other : List (List Literal)) → AreClausesOf demands P clauses → AreClausesOf demands P other
+    (clauses other : List (List Literal)) → AreClausesFor demands P clauses → AreClausesFor demands P other
     → other ≡ clauses
 one-list {D} demands orderly P clauses other are also =
     also.are ∙ rows-same (λ (a : D × List Literal). a.0) demands.IsBefore (λ a. demands.IsClauseFor a.0 a.1) (λ a. a.1)
@@ -218,7 +219,7 @@ one-list {D} demands orderly P clauses other are also =
 
 -- the clauses go on behind those of the demands before one, with the clause of that one
 pub goes-on : {D : Type 0} (demands : Demands D) → IsOrderly demands → (P : D → Type 0) (d : D)
-    (whole front : List (List Literal)) (clause : List Literal) → AreClausesOf demands P whole
+    (whole front : List (List Literal)) (clause : List Literal) → AreClausesFor demands P whole
     → AreClausesBefore demands P d front → P d → demands.IsClauseFor d clause → Continues whole front clause
 goes-on {D} demands orderly P d whole front clause are those here is_clause =
     let on = rows-front (λ (a : D × List Literal). a.0) demands.IsBefore (λ a. demands.IsClauseFor a.0 a.1) (λ a. a.1)
@@ -262,8 +263,8 @@ front-goes-on {D} demands orderly P d e whole front clause less are those demand
 -- ---- only one limit is passed first
 
 never-both : {D : Type 0} (demands : Demands D) → IsOrderly demands → (P : D → Type 0)
-    → ((d e : D) → P d → P e → Compared demands d e) → (c l : ℕ) → PassesClauses demands P c l
-    → PassesLiterals demands P c l → ⊥
+    → ((d e : D) → P d → P e → Compared demands d e) → (c l : ℕ) → PassesClauseLimit demands P c l
+    → PassesLiteralLimit demands P c l → ⊥
 never-both {D} demands orderly P compared c l first second =
     by (compared first.demand second.demand first.is_demand second.is_demand)
   where
@@ -291,13 +292,13 @@ stop-goes-on demands orderly P c l Passes set of stop = goes-on demands orderly 
     stop.clause of.clauses stop.before stop.is_demand stop.is_clause
 
 none-clauses : {D : Type 0} (demands : Demands D) → IsOrderly demands → (P : D → Type 0) (c l : ℕ) (set : ClauseList)
-    → IsSetOf demands P c l set → IsWithinLimits set → ¬ PassesClauses demands P c l
+    → IsSetOf demands P c l set → IsWithinLimits set → ¬ PassesClauseLimit demands P c l
 none-clauses demands orderly P c l set of within stop =
     let h = longer set.clauses stop.front stop.clause (stop-goes-on demands orderly P c l _ set of stop) in
     omega (arith, h, stop.passes, within.clauses_within, of.clause_limit_is)
 
 none-literals : {D : Type 0} (demands : Demands D) → IsOrderly demands → (P : D → Type 0) (c l : ℕ) (set : ClauseList)
-    → IsSetOf demands P c l set → IsWithinLimits set → ¬ PassesLiterals demands P c l
+    → IsSetOf demands P c l set → IsWithinLimits set → ¬ PassesLiteralLimit demands P c l
 none-literals demands orderly P c l set of within stop =
     let h = fuller set.clauses stop.front stop.clause (stop-goes-on demands orderly P c l _ set of stop) in
     omega (arith, h, stop.passes.1, within.literals_within, of.literal_limit_is)
@@ -307,7 +308,7 @@ module _ {D X : Type 0} (demands : Demands D) (orderly : IsOrderly demands) (P :
     (compared : (d e : D) → P d → P e → Compared demands d e) (c l : ℕ) (view : X → ClauseList) where
   pub exactly-clauses : (result : Result X PushError) → IfOk result (λ x. IsSetOf demands P c l (view x))
       → IfOk result (λ x. IsWithinLimits (view x)) → IfErr result (IsCause demands P c l)
-      → IsExactly NoMemory result TooManyClauses (PassesClauses demands P c l)
+      → IsExactly NoMemory result TooManyClauses (PassesClauseLimit demands P c l)
   exactly-clauses (Ok x) ok within err = λ memory.
       ((λ is. cc), λ passes. absurd (none-clauses demands orderly P c l (view x) ok within passes))
   exactly-clauses (Err TooManyClauses) ok within err = λ memory. ((λ is. err), λ passes. refl)
@@ -317,7 +318,7 @@ module _ {D X : Type 0} (demands : Demands D) (orderly : IsOrderly demands) (P :
 
   pub exactly-literals : (result : Result X PushError) → IfOk result (λ x. IsSetOf demands P c l (view x))
       → IfOk result (λ x. IsWithinLimits (view x)) → IfErr result (IsCause demands P c l)
-      → IsExactly NoMemory result TooManyLiterals (PassesLiterals demands P c l)
+      → IsExactly NoMemory result TooManyLiterals (PassesLiteralLimit demands P c l)
   exactly-literals (Ok x) ok within err = λ memory.
       ((λ is. cc), λ passes. absurd (none-literals demands orderly P c l (view x) ok within passes))
   exactly-literals (Err TooManyClauses) ok within err = λ memory.

@@ -13,7 +13,7 @@ pub record Demands (Demand : Type 0) : Type 1 where
   pub variables : ℕ
 
 -- The clauses of the demands with a property: one for each demand, in the order of demands.
-pub record AreClausesOf {D : Type 0} (demands : Demands D) (P : D → Type 0) (clauses : List (List Literal)) : Type 0
+pub record AreClausesFor {D : Type 0} (demands : Demands D) (P : D → Type 0) (clauses : List (List Literal)) : Type 0
   where
     pub rows : List (D × List Literal)
     pub rising : AllPairs (λ a b. demands.IsBefore a.0 b.0) rows
@@ -23,12 +23,12 @@ pub record AreClausesOf {D : Type 0} (demands : Demands D) (P : D → Type 0) (c
 
 -- those that stand before a demand's
 abbrev pub AreClausesBefore : {D : Type 0} → Demands D → (D → Type 0) → D → List (List Literal) → Type 0
-AreClausesBefore demands P d = AreClausesOf demands (λ e. P e × demands.IsBefore e d)
+AreClausesBefore demands P d = AreClausesFor demands (λ e. P e × demands.IsBefore e d)
 
 -- a set over the variables of the demands, with two limits, that holds the clauses of the demands with a property
 pub record IsSetOf {D : Type 0} (demands : Demands D) (P : D → Type 0) (clause_limit literal_limit : ℕ)
     (set : ClauseList) : Type 0 where
-  pub clauses : AreClausesOf demands P set.clauses
+  pub clauses : AreClausesFor demands P set.clauses
   pub variables : set.variables ≡ demands.variables
   pub clause_limit_is : set.clause_limit ≡ clause_limit
   pub literal_limit_is : set.literal_limit ≡ literal_limit
@@ -47,20 +47,20 @@ pub record IsStopped {D : Type 0} (demands : Demands D) (P : D → Type 0) (clau
   pub passes : Passes front clause
 
 -- there are as many clauses as there may be
-abbrev pub PassesClauses : {D : Type 0} → Demands D → (D → Type 0) → (clause_limit literal_limit : ℕ) → Type 0
-PassesClauses demands P clause_limit literal_limit =
+abbrev pub PassesClauseLimit : {D : Type 0} → Demands D → (D → Type 0) → (clause_limit literal_limit : ℕ) → Type 0
+PassesClauseLimit demands P clause_limit literal_limit =
     IsStopped demands P clause_limit literal_limit (λ front clause. length front ≡ clause_limit)
 
 -- there is room for the clause, but not for its literals
-abbrev pub PassesLiterals : {D : Type 0} → Demands D → (D → Type 0) → (clause_limit literal_limit : ℕ) → Type 0
-PassesLiterals demands P clause_limit literal_limit =
+abbrev pub PassesLiteralLimit : {D : Type 0} → Demands D → (D → Type 0) → (clause_limit literal_limit : ℕ) → Type 0
+PassesLiteralLimit demands P clause_limit literal_limit =
     IsStopped demands P clause_limit literal_limit
     (λ front clause. (length front < clause_limit) × (literal_limit < literal_count front + length clause))
 
 -- why a refusal came; want of memory may come at any time
 abbrev pub IsCause : {D : Type 0} → Demands D → (D → Type 0) → (clause_limit literal_limit : ℕ) → PushError → Type 0
-IsCause demands P clause_limit literal_limit TooManyClauses = PassesClauses demands P clause_limit literal_limit
-IsCause demands P clause_limit literal_limit TooManyLiterals = PassesLiterals demands P clause_limit literal_limit
+IsCause demands P clause_limit literal_limit TooManyClauses = PassesClauseLimit demands P clause_limit literal_limit
+IsCause demands P clause_limit literal_limit TooManyLiterals = PassesLiteralLimit demands P clause_limit literal_limit
 IsCause demands P clause_limit literal_limit NoMemory = Unit {0}
 
 -- ---- on the way to a set

@@ -4,5 +4,5 @@ pub mod Demands
 pub mod DemandLaws
 pub mod Bits
 pub mod Stored
-pub mod Words
+pub mod WordsPrivate
 pub mod Examples

@@ -27,7 +27,7 @@ impl Model for Lit {
     ghost inverse = { λ l. record { word = 2 * l.variable + (if l.positive then 1 else 0) } };
 
     ghost use Rattle.std.proofs.Common.{ap};
-    ghost use Rattle.dist_clause.specs.Words.{word-of_parts};
+    ghost use Rattle.dist_clause.specs.WordsPrivate.{word-of_parts};
 
     ghost inverse_ok = { λ a h. ap (λ w. record { word = w }) (word-of_parts a.word) };
 }

@@ -11,7 +11,7 @@ use Rattle.dist_version.specs.Between.{without_rebuild_text}
 use Rattle.dist_version.specs.Order.{version_cmp}
 use Rattle.dist_cluster.specs.Relation.{Member, AreClustered}
 use Rattle.dist_cluster.specs.Found.{number_at}
-use Rattle.dist_cluster.specs.Total.{member_cmp, member_total}
+use Rattle.dist_cluster.specs.TotalLaws.{member_cmp, member_total}
 
 pub same_names : (a b : List ℕ) → slice_cmp nat_cmp a b ≡ Equal → a ≡ b
 same_names a b is = (bytes_eq-Decides a b).0 (sym (is_eq-slice_cmp a b) ∙ ap is_eq is)

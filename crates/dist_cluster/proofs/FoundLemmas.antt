@@ -12,7 +12,7 @@ use Rattle.std.proofs.lemmas.Option.{slice_get_within, slice_get-get_or, same_So
 use Rattle.dist_cluster.specs.Found.{AreFound, number_at}
 use Rattle.dist_cluster.specs.Partition.{least, IsIn}
 use Rattle.dist_cluster.specs.Relation.{Member, AreClustered}
-use Rattle.dist_cluster.specs.Total.{member_cmp}
+use Rattle.dist_cluster.specs.TotalLaws.{member_cmp}
 use Rattle.dist_cluster.proofs.Clustered.{clustered-joined, clustered-turned, number-same, clustered-found, found-itself}
 use Rattle.dist_cluster.proofs.Places.{some-of, some-at, get-left, get-here, get-cases, get-set_same, get-set_other, increasing-push, increasing-one}
 

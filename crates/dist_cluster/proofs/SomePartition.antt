@@ -6,7 +6,7 @@ use Rattle.std.specs.Ordering.{ordering_reverse}
 use Rattle.dist_cluster.specs.Found.{AreFound, number_at}
 use Rattle.dist_cluster.specs.Partition.{IsPartition}
 use Rattle.dist_cluster.specs.Relation.{Member}
-use Rattle.dist_cluster.specs.Total.{member_cmp, member_total}
+use Rattle.dist_cluster.specs.TotalLaws.{member_cmp, member_total}
 use Rattle.dist_cluster.proofs.FoundLemmas.{found-begun, found-joined, found-none}
 use Rattle.dist_cluster.proofs.PartitionLemmas.{found-all}
 use Rattle.dist_cluster.proofs.Places.{standing}

@@ -9,7 +9,7 @@ use Rattle.std.specs.declared.cmp.Ordering.{Ordering}
 use Rattle.dist_version.specs.Order.{version_cmp}
 use Rattle.dist_cluster.specs.Partition.{least, IsIn}
 use Rattle.dist_cluster.specs.Relation.{Member, AreClustered}
-use Rattle.dist_cluster.specs.Total.{member_cmp}
+use Rattle.dist_cluster.specs.TotalLaws.{member_cmp}
 
 -- the number that a map has for a member
 abbrev pub number_at : List (Member × ℕ) → Member → Option ℕ

@@ -3,4 +3,4 @@ pub mod Partition
 pub mod Top
 pub mod Examples
 pub mod Found
-pub mod Total
+pub mod TotalLaws

@@ -2,7 +2,7 @@
 ghost use Rattle.std.specs.Prelude.{◌≡◌, ◌++◌, ◌∷◌, [], ℕ, List, IfOk, OnOk, OnErr};
 ghost use Rattle.dist_version.specs.Between.{without_rebuild_text};
 ghost use Rattle.dist_cluster.specs.Relation.{Member};
-ghost use Rattle.dist_cluster.specs.Total.{member_cmp};
+ghost use Rattle.dist_cluster.specs.TotalLaws.{member_cmp};
 
 use dist_version::Version;
 use std::alloc::{AllocError, Global};
@@ -146,7 +146,7 @@ impl<'a> ClusterKey<'a> {
 }
 
 impl Ord for ClusterKey<'_> {
-    ghost use Rattle.dist_cluster.specs.Total.{member_cmp, member_total};
+    ghost use Rattle.dist_cluster.specs.TotalLaws.{member_cmp, member_total};
     ghost use Rattle.std.proofs.Common.{refl};
 
     ghost cmp = { member_cmp };
@@ -165,7 +165,7 @@ impl Ord for ClusterKey<'_> {
 impl PartialOrd for ClusterKey<'_> {
     ghost use Rattle.std.specs.Cmp.{partial_order_from_total};
     ghost use Rattle.std.specs.Ordering.{as_partial_cmp};
-    ghost use Rattle.dist_cluster.specs.Total.{member_cmp, member_total};
+    ghost use Rattle.dist_cluster.specs.TotalLaws.{member_cmp, member_total};
 
     ghost partial_cmp = { as_partial_cmp member_cmp };
 
@@ -179,7 +179,7 @@ impl PartialOrd for ClusterKey<'_> {
 impl PartialEq for ClusterKey<'_> {
     ghost use Rattle.std.specs.Cmp.{eq_by_cmp_equiv, partial_equiv_from_equiv};
     ghost use Rattle.std.specs.Ordering.{eq_by_cmp};
-    ghost use Rattle.dist_cluster.specs.Total.{member_cmp, member_total};
+    ghost use Rattle.dist_cluster.specs.TotalLaws.{member_cmp, member_total};
 
     ghost eq = { eq_by_cmp member_cmp };
 
@@ -192,7 +192,7 @@ impl PartialEq for ClusterKey<'_> {
 
 impl Eq for ClusterKey<'_> {
     ghost use Rattle.std.specs.Cmp.{eq_by_cmp_equiv};
-    ghost use Rattle.dist_cluster.specs.Total.{member_total};
+    ghost use Rattle.dist_cluster.specs.TotalLaws.{member_total};
 
     ghost laws = { eq_by_cmp_equiv member_total };
 }

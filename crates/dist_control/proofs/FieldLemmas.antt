@@ -8,7 +8,8 @@ use Rattle.std.proofs.lemmas.List.Folds.{list_any_at, length-prefix_len}
 use Rattle.std.proofs.lemmas.List.Sums.{position_or_len_is, prefix_len_passes, passes_at_first, take_while-cons}
 use Rattle.memchr.specs.Find.{IsFirstByte, is_byte}
 use Rattle.std.specs.Option.{is_some}
-use Rattle.dist_control.specs.Bytes.{is_colon, is_name_byte, is_field_name}
+use Rattle.dist_base.specs.Ascii.{is_colon}
+use Rattle.dist_control.specs.Bytes.{is_field_name_byte, is_field_name}
 use Rattle.dist_control.specs.Fields.{name_of, trim}
 use Rattle.dist_control.specs.Lines.{lines, IsCutAtLine}
 use Rattle.dist_control.specs.Pieces.{IsFirstColon, HasInFront, IsFieldInFront, IsContinuedTo, AreContinuations, ended}
@@ -24,18 +25,18 @@ has-colon line (Some place) found = sym (list_any_at is_colon line place 0 found
 
 -- ---- the end of the name
 
-colon-in-name : (byte : ℕ) → is_name_byte byte ≡ true → is_colon byte ≡ false
+colon-in-name : (byte : ℕ) → is_field_name_byte byte ≡ true → is_colon byte ≡ false
 colon-in-name byte is = grind arith
 
-all-taken : (line : List ℕ) → list_all is_name_byte (take_while is_name_byte line) ≡ true
+all-taken : (line : List ℕ) → list_all is_field_name_byte (take_while is_field_name_byte line) ≡ true
 all-taken [] = refl
-all-taken (byte ∷ line) = grind (arith, take_while-cons is_name_byte byte line, all-taken line)
+all-taken (byte ∷ line) = grind (arith, take_while-cons is_field_name_byte byte line, all-taken line)
 
-named-from_first : (line : List ℕ) → is_field_name (take 1 line) ≡ true → is_field_name (take_while is_name_byte line) ≡ true
+named-from_first : (line : List ℕ) → is_field_name (take 1 line) ≡ true → is_field_name (take_while is_field_name_byte line) ≡ true
 named-from_first [] begins = absurd cc
-named-from_first (byte ∷ line) begins = grind (arith, take_while-cons is_name_byte byte line, all-taken line)
+named-from_first (byte ∷ line) begins = grind (arith, take_while-cons is_field_name_byte byte line, all-taken line)
 
-first-from_named : (n : ℕ) (line : List ℕ) → is_field_name (take n line) ≡ true → (list_all is_name_byte (take n line) ≡ true)
+first-from_named : (n : ℕ) (line : List ℕ) → is_field_name (take n line) ≡ true → (list_all is_field_name_byte (take n line) ≡ true)
     × (is_field_name (take 1 line) ≡ true)
 first-from_named zero line named = absurd cc
 first-from_named (suc n) [] named = absurd cc
@@ -50,26 +51,26 @@ colon-within : (line : List ℕ) → list_any is_colon line ≡ true → positio
 colon-within [] found = absurd cc
 colon-within (byte ∷ line) found = grind (arith, colon-within line)
 
-ends-at-colon : (line : List ℕ) → list_any is_colon line ≡ true → list_all is_name_byte (name_of line) ≡ true
-    → prefix_len is_name_byte line ≡ position_or_len is_colon line
+ends-at-colon : (line : List ℕ) → list_any is_colon line ≡ true → list_all is_field_name_byte (name_of line) ≡ true
+    → prefix_len is_field_name_byte line ≡ position_or_len is_colon line
 ends-at-colon [] found all = absurd cc
 ends-at-colon (byte ∷ line) found all =
     elim (cases_Bool (is_colon byte)) [
       | inl is ↦ grind (arith, is, colon-in-name byte)
       | inr is ↦
-          let named : list_all is_name_byte (byte ∷ name_of line) ≡ true = ap (list_all is_name_byte) (sym (name-more byte line is)) ∙ all in
+          let named : list_all is_field_name_byte (byte ∷ name_of line) ≡ true = ap (list_all is_field_name_byte) (sym (name-more byte line is)) ∙ all in
           grind (arith, is, named, ends-at-colon line)
     ]
 
 -- where the bytes of a name end at a colon, that is the first one, and they are the field name
-pub named-at_colon : (line : List ℕ) (place : ℕ) → place ≡ length (take_while is_name_byte line) → is_colon (get_or line place 0) ≡ true
+pub named-at_colon : (line : List ℕ) (place : ℕ) → place ≡ length (take_while is_field_name_byte line) → is_colon (get_or line place 0) ≡ true
     → is_field_name (take 1 line) ≡ true →
     IsFirstColon line place × (is_field_name (name_of line) ≡ true)
 named-at_colon line place is colon begins =
     let within : place < length line = grind (arith, get_or_past line place 0) in
-    let run : place ≡ prefix_len is_name_byte line = is ∙ length-prefix_len is_name_byte line in
+    let run : place ≡ prefix_len is_field_name_byte line = is ∙ length-prefix_len is_field_name_byte line in
     let at : position_or_len is_colon line ≡ place = position_or_len_is is_colon line place 0 (omega arith)
-    (λ k h. colon-in-name _ (prefix_len_passes is_name_byte line k 0 (omega arith))) (λ _. colon) in (
+    (λ k h. colon-in-name _ (prefix_len_passes is_field_name_byte line k 0 (omega arith))) (λ _. colon) in (
       record {
         within = within;
         found = list_any_at is_colon line place 0 within colon;
@@ -80,12 +81,12 @@ named-at_colon line place is colon begins =
     )
 
 -- where a line has a colon and a field name before it, the bytes of a name end at a colon
-pub colon-from_named : (line : List ℕ) (place : ℕ) → place ≡ length (take_while is_name_byte line) → list_any is_colon line ≡ true
+pub colon-from_named : (line : List ℕ) (place : ℕ) → place ≡ length (take_while is_field_name_byte line) → list_any is_colon line ≡ true
     → is_field_name (name_of line) ≡ true →
     (is_colon (get_or line place 0) ≡ true) × (is_field_name (take 1 line) ≡ true)
 colon-from_named line place is found named =
     let begun = first-from_named (position_or_len is_colon line) line named in
-    let at : place ≡ position_or_len is_colon line = is ∙ length-prefix_len is_name_byte line ∙ ends-at-colon line found begun.0 in
+    let at : place ≡ position_or_len is_colon line = is ∙ length-prefix_len is_field_name_byte line ∙ ends-at-colon line found begun.0 in
     (ap (λ n. is_colon (get_or line n 0)) at ∙ passes_at_first is_colon line 0 (colon-within line found), begun.1)
 
 -- ---- lines in front of a text

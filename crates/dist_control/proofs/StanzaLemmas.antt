@@ -4,10 +4,11 @@ use Rattle.std.proofs.Common.{refl, sym, ap, ◌∙◌, arith, subst, inl, inr, 
 use Rattle.std.specs.List.{list_any}
 use Rattle.std.proofs.lemmas.Bool.{cond-true, cond-false, not_from_true, not_from_false, ne_eqb, both_ways, cases_Bool}
 use Rattle.std.proofs.lemmas.List.{append-nil, take_at, get_or_at, map-append, length_push}
+use Rattle.dist_base.specs.Ascii.{is_colon}
 use borrow.Author.Count.{below_more}
 use Rattle.dist_control.specs.declared.error.ControlError.{ControlError}
 use Rattle.dist_control.specs.declared.error.ControlError.TheVariants.{OrphanContinuation, DoubleField}
-use Rattle.dist_control.specs.Bytes.{is_colon, is_blank, is_continuation, is_field_name}
+use Rattle.dist_control.specs.Bytes.{is_blank, is_continuation, is_field_name}
 use Rattle.dist_control.specs.Faults.{line_fault, fault_at, IsSoundBelow, HasFault}
 use Rattle.dist_control.specs.Fields.{name_of, continuations, field_spelled, fields_from, is_same_name, field_names}
 use Rattle.dist_control.specs.FieldText.{FieldText}

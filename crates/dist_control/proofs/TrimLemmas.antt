@@ -5,8 +5,8 @@ use Rattle.std.proofs.lemmas.Bool.{cond-true, cond-false, not-true}
 use Rattle.std.proofs.lemmas.List.{get_or-reverse, get_or-take, reverse-append, reverse-reverse, length-reverse, length-drop, length-take-le, take-append-drop}
 use Rattle.std.proofs.lemmas.List.{get_or_append_left, get_or_push, drop_at}
 use Rattle.std.proofs.Math.Seq.{take-append_seam}
+use Rattle.dist_base.specs.Ascii.{is_white}
 use Rattle.bstr.specs.Bytes.{is_in, not_in}
-use Rattle.dist_control.specs.Bytes.{is_white}
 use Rattle.dist_control.specs.Fields.{trim_start, trim}
 
 -- the set that the searches are given

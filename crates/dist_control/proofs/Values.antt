@@ -3,7 +3,8 @@ use Rattle.std.proofs.Common.{◌≡◌, ℕ, ◌+◌, ◌-◌, ◌≤◌, true,
 use Rattle.std.specs.List.{join_with_byte, after_first, position_or_len}
 use Rattle.std.proofs.lemmas.List.{length-reverse, length-drop}
 use Rattle.std.proofs.lemmas.List.Sums.{sum_by-cons}
-use Rattle.dist_control.specs.Bytes.{is_colon, is_white, is_continuation, line_feed}
+use Rattle.dist_base.specs.Ascii.{is_colon, is_white, line_feed}
+use Rattle.dist_control.specs.Bytes.{is_continuation}
 use Rattle.dist_control.specs.FieldText.{FieldText}
 use Rattle.dist_control.specs.Fields.{trim_start, trim, continuations, field_spelled, fields_from, value_bytes}
 use Rattle.dist_control.specs.RawStanza.{RawStanza, raw_stanzas}

@@ -2,10 +2,11 @@
 use Rattle.std.specs.Prelude.{◌≡◌, ℕ, ◌+◌, ◌<◌, List, [], if◌then◌else◌, not, ◌==◌, Option, Some, None, length, take}
 use Rattle.std.specs.Prelude.{slice_index_or}
 use Rattle.std.specs.List.{list_any}
+use Rattle.dist_base.specs.Ascii.{is_colon}
 use Rattle.dist_control.specs.declared.error.ControlError.{ControlError}
 use Rattle.dist_control.specs.declared.error.ControlError.TheVariants.{NoColon, BadFieldName, OrphanContinuation}
 use Rattle.dist_control.specs.declared.error.ControlError.TheVariants.{DoubleField}
-use Rattle.dist_control.specs.Bytes.{is_colon, is_continuation, is_field_name}
+use Rattle.dist_control.specs.Bytes.{is_continuation, is_field_name}
 use Rattle.dist_control.specs.Fields.{name_of, is_same_name, field_names}
 use Rattle.dist_control.specs.RawStanza.{RawStanza}
 

@@ -4,7 +4,8 @@ use Rattle.std.specs.Prelude.{ℕ, ◌+◌, List, [], ◌∷◌, if◌then◌els
 use Rattle.std.specs.Char.{to_ascii_lowercase}
 use Rattle.std.specs.List.{before_first, after_first, join_with_byte}
 use Rattle.std.specs.Str.{bytes_eq}
-use Rattle.dist_control.specs.Bytes.{line_feed, is_colon, is_white, is_continuation}
+use Rattle.dist_base.specs.Ascii.{is_colon, is_white, line_feed}
+use Rattle.dist_control.specs.Bytes.{is_continuation}
 use Rattle.dist_control.specs.FieldText.{FieldText}
 
 -- the name of a field line: what stands before its first colon

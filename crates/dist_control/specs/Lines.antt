@@ -1,6 +1,6 @@
 -- The lines of a text (Debian Policy 5.1): each ends with LF, which the last one may lack.
 use Rattle.std.specs.Prelude.{◌≡◌, ◌⊎◌, ℕ, List, [], ◌∷◌, ◌++◌, ◌==◌, if◌then◌else◌}
-use Rattle.dist_control.specs.Bytes.{line_feed}
+use Rattle.dist_base.specs.Ascii.{line_feed}
 
 -- a line with one more byte in front, or a first line of that byte alone
 abbrev pub in_front : ℕ → List (List ℕ) → List (List ℕ)

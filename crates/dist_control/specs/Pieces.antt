@@ -3,7 +3,8 @@ use Rattle.std.specs.Prelude.{◌≡◌, ℕ, ◌+◌, ◌-◌, ◌*◌, ◌%◌
 use Rattle.std.specs.Prelude.{length, map, take, drop, get_or}
 use Rattle.std.specs.List.{list_any, flat_map, after_first}
 use Rattle.std.specs.Str.{bytes_eq}
-use Rattle.dist_control.specs.Bytes.{line_feed, is_colon, is_blank, is_continuation, is_field_name}
+use Rattle.dist_base.specs.Ascii.{is_colon, line_feed}
+use Rattle.dist_control.specs.Bytes.{is_blank, is_continuation, is_field_name}
 use Rattle.dist_control.specs.declared.error.ControlError.{ControlError}
 use Rattle.dist_control.specs.declared.error.ControlError.TheVariants.{NoColon, BadFieldName}
 use Rattle.dist_control.specs.declared.field_list.TheConstants.{EARLY_FIELDS}

@@ -1,7 +1,8 @@
 //! One field: its field line, its continuation lines, its name and its value.
 ghost use Rattle.std.specs.Prelude.{◌≡◌, ℕ, ◌+◌, ◌<◌, ◌^◌, List, [], ◌∷◌, ◌++◌, true, length, get_or, take, take_while, IsTrue, MatchResult};
 ghost use Rattle.std.specs.List.{list_any};
-ghost use Rattle.dist_control.specs.Bytes.{space, line_feed, is_colon, is_name_byte, is_field_name, is_white};
+ghost use Rattle.dist_base.specs.Ascii.{is_colon, is_white, line_feed, space};
+ghost use Rattle.dist_control.specs.Bytes.{is_field_name_byte, is_field_name};
 ghost use Rattle.dist_control.specs.Fields.{name_of, trim};
 ghost use Rattle.dist_control.specs.FieldText.{field_text};
 ghost use Rattle.dist_control.specs.Lines.{lines};
@@ -61,8 +62,8 @@ fn without_white_ends(text: &[u8]) -> &[u8]
 }
 
 /// Whether a byte may stand in a field name.
-fn is_name_byte(byte: u8) -> bool
-    ensures { result ≡ is_name_byte byte }
+fn is_field_name_byte(byte: u8) -> bool
+    ensures { result ≡ is_field_name_byte byte }
 {
     // Letters are looked for first.
     matches!(byte, b';'..=b'~' | b'!'..=b'9')
@@ -70,9 +71,11 @@ fn is_name_byte(byte: u8) -> bool
 
 /// How many bytes that may stand in a field name are at the front of a line.
 fn name_length(line: &[u8]) -> usize
-    ensures { result ≡ length (take_while is_name_byte line.now) }
+    ensures { result ≡ length (take_while is_field_name_byte line.now) }
 {
-    line.iter().take_while(|byte| is_name_byte(**byte)).count()
+    line.iter()
+        .take_while(|byte| is_field_name_byte(**byte))
+        .count()
 }
 
 /// Whether a field name may begin with the first byte of a line.
@@ -80,7 +83,7 @@ fn begins_name(line: &[u8]) -> bool
     ensures { result ≡ is_field_name (take 1 line.now) }
 {
     match line {
-        [first, ..] => *first != b'#' && *first != b'-' && is_name_byte(*first),
+        [first, ..] => *first != b'#' && *first != b'-' && is_field_name_byte(*first),
         [] => false,
     }
 }

@@ -1,6 +1,7 @@
 //! Lines: where one ends, and whether it is blank or goes on with a field.
 ghost use Rattle.std.specs.Prelude.{◌≡◌, ◌+◌, ◌<◌, ◌^◌, ◌∷◌, true, false, length, IfNone, IfSome};
-ghost use Rattle.dist_control.specs.Bytes.{is_padding, is_blank, is_continuation};
+ghost use Rattle.dist_base.specs.Ascii.{is_padding};
+ghost use Rattle.dist_control.specs.Bytes.{is_blank, is_continuation};
 ghost use Rattle.dist_control.specs.Lines.{lines, IsCutAtLine};
 ghost use Rattle.dist_control.specs.RawStanza.{run, raw_stanzas_from};
 ghost use Rattle.dist_control.specs.Pieces.{IsAtStanza, IsAtField, IsAtNoField, EndsField, IsBlankBefore, IsContinuedTo};

@@ -5,7 +5,7 @@ use Rattle.std.proofs.lemmas.List.Elements.{All-nil, All-push, All-weaker, All-c
 use Rattle.dist_clause.specs.Formula.{Literal, negation}
 use Rattle.dist_derive.specs.TrueLiterals.{LiteralList, Assumes}
 use Rattle.dist_derive.specs.Propagation.{IsFalse, AllFalse, OthersFalse}
-use Rattle.dist_derive.specs.Containment.{ContainsAll}
+use Rattle.dist_derive.specs.ContainmentPrivate.{ContainsAll}
 use Rattle.dist_derive.proofs.ValuedLemmas.{All-front, All-last}
 
 pub ContainsAll-itself : {X : Type 0} (xs : List X) → ContainsAll xs xs

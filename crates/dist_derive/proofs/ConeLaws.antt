@@ -6,7 +6,7 @@ use Rattle.std.proofs.lemmas.Bool.{cases_Bool, true≢false}
 use Rattle.std.proofs.lemmas.List.Elements.{All-nil, All-cons, All-weaker, All-contains, Contains-get_or}
 use Rattle.std.proofs.lemmas.List.{take-append-le}
 use Rattle.dist_clause.specs.Formula.{Literal, IsClauseOver, MakesTrue, IsModel}
-use Rattle.dist_derive.specs.Containment.{ContainsAll}
+use Rattle.dist_derive.specs.ContainmentPrivate.{ContainsAll}
 use Rattle.dist_derive.specs.Cone.{InCone, IsWithinCone}
 use Rattle.dist_derive.proofs.GrowingLemmas.{is_member, is_member-true, is_member-at}
 

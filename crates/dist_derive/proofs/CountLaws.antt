@@ -9,7 +9,7 @@ use Rattle.std.proofs.lemmas.List.{length-map, get_or-map, get_or_default, take-
 use Rattle.std.proofs.lemmas.List.Elements.{All-nil, All-cons, All-contains, Contains-get_or, Contains-push, Contains-append_left}
 use Rattle.std.proofs.lemmas.List.Kept.{AllPairs-cons}
 use Rattle.dist_clause.specs.Formula.{Literal, literal}
-use Rattle.dist_derive.specs.Containment.{ContainsAll}
+use Rattle.dist_derive.specs.ContainmentPrivate.{ContainsAll}
 use Rattle.dist_derive.specs.Cone.{InCone, IsWithinCone}
 use Rattle.dist_derive.specs.New.{EachIsNew}
 use Rattle.dist_derive.proofs.LiteralLemmas.{contains_or_not}

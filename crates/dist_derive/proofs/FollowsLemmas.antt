@@ -10,7 +10,7 @@ use Rattle.dist_derive.specs.Follows.{IsNumberOf, EndsFalse}
 use Rattle.dist_derive.specs.TrueLiterals.{LiteralList, HasOutcome}
 use Rattle.dist_derive.specs.declared.true_literals.Outcome.{Outcome}
 use Rattle.dist_derive.specs.declared.true_literals.Outcome.TheVariants.{Conflict, Unit as UnitClause, Open}
-use Rattle.dist_derive.specs.Hints.{TakesHint, AreConflicts}
+use Rattle.dist_derive.specs.HintsPrivate.{TakesHint, AreConflicts}
 use Rattle.dist_derive.proofs.OutcomeLemmas.{not_unit, same_unit}
 
 -- the hints that are left end in a false clause, or none is left and the last one's clause was false

@@ -12,7 +12,7 @@ use Rattle.dist_derive.proofs.ValuedLemmas.{All-front, All-last}
 use Rattle.dist_derive.specs.VariableSet.{VariableList}
 use Rattle.dist_derive.specs.Marking.{HasAll, Includes, Grows, IsClosedAt}
 use Rattle.dist_derive.specs.Cone.{IsClosedUnder, InCone}
-use Rattle.dist_derive.specs.Containment.{ContainsAll}
+use Rattle.dist_derive.specs.ContainmentPrivate.{ContainsAll}
 
 pub Grows-none : (s : VariableList) → Grows s s false
 Grows-none s = record {

@@ -8,7 +8,7 @@ use Rattle.std.proofs.lemmas.List.Elements.{All-push, All-contains, All-get_or, 
 use Rattle.std.proofs.lemmas.List.Quantifiers.{all_pairs_push}
 use Rattle.dist_clause.specs.Formula.{Literal, literal, negation, IsClauseOver}
 use Rattle.dist_clause.specs.ClauseList.{clause_at}
-use Rattle.dist_derive.specs.Containment.{ContainsAll}
+use Rattle.dist_derive.specs.ContainmentPrivate.{ContainsAll}
 use Rattle.dist_derive.specs.Propagation.{IsUnset, AllFalse, IsUnit}
 use Rattle.dist_derive.specs.Follows.{IsNumberOf, EndsFalse, Follows, Step, AreUnitSteps, EachLineFollows}
 use Rattle.dist_derive.proofs.AssumeLemmas.{ContainsAll-then, ContainsAll-push, AllFalse-more, OthersFalse-more}

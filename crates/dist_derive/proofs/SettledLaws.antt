@@ -3,7 +3,7 @@ use Rattle.std.proofs.Common.{◌≢◌, ℕ, inl, inr, List, [], ◌∷◌, get
 use Rattle.std.specs.List.{AllPairs, Contains}
 use Rattle.std.proofs.lemmas.List.Elements.{All-contains}
 use Rattle.dist_clause.specs.Formula.{Literal}
-use Rattle.dist_derive.specs.Containment.{ContainsAll}
+use Rattle.dist_derive.specs.ContainmentPrivate.{ContainsAll}
 use Rattle.dist_derive.specs.Propagation.{IsFalse, IsUnset, AllFalse, OthersFalse, IsUnit, IsPropagated, IsConsistent, IsSettled}
 use Rattle.dist_derive.specs.Cone.{IsWithinCone}
 use Rattle.dist_derive.specs.New.{IsNew, LeavesUnset}

@@ -9,8 +9,8 @@ use Rattle.dist_derive.specs.TrueLiterals.{LiteralList, HasOutcome}
 use Rattle.dist_derive.specs.declared.true_literals.Outcome.TheVariants.{Open}
 use Rattle.dist_derive.specs.Propagation.{IsUnset, AllFalse, IsUnit, IsConsistent, IsPropagated}
 use Rattle.dist_derive.specs.New.{LeavesUnset}
-use Rattle.dist_derive.specs.Containment.{ContainsAll}
-use Rattle.dist_derive.specs.Sweep.{IsForced, IsRefuted, AllOpen}
+use Rattle.dist_derive.specs.ContainmentPrivate.{ContainsAll}
+use Rattle.dist_derive.specs.SweepPrivate.{IsForced, IsRefuted, AllOpen}
 use Rattle.dist_derive.proofs.LiteralLemmas.{contains_or_not}
 use Rattle.dist_derive.proofs.OutcomeLemmas.{all_false_with}
 use Rattle.dist_derive.proofs.ValuedLemmas.{All-front, All-last}

@@ -1,4 +1,4 @@
-pub mod Containment
+pub mod ContainmentPrivate
 pub mod ClauseLog
 pub mod Propagation
 pub mod Follows
@@ -7,7 +7,7 @@ pub mod New
 pub mod VariableSet
 pub mod Marking
 pub mod TrueLiterals
-pub mod Hints
-pub mod Sweep
+pub mod HintsPrivate
+pub mod SweepPrivate
 pub mod Scratch
 pub mod Examples

@@ -2,7 +2,7 @@
 use Rattle.std.specs.Prelude.{◌≡◌, ◌≢◌, ℕ, ◌+◌, ◌<◌, ◌≤◌, ◌↔◌, Bool, true, false, not, List, [], ◌∷◌, ◌++◌, length, All}
 use Rattle.std.specs.Prelude.{AllPairs, Contains, count_by}
 use Rattle.dist_clause.specs.Formula.{Literal, value_of}
-use Rattle.dist_derive.specs.Containment.{ContainsAll}
+use Rattle.dist_derive.specs.ContainmentPrivate.{ContainsAll}
 use Rattle.dist_derive.specs.VariableSet.{VariableList}
 
 -- each member is marked, no other variable is, none is twice a member, and there is room for all variables

@@ -3,7 +3,7 @@
 ghost use Rattle.std.specs.Prelude.{◌≡◌, ◌↔◌, [], ℕ, Bool, IsTrue};
 ghost use Rattle.dist_clause.specs.Formula.{IsClauseOver, MakesTrue, IsModel};
 ghost use Rattle.dist_derive.specs.Follows.{EndsFalse, Follows};
-ghost use Rattle.dist_derive.specs.Hints.{AreConflicts, TakesHint};
+ghost use Rattle.dist_derive.specs.HintsPrivate.{AreConflicts, TakesHint};
 
 use crate::conflicts::Conflicts;
 use crate::true_literals::{Outcome, TrueLiterals};

@@ -4,7 +4,7 @@
 ghost use Rattle.std.specs.Prelude.{◌≡◌, ◌≢◌, ◌+◌, ◌^◌, ◌≤◌, ◌↔◌, ℕ, Bool, true, false, List, [], ◌∷◌, ◌++◌, length, map, take, All, AllPairs, Any, Contains};
 ghost use Rattle.dist_clause.specs.Formula.{Literal, IsClauseOver, MakesTrue, IsModel};
 ghost use Rattle.dist_clause.specs.ClauseList.{clause_at};
-ghost use Rattle.dist_derive.specs.Containment.{ContainsAll};
+ghost use Rattle.dist_derive.specs.ContainmentPrivate.{ContainsAll};
 ghost use Rattle.dist_derive.specs.Propagation.{IsFalse, IsUnset, AllFalse, IsUnit, IsPropagated, IsConsistent, IsSettled};
 ghost use Rattle.dist_derive.specs.Follows.{IsNumberOf, EndsFalse, Follows, Step, AreUnitSteps, EachLineFollows};
 ghost use Rattle.dist_derive.specs.Cone.{InCone, IsWithinCone};

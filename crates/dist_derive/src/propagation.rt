@@ -1,8 +1,8 @@
 //! Unit propagation by walks over the first clauses of a log.
 
 ghost use Rattle.std.specs.Prelude.{◌≡◌, ◌≤◌, ◌-◌, false, length, take, IsTrue};
-ghost use Rattle.dist_derive.specs.Containment.{ContainsAll};
-ghost use Rattle.dist_derive.specs.Sweep.{IsForced, IsRefuted, AllOpen, Sweeps};
+ghost use Rattle.dist_derive.specs.ContainmentPrivate.{ContainsAll};
+ghost use Rattle.dist_derive.specs.SweepPrivate.{IsForced, IsRefuted, AllOpen, Sweeps};
 
 use crate::Log;
 use crate::true_literals::{Outcome, TrueLiterals};

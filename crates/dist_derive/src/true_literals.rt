@@ -48,7 +48,7 @@ impl Model for TrueLiterals {
 
 impl TrueLiterals {
     ghost use Rattle.dist_derive.specs.TrueLiterals.{HasTruth, HasOutcome, Assumes};
-    ghost use Rattle.dist_derive.specs.Containment.{ContainsAll};
+    ghost use Rattle.dist_derive.specs.ContainmentPrivate.{ContainsAll};
 
     /// No literal is true.
     pub fn new(alloc: Global, variables: u32) -> Result<TrueLiterals, AllocError>

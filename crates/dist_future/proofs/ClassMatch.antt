@@ -21,7 +21,7 @@ use Rattle.dist_space.specs.Space.{IsExample, IsMatched, IsMeaning, IsFrame, Mee
 use Rattle.dist_space.specs.Space.{moved_version}
 use Rattle.dist_future.specs.Stands.{fresh_package}
 use Rattle.dist_space.specs.declared.meaning.Meaning.TheVariants.{New, Kept, Fresh}
-use Rattle.dist_classes.specs.VersionOrder.{equal-itself}
+use Rattle.dist_classes.specs.VersionOrderLaws.{equal-itself}
 use Rattle.dist_space.specs.ClusterLaws.{HasCluster}
 
 -- ---- the laws of classes

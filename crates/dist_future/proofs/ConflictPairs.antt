@@ -12,7 +12,7 @@ use Rattle.dist_repo.specs.Match.{IsUsable, Matches}
 use Rattle.dist_repo.specs.PackageList.{IsPackageAnd}
 use Rattle.dist_repo.specs.declared.package.Package.{Package}
 use Rattle.dist_future.specs.FutureHealth.{AreConflicting, Holds}
-use Rattle.dist_future.specs.Matching.{IsOther, IsRejectedFrom}
+use Rattle.dist_future.specs.MatchingPrivate.{IsOther, IsRejectedFrom}
 use Rattle.dist_space.specs.Space.{IsMatched, IsMeaning, IsMetBy, IsSpace, SpaceView, variable_of}
 use Rattle.dist_space_clauses.specs.SpaceClauses.{Excludes}
 use Rattle.dist_space.specs.declared.meaning.Meaning.{Meaning}

@@ -30,7 +30,7 @@ use Rattle.dist_future.proofs.DemandLemmas.{AreMet, IsMetIn}
 use Rattle.dist_space.specs.ClusterLaws.{has-cluster, names-apart}
 use Rattle.dist_future.proofs.SpaceLemmas.{never-at, one-of-name, fresh-class}
 use Rattle.dist_future.proofs.SpaceParts.{conflict-atom, member-of-class, never-taken, other-name}
-use Rattle.dist_classes.specs.VersionOrder.{equal-back}
+use Rattle.dist_classes.specs.VersionOrderLaws.{equal-back}
 
 -- ---- conflicts
 

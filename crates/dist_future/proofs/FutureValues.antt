@@ -9,7 +9,7 @@ use Rattle.dist_base.specs.ListLaws.{any-contained}
 use Rattle.dist_version.specs.Order.{version_cmp}
 use Rattle.dist_clause.specs.Formula.{Literal, IsModel, value_of}
 use Rattle.dist_repo.specs.DecidedLaws.{any-decided, both-decided, equal-decided, IsDecided, same-as, some-decided, text-decided}
-use Rattle.dist_repo.specs.Equality.{package_eq, packages_decide}
+use Rattle.dist_repo.specs.EqualityPrivate.{package_eq, packages_decide}
 use Rattle.dist_repo.specs.PackageList.{IsPackageAnd}
 use Rattle.dist_repo.specs.declared.package.Package.{Package}
 use Rattle.dist_classes.specs.ClassList.{IsOfClass, IsOfClassAt}

@@ -3,7 +3,7 @@ use Rattle.std.proofs.Common.{◌≡◌, ◌⊎◌, ℕ, ◌+◌, ◌<◌, Optio
 use Rattle.std.specs.Option.{is_some}
 use Rattle.std.proofs.lemmas.Bool.{cases_lt, false≢true}
 use Rattle.dist_base.specs.Least.{IsLeast, IsLeastIfAny, IsLeastPair}
-use Rattle.dist_future.specs.Matching.{IsLesserOf}
+use Rattle.dist_future.specs.MatchingPrivate.{IsLesserOf}
 
 -- one of those so far
 abbrev pub Before : (ℕ → ℕ → Type 0) → ℕ → ℕ → Type 0

@@ -8,7 +8,7 @@ use Rattle.dist_repo.specs.Order.{IsFlat}
 use Rattle.dist_repo.specs.PackageList.{IsPackageAnd}
 use Rattle.dist_repo.specs.declared.package.Package.{Package}
 use Rattle.dist_future.specs.FutureHealth.{Holds, IsMissing, SomeHolds}
-use Rattle.dist_future.specs.Matching.{IsInstalled}
+use Rattle.dist_future.specs.MatchingPrivate.{IsInstalled}
 use Rattle.dist_space.specs.Space.{SpaceView, member_classes}
 use Rattle.dist_space_clauses.specs.SpaceClauses.{IsBearer}
 use Rattle.dist_future.specs.SpaceLaws.{holds_under}

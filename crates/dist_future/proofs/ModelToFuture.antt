@@ -44,7 +44,7 @@ use Rattle.dist_space.specs.RisingLaws.{pairs-more}
 use Rattle.dist_future.proofs.SpaceLemmas.{above-top, class-above, clustered-same}
 use Rattle.dist_future.proofs.SpaceParts.{conflict-atom, member-of-class, never-taken}
 use Rattle.dist_space.specs.ClusterLaws.{has-cluster, names-apart}
-use Rattle.dist_classes.specs.VersionOrder.{equal-itself}
+use Rattle.dist_classes.specs.VersionOrderLaws.{equal-itself}
 
 -- a name stands once among names in order
 one-place : (names : List (List ℕ)) (m n : ℕ) (a b : List ℕ) → IsStrictlySortedBy (slice_cmp nat_cmp) names → slice_get names m ≡ Some a

@@ -10,7 +10,7 @@ use Rattle.dist_repo.specs.Match.{IsUsable}
 use Rattle.dist_repo.specs.declared.package.Package.{Package}
 use Rattle.dist_future.specs.FutureHealth.{AreApart, AreNoFuture, Holds, Needs}
 use Rattle.dist_space.specs.Space.{IsChange, IsMeaningOf, IsMeaning, IsSpace, SpaceView, variable_of}
-use Rattle.dist_future.specs.Matching.{IsChangeAt, IsHeldFrom, IsLacking}
+use Rattle.dist_future.specs.MatchingPrivate.{IsChangeAt, IsHeldFrom, IsLacking}
 use Rattle.dist_future.specs.SpaceLaws.{holds_under}
 use Rattle.dist_space.specs.declared.meaning.Meaning.{Meaning}
 use Rattle.dist_space.specs.declared.meaning.Meaning.TheVariants.{Now, Present, At, New, Kept, Fresh}

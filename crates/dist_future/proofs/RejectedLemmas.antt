@@ -8,7 +8,7 @@ use Rattle.dist_relation.specs.declared.atom.Atom.{Atom}
 use Rattle.dist_repo.specs.declared.package.Package.{Package}
 use Rattle.dist_future.specs.FutureHealth.{Holds}
 use Rattle.dist_space.specs.Space.{IsMeaningOf, IsMatched, SpaceView}
-use Rattle.dist_future.specs.Matching.{IsRejectedBy, IsRejectedFrom}
+use Rattle.dist_future.specs.MatchingPrivate.{IsRejectedBy, IsRejectedFrom}
 use Rattle.dist_space.specs.declared.meaning.Meaning.{Meaning}
 use Rattle.dist_space.specs.declared.meaning.Meaning.TheVariants.{Present}
 use Rattle.dist_future.proofs.FoundLemmas.{IsAny}

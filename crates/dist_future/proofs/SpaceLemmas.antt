@@ -17,7 +17,7 @@ use Rattle.dist_future.specs.Future.{IsAboveCluster}
 use Rattle.dist_space.specs.Space.{IsFrame, SpaceView, cluster_classes, fresh_classes, member_classes}
 use Rattle.dist_future.proofs.ClassMatch.{ClassLaws}
 use Rattle.dist_space.specs.ClusterLaws.{has-cluster, in-package, member-at, names-apart, placed-in, whole-at}
-use Rattle.dist_classes.specs.VersionOrder.{alike-left, alike-right, not-above_below, not-both}
+use Rattle.dist_classes.specs.VersionOrderLaws.{alike-left, alike-right, not-above_below, not-both}
 
 -- ---- classes of equal versions
 

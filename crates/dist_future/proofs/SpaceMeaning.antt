@@ -29,7 +29,7 @@ use Rattle.dist_future.proofs.FutureValues.{future-model, number-decided}
 use Rattle.dist_future.proofs.ModelToFuture.{AreVersions, future-is, healthy-is, holds-cluster, old-member, today-is}
 use Rattle.dist_future.proofs.SpaceLemmas.{class-of, class_at-same, never-at, one-class, one-of-name, same-clustered, top-below}
 use Rattle.dist_space.specs.ClusterLaws.{has-cluster, in-package, placed-in}
-use Rattle.dist_classes.specs.VersionOrder.{equal-back}
+use Rattle.dist_classes.specs.VersionOrderLaws.{equal-back}
 
 module _ (laws : ClassLaws) (s : SpaceView) (space : IsSpace s) where
   -- ---- the fates of clusters in a future

@@ -14,7 +14,7 @@ use Rattle.dist_repo.specs.Size.{IsWithinSize, relations_of}
 use Rattle.dist_repo.specs.declared.package.Package.{Package}
 use Rattle.dist_future.specs.FutureHealth.{Holds, IsUnmetAt, SomeHolds}
 use Rattle.dist_space.specs.Space.{IsMeaningOf, IsMatched, IsMetBy, IsSpace, SpaceView, variable_of}
-use Rattle.dist_future.specs.Matching.{IsOther, IsUnmetItem}
+use Rattle.dist_future.specs.MatchingPrivate.{IsOther, IsUnmetItem}
 use Rattle.dist_space_clauses.specs.SpaceClauses.{IsItemAnd}
 use Rattle.dist_space.specs.declared.meaning.Meaning.{Meaning}
 use Rattle.dist_space.specs.declared.meaning.Meaning.TheVariants.{Now, Present, At, New, Kept, Fresh}

@@ -4,7 +4,7 @@ pub mod Stands
 pub mod SpaceLaws
 pub mod FutureExamples
 pub mod FutureHealth
-pub mod Matching
+pub mod MatchingPrivate
 pub mod HealthLaws
 pub use Rattle.dist_space.specs.Space
 pub use Rattle.dist_space.specs.SpaceOf

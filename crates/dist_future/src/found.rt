@@ -4,8 +4,8 @@ ghost use Rattle.dist_base.specs.Least.{IsLeastIfAny};
 ghost use Rattle.dist_repo.specs.Match.{IsUsable};
 ghost use Rattle.dist_repo.specs.Providers.{AreProviders};
 ghost use Rattle.dist_future.specs.FutureHealth.{IsOneEach};
-ghost use Rattle.dist_space_clauses.specs.Gathering.{IsFresh, IsLaterOf, IsOfVersion};
-ghost use Rattle.dist_future.specs.Matching.{IsFound, IsLesserOf, IsMovedBut, IsOther, IsPresentBut};
+ghost use Rattle.dist_space_clauses.specs.GatheringPrivate.{IsFresh, IsLaterOf, IsOfVersion};
+ghost use Rattle.dist_future.specs.MatchingPrivate.{IsFound, IsLesserOf, IsMovedBut, IsOther, IsPresentBut};
 ghost use Rattle.dist_space.specs.Space.{IsMeaning, member_classes};
 ghost use Rattle.dist_space.specs.declared.meaning.Meaning.TheVariants as meaning;
 

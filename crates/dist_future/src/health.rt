@@ -3,7 +3,7 @@ ghost use Rattle.std.specs.Prelude.{◌≡◌, ◌≤◌, ◌<◌, ◌↔◌, �
 ghost use Rattle.dist_base.specs.Least.{IsLeastIfAny, IsLeastPairIfAny, IsLesserPair};
 ghost use Rattle.dist_repo.specs.Size.{IsWithinSize};
 ghost use Rattle.dist_future.specs.FutureHealth.{AreConflicting, IsFutureHealth, IsMissing, IsOneEach, IsUnmetAt, SomeHolds};
-ghost use Rattle.dist_future.specs.Matching.{IsItemAt, IsInstalled, IsRejectedBy, IsRejectedFrom, IsUnmetItem};
+ghost use Rattle.dist_future.specs.MatchingPrivate.{IsItemAt, IsInstalled, IsRejectedBy, IsRejectedFrom, IsUnmetItem};
 ghost use Rattle.dist_space.specs.Space.{IsMeaning, IsMetBy};
 ghost use Rattle.dist_future.specs.SpaceLaws.{holds_under};
 

@@ -2,7 +2,7 @@
 ghost use Rattle.std.specs.Prelude.{◌≡◌, ◌≤◌, length};
 ghost use Rattle.dist_base.specs.Least.{IsLeastIfAny, IsLeastPairIfAny};
 ghost use Rattle.dist_future.specs.FutureHealth.{AreNoFuture, IsOneEach};
-ghost use Rattle.dist_future.specs.Matching.{IsChangeAt, IsHeldFrom, IsLacking};
+ghost use Rattle.dist_future.specs.MatchingPrivate.{IsChangeAt, IsHeldFrom, IsLacking};
 ghost use Rattle.dist_space.specs.Space.{IsMeaning, cluster_classes, fresh_classes};
 ghost use Rattle.dist_space.specs.declared.meaning.Meaning.TheVariants as meaning;
 

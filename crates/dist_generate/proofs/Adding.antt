@@ -7,7 +7,7 @@ use Rattle.std.proofs.lemmas.List.Concat.{flat_map-append}
 use Rattle.dist_generate.specs.Draws.{Drawing, next_state, draw, give, ◌>>=◌, many}
 use Rattle.dist_generate.specs.Generator.{Alternative, Drawn, item, items, item_text, conflict, depends_lines, conflicts_lines, stanza_head, text_of_lines}
 use Rattle.dist_generate.specs.Generator.{drawn, stanza_text}
-use Rattle.dist_generate.specs.Steps.{Adds}
+use Rattle.dist_generate.specs.StepsPrivate.{Adds}
 use Rattle.dist_generate.proofs.Joins.{joined-first, joined-more}
 use Rattle.dist_generate.proofs.SmallDraws.{length-many}
 

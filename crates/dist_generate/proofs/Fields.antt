@@ -4,11 +4,11 @@ use Rattle.std.proofs.Common.{◌∙◌, arith, inl, inr}
 use Rattle.std.specs.Prelude.{codes, decimal, if◌then◌else◌}
 use Rattle.std.specs.List.{join_by, join_with_byte}
 use Rattle.std.proofs.lemmas.Bool.{false≢true}
-use Rattle.dist_control.specs.Bytes.{is_white}
+use Rattle.dist_base.specs.Ascii.{is_white}
 use Rattle.dist_control.specs.ControlText.{IsReading}
 use Rattle.dist_control.specs.Fields.{trim, continuations, fields_from, field_spelled}
 use Rattle.dist_control.specs.declared.field_list.Stanza.{Stanza}
-use Rattle.dist_package.specs.Named.{value_of, name_of as field_name}
+use Rattle.dist_package.specs.Named.{value_of, relation_field_name as field_name}
 use Rattle.dist_package.specs.PackageOf.{IsPackageOf, ReadsName, ReadsVersionField, ReadsSource, ReadsArchitecture, all}
 use Rattle.dist_package.specs.declared.error.RelationField.TheVariants.{Depends, Conflicts}
 use Rattle.dist_relation.specs.Grammar.{ReadsDepends, ReadsAtoms}

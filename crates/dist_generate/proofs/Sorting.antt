@@ -10,7 +10,7 @@ use Rattle.std.proofs.lemmas.Map.Text.{is_eq-slice_cmp}
 use Rattle.std.proofs.lemmas.Slice.Eq.{bytes_eq-Decides}
 use Rattle.dist_version.specs.Order.{version_cmp}
 use Rattle.dist_repo.specs.Order.{package_cmp, IsInOrder}
-use Rattle.dist_repo.specs.Total.{package_total}
+use Rattle.dist_repo.specs.TotalLaws.{package_total}
 use Rattle.dist_repo.specs.declared.package.Package.{Package}
 
 abbrev Below : Package → Package → Type 0

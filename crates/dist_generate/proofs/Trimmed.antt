@@ -4,7 +4,7 @@ use Rattle.std.specs.Prelude.{decimal}
 use Rattle.std.proofs.lemmas.Bool.{cond-false, not-true}
 use Rattle.std.proofs.lemmas.List.{reverse-append, reverse-reverse}
 use Rattle.std.proofs.lemmas.Fmt.{decimal_by_steps}
-use Rattle.dist_control.specs.Bytes.{is_white}
+use Rattle.dist_base.specs.Ascii.{is_white}
 use Rattle.dist_control.specs.Fields.{trim_start, trim}
 use Rattle.dist_generate.proofs.Digits.{digit-passes}
 

@@ -6,8 +6,9 @@ use Rattle.std.specs.List.{list_all, join_by, prefix_len}
 use Rattle.std.proofs.lemmas.Bool.{and_parts, cond-true, false≢true}
 use Rattle.std.proofs.lemmas.List.{take_all, drop_all}
 use Rattle.std.proofs.lemmas.Fmt.{decimal_digit}
-use Rattle.dist_version.specs.Spelling.{IsVersion, IsMadeOf, is_upstream_byte, has, colon, hyphen}
-use Rattle.dist_relation.specs.Bytes.{IsName, IsBlank, is_name_byte, comma, bar}
+use Rattle.dist_base.specs.Ascii.{bar, colon, comma, hyphen}
+use Rattle.dist_version.specs.Spelling.{IsVersion, IsMadeOf, is_upstream_byte, has}
+use Rattle.dist_relation.specs.Bytes.{IsName, IsBlank, is_name_byte}
 use Rattle.dist_relation.specs.Grammar.{SpellsAlternatives, SpellsPiece, Joined, ReadsDepends, ReadsAtoms, ReadsProvides}
 use Rattle.dist_relation.specs.declared.atom.Atom.{Atom}
 use Rattle.dist_relation.specs.declared.atom.Op.TheVariants.{Lt, Ge}

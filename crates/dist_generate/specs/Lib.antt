@@ -1,6 +1,6 @@
 pub mod Draws
 pub mod Generator
 pub mod Packages
-pub mod Steps
+pub mod StepsPrivate
 pub mod Archive
 pub mod Examples

@@ -5,7 +5,7 @@ ghost use Rattle.dist_base.specs.declared.TheConstants.{MAX_SIZE};
 ghost use Rattle.dist_generate.specs.Draws.{many};
 ghost use Rattle.dist_generate.specs.Generator.{alternative, item, items, conflict, drawn, generated};
 ghost use Rattle.dist_generate.specs.Generator.{drawn_bound, alternative_text, item_text, depends_lines, conflicts_lines, stanza_head, stanza_text, text_of_lines};
-ghost use Rattle.dist_generate.specs.Steps.{Adds};
+ghost use Rattle.dist_generate.specs.StepsPrivate.{Adds};
 
 use crate::draws::Draws;
 use itoa::Buffer;

@@ -15,8 +15,8 @@ use Rattle.dist_version.specs.Spelling.{IsVersion}
 use Rattle.dist_repo.specs.Providers.{IsPackageAt}
 use Rattle.dist_repo.specs.declared.package.Package.{Package}
 use Rattle.dist_list.specs.LineParts.{parts_of}
-use Rattle.dist_list.specs.PackageSet.{Names, IsListLine, IsNamed, NameSet, NamesSet, IsBadAt}
-use Rattle.dist_list.specs.Listed.{IsLine, Marks, ReadSoFar}
+use Rattle.dist_list.specs.PackageSet.{Names, IsListLine, IsInList, NameSet, NamesSet, IsBadAt}
+use Rattle.dist_list.specs.ListedPrivate.{IsLine, Marks, ReadSoFar}
 use Rattle.dist_list.specs.declared.list.Line.{Line}
 use Rattle.dist_list.specs.declared.list.Line.TheVariants as lines_of
 
@@ -79,8 +79,8 @@ ReadSoFar-start packages text members len none = record {
 
 one_line_more : (packages : List Package) (text rest after line : List ℕ) (number : ℕ) (old new : List Bool) (so_far : ReadSoFar packages text rest number old)
     → lines rest ≡ line ∷ lines after → IsListLine packages line → length new ≡ length old
-    → ((m : ℕ) → slice_get new m ≡ Some true → IsNamed packages (so_far.done ++ line ∷ []) m)
-    → ((m : ℕ) → IsNamed packages (so_far.done ++ line ∷ []) m → slice_get new m ≡ Some true)
+    → ((m : ℕ) → slice_get new m ≡ Some true → IsInList packages (so_far.done ++ line ∷ []) m)
+    → ((m : ℕ) → IsInList packages (so_far.done ++ line ∷ []) m → slice_get new m ≡ Some true)
     → ReadSoFar packages text after (number + 1) new
 one_line_more packages text rest after line number old new so_far next is_line same to from = record {
   done = so_far.done ++ line ∷ [];

@@ -1,7 +1,8 @@
 -- Where the first part of a line begins and ends.
 use Rattle.std.proofs.Common.{◌≡◌, ℕ, ◌+◌, Bool, true, false, not, cond, List, [], ◌∷◌, take, drop, refl, ap, sym, ◌∙◌, subst, suc, arith}
 use Rattle.std.specs.List.{prefix_len}
-use Rattle.dist_list.specs.LineParts.{is_padding, goes_on, in_part, parts_of, with_part}
+use Rattle.dist_base.specs.Ascii.{is_padding}
+use Rattle.dist_list.specs.LineParts.{goes_on, in_part, parts_of, with_part}
 
 one-add : (n : ℕ) → 1 + n ≡ suc n
 one-add n = omega arith

@@ -1,4 +1,4 @@
 pub mod LineParts
-pub mod Listed
+pub mod ListedPrivate
 pub mod OneAnswer
 pub mod PackageSet

@@ -1,8 +1,6 @@
 -- The parts of a line of LIST.
 use Rattle.std.specs.Prelude.{◌≡◌, ℕ, Bool, true, false, not, ◌||◌, ◌==◌, List, [], ◌∷◌, if◌then◌else◌, codes, refl}
-
-abbrev pub is_padding : ℕ → Bool
-is_padding byte = byte == 32 || byte == 9
+use Rattle.dist_base.specs.Ascii.{is_padding}
 
 -- the next byte, if there is one, belongs to a part
 abbrev pub goes_on : List ℕ → Bool

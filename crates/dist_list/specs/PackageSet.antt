@@ -23,14 +23,14 @@ abbrev pub IsListLine : List Package → List ℕ → Type 0
 IsListLine packages line = (parts_of line ≡ []) ⊎ ((number : ℕ) × Names packages line number)
 
 -- some line names the package of this number
-abbrev pub IsNamed : List Package → List (List ℕ) → ℕ → Type 0
-IsNamed packages list number = (line : List ℕ) × Contains list line × Names packages line number
+abbrev pub IsInList : List Package → List (List ℕ) → ℕ → Type 0
+IsInList packages list number = (line : List ℕ) × Contains list line × Names packages line number
 
 -- Each of the lines is blank or names a package. The set has one truth value per package: whether a line names it.
 pub record NameSet (packages : List Package) (list : List (List ℕ)) (members : List Bool) : Type 0 where
   pub each : All (IsListLine packages) list
   pub one_each : length members ≡ length packages
-  pub named : (number : ℕ) → (slice_get members number ≡ Some true) ↔ IsNamed packages list number
+  pub named : (number : ℕ) → (slice_get members number ≡ Some true) ↔ IsInList packages list number
 
 abbrev pub NamesSet : List Package → (text : List ℕ) → List Bool → Type 0
 NamesSet packages text members = NameSet packages (lines text) members

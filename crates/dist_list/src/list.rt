@@ -2,7 +2,7 @@
 ghost use Rattle.std.specs.Prelude.{◌≡◌, ◌↔◌, ℕ, Some, length, IfOk};
 ghost use Rattle.dist_base.specs.Answers.{Answers};
 ghost use Rattle.dist_list.specs.PackageSet.{IsBadList, NamesSet};
-ghost use Rattle.dist_list.specs.Listed.{IsShape, IsLine, Marks};
+ghost use Rattle.dist_list.specs.ListedPrivate.{IsShape, IsLine, Marks};
 ghost use Rattle.dist_version.specs.Spelling.{IsVersion};
 ghost use Rattle.dist_repo.specs.Providers.{IsPackageAt};
 

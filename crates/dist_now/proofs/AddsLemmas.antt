@@ -3,7 +3,7 @@ use Rattle.std.proofs.Common.{◌≡◌, ◌↔◌, ℕ, ◌+◌, ◌<◌, ◌�
 use Rattle.std.specs.Prelude.{Contains}
 use Rattle.std.proofs.lemmas.Bool.{cases_lt}
 use Rattle.std.proofs.lemmas.List.Elements.{Contains-append_left, Contains-push, Contains-push_cases}
-use Rattle.dist_now.specs.Gathering.{Adds}
+use Rattle.dist_now.specs.GatheringPrivate.{Adds}
 
 -- those that have the property of one of the first places
 abbrev pub UpTo : {X : Type 0} → (ℕ → X → Type 0) → ℕ → X → Type 0

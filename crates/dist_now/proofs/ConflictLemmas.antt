@@ -17,7 +17,7 @@ use Rattle.dist_repo.specs.Order.{package_cmp, IsInOrder, IsSamePackage}
 use Rattle.dist_repo.specs.PackageList.{PackageList, IsPackageAnd}
 use Rattle.dist_repo.specs.declared.package.Package.{Package}
 use Rattle.dist_now.specs.Health.{AreConflicting}
-use Rattle.dist_now.specs.Rejected.{IsRejected}
+use Rattle.dist_now.specs.RejectedPrivate.{IsRejected}
 
 -- ---- conflicts
 

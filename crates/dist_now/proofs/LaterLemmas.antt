@@ -5,7 +5,7 @@ use Rattle.dist_base.specs.ListLaws.{element-is, has-at, some-element, within-fr
 use Rattle.dist_repo.specs.Order.{IsInOrder}
 use Rattle.dist_repo.specs.PackageList.{PackageList}
 use Rattle.dist_repo.specs.declared.package.Package.{Package}
-use Rattle.dist_now.specs.Rows.{IsLater}
+use Rattle.dist_now.specs.RowsPrivate.{IsLater}
 use Rattle.dist_now.proofs.LeastLemmas.{IsNoneTo}
 use Rattle.dist_now.proofs.NameLemmas.{between-named}
 

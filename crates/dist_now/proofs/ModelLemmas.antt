@@ -14,11 +14,11 @@ use Rattle.dist_base.specs.ListLaws.{element-is, has-at, pair-from, place-of, so
 use Rattle.dist_version.specs.Order.{version_cmp}
 use Rattle.dist_version.specs.OrderLaws.{version_cmp-same}
 use Rattle.dist_clause.specs.Formula.{Literal, IsTrueLiteral, MakesTrue, IsModel, value_of}
-use Rattle.dist_relation.specs.Equality.{equivalence}
+use Rattle.dist_relation.specs.EqualityPrivate.{equivalence}
 use Rattle.dist_relation.specs.declared.atom.Atom.{Atom}
 use Rattle.dist_repo.specs.Conflict.{AreInConflict}
 use Rattle.dist_repo.specs.DecidedLaws.{any-decided, matches-decided}
-use Rattle.dist_repo.specs.Equality.{package_eq, packages_decide}
+use Rattle.dist_repo.specs.EqualityPrivate.{package_eq, packages_decide}
 use Rattle.dist_repo.specs.Healthy.{IsMet, required_names}
 use Rattle.dist_repo.specs.Match.{Matches}
 use Rattle.dist_repo.specs.Order.{IsInOrder}

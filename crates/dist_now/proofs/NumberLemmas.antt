@@ -12,7 +12,7 @@ use Rattle.dist_repo.specs.Match.{Matches}
 use Rattle.dist_repo.specs.PackageList.{PackageList, IsPackageAnd}
 use Rattle.dist_repo.specs.Providers.{AreProviders, IsProvider}
 use Rattle.dist_repo.specs.declared.package.Package.{Package}
-use Rattle.dist_now.specs.Gathering.{Adds, IsMatchedAt}
+use Rattle.dist_now.specs.GatheringPrivate.{Adds, IsMatchedAt}
 use Rattle.dist_now.specs.PresentClauses.{AreNumbersOf, IsMetBy}
 use Rattle.dist_now.proofs.AddsLemmas.{UpTo, AddsUpTo, adds-exact, adds-nothing, adds-one, adds-same}
 

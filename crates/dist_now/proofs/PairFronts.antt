@@ -12,7 +12,7 @@ use Rattle.dist_repo.specs.Conflict.{AreInConflict}
 use Rattle.dist_repo.specs.Order.{IsInOrder}
 use Rattle.dist_repo.specs.PackageList.{PackageList, IsPackageAnd}
 use Rattle.dist_repo.specs.declared.package.Package.{Package}
-use Rattle.dist_now.specs.Gathering.{Adds, IsFront, IsPairWith, IsRejectingPair, Rejects}
+use Rattle.dist_now.specs.GatheringPrivate.{Adds, IsFront, IsPairWith, IsRejectingPair, Rejects}
 use Rattle.dist_now.specs.PresentClauses.{Apart, IsDemand, not_installed}
 use Rattle.dist_now.proofs.AddsLemmas.{adds-exact}
 use Rattle.dist_now.proofs.ConflictLemmas.{never-same}

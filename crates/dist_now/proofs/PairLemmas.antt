@@ -10,7 +10,7 @@ use Rattle.dist_repo.specs.Match.{IsUsable, Matches}
 use Rattle.dist_repo.specs.PackageList.{PackageList, IsPackageAnd}
 use Rattle.dist_repo.specs.Providers.{AreProviders}
 use Rattle.dist_repo.specs.declared.package.Package.{Package}
-use Rattle.dist_now.specs.Gathering.{Adds, IsPairIn, IsPairOf, IsPairWithin, IsPairWith, IsRejectingPair, Rejects}
+use Rattle.dist_now.specs.GatheringPrivate.{Adds, IsPairIn, IsPairOf, IsPairWithin, IsPairWith, IsRejectingPair, Rejects}
 use Rattle.dist_now.proofs.AddsLemmas.{UpTo, AddsUpTo, adds-exact, adds-nothing, adds-one, adds-same}
 use Rattle.dist_now.proofs.MemberLemmas.{matched-provides}
 
@@ -96,7 +96,8 @@ pairs-all r start end number atom providers count old new rest are adds =
     from : (x : ℕ × ℕ) → IsWith r start end number P x → UpTo (IsPairAt r start end number providers P) count x
     from x both =
         let with = both.1 in
-        let there : Contains providers with.other = (are.exact with.other).1 (at-more P _ (matched-provides r.architecture atom) r.packages with.other with.has) in
+        let there : Contains providers with.other = (are.exact with.other).1 (at-more P _ (matched-provides r.architecture atom) r.packages with.other with.has)
+        in
         let is : get_or providers there.0 0 ≡ with.other = get_or_default providers there.0 0 with.other there.1 ∙ there.2 in
         let here : IsPairAt r start end number providers P there.0 x = record {
           is_pair = subst (λ (k : ℕ). IsPairOf number k x) (sym is) with.is_pair;

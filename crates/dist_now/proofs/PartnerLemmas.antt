@@ -4,7 +4,7 @@ use Rattle.std.specs.Prelude.{Contains}
 use Rattle.std.specs.List.Sorted.{IsNonDecreasingBy}
 use Rattle.std.proofs.lemmas.Bool.{cases_lt}
 use Rattle.std.proofs.lemmas.List.{get_or_default}
-use Rattle.dist_now.specs.Gathering.{Adds, AreSplitAt}
+use Rattle.dist_now.specs.GatheringPrivate.{Adds, AreSplitAt}
 use Rattle.dist_now.proofs.AddsLemmas.{UpTo, AddsUpTo, adds-none, adds-one, adds-same}
 
 -- the second number of the pair at a place, from a first place on

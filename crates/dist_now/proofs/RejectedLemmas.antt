@@ -12,7 +12,7 @@ use Rattle.dist_repo.specs.Match.{Matches}
 use Rattle.dist_repo.specs.PackageList.{PackageList}
 use Rattle.dist_repo.specs.Providers.{AreProviders, IsProvider}
 use Rattle.dist_repo.specs.declared.package.Package.{Package}
-use Rattle.dist_now.specs.Rejected.{IsRejected, IsRejectedBy}
+use Rattle.dist_now.specs.RejectedPrivate.{IsRejected, IsRejectedBy}
 use Rattle.dist_now.proofs.MemberLemmas.{matched-provides}
 use Rattle.std.proofs.lemmas.Option.{slice_get_within}
 

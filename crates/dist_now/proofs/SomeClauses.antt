@@ -16,7 +16,7 @@ use Rattle.dist_repo.specs.Match.{Matches}
 use Rattle.dist_repo.specs.Order.{IsInOrder}
 use Rattle.dist_repo.specs.PackageList.{PackageList, IsPackageAnd}
 use Rattle.dist_repo.specs.declared.package.Package.{Package}
-use Rattle.dist_now.specs.Gathering.{IsFront, IsNamedBelow, IsNamedFront, IsPlainSet}
+use Rattle.dist_now.specs.GatheringPrivate.{IsFront, IsNamedBelow, IsNamedFront, IsPlainSet}
 use Rattle.dist_now.specs.PresentClauses.{Demand, Item, Apart, Required, AreNumbersOf, ArePresentClauses, IsClauseFor, IsDemand, IsMetBy, installed}
 use Rattle.dist_now.specs.PresentClauses.{not_installed}
 use Rattle.dist_now.proofs.FrontLemmas.{all-items, all-pairs, front-start, item-pushed, item-skipped, items-end, pair-pushed, pair-shifted, pairs-end}

@@ -8,7 +8,7 @@ use Rattle.dist_base.specs.ListLaws.{at-has, element-is, has-at, some-element, w
 use Rattle.dist_repo.specs.Order.{IsInOrder}
 use Rattle.dist_repo.specs.PackageList.{PackageList, IsPackageAnd}
 use Rattle.dist_repo.specs.declared.package.Package.{Package}
-use Rattle.dist_now.specs.Gathering.{Adds}
+use Rattle.dist_now.specs.GatheringPrivate.{Adds}
 use Rattle.dist_now.proofs.AddsLemmas.{UpTo, AddsUpTo, adds-none, adds-one, adds-same}
 use Rattle.dist_now.proofs.NameLemmas.{between-named}
 

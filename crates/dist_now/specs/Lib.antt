@@ -1,11 +1,11 @@
 pub mod Health
 pub mod Members
 pub mod Fit
-pub mod Rows
-pub mod Rejected
+pub mod RowsPrivate
+pub mod RejectedPrivate
 pub mod PresentClauses
 pub mod PresentSet
 pub mod PresentLaws
-pub mod Gathering
+pub mod GatheringPrivate
 pub mod PresentExamples
 pub mod HealthExamples

@@ -88,7 +88,7 @@ present_demands r = record {
 
 -- The clauses of the demands with a property: one for each demand, in the order of demands.
 abbrev pub AreClausesOf : PackageList → (Demand → Type 0) → List (List Literal) → Type 0
-AreClausesOf r = made.AreClausesOf (present_demands r)
+AreClausesOf r = made.AreClausesFor (present_demands r)
 
 -- The clauses of the present, at mode essential or plain.
 abbrev pub ArePresentClauses : PackageList → Bool → List (List Literal) → Type 0

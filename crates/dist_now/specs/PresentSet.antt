@@ -12,11 +12,11 @@ IsSetOf r = made.IsSetOf (present_demands r)
 
 -- there are as many clauses as there may be
 abbrev pub PassesClauses : PackageList → Bool → (clause_limit literal_limit : ℕ) → Type 0
-PassesClauses r essential = made.PassesClauses (present_demands r) (IsDemand r essential)
+PassesClauses r essential = made.PassesClauseLimit (present_demands r) (IsDemand r essential)
 
 -- there is room for the clause, but not for its literals
 abbrev pub PassesLiterals : PackageList → Bool → (clause_limit literal_limit : ℕ) → Type 0
-PassesLiterals r essential = made.PassesLiterals (present_demands r) (IsDemand r essential)
+PassesLiterals r essential = made.PassesLiteralLimit (present_demands r) (IsDemand r essential)
 
 -- why a refusal came; want of memory may come at any time
 abbrev pub IsCause : PackageList → Bool → (clause_limit literal_limit : ℕ) → PushError → Type 0

@@ -4,7 +4,7 @@ ghost use Rattle.dist_base.specs.Least.{IsLeastIfAny, IsLeastPairIfAny, IsLesser
 ghost use Rattle.dist_repo.specs.Providers.{AreProviders};
 ghost use Rattle.dist_now.specs.Fit.{IsOneEach};
 ghost use Rattle.dist_now.specs.Health.{AreConflicting};
-ghost use Rattle.dist_now.specs.Rejected.{IsRejectedBy, IsRejected};
+ghost use Rattle.dist_now.specs.RejectedPrivate.{IsRejectedBy, IsRejected};
 
 use crate::members::is_member;
 use dist_clause::Assignment;

@@ -1,7 +1,7 @@
 //! The names of essential packages, each looked at once: packages stand in the order of their names, so the last essential
 //! one before a package tells whether its name came before.
 ghost use Rattle.std.specs.Prelude.{◌≡◌, ◌+◌, ◌↔◌, IsTrue, Some, slice_get};
-ghost use Rattle.dist_now.specs.Gathering.{IsLastEssential, IsNamedBelow};
+ghost use Rattle.dist_now.specs.GatheringPrivate.{IsLastEssential, IsNamedBelow};
 
 use dist_repo::{Package, Repository};
 

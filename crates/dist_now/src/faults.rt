@@ -4,7 +4,7 @@ ghost use Rattle.dist_base.specs.Least.{IsLeastIfAny, IsLeastPairIfAny};
 ghost use Rattle.dist_repo.specs.Size.{IsWithinSize};
 ghost use Rattle.dist_now.specs.Fit.{IsOneEach};
 ghost use Rattle.dist_now.specs.Health.{AreTwoVersions, IsUnmetAt};
-ghost use Rattle.dist_now.specs.Rows.{IsLater, IsUnmetItem};
+ghost use Rattle.dist_now.specs.RowsPrivate.{IsLater, IsUnmetItem};
 
 use crate::members::{is_member, is_met};
 use dist_clause::Assignment;

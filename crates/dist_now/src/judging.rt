@@ -3,7 +3,7 @@ ghost use Rattle.std.specs.Prelude.{◌≡◌, ◌<◌, ◌↔◌, ℕ, IsTrue, 
 ghost use Rattle.dist_base.specs.Least.{IsLeastIfAny};
 ghost use Rattle.dist_repo.specs.Size.{IsWithinSize};
 ghost use Rattle.dist_now.specs.Fit.{IsOneEach};
-ghost use Rattle.dist_now.specs.Gathering.{IsLastEssential};
+ghost use Rattle.dist_now.specs.GatheringPrivate.{IsLastEssential};
 ghost use Rattle.dist_now.specs.Health.{IsHealth, IsMissing};
 
 use crate::conflicts::conflict;

@@ -4,7 +4,7 @@ ghost use Rattle.std.specs.List.Sorted.{IsStrictlyIncreasing};
 ghost use Rattle.dist_repo.specs.Match.{Matches};
 ghost use Rattle.dist_repo.specs.PackageList.{IsPackageAnd};
 ghost use Rattle.dist_repo.specs.Providers.{AreProviders};
-ghost use Rattle.dist_now.specs.Gathering.{Adds, IsMatchedAt};
+ghost use Rattle.dist_now.specs.GatheringPrivate.{Adds, IsMatchedAt};
 ghost use Rattle.dist_now.specs.Members.{IsItemAt};
 ghost use Rattle.dist_now.specs.PresentClauses.{AreNumbersOf, IsMetBy};
 

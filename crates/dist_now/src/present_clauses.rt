@@ -6,7 +6,7 @@ ghost use Rattle.dist_base.specs.declared.TheConstants.{MAX_CLAUSES, MAX_LITERAL
 ghost use Rattle.dist_base.specs.Answers.{IsExactly};
 ghost use Rattle.dist_clause.specs.ClauseList.{IsWithinLimits};
 ghost use Rattle.dist_clause.specs.declared.clause_set.PushError.TheVariants.{TooManyClauses, TooManyLiterals, NoMemory};
-ghost use Rattle.dist_now.specs.Gathering.{AreSplitAt, IsCauseAt, IsEssentialSet, IsFront, IsLastEssential, IsNamedFront, IsPairIn, IsPlainSet, IsRejectingPair};
+ghost use Rattle.dist_now.specs.GatheringPrivate.{AreSplitAt, IsCauseAt, IsEssentialSet, IsFront, IsLastEssential, IsNamedFront, IsPairIn, IsPlainSet, IsRejectingPair};
 ghost use Rattle.dist_now.specs.Members.{IsItemAt};
 ghost use Rattle.dist_now.specs.PresentClauses.{Apart, Item, Required, IsClauseFor, IsDemand, installed, not_installed};
 ghost use Rattle.dist_now.specs.PresentSet.{IsCause, IsSetOf, PassesClauses, PassesLiterals};

@@ -5,7 +5,7 @@ ghost use Rattle.std.specs.Prelude.{◌≡◌, ◌≢◌, ◌<◌, ◌≤◌, �
 ghost use Rattle.std.specs.List.Sorted.{IsNonDecreasingBy};
 ghost use Rattle.dist_repo.specs.Match.{Matches};
 ghost use Rattle.dist_repo.specs.Providers.{AreProviders};
-ghost use Rattle.dist_now.specs.Gathering.{Adds, AreSplitAt, IsPairIn, IsPairOf, IsPairWithin, IsPairWith, IsRejectingPair, Rejects};
+ghost use Rattle.dist_now.specs.GatheringPrivate.{Adds, AreSplitAt, IsPairIn, IsPairOf, IsPairWithin, IsPairWith, IsRejectingPair, Rejects};
 
 use crate::numbers::place_from;
 use dist_relation::Atom;

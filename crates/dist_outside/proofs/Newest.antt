@@ -9,7 +9,7 @@ use Rattle.std.specs.FinMap.{get, insert, get-insert}
 use Rattle.std.specs.declared.alloc.AllocError.{AllocError}
 use Rattle.dist_outside.specs.Files.{Writing, appended_to, with_more}
 use Rattle.dist_outside.proofs.Files.{insert-insert, get-insert_same}
-use Rattle.dist_outside.specs.Kept.{files_of, newest_name}
+use Rattle.dist_outside.specs.KeptPrivate.{files_of, newest_name}
 use Rattle.dist_outside.specs.declared.named_files.NamedFile.{NamedFile}
 
 -- what a look-up finds from a place on: the file there, if it has the name, or else what it finds from the next place on

@@ -6,7 +6,7 @@ use Rattle.std.proofs.Math.Seq.{take-add}
 use Rattle.std.proofs.lemmas.Bool.{false≢true}
 use Rattle.dist_outside.specs.Files.{Files, Mode, Reading, IsReading, where_told, IsPresent, IsFile, IsLonger}
 use Rattle.dist_outside.specs.Reading.{moved, bytes_left, bytes_from, GivesNext}
-use Rattle.dist_outside.specs.SoFar.{ReadTo, SoFar}
+use Rattle.dist_outside.specs.SoFarPrivate.{ReadTo, SoFar}
 use Rattle.std.specs.FinMap.{get}
 
 some_value : (o : Option (List ℕ)) → IsSome o → (whole : List ℕ) × (o ≡ Some whole)

@@ -4,8 +4,8 @@ pub mod Files
 pub mod SinkView
 pub mod DeskView
 pub mod Reading
-pub mod SoFar
+pub mod SoFarPrivate
 pub mod Memory
-pub mod Kept
+pub mod KeptPrivate
 pub mod Real
-pub mod RealOpen
+pub mod RealOpenPrivate

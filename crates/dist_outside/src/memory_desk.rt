@@ -42,7 +42,7 @@ impl Model for MemoryDesk {
 
     ghost coded = { state_code };
 
-    ghost use Rattle.dist_outside.specs.Kept.{files_of, mode_of};
+    ghost use Rattle.dist_outside.specs.KeptPrivate.{files_of, mode_of};
     ghost use Rattle.dist_outside.specs.declared.memory_desk.Open.TheVariants as kept;
 
     ghost view = { λ s. record {

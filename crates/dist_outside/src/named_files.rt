@@ -3,7 +3,7 @@ ghost use Rattle.std.specs.Prelude.{◌≡◌, ◌+◌, ◌^◌, ◌<◌, ◌≤
 ghost use Rattle.std.specs.Option.{option_copied};
 ghost use Rattle.std.specs.FinMap as map;
 ghost use Rattle.dist_outside.specs.Files.{Writing, with_more};
-ghost use Rattle.dist_outside.specs.Kept.{files_of, newest_name};
+ghost use Rattle.dist_outside.specs.KeptPrivate.{files_of, newest_name};
 ghost use Rattle.dist_outside.specs.Reading.{bytes_from, GivesNext};
 
 use std::alloc::{AllocError, Global};

@@ -43,7 +43,7 @@ impl<R: Files + Drop> Model for RealDesk<R> {
 
     ghost coded = { real_code };
 
-    ghost use Rattle.dist_outside.specs.RealOpen.{real_mode, real_remaining, real_contents};
+    ghost use Rattle.dist_outside.specs.RealOpenPrivate.{real_mode, real_remaining, real_contents};
 
     ghost view = { λ s. record {
       mode = real_mode s.state;

@@ -4,7 +4,7 @@ ghost use Rattle.dist_outside.specs.Files.{IsWriting, IsNotWriting, IsFile, IsLo
 ghost use Rattle.dist_outside.specs.SinkView.{Grew, GrewByFront, WriteCause};
 ghost use Rattle.dist_outside.specs.DeskView.{OnlyReads, FileGrew, FileGrewByFront};
 ghost use Rattle.dist_outside.specs.Reading.{ReadCause, DeskWriteCause, IsWhole};
-ghost use Rattle.dist_outside.specs.SoFar.{SoFar};
+ghost use Rattle.dist_outside.specs.SoFarPrivate.{SoFar};
 
 use crate::{Desk, PIECE, Sink, Trouble, What, WorkError};
 use std::alloc::{AllocError, Global};

@@ -20,7 +20,7 @@ use Rattle.dist_repo.specs.PackageList.{PackageList}
 use Rattle.dist_repo.specs.Size.{relations_of, relation_count}
 use Rattle.dist_repo.specs.declared.package.Package.{Package}
 use Rattle.dist_package.specs.FirstFault.{Read, AreReadAfter}
-use Rattle.dist_package.specs.Named.{value_of, name_of}
+use Rattle.dist_package.specs.Named.{value_of, relation_field_name}
 use Rattle.dist_package.specs.PackageOf.{ReadsRelations}
 use Rattle.dist_package.specs.RepositoryOf.{IsRepositoryOf}
 use Rattle.dist_package.specs.declared.error.RelationField.TheVariants.{PreDepends, Depends, Conflicts, Breaks, Provides}
@@ -147,15 +147,16 @@ module _ (depends : (value : List ℕ) (items : List (List Atom)) → ReadsDepen
   package-within : (stanza : Stanza) (p : Package) → ReadsRelations stanza p.depends p.conflicts p.provides → relations_of p ≤ value_bytes stanza.fields
   package-within stanza p reads =
       let items : List (List Atom) → ℕ = sum_by (λ item. length item) in
-      let names : List (List ℕ) = name_of PreDepends ∷ name_of Depends ∷ name_of Conflicts ∷ name_of Breaks ∷ name_of Provides ∷ [] in
+      let names : List (List ℕ) = relation_field_name PreDepends ∷ relation_field_name Depends ∷ relation_field_name Conflicts ∷ relation_field_name Breaks
+      ∷ relation_field_name Provides ∷ [] in
       omega (
         arith,
         values-within stanza.fields names ((refl, (refl, (refl, (refl, tt)))), ((refl, (refl, (refl, tt))), ((refl, (refl, tt)), ((refl, tt), (tt, tt))))),
-        depends (value_of stanza (name_of PreDepends)) reads.pre_depends reads.reads_pre_depends,
-        depends (value_of stanza (name_of Depends)) reads.other_depends reads.reads_depends,
-        atoms (value_of stanza (name_of Conflicts)) reads.conflicts_alone reads.reads_conflicts,
-        atoms (value_of stanza (name_of Breaks)) reads.breaks reads.reads_breaks,
-        provides (value_of stanza (name_of Provides)) p.provides reads.reads_provides,
+        depends (value_of stanza (relation_field_name PreDepends)) reads.pre_depends reads.reads_pre_depends,
+        depends (value_of stanza (relation_field_name Depends)) reads.other_depends reads.reads_depends,
+        atoms (value_of stanza (relation_field_name Conflicts)) reads.conflicts_alone reads.reads_conflicts,
+        atoms (value_of stanza (relation_field_name Breaks)) reads.breaks reads.reads_breaks,
+        provides (value_of stanza (relation_field_name Provides)) p.provides reads.reads_provides,
         ap items reads.depends_is,
         sum_by-append (λ (item : List Atom). length item) reads.pre_depends reads.other_depends,
         ap length reads.conflicts_is,

@@ -1,6 +1,6 @@
 -- No kind of fault carries want of memory.
 use Rattle.std.proofs.Common.{◌≡◌, ◌≢◌, ℕ, List, [], ◌∷◌, Option, refl, sym, subst, inl, inr}
-use Rattle.dist_version.specs.Faults.{HasFault}
+use Rattle.dist_version.specs.Faults.{IsTextFault}
 use Rattle.dist_version.specs.declared.error.VersionError.TheVariants as versions
 use Rattle.dist_relation.specs.Faults.{FirstDependsFault, FirstAtomsFault, FirstProvidesFault, Comes}
 use Rattle.dist_version.specs.declared.error.VersionError.{VersionError}
@@ -10,9 +10,9 @@ use Rattle.dist_control.specs.RawStanza.{RawStanza}
 use Rattle.dist_control.specs.declared.error.ControlError.{ControlError}
 use Rattle.dist_control.specs.declared.error.ControlError.TheVariants as errors
 use Rattle.dist_control.specs.declared.field_list.Stanza.{Stanza}
-use Rattle.dist_package.specs.Named.{fault_at}
+use Rattle.dist_package.specs.Named.{fault_on}
 use Rattle.dist_package.specs.PackageOf.{HasRelationFault}
-use Rattle.dist_package.specs.FirstFault.{IsLineFault, HasFirstRelationFault, relation_fields, HasFieldFault, HasFirstFault, CarriesNoMemory, IsFreeOfMemory}
+use Rattle.dist_package.specs.FirstFault.{IsLineFault, HasFirstRelationFault, relation_fields, HasFieldFault, HasPackagesFault, CarriesNoMemory, IsFreeOfMemory}
 use Rattle.dist_package.specs.declared.error.Fault.{Fault}
 use Rattle.dist_package.specs.declared.error.Kind.{Kind}
 use Rattle.dist_package.specs.declared.error.Kind.TheVariants.{NoPackage, BadPackageName, NoVersion, BadVersionText, BadSource, BadArchitecture}
@@ -24,7 +24,7 @@ abbrev Carries : Fault → Type 0
 Carries fault = CarriesNoMemory fault.kind
 
 -- a fault of this line and kind carries what the kind does
-carried : (fault : Fault) (line : ℕ) (kind : Kind) → fault ≡ fault_at line kind → CarriesNoMemory kind → Carries fault
+carried : (fault : Fault) (line : ℕ) (kind : Kind) → fault ≡ fault_on line kind → CarriesNoMemory kind → Carries fault
 carried fault line kind is none = subst Carries (sym is) none
 
 of-line : (error : ControlError) (fault : Fault) → IsLineFault error fault → Carries fault
@@ -65,7 +65,7 @@ free-of (relations.Trailing place) free other = tt
 free-of (relations.OpInProvides place) free other = tt
 free-of relations.NoMemory free other = absurd (other refl)
 
-module _ (memory : (text : List ℕ) → ¬ HasFault text versions.NoMemory)
+module _ (memory : (text : List ℕ) → ¬ IsTextFault text versions.NoMemory)
     (depends : (value : List ℕ) (error : RelationError) → FirstDependsFault value error → VersionIsFree error)
     (atoms : (value : List ℕ) (error : RelationError) → FirstAtomsFault value error → VersionIsFree error)
     (provides : (value : List ℕ) (error : RelationError) → FirstProvidesFault value error → VersionIsFree error) where
@@ -98,7 +98,7 @@ module _ (memory : (text : List ℕ) → ¬ HasFault text versions.NoMemory)
           | inl version ↦ elim version [
             | inl none ↦ carried fault _ NoVersion none.1 tt
             | inr bad ↦ carried fault _ (BadVersionText bad.error) bad.fault_is
-                (λ is. let P : VersionError → Type 0 = HasFault bad.value in memory bad.value (subst P is bad.has))
+                (λ is. let P : VersionError → Type 0 = IsTextFault bad.value in memory bad.value (subst P is bad.has))
           ]
           | inr versioned ↦ elim versioned.1 [
             | inl source ↦ carried fault _ BadSource source.fault_is tt
@@ -113,7 +113,7 @@ module _ (memory : (text : List ℕ) → ¬ HasFault text versions.NoMemory)
         ]
       ]
 
-  pub carries-none : (raws : List RawStanza) (limit : ℕ) (fault : Fault) → HasFirstFault raws limit fault → CarriesNoMemory fault.kind
+  pub carries-none : (raws : List RawStanza) (limit : ℕ) (fault : Fault) → HasPackagesFault raws limit fault → CarriesNoMemory fault.kind
   carries-none raws limit fault first =
       elim first.has [
         | inl lines ↦ of-line lines.0 fault lines.2

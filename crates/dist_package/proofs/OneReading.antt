@@ -11,7 +11,7 @@ use Rattle.dist_repo.specs.declared.package.Package.{Package}
 use Rattle.dist_package.specs.declared.error.Fault.{Fault}
 use Rattle.dist_package.specs.declared.error.PackagesError.{PackagesError}
 use Rattle.dist_package.specs.declared.error.PackagesError.TheVariants.{Bad, TooMany, NoMemory}
-use Rattle.dist_package.specs.FirstFault.{Read, ReadsAs, HasStanzaFault, AreReadAfter, AreRead, HasFirstFault, IsTooMany, IsRefused, architecture_of}
+use Rattle.dist_package.specs.FirstFault.{Read, ReadsAs, HasStanzaFault, AreReadAfter, AreRead, HasPackagesFault, IsTooMany, IsRefused, architecture_of}
 use Rattle.dist_package.specs.RepositoryOf.{IsRepositoryOf}
 
 -- ---- lists
@@ -113,7 +113,7 @@ module _ (one_read : (earlier : List Read) (raw : RawStanza) (a b : Read) → Re
       let Q : List Read → Type 0 = λ e. ReadsAs e raw c.read in
       apart reads raw c.read fault (subst Q same c.raw_read) faulty
 
-  one-first-fault : (raws : List RawStanza) (limit : ℕ) (a b : Fault) → HasFirstFault raws limit a → HasFirstFault raws limit b → b ≡ a
+  one-first-fault : (raws : List RawStanza) (limit : ℕ) (a b : Fault) → HasPackagesFault raws limit a → HasPackagesFault raws limit b → b ≡ a
   one-first-fault raws limit a b first second =
       let u = first.up_to in
       let v = second.up_to in
@@ -131,7 +131,7 @@ module _ (one_read : (earlier : List Read) (raw : RawStanza) (a b : Read) → Re
       ]
 
   -- a first fault lies below the limit, and one stanza too many at it
-  not-too-many : (raws : List RawStanza) (limit : ℕ) (a : Fault) → HasFirstFault raws limit a → ¬ IsTooMany raws limit
+  not-too-many : (raws : List RawStanza) (limit : ℕ) (a : Fault) → HasPackagesFault raws limit a → ¬ IsTooMany raws limit
   not-too-many raws limit a first many =
       let u = first.up_to in
       let v = many.up_to in

@@ -20,12 +20,12 @@ use Rattle.dist_relation.specs.declared.atom.Provide.{Provide}
 use Rattle.dist_relation.specs.declared.error.RelationError.{RelationError}
 use Rattle.dist_repo.specs.Order.{IsSamePackage}
 use Rattle.dist_repo.specs.declared.package.Package.{Package}
-use Rattle.dist_version.specs.Faults.{HasFault}
+use Rattle.dist_version.specs.Faults.{IsTextFault}
 use Rattle.dist_version.specs.Spelling.{ReadsVersion}
 use Rattle.dist_version.specs.declared.error.VersionError.{VersionError}
 use Rattle.dist_package.specs.FirstFault.{Read, architecture_of, IsLineFault, IsRelated, HasFirstRelationFault, relation_fields, HasFieldFault, IsClash}
 use Rattle.dist_package.specs.FirstFault.{HasPackage, ReadsAs, HasStanzaFault}
-use Rattle.dist_package.specs.Named.{field_named, value_of, line_of, IsFieldOf, fault_at, name_of}
+use Rattle.dist_package.specs.Named.{field_named, value_of, line_of, IsFieldOf, fault_on, relation_field_name}
 use Rattle.dist_package.specs.PackageOf.{ReadsName, HasNameFault, ReadsVersionField, HasVersionFault, ReadsSource, HasSourceFault, ReadsArchitecture}
 use Rattle.dist_package.specs.PackageOf.{HasArchitectureFault, all, HasFirstValueFault, HasRelationFault, ReadsRelations, IsPackageOf}
 use Rattle.dist_package.specs.Source.{name_part, version_part, IsInParentheses, ReadsVersionPart, SpellsSource, IsNoVersionPart, IsNoSource}
@@ -63,7 +63,7 @@ name_fault_one stanza a b (inl (none, is)) (inl (none', is')) = is' ∙ sym is
 name_fault_one stanza a b (inl (none, is)) (inr g) = absurd (no_field stanza _ g.value g.line none g.field)
 name_fault_one stanza a b (inr f) (inl (none, is)) = absurd (no_field stanza _ f.value f.line none f.field)
 name_fault_one stanza a b (inr f) (inr g) =
-    g.fault_is ∙ ap (λ (l : ℕ). fault_at l BadPackageName) (same_line stanza _ f.value g.value f.line g.line f.field g.field) ∙ sym f.fault_is
+    g.fault_is ∙ ap (λ (l : ℕ). fault_on l BadPackageName) (same_line stanza _ f.value g.value f.line g.line f.field g.field) ∙ sym f.fault_is
 
 name_apart : (stanza : Stanza) (a : List ℕ) (b : Fault) → ReadsName stanza a → ¬ HasNameFault stanza b
 name_apart stanza a b f (inl (none, is)) = no_field stanza _ a f.line none f.field
@@ -105,7 +105,7 @@ same_flag false true P f g = let h = f.1 (g.0 refl) in cc
 
 -- ---- the version, by the law of versions
 
-module _ (texts : (text : List ℕ) → IsExact (ReadsVersion text) (HasFault text)) where
+module _ (texts : (text : List ℕ) → IsExact (ReadsVersion text) (IsTextFault text)) where
   version_one : (stanza : Stanza) (a b : List ℕ) → ReadsVersionField stanza a → ReadsVersionField stanza b → b ≡ a
   version_one stanza a b f g = g.reads.0 ∙ same_value stanza _ f.value g.value f.line g.line f.field g.field ∙ sym f.reads.0
 
@@ -115,14 +115,14 @@ module _ (texts : (text : List ℕ) → IsExact (ReadsVersion text) (HasFault te
   version_fault_one stanza a b (inr f) (inl (none, is)) = absurd (no_field stanza _ f.value f.line none f.field)
   version_fault_one stanza a b (inr f) (inr g) =
       let value = same_value stanza _ f.value g.value f.line g.line f.field g.field in
-      let error = (texts f.value).one_fault g.error f.error (subst (λ (t : List ℕ). HasFault t g.error) value g.has) f.has in
-      g.fault_is ∙ ap (λ (l : ℕ). fault_at l (BadVersionText g.error)) (same_line stanza _ f.value g.value f.line g.line f.field g.field)
-      ∙ ap (λ (e : VersionError). fault_at f.line (BadVersionText e)) error ∙ sym f.fault_is
+      let error = (texts f.value).one_fault g.error f.error (subst (λ (t : List ℕ). IsTextFault t g.error) value g.has) f.has in
+      g.fault_is ∙ ap (λ (l : ℕ). fault_on l (BadVersionText g.error)) (same_line stanza _ f.value g.value f.line g.line f.field g.field)
+      ∙ ap (λ (e : VersionError). fault_on f.line (BadVersionText e)) error ∙ sym f.fault_is
 
   version_apart : (stanza : Stanza) (a : List ℕ) (b : Fault) → ReadsVersionField stanza a → ¬ HasVersionFault stanza b
   version_apart stanza a b f (inl (none, is)) = no_field stanza _ f.value f.line none f.field
   version_apart stanza a b f (inr g) =
-      (texts f.value).never_both a g.error f.reads (subst (λ (t : List ℕ). HasFault t g.error)
+      (texts f.value).never_both a g.error f.reads (subst (λ (t : List ℕ). IsTextFault t g.error)
       (same_value stanza _ f.value g.value f.line g.line f.field g.field) g.has)
 
   -- ---- the source
@@ -139,7 +139,7 @@ module _ (texts : (text : List ℕ) → IsExact (ReadsVersion text) (HasFault te
   part_apart part None f (inr (text, inside, fault)) = not_empty_part part text inside f
   part_apart part (Some v) (text, inside, reads) (inl (some, none)) = none text inside
   part_apart part (Some v) (text, inside, reads) (inr (text', inside', (error, has))) =
-      (texts text).never_both v error reads (subst (λ (t : List ℕ). HasFault t error) (inner_one part text text' inside inside') has)
+      (texts text).never_both v error reads (subst (λ (t : List ℕ). IsTextFault t error) (inner_one part text text' inside inside') has)
 
   source_one : (stanza : Stanza) (name version s t sv tv : List ℕ) → ReadsSource stanza name version s sv → ReadsSource stanza name version t tv → (t ≡ s)
       × (tv ≡ sv)
@@ -157,7 +157,7 @@ module _ (texts : (text : List ℕ) → IsExact (ReadsVersion text) (HasFault te
 
   source_fault_one : (stanza : Stanza) (a b : Fault) → HasSourceFault stanza a → HasSourceFault stanza b → b ≡ a
   source_fault_one stanza a b f g =
-      g.fault_is ∙ ap (λ (l : ℕ). fault_at l BadSource) (same_line stanza _ f.value g.value f.line g.line f.field g.field) ∙ sym f.fault_is
+      g.fault_is ∙ ap (λ (l : ℕ). fault_on l BadSource) (same_line stanza _ f.value g.value f.line g.line f.field g.field) ∙ sym f.fault_is
 
   no_source : (value name : List ℕ) (written : Option (List ℕ)) → SpellsSource value name written → ¬ IsNoSource value
   no_source value name written spells (inl none) = none (subst IsName spells.name_is spells.is_name)
@@ -184,8 +184,8 @@ architecture_one : (earlier : Option (List ℕ)) (stanza : Stanza) (a b : List �
 architecture_one earlier stanza a b f g = given_one stanza a b f.given g.given
 
 abbrev IsCause : (earlier : Option (List ℕ)) (value : List ℕ) (line : ℕ) → Fault → Type 0
-IsCause earlier value line fault = ((¬ IsName value) × (fault ≡ fault_at line BadArchitecture))
-    ⊎ (IsName value × (value ≢ all) × ((other : List ℕ) × (earlier ≡ Some other) × (other ≢ value)) × (fault ≡ fault_at line TwoArchitectures))
+IsCause earlier value line fault = ((¬ IsName value) × (fault ≡ fault_on line BadArchitecture))
+    ⊎ (IsName value × (value ≢ all) × ((other : List ℕ) × (earlier ≡ Some other) × (other ≢ value)) × (fault ≡ fault_on line TwoArchitectures))
 
 cause_one : (earlier : Option (List ℕ)) (value : List ℕ) (line : ℕ) (a b : Fault) → IsCause earlier value line a → IsCause earlier value line b → b ≡ a
 cause_one earlier value line a b (inl (none, is)) (inl (none', is')) = is' ∙ sym is
@@ -241,7 +241,7 @@ module _ (depends : (value : List ℕ) → IsExact (ReadsDepends value) (FirstDe
   error_one Provides value a b f g = (provides value).one_fault b a g f
 
   related_apart : (relation : RelationField) (stanza : Stanza) (error : RelationError) → IsRelated relation stanza
-      → ¬ HasFirstValueFault relation (value_of stanza (name_of relation)) error
+      → ¬ HasFirstValueFault relation (value_of stanza (relation_field_name relation)) error
   related_apart PreDepends stanza error (items, reads) has = (depends _).never_both items error reads has
   related_apart Depends stanza error (items, reads) has = (depends _).never_both items error reads has
   related_apart Conflicts stanza error (items, reads) has = (atoms _).never_both items error reads has
@@ -251,7 +251,8 @@ module _ (depends : (value : List ℕ) → IsExact (ReadsDepends value) (FirstDe
   relation_fault_one : (stanza : Stanza) (relation : RelationField) (a b : Fault) → HasRelationFault stanza relation a → HasRelationFault stanza relation b
       → b ≡ a
   relation_fault_one stanza relation a b (error, has, some, is) (error', has', some', is') =
-      is' ∙ ap (λ (e : RelationError). fault_at (line_of stanza (name_of relation)) (Relation relation e)) (error_one relation _ error error' has has') ∙ sym is
+      is' ∙ ap (λ (e : RelationError). fault_on (line_of stanza (relation_field_name relation)) (Relation relation e))
+      (error_one relation _ error error' has has') ∙ sym is
 
   first_relation_one : (relations : List RelationField) (stanza : Stanza) (a b : Fault) → HasFirstRelationFault relations stanza a
       → HasFirstRelationFault relations stanza b → b ≡ a
@@ -359,7 +360,7 @@ line_fault_one (errors.OrphanContinuation line) a b f g = g ∙ sym f
 line_fault_one (errors.DoubleField line) a b f g = g ∙ sym f
 line_fault_one errors.NoMemory a b f g = absurd f
 
-module _ (stanzas : (raw : RawStanza) → IsExactStanza raw) (texts : (text : List ℕ) → IsExact (ReadsVersion text) (HasFault text))
+module _ (stanzas : (raw : RawStanza) → IsExactStanza raw) (texts : (text : List ℕ) → IsExact (ReadsVersion text) (IsTextFault text))
     (depends : (value : List ℕ) → IsExact (ReadsDepends value) (FirstDependsFault value))
     (atoms : (value : List ℕ) → IsExact (ReadsAtoms value) (FirstAtomsFault value))
     (provides : (value : List ℕ) → IsExact (ReadsProvides value) (FirstProvidesFault value)) where
@@ -445,4 +446,4 @@ module _ (stanzas : (raw : RawStanza) → IsExactStanza raw) (texts : (text : Li
   one_fault earlier raw a b (inr (inr (read, line, stands, clash, is))) (inr (inr (read', line', stands', clash', is'))) =
       let same = has_one earlier raw read read' stands stands' in
       let one = clash_one earlier read.package_ line line' clash (subst (λ (r : Read). IsClash earlier r.package_ line') same clash') in
-      is' ∙ ap (λ (l : ℕ). fault_at raw.line (Clash l)) one ∙ sym is
+      is' ∙ ap (λ (l : ℕ). fault_on raw.line (Clash l)) one ∙ sym is

@@ -23,14 +23,15 @@ use Rattle.dist_repo.specs.declared.package.Package.{Package}
 use Rattle.dist_package.specs.declared.error.Fault.{Fault}
 use Rattle.dist_package.specs.declared.error.Kind.TheVariants.{Clash}
 use Rattle.dist_package.specs.declared.package.Described.{Described}
-use Rattle.dist_package.specs.Named.{fault_at}
+use Rattle.dist_package.specs.Named.{fault_on}
 use Rattle.dist_package.specs.PackageOf.{IsPackageOf, all}
-use Rattle.dist_package.specs.FirstFault.{Read, architecture_of, IsClash, HasPackage, ReadsAs, HasFieldFault, AreReadAfter, AreRead, HasFirstFault, IsTooMany}
+use Rattle.dist_package.specs.FirstFault.{Read, architecture_of, IsClash, HasPackage, ReadsAs, HasFieldFault, AreReadAfter, AreRead, HasPackagesFault}
+use Rattle.dist_package.specs.FirstFault.{IsTooMany}
 use Rattle.dist_package.specs.FirstFault.{IsBad, IsRefused}
 use Rattle.dist_package.specs.declared.error.PackagesError.{PackagesError}
 use Rattle.dist_package.specs.declared.error.PackagesError.TheVariants.{Bad, TooMany, NoMemory}
 use Rattle.dist_package.specs.RepositoryOf.{IsRepositoryOf}
-use Rattle.dist_package.specs.Steps.{GivesPackage, IsFaulty, Adds, IsClashFault}
+use Rattle.dist_package.specs.StepsPrivate.{GivesPackage, IsFaulty, Adds, IsClashFault}
 
 -- ---- one stanza more is read
 
@@ -239,7 +240,7 @@ module _ (text : List ℕ) (limit : ℕ) (old : Unread) (held : List Held) (arch
       ] in
       cases old.left refl
 
-  pub file-fault : (fault : Fault) → ¬ (count ≡ limit) → IsFaulty architecture old fault → HasFirstFault (raw_stanzas text) limit fault
+  pub file-fault : (fault : Fault) → ¬ (count ≡ limit) → IsFaulty architecture old fault → HasPackagesFault (raw_stanzas text) limit fault
   file-fault fault other faulty =
       record {
         raw = faulty.raw;
@@ -264,7 +265,7 @@ module _ (text : List ℕ) (limit : ℕ) (old : Unread) (held : List Held) (arch
       line_is = gives.line_is;
     }
 
-    pub file-clash : (fault : Fault) → ¬ (count ≡ limit) → IsClashFault held d.package_ d.line fault → HasFirstFault (raw_stanzas text) limit fault
+    pub file-clash : (fault : Fault) → ¬ (count ≡ limit) → IsClashFault held d.package_ d.line fault → HasPackagesFault (raw_stanzas text) limit fault
     file-clash fault other clash = record {
       raw = gives.raw;
       reads = so_far.reads;
@@ -275,7 +276,7 @@ module _ (text : List ℕ) (limit : ℕ) (old : Unread) (held : List Held) (arch
         clash.0,
         has-package,
         clash-of so_far.reads held d.package_ clash.0 so_far.kept clash.1,
-        clash.2 ∙ ap (λ n. fault_at n (Clash clash.0)) gives.line_is,
+        clash.2 ∙ ap (λ n. fault_on n (Clash clash.0)) gives.line_is,
       ));
     }
 
@@ -330,7 +331,7 @@ file-fewer text limit old held architecture count so_far packages is =
     omega (arith, ap length is, length-map held (λ (h : Held). h.0), so_far.few, so_far.within)
 
 -- an error that tells a fault tells the first fault of the file
-pub refused : (raws : List RawStanza) (limit : ℕ) (P : Fault → Type 0) → ((fault : Fault) → P fault → HasFirstFault raws limit fault) →
+pub refused : (raws : List RawStanza) (limit : ℕ) (P : Fault → Type 0) → ((fault : Fault) → P fault → HasPackagesFault raws limit fault) →
     (error : PackagesError) → IsBad P error → IsRefused raws limit error
 refused raws limit P first (Bad fault) bad = first fault bad
 refused raws limit P first TooMany bad = absurd bad

@@ -2,11 +2,12 @@
 use Rattle.std.proofs.Common.{◌≡◌, ◌⊎◌, ℕ, zero, suc, List, [], ◌∷◌, ◌++◌, Option, None, Some, inl, inr, refl, subst, sym, arith, length, unwrap_or}
 use Rattle.std.specs.Prelude.{All, Any, IfSome, codes, filter_map}
 use Rattle.std.proofs.lemmas.List.Elements.{All-append, All-cons, All-contains, All-nil, All-tail}
+use Rattle.dist_base.specs.Ascii.{bar, comma}
 use Rattle.dist_control.specs.RawStanza.{RawStanza, raw_stanzas}
 use Rattle.dist_control.specs.declared.field_list.Stanza.{Stanza}
 use Rattle.dist_version.specs.Spelling.{IsVersion}
-use Rattle.dist_relation.specs.Bytes.{IsName, bar, comma}
-use Rattle.dist_relation.specs.Grammar.{Joined, Reads, ReadsAtoms, ReadsDepends, ReadsProvides, SpellsAlternatives, SpellsAtom, SpellsBoundOf, SpellsPiece}
+use Rattle.dist_relation.specs.Bytes.{IsName}
+use Rattle.dist_relation.specs.Grammar.{Joined, ReadsValue, ReadsAtoms, ReadsDepends, ReadsProvides, SpellsAlternatives, SpellsAtom, SpellsBoundOf, SpellsPiece}
 use Rattle.dist_relation.specs.Grammar.{SpellsProvide, atom_of}
 use Rattle.dist_relation.specs.declared.atom.Atom.{Atom}
 use Rattle.dist_relation.specs.declared.atom.Bound.{Bound}
@@ -40,7 +41,7 @@ given-all P (Some x ∷ pieces) all = All-cons P x (filter_map (λ o. o) pieces)
     (given-all P pieces (All-tail (λ o. IfSome o P) (Some x) pieces all))
 
 reads-all : {X : Type 0} {Spells : List ℕ → X → Type 0} (P : X → Type 0) → ((text : List ℕ) (x : X) → Spells text x → P x) → (value : List ℕ) (items : List X)
-    → Reads Spells value items → All P items
+    → ReadsValue Spells value items → All P items
 reads-all {Spells = Spells} P each value items reads =
     subst (All P) (sym reads.given) (given-all P reads.pieces
     (joined-all comma (SpellsPiece Spells) (λ o. IfSome o P) (piece Spells P each) value reads.pieces reads.joined))

@@ -3,7 +3,7 @@ use Rattle.std.specs.Prelude.{◌≡◌, [], ◌∷◌, Some, codes, refl}
 use Rattle.std.proofs.Common.{inl}
 use Rattle.dist_control.specs.FieldText.{FieldText}
 use Rattle.dist_control.specs.declared.field_list.Stanza.{Stanza}
-use Rattle.dist_package.specs.Named.{field_named, value_of, fault_at}
+use Rattle.dist_package.specs.Named.{field_named, value_of, fault_on}
 use Rattle.dist_package.specs.PackageOf.{HasVersionFault, ReadsSource, ReadsArchitecture, all}
 use Rattle.dist_package.specs.declared.error.Kind.TheVariants.{NoVersion}
 
@@ -25,7 +25,7 @@ nothing_is_needed : value_of stanza (codes "Depends") ≡ []
 nothing_is_needed = refl
 
 -- there is no Version, which is told at the stanza's first line
-version_is_missing : HasVersionFault stanza (fault_at 3 NoVersion)
+version_is_missing : HasVersionFault stanza (fault_on 3 NoVersion)
 version_is_missing = inl (refl, refl)
 
 -- without Source the source is the package itself

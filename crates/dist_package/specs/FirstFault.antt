@@ -14,7 +14,7 @@ use Rattle.dist_relation.specs.declared.atom.Atom.{Atom}
 use Rattle.dist_relation.specs.declared.atom.Provide.{Provide}
 use Rattle.dist_repo.specs.Order.{IsSamePackage}
 use Rattle.dist_repo.specs.declared.package.Package.{Package}
-use Rattle.dist_package.specs.Named.{value_of, fault_at, name_of}
+use Rattle.dist_package.specs.Named.{value_of, fault_on, relation_field_name}
 use Rattle.dist_package.specs.PackageOf.{ReadsName, HasNameFault, ReadsVersionField, HasVersionFault, ReadsSource}
 use Rattle.dist_package.specs.PackageOf.{HasSourceFault, ReadsArchitecture, HasArchitectureFault, HasRelationFault}
 use Rattle.dist_package.specs.PackageOf.{IsPackageOf, all}
@@ -45,19 +45,22 @@ architecture_of reads = find (λ architecture. not (bytes_eq architecture all)) 
 
 -- a fault of control text as one of the file
 abbrev pub IsLineFault : ControlError → Fault → Type 0
-IsLineFault (errors.NoColon line) fault = fault ≡ fault_at line NoColon
-IsLineFault (errors.BadFieldName line) fault = fault ≡ fault_at line BadFieldName
-IsLineFault (errors.OrphanContinuation line) fault = fault ≡ fault_at line OrphanContinuation
-IsLineFault (errors.DoubleField line) fault = fault ≡ fault_at line DoubleField
+IsLineFault (errors.NoColon line) fault = fault ≡ fault_on line NoColon
+IsLineFault (errors.BadFieldName line) fault = fault ≡ fault_on line BadFieldName
+IsLineFault (errors.OrphanContinuation line) fault = fault ≡ fault_on line OrphanContinuation
+IsLineFault (errors.DoubleField line) fault = fault ≡ fault_on line DoubleField
 IsLineFault errors.NoMemory fault = ⊥
 
 -- the value of a field of relations has a reading
 abbrev pub IsRelated : RelationField → Stanza → Type 0
-IsRelated PreDepends stanza = (items : List (List Atom)) × ReadsDepends (value_of stanza (name_of PreDepends)) items
-IsRelated Depends stanza = (items : List (List Atom)) × ReadsDepends (value_of stanza (name_of Depends)) items
-IsRelated Conflicts stanza = (atoms : List Atom) × ReadsAtoms (value_of stanza (name_of Conflicts)) atoms
-IsRelated Breaks stanza = (atoms : List Atom) × ReadsAtoms (value_of stanza (name_of Breaks)) atoms
-IsRelated Provides stanza = (entries : List Provide) × ReadsProvides (value_of stanza (name_of Provides)) entries
+IsRelated PreDepends stanza = (items : List (List Atom))
+    × ReadsDepends (value_of stanza (relation_field_name PreDepends)) items
+IsRelated Depends stanza = (items : List (List Atom))
+    × ReadsDepends (value_of stanza (relation_field_name Depends)) items
+IsRelated Conflicts stanza = (atoms : List Atom) × ReadsAtoms (value_of stanza (relation_field_name Conflicts)) atoms
+IsRelated Breaks stanza = (atoms : List Atom) × ReadsAtoms (value_of stanza (relation_field_name Breaks)) atoms
+IsRelated Provides stanza = (entries : List Provide)
+    × ReadsProvides (value_of stanza (relation_field_name Provides)) entries
 
 -- the first of these fields that has a fault
 abbrev pub HasFirstRelationFault : List RelationField → Stanza → Fault → Type 0
@@ -110,7 +113,7 @@ HasStanzaFault earlier raw fault =
     ((error : ControlError) × control.HasFault raw error × IsLineFault error fault)
     ⊎ (((stanza : Stanza) × IsReading raw stanza × HasFieldFault (architecture_of earlier) stanza fault)
     ⊎ ((read : Read) × (line : ℕ) × HasPackage earlier raw read × IsClash earlier read.package_ line
-    × (fault ≡ fault_at raw.line (Clash line))))
+    × (fault ≡ fault_on raw.line (Clash line))))
 
 -- each raw stanza reads as the entry of its place, after the earlier ones and those before it
 abbrev pub AreReadAfter : (earlier : List Read) → List RawStanza → List Read → Type 0
@@ -131,7 +134,7 @@ pub record IsReadUpTo (raws : List RawStanza) (raw : RawStanza) (reads : List Re
   pub read : AreRead before reads
 
 -- The first faulty stanza, among the first ones up to the limit, has this fault.
-pub record HasFirstFault (raws : List RawStanza) (limit : ℕ) (fault : Fault) : Type 0 where
+pub record HasPackagesFault (raws : List RawStanza) (limit : ℕ) (fault : Fault) : Type 0 where
   pub raw : RawStanza
   pub reads : List Read
   pub up_to : IsReadUpTo raws raw reads
@@ -153,7 +156,7 @@ IsBad HasIt NoMemory = ⊥
 
 -- why a file of these raw stanzas is no repository
 abbrev pub IsRefused : List RawStanza → (limit : ℕ) → PackagesError → Type 0
-IsRefused raws limit (Bad fault) = HasFirstFault raws limit fault
+IsRefused raws limit (Bad fault) = HasPackagesFault raws limit fault
 IsRefused raws limit TooMany = IsTooMany raws limit
 IsRefused raws limit NoMemory = ⊥
 

@@ -5,5 +5,5 @@ pub mod PackageOf
 pub mod FirstFault
 pub mod RepositoryOf
 pub mod Spelled
-pub mod Steps
+pub mod StepsPrivate
 pub mod OneAnswer

@@ -29,13 +29,13 @@ pub record IsFieldOf (stanza : Stanza) (name value : List ℕ) (line : ℕ) : Ty
   pub value_is : field.value ≡ value
   pub line_is : field.line ≡ line
 
-abbrev pub fault_at : ℕ → Kind → Fault
-fault_at line kind = record { line = line; kind = kind }
+abbrev pub fault_on : ℕ → Kind → Fault
+fault_on line kind = record { line = line; kind = kind }
 
 -- the names of the fields that have relations
-abbrev pub name_of : RelationField → List ℕ
-name_of PreDepends = codes "Pre-Depends"
-name_of Depends = codes "Depends"
-name_of Conflicts = codes "Conflicts"
-name_of Breaks = codes "Breaks"
-name_of Provides = codes "Provides"
+abbrev pub relation_field_name : RelationField → List ℕ
+relation_field_name PreDepends = codes "Pre-Depends"
+relation_field_name Depends = codes "Depends"
+relation_field_name Conflicts = codes "Conflicts"
+relation_field_name Breaks = codes "Breaks"
+relation_field_name Provides = codes "Provides"

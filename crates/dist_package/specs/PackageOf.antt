@@ -9,10 +9,10 @@ use Rattle.dist_relation.specs.declared.atom.Provide.{Provide}
 use Rattle.dist_relation.specs.declared.error.RelationError.{RelationError}
 use Rattle.dist_relation.specs.declared.error.RelationError.TheVariants as relations
 use Rattle.dist_repo.specs.declared.package.Package.{Package}
-use Rattle.dist_version.specs.Faults.{HasFault}
+use Rattle.dist_version.specs.Faults.{IsTextFault}
 use Rattle.dist_version.specs.Spelling.{ReadsVersion}
 use Rattle.dist_version.specs.declared.error.VersionError.{VersionError}
-use Rattle.dist_package.specs.Named.{field_named, value_of, line_of, IsFieldOf, fault_at, name_of}
+use Rattle.dist_package.specs.Named.{field_named, value_of, line_of, IsFieldOf, fault_on, relation_field_name}
 use Rattle.dist_package.specs.Source.{SpellsSource, IsNoSource}
 use Rattle.dist_package.specs.declared.error.Fault.{Fault}
 use Rattle.dist_package.specs.declared.error.Kind.TheVariants.{NoPackage, BadPackageName, NoVersion, BadVersionText}
@@ -34,12 +34,12 @@ pub record IsNoName (stanza : Stanza) (fault : Fault) : Type 0 where
   pub line : ℕ
   pub field : IsFieldOf stanza (codes "Package") value line
   pub none : ¬ IsName value
-  pub fault_is : fault ≡ fault_at line BadPackageName
+  pub fault_is : fault ≡ fault_on line BadPackageName
 
 -- there is no field Package, or its value is no name
 abbrev pub HasNameFault : Stanza → Fault → Type 0
 HasNameFault stanza fault =
-    ((field_named stanza (codes "Package") ≡ None) × (fault ≡ fault_at stanza.line NoPackage)) ⊎ IsNoName stanza fault
+    ((field_named stanza (codes "Package") ≡ None) × (fault ≡ fault_on stanza.line NoPackage)) ⊎ IsNoName stanza fault
 
 -- the value of the field Version is this version
 pub record ReadsVersionField (stanza : Stanza) (version : List ℕ) : Type 0 where
@@ -53,13 +53,13 @@ pub record IsNoVersion (stanza : Stanza) (fault : Fault) : Type 0 where
   pub line : ℕ
   pub error : VersionError
   pub field : IsFieldOf stanza (codes "Version") value line
-  pub has : HasFault value error
-  pub fault_is : fault ≡ fault_at line (BadVersionText error)
+  pub has : IsTextFault value error
+  pub fault_is : fault ≡ fault_on line (BadVersionText error)
 
 -- there is no field Version, or its value is no version
 abbrev pub HasVersionFault : Stanza → Fault → Type 0
 HasVersionFault stanza fault =
-    ((field_named stanza (codes "Version") ≡ None) × (fault ≡ fault_at stanza.line NoVersion))
+    ((field_named stanza (codes "Version") ≡ None) × (fault ≡ fault_on stanza.line NoVersion))
     ⊎ IsNoVersion stanza fault
 
 -- ---- Source
@@ -83,7 +83,7 @@ pub record HasSourceFault (stanza : Stanza) (fault : Fault) : Type 0 where
   pub line : ℕ
   pub field : IsFieldOf stanza (codes "Source") value line
   pub none : IsNoSource value
-  pub fault_is : fault ≡ fault_at line BadSource
+  pub fault_is : fault ≡ fault_on line BadSource
 
 -- ---- Architecture
 
@@ -106,9 +106,9 @@ pub record HasArchitectureFault (earlier : Option (List ℕ)) (stanza : Stanza) 
   pub line : ℕ
   pub field : IsFieldOf stanza (codes "Architecture") value line
   -- the value is no name, or another than that of the earlier stanzas
-  pub cause : ((¬ IsName value) × (fault ≡ fault_at line BadArchitecture))
+  pub cause : ((¬ IsName value) × (fault ≡ fault_on line BadArchitecture))
       ⊎ (IsName value × (value ≢ all) × ((other : List ℕ) × (earlier ≡ Some other) × (other ≢ value))
-      × (fault ≡ fault_at line TwoArchitectures))
+      × (fault ≡ fault_on line TwoArchitectures))
 
 -- ---- relations
 
@@ -124,8 +124,9 @@ HasFirstValueFault Provides value error = FirstProvidesFault value error
 -- an empty one, which has no fault.
 abbrev pub IsRelationFault : (List ℕ → RelationError → Type 0) → Stanza → RelationField → Fault → Type 0
 IsRelationFault FirstFault stanza relation fault =
-    (error : RelationError) × FirstFault (value_of stanza (name_of relation)) error × (error ≢ relations.NoMemory)
-    × (fault ≡ fault_at (line_of stanza (name_of relation)) (Relation relation error))
+    (error : RelationError) × FirstFault (value_of stanza (relation_field_name relation)) error
+    × (error ≢ relations.NoMemory)
+    × (fault ≡ fault_on (line_of stanza (relation_field_name relation)) (Relation relation error))
 
 abbrev pub HasRelationFault : Stanza → RelationField → Fault → Type 0
 HasRelationFault stanza relation fault = IsRelationFault (HasFirstValueFault relation) stanza relation fault
@@ -138,11 +139,11 @@ pub record ReadsRelations (stanza : Stanza) (depends : List (List Atom)) (confli
   pub other_depends : List (List Atom)
   pub conflicts_alone : List Atom
   pub breaks : List Atom
-  pub reads_pre_depends : ReadsDepends (value_of stanza (name_of PreDepends)) pre_depends
-  pub reads_depends : ReadsDepends (value_of stanza (name_of Depends)) other_depends
-  pub reads_conflicts : ReadsAtoms (value_of stanza (name_of Conflicts)) conflicts_alone
-  pub reads_breaks : ReadsAtoms (value_of stanza (name_of Breaks)) breaks
-  pub reads_provides : ReadsProvides (value_of stanza (name_of Provides)) provides
+  pub reads_pre_depends : ReadsDepends (value_of stanza (relation_field_name PreDepends)) pre_depends
+  pub reads_depends : ReadsDepends (value_of stanza (relation_field_name Depends)) other_depends
+  pub reads_conflicts : ReadsAtoms (value_of stanza (relation_field_name Conflicts)) conflicts_alone
+  pub reads_breaks : ReadsAtoms (value_of stanza (relation_field_name Breaks)) breaks
+  pub reads_provides : ReadsProvides (value_of stanza (relation_field_name Provides)) provides
   pub depends_is : depends ≡ pre_depends ++ other_depends
   pub conflicts_is : conflicts ≡ conflicts_alone ++ breaks
 

@@ -1,10 +1,10 @@
 -- The value of a Source field (Debian Policy 5.6.1): a name, and perhaps a version in parentheses.
 use Rattle.std.specs.Prelude.{◌≡◌, ◌≢◌, ◌⊎◌, ℕ, Bool, ◌||◌, ◌==◌, List, [], ◌∷◌, ◌++◌, Option, None, Some, length, drop}
 use Rattle.std.specs.List.{before_first}
-use Rattle.dist_control.specs.Bytes.{is_white}
+use Rattle.dist_base.specs.Ascii.{closing, is_white, opening}
 use Rattle.dist_control.specs.Fields.{trim}
-use Rattle.dist_relation.specs.Bytes.{IsName, opening, closing}
-use Rattle.dist_version.specs.Faults.{HasFault}
+use Rattle.dist_relation.specs.Bytes.{IsName}
+use Rattle.dist_version.specs.Faults.{IsTextFault}
 use Rattle.dist_version.specs.Spelling.{ReadsVersion}
 use Rattle.dist_version.specs.declared.error.VersionError.{VersionError}
 
@@ -41,7 +41,7 @@ pub record SpellsSource (value name : List ℕ) (version : Option (List ℕ)) : 
 abbrev pub IsNoVersionPart : List ℕ → Type 0
 IsNoVersionPart part =
     ((part ≢ []) × ((text : List ℕ) → ¬ IsInParentheses part text))
-    ⊎ ((text : List ℕ) × IsInParentheses part text × ((fault : VersionError) × HasFault text fault))
+    ⊎ ((text : List ℕ) × IsInParentheses part text × ((fault : VersionError) × IsTextFault text fault))
 
 -- The value is no source: it begins with no name, or goes on otherwise than in parentheses, or there is no
 -- version in them.

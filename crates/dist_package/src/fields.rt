@@ -4,7 +4,7 @@ ghost use Rattle.dist_base.specs.Answers.{Answers};
 ghost use Rattle.dist_control.specs.FieldText.{field_text};
 ghost use Rattle.dist_relation.specs.Bytes.{IsName};
 ghost use Rattle.dist_package.specs.FirstFault.{IsBad};
-ghost use Rattle.dist_package.specs.Named.{field_named, value_of, line_of, fault_at, name_of};
+ghost use Rattle.dist_package.specs.Named.{field_named, value_of, line_of, fault_on, relation_field_name};
 ghost use Rattle.dist_package.specs.PackageOf.{ReadsName, HasNameFault, ReadsVersionField, HasVersionFault, ReadsSource, HasSourceFault, GivesArchitecture, HasArchitectureFault, all};
 
 use crate::error::{Fault, Kind, PackagesError, RelationField};
@@ -16,7 +16,7 @@ use std::alloc::Global;
 
 /// The error of a fault at a line.
 pub(crate) fn bad(line: u64, kind: Kind) -> PackagesError
-    ensures { result ≡ PackagesError.Bad (fault_at line kind) }
+    ensures { result ≡ PackagesError.Bad (fault_on line kind) }
 {
     PackagesError::Bad(Fault { line, kind })
 }
@@ -173,8 +173,8 @@ pub(crate) fn is_essential(stanza: &Stanza) -> bool
 
 /// The field of a kind of relations.
 fn relation_field<'a>(stanza: &Stanza<'a>, relation: RelationField) -> Option<Field<'a>>
-    ensures { MatchOption result (field_named stanza.now (name_of relation) ≡ None)
-        (λ field. field_named stanza.now (name_of relation) ≡ Some (field_text field)) }
+    ensures { MatchOption result (field_named stanza.now (relation_field_name relation) ≡ None)
+        (λ field. field_named stanza.now (relation_field_name relation) ≡ Some (field_text field)) }
 {
     match relation {
         RelationField::PreDepends => field(stanza, b"Pre-Depends"),
@@ -187,8 +187,8 @@ fn relation_field<'a>(stanza: &Stanza<'a>, relation: RelationField) -> Option<Fi
 
 /// The value of a field of relations, which is empty where there is none, and its line.
 pub(crate) fn relation_value<'a>(stanza: &Stanza<'a>, relation: RelationField) -> (&'a [u8], u64)
-    ensures value { result.0.now ≡ value_of stanza.now (name_of relation) }
-    ensures line { result.1 ≡ line_of stanza.now (name_of relation) }
+    ensures value { result.0.now ≡ value_of stanza.now (relation_field_name relation) }
+    ensures line { result.1 ≡ line_of stanza.now (relation_field_name relation) }
 {
     match relation_field(stanza, relation) {
         Some(field) => (field.value, field.line),

@@ -3,7 +3,7 @@ ghost use Rattle.std.specs.Prelude.{ℕ, ◌≤◌, List, All, length};
 ghost use Rattle.dist_control.specs.RawStanza.{RawStanza};
 ghost use Rattle.dist_repo.specs.PackageList.{PackageList};
 ghost use Rattle.dist_repo.specs.Size.{relation_count};
-ghost use Rattle.dist_package.specs.FirstFault.{HasFirstFault, CarriesNoMemory};
+ghost use Rattle.dist_package.specs.FirstFault.{HasPackagesFault, CarriesNoMemory};
 ghost use Rattle.dist_package.specs.declared.error.Fault.{Fault};
 ghost use Rattle.dist_package.specs.OneAnswer.{HasOneAnswer};
 ghost use Rattle.dist_package.specs.RepositoryOf.{IsRepositoryOf};
@@ -16,7 +16,7 @@ use dist_version::texts_are_exact;
 
 /// The kind of a file's first fault never carries want of memory.
 pub fn kinds_carry_no_memory()
-    ensures { (raws : List RawStanza) (limit : ℕ) (fault : Fault) → HasFirstFault raws limit fault → CarriesNoMemory fault.kind }
+    ensures { (raws : List RawStanza) (limit : ℕ) (fault : Fault) → HasPackagesFault raws limit fault → CarriesNoMemory fault.kind }
 {
     texts_are_exact();
     faults_come();

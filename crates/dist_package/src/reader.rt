@@ -6,7 +6,7 @@ ghost use Rattle.dist_control.specs.RawStanza.{raw_stanzas};
 ghost use Rattle.dist_repo.specs.Size.{relation_count};
 ghost use Rattle.dist_package.specs.FirstFault.{IsBad, IsLineFault, IsRefused};
 ghost use Rattle.dist_package.specs.RepositoryOf.{IsRepositoryOf};
-ghost use Rattle.dist_package.specs.Steps.{Gives, IsFaulty, Adds, IsClashFault};
+ghost use Rattle.dist_package.specs.StepsPrivate.{Gives, IsFaulty, Adds, IsClashFault};
 
 use crate::error::{Kind, PackagesError};
 use crate::fields::bad;

@@ -5,7 +5,7 @@ ghost use Rattle.dist_relation.specs.Faults.{FirstDependsFault, FirstAtomsFault,
 ghost use Rattle.dist_relation.specs.Grammar.{ReadsDepends, ReadsAtoms, ReadsProvides};
 ghost use Rattle.dist_relation.specs.declared.error.RelationError.{RelationError};
 ghost use Rattle.dist_package.specs.FirstFault.{IsBad, HasFirstRelationFault, relation_fields};
-ghost use Rattle.dist_package.specs.Named.{value_of, line_of, fault_at, name_of};
+ghost use Rattle.dist_package.specs.Named.{value_of, line_of, fault_on, relation_field_name};
 ghost use Rattle.dist_package.specs.PackageOf.{ReadsRelations, IsRelationFault};
 
 use crate::error::{Kind, PackagesError, RelationField};
@@ -26,7 +26,7 @@ pub(crate) struct Relations {
 
 /// The items of Pre-Depends or Depends.
 fn items_of(alloc: Global, stanza: &Stanza, relation: RelationField) -> Result<Items, PackagesError>
-    ensures { Answers (ReadsDepends (value_of stanza.now (name_of relation)))
+    ensures { Answers (ReadsDepends (value_of stanza.now (relation_field_name relation)))
         (IsBad (IsRelationFault FirstDependsFault stanza.now relation)) PackagesError.NoMemory result }
 {
     let (value, line) = relation_value(stanza, relation);
@@ -39,7 +39,7 @@ fn items_of(alloc: Global, stanza: &Stanza, relation: RelationField) -> Result<I
 
 /// The atoms of Conflicts or Breaks.
 fn atoms_of(alloc: Global, stanza: &Stanza, relation: RelationField) -> Result<Atoms, PackagesError>
-    ensures { Answers (ReadsAtoms (value_of stanza.now (name_of relation)))
+    ensures { Answers (ReadsAtoms (value_of stanza.now (relation_field_name relation)))
         (IsBad (IsRelationFault FirstAtomsFault stanza.now relation)) PackagesError.NoMemory result }
 {
     let (value, line) = relation_value(stanza, relation);
@@ -52,7 +52,7 @@ fn atoms_of(alloc: Global, stanza: &Stanza, relation: RelationField) -> Result<A
 
 /// The entries of Provides.
 fn provides_of(alloc: Global, stanza: &Stanza) -> Result<Provides, PackagesError>
-    ensures { Answers (ReadsProvides (value_of stanza.now (name_of RelationField.Provides)))
+    ensures { Answers (ReadsProvides (value_of stanza.now (relation_field_name RelationField.Provides)))
         (IsBad (IsRelationFault FirstProvidesFault stanza.now RelationField.Provides)) PackagesError.NoMemory result }
 {
     let (value, line) = relation_value(stanza, RelationField::Provides);

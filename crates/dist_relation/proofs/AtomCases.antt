@@ -3,6 +3,7 @@ use Rattle.std.proofs.Common.{◌≡◌, ℕ, Bool, true, false, ◌||◌, ◌&&
 use Rattle.std.proofs.Common.{Some}
 use Rattle.std.specs.List.{take_while}
 use Rattle.std.proofs.lemmas.Bool.{eqb-true}
+use Rattle.dist_base.specs.Ascii.{bar, closing, comma, is_opening, is_white, opening}
 use Rattle.dist_relation.specs.declared.atom.Atom.{Atom}
 use Rattle.dist_relation.specs.declared.atom.Bound.{Bound}
 use Rattle.dist_relation.specs.declared.atom.Kind.{Kind}
@@ -10,10 +11,10 @@ use Rattle.dist_relation.specs.declared.atom.Op.{Op}
 use Rattle.dist_relation.specs.declared.atom.Qualifier.{Qualifier}
 use Rattle.dist_relation.specs.declared.error.Problem.{Problem}
 use Rattle.dist_relation.specs.declared.error.Problem.TheVariants.{BadName, BadOp, BadVersion, Unclosed, BarNotAllowed, Trailing, OpInProvides}
-use Rattle.dist_relation.specs.Bytes.{is_space, is_operator_byte, is_word_byte, is_opening, opening, closing, comma, bar, IsBlank, Meets, Stops}
+use Rattle.dist_relation.specs.Bytes.{is_operator_byte, is_word_byte, IsBlank, Meets, Stops}
 use Rattle.dist_relation.specs.Grammar.{SpellsAtom}
 use Rattle.dist_relation.specs.Faults.{Head, Opened, Compared, Versioned, EndsHead, AfterBare, AfterClosed, AfterAtom, allows_bar, Has}
-use Rattle.dist_relation.specs.Reading.{skip}
+use Rattle.dist_relation.specs.ReadingPrivate.{skip}
 use Rattle.dist_relation.proofs.Flat.{Bare, Closed, flat}
 use Rattle.dist_relation.proofs.Runs.{true_both, take_while-past, take_while_all, past_stops}
 use Rattle.dist_relation.proofs.ByteFacts.{or_false, or_true}
@@ -70,15 +71,15 @@ ended_cases kind text front here atom spelled parts after (inl ends) =
 ended_cases kind text front here atom spelled parts after (inr fault) = inr (record { here = here; problem = fault.problem; has = fault.has text after })
 
 spaces : List ℕ → List ℕ
-spaces text = take_while is_space text
+spaces text = take_while is_white text
 
 spaces_blank : (text : List ℕ) → IsBlank (spaces text)
 unfolding spaces
-spaces_blank text = take_while_all is_space text
+spaces_blank text = take_while_all is_white text
 
 spaces_parts : (text : List ℕ) → text ≡ spaces text ++ skip text
 unfolding spaces
-spaces_parts text = sym (take_while-past is_space text)
+spaces_parts text = sym (take_while-past is_white text)
 
 -- ---- an atom without a bound
 
@@ -104,7 +105,7 @@ bare_cases kind text h shut =
       blank = spaces_blank h.rest;
       parts = parts;
       whole_head = subst (EndsHead h.qualifier) (spaces_parts h.rest) h.ends;
-      skipped = past_stops is_space h.rest;
+      skipped = past_stops is_white h.rest;
       not_opened = shut;
     } in
     ended_cases kind text (h.head ++ space) here atom (flat kind (h.head ++ space) h.name h.qualifier None bare) (parts ∙ sym (append_assoc h.head space here))

@@ -3,6 +3,7 @@ use Rattle.std.proofs.Common.{◌≡◌, ℕ, Bool, true, false, ◌||◌, ◌&&
 use Rattle.std.proofs.Common.{None, Some}
 use Rattle.std.specs.List.{take_while}
 use Rattle.std.specs.Prelude.{Result, Ok}
+use Rattle.dist_base.specs.Ascii.{bar, closing, comma, is_colon, is_opening, is_white, opening}
 use Rattle.dist_relation.specs.declared.atom.Atom.{Atom}
 use Rattle.dist_relation.specs.declared.atom.Bound.{Bound}
 use Rattle.dist_relation.specs.declared.atom.Kind.{Kind}
@@ -12,11 +13,11 @@ use Rattle.dist_relation.specs.declared.atom.Qualifier.TheVariants.{Plain, Named
 use Rattle.dist_relation.specs.declared.error.Fault.{Fault}
 use Rattle.dist_relation.specs.declared.error.Problem.{Problem}
 use Rattle.dist_relation.specs.declared.error.Problem.TheVariants.{BadName, BadOp, BadVersion, Unclosed, BarNotAllowed, Trailing, OpInProvides}
-use Rattle.dist_relation.specs.Bytes.{is_space, is_name_byte, is_operator_byte, is_word_byte, is_colon, is_opening, opening, closing, comma, bar, IsBlank}
+use Rattle.dist_relation.specs.Bytes.{is_name_byte, is_operator_byte, is_word_byte, IsBlank}
 use Rattle.dist_relation.specs.Bytes.{Meets, Stops}
 use Rattle.dist_relation.specs.Grammar.{SpellsOperator, SpellsAtom}
 use Rattle.dist_relation.specs.Faults.{Head, Opened, Compared, Versioned, EndsHead, AfterAtom, allows_bar, Has}
-use Rattle.dist_relation.specs.Reading.{◌>>=◌, refuse, past, skip, bound_at, maybe_bound_at, end_at, atom_at}
+use Rattle.dist_relation.specs.ReadingPrivate.{◌>>=◌, refuse, past, skip, bound_at, maybe_bound_at, end_at, atom_at}
 use Rattle.dist_relation.proofs.Flat.{SpellsBounded, in_steps}
 use Rattle.dist_relation.proofs.Runs.{both_true, past-append, take_while-past}
 use Rattle.dist_relation.proofs.ByteFacts.{or_cases, fails_at, Stops-blank, Stops-meets}
@@ -104,12 +105,12 @@ no_bound kind (b ∷ bs) h = ap (λ (t : Bool). cond t (some_bound (bound_at kin
 
 -- an atom without a bound is read up to what follows it
 bare_again : (kind : Kind) (head space name : List ℕ) (qualifier : Qualifier) (r : List ℕ) → Head head name qualifier → IsBlank space
-    → EndsHead qualifier (space ++ r) → Stops is_space r → Stops is_opening r
+    → EndsHead qualifier (space ++ r) → Stops is_white r → Stops is_opening r
     → atom_at kind (head ++ (space ++ r)) ≡ finish name qualifier None (end_at kind r)
 unfolding atom_at
 bare_again kind head space name qualifier r h blank ends skipped shut =
     ap (headed kind) (head_again head name qualifier (space ++ r) h ends)
-    ∙ ap (λ (t : List ℕ). bounded kind name qualifier (maybe_bound_at kind t)) (past-append is_space space r blank skipped)
+    ∙ ap (λ (t : List ℕ). bounded kind name qualifier (maybe_bound_at kind t)) (past-append is_white space r blank skipped)
     ∙ ap (bounded kind name qualifier) (no_bound kind r shut)
 
 -- white space and an opening parenthesis end a head
@@ -130,7 +131,7 @@ opened_again : (kind : Kind) (head gap name : List ℕ) (qualifier : Qualifier) 
 unfolding atom_at
 opened_again kind head gap name qualifier text h blank =
     ap (headed kind) (head_again head name qualifier (gap ++ (opening ∷ text)) h (ends_before qualifier gap text blank))
-    ∙ ap (λ (t : List ℕ). bounded kind name qualifier (maybe_bound_at kind t)) (past-append is_space gap (opening ∷ text) blank refl)
+    ∙ ap (λ (t : List ℕ). bounded kind name qualifier (maybe_bound_at kind t)) (past-append is_white gap (opening ∷ text) blank refl)
     ∙ ap (bounded kind name qualifier) (opened_bound kind text)
 
 closed_again : (kind : Kind) (head gap name : List ℕ) (qualifier : Qualifier) (text : List ℕ) (bound : Bound) (r : List ℕ) → Head head name qualifier
@@ -202,7 +203,7 @@ versioned_bound kind versioned name qualifier bound v r whole =
     }
 
 closed_bound : (kind : Kind) (versioned name : List ℕ) (qualifier : Qualifier) (bound : Bound) (v : Versioned kind versioned name qualifier bound)
-    (space r : List ℕ) → IsBlank space → Stops is_space r
+    (space r : List ℕ) → IsBlank space → Stops is_white r
     → BoundWhole kind (after_versioned kind versioned name qualifier bound v (closing ∷ (space ++ r))) bound r
 closed_bound kind versioned name qualifier bound v space r blank skipped =
     let rest : List ℕ = closing ∷ (space ++ r) in
@@ -220,7 +221,7 @@ closed_bound kind versioned name qualifier bound v space r blank skipped =
 
 -- behind an atom with a bound what follows is tried
 after_closed : (kind : Kind) (versioned name : List ℕ) (qualifier : Qualifier) (bound : Bound) (v : Versioned kind versioned name qualifier bound)
-    (space r : List ℕ) → IsBlank space → Stops is_space r
+    (space r : List ℕ) → IsBlank space → Stops is_white r
     → atom_at kind (versioned ++ (closing ∷ (space ++ r))) ≡ finish name qualifier (Some bound) (end_at kind r)
 after_closed kind versioned name qualifier bound v space r blank skipped =
     let o = v.is_compared.is_opened in
@@ -238,12 +239,12 @@ spelled_again kind a name qualifier None r h ends =
     let whole : a ++ r ≡ h.head ++ (h.space ++ r) = ap (λ (t : List ℕ). t ++ r) h.parts ∙ append_assoc h.head h.space r in
     ap (atom_at kind) whole
     ∙ bare_again kind h.head h.space name qualifier r h.is_head h.blank (bare_ends qualifier kind h.space r h.blank ends)
-    (Stops-ends is_space kind r refl refl ends) (Stops-ends is_opening kind r refl refl ends)
+    (Stops-ends is_white kind r refl refl ends) (Stops-ends is_opening kind r refl refl ends)
     ∙ ap (finish name qualifier None) (end_again kind r ends)
 spelled_again kind a name qualifier (Some bound) r h ends =
     let whole : a ++ r ≡ h.versioned ++ (closing ∷ (h.space ++ r)) = ap (λ (t : List ℕ). t ++ r) h.parts ∙ append_assoc h.versioned (closing ∷ h.space) r in
     ap (atom_at kind) whole
-    ∙ after_closed kind h.versioned name qualifier bound h.is_versioned h.space r h.blank (Stops-ends is_space kind r refl refl ends)
+    ∙ after_closed kind h.versioned name qualifier bound h.is_versioned h.space r h.blank (Stops-ends is_white kind r refl refl ends)
     ∙ ap (finish name qualifier (Some bound)) (end_again kind r ends)
 
 -- An atom's spelling is read as that atom, whatever an atom may end at follows.
@@ -260,8 +261,8 @@ from_opened kind text here problem head gap name qualifier inner h blank parts h
     ap (atom_at kind) parts ∙ opened_again kind head gap name qualifier inner h blank
     ∙ ap (λ (x : Result (Bound × List ℕ) Fault). bounded kind name qualifier (some_bound x)) (bound_refused kind inner here problem has)
 
-forbidden_skips : (here : List ℕ) (op : Op) → SpellsOperator (take_while is_operator_byte here) op → Stops is_space here
-forbidden_skips here op h = subst (Stops is_space) (take_while-past is_operator_byte here)
+forbidden_skips : (here : List ℕ) (op : Op) → SpellsOperator (take_while is_operator_byte here) op → Stops is_white here
+forbidden_skips here op h = subst (Stops is_white) (take_while-past is_operator_byte here)
     ((operator_facts op (take_while is_operator_byte here) h).no_blank (past is_operator_byte here))
 
 after_atom : (kind : Kind) (text here : List ℕ) (problem : Problem) → AfterAtom kind text here → end_at kind here ≡ refuse problem here

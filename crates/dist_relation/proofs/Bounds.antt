@@ -3,6 +3,7 @@ use Rattle.std.proofs.Common.{◌≡◌, ℕ, Bool, true, false, ◌⊎◌, inl,
 use Rattle.std.specs.List.{take_while}
 use Rattle.std.specs.Prelude.{Result, Ok, IsTrue}
 use Rattle.std.proofs.lemmas.Bool.{eqb-true}
+use Rattle.dist_base.specs.Ascii.{closing, is_closing, is_white}
 use Rattle.dist_version.specs.Spelling.{IsVersion}
 use Rattle.dist_version.specs.Faults.{fault_of}
 use Rattle.dist_version.specs.declared.error.VersionError.{VersionError}
@@ -12,9 +13,9 @@ use Rattle.dist_relation.specs.declared.atom.Op.{Op}
 use Rattle.dist_relation.specs.declared.error.Fault.{Fault}
 use Rattle.dist_relation.specs.declared.error.Problem.{Problem}
 use Rattle.dist_relation.specs.declared.error.Problem.TheVariants.{BadName, BadOp, BadVersion, Unclosed, BarNotAllowed, Trailing, OpInProvides}
-use Rattle.dist_relation.specs.Bytes.{is_space, is_operator_byte, is_word_byte, is_closing, closing, IsBlank, Stops}
+use Rattle.dist_relation.specs.Bytes.{is_operator_byte, is_word_byte, IsBlank, Stops}
 use Rattle.dist_relation.specs.Grammar.{allows_operator, SpellsOperator}
-use Rattle.dist_relation.specs.Reading.{◌>>=◌, refuse, skip, operator_at, version_at, closing_at, bound_at}
+use Rattle.dist_relation.specs.ReadingPrivate.{◌>>=◌, refuse, skip, operator_at, version_at, closing_at, bound_at}
 use Rattle.dist_relation.proofs.Runs.{past-append, take_while-past, take_while_all, past_stops}
 use Rattle.dist_relation.proofs.Words.{operator_facts, operator_again, operator_missing, operator_forbidden, OperatorRead, OperatorFault, operator_cases}
 use Rattle.dist_relation.proofs.Words.{version_again, version_refused, VersionRead, version_cases, version_no_blank}
@@ -25,9 +26,9 @@ follows rest = Ok rest
 
 -- ---- the closing parenthesis
 
-pub closing_again : (space r : List ℕ) → IsBlank space → Stops is_space r → closing_at (closing ∷ (space ++ r)) ≡ Ok r
+pub closing_again : (space r : List ℕ) → IsBlank space → Stops is_white r → closing_at (closing ∷ (space ++ r)) ≡ Ok r
 unfolding closing_at
-closing_again space r blank stops = ap follows (past-append is_space space r blank stops)
+closing_again space r blank stops = ap follows (past-append is_white space r blank stops)
 
 pub closing_missing : (here : List ℕ) → Stops is_closing here → closing_at here ≡ refuse Unclosed here
 unfolding closing_at
@@ -65,7 +66,7 @@ pub record BoundWhole (kind : Kind) (text : List ℕ) (bound : Bound) (rest : Li
   pub blank_gap : IsBlank gap
   pub blank : IsBlank space
   pub parts : after ≡ gap ++ (closing ∷ (space ++ rest))
-  pub skipped : Stops is_space rest
+  pub skipped : Stops is_white rest
 
 abbrev pub close_with : Op → List ℕ → Result (List ℕ) Fault → Result (Bound × List ℕ) Fault
 close_with op version x = x >>= λ rest. Ok (record { op = op; version = version }, rest)
@@ -81,7 +82,7 @@ pub start_again : (kind : Kind) (text : List ℕ) (op : Op) (rest : List ℕ) �
 unfolding bound_at
 start_again kind text op rest h =
     let skipped : skip text ≡ h.operator ++ rest = ap skip h.parts
-    ∙ past-append is_space h.space (h.operator ++ rest) h.blank ((operator_facts op h.operator h.is_operator).no_blank rest) in
+    ∙ past-append is_white h.space (h.operator ++ rest) h.blank ((operator_facts op h.operator h.is_operator).no_blank rest) in
     ap (λ (t : List ℕ). operator_with (operator_at kind t)) skipped
     ∙ ap operator_with (operator_again kind h.operator op rest h.is_operator h.allowed h.whole)
 
@@ -89,14 +90,14 @@ pub version_read : (kind : Kind) (text : List ℕ) (bound : Bound) (rest : List 
     → bound_at kind text ≡ close_with bound.op bound.version (closing_at (skip rest))
 version_read kind text bound rest h =
     let skipped : skip h.after ≡ bound.version ++ rest = ap skip h.parts
-    ∙ past-append is_space h.space (bound.version ++ rest) h.blank (version_no_blank bound.version rest h.is_version) in
+    ∙ past-append is_white h.space (bound.version ++ rest) h.blank (version_no_blank bound.version rest h.is_version) in
     start_again kind text bound.op h.after h.start
     ∙ ap (λ (t : List ℕ). version_with bound.op (version_at t)) skipped
     ∙ ap (version_with bound.op) (version_again bound.version rest h.is_version h.whole)
 
 pub bound_again : (kind : Kind) (text : List ℕ) (bound : Bound) (rest : List ℕ) → BoundWhole kind text bound rest → bound_at kind text ≡ Ok (bound, rest)
 bound_again kind text bound rest h =
-    let skipped : skip h.after ≡ closing ∷ (h.space ++ rest) = ap skip h.parts ∙ past-append is_space h.gap (closing ∷ (h.space ++ rest)) h.blank_gap refl in
+    let skipped : skip h.after ≡ closing ∷ (h.space ++ rest) = ap skip h.parts ∙ past-append is_white h.gap (closing ∷ (h.space ++ rest)) h.blank_gap refl in
     version_read kind text bound h.after h.version
     ∙ ap (λ (t : List ℕ). close_with bound.op bound.version (closing_at t)) skipped
     ∙ ap (close_with bound.op bound.version) (closing_again h.space rest h.blank h.skipped)
@@ -107,7 +108,7 @@ pub record StartMissing (text here : List ℕ) : Type 0 where
   pub space : List ℕ
   pub blank : IsBlank space
   pub parts : text ≡ space ++ here
-  pub skipped : Stops is_space here
+  pub skipped : Stops is_white here
   pub missing : (op : Op) → SpellsOperator (take_while is_operator_byte here) op → ⊥
 
 pub record StartForbidden (kind : Kind) (text here : List ℕ) : Type 0 where
@@ -115,7 +116,7 @@ pub record StartForbidden (kind : Kind) (text here : List ℕ) : Type 0 where
   pub op : Op
   pub blank : IsBlank space
   pub parts : text ≡ space ++ here
-  pub skipped : Stops is_space here
+  pub skipped : Stops is_white here
   pub is_operator : SpellsOperator (take_while is_operator_byte here) op
   pub forbidden : allows_operator kind op ≡ false
 
@@ -126,7 +127,7 @@ pub record WordMissing (kind : Kind) (text here : List ℕ) (fault : VersionErro
   pub start : BoundStart kind text op after
   pub blank : IsBlank space
   pub parts : after ≡ space ++ here
-  pub skipped : Stops is_space here
+  pub skipped : Stops is_white here
   pub missing : fault_of (take_while is_word_byte here) ≡ Some fault
 
 pub record EndMissing (kind : Kind) (text here : List ℕ) : Type 0 where
@@ -136,7 +137,7 @@ pub record EndMissing (kind : Kind) (text here : List ℕ) : Type 0 where
   pub version : BoundVersion kind text bound after
   pub blank : IsBlank space
   pub parts : after ≡ space ++ here
-  pub skipped : Stops is_space here
+  pub skipped : Stops is_white here
   pub missing : Stops is_closing here
 
 abbrev pub BoundHas : Kind → List ℕ → List ℕ → Problem → Type 0
@@ -152,20 +153,20 @@ pub bound_refused : (kind : Kind) (text here : List ℕ) (problem : Problem) →
 unfolding bound_at
 bound_refused kind text here BadName h = absurd cc
 bound_refused kind text here BadOp h =
-    ap (λ (t : List ℕ). operator_with (operator_at kind t)) (ap skip h.parts ∙ past-append is_space h.space here h.blank h.skipped)
+    ap (λ (t : List ℕ). operator_with (operator_at kind t)) (ap skip h.parts ∙ past-append is_white h.space here h.blank h.skipped)
     ∙ ap operator_with (operator_missing kind here h.missing)
 bound_refused kind text here (BadVersion fault) h =
     start_again kind text h.op h.after h.start
-    ∙ ap (λ (t : List ℕ). version_with h.op (version_at t)) (ap skip h.parts ∙ past-append is_space h.space here h.blank h.skipped)
+    ∙ ap (λ (t : List ℕ). version_with h.op (version_at t)) (ap skip h.parts ∙ past-append is_white h.space here h.blank h.skipped)
     ∙ ap (version_with h.op) (version_refused here fault h.missing)
 bound_refused kind text here Unclosed h =
     version_read kind text h.bound h.after h.version
-    ∙ ap (λ (t : List ℕ). close_with h.bound.op h.bound.version (closing_at t)) (ap skip h.parts ∙ past-append is_space h.space here h.blank h.skipped)
+    ∙ ap (λ (t : List ℕ). close_with h.bound.op h.bound.version (closing_at t)) (ap skip h.parts ∙ past-append is_white h.space here h.blank h.skipped)
     ∙ ap (close_with h.bound.op h.bound.version) (closing_missing here h.missing)
 bound_refused kind text here BarNotAllowed h = absurd cc
 bound_refused kind text here Trailing h = absurd cc
 bound_refused kind text here OpInProvides h =
-    ap (λ (t : List ℕ). operator_with (operator_at kind t)) (ap skip h.parts ∙ past-append is_space h.space here h.blank h.skipped)
+    ap (λ (t : List ℕ). operator_with (operator_at kind t)) (ap skip h.parts ∙ past-append is_white h.space here h.blank h.skipped)
     ∙ ap operator_with (operator_forbidden kind here h.op h.is_operator h.forbidden)
 
 -- ---- a bound is read, or one of its parts is missing
@@ -181,15 +182,15 @@ pub record BoundFault (kind : Kind) (text : List ℕ) : Type 0 where
   pub has : BoundHas kind text here problem
 
 spaces : List ℕ → List ℕ
-spaces text = take_while is_space text
+spaces text = take_while is_white text
 
 spaces_blank : (text : List ℕ) → IsBlank (spaces text)
 unfolding spaces
-spaces_blank text = take_while_all is_space text
+spaces_blank text = take_while_all is_white text
 
 spaces_parts : (text : List ℕ) → text ≡ spaces text ++ skip text
 unfolding spaces
-spaces_parts text = sym (take_while-past is_space text)
+spaces_parts text = sym (take_while-past is_white text)
 
 end_cases : (kind : Kind) (text : List ℕ) (bound : Bound) (after here : List ℕ) → BoundVersion kind text bound after → here ≡ skip after → BoundRead kind text
     ⊎ BoundFault kind text
@@ -212,8 +213,8 @@ end_cases kind text bound after (b ∷ bs) v e = by_first (eqb b closing) refl
     parts : after ≡ spaces after ++ (b ∷ bs)
     parts = spaces_parts after ∙ ap (λ (t : List ℕ). spaces after ++ t) (sym e)
 
-    skipped : Stops is_space (b ∷ bs)
-    skipped = subst (Stops is_space) (sym e) (past_stops is_space after)
+    skipped : Stops is_white (b ∷ bs)
+    skipped = subst (Stops is_white) (sym e) (past_stops is_white after)
 
     by_first : (t : Bool) → eqb b closing ≡ t → BoundRead kind text ⊎ BoundFault kind text
     by_first false f = inr (record {
@@ -243,7 +244,7 @@ end_cases kind text bound after (b ∷ bs) v e = by_first (eqb b closing) refl
             blank = spaces_blank bs;
             parts = parts ∙ ap (λ (c : ℕ). spaces after ++ (c ∷ bs)) (eqb-true b closing f)
                 ∙ ap (λ (t : List ℕ). spaces after ++ (closing ∷ t)) (spaces_parts bs);
-            skipped = past_stops is_space bs;
+            skipped = past_stops is_white bs;
           };
         })
 
@@ -271,7 +272,7 @@ word_cases kind text op after start (inr f) =
         start = start;
         blank = spaces_blank after;
         parts = spaces_parts after;
-        skipped = past_stops is_space after;
+        skipped = past_stops is_white after;
         missing = f.1;
       };
     })
@@ -298,7 +299,7 @@ start_cases kind text (inl (inr f)) =
         op = f.op;
         blank = spaces_blank text;
         parts = spaces_parts text;
-        skipped = past_stops is_space text;
+        skipped = past_stops is_white text;
         is_operator = f.is_operator;
         forbidden = f.forbidden;
       };
@@ -311,7 +312,7 @@ start_cases kind text (inr never) =
         space = spaces text;
         blank = spaces_blank text;
         parts = spaces_parts text;
-        skipped = past_stops is_space text;
+        skipped = past_stops is_white text;
         missing = never;
       };
     })

@@ -2,6 +2,7 @@
 use Rattle.std.proofs.Common.{◌≡◌, ℕ, List, [], ◌∷◌, ◌++◌, Option, None, Some, refl, ap, ◌∙◌, append_assoc, append-nil, inl}
 use Rattle.std.specs.List.{flat_map}
 use Rattle.std.specs.Prelude.{codes, Result, Ok, Err, OnErr}
+use Rattle.dist_base.specs.Ascii.{opening}
 use Rattle.dist_version.specs.Spelling.{IsVersion}
 use Rattle.dist_relation.specs.declared.atom.Atom.{Atom}
 use Rattle.dist_relation.specs.declared.atom.Bound.{Bound}
@@ -9,10 +10,10 @@ use Rattle.dist_relation.specs.declared.atom.Kind.TheVariants.{Depends}
 use Rattle.dist_relation.specs.declared.atom.Op.{Op}
 use Rattle.dist_relation.specs.declared.atom.Op.TheVariants.{Lt, Le, Eq, Ge, Gt}
 use Rattle.dist_relation.specs.declared.atom.Qualifier.{Qualifier}
-use Rattle.dist_relation.specs.Bytes.{IsBlank, IsName, opening}
+use Rattle.dist_relation.specs.Bytes.{IsBlank, IsName}
 use Rattle.dist_relation.specs.Grammar.{qualifier_text, IsQualifier, operator_text, SpellsOperator, SpellsBound, SpellsAtom, SpellsAlternatives, ReadsDepends}
 use Rattle.dist_relation.specs.Canonical.{bound_text, atom_text, behind_bar, alternatives_text}
-use Rattle.dist_relation.specs.Written.{Extends, IsBound, IsAtom, AreAtoms}
+use Rattle.dist_relation.specs.WrittenPrivate.{Extends, IsBound, IsAtom, AreAtoms}
 
 canonical_operator : (op : Op) → SpellsOperator (operator_text op) op
 canonical_operator Lt = refl

@@ -2,10 +2,11 @@
 use Rattle.std.proofs.Common.{◌≡◌, ℕ, List, [], ◌∷◌, ◌++◌, append_assoc, append-nil, Option, None, Some, refl, ap, ◌∙◌}
 use Rattle.std.proofs.lemmas.Bool.{and_from}
 use Rattle.std.proofs.lemmas.List.Folds.{list_all-append}
+use Rattle.dist_base.specs.Ascii.{closing, is_white, opening}
 use Rattle.dist_relation.specs.declared.atom.Bound.{Bound}
 use Rattle.dist_relation.specs.declared.atom.Kind.{Kind}
 use Rattle.dist_relation.specs.declared.atom.Qualifier.{Qualifier}
-use Rattle.dist_relation.specs.Bytes.{IsBlank, is_space, opening, closing}
+use Rattle.dist_relation.specs.Bytes.{IsBlank}
 use Rattle.dist_relation.specs.Grammar.{qualifier_text, SpellsBound, SpellsAtom}
 use Rattle.dist_relation.specs.Faults.{Head, Opened, Compared, Versioned}
 
@@ -30,7 +31,7 @@ SpellsBounded kind text name qualifier None = Bare text name qualifier
 SpellsBounded kind text name qualifier (Some bound) = Closed kind text name qualifier bound
 
 blank-append : (a b : List ℕ) → IsBlank a → IsBlank b → IsBlank (a ++ b)
-blank-append a b p q = list_all-append is_space a b ∙ and_from _ _ p q
+blank-append a b p q = list_all-append is_white a b ∙ and_from _ _ p q
 
 behind : (x : ℕ) (xs ys : List ℕ) → (x ∷ xs) ++ ys ≡ x ∷ (xs ++ ys)
 behind x xs ys = refl

@@ -5,14 +5,15 @@ use Rattle.std.specs.List.{list_all, take_while}
 use Rattle.std.specs.Prelude.{Result, Ok}
 use Rattle.std.proofs.lemmas.Bool.{eqb-true}
 use Rattle.std.proofs.lemmas.List.{append-nil}
+use Rattle.dist_base.specs.Ascii.{colon, is_white}
 use Rattle.dist_relation.specs.declared.atom.Qualifier.{Qualifier}
 use Rattle.dist_relation.specs.declared.atom.Qualifier.TheVariants.{Plain, Named}
 use Rattle.dist_relation.specs.declared.error.Fault.{Fault}
 use Rattle.dist_relation.specs.declared.error.Problem.TheVariants.{BadName}
-use Rattle.dist_relation.specs.Bytes.{is_space, is_name_byte, colon, IsBlank, IsName, Stops}
+use Rattle.dist_relation.specs.Bytes.{is_name_byte, IsBlank, IsName, Stops}
 use Rattle.dist_relation.specs.Grammar.{qualifier_text, IsQualifier}
 use Rattle.dist_relation.specs.Faults.{Head, NameMissing, QualifierMissing, EndsHead}
-use Rattle.dist_relation.specs.Reading.{◌>>=◌, refuse, past, skip, name_at, qualifier_at, head_at}
+use Rattle.dist_relation.specs.ReadingPrivate.{◌>>=◌, refuse, past, skip, name_at, qualifier_at, head_at}
 use Rattle.dist_relation.proofs.Runs.{true_both, take_while-append, past-append, take_while-past, take_while_all, take_while-yes, past_stops}
 use Rattle.dist_relation.proofs.ByteFacts.{or_true, name_bytes, name_starts, Stops-name}
 
@@ -156,7 +157,7 @@ unfolding head_at
 head_again head name q r h ends =
     let whole : head ++ r ≡ h.space ++ (name ++ (qualifier_text q ++ r)) = ap (λ (t : List ℕ). t ++ r) h.parts ∙ simp append_assoc in
     let skipped : skip (head ++ r) ≡ name ++ (qualifier_text q ++ r) = ap skip whole
-    ∙ past-append is_space h.space (name ++ (qualifier_text q ++ r)) h.blank (Stops-name name (qualifier_text q ++ r) h.is_name) in
+    ∙ past-append is_white h.space (name ++ (qualifier_text q ++ r)) h.blank (Stops-name name (qualifier_text q ++ r) h.is_name) in
     ap (λ (t : List ℕ). from_name (name_at t)) skipped
     ∙ ap from_name (name_again name (qualifier_text q ++ r) h.is_name (Stops-qualifier q r ends))
     ∙ ap (from_qualifier name) (qualifier_again q r h.is_qualifier ends)
@@ -164,7 +165,7 @@ head_again head name q r h ends =
 pub head_lacks_name : (text here : List ℕ) → NameMissing text here → head_at text ≡ refuse BadName here
 unfolding head_at
 head_lacks_name text here h =
-    let skipped : skip text ≡ here = ap skip h.parts ∙ past-append is_space h.space here h.blank h.skipped in
+    let skipped : skip text ≡ here = ap skip h.parts ∙ past-append is_white h.space here h.blank h.skipped in
     ap (λ (t : List ℕ). from_name (name_at t)) skipped ∙ ap from_name (name_refused here h.missing)
 
 pub head_lacks_qualifier : (text here : List ℕ) → QualifierMissing text here → head_at text ≡ refuse BadName here
@@ -174,7 +175,7 @@ head_lacks_qualifier text here h =
     ∙ ap (λ (t : List ℕ). t ++ (colon ∷ here)) (h.is_head.parts ∙ ap (λ (t : List ℕ). h.is_head.space ++ t) (append-nil h.name))
     ∙ append_assoc h.is_head.space h.name (colon ∷ here) in
     let skipped : skip text ≡ h.name ++ (colon ∷ here) = ap skip whole
-    ∙ past-append is_space h.is_head.space (h.name ++ (colon ∷ here)) h.is_head.blank (Stops-name h.name (colon ∷ here) h.is_head.is_name) in
+    ∙ past-append is_white h.is_head.space (h.name ++ (colon ∷ here)) h.is_head.blank (Stops-name h.name (colon ∷ here) h.is_head.is_name) in
     ap (λ (t : List ℕ). from_name (name_at t)) skipped
     ∙ ap from_name (name_again h.name (colon ∷ here) h.is_head.is_name refl)
     ∙ ap (from_qualifier h.name) (qualifier_refused here h.missing)
@@ -222,9 +223,9 @@ skipped_cases : (text space : List ℕ) → IsBlank space → text ≡ space ++ 
     → HeadRead text ⊎ HeadFault text
 skipped_cases text space blank split (inl n) = named_cases text space n blank split (qualifier_cases n.rest n.ends)
 skipped_cases text space blank split (inr h) =
-    let missing : NameMissing text (skip text) = record { space = space; blank = blank; parts = split; skipped = past_stops is_space text; missing = h } in
+    let missing : NameMissing text (skip text) = record { space = space; blank = blank; parts = split; skipped = past_stops is_white text; missing = h } in
     inr (record { here = skip text; has = inl missing; read = head_lacks_name text (skip text) missing })
 
 -- a text begins with a head, or its name or its qualifier is missing
 pub head_cases : (text : List ℕ) → HeadRead text ⊎ HeadFault text
-head_cases text = skipped_cases text (take_while is_space text) (take_while_all is_space text) (sym (take_while-past is_space text)) (name_cases (skip text))
+head_cases text = skipped_cases text (take_while is_white text) (take_while_all is_white text) (sym (take_while-past is_white text)) (name_cases (skip text))

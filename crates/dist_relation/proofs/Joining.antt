@@ -6,7 +6,7 @@ use Rattle.std.proofs.lemmas.Bool.{eqb-true}
 use Rattle.dist_relation.specs.declared.error.Fault.{Fault}
 use Rattle.dist_relation.specs.Bytes.{Meets}
 use Rattle.dist_relation.specs.Grammar.{Joined, Ended}
-use Rattle.dist_relation.specs.Reading.{◌>>=◌, then_more, joined_at}
+use Rattle.dist_relation.specs.ReadingPrivate.{◌>>=◌, then_more, joined_at}
 use Rattle.dist_relation.proofs.ByteFacts.{not_at}
 use Rattle.dist_relation.proofs.Heads.{done}
 

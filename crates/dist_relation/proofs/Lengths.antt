@@ -5,11 +5,12 @@ use Rattle.std.specs.List.{AllByRecursion}
 use Rattle.std.proofs.lemmas.Bool.{false≢true}
 use Rattle.std.proofs.lemmas.List.Elements.{All-from_recursion}
 use Rattle.std.proofs.lemmas.List.Sums.{sum_by-cons}
+use Rattle.dist_base.specs.Ascii.{bar, comma}
 use Rattle.dist_relation.specs.declared.atom.Atom.{Atom}
 use Rattle.dist_relation.specs.declared.atom.Kind.{Kind}
 use Rattle.dist_relation.specs.declared.atom.Kind.TheVariants as kinds
-use Rattle.dist_relation.specs.Bytes.{IsName, comma, bar}
-use Rattle.dist_relation.specs.Grammar.{qualifier_text, SpellsAtom, Joined, SpellsPiece, Reads, SpellsAlternatives, SpellsProvide, ReadsDepends}
+use Rattle.dist_relation.specs.Bytes.{IsName}
+use Rattle.dist_relation.specs.Grammar.{qualifier_text, SpellsAtom, Joined, SpellsPiece, ReadsValue, SpellsAlternatives, SpellsProvide, ReadsDepends}
 
 -- each text has at least as many bytes as what it spells weighs
 abbrev pub TakesBytes : {X : Type 0} → (X → ℕ) → (List ℕ → X → Type 0) → Type 0
@@ -62,7 +63,7 @@ pieces-weight weight (None ∷ pieces) = omega (arith, sum_by-cons (piece_weight
 pieces-weight weight (Some x ∷ pieces) =
     omega (arith, sum_by-cons (piece_weight weight) (Some x) pieces, sum_by-cons weight x (filter_map (λ piece. piece) pieces), pieces-weight weight pieces)
 
-pub reads-takes : {X : Type 0} (weight : X → ℕ) (Spells : List ℕ → X → Type 0) → TakesBytes weight Spells → TakesBytes (sum_by weight) (Reads Spells)
+pub reads-takes : {X : Type 0} (weight : X → ℕ) (Spells : List ℕ → X → Type 0) → TakesBytes weight Spells → TakesBytes (sum_by weight) (ReadsValue Spells)
 reads-takes weight Spells takes value items reads =
     omega (
       arith,
@@ -78,7 +79,7 @@ alternatives-take text atoms spells =
 pub provide-takes : TakesBytes (λ provide. 1) SpellsProvide
 provide-takes text provide spells = atom-takes kinds.Provides text _ spells
 
-pub counted : {X : Type 0} (Spells : List ℕ → X → Type 0) → TakesBytes (λ x. 1) Spells → (value : List ℕ) (items : List X) → Reads Spells value items
+pub counted : {X : Type 0} (Spells : List ℕ → X → Type 0) → TakesBytes (λ x. 1) Spells → (value : List ℕ) (items : List X) → ReadsValue Spells value items
     → length items ≤ length value
 counted Spells takes value items reads = omega (arith, count-is items, reads-takes (λ x. 1) Spells takes value items reads)
 

@@ -5,11 +5,12 @@ use Rattle.std.proofs.lemmas.Bool.{eqb-true}
 use Rattle.std.specs.List.{filter_map, take_while}
 use Rattle.std.specs.Option.{option_to_list}
 use Rattle.std.specs.Prelude.{Result, Ok, Err}
+use Rattle.dist_base.specs.Ascii.{comma, is_white}
 use Rattle.dist_relation.specs.declared.error.Fault.{Fault}
 use Rattle.dist_relation.specs.declared.error.ReadError.{ReadError}
 use Rattle.dist_relation.specs.declared.error.ReadError.TheVariants as stops
-use Rattle.dist_relation.specs.Bytes.{is_space, comma, Stops}
-use Rattle.dist_relation.specs.Reading.{◌>>=◌, Fails, skip, ends_piece, then_more, others_at, joined_at, piece_at, items_of}
+use Rattle.dist_relation.specs.Bytes.{Stops}
+use Rattle.dist_relation.specs.ReadingPrivate.{◌>>=◌, Fails, skip, ends_piece, then_more, others_at, joined_at, piece_at, items_of}
 use Rattle.dist_relation.proofs.Runs.{take_while-past}
 
 -- what was read before, and what is still read
@@ -20,7 +21,7 @@ abbrev pub with_entries : {X : Type 0} → List X → Result (List (Option X) ×
 with_entries front read = read >>= λ y. Ok (front ++ filter_map (λ piece. piece) y.0)
 
 skip_shorter : (text : List ℕ) → length (skip text) ≤ length text
-skip_shorter text = omega (arith, ap length (take_while-past is_space text), length-append (take_while is_space text) (skip text))
+skip_shorter text = omega (arith, ap length (take_while-past is_white text), length-append (take_while is_white text) (skip text))
 
 module _ {X : Type 0} (between : ℕ) (one : List ℕ → Result (X × List ℕ) Fault)
     (shorter : (text : List ℕ) (x : X) (rest : List ℕ) → one text ≡ Ok (x, rest) → length rest ≤ length text) where

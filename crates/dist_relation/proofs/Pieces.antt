@@ -3,11 +3,12 @@ use Rattle.std.proofs.Common.{◌≡◌, ℕ, suc, Bool, true, false, true≢fal
 use Rattle.std.proofs.Common.{append-nil, Option, None, Some}
 use Rattle.std.specs.List.{filter_map, take_while}
 use Rattle.std.specs.Prelude.{Result, Ok, Err}
+use Rattle.dist_base.specs.Ascii.{comma, is_comma, is_white}
 use Rattle.dist_relation.specs.declared.error.Fault.{Fault}
-use Rattle.dist_relation.specs.Bytes.{is_space, is_comma, comma, IsBlank, Meets, Stops}
-use Rattle.dist_relation.specs.Grammar.{Joined, SpellsPiece, Reads}
+use Rattle.dist_relation.specs.Bytes.{IsBlank, Meets, Stops}
+use Rattle.dist_relation.specs.Grammar.{Joined, SpellsPiece, ReadsValue}
 use Rattle.dist_relation.specs.Faults.{PassedOver}
-use Rattle.dist_relation.specs.Reading.{◌>>=◌, skip, ends_piece, piece_at, joined_at, items_of}
+use Rattle.dist_relation.specs.ReadingPrivate.{◌>>=◌, skip, ends_piece, piece_at, joined_at, items_of}
 use Rattle.dist_relation.proofs.Runs.{past-append, take_while-past, take_while_all}
 use Rattle.dist_relation.proofs.ByteFacts.{Stops-meets, fails_at}
 use Rattle.dist_relation.proofs.Heads.{done}
@@ -26,18 +27,18 @@ ends_from (b ∷ bs) h = h
 -- white space up to a comma or the end is what is passed over
 pub passed_over : (text : List ℕ) → ends_piece (skip text) ≡ true → PassedOver text
 passed_over text h = record {
-  space = take_while is_space text;
+  space = take_while is_white text;
   rest = skip text;
-  blank = take_while_all is_space text;
-  parts = sym (take_while-past is_space text);
+  blank = take_while_all is_white text;
+  parts = sym (take_while-past is_white text);
   ends = passes_over (skip text) h;
 }
 
-comma_stops : (rest : List ℕ) → Meets is_comma rest → Stops is_space rest
-comma_stops rest h = Stops-meets is_space is_comma rest (fails_at is_space comma refl) h
+comma_stops : (rest : List ℕ) → Meets is_comma rest → Stops is_white rest
+comma_stops rest h = Stops-meets is_white is_comma rest (fails_at is_white comma refl) h
 
 skipped_to : (space rest : List ℕ) → IsBlank space → Meets is_comma rest → skip (space ++ rest) ≡ rest
-skipped_to space rest blank h = past-append is_space space rest blank (comma_stops rest h)
+skipped_to space rest blank h = past-append is_white space rest blank (comma_stops rest h)
 
 pub ends_passed : (text : List ℕ) → PassedOver text → ends_piece (skip text) ≡ true
 ends_passed text h = ap ends_piece (ap skip h.parts ∙ skipped_to h.space h.rest h.blank h.ends) ∙ ends_from h.rest h.ends
@@ -53,9 +54,9 @@ pub record PieceFaulty (Faulty : List ℕ → Fault → Type 0) (text : List ℕ
 
 -- A whole value spells items, which are read, or has a fault, for which it is refused.
 pub record ValueLaws {X : Type 0} (Spells : List ℕ → X → Type 0) (Faulty : List ℕ → Fault → Type 0) (one : List ℕ → Result (X × List ℕ) Fault) : Type 0 where
-  pub cases : (value : List ℕ) → ((items : List X) × Reads Spells value items)
+  pub cases : (value : List ℕ) → ((items : List X) × ReadsValue Spells value items)
       ⊎ ((fault : Fault) × JoinedFaulty comma (SpellsPiece Spells) (PieceFaulty Faulty) value fault)
-  pub again : (value : List ℕ) (items : List X) → Reads Spells value items → items_of one value ≡ Ok items
+  pub again : (value : List ℕ) (items : List X) → ReadsValue Spells value items → items_of one value ≡ Ok items
   pub refused : (value : List ℕ) (fault : Fault) → JoinedFaulty comma (SpellsPiece Spells) (PieceFaulty Faulty) value fault → items_of one value ≡ Err fault
 
 abbrev pub finished : {X : Type 0} → List X → Result (List X) Fault
@@ -129,7 +130,7 @@ module _ {X : Type 0} (Spells : List ℕ → X → Type 0) (Faulty : List ℕ �
   nothing_left [] h = refl
   nothing_left (b ∷ bs) h = absurd cc
 
-  value_again : (value : List ℕ) (items : List X) → Reads Spells value items → items_of one value ≡ finished items
+  value_again : (value : List ℕ) (items : List X) → ReadsValue Spells value items → items_of one value ≡ finished items
   unfolding items_of
   value_again value items h =
       let text : List ℕ = value ++ [] in
@@ -140,13 +141,13 @@ module _ {X : Type 0} (Spells : List ℕ → X → Type 0) (Faulty : List ℕ �
   unfolding items_of
   value_refused value fault h = ap items_given (pieces_reader.refused value fault h)
 
-  value_cases : (value : List ℕ) → ((items : List X) × Reads Spells value items)
+  value_cases : (value : List ℕ) → ((items : List X) × ReadsValue Spells value items)
       ⊎ ((fault : Fault) × JoinedFaulty comma (SpellsPiece Spells) (PieceFaulty Faulty) value fault)
   value_cases value = by_pieces (pieces_reader.cases value)
     where
       by_pieces : Found (Joined comma (SpellsPiece Spells)) never value
           ⊎ ((fault : Fault) × JoinedFaulty comma (SpellsPiece Spells) (PieceFaulty Faulty) value fault)
-          → ((items : List X) × Reads Spells value items) ⊎ ((fault : Fault) × JoinedFaulty comma (SpellsPiece Spells) (PieceFaulty Faulty) value fault)
+          → ((items : List X) × ReadsValue Spells value items) ⊎ ((fault : Fault) × JoinedFaulty comma (SpellsPiece Spells) (PieceFaulty Faulty) value fault)
       by_pieces (inl f) =
           let whole : f.front ≡ value = sym (f.parts ∙ ap (λ (t : List ℕ). f.front ++ t) (nothing_left f.rest f.stops) ∙ append-nil f.front) in
           inl (

@@ -5,7 +5,7 @@ use Rattle.std.proofs.lemmas.List.Folds.{length-prefix_len}
 use Rattle.std.proofs.lemmas.List.Sums.{prefix_len-le-length}
 use Rattle.std.specs.Char.{is_ascii_alphanumeric}
 use Rattle.dist_relation.specs.Bytes.{is_name_byte, IsName}
-use Rattle.dist_relation.specs.Reading.{past}
+use Rattle.dist_relation.specs.ReadingPrivate.{past}
 use Rattle.dist_relation.proofs.Heads.{IsName-run}
 
 past_by : (t : Bool) (test : ℕ → Bool) (b : ℕ) (bs : List ℕ) → past test bs ≡ drop (prefix_len test bs) bs

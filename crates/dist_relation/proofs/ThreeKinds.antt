@@ -4,6 +4,7 @@ use Rattle.std.proofs.Common.{◌≤◌, arith, refl, sym, ap, ◌∙◌, subst,
 use Rattle.std.specs.List.{take_while}
 use Rattle.std.specs.Char.{is_ascii_alphanumeric}
 use Rattle.std.specs.Prelude.{Result, Ok, Err}
+use Rattle.dist_base.specs.Ascii.{bar, comma, is_comma, is_white}
 use Rattle.dist_relation.specs.declared.atom.Atom.{Atom}
 use Rattle.dist_relation.specs.declared.atom.Bound.{Bound}
 use Rattle.dist_relation.specs.declared.atom.Kind.{Kind}
@@ -22,11 +23,12 @@ use Rattle.dist_base.specs.Answers.{IsExact}
 use Rattle.dist_version.specs.declared.error.VersionError.{VersionError}
 use Rattle.dist_version.specs.TextLaws.{no_memory_fault}
 use Rattle.dist_relation.specs.declared.error.RelationError.{RelationError}
-use Rattle.dist_relation.specs.Bytes.{is_space, is_word_byte, is_comma, comma, bar, Meets}
-use Rattle.dist_relation.specs.Grammar.{allows_operator, SpellsBound, SpellsBoundOf, SpellsAtom, Ended, SpellsPiece, Reads, SpellsAlternatives, atom_of}
+use Rattle.dist_relation.specs.Bytes.{is_word_byte, Meets}
+use Rattle.dist_relation.specs.Grammar.{allows_operator, SpellsBound, SpellsBoundOf, SpellsAtom, Ended, SpellsPiece, ReadsValue, SpellsAlternatives, atom_of}
 use Rattle.dist_relation.specs.Grammar.{SpellsProvide}
 use Rattle.dist_relation.specs.Faults.{NameMissing, AfterAtom, Has, Comes, PassedOver, allows_bar, error_at, FirstFault}
-use Rattle.dist_relation.specs.Reading.{version_of, ◌>>=◌, Fails, FitsIn, error_in, atom_at, joined_at, alternatives_at, provide_of, provide_at, items_of}
+use Rattle.dist_relation.specs.ReadingPrivate.{version_of, ◌>>=◌, Fails, FitsIn, error_in, atom_at, joined_at, alternatives_at, provide_of, provide_at}
+use Rattle.dist_relation.specs.ReadingPrivate.{items_of}
 use Rattle.dist_relation.proofs.ByteFacts.{or_true, or_cases, Stops-meets, fails_at}
 use Rattle.dist_relation.proofs.Heads.{done}
 use Rattle.dist_relation.proofs.AtomReading.{ends_atom, atom_again, atom_refused}
@@ -105,7 +107,7 @@ atom_needed kind text p =
       space = p.space;
       blank = p.blank;
       parts = p.parts;
-      skipped = Stops-meets is_space is_comma p.rest (fails_at is_space comma refl) p.ends;
+      skipped = Stops-meets is_white is_comma p.rest (fails_at is_white comma refl) p.ends;
       missing = Stops-meets is_ascii_alphanumeric is_comma p.rest (fails_at is_ascii_alphanumeric comma refl) p.ends;
     } in
     (fault_at BadName p.rest, record { here = p.rest; problem = BadName; has = inl missing; is_fault = refl })
@@ -353,23 +355,23 @@ module _ {X : Type 0} (kind : Kind) (Spells : List ℕ → X → Type 0) (one : 
       )
 
   -- what was read is spelled
-  pub value_reads : (value : List ℕ) (items : List X) → items_of one value ≡ Ok items → Reads Spells value items
+  pub value_reads : (value : List ℕ) (items : List X) → items_of one value ≡ Ok items → ReadsValue Spells value items
   value_reads value items e = by_cases (laws.cases value)
     where
-      by_cases : ((items : List X) × Reads Spells value items) ⊎ ((fault : Fault) × Faulty value fault) → Reads Spells value items
-      by_cases (inl (others, h)) = let same : others ≡ items = cc (laws.again value others h, e) in subst (Reads Spells value) same h
+      by_cases : ((items : List X) × ReadsValue Spells value items) ⊎ ((fault : Fault) × Faulty value fault) → ReadsValue Spells value items
+      by_cases (inl (others, h)) = let same : others ≡ items = cc (laws.again value others h, e) in subst (ReadsValue Spells value) same h
       by_cases (inr (fault, h)) = let never = laws.refused value fault h in absurd (cc (never, e))
 
   -- what was refused has that first fault
   pub value_fault : (value : List ℕ) (fault : Fault) → items_of one value ≡ Err fault → FirstFault kind Spells value (placed value fault)
   value_fault value fault e = by_cases (laws.cases value)
     where
-      by_cases : ((items : List X) × Reads Spells value items) ⊎ ((fault : Fault) × Faulty value fault) → FirstFault kind Spells value (placed value fault)
+      by_cases : ((items : List X) × ReadsValue Spells value items) ⊎ ((fault : Fault) × Faulty value fault) → FirstFault kind Spells value (placed value fault)
       by_cases (inl (others, h)) = let never = laws.again value others h in absurd (cc (never, e))
       by_cases (inr (other, h)) = let same : other ≡ fault = cc (laws.refused value other h, e) in
           subst (λ (f : Fault). FirstFault kind Spells value (placed value f)) same (first_fault value other h)
 
-  pub one_answer : (value : List ℕ) → IsExact (Reads Spells value) (FirstFault kind Spells value)
+  pub one_answer : (value : List ℕ) → IsExact (ReadsValue Spells value) (FirstFault kind Spells value)
   one_answer value =
       record {
         some = by_cases (laws.cases value);
@@ -383,7 +385,8 @@ module _ {X : Type 0} (kind : Kind) (Spells : List ℕ → X → Type 0) (one : 
             a.2 ∙ ap (placed value) same ∙ sym b.2;
       }
     where
-      by_cases : ((items : List X) × Reads Spells value items) ⊎ ((fault : Fault) × Faulty value fault) → ((items : List X) × Reads Spells value items)
+      by_cases : ((items : List X) × ReadsValue Spells value items) ⊎ ((fault : Fault) × Faulty value fault)
+          → ((items : List X) × ReadsValue Spells value items)
           ⊎ ((error : RelationError) × FirstFault kind Spells value error)
       by_cases (inl h) = inl h
       by_cases (inr (fault, h)) = inr (placed value fault, first_fault value fault h)
@@ -396,7 +399,7 @@ module _ {X : Type 0} (kind : Kind) (Spells : List ℕ → X → Type 0) (one : 
   pub value_left : (value : List ℕ) (fault : Fault) → items_of one value ≡ Err fault → fault.left ≤ length value
   value_left value fault e = by_cases (laws.cases value)
     where
-      by_cases : ((items : List X) × Reads Spells value items) ⊎ ((fault : Fault) × Faulty value fault) → fault.left ≤ length value
+      by_cases : ((items : List X) × ReadsValue Spells value items) ⊎ ((fault : Fault) × Faulty value fault) → fault.left ≤ length value
       by_cases (inl (others, h)) = let never = laws.again value others h in absurd (cc (never, e))
       by_cases (inr (other, h)) =
           let same : other ≡ fault = cc (laws.refused value other h, e) in

@@ -7,6 +7,7 @@ use Rattle.std.specs.List.{list_all, take_while}
 use Rattle.std.specs.Prelude.{Ok, IfSome, not, IsTrue}
 use Rattle.std.proofs.lemmas.Bool.{eqb-true}
 use Rattle.std.proofs.lemmas.List.Folds.{list_all-append}
+use Rattle.dist_base.specs.Ascii.{bar, closing, comma, is_white, opening}
 use Rattle.dist_version.specs.Spelling.{IsVersion, SpellsEpoch, IsMadeOf, revision_text, is_upstream_byte, is_revision_byte}
 use Rattle.dist_version.specs.Faults.{fault_of}
 use Rattle.dist_version.specs.declared.error.VersionError.{VersionError}
@@ -15,9 +16,9 @@ use Rattle.dist_relation.specs.declared.atom.Kind.{Kind}
 use Rattle.dist_relation.specs.declared.atom.Op.{Op}
 use Rattle.dist_relation.specs.declared.atom.Op.TheVariants.{Lt, Le, Eq, Ge, Gt}
 use Rattle.dist_relation.specs.declared.error.Problem.TheVariants.{BadOp, BadVersion, OpInProvides}
-use Rattle.dist_relation.specs.Bytes.{is_space, is_operator_byte, is_word_byte, opening, closing, comma, bar, Stops}
+use Rattle.dist_relation.specs.Bytes.{is_operator_byte, is_word_byte, Stops}
 use Rattle.dist_relation.specs.Grammar.{allows_operator, SpellsOperator}
-use Rattle.dist_relation.specs.Reading.{refuse, past, operator_of, operator_found, operator_at, version_found, version_at}
+use Rattle.dist_relation.specs.ReadingPrivate.{refuse, past, operator_of, operator_found, operator_at, version_found, version_at}
 use Rattle.dist_relation.proofs.Runs.{both_true, true_both, take_while-append, past-append, take_while-past, past_stops}
 use Rattle.dist_relation.proofs.ByteFacts.{or_false, or_true, or_cases, not_at, no_space}
 use Rattle.dist_relation.proofs.Heads.{done, ok_pair}
@@ -28,7 +29,7 @@ use Rattle.dist_relation.proofs.Heads.{done, ok_pair}
 pub record OperatorFacts (text : List ℕ) (op : Op) : Type 0 where
   pub all : list_all is_operator_byte text ≡ true
   pub found : operator_of text ≡ Some op
-  pub no_blank : (r : List ℕ) → Stops is_space (text ++ r)
+  pub no_blank : (r : List ℕ) → Stops is_white (text ++ r)
 
 pub operator_facts : (op : Op) (text : List ℕ) → SpellsOperator text op → OperatorFacts text op
 operator_facts Lt text h = subst (λ (t : List ℕ). OperatorFacts t Lt) (sym h) (record { all = refl; found = refl; no_blank = λ r. refl })
@@ -182,14 +183,14 @@ version_not_empty text (version, s) =
 
 upstream_is_word : (b : ℕ) → is_upstream_byte b ≡ true → is_word_byte b ≡ true
 upstream_is_word b h =
-    let space : is_space b ≡ false = no_space is_upstream_byte b refl refl refl h in
+    let space : is_white b ≡ false = no_space is_upstream_byte b refl refl refl h in
     let mark : (eqb b opening || eqb b closing || eqb b comma || eqb b bar) ≡ false =
     or_false (eqb b opening || eqb b closing || eqb b comma) (eqb b bar)
     (or_false (eqb b opening || eqb b closing) (eqb b comma)
     (or_false (eqb b opening) (eqb b closing) (not_at is_upstream_byte b opening h refl) (not_at is_upstream_byte b closing h refl))
     (not_at is_upstream_byte b comma h refl))
     (not_at is_upstream_byte b bar h refl) in
-    ap not (or_false (is_space b) (eqb b opening || eqb b closing || eqb b comma || eqb b bar) space mark)
+    ap not (or_false (is_white b) (eqb b opening || eqb b closing || eqb b comma || eqb b bar) space mark)
 
 pub version_words : (text : List ℕ) → IsVersion text → list_all is_word_byte text ≡ true
 version_words text h = all_weaker is_upstream_byte is_word_byte text upstream_is_word (version_bytes text h)
@@ -207,8 +208,8 @@ starts_by f (b ∷ bs) r long all k = k b (both_true (is_upstream_byte b) (list_
 pub version_no_operator : (text r : List ℕ) → IsVersion text → Stops is_operator_byte (text ++ r)
 version_no_operator text r h = starts_by is_operator_byte text r (version_not_empty text h) (version_bytes text h) upstream_no_operator
 
-pub version_no_blank : (text r : List ℕ) → IsVersion text → Stops is_space (text ++ r)
-version_no_blank text r h = starts_by is_space text r (version_not_empty text h) (version_bytes text h) (λ b e. no_space is_upstream_byte b refl refl refl e)
+pub version_no_blank : (text r : List ℕ) → IsVersion text → Stops is_white (text ++ r)
+version_no_blank text r h = starts_by is_white text r (version_not_empty text h) (version_bytes text h) (λ b e. no_space is_upstream_byte b refl refl refl e)
 
 pub version_again : (text r : List ℕ) → IsVersion text → Stops is_word_byte r → version_at (text ++ r) ≡ Ok (text, r)
 unfolding version_at

@@ -3,58 +3,12 @@
 use Rattle.std.specs.Prelude.{◌≡◌, ℕ, Bool, false, true, not, ◌&&◌, ◌||◌, ◌==◌, List, [], ◌∷◌, IsTrue}
 use Rattle.std.specs.Char.{is_ascii_alphanumeric}
 use Rattle.std.specs.List.{list_all}
-
-abbrev pub comma : ℕ
-comma = 44
-
-abbrev pub bar : ℕ
-bar = 124
-
-abbrev pub colon : ℕ
-colon = 58
-
-abbrev pub opening : ℕ
-opening = 40
-
-abbrev pub closing : ℕ
-closing = 41
-
-abbrev pub space : ℕ
-space = 32
-
-abbrev pub tab : ℕ
-tab = 9
-
-abbrev pub line_feed : ℕ
-line_feed = 10
-
-abbrev pub is_space : ℕ → Bool
-is_space b = b == space || b == tab || b == line_feed
-
-abbrev pub plus : ℕ
-plus = 43
-
-abbrev pub hyphen : ℕ
-hyphen = 45
-
-abbrev pub dot : ℕ
-dot = 46
-
-abbrev pub underscore : ℕ
-underscore = 95
+use Rattle.dist_base.specs.Ascii.{bar, closing, comma, dot, equals, greater, hyphen, is_white, less, opening, plus}
+use Rattle.dist_base.specs.Ascii.{underscore}
 
 -- letters, digits and + - . _
 abbrev pub is_name_byte : ℕ → Bool
 is_name_byte b = is_ascii_alphanumeric b || (b == plus || b == hyphen || b == dot || b == underscore)
-
-abbrev pub less : ℕ
-less = 60
-
-abbrev pub equals : ℕ
-equals = 61
-
-abbrev pub greater : ℕ
-greater = 62
 
 -- < = >
 abbrev pub is_operator_byte : ℕ → Bool
@@ -62,23 +16,11 @@ is_operator_byte b = b == less || b == equals || b == greater
 
 -- a version ends at white space and at ( ) , |
 abbrev pub is_word_byte : ℕ → Bool
-is_word_byte b = not (is_space b || (b == opening || b == closing || b == comma || b == bar))
-
-abbrev pub is_comma : ℕ → Bool
-is_comma b = b == comma
-
-abbrev pub is_colon : ℕ → Bool
-is_colon b = b == colon
-
-abbrev pub is_opening : ℕ → Bool
-is_opening b = b == opening
-
-abbrev pub is_closing : ℕ → Bool
-is_closing b = b == closing
+is_word_byte b = not (is_white b || (b == opening || b == closing || b == comma || b == bar))
 
 -- white space alone
 abbrev pub IsBlank : List ℕ → Type 0
-IsBlank text = IsTrue (list_all is_space text)
+IsBlank text = IsTrue (list_all is_white text)
 
 -- a letter or a digit, and then bytes of names; no bytes are no name
 abbrev pub IsName : List ℕ → Type 0

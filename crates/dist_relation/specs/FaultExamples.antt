@@ -2,6 +2,7 @@
 use Rattle.std.specs.Prelude.{◌≡◌, ◌-◌, ℕ, false, List, [], ◌∷◌, ◌++◌, length, None, refl, codes}
 use Rattle.std.proofs.Common.{inl, inr}
 use Rattle.std.proofs.lemmas.Bool.{and_parts}
+use Rattle.dist_base.specs.Ascii.{is_comma, is_white}
 use Rattle.dist_version.specs.declared.error.VersionError.TheVariants.{BadByte}
 use Rattle.dist_version.specs.Spelling.{IsVersion, epoch_digits, after_epoch, upstream_of, revision_of}
 use Rattle.dist_version.specs.Faults.{fault_of}
@@ -14,7 +15,7 @@ use Rattle.dist_relation.specs.declared.atom.Qualifier.TheVariants.{Plain}
 use Rattle.dist_relation.specs.declared.error.Problem.{Problem}
 use Rattle.dist_relation.specs.declared.error.Problem.TheVariants as problems
 use Rattle.dist_relation.specs.declared.error.RelationError.TheVariants as errors
-use Rattle.dist_relation.specs.Bytes.{is_space, is_comma, IsBlank, Meets}
+use Rattle.dist_relation.specs.Bytes.{IsBlank, Meets}
 use Rattle.dist_relation.specs.Grammar.{SpellsOperator, SpellsAtom, SpellsAlternatives, SpellsProvide}
 use Rattle.dist_relation.specs.Faults.{Head, Opened, Compared, PassedOver, Has, error_at, FirstFault, FirstDependsFault}
 use Rattle.dist_relation.specs.Faults.{FirstAtomsFault, FirstProvidesFault}
@@ -48,13 +49,13 @@ at_least = record {
 }
 
 -- what begins with neither white space nor a comma is not passed over
-begins : (b : ℕ) (bs : List ℕ) → is_space b ≡ false → is_comma b ≡ false → ¬ PassedOver (b ∷ bs)
+begins : (b : ℕ) (bs : List ℕ) → is_white b ≡ false → is_comma b ≡ false → ¬ PassedOver (b ∷ bs)
 begins b bs no_space no_comma p = by_space p.space p.rest p.blank p.parts p.ends
   where
     by_space : (space rest : List ℕ) → IsBlank space → b ∷ bs ≡ space ++ rest → Meets is_comma rest → ⊥
     by_space [] [] blank parts ends = cc
     by_space [] (x ∷ rest) blank parts ends = cc
-    by_space (x ∷ space) rest blank parts ends = let p = and_parts (is_space x) _ blank in cc
+    by_space (x ∷ space) rest blank parts ends = let p = and_parts (is_white x) _ blank in cc
 
 -- a fault of a value's first atom
 at_first : {X : Type 0} (kind : Kind) (Spells : List ℕ → X → Type 0) (value here : List ℕ) (problem : Problem)

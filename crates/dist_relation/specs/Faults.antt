@@ -4,6 +4,8 @@
 use Rattle.std.specs.Prelude.{IsTrue, ◌≡◌, ◌≢◌, ◌⊎◌, ℕ, ◌-◌, Bool, true, false, ◌||◌, ◌==◌, List, [], ◌∷◌, ◌++◌, length}
 use Rattle.std.specs.Prelude.{take_while, Option, Some}
 use Rattle.std.specs.Char.{is_ascii_alphanumeric}
+use Rattle.dist_base.specs.Ascii.{bar, closing, colon, comma, is_closing, is_colon, is_comma, is_opening, is_white}
+use Rattle.dist_base.specs.Ascii.{opening}
 use Rattle.dist_version.specs.Spelling.{IsVersion}
 use Rattle.dist_version.specs.Faults.{fault_of}
 use Rattle.dist_version.specs.declared.error.VersionError.{VersionError}
@@ -20,9 +22,8 @@ use Rattle.dist_relation.specs.declared.error.Problem.TheVariants.{BadName, BadO
 use Rattle.dist_relation.specs.declared.error.Problem.TheVariants.{Trailing, OpInProvides}
 use Rattle.dist_relation.specs.declared.error.RelationError.{RelationError}
 use Rattle.dist_relation.specs.declared.error.RelationError.TheVariants as errors
-use Rattle.dist_relation.specs.Bytes.{IsName, opening, is_space, is_name_byte, is_operator_byte, is_word_byte, is_comma}
-use Rattle.dist_relation.specs.Bytes.{is_colon, is_opening, is_closing, IsBlank, Meets, Stops, colon, closing, comma}
-use Rattle.dist_relation.specs.Bytes.{bar}
+use Rattle.dist_relation.specs.Bytes.{IsName, is_name_byte, is_operator_byte, is_word_byte}
+use Rattle.dist_relation.specs.Bytes.{IsBlank, Meets, Stops}
 use Rattle.dist_relation.specs.Grammar.{qualifier_text, IsQualifier, allows_operator, SpellsOperator, SpellsAtom}
 use Rattle.dist_relation.specs.Grammar.{SpellsAlternatives, SpellsProvide, SpellsPiece, Ended}
 
@@ -74,7 +75,7 @@ pub record NameMissing (text here : List ℕ) : Type 0 where
   pub space : List ℕ
   pub blank : IsBlank space
   pub parts : text ≡ space ++ here
-  pub skipped : Stops is_space here
+  pub skipped : Stops is_white here
   pub missing : Stops is_ascii_alphanumeric here
 
 -- no qualifier, right behind the colon
@@ -92,7 +93,7 @@ pub record OperatorMissing (text here : List ℕ) : Type 0 where
   pub qualifier : Qualifier
   pub is_opened : Opened opened name qualifier
   pub parts : text ≡ opened ++ here
-  pub skipped : Stops is_space here
+  pub skipped : Stops is_white here
   pub missing : (op : Op) → ¬ SpellsOperator (take_while is_operator_byte here) op
 
 -- an operator that values of this kind don't have
@@ -115,7 +116,7 @@ pub record VersionMissing (kind : Kind) (text here : List ℕ) (fault : VersionE
   pub is_compared : Compared kind compared name qualifier op
   pub parts : text ≡ compared ++ here
   pub whole_operator : Stops is_operator_byte (is_compared.space ++ here)
-  pub skipped : Stops is_space here
+  pub skipped : Stops is_white here
   pub missing : fault_of (take_while is_word_byte here) ≡ Some fault
 
 -- no closing parenthesis, after the version
@@ -127,7 +128,7 @@ pub record ClosingMissing (kind : Kind) (text here : List ℕ) : Type 0 where
   pub is_versioned : Versioned kind versioned name qualifier bound
   pub parts : text ≡ versioned ++ here
   pub whole_version : Stops is_word_byte (is_versioned.space ++ here)
-  pub skipped : Stops is_space here
+  pub skipped : Stops is_white here
   pub missing : Stops is_closing here
 
 -- a name without a qualifier can't go on, nor with a colon
@@ -145,7 +146,7 @@ pub record AfterBare (text here : List ℕ) : Type 0 where
   pub blank : IsBlank space
   pub parts : text ≡ head ++ (space ++ here)
   pub whole_head : EndsHead qualifier (space ++ here)
-  pub skipped : Stops is_space here
+  pub skipped : Stops is_white here
   pub not_opened : Stops is_opening here
 
 -- the text begins with an atom with a bound, and `here` follows
@@ -158,7 +159,7 @@ pub record AfterClosed (kind : Kind) (text here : List ℕ) : Type 0 where
   pub is_versioned : Versioned kind versioned name qualifier bound
   pub blank : IsBlank space
   pub parts : text ≡ versioned ++ (closing ∷ (space ++ here))
-  pub skipped : Stops is_space here
+  pub skipped : Stops is_white here
 
 abbrev pub AfterAtom : Kind → List ℕ → List ℕ → Type 0
 AfterAtom kind text here = AfterBare text here ⊎ AfterClosed kind text here

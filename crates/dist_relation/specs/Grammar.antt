@@ -2,6 +2,7 @@
 -- A spelling is white space alone, which gives no item, or one item; alternatives are atoms joined by bars.
 use Rattle.std.specs.Prelude.{◌≡◌, ◌⊎◌, ℕ, Bool, true, false, List, [], ◌∷◌, ◌++◌, Option, None, Some, IsTrue}
 use Rattle.std.specs.Prelude.{option_map, filter_map, codes}
+use Rattle.dist_base.specs.Ascii.{bar, closing, colon, comma, opening}
 use Rattle.dist_version.specs.Spelling.{IsVersion}
 use Rattle.dist_relation.specs.declared.atom.Atom.{Atom}
 use Rattle.dist_relation.specs.declared.atom.Bound.{Bound}
@@ -12,7 +13,7 @@ use Rattle.dist_relation.specs.declared.atom.Op.TheVariants.{Lt, Le, Eq, Ge, Gt}
 use Rattle.dist_relation.specs.declared.atom.Provide.{Provide}
 use Rattle.dist_relation.specs.declared.atom.Qualifier.{Qualifier}
 use Rattle.dist_relation.specs.declared.atom.Qualifier.TheVariants.{Plain, Named}
-use Rattle.dist_relation.specs.Bytes.{IsBlank, IsName, colon, opening, closing, comma, bar}
+use Rattle.dist_relation.specs.Bytes.{IsBlank, IsName}
 
 -- ---- the parts of an atom
 
@@ -107,7 +108,7 @@ SpellsPiece Spells text None = IsBlank text
 SpellsPiece Spells text (Some x) = Spells text x
 
 -- The value is pieces joined by commas, and these are the items that they give.
-pub record Reads {X : Type 0} (Spells : List ℕ → X → Type 0) (value : List ℕ) (items : List X) : Type 0 where
+pub record ReadsValue {X : Type 0} (Spells : List ℕ → X → Type 0) (value : List ℕ) (items : List X) : Type 0 where
   pub pieces : List (Option X)
   pub joined : Joined comma (SpellsPiece Spells) value pieces
   pub given : items ≡ filter_map (λ piece. piece) pieces
@@ -129,12 +130,12 @@ SpellsProvide text provide = SpellsAtom kinds.Provides text (atom_of provide)
 
 -- The value of a Depends or Pre-Depends field spells these items.
 abbrev pub ReadsDepends : List ℕ → List (List Atom) → Type 0
-ReadsDepends value items = Reads SpellsAlternatives value items
+ReadsDepends value items = ReadsValue SpellsAlternatives value items
 
 -- The value of a Conflicts or Breaks field spells these atoms.
 abbrev pub ReadsAtoms : List ℕ → List Atom → Type 0
-ReadsAtoms value atoms = Reads (SpellsAtom kinds.Conflicts) value atoms
+ReadsAtoms value atoms = ReadsValue (SpellsAtom kinds.Conflicts) value atoms
 
 -- The value of a Provides field spells these entries.
 abbrev pub ReadsProvides : List ℕ → List Provide → Type 0
-ReadsProvides value provides = Reads SpellsProvide value provides
+ReadsProvides value provides = ReadsValue SpellsProvide value provides

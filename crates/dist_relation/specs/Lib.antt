@@ -1,10 +1,10 @@
 pub mod Bytes
 pub mod Grammar
 pub mod Faults
-pub mod Reading
+pub mod ReadingPrivate
 pub mod Canonical
 pub mod Satisfies
-pub mod Equality
-pub mod Written
+pub mod EqualityPrivate
+pub mod WrittenPrivate
 pub mod Examples
 pub mod FaultExamples

@@ -1,7 +1,7 @@
 //! Atoms of relations, and entries of Provides.
 ghost use Rattle.std.specs.Prelude.{◌≡◌, ◌↔◌, IsTrue, IfOk};
 ghost use Rattle.dist_relation.specs.Satisfies.{Satisfies};
-ghost use Rattle.dist_relation.specs.Equality.{op_eq, qualifier_eq, bound_eq, atom_eq, provide_eq};
+ghost use Rattle.dist_relation.specs.EqualityPrivate.{op_eq, qualifier_eq, bound_eq, atom_eq, provide_eq};
 ghost use Rattle.dist_relation.specs.Grammar.{allows_operator};
 ghost use Rattle.dist_relation.specs.Faults.{allows_bar};
 
@@ -131,7 +131,7 @@ impl TryClone for Provide {
 
 impl PartialEq for Op {
     ghost use Rattle.std.specs.Cmp.{partial_equiv_from_equiv};
-    ghost use Rattle.dist_relation.specs.Equality.{op_eq, equivalence, op_decides};
+    ghost use Rattle.dist_relation.specs.EqualityPrivate.{op_eq, equivalence, op_decides};
 
     ghost eq = { op_eq };
 
@@ -153,14 +153,14 @@ impl PartialEq for Op {
 }
 
 impl Eq for Op {
-    ghost use Rattle.dist_relation.specs.Equality.{equivalence, op_decides};
+    ghost use Rattle.dist_relation.specs.EqualityPrivate.{equivalence, op_decides};
 
     ghost laws = { equivalence op_decides };
 }
 
 impl PartialEq for Bound {
     ghost use Rattle.std.specs.Cmp.{partial_equiv_from_equiv};
-    ghost use Rattle.dist_relation.specs.Equality.{bound_eq, equivalence, bound_decides};
+    ghost use Rattle.dist_relation.specs.EqualityPrivate.{bound_eq, equivalence, bound_decides};
 
     ghost eq = { bound_eq };
 
@@ -175,14 +175,14 @@ impl PartialEq for Bound {
 }
 
 impl Eq for Bound {
-    ghost use Rattle.dist_relation.specs.Equality.{equivalence, bound_decides};
+    ghost use Rattle.dist_relation.specs.EqualityPrivate.{equivalence, bound_decides};
 
     ghost laws = { equivalence bound_decides };
 }
 
 impl PartialEq for Qualifier {
     ghost use Rattle.std.specs.Cmp.{partial_equiv_from_equiv};
-    ghost use Rattle.dist_relation.specs.Equality.{qualifier_eq, equivalence, qualifier_decides};
+    ghost use Rattle.dist_relation.specs.EqualityPrivate.{qualifier_eq, equivalence, qualifier_decides};
 
     ghost eq = { qualifier_eq };
 
@@ -201,14 +201,14 @@ impl PartialEq for Qualifier {
 }
 
 impl Eq for Qualifier {
-    ghost use Rattle.dist_relation.specs.Equality.{equivalence, qualifier_decides};
+    ghost use Rattle.dist_relation.specs.EqualityPrivate.{equivalence, qualifier_decides};
 
     ghost laws = { equivalence qualifier_decides };
 }
 
 impl PartialEq for Atom {
     ghost use Rattle.std.specs.Cmp.{partial_equiv_from_equiv};
-    ghost use Rattle.dist_relation.specs.Equality.{atom_eq, equivalence, atom_decides};
+    ghost use Rattle.dist_relation.specs.EqualityPrivate.{atom_eq, equivalence, atom_decides};
 
     ghost eq = { atom_eq };
 
@@ -223,14 +223,14 @@ impl PartialEq for Atom {
 }
 
 impl Eq for Atom {
-    ghost use Rattle.dist_relation.specs.Equality.{equivalence, atom_decides};
+    ghost use Rattle.dist_relation.specs.EqualityPrivate.{equivalence, atom_decides};
 
     ghost laws = { equivalence atom_decides };
 }
 
 impl PartialEq for Provide {
     ghost use Rattle.std.specs.Cmp.{partial_equiv_from_equiv};
-    ghost use Rattle.dist_relation.specs.Equality.{provide_eq, equivalence, provide_decides};
+    ghost use Rattle.dist_relation.specs.EqualityPrivate.{provide_eq, equivalence, provide_decides};
 
     ghost eq = { provide_eq };
 
@@ -247,7 +247,7 @@ impl PartialEq for Provide {
 }
 
 impl Eq for Provide {
-    ghost use Rattle.dist_relation.specs.Equality.{equivalence, provide_decides};
+    ghost use Rattle.dist_relation.specs.EqualityPrivate.{equivalence, provide_decides};
 
     ghost laws = { equivalence provide_decides };
 }

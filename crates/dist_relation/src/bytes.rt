@@ -1,12 +1,13 @@
 //! The bytes of relation fields, and the longest starts of them.
 ghost use Rattle.std.specs.Prelude.{◌≡◌, ◌↔◌, ◌∷◌, ◌==◌, IsTrue, MatchOption, length, take_while};
 ghost use Rattle.std.specs.List.{list_all};
-ghost use Rattle.dist_relation.specs.Bytes.{is_space, is_name_byte, is_operator_byte, is_word_byte, IsName, Stops};
-ghost use Rattle.dist_relation.specs.Reading.{past, skip};
+ghost use Rattle.dist_base.specs.Ascii.{is_white};
+ghost use Rattle.dist_relation.specs.Bytes.{is_name_byte, is_operator_byte, is_word_byte, IsName, Stops};
+ghost use Rattle.dist_relation.specs.ReadingPrivate.{past, skip};
 
 /// Whether the byte is white space.
-fn is_space(byte: u8) -> bool
-    ensures { result ≡ is_space byte }
+fn is_white(byte: u8) -> bool
+    ensures { result ≡ is_white byte }
 {
     matches!(byte, b' ' | b'\t' | b'\n')
 }
@@ -53,9 +54,9 @@ pub(crate) fn is_name(bytes: &[u8]) -> bool
 
 /// How many bytes of white space stand at the start.
 fn space_length(text: &[u8]) -> usize
-    ensures { result ≡ length (take_while is_space text.now) }
+    ensures { result ≡ length (take_while is_white text.now) }
 {
-    text.iter().take_while(|byte| is_space(**byte)).count()
+    text.iter().take_while(|byte| is_white(**byte)).count()
 }
 
 /// How many bytes of a name stand at the start.

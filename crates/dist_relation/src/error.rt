@@ -1,7 +1,7 @@
 //! Why a value is no relation.
 ghost use Rattle.std.specs.Prelude.{◌≡◌};
 ghost use Rattle.dist_relation.specs.Faults.{error_at};
-ghost use Rattle.dist_relation.specs.Reading.{FitsIn, error_in};
+ghost use Rattle.dist_relation.specs.ReadingPrivate.{FitsIn, error_in};
 
 use dist_version::VersionError;
 use std::alloc::{AllocError, AllocFailed};

@@ -1,7 +1,7 @@
 //! Lists of what relations have, each over a `Vec`.
 ghost use Rattle.std.specs.Prelude.{◌≡◌, ◌↔◌, ◌<◌, ◌++◌, ◌∷◌, ℕ, List, Some, IsTrue, length, slice_get, IfOk, OnOk, OnErr};
 ghost use Rattle.std.specs.Cmp.Lexicographic.{pointwise};
-ghost use Rattle.dist_relation.specs.Equality.{atom_eq, provide_eq};
+ghost use Rattle.dist_relation.specs.EqualityPrivate.{atom_eq, provide_eq};
 
 use crate::atom::{Atom, Provide};
 use crate::copying::{TryClone, clone_all};
@@ -147,7 +147,7 @@ impl<T: TryClone> Entries<T> {
 impl PartialEq for Alternatives {
     ghost use Rattle.std.specs.Cmp.{partial_equiv_from_equiv};
     ghost use Rattle.std.specs.Cmp.Lexicographic.{pointwise};
-    ghost use Rattle.dist_relation.specs.Equality.{atom_eq, equivalence, atoms_decide};
+    ghost use Rattle.dist_relation.specs.EqualityPrivate.{atom_eq, equivalence, atoms_decide};
 
     ghost eq = { pointwise atom_eq };
 
@@ -162,7 +162,7 @@ impl PartialEq for Alternatives {
 }
 
 impl Eq for Alternatives {
-    ghost use Rattle.dist_relation.specs.Equality.{equivalence, atoms_decide};
+    ghost use Rattle.dist_relation.specs.EqualityPrivate.{equivalence, atoms_decide};
 
     ghost laws = { equivalence atoms_decide };
 }
@@ -170,7 +170,7 @@ impl Eq for Alternatives {
 impl PartialEq for Items {
     ghost use Rattle.std.specs.Cmp.{partial_equiv_from_equiv};
     ghost use Rattle.std.specs.Cmp.Lexicographic.{pointwise};
-    ghost use Rattle.dist_relation.specs.Equality.{atom_eq, equivalence, items_decide};
+    ghost use Rattle.dist_relation.specs.EqualityPrivate.{atom_eq, equivalence, items_decide};
 
     ghost eq = { pointwise (pointwise atom_eq) };
 
@@ -185,7 +185,7 @@ impl PartialEq for Items {
 }
 
 impl Eq for Items {
-    ghost use Rattle.dist_relation.specs.Equality.{equivalence, items_decide};
+    ghost use Rattle.dist_relation.specs.EqualityPrivate.{equivalence, items_decide};
 
     ghost laws = { equivalence items_decide };
 }
@@ -193,7 +193,7 @@ impl Eq for Items {
 impl PartialEq for Atoms {
     ghost use Rattle.std.specs.Cmp.{partial_equiv_from_equiv};
     ghost use Rattle.std.specs.Cmp.Lexicographic.{pointwise};
-    ghost use Rattle.dist_relation.specs.Equality.{atom_eq, equivalence, atoms_decide};
+    ghost use Rattle.dist_relation.specs.EqualityPrivate.{atom_eq, equivalence, atoms_decide};
 
     ghost eq = { pointwise atom_eq };
 
@@ -208,7 +208,7 @@ impl PartialEq for Atoms {
 }
 
 impl Eq for Atoms {
-    ghost use Rattle.dist_relation.specs.Equality.{equivalence, atoms_decide};
+    ghost use Rattle.dist_relation.specs.EqualityPrivate.{equivalence, atoms_decide};
 
     ghost laws = { equivalence atoms_decide };
 }
@@ -216,7 +216,7 @@ impl Eq for Atoms {
 impl PartialEq for Provides {
     ghost use Rattle.std.specs.Cmp.{partial_equiv_from_equiv};
     ghost use Rattle.std.specs.Cmp.Lexicographic.{pointwise};
-    ghost use Rattle.dist_relation.specs.Equality.{provide_eq, equivalence, provides_decide};
+    ghost use Rattle.dist_relation.specs.EqualityPrivate.{provide_eq, equivalence, provides_decide};
 
     ghost eq = { pointwise provide_eq };
 
@@ -231,7 +231,7 @@ impl PartialEq for Provides {
 }
 
 impl Eq for Provides {
-    ghost use Rattle.dist_relation.specs.Equality.{equivalence, provides_decide};
+    ghost use Rattle.dist_relation.specs.EqualityPrivate.{equivalence, provides_decide};
 
     ghost laws = { equivalence provides_decide };
 }

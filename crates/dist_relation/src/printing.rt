@@ -4,7 +4,7 @@ ghost use Rattle.std.specs.List.{flat_map};
 ghost use Rattle.dist_version.specs.Spelling.{IsVersion};
 ghost use Rattle.dist_relation.specs.Grammar.{operator_text, qualifier_text, IsQualifier, ReadsDepends};
 ghost use Rattle.dist_relation.specs.Canonical.{bound_text, atom_text, behind_bar, alternatives_text};
-ghost use Rattle.dist_relation.specs.Written.{Extends, IsAtom, AreAtoms};
+ghost use Rattle.dist_relation.specs.WrittenPrivate.{Extends, IsAtom, AreAtoms};
 
 use crate::atom::{Atom, Bound, Op, Qualifier};
 use crate::lists::Alternatives;

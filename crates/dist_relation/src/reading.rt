@@ -1,6 +1,6 @@
 //! The readers of an atom's parts, from left to right. Each gives what it read and the rest of the text.
 ghost use Rattle.std.specs.Prelude.{◌≡◌, length};
-ghost use Rattle.dist_relation.specs.Reading.{Gives, name_at, qualifier_at, head_at, operator_of, operator_at, version_at, closing_at, bound_at, maybe_bound_at, end_at, atom_at};
+ghost use Rattle.dist_relation.specs.ReadingPrivate.{Gives, name_at, qualifier_at, head_at, operator_of, operator_at, version_at, closing_at, bound_at, maybe_bound_at, end_at, atom_at};
 
 use crate::atom::{Atom, Bound, Kind, Op, Qualifier};
 use crate::bytes::{skip_space, split_name, split_operator, split_word};
@@ -20,7 +20,7 @@ fn fault(problem: Problem, text: &[u8]) -> ReadError
 }
 
 /// A name at the front.
-#[tactic(auto, unfolding(crate::specs::Reading::name_at))]
+#[tactic(auto, unfolding(crate::specs::ReadingPrivate::name_at))]
 fn name_of(alloc: Global, text: &[u8]) -> Result<(Name, &[u8]), ReadError>
     ensures { Gives (λ x. (x.0, x.1.now)) result (name_at text.now) }
 {
@@ -34,7 +34,7 @@ fn name_of(alloc: Global, text: &[u8]) -> Result<(Name, &[u8]), ReadError>
 }
 
 /// A colon and a qualifier, where a colon stands at the front.
-#[tactic(auto, unfolding(crate::specs::Reading::qualifier_at))]
+#[tactic(auto, unfolding(crate::specs::ReadingPrivate::qualifier_at))]
 fn qualifier_of(alloc: Global, text: &[u8]) -> Result<(Qualifier, &[u8]), ReadError>
     ensures { Gives (λ x. (x.0, x.1.now)) result (qualifier_at text.now) }
 {
@@ -48,7 +48,7 @@ fn qualifier_of(alloc: Global, text: &[u8]) -> Result<(Qualifier, &[u8]), ReadEr
 }
 
 /// White space, a name, and perhaps a qualifier.
-#[tactic(auto, unfolding(crate::specs::Reading::head_at))]
+#[tactic(auto, unfolding(crate::specs::ReadingPrivate::head_at))]
 fn head_of(alloc: Global, text: &[u8]) -> Result<(Name, Qualifier, &[u8]), ReadError>
     ensures { Gives (λ x. (x.0, x.1, x.2.now)) result (head_at text.now) }
 {
@@ -74,7 +74,7 @@ fn op_of(operator: &[u8]) -> Option<Op>
 }
 
 /// An operator at the front, which values of this kind have.
-#[tactic(auto, unfolding(crate::specs::Reading::operator_at))]
+#[tactic(auto, unfolding(crate::specs::ReadingPrivate::operator_at))]
 fn operator_at(kind: Kind, text: &[u8]) -> Result<(Op, &[u8]), ReadError>
     ensures { Gives (λ x. (x.0, x.1.now)) result (operator_at kind text.now) }
 {
@@ -87,7 +87,7 @@ fn operator_at(kind: Kind, text: &[u8]) -> Result<(Op, &[u8]), ReadError>
 }
 
 /// A version at the front, up to a byte that ends one.
-#[tactic(auto, unfolding(crate::specs::Reading::version_at))]
+#[tactic(auto, unfolding(crate::specs::ReadingPrivate::version_at))]
 fn version_of(alloc: Global, text: &[u8]) -> Result<(Version, &[u8]), ReadError>
     ensures { Gives (λ x. (x.0, x.1.now)) result (version_at text.now) }
 {
@@ -100,7 +100,7 @@ fn version_of(alloc: Global, text: &[u8]) -> Result<(Version, &[u8]), ReadError>
 }
 
 /// What follows a closing parenthesis and white space.
-#[tactic(auto, unfolding(crate::specs::Reading::closing_at))]
+#[tactic(auto, unfolding(crate::specs::ReadingPrivate::closing_at))]
 fn after_closing(text: &[u8]) -> Result<&[u8], ReadError>
     ensures { Gives (λ x. x.now) result (closing_at text.now) }
 {
@@ -111,7 +111,7 @@ fn after_closing(text: &[u8]) -> Result<&[u8], ReadError>
 }
 
 /// A bound, behind its opening parenthesis.
-#[tactic(auto, unfolding(crate::specs::Reading::bound_at))]
+#[tactic(auto, unfolding(crate::specs::ReadingPrivate::bound_at))]
 fn bound_of(alloc: Global, kind: Kind, text: &[u8]) -> Result<(Bound, &[u8]), ReadError>
     ensures { Gives (λ x. (x.0, x.1.now)) result (bound_at kind text.now) }
 {
@@ -122,7 +122,7 @@ fn bound_of(alloc: Global, kind: Kind, text: &[u8]) -> Result<(Bound, &[u8]), Re
 }
 
 /// A bound, where an opening parenthesis stands at the front.
-#[tactic(auto, unfolding(crate::specs::Reading::maybe_bound_at))]
+#[tactic(auto, unfolding(crate::specs::ReadingPrivate::maybe_bound_at))]
 fn maybe_bound_of(
     alloc: Global,
     kind: Kind,
@@ -140,7 +140,7 @@ fn maybe_bound_of(
 }
 
 /// What follows an atom: the end, a comma, or a bar where alternatives are allowed.
-#[tactic(auto, unfolding(crate::specs::Reading::end_at))]
+#[tactic(auto, unfolding(crate::specs::ReadingPrivate::end_at))]
 fn check_end(kind: Kind, text: &[u8]) -> Result<(), ReadError>
     ensures { Gives (λ _. text.now) result (end_at kind text.now) }
 {
@@ -153,7 +153,7 @@ fn check_end(kind: Kind, text: &[u8]) -> Result<(), ReadError>
 }
 
 /// An atom and the white space round it.
-#[tactic(auto, unfolding(crate::specs::Reading::atom_at))]
+#[tactic(auto, unfolding(crate::specs::ReadingPrivate::atom_at))]
 pub(crate) fn atom_of(alloc: Global, kind: Kind, text: &[u8]) -> Result<(Atom, &[u8]), ReadError>
     ensures { Gives (λ x. (x.0, x.1.now)) result (atom_at kind text.now) }
 {

@@ -1,12 +1,12 @@
 //! Whole values: entries with commas between them.
 ghost use Rattle.std.specs.Option.{option_to_list};
 ghost use Rattle.std.specs.Prelude.{◌≤◌, ◌∷◌, [], ℕ, List, Result};
+ghost use Rattle.dist_base.specs.Ascii.{bar};
 ghost use Rattle.dist_base.specs.Answers.{Answers};
 ghost use Rattle.dist_relation.specs.declared.error.Fault.{Fault};
 ghost use Rattle.dist_relation.specs.Grammar.{ReadsDepends, ReadsAtoms, ReadsProvides};
 ghost use Rattle.dist_relation.specs.Faults.{FirstDependsFault, FirstAtomsFault, FirstProvidesFault};
-ghost use Rattle.dist_relation.specs.Bytes.{bar};
-ghost use Rattle.dist_relation.specs.Reading.{Gives, GivesOnto, Shortens, alternatives_at, others_at, provide_at, piece_at, items_of};
+ghost use Rattle.dist_relation.specs.ReadingPrivate.{Gives, GivesOnto, Shortens, alternatives_at, others_at, provide_at, piece_at, items_of};
 
 use crate::atom::{Atom, Kind, Provide};
 use crate::bytes::{after_byte, skip_space};
@@ -29,7 +29,7 @@ pub(crate) trait Entry: Drop {
 }
 
 /// Reads white space alone, or an entry, which it puts behind the others.
-#[tactic(auto, unfolding(crate::specs::Reading::piece_at))]
+#[tactic(auto, unfolding(crate::specs::ReadingPrivate::piece_at))]
 fn read_piece<'a, T: Entry>(
     alloc: Global,
     text: &'a [u8],
@@ -108,7 +108,7 @@ fn others_of(alloc: Global, text: &[u8]) -> Result<(Vec<Atom>, &[u8]), ReadError
 }
 
 /// An entry of Provides: an atom whose bound is a version.
-#[tactic(auto, unfolding(crate::specs::Reading::provide_at))]
+#[tactic(auto, unfolding(crate::specs::ReadingPrivate::provide_at))]
 fn provide_of(alloc: Global, text: &[u8]) -> Result<(Provide, &[u8]), ReadError>
     ensures { Gives (λ x. (x.0, x.1.now)) result (provide_at text.now) }
 {
@@ -127,7 +127,7 @@ fn provide_of(alloc: Global, text: &[u8]) -> Result<(Provide, &[u8]), ReadError>
 }
 
 impl Entry for Alternatives {
-    ghost use Rattle.dist_relation.specs.Reading.{alternatives_at};
+    ghost use Rattle.dist_relation.specs.ReadingPrivate.{alternatives_at};
 
     ghost reading = { alternatives_at };
 
@@ -145,7 +145,7 @@ impl Entry for Alternatives {
 
 impl Entry for Atom {
     ghost use Rattle.dist_relation.specs.declared.atom.Kind.TheVariants.{Conflicts};
-    ghost use Rattle.dist_relation.specs.Reading.{atom_at};
+    ghost use Rattle.dist_relation.specs.ReadingPrivate.{atom_at};
 
     ghost reading = { atom_at Conflicts };
 
@@ -161,7 +161,7 @@ impl Entry for Atom {
 }
 
 impl Entry for Provide {
-    ghost use Rattle.dist_relation.specs.Reading.{provide_at};
+    ghost use Rattle.dist_relation.specs.ReadingPrivate.{provide_at};
 
     ghost reading = { provide_at };
 

@@ -12,7 +12,7 @@ use Rattle.std.proofs.lemmas.List.Elements.{All-head, All-tail, All-contains}
 use Rattle.std.proofs.lemmas.List.Sums.{sum_by-cons, sum_by-remove}
 use Rattle.dist_repo.specs.Order.{package_cmp, IsInOrder}
 use Rattle.dist_repo.specs.Size.{relations_of, relation_count}
-use Rattle.dist_repo.specs.Total.{package_total}
+use Rattle.dist_repo.specs.TotalLaws.{package_total}
 use Rattle.dist_repo.specs.declared.package.Package.{Package}
 
 -- ---- sums

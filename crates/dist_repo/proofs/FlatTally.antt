@@ -16,7 +16,7 @@ use Rattle.std.proofs.lemmas.Option.{slice_get-get_or, get_or_from_slice_get}
 use Rattle.dist_repo.specs.Indexed.{IsIndex}
 use Rattle.dist_repo.specs.PackageList.{PackageList, IsPackageAnd}
 use Rattle.dist_repo.specs.Providers.{IsProvider}
-use Rattle.dist_repo.specs.Tally.{numbers_at, IsTallyOf}
+use Rattle.dist_repo.specs.TallyPrivate.{numbers_at, IsTallyOf}
 use Rattle.dist_repo.proofs.NotedLemmas.{some-within}
 use Rattle.dist_repo.proofs.TallyLemmas.{at-same}
 

@@ -20,7 +20,7 @@ use Rattle.dist_base.specs.ListLaws.{any-cases}
 use Rattle.dist_version.specs.Order.{version_cmp}
 use Rattle.dist_repo.specs.Held.{Held, packages_of, IsHeld, IsClashAt, IsFree}
 use Rattle.dist_repo.specs.Order.{package_cmp, IsInOrder, IsSamePackage}
-use Rattle.dist_repo.specs.Total.{package_total}
+use Rattle.dist_repo.specs.TotalLaws.{package_total}
 use Rattle.dist_repo.specs.declared.builder.AddError.{AddError}
 use Rattle.dist_repo.specs.declared.builder.AddError.TheVariants.{Clash}
 use Rattle.dist_repo.specs.declared.builder.Added.{Added}

@@ -11,7 +11,7 @@ use Rattle.std.proofs.lemmas.List.Kept.{AllPairs-cons}
 use Rattle.std.proofs.lemmas.Slice.Eq.{bytes_eq-Decides}
 use Rattle.dist_version.specs.OrderLaws.{version_total}
 use Rattle.dist_version.specs.Order.{version_cmp}
-use Rattle.dist_repo.specs.Latest.{is_last_of_name, last_of_names}
+use Rattle.dist_repo.specs.LatestPrivate.{is_last_of_name, last_of_names}
 use Rattle.dist_repo.specs.Order.{package_cmp, IsFlat, IsInOrder, IsNewest, IsLatestOf}
 use Rattle.dist_repo.specs.PackageList.{PackageList}
 use Rattle.dist_repo.specs.Size.{IsWithinSize}

@@ -11,7 +11,7 @@ use Rattle.dist_relation.specs.declared.atom.Provide.{Provide}
 use Rattle.dist_repo.specs.Match.{IsUsable}
 use Rattle.dist_repo.specs.PackageList.{IsPackageAnd}
 use Rattle.dist_repo.specs.Providers.{IsEntryOf, IsProvider}
-use Rattle.dist_repo.specs.Tally.{numbers_at, IsTallyOf, Notes, NotesEach}
+use Rattle.dist_repo.specs.TallyPrivate.{numbers_at, IsTallyOf, Notes, NotesEach}
 use Rattle.dist_repo.specs.declared.package.Package.{Package}
 use Rattle.dist_repo.proofs.Search.{stands-at}
 

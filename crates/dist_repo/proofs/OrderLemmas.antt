@@ -13,7 +13,7 @@ use Rattle.dist_base.specs.ListLaws.{at-weaker}
 use Rattle.dist_version.specs.Order.{version_cmp}
 use Rattle.dist_repo.specs.Order.{key_cmp, IsFlat, IsInOrder}
 use Rattle.dist_repo.specs.Providers.{IsPackageAt}
-use Rattle.dist_repo.specs.Total.{key_total}
+use Rattle.dist_repo.specs.TotalLaws.{key_total}
 use Rattle.dist_repo.specs.declared.package.Package.{Package}
 use Rattle.dist_repo.proofs.HeldLemmas.{same_names, names-tied, then-first, then-second}
 use Rattle.dist_repo.proofs.Search.{searched-place}

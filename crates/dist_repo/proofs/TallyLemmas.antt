@@ -11,7 +11,7 @@ use Rattle.std.proofs.lemmas.List.{get_or_push, get_or_append_left, get_or_defau
 use Rattle.std.proofs.lemmas.List.Elements.{Contains-append_left, Contains-push, Contains-push_cases}
 use Rattle.std.proofs.lemmas.Map.Text.{is_eq-slice_cmp}
 use Rattle.std.proofs.lemmas.Slice.Eq.{bytes_eq-Decides}
-use Rattle.dist_repo.specs.Tally.{numbers_at, EndsWith, Notes, NotesNumber}
+use Rattle.dist_repo.specs.TallyPrivate.{numbers_at, EndsWith, Notes, NotesNumber}
 
 -- ---- numbers
 

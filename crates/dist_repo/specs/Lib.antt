@@ -9,10 +9,10 @@ pub mod PackageList
 pub mod Providers
 pub mod Strong
 pub mod Size
-pub mod Total
+pub mod TotalLaws
 pub mod Indexed
-pub mod Tally
-pub mod Latest
-pub mod Equality
+pub mod TallyPrivate
+pub mod LatestPrivate
+pub mod EqualityPrivate
 pub mod InstallationExamples
 pub mod DecidedLaws

@@ -85,7 +85,7 @@ impl Key {
 
 impl Ord for Key {
     ghost use Rattle.dist_repo.specs.Order.{package_cmp};
-    ghost use Rattle.dist_repo.specs.Total.{package_total};
+    ghost use Rattle.dist_repo.specs.TotalLaws.{package_total};
     ghost use Rattle.std.proofs.Common.{refl};
 
     ghost cmp = { package_cmp };
@@ -110,7 +110,7 @@ impl PartialOrd for Key {
     ghost use Rattle.std.specs.Ordering.{as_partial_cmp};
     ghost use Rattle.std.specs.Cmp.{partial_order_from_total};
     ghost use Rattle.dist_repo.specs.Order.{package_cmp};
-    ghost use Rattle.dist_repo.specs.Total.{package_total};
+    ghost use Rattle.dist_repo.specs.TotalLaws.{package_total};
 
     ghost partial_cmp = { as_partial_cmp package_cmp };
 
@@ -125,7 +125,7 @@ impl PartialEq for Key {
     ghost use Rattle.std.specs.Cmp.{eq_by_cmp_equiv, partial_equiv_from_equiv};
     ghost use Rattle.std.specs.Ordering.{eq_by_cmp};
     ghost use Rattle.dist_repo.specs.Order.{package_cmp};
-    ghost use Rattle.dist_repo.specs.Total.{package_total};
+    ghost use Rattle.dist_repo.specs.TotalLaws.{package_total};
 
     ghost eq = { eq_by_cmp package_cmp };
 
@@ -138,7 +138,7 @@ impl PartialEq for Key {
 
 impl Eq for Key {
     ghost use Rattle.std.specs.Cmp.{eq_by_cmp_equiv};
-    ghost use Rattle.dist_repo.specs.Total.{package_total};
+    ghost use Rattle.dist_repo.specs.TotalLaws.{package_total};
 
     ghost laws = { eq_by_cmp_equiv package_total };
 }

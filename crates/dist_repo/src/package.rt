@@ -1,6 +1,6 @@
 //! A package, as a stanza of a Packages file describes it.
 ghost use Rattle.std.specs.Prelude.{◌≡◌, ◌↔◌, IfOk, IsTrue};
-ghost use Rattle.dist_repo.specs.Equality.{package_eq};
+ghost use Rattle.dist_repo.specs.EqualityPrivate.{package_eq};
 
 use dist_relation::{Atoms, Items, Name, Provides};
 use dist_version::Version;
@@ -44,8 +44,8 @@ impl Package {
 /// order of versions may differ.
 impl PartialEq for Package {
     ghost use Rattle.std.specs.Cmp.{partial_equiv_from_equiv};
-    ghost use Rattle.dist_relation.specs.Equality.{equivalence};
-    ghost use Rattle.dist_repo.specs.Equality.{package_eq, packages_decide};
+    ghost use Rattle.dist_relation.specs.EqualityPrivate.{equivalence};
+    ghost use Rattle.dist_repo.specs.EqualityPrivate.{package_eq, packages_decide};
 
     ghost eq = { package_eq };
 
@@ -67,8 +67,8 @@ impl PartialEq for Package {
 }
 
 impl Eq for Package {
-    ghost use Rattle.dist_relation.specs.Equality.{equivalence};
-    ghost use Rattle.dist_repo.specs.Equality.{packages_decide};
+    ghost use Rattle.dist_relation.specs.EqualityPrivate.{equivalence};
+    ghost use Rattle.dist_repo.specs.EqualityPrivate.{packages_decide};
 
     ghost laws = { equivalence packages_decide };
 }

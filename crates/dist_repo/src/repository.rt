@@ -3,7 +3,7 @@ ghost use Rattle.std.specs.Prelude.{◌≡◌, ◌<◌, ◌^◌, ◌↔◌, ℕ,
 ghost use Rattle.std.specs.Option.{option_copied};
 ghost use Rattle.dist_relation.specs.declared.atom.Atom.{Atom};
 ghost use Rattle.dist_repo.specs.Conflict.{AreInConflict};
-ghost use Rattle.dist_repo.specs.Latest.{is_last_of_name, last_of_names};
+ghost use Rattle.dist_repo.specs.LatestPrivate.{is_last_of_name, last_of_names};
 ghost use Rattle.dist_repo.specs.Match.{IsUsable, Matches};
 ghost use Rattle.dist_repo.specs.Order.{key_cmp, IsFlat, IsInOrder, IsLatestOf};
 ghost use Rattle.dist_repo.specs.PackageList.{IsAlternativeAt, IsConflictAt};

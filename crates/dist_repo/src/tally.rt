@@ -5,7 +5,7 @@ ghost use Rattle.std.specs.List.Sorted.{IsStrictlyIncreasing, IsStrictlySortedBy
 ghost use Rattle.std.specs.Map.{keys_of, values_of};
 ghost use Rattle.std.specs.Ordering.{nat_cmp};
 ghost use Rattle.dist_repo.specs.Providers.{IsProvider};
-ghost use Rattle.dist_repo.specs.Tally.{numbers_at, EndsWith, IsTallyOf, Notes, NotesEach, NotesNumber};
+ghost use Rattle.dist_repo.specs.TallyPrivate.{numbers_at, EndsWith, IsTallyOf, Notes, NotesEach, NotesNumber};
 
 use crate::key::Key;
 use crate::matching::is_usable;

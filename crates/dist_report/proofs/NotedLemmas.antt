@@ -8,7 +8,7 @@ use Rattle.std.proofs.lemmas.List.{get_or-set_other, get_or-set_same, get_or_pus
 use Rattle.std.proofs.lemmas.List.Folds.{list_any-append}
 use Rattle.std.proofs.lemmas.Option.{get_or_from_slice_get, slice_get-get_or, slice_get_within}
 use Rattle.dist_cert.specs.Rising.{is_among}
-use Rattle.dist_report.specs.ClaimParts.{ended_by, ends_with, noted}
+use Rattle.dist_report.specs.ClaimPartsPrivate.{ended_by, ends_with, noted}
 
 same-number : (n : ℕ) → (n == n) ≡ true
 same-number n = eq-eqb n n refl

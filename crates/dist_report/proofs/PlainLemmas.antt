@@ -8,7 +8,8 @@ use Rattle.std.specs.List.{list_all}
 use Rattle.std.proofs.lemmas.Bool.{leb-true, or_cases}
 use Rattle.std.proofs.lemmas.List.Elements.{All-append, All-cons, All-nil}
 use Rattle.std.proofs.lemmas.List.Sums.{AllPass-from_list_all}
-use Rattle.dist_version.specs.Spelling.{IsVersion, SpellsEpoch, colon, has, hyphen, is_revision_byte, is_upstream_byte, revision_text}
+use Rattle.dist_base.specs.Ascii.{colon, hyphen}
+use Rattle.dist_version.specs.Spelling.{IsVersion, SpellsEpoch, has, is_revision_byte, is_upstream_byte, revision_text}
 use Rattle.dist_relation.specs.Bytes.{IsName, is_name_byte}
 use Rattle.dist_repo.specs.declared.package.Package.{Package}
 use Rattle.dist_classes.specs.ClassList.{class_text}

@@ -16,7 +16,7 @@ use Rattle.dist_classes.specs.NewNames.{AreNewNames}
 use Rattle.dist_classes.specs.declared.class_value.Class.{Class}
 use Rattle.dist_report.specs.ClassesReport.{ToldCluster, ToldName, cluster_lines, name_lines}
 use Rattle.dist_report.specs.Lines.{key_line}
-use Rattle.dist_report.specs.Written.{TellsClusters, TellsNames}
+use Rattle.dist_report.specs.WrittenPrivate.{TellsClusters, TellsNames}
 
 pub take-past : {X : Type 0} (xs : List X) (k : ℕ) → length xs ≤ k → take k xs ≡ xs
 take-past [] zero past = refl

@@ -7,7 +7,7 @@ use Rattle.std.specs.Option.{option_map_or}
 use Rattle.std.proofs.lemmas.List.{get_or_default}
 use Rattle.dist_cert.specs.Rising.{is_among}
 use Rattle.dist_cert.specs.declared.records.Claim.{Claim}
-use Rattle.dist_report.specs.ClaimParts.{noted}
+use Rattle.dist_report.specs.ClaimPartsPrivate.{noted}
 use Rattle.dist_report.specs.StrongReport.{impact_at, strong_at, strong_on}
 use Rattle.dist_report.proofs.PickedLemmas.{picked-none, picked-one, picked-within}
 

@@ -4,8 +4,8 @@ pub mod ClassesReport
 pub mod StrongReport
 pub mod HealthText
 pub mod Marks
-pub mod ClaimParts
+pub mod ClaimPartsPrivate
 pub mod Plain
-pub mod Written
+pub mod WrittenPrivate
 pub mod Examples
 pub mod StrongExamples

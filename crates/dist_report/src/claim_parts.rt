@@ -1,6 +1,6 @@
 //! What the parts of the report of strong dependencies take of the claims.
 ghost use Rattle.std.specs.Prelude.{◌≡◌, ◌<◌, ◌^◌, IfOk, length};
-ghost use Rattle.dist_report.specs.ClaimParts.{is_part, list_of};
+ghost use Rattle.dist_report.specs.ClaimPartsPrivate.{is_part, list_of};
 ghost use Rattle.dist_report.specs.StrongReport.{packages_with};
 
 use dist_cert::{Claim, Claims};

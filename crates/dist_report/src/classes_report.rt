@@ -5,7 +5,7 @@ ghost use Rattle.dist_classes.specs.ClassList.{HasExample, HasVersions};
 ghost use Rattle.dist_classes.specs.NewNames.{AreNewNames};
 ghost use Rattle.dist_report.specs.ClassesReport.{IsClassesText, class_lines, head_lines, first_lines};
 ghost use Rattle.dist_report.specs.Lines.{listed};
-ghost use Rattle.dist_report.specs.Written.{TellsCluster, TellsClusters, TellsName, TellsNames};
+ghost use Rattle.dist_report.specs.WrittenPrivate.{TellsCluster, TellsClusters, TellsName, TellsNames};
 
 use crate::lines::{write_key, write_package, write_packages, write_string};
 use dist_classes::{

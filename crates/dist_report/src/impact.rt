@@ -2,7 +2,7 @@
 ghost use Rattle.std.specs.Prelude.{◌≡◌, ◌<◌, ◌^◌, ℕ, [], All, IfOk, OnOk, filter, length, replicate, slice_index_or, slice_set};
 ghost use Rattle.std.specs.List.{range_with_len};
 ghost use Rattle.dist_cert.specs.Rising.{is_among};
-ghost use Rattle.dist_report.specs.ClaimParts.{ended_by, ends_with, noted};
+ghost use Rattle.dist_report.specs.ClaimPartsPrivate.{ended_by, ends_with, noted};
 ghost use Rattle.dist_report.specs.StrongReport.{has_some, impact_at};
 
 use crate::claim_parts::{Dependence, claim_list};

@@ -1,6 +1,6 @@
 //! The report of strong dependencies. The text is one vector, and each of its lists one walk over the packages.
 ghost use Rattle.std.specs.Prelude.{◌≡◌, ◌++◌, ◌<◌, ◌^◌, [], All, IfOk, OnOk, length, slice_index_or, codes};
-ghost use Rattle.dist_report.specs.ClaimParts.{is_part, list_at};
+ghost use Rattle.dist_report.specs.ClaimPartsPrivate.{is_part, list_at};
 ghost use Rattle.dist_report.specs.declared.claim_parts.Part.TheVariants.{With};
 ghost use Rattle.dist_report.specs.Lines.{listed};
 ghost use Rattle.dist_report.specs.PackageText.{package_line};

@@ -6,10 +6,10 @@ use Rattle.std.proofs.lemmas.List.Elements.{All-push, All-contains}
 use Rattle.std.proofs.lemmas.List.Quantifiers.{all_pairs_push}
 use Rattle.dist_clause.specs.Formula.{Literal, literal}
 use Rattle.dist_derive.specs.ClauseLog.{ClauseLog, inputs_of}
-use Rattle.dist_derive.specs.Containment.{ContainsAll}
+use Rattle.dist_derive.specs.ContainmentPrivate.{ContainsAll}
 use Rattle.dist_derive.specs.Propagation.{IsUnset, IsSettled}
 use Rattle.dist_derive.specs.Cone.{InCone}
-use Rattle.dist_solver.specs.Descent.{IsDecided}
+use Rattle.dist_solver.specs.DescentPrivate.{IsDecided}
 use Rattle.dist_solver.proofs.StartLemmas.{has_front}
 
 -- a literal that is unset has a variable of its own

@@ -10,7 +10,7 @@ use Rattle.dist_derive.specs.New.{IsNew, EachIsNew}
 use Rattle.dist_solver.specs.Derived.{DerivedLine}
 use Rattle.dist_solver.specs.Evidence.{EachIsEvidence, IsShort, Adds}
 use Rattle.dist_solver.specs.Ask.{IsModelUnder}
-use Rattle.dist_solver.specs.Descent.{IsLesson}
+use Rattle.dist_solver.specs.DescentPrivate.{IsLesson}
 
 evidence_more : (clauses lines : List (List Literal)) (derived : List DerivedLine) (clause : List Literal) (d : DerivedLine)
     → EachIsEvidence clauses lines derived

@@ -7,14 +7,14 @@ use Rattle.std.proofs.lemmas.List.{get_or-map, get_or-reverse, get_or_default, l
 use Rattle.std.proofs.lemmas.List.Elements.{All-map, All-weaker, All-contains}
 use Rattle.dist_clause.specs.Formula.{Literal, literal, negation, IsClauseOver, IsTrueLiteral, MakesTrue, IsModel}
 use Rattle.dist_derive.specs.ClauseLog.{ClauseLog, inputs_of}
-use Rattle.dist_derive.specs.Containment.{ContainsAll}
+use Rattle.dist_derive.specs.ContainmentPrivate.{ContainsAll}
 use Rattle.dist_derive.specs.Propagation.{IsFalse, IsUnset, AllFalse, IsSettled}
 use Rattle.dist_derive.specs.Follows.{EndsFalse, Follows}
 use Rattle.dist_derive.specs.Cone.{InCone, IsWithinCone}
 use Rattle.dist_derive.specs.New.{IsNew}
 use Rattle.dist_solver.specs.Evidence.{IsShort}
 use Rattle.dist_solver.specs.Ask.{IsRefutation}
-use Rattle.dist_solver.specs.Descent.{IsDecision, IsDecided, IsLesson}
+use Rattle.dist_solver.specs.DescentPrivate.{IsDecision, IsDecided, IsLesson}
 
 not_not : (b : Bool) → not (not b) ≡ b
 not_not true = refl

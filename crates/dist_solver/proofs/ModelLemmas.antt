@@ -5,7 +5,7 @@ use Rattle.std.proofs.lemmas.List.Elements.{All-nil, All-cons, All-head, All-tai
 use Rattle.dist_clause.specs.Formula.{Literal, literal, negation, value_of, IsTrueLiteral, MakesTrue, IsClauseOver}
 use Rattle.dist_derive.specs.Propagation.{IsFalse, AllFalse}
 use Rattle.dist_solver.specs.Trail.{IsSet}
-use Rattle.dist_solver.specs.Descent.{AreValues}
+use Rattle.dist_solver.specs.DescentPrivate.{AreValues}
 
 -- a true literal of a variable of the cone is true in the values
 pub true_in_values : (trues : List Literal) (cone : List ℕ) (values : List Bool) (l : Literal) → AreValues trues cone values → 1 ≤ l.variable

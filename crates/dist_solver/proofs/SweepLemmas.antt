@@ -8,7 +8,7 @@ use Rattle.dist_clause.specs.ClauseList.{clause_at}
 use Rattle.dist_derive.specs.Follows.{IsNumberOf, Step, AreUnitSteps}
 use Rattle.dist_derive.specs.Propagation.{IsUnit}
 use Rattle.dist_derive.specs.TrueLiterals.{HasOutcome}
-use Rattle.dist_derive.specs.Sweep.{AllOpen}
+use Rattle.dist_derive.specs.SweepPrivate.{AllOpen}
 use Rattle.dist_derive.specs.declared.true_literals.Outcome.TheVariants.{Open}
 use Rattle.dist_solver.specs.Trail.{TrailList, GrowsByUnitSteps}
 

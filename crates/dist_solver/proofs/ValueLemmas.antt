@@ -8,7 +8,7 @@ use Rattle.std.proofs.lemmas.List.{get_or-set_same, get_or-set_other, get_or-rep
 use Rattle.std.proofs.lemmas.List.Elements.{Contains-push, Contains-push_cases}
 use Rattle.dist_clause.specs.Formula.{Literal, literal, value_of}
 use Rattle.dist_solver.specs.Trail.{HasValue}
-use Rattle.dist_solver.specs.Descent.{AreValues}
+use Rattle.dist_solver.specs.DescentPrivate.{AreValues}
 
 -- values in which the listed variables that have a positive literal are true, and no others
 pub record ValuesSoFar (trues : List Literal) (members : List ℕ) (values : List Bool) : Type 0 where

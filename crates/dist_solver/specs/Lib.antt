@@ -2,8 +2,8 @@ pub mod Derived
 pub mod Kept
 pub mod Evidence
 pub mod Ask
-pub mod Refusal
+pub mod RefusalPrivate
 pub mod Trail
-pub mod Descent
-pub mod Learning
+pub mod DescentPrivate
+pub mod LearningPrivate
 pub mod Examples

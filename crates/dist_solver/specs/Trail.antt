@@ -4,11 +4,11 @@ use Rattle.std.specs.Prelude.{Option, Some, None}
 use Rattle.dist_clause.specs.Formula.{Literal, literal}
 use Rattle.dist_clause.specs.ClauseList.{clause_at}
 use Rattle.dist_derive.specs.ClauseLog.{ClauseLog}
-use Rattle.dist_derive.specs.Containment.{ContainsAll}
+use Rattle.dist_derive.specs.ContainmentPrivate.{ContainsAll}
 use Rattle.dist_derive.specs.Propagation.{IsUnset, IsConsistent, AllFalse, IsUnit}
 use Rattle.dist_derive.specs.Follows.{IsNumberOf, EndsFalse, Step, AreUnitSteps}
 use Rattle.dist_derive.specs.TrueLiterals.{HasOutcome}
-use Rattle.dist_derive.specs.Sweep.{AllOpen}
+use Rattle.dist_derive.specs.SweepPrivate.{AllOpen}
 use Rattle.dist_derive.specs.declared.true_literals.Outcome.{Outcome}
 use Rattle.dist_derive.specs.declared.true_literals.Outcome.TheVariants.{Conflict as FalseClause, Unit as UnitClause}
 use Rattle.dist_derive.specs.declared.true_literals.Outcome.TheVariants.{Open}

@@ -71,7 +71,7 @@ impl From<AllocError> for AskError {
 
 impl From<AppendError> for AskError {
     ghost use Rattle.std.specs.Prelude.{◌≡◌};
-    ghost use Rattle.dist_solver.specs.Refusal.{refusal_of};
+    ghost use Rattle.dist_solver.specs.RefusalPrivate.{refusal_of};
 
     ghost from_gives = { λ cause e. e ≡ refusal_of cause };
 

@@ -3,13 +3,13 @@
 ghost use Rattle.std.specs.Prelude.{◌≡◌, ◌<◌, ◌≤◌, ◌↔◌, ℕ, List, length, map, reverse, All, Contains, IfOk, IfSome, IfNone, MatchOption};
 ghost use Rattle.dist_clause.specs.Formula.{literal, negation, IsClauseOver, Literal};
 ghost use Rattle.dist_derive.specs.ClauseLog.{ClauseLog, inputs_of};
-ghost use Rattle.dist_derive.specs.Containment.{ContainsAll};
-ghost use Rattle.dist_derive.specs.Sweep.{AllOpen};
+ghost use Rattle.dist_derive.specs.ContainmentPrivate.{ContainsAll};
+ghost use Rattle.dist_derive.specs.SweepPrivate.{AllOpen};
 ghost use Rattle.dist_derive.specs.Follows.{EndsFalse, EachLineFollows};
 ghost use Rattle.dist_derive.specs.Cone.{InCone};
 ghost use Rattle.dist_solver.specs.Evidence.{IsShort};
 ghost use Rattle.dist_solver.specs.Trail.{IsSet, IsNextDecision};
-ghost use Rattle.dist_solver.specs.Descent.{IsDecided, AreValues, IsEnd, GoesOn};
+ghost use Rattle.dist_solver.specs.DescentPrivate.{IsDecided, AreValues, IsEnd, GoesOn};
 
 use crate::answers::Hints;
 use crate::trail::Trail;

@@ -7,7 +7,7 @@ ghost use Rattle.dist_derive.specs.Follows.{EachLineFollows};
 ghost use Rattle.dist_derive.specs.Cone.{InCone};
 ghost use Rattle.dist_solver.specs.Evidence.{Adds};
 ghost use Rattle.dist_solver.specs.Ask.{IsAnswer};
-ghost use Rattle.dist_solver.specs.Learning.{Learns};
+ghost use Rattle.dist_solver.specs.LearningPrivate.{Learns};
 
 use crate::answers::{Answer, AskError};
 use crate::descent::{Descent, descend};

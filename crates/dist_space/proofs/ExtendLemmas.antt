@@ -10,7 +10,7 @@ use Rattle.std.proofs.lemmas.Option.{get_or_from_slice_get, slice_get-get_or, sl
 use Rattle.dist_relation.specs.declared.atom.Provide.{Provide}
 use Rattle.dist_space.specs.Kept.{IsExtended, IsFull}
 use Rattle.dist_space.specs.Usable.{is_usable}
-use Rattle.dist_space.specs.Numbering.{below, entry_part, usable_from}
+use Rattle.dist_space.specs.NumberingPrivate.{below, entry_part, usable_from}
 use Rattle.dist_space.specs.declared.errors.SpaceError.{SpaceError}
 use Rattle.dist_space.specs.declared.errors.SpaceError.TheVariants.{TooManyVariables, NoMemory}
 use Rattle.dist_space.specs.declared.meaning.Meaning.{Meaning}

@@ -16,7 +16,7 @@ use Rattle.dist_relation.specs.declared.atom.Provide.{Provide}
 use Rattle.dist_repo.specs.Match.{IsUsable}
 use Rattle.dist_repo.specs.declared.package.Package.{Package}
 use Rattle.dist_space.specs.Usable.{is_usable}
-use Rattle.dist_space.specs.Numbering.{below, class_part, cluster_part, fresh_part, meanings_of, member_part, provided_by, usable_from}
+use Rattle.dist_space.specs.NumberingPrivate.{below, class_part, cluster_part, fresh_part, meanings_of, member_part, provided_by, usable_from}
 use Rattle.dist_space.specs.Space.{AreMeaningsOf, IsFrame, IsMeaning, SpaceView, StandsBefore, cluster_classes, fresh_classes, key_of, member_classes}
 use Rattle.dist_space.specs.declared.meaning.Meaning.{Meaning}
 use Rattle.dist_space.specs.declared.meaning.Meaning.TheVariants.{Now, Present, At, New, Kept, Fresh}

@@ -5,7 +5,7 @@ use Rattle.dist_base.specs.Answers.{IsExactly}
 use Rattle.dist_base.specs.ListLaws.{contains-at}
 use Rattle.dist_repo.specs.PackageList.{PackageList}
 use Rattle.dist_space.specs.Kept.{IsFrameOf, IsFull}
-use Rattle.dist_space.specs.Numbering.{meanings_of}
+use Rattle.dist_space.specs.NumberingPrivate.{meanings_of}
 use Rattle.dist_space.specs.Space.{AreMeaningsOf, IsFrame, IsSpace, SpaceView, IsMeaningOf}
 use Rattle.dist_space.specs.SpaceOf.{HasMoreVariables, IsSpaceOf}
 use Rattle.dist_space.specs.declared.errors.SpaceError.{SpaceError}

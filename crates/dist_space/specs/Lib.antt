@@ -1,7 +1,7 @@
 pub mod Space
 pub mod Usable
 pub mod SpaceOf
-pub mod Numbering
+pub mod NumberingPrivate
 pub mod Kept
 pub mod RisingLaws
 pub mod KeyLaws

@@ -11,7 +11,7 @@ use Rattle.std.proofs.lemmas.List.Elements.{Contains-get_or}
 use Rattle.std.proofs.lemmas.List.FromFn.{get_or-range_with_len, length-range_with_len}
 use Rattle.std.proofs.lemmas.Option.{slice_get-map}
 use Rattle.dist_base.specs.ListLaws.{contains-at, pairs-head, pairs-tail, place-of}
-use Rattle.dist_space.specs.Numbering.{below}
+use Rattle.dist_space.specs.NumberingPrivate.{below}
 
 -- ---- what is in them
 

@@ -1,7 +1,7 @@
 //! The meanings of the variables, in order, up to a limit on their number.
 ghost use Rattle.std.specs.Prelude.{◌≡◌, ◌<◌, ◌≤◌, ◌+◌, ◌^◌, ◌∷◌, [], All, IfErr, OnOk, IfOk, Some, length, map, slice_get};
 ghost use Rattle.std.specs.List.{flat_map};
-ghost use Rattle.dist_space.specs.Numbering.{below, class_part, cluster_part, entries_part, entry_part, fresh_part, meanings_of, member_part};
+ghost use Rattle.dist_space.specs.NumberingPrivate.{below, class_part, cluster_part, entries_part, entry_part, fresh_part, meanings_of, member_part};
 ghost use Rattle.dist_space.specs.Kept.{IsExtended, IsFull};
 ghost use Rattle.dist_space.specs.declared.meaning.Meaning.TheVariants as meaning;
 

@@ -8,7 +8,7 @@ use Rattle.dist_relation.specs.declared.atom.Provide.{Provide}
 use Rattle.dist_repo.specs.Conflict.{AreInConflict}
 use Rattle.dist_repo.specs.Match.{IsUsable, Matches}
 use Rattle.dist_repo.specs.declared.package.Package.{Package}
-use Rattle.dist_space_clauses.specs.Gathering.{IsFresh, IsLaterOf}
+use Rattle.dist_space_clauses.specs.GatheringPrivate.{IsFresh, IsLaterOf}
 use Rattle.dist_space_clauses.specs.Rejecting.{AreRejecting, Entries, numbers_at}
 use Rattle.dist_space.specs.Space.{IsMatched, IsMetBy, SpaceView, name_of}
 use Rattle.dist_space_clauses.specs.SpaceClauses.{Excludes}

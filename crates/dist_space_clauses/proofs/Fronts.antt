@@ -9,7 +9,7 @@ use Rattle.dist_clause.specs.Formula.{Literal}
 use Rattle.dist_clause.specs.declared.clause_set.PushError.{PushError}
 use Rattle.dist_clause.specs.declared.clause_set.PushError.TheVariants.{TooManyClauses, TooManyLiterals, NoMemory}
 use Rattle.dist_repo.specs.declared.package.Package.{Package}
-use Rattle.dist_space_clauses.specs.Gathering.{IsBelow, IsCauseAt, IsFront, IsRefused}
+use Rattle.dist_space_clauses.specs.GatheringPrivate.{IsBelow, IsCauseAt, IsFront, IsRefused}
 use Rattle.dist_space.specs.Space.{IsMeaning, IsSpace, SpaceView, variable_of}
 use Rattle.dist_space_clauses.specs.SpaceClauses.{Demand, OneClass, Gone, Moved, Carried, OneFresh, Item, Apart, StaysNow, AbsentNow, Required, Excludes}
 use Rattle.dist_space_clauses.specs.SpaceClauses.{IsBefore, IsClauseFor, IsDemand, group_of, leading, rank_of, second_of}

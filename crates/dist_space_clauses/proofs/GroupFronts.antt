@@ -13,8 +13,8 @@ use Rattle.dist_relation.specs.declared.atom.Atom.{Atom}
 use Rattle.dist_repo.specs.Match.{Matches}
 use Rattle.dist_repo.specs.PackageList.{IsPackageAnd}
 use Rattle.dist_repo.specs.declared.package.Package.{Package}
-use Rattle.dist_space_clauses.specs.Gathering.{AreVariablesOf, IsCauseAt, IsFront, IsGroupsFront, IsRefused, IsVariableWith}
-use Rattle.dist_space_clauses.specs.Groups.{number_of}
+use Rattle.dist_space_clauses.specs.GatheringPrivate.{AreVariablesOf, IsCauseAt, IsFront, IsGroupsFront, IsRefused, IsVariableWith}
+use Rattle.dist_space_clauses.specs.GroupsPrivate.{number_of}
 use Rattle.dist_space_clauses.specs.declared.groups.Group.{Group}
 use Rattle.dist_space_clauses.specs.declared.groups.Group.TheVariants.{Classes, Versions, Names, Items, Conflicts, Today}
 use Rattle.dist_space.specs.Space.{IsMeaning, IsSpace, SpaceView, variable_of}

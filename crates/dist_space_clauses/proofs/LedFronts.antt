@@ -7,7 +7,7 @@ use Rattle.dist_clause.specs.Formula.{IsClauseOver, Literal, literal}
 use Rattle.dist_clause.specs.declared.clause_set.PushError.{PushError}
 use Rattle.dist_repo.specs.Match.{IsUsable}
 use Rattle.dist_repo.specs.declared.package.Package.{Package}
-use Rattle.dist_space_clauses.specs.Gathering.{IsCauseAt, IsFront, IsRefused}
+use Rattle.dist_space_clauses.specs.GatheringPrivate.{IsCauseAt, IsFront, IsRefused}
 use Rattle.dist_space.specs.Space.{IsChange, IsMeaningOf, IsMeaning, IsSpace, SpaceView, cluster_classes, fresh_classes, variable_of}
 use Rattle.dist_space_clauses.specs.SpaceClauses.{Demand, OneClass, Gone, Moved, Carried, OneFresh, StaysNow, AbsentNow, Required, IsClauseFor, IsDemand}
 use Rattle.dist_space_clauses.specs.SpaceClauses.{group_of, leading, second_of}

@@ -8,7 +8,7 @@ use Rattle.dist_relation.specs.declared.atom.Provide.{Provide}
 use Rattle.dist_repo.specs.Match.{IsUsable, Matches, MatchesByEntry}
 use Rattle.dist_repo.specs.Providers.{AreProviders, IsProvider}
 use Rattle.dist_repo.specs.declared.package.Package.{Package}
-use Rattle.dist_space_clauses.specs.Gathering.{IsFresh, IsKeptOf, IsLaterOf, IsOf, IsOfVersion}
+use Rattle.dist_space_clauses.specs.GatheringPrivate.{IsFresh, IsKeptOf, IsLaterOf, IsOf, IsOfVersion}
 use Rattle.dist_space.specs.Space.{IsMatchedBy, IsMeaning, MeetsBound, SpaceView, example_at, fresh_classes, member_classes, moved_entry}
 use Rattle.dist_space.specs.declared.meaning.Meaning.{Meaning}
 use Rattle.dist_space.specs.declared.meaning.Meaning.TheVariants.{Now, Present, At, New, Kept, Fresh}

@@ -18,7 +18,7 @@ use Rattle.dist_repo.specs.Healthy.{required_names}
 use Rattle.dist_repo.specs.Order.{IsFlat, IsInOrder, package_cmp}
 use Rattle.dist_repo.specs.PackageList.{IsPackageAnd}
 use Rattle.dist_repo.specs.declared.package.Package.{Package}
-use Rattle.dist_space_clauses.specs.Gathering.{IsGroupsFront, IsNamedBelow, IsNamedFront, IsNamedSoFar, IsWholeSet}
+use Rattle.dist_space_clauses.specs.GatheringPrivate.{IsGroupsFront, IsNamedBelow, IsNamedFront, IsNamedSoFar, IsWholeSet}
 use Rattle.dist_space.specs.Space.{IsSpace, SpaceView}
 use Rattle.dist_space_clauses.specs.SpaceClauses.{Demand, OneClass, Gone, Moved, Carried, OneFresh, Item, Apart, StaysNow, AbsentNow, Required, IsBefore}
 use Rattle.dist_space_clauses.specs.SpaceClauses.{IsClauseFor, IsDemand, group_of, rank_of}

@@ -14,7 +14,7 @@ use Rattle.dist_repo.specs.Match.{Matches}
 use Rattle.dist_repo.specs.Healthy.{required_names}
 use Rattle.dist_repo.specs.PackageList.{IsPackageAnd}
 use Rattle.dist_repo.specs.declared.package.Package.{Package}
-use Rattle.dist_space_clauses.specs.Gathering.{IsFront, IsGroupsFront}
+use Rattle.dist_space_clauses.specs.GatheringPrivate.{IsFront, IsGroupsFront}
 use Rattle.dist_space.specs.Space.{AreMeaningsOf, IsMeaning, IsMetBy, IsSpace, SpaceView, StandsBefore, cluster_classes, fresh_classes, name_of, variable_of}
 use Rattle.dist_space_clauses.specs.SpaceClauses.{Demand, OneClass, Gone, Moved, Carried, OneFresh, Item, Apart, StaysNow, AbsentNow, Required, AreSpaceClauses}
 use Rattle.dist_space_clauses.specs.SpaceClauses.{Excludes, IsBearer, IsBefore, IsClauseFor, IsDemand, group_of, leading, rank_of, no, second_of, yes}

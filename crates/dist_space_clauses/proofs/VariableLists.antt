@@ -8,7 +8,7 @@ use Rattle.dist_base.specs.ListLaws.{all-contained, any-more, at-has, has-at, pa
 use Rattle.dist_clause.specs.Formula.{IsClauseOver, Literal, literal}
 use Rattle.dist_relation.specs.declared.atom.Atom.{Atom}
 use Rattle.dist_repo.specs.Match.{Matches}
-use Rattle.dist_space_clauses.specs.Gathering.{AreVariablesOf, IsItemAt, IsVariableWith, positive}
+use Rattle.dist_space_clauses.specs.GatheringPrivate.{AreVariablesOf, IsItemAt, IsVariableWith, positive}
 use Rattle.dist_space.specs.Space.{AreMeaningsOf, IsMatched, IsMeaning, IsMetBy, IsSpace, SpaceView, StandsBefore, variable_of}
 use Rattle.dist_space_clauses.specs.SpaceClauses.{Item, Required, IsBearer, IsClauseFor, IsDemand, yes}
 use Rattle.dist_space.specs.declared.meaning.Meaning.{Meaning}

@@ -1,8 +1,8 @@
 pub mod SpaceClauses
 pub mod SpaceSet
 pub mod ClauseLaws
-pub mod Gathering
-pub mod Groups
+pub mod GatheringPrivate
+pub mod GroupsPrivate
 pub mod Rejecting
 pub mod DecidedLaws
 pub mod ItemLaws

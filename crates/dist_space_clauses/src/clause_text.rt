@@ -2,7 +2,7 @@
 ghost use Rattle.std.specs.Prelude.{◌≡◌, ◌≤◌, ◌++◌, ◌∷◌, All, IfErr, OnOk, [], false, map};
 ghost use Rattle.dist_base.specs.declared.TheConstants.{MAX_VARIABLES};
 ghost use Rattle.dist_clause.specs.Formula.{IsClauseOver, literal};
-ghost use Rattle.dist_space_clauses.specs.Gathering.{IsRefused, positive};
+ghost use Rattle.dist_space_clauses.specs.GatheringPrivate.{IsRefused, positive};
 
 use dist_clause::{ClauseSet, Lit, PushError};
 use std::alloc::{AllocError, Global};

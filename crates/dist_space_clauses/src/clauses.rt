@@ -4,7 +4,7 @@ ghost use Rattle.dist_base.specs.declared.TheConstants.{MAX_CLAUSES, MAX_LITERAL
 ghost use Rattle.dist_base.specs.Answers.{IsExactly};
 ghost use Rattle.dist_clause.specs.ClauseList.{IsWithinLimits};
 ghost use Rattle.dist_clause.specs.declared.clause_set.PushError.TheVariants.{TooManyClauses, TooManyLiterals, NoMemory};
-ghost use Rattle.dist_space_clauses.specs.Gathering.{IsCauseAt, IsGroupsFront};
+ghost use Rattle.dist_space_clauses.specs.GatheringPrivate.{IsCauseAt, IsGroupsFront};
 ghost use Rattle.dist_space_clauses.specs.Rejecting.{AreRejecting};
 ghost use Rattle.dist_space_clauses.specs.SpaceClauses.{IsDemand};
 ghost use Rattle.dist_space_clauses.specs.SpaceSet.{IsCause, IsSetOf, PassesClauses, PassesLiterals};

@@ -4,7 +4,7 @@ ghost use Rattle.std.specs.Prelude.{◌≡◌, ◌≢◌, ◌+◌, ◌≤◌, �
 ghost use Rattle.dist_repo.specs.Match.{IsUsable};
 ghost use Rattle.dist_repo.specs.PackageList.{IsPackageAnd};
 ghost use Rattle.dist_repo.specs.Providers.{AreProviders};
-ghost use Rattle.dist_space_clauses.specs.Gathering.{Adds, AreVariablesOf, Gathers, IsCauseAt, IsFresh, IsFront, IsOf};
+ghost use Rattle.dist_space_clauses.specs.GatheringPrivate.{Adds, AreVariablesOf, Gathers, IsCauseAt, IsFresh, IsFront, IsOf};
 ghost use Rattle.dist_space_clauses.specs.Rejecting.{AreRejecting, numbers_at};
 ghost use Rattle.dist_space.specs.Space.{IsMatched, IsMatchedBy, name_of, variable_of};
 ghost use Rattle.dist_space_clauses.specs.SpaceClauses.{Excludes};

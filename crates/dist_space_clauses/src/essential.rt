@@ -1,6 +1,6 @@
 //! The clauses of essential names. A name has one package, as the repository of a space is flat.
 ghost use Rattle.std.specs.Prelude.{◌≡◌, ◌+◌, true, IfErr, OnOk, Some, slice_get};
-ghost use Rattle.dist_space_clauses.specs.Gathering.{AreVariablesOf, IsCauseAt, IsGroupsFront, IsNamedFront, IsWholeSet};
+ghost use Rattle.dist_space_clauses.specs.GatheringPrivate.{AreVariablesOf, IsCauseAt, IsGroupsFront, IsNamedFront, IsWholeSet};
 ghost use Rattle.dist_space_clauses.specs.SpaceClauses.{IsBearer};
 
 use crate::clause_text::{Scratch, add_clause};

@@ -1,7 +1,7 @@
 //! The groups of clauses that variables lead, each by going through the variables.
 ghost use Rattle.std.specs.Prelude.{◌+◌, ◌≤◌, IfErr, OnOk, length};
-ghost use Rattle.dist_space_clauses.specs.Gathering.{IsCauseAt, IsFront, IsGroupsFront};
-ghost use Rattle.dist_space_clauses.specs.Groups.{number_of};
+ghost use Rattle.dist_space_clauses.specs.GatheringPrivate.{IsCauseAt, IsFront, IsGroupsFront};
+ghost use Rattle.dist_space_clauses.specs.GroupsPrivate.{number_of};
 ghost use Rattle.dist_space_clauses.specs.Rejecting.{AreRejecting};
 
 use crate::clause_text::Scratch;

@@ -1,7 +1,7 @@
 //! The clauses of the items of packages.
 ghost use Rattle.std.specs.Prelude.{◌≡◌, ◌+◌, ◌<◌, ◌≤◌, Any, IfErr, OnOk, Some, length, slice_get};
 ghost use Rattle.dist_repo.specs.Providers.{AreProviders};
-ghost use Rattle.dist_space_clauses.specs.Gathering.{Adds, AreVariablesOf, Gathers, IsCauseAt, IsFront, IsItemAt, IsOf};
+ghost use Rattle.dist_space_clauses.specs.GatheringPrivate.{Adds, AreVariablesOf, Gathers, IsCauseAt, IsFront, IsItemAt, IsOf};
 ghost use Rattle.dist_space.specs.Space.{IsMatched, IsMatchedBy, IsMetBy, variable_of};
 ghost use Rattle.dist_space.specs.declared.meaning.Meaning.TheVariants as meaning;
 

@@ -1,6 +1,6 @@
 //! The clauses of two literals that one variable leads: those of clusters, of new versions, of new names and of today.
 ghost use Rattle.std.specs.Prelude.{◌≡◌, ◌+◌, ◌≤◌, ◌<◌, IfErr, OnOk, length, slice_index};
-ghost use Rattle.dist_space_clauses.specs.Gathering.{IsCauseAt, IsFront};
+ghost use Rattle.dist_space_clauses.specs.GatheringPrivate.{IsCauseAt, IsFront};
 ghost use Rattle.dist_space.specs.Space.{IsChange, IsMeaningOf};
 ghost use Rattle.dist_space.specs.declared.meaning.Meaning.TheVariants as meaning;
 

@@ -2,7 +2,7 @@
 //! packages of new names.
 ghost use Rattle.std.specs.Prelude.{◌≡◌, ◌<◌, ◌^◌, ◌↔◌, ℕ, Contains, OnOk, Some, length, slice_get};
 ghost use Rattle.std.specs.List.Sorted.{IsStrictlyIncreasing};
-ghost use Rattle.dist_space_clauses.specs.Gathering.{Adds, IsFresh, IsKeptOf, IsLaterOf, IsOfVersion};
+ghost use Rattle.dist_space_clauses.specs.GatheringPrivate.{Adds, IsFresh, IsKeptOf, IsLaterOf, IsOfVersion};
 ghost use Rattle.dist_space.specs.Space.{IsMatchedBy, IsMeaning, fresh_classes, member_classes};
 ghost use Rattle.dist_space.specs.declared.meaning.Meaning.TheVariants as meaning;
 

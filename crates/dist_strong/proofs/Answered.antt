@@ -17,8 +17,8 @@ use Rattle.dist_cert.specs.Form.{Word, AreFromOne, is_end}
 use Rattle.dist_cert.specs.Groups.{clause_of, derived, derived_in, installations, leaves_open, numbered}
 use Rattle.dist_cert.specs.Part.{IsAsking}
 use Rattle.dist_strong.specs.Asking.{IsLogAt, is_derived}
-use Rattle.dist_strong.specs.Script.{Setting, matter_in, AllNext}
-use Rattle.dist_strong.specs.Words.{AreDerived, derived_line, derived_lines}
+use Rattle.dist_strong.specs.ScriptPrivate.{Setting, matter_in, AllNext}
+use Rattle.dist_strong.specs.WordsPrivate.{AreDerived, derived_line, derived_lines}
 use Rattle.dist_strong.proofs.Lines.{all-numbered, clause-words}
 use Rattle.dist_strong.proofs.DerivedLines.{records, derived-next, records-same}
 use Rattle.dist_strong.proofs.Opened.{asking-first}

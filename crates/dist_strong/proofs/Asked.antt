@@ -16,15 +16,15 @@ use Rattle.dist_cert.specs.declared.records.CertRecord.TheVariants.{Question, In
 use Rattle.dist_cert.specs.Form.{Word, record_text, is_end}
 use Rattle.dist_cert.specs.Groups.{clause_of, derived, derived_in}
 use Rattle.dist_cert.specs.Part.{IsNextQuestion}
-use Rattle.dist_cert.specs.PartByRecords.{IsLine}
+use Rattle.dist_cert.specs.PartByRecordsLaws.{IsLine}
 use Rattle.dist_cert.specs.Refusal.{lines_text}
 use Rattle.dist_cert.specs.Writing.{WriterView, ended}
 use Rattle.dist_strong.specs.declared.asker.Reply.{Reply}
 use Rattle.dist_strong.specs.declared.asker.Reply.TheVariants as replies
 use Rattle.dist_strong.specs.Asking.{AskerView, Holds, IsAsked, IsAt, IsLogAt, IsOver, IsReplyLine, IsReplyOf, MayDerive}
-use Rattle.dist_strong.specs.Script.{Setting, matter_in, IsWriter, PutMore, PutStops, Stops}
-use Rattle.dist_strong.specs.Words.{closing_line, true_variables}
-use Rattle.dist_cert.specs.ListFacts.{pairs-map}
+use Rattle.dist_strong.specs.ScriptPrivate.{Setting, matter_in, IsWriter, PutMore, PutStops, Stops}
+use Rattle.dist_strong.specs.WordsPrivate.{closing_line, true_variables}
+use Rattle.dist_cert.specs.ListLaws.{pairs-map}
 use Rattle.dist_strong.proofs.Keeping.{keeps-same}
 use Rattle.dist_strong.proofs.Lines.{question-line}
 use Rattle.dist_strong.proofs.OneLine.{BeginsLaw, TwiceLaw, lines-more, one-line, stops-after, stops-for-memory}

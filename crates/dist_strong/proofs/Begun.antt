@@ -18,11 +18,11 @@ use Rattle.dist_repo.specs.PackageList.{PackageList}
 use Rattle.dist_cert.specs.declared.records.CertKind.TheVariants as kinds
 use Rattle.dist_cert.specs.declared.records.Claim.{Claim}
 use Rattle.dist_cert.specs.declared.records.Header.{Header}
-use Rattle.dist_cert.specs.PartByRecords.{IsHeaderOf}
+use Rattle.dist_cert.specs.PartByRecordsLaws.{IsHeaderOf}
 use Rattle.dist_subject.specs.Present.{AreInputs, subject_of}
 use Rattle.dist_strong.specs.Asking.{AskerView}
 use Rattle.dist_strong.specs.Sweep.{SweepAnswers}
-use Rattle.dist_strong.specs.Sweeping.{Begins, MayBegin, new_writer, setting_of}
+use Rattle.dist_strong.specs.SweepingPrivate.{Begins, MayBegin, new_writer, setting_of}
 use Rattle.dist_strong.specs.Window.{WindowView}
 
 -- ---- the laws of dist_subject and dist_now

@@ -29,7 +29,7 @@ use Rattle.dist_strong.proofs.BudgetCounts.{flat-push}
 use Rattle.dist_strong.proofs.FewNumbers.{few-within}
 use Rattle.dist_strong.proofs.Fronts.{GoesOn, by-fronts}
 use Rattle.dist_strong.proofs.KeptLines.{IsKept, AreKept}
-use Rattle.dist_cert.specs.ListFacts.{pairs-map}
+use Rattle.dist_cert.specs.ListLaws.{pairs-map}
 
 -- ---- words
 

@@ -17,11 +17,11 @@ use Rattle.dist_cert.specs.ClaimRules.{yes, HoldsClaim, IsNamed}
 use Rattle.dist_cert.specs.Form.{IsSmall, is_end, plain}
 use Rattle.dist_cert.specs.Groups.{claim_count, group, installations, installation_at, IsRefutedIn, IsUndecidedIn}
 use Rattle.dist_cert.specs.LineRules.{HasRecordFault, IsNoFuture}
-use Rattle.dist_cert.specs.PartByRecords.{IsLine}
+use Rattle.dist_cert.specs.PartByRecordsLaws.{IsLine}
 use Rattle.dist_strong.specs.Group.{HasEach}
-use Rattle.dist_strong.specs.Script.{Setting, matter_in}
+use Rattle.dist_strong.specs.ScriptPrivate.{Setting, matter_in}
 use Rattle.dist_strong.specs.Window.{WindowView, IsWindowAt, kept_at, numbers_of}
-use Rattle.dist_strong.specs.Words.{true_variables}
+use Rattle.dist_strong.specs.WordsPrivate.{true_variables}
 use Rattle.dist_strong.proofs.Lists.{none-in}
 use Rattle.dist_strong.proofs.TrueOnes.{IsKept, all-kept, contained, kept-there, range-rises, true-ones}
 

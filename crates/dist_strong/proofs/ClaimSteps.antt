@@ -14,13 +14,13 @@ use Rattle.dist_cert.specs.Accepted.{claim_in, claims_in}
 use Rattle.dist_cert.specs.Form.{record_text, is_end}
 use Rattle.dist_cert.specs.Groups.{claim_count, claimed, derived, derived_in, installations, installed_in, is_claim}
 use Rattle.dist_cert.specs.GroupLaws.{group-claim, installations-append}
-use Rattle.dist_cert.specs.PartByRecords.{IsLine}
+use Rattle.dist_cert.specs.PartByRecordsLaws.{IsLine}
 use Rattle.dist_cert.specs.Writing.{ended}
 use Rattle.dist_strong.specs.Asking.{AskerView, IsAt}
-use Rattle.dist_strong.specs.Claiming.{IsClaimed, IsStrongLine, StrongMore}
+use Rattle.dist_strong.specs.ClaimingPrivate.{IsClaimed, IsStrongLine, StrongMore}
 use Rattle.dist_strong.specs.Group.{GroupView, HasNoCandidate}
-use Rattle.dist_strong.specs.Script.{Setting, matter_in, PutMore, PutStops}
-use Rattle.dist_strong.specs.Settling.{Fits, IsSettling, SettleStops}
+use Rattle.dist_strong.specs.ScriptPrivate.{Setting, matter_in, PutMore, PutStops}
+use Rattle.dist_strong.specs.SettlingPrivate.{Fits, IsSettling, SettleStops}
 use Rattle.dist_strong.specs.Window.{WindowView, IsWindowAt}
 use Rattle.dist_strong.proofs.Answered.{derived-append, none-ended}
 use Rattle.dist_strong.proofs.Keeping.{keeps-same}

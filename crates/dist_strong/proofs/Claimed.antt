@@ -23,16 +23,16 @@ use Rattle.dist_cert.specs.Form.{Word, record_text}
 use Rattle.dist_cert.specs.Groups.{claim_count, group, installations, installed_in, is_claim, IsClosedBy}
 use Rattle.dist_cert.specs.GroupLaws.{count-append}
 use Rattle.dist_cert.specs.Part.{IsNextQuestion, IsQuestionOn}
-use Rattle.dist_cert.specs.PartByRecords.{IsLine}
+use Rattle.dist_cert.specs.PartByRecordsLaws.{IsLine}
 use Rattle.dist_cert.specs.Refusal.{lines_text}
 use Rattle.dist_cert.specs.Writing.{ended}
 use Rattle.dist_strong.specs.Asking.{AskerView, Holds, IsAsked, IsOver, question_lines}
-use Rattle.dist_strong.specs.Claiming.{ClaimMore, ClaimStops, IsClaimed, IsSwept, StrongMore, Suits}
+use Rattle.dist_strong.specs.ClaimingPrivate.{ClaimMore, ClaimStops, IsClaimed, IsSwept, StrongMore, Suits}
 use Rattle.dist_strong.specs.Group.{GroupView, new_group}
-use Rattle.dist_strong.specs.Script.{Setting, matter_in, PutMore, PutStops}
-use Rattle.dist_strong.specs.Settling.{Fits, IsGroupAt, IsSettling, SettleMore, SettleStops, without}
+use Rattle.dist_strong.specs.ScriptPrivate.{Setting, matter_in, PutMore, PutStops}
+use Rattle.dist_strong.specs.SettlingPrivate.{Fits, IsGroupAt, IsSettling, SettleMore, SettleStops, without}
 use Rattle.dist_strong.specs.Window.{WindowView}
-use Rattle.dist_strong.specs.Words.{true_variables}
+use Rattle.dist_strong.specs.WordsPrivate.{true_variables}
 use Rattle.dist_strong.specs.declared.asker.Reply.{Reply}
 use Rattle.dist_strong.specs.declared.asker.Reply.TheVariants as replies
 use Rattle.dist_strong.proofs.Asked.{AskStops}

@@ -28,14 +28,14 @@ use Rattle.dist_cert.specs.declared.records.CertRecord.{CertRecord}
 use Rattle.dist_cert.specs.declared.records.CertRecord.TheVariants.{Question, Derived}
 use Rattle.dist_cert.specs.Form.{Word}
 use Rattle.dist_cert.specs.Groups.{clause_of, derived, numbered}
-use Rattle.dist_cert.specs.PartByRecords.{IsLine}
+use Rattle.dist_cert.specs.PartByRecordsLaws.{IsLine}
 use Rattle.dist_cert.specs.Refusal.{lines_text}
 use Rattle.dist_cert.specs.Writing.{WriterView}
 use Rattle.dist_subject.specs.Installed.{AreTrueOf}
 use Rattle.dist_subject.specs.Present.{matter_of}
 use Rattle.dist_strong.specs.Asking.{IsLogAt, IsDerived, MayDerive, work_of}
-use Rattle.dist_strong.specs.Script.{Setting, matter_in, IsWriter, KeepsLines, Stops, PutAll, PutAllStops}
-use Rattle.dist_strong.specs.Words.{IsAnswerOver, closing_line, derived_lines, words_of, true_variables}
+use Rattle.dist_strong.specs.ScriptPrivate.{Setting, matter_in, IsWriter, KeepsLines, Stops, PutAll, PutAllStops}
+use Rattle.dist_strong.specs.WordsPrivate.{IsAnswerOver, closing_line, derived_lines, words_of, true_variables}
 use Rattle.dist_strong.proofs.Lines.{all-numbered, derived-line, from-one, installation-line, refuted-line, undecided-line}
 use Rattle.dist_strong.proofs.DerivedLines.{derived-push}
 use Rattle.dist_strong.proofs.OneLine.{BeginsLaw, TwiceLaw, stopped-here, stops-after}

@@ -18,9 +18,9 @@ use Rattle.dist_cert.specs.declared.records.CertRecord.TheVariants.{Derived}
 use Rattle.dist_cert.specs.Form.{Word, is_end}
 use Rattle.dist_cert.specs.Groups.{clause_of, derived, derived_in, numbered}
 use Rattle.dist_cert.specs.Part.{IsAsking}
-use Rattle.dist_cert.specs.PartByRecords.{IsLine}
-use Rattle.dist_strong.specs.Script.{Setting, matter_in, AllNext}
-use Rattle.dist_strong.specs.Words.{words_of, derived_line, derived_lines}
+use Rattle.dist_cert.specs.PartByRecordsLaws.{IsLine}
+use Rattle.dist_strong.specs.ScriptPrivate.{Setting, matter_in, AllNext}
+use Rattle.dist_strong.specs.WordsPrivate.{words_of, derived_line, derived_lines}
 use Rattle.dist_strong.proofs.Lines.{derived-line, clause-words}
 use Rattle.dist_strong.proofs.Opened.{asking-more}
 

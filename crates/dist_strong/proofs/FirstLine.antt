@@ -8,10 +8,10 @@ use Rattle.dist_outside.specs.declared.trouble.WorkError.{WorkError}
 use Rattle.dist_outside.specs.declared.trouble.WorkError.TheVariants.{WriteFault, TooLarge, NoMemory}
 use Rattle.dist_cert.specs.declared.records.Header.{Header}
 use Rattle.dist_cert.specs.Form.{header_text}
-use Rattle.dist_cert.specs.PartByRecords.{IsShortLine}
+use Rattle.dist_cert.specs.PartByRecordsLaws.{IsShortLine}
 use Rattle.dist_cert.specs.Writing.{WriterView, HasRoom, PutAnswers, WritesNothing, ended, after_line}
-use Rattle.dist_strong.specs.Script.{Setting}
-use Rattle.dist_strong.specs.Sweeping.{FirstStopsBy, HeaderMore, HeaderStops, new_writer}
+use Rattle.dist_strong.specs.ScriptPrivate.{Setting}
+use Rattle.dist_strong.specs.SweepingPrivate.{FirstStopsBy, HeaderMore, HeaderStops, new_writer}
 use Rattle.dist_strong.proofs.OneLine.{BeginsLaw}
 
 -- no line stands behind it

@@ -5,7 +5,7 @@ use Rattle.std.specs.List.{AllPass, Contains, list_any}
 use Rattle.std.proofs.lemmas.Bool.{or_parts, true≢false, false≢true}
 use Rattle.std.proofs.lemmas.Grind.{flat_map-append}
 use Rattle.std.proofs.lemmas.List.Elements.{All-head, All-tail}
-use Rattle.dist_cert.specs.ListFacts.{contains-cases}
+use Rattle.dist_cert.specs.ListLaws.{contains-cases}
 use Rattle.dist_cert.specs.declared.records.CertRecord.{CertRecord}
 use Rattle.dist_cert.specs.declared.records.CertRecord.TheVariants.{Question, Derived, Refuted, Installation, Undecided, End}
 use Rattle.dist_cert.specs.declared.records.Claim.{Claim}
@@ -14,7 +14,7 @@ use Rattle.dist_cert.specs.Form.{Word}
 use Rattle.dist_cert.specs.Groups.{installations, installed_in, is_claim, leaves_open, IsClosedBy}
 use Rattle.dist_cert.specs.GroupLaws.{installations-append}
 use Rattle.dist_strong.specs.Asking.{IsReplyLine, is_derived, question_lines}
-use Rattle.dist_strong.specs.Words.{true_variables}
+use Rattle.dist_strong.specs.WordsPrivate.{true_variables}
 use Rattle.dist_strong.specs.declared.asker.Reply.{Reply}
 use Rattle.dist_strong.specs.declared.asker.Reply.TheVariants as replies
 

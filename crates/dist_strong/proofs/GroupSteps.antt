@@ -19,10 +19,10 @@ use Rattle.dist_cert.specs.GroupLaws.{closed-more, count-append, group-append, i
 use Rattle.dist_cert.specs.Part.{IsNextQuestion, IsQuestionOn}
 use Rattle.dist_strong.specs.Asking.{AskerView, is_derived, question_lines}
 use Rattle.dist_strong.specs.Group.{GroupView, IsCandidate, IsNarrowed, is_open}
-use Rattle.dist_strong.specs.Script.{Setting, matter_in}
-use Rattle.dist_strong.specs.Settling.{AreNoted, IsGroupAt, IsSettling, without}
+use Rattle.dist_strong.specs.ScriptPrivate.{Setting, matter_in}
+use Rattle.dist_strong.specs.SettlingPrivate.{AreNoted, IsGroupAt, IsSettling, without}
 use Rattle.dist_strong.specs.Window.{WindowView, IsWindowAt}
-use Rattle.dist_strong.specs.Words.{true_variables}
+use Rattle.dist_strong.specs.WordsPrivate.{true_variables}
 use Rattle.dist_strong.proofs.GroupLines.{IsAnswerLine, closed-now, question-claims, question-installs, questions-of}
 use Rattle.dist_strong.proofs.TrueOnes.{true-ones}
 

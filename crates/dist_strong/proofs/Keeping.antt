@@ -7,7 +7,7 @@ use Rattle.dist_clause.specs.Formula.{Literal}
 use Rattle.dist_outside.specs.declared.limits.Limits.{Limits}
 use Rattle.dist_cert.specs.declared.records.CertRecord.{CertRecord}
 use Rattle.dist_cert.specs.Groups.{derived, derived_in}
-use Rattle.dist_strong.specs.Script.{KeepsLines}
+use Rattle.dist_strong.specs.ScriptPrivate.{KeepsLines}
 
 -- where some lines keep them, those before do
 pub keeps-front : (limits : Limits) (lines more : List CertRecord) → KeepsLines limits (lines ++ more) → KeepsLines limits lines

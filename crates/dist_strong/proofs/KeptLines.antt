@@ -1,18 +1,19 @@
 -- Line by line, what a part keeps.
 use Rattle.std.proofs.Common.{◌≡◌, inl, ℕ, List, [], ◌∷◌, ◌++◌, sym, subst, append_assoc}
 use Rattle.std.specs.List.{Contains}
+use Rattle.dist_base.specs.Ascii.{line_feed}
 use Rattle.dist_outside.specs.declared.limits.Limits.{Limits}
 use Rattle.dist_cert.specs.declared.faults.CertCause.{CertCause}
 use Rattle.dist_cert.specs.declared.faults.CertCause.TheVariants as causes
 use Rattle.dist_cert.specs.declared.records.CertRecord.{CertRecord}
 use Rattle.dist_cert.specs.declared.records.CertRecord.TheVariants.{End}
 use Rattle.dist_cert.specs.declared.records.Header.{Header}
-use Rattle.dist_cert.specs.ByRecords.{record_to_line}
-use Rattle.dist_cert.specs.ClearForms.{FormsAreClear}
+use Rattle.dist_cert.specs.ByRecordsLaws.{record_to_line}
+use Rattle.dist_cert.specs.ClearFormsLaws.{FormsAreClear}
 use Rattle.dist_cert.specs.Form.{record_text, HasForm}
 use Rattle.dist_cert.specs.LineRules.{HasRecordFault}
 use Rattle.dist_cert.specs.Part.{IsNextLine, IsPartOf}
-use Rattle.dist_cert.specs.Refusal.{line_feed, lines_text, HasLineFault}
+use Rattle.dist_cert.specs.Refusal.{lines_text, HasLineFault}
 use Rattle.dist_cert.specs.Subject.{Matter, Subject}
 use Rattle.dist_cert.specs.GroupLaws.{all-at}
 

@@ -16,13 +16,13 @@ use Rattle.dist_cert.specs.Form.{Word, AreLiterals, IsSmall, plains, is_end}
 use Rattle.dist_cert.specs.Groups.{clause_of, derived, numbered}
 use Rattle.dist_cert.specs.LineRules.{HasRecordFault, IsNoFuture}
 use Rattle.dist_cert.specs.Part.{AsksSome, IsAsking, IsNextQuestion}
-use Rattle.dist_cert.specs.PartByRecords.{IsLine}
+use Rattle.dist_cert.specs.PartByRecordsLaws.{IsLine}
 use Rattle.dist_cert.specs.GroupLaws.{one-open}
 use Rattle.dist_strong.specs.Asking.{IsOver}
-use Rattle.dist_strong.specs.Script.{Setting, matter_in}
-use Rattle.dist_strong.specs.Words.{words_of}
+use Rattle.dist_strong.specs.ScriptPrivate.{Setting, matter_in}
+use Rattle.dist_strong.specs.WordsPrivate.{words_of}
 use Rattle.dist_strong.proofs.Lists.{none-past, none-in}
-use Rattle.dist_cert.specs.ListFacts.{pairs-map}
+use Rattle.dist_cert.specs.ListLaws.{pairs-map}
 
 -- ---- numbers are small
 

@@ -7,6 +7,7 @@ use Rattle.std.proofs.lemmas.Grind.{flat_map-append}
 use Rattle.std.proofs.lemmas.List.{get_or_at}
 use Rattle.std.proofs.lemmas.List.Elements.{All-push}
 use Rattle.std.specs.Result.{IsErrAnd}
+use Rattle.dist_base.specs.Ascii.{line_feed}
 use Rattle.dist_outside.specs.Counts.{Rose}
 use Rattle.dist_outside.specs.DeskView.{DeskView, FileGrew, FileGrewByFront, WriteCounts}
 use Rattle.dist_outside.specs.declared.trouble.What.TheVariants.{RecordLine, Certificate}
@@ -15,10 +16,10 @@ use Rattle.dist_outside.specs.declared.trouble.WorkError.TheVariants.{ReadFault,
 use Rattle.dist_cert.specs.declared.records.CertRecord.{CertRecord}
 use Rattle.dist_cert.specs.declared.records.Header.{Header}
 use Rattle.dist_cert.specs.Form.{record_text, header_text}
-use Rattle.dist_cert.specs.PartByRecords.{IsLine, IsShortLine}
-use Rattle.dist_cert.specs.Refusal.{line_feed, lines_text, certificate_text}
+use Rattle.dist_cert.specs.PartByRecordsLaws.{IsLine, IsShortLine}
+use Rattle.dist_cert.specs.Refusal.{lines_text, certificate_text}
 use Rattle.dist_cert.specs.Writing.{WriterView, HasRoom, PutAnswers, WritesNothing, ended, after_line}
-use Rattle.dist_strong.specs.Script.{Setting, matter_in, AllNext, AreWritten, IsWriter, IsCutOff, KeepsLines, StopsBy, Stops, PutMore, PutStops}
+use Rattle.dist_strong.specs.ScriptPrivate.{Setting, matter_in, AllNext, AreWritten, IsWriter, IsCutOff, KeepsLines, StopsBy, Stops, PutMore, PutStops}
 
 -- ---- one line more
 

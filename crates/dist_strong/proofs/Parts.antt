@@ -3,6 +3,7 @@ use Rattle.std.proofs.Common.{◌≡◌, ◌⊎◌, ⊎_elim, inl, inr, ℕ, Boo
 use Rattle.std.proofs.Common.{length-append}
 use Rattle.std.specs.List.{All}
 use Rattle.std.proofs.lemmas.List.Elements.{All-cons, All-head, All-nil, All-tail}
+use Rattle.dist_base.specs.Ascii.{line_feed}
 use Rattle.dist_base.specs.Front.{IsFrontOf}
 use Rattle.dist_clause.specs.Formula.{Literal}
 use Rattle.dist_outside.specs.declared.limits.Limits.{Limits}
@@ -14,19 +15,19 @@ use Rattle.dist_cert.specs.declared.records.CertRecord.{CertRecord}
 use Rattle.dist_cert.specs.declared.records.CertRecord.TheVariants.{End}
 use Rattle.dist_cert.specs.declared.records.Header.{Header}
 use Rattle.dist_cert.specs.Accepted.{Accepted, claims_in}
-use Rattle.dist_cert.specs.ByRecords.{AreSound, IsSoundHeader, accepted_by_records}
-use Rattle.dist_cert.specs.ClearForms.{FormsAreClear}
+use Rattle.dist_cert.specs.ByRecordsLaws.{AreSound, IsSoundHeader, accepted_by_records}
+use Rattle.dist_cert.specs.ClearFormsLaws.{FormsAreClear}
 use Rattle.dist_cert.specs.Form.{HasForm, HasHeaderForm, header_text, record_text}
-use Rattle.dist_cert.specs.OneVerdict.{one_line}
+use Rattle.dist_cert.specs.OneVerdictLaws.{one_line}
 use Rattle.dist_cert.specs.Part.{IsPartOf, Passes}
-use Rattle.dist_cert.specs.PartByRecords.{AreLines, IsHeaderOf, IsLine, IsShortLine, part_by_records, sound_by_lines}
-use Rattle.dist_cert.specs.Refusal.{Reads, certificate_text, line_feed, lines_text}
+use Rattle.dist_cert.specs.PartByRecordsLaws.{AreLines, IsHeaderOf, IsLine, IsShortLine, part_by_records, sound_by_lines}
+use Rattle.dist_cert.specs.Refusal.{Reads, certificate_text, lines_text}
 use Rattle.dist_cert.specs.Writing.{ended}
 use Rattle.dist_subject.specs.Completed.{IsCompleted, KeepsNumbers}
 use Rattle.dist_subject.specs.Present.{AreInputs, subject_of}
-use Rattle.dist_strong.specs.Script.{AllNext, AreWritten, IsCutOff, IsPassed, Setting, matter_in}
+use Rattle.dist_strong.specs.ScriptPrivate.{AllNext, AreWritten, IsCutOff, IsPassed, Setting, matter_in}
 use Rattle.dist_strong.specs.Sweep.{IsCutSweep, IsFull, IsSweep}
-use Rattle.dist_strong.specs.Sweeping.{KeepsInputs, setting_of}
+use Rattle.dist_strong.specs.SweepingPrivate.{KeepsInputs, setting_of}
 use Rattle.dist_strong.proofs.Lists.{contains-last}
 use Rattle.dist_strong.proofs.OneLine.{certificate-push}
 

@@ -17,10 +17,10 @@ use Rattle.dist_cert.specs.Part.{IsNextQuestion}
 use Rattle.dist_cert.specs.Refusal.{lines_text}
 use Rattle.dist_strong.specs.Asking.{AskerView, Holds, IsAsked, IsAt, question_lines}
 use Rattle.dist_strong.specs.Group.{GroupView, IsCandidate, IsNarrowed, is_open}
-use Rattle.dist_strong.specs.Script.{Setting, matter_in}
-use Rattle.dist_strong.specs.Settling.{Fits, HasSizes, IsFurther, IsSettling, SettleMore, SettleStops, Settles, without}
+use Rattle.dist_strong.specs.ScriptPrivate.{Setting, matter_in}
+use Rattle.dist_strong.specs.SettlingPrivate.{Fits, HasSizes, IsFurther, IsSettling, SettleMore, SettleStops, Settles, without}
 use Rattle.dist_strong.specs.Window.{WindowView}
-use Rattle.dist_strong.specs.Words.{true_variables}
+use Rattle.dist_strong.specs.WordsPrivate.{true_variables}
 use Rattle.dist_strong.specs.declared.asker.Reply.{Reply}
 use Rattle.dist_strong.specs.declared.asker.Reply.TheVariants as replies
 use Rattle.dist_strong.proofs.Asked.{AskStops}

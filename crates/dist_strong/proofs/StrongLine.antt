@@ -17,12 +17,12 @@ use Rattle.dist_cert.specs.Form.{IsSmall, is_end, plain, plains, separator}
 use Rattle.dist_cert.specs.Groups.{claim_count, group, installations, installation_at, is_claim, IsRefutedIn, IsUndecidedIn}
 use Rattle.dist_cert.specs.GroupLaws.{installations-append}
 use Rattle.dist_cert.specs.LineRules.{HasRecordFault, IsNoFuture}
-use Rattle.dist_cert.specs.PartByRecords.{IsLine}
+use Rattle.dist_cert.specs.PartByRecordsLaws.{IsLine}
 use Rattle.dist_strong.specs.Group.{AreLeft, GroupView, HasEach, HasNoCandidate, IsLeft}
-use Rattle.dist_strong.specs.Script.{Setting, matter_in}
-use Rattle.dist_strong.specs.Settling.{IsGroupAt, without}
+use Rattle.dist_strong.specs.ScriptPrivate.{Setting, matter_in}
+use Rattle.dist_strong.specs.SettlingPrivate.{IsGroupAt, without}
 use Rattle.dist_strong.specs.Window.{WindowView, IsWindowAt, numbers_of}
-use Rattle.dist_strong.specs.Words.{true_variables}
+use Rattle.dist_strong.specs.WordsPrivate.{true_variables}
 use Rattle.dist_strong.proofs.ClaimLines.{each-named, latest-named, named-each, next-claim, numbers-named, numbers-rising}
 use Rattle.dist_strong.proofs.GroupSteps.{open-from}
 use Rattle.dist_strong.proofs.Lines.{plains-small}

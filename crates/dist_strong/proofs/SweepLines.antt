@@ -4,6 +4,7 @@ use Rattle.std.proofs.Common.{length-append}
 use Rattle.std.specs.List.{list_any}
 use Rattle.std.proofs.lemmas.Bool.{false≢true}
 use Rattle.std.proofs.lemmas.List.Elements.{All-nil}
+use Rattle.dist_base.specs.Ascii.{line_feed}
 use Rattle.dist_outside.specs.DeskView.{DeskView, FileGrew}
 use Rattle.dist_outside.specs.declared.trouble.WorkError.{WorkError}
 use Rattle.dist_outside.specs.declared.trouble.WorkError.TheVariants.{NoMemory}
@@ -19,13 +20,13 @@ use Rattle.dist_cert.specs.Accepted.{claims_in}
 use Rattle.dist_cert.specs.Form.{IsSmall, header_text, is_end, record_text}
 use Rattle.dist_cert.specs.Groups.{claim_count}
 use Rattle.dist_cert.specs.LineRules.{HasRecordFault, IsNoFuture}
-use Rattle.dist_cert.specs.PartByRecords.{IsLine}
-use Rattle.dist_cert.specs.Refusal.{certificate_text, line_feed, lines_text}
+use Rattle.dist_cert.specs.PartByRecordsLaws.{IsLine}
+use Rattle.dist_cert.specs.Refusal.{certificate_text, lines_text}
 use Rattle.dist_cert.specs.Writing.{ended}
 use Rattle.dist_strong.specs.Asking.{AskerView, IsAt}
-use Rattle.dist_strong.specs.Claiming.{ClaimMore, ClaimStops, IsSwept}
-use Rattle.dist_strong.specs.Script.{PutMore, PutStops, Setting, Stops, matter_in}
-use Rattle.dist_strong.specs.Sweeping.{AreClaimed, Begins, ClaimsMore, ClaimsStop, HeaderMore, HeaderStops, StopsLater, SweepMore, SweepStops}
+use Rattle.dist_strong.specs.ClaimingPrivate.{ClaimMore, ClaimStops, IsSwept}
+use Rattle.dist_strong.specs.ScriptPrivate.{PutMore, PutStops, Setting, Stops, matter_in}
+use Rattle.dist_strong.specs.SweepingPrivate.{AreClaimed, Begins, ClaimsMore, ClaimsStop, HeaderMore, HeaderStops, StopsLater, SweepMore, SweepStops}
 use Rattle.dist_strong.specs.Window.{WindowView}
 use Rattle.dist_strong.proofs.GroupLines.{claims-push}
 use Rattle.dist_strong.proofs.Keeping.{keeps-same}

@@ -13,11 +13,11 @@ use Rattle.dist_repo.specs.PackageList.{PackageList}
 use Rattle.dist_cert.specs.declared.records.CertRecord.TheVariants.{End}
 use Rattle.dist_cert.specs.declared.records.Claim.{Claim}
 use Rattle.dist_cert.specs.declared.records.Header.{Header}
-use Rattle.dist_cert.specs.ClearForms.{FormsAreClear}
+use Rattle.dist_cert.specs.ClearFormsLaws.{FormsAreClear}
 use Rattle.dist_cert.specs.Refusal.{certificate_text}
 use Rattle.dist_strong.specs.Asking.{AskerView}
 use Rattle.dist_strong.specs.Sweep.{IsCutSweep, IsSweep, LeavesPart, SweepAnswers}
-use Rattle.dist_strong.specs.Sweeping.{FileAnswers, MayBegin, StopsFirst, StopsLater, SweepMore, SweepStops, setting_of}
+use Rattle.dist_strong.specs.SweepingPrivate.{FileAnswers, MayBegin, StopsFirst, StopsLater, SweepMore, SweepStops, setting_of}
 use Rattle.dist_strong.specs.Window.{WindowView}
 use Rattle.dist_strong.proofs.OneLine.{rose-later}
 use Rattle.dist_strong.proofs.Parts.{IsSet, cut-behind, cut-first, cut-nothing, first-full, full, whole}

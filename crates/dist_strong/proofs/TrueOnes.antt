@@ -8,7 +8,7 @@ use Rattle.std.proofs.lemmas.List.FromFn.{get_or-range_with_len, length-range_wi
 use Rattle.std.proofs.lemmas.List.Kept.{AllPairs-filter}
 use Rattle.dist_clause.specs.Formula.{value_of}
 use Rattle.dist_subject.specs.Installed.{AreTrueOf}
-use Rattle.dist_strong.specs.Words.{true_variables}
+use Rattle.dist_strong.specs.WordsPrivate.{true_variables}
 
 pub record IsKept (p : ℕ → Bool) (a n v : ℕ) : Type 0 where
   pub low : a ≤ v

@@ -15,16 +15,16 @@ use Rattle.dist_cert.specs.declared.records.CertRecord.{CertRecord}
 use Rattle.dist_cert.specs.declared.records.CertRecord.TheVariants as lines
 use Rattle.dist_cert.specs.Form.{Word, AreLiterals, is_end}
 use Rattle.dist_cert.specs.Groups.{clause_of, derived}
-use Rattle.dist_cert.specs.PartByRecords.{IsLine}
+use Rattle.dist_cert.specs.PartByRecordsLaws.{IsLine}
 use Rattle.dist_cert.specs.Refusal.{lines_text}
 use Rattle.dist_cert.specs.Writing.{WriterView}
-use Rattle.dist_strong.specs.Script.{Setting, matter_in, IsWriter}
+use Rattle.dist_strong.specs.ScriptPrivate.{Setting, matter_in, IsWriter}
 use Rattle.dist_solver.specs.Ask.{IsAnswer}
 use Rattle.dist_solver.specs.declared.answers.Answer.{Answer}
 use Rattle.dist_solver.specs.declared.answers.Answer.TheVariants as answers
 use Rattle.dist_solver.specs.declared.answers.AskError.{AskError}
 use Rattle.dist_solver.specs.declared.answers.AskError.TheVariants.{TooManyLines, TooManyLiterals, NoMemory}
-use Rattle.dist_strong.specs.Words.{closing_line, true_variables}
+use Rattle.dist_strong.specs.WordsPrivate.{closing_line, true_variables}
 use Rattle.dist_strong.specs.declared.asker.Reply.{Reply}
 use Rattle.dist_strong.specs.declared.asker.Reply.TheVariants.{Found, Refuted, Undecided}
 

@@ -1,10 +1,10 @@
-pub mod Words
-pub mod Script
+pub mod WordsPrivate
+pub mod ScriptPrivate
 pub mod Asking
 pub mod Window
 pub mod Group
-pub mod Settling
-pub mod Claiming
+pub mod SettlingPrivate
+pub mod ClaimingPrivate
 pub mod Sweep
 pub mod Budget
-pub mod Sweeping
+pub mod SweepingPrivate

@@ -12,9 +12,9 @@ ghost use Rattle.dist_cert.specs.Writing.{ended};
 ghost use Rattle.dist_cert.specs.declared.records.CertRecord.{CertRecord};
 ghost use Rattle.dist_cert.specs.declared.records.CertRecord.TheVariants.{Question};
 ghost use Rattle.dist_strong.specs.Asking.{Holds, IsAsked, IsAt, IsDerived, IsOver, IsReplyOf, MayDerive, work_of};
-ghost use Rattle.dist_strong.specs.Script.{Grows, PutMore, PutStops, Setting, Stops, matter_in};
-ghost use Rattle.dist_strong.specs.Sweeping.{HeaderMore, HeaderStops, new_writer};
-ghost use Rattle.dist_strong.specs.Words.{IsAnswerOver, closing_line};
+ghost use Rattle.dist_strong.specs.ScriptPrivate.{Grows, PutMore, PutStops, Setting, Stops, matter_in};
+ghost use Rattle.dist_strong.specs.SweepingPrivate.{HeaderMore, HeaderStops, new_writer};
+ghost use Rattle.dist_strong.specs.WordsPrivate.{IsAnswerOver, closing_line};
 
 use crate::putting::{put_derived, put_line};
 use crate::words::{clause_of, true_variables};

@@ -7,10 +7,10 @@ ghost use Rattle.dist_cert.specs.declared.TheConstants.{REACH};
 ghost use Rattle.dist_cert.specs.Accepted.{claim_in, from_zero};
 ghost use Rattle.dist_cert.specs.ClaimRules.{yes};
 ghost use Rattle.dist_cert.specs.Form.{AreFromOne, KeepsRules};
-ghost use Rattle.dist_strong.specs.Claiming.{ClaimMore, ClaimStops, IsStrongLine, StrongMore, Suits};
+ghost use Rattle.dist_strong.specs.ClaimingPrivate.{ClaimMore, ClaimStops, IsStrongLine, StrongMore, Suits};
 ghost use Rattle.dist_strong.specs.Group.{HasNoCandidate, new_group};
-ghost use Rattle.dist_strong.specs.Script.{Grows};
-ghost use Rattle.dist_strong.specs.Settling.{Fits, SettleStops};
+ghost use Rattle.dist_strong.specs.ScriptPrivate.{Grows};
+ghost use Rattle.dist_strong.specs.SettlingPrivate.{Fits, SettleStops};
 
 use crate::asker::{Asker, Reply};
 use crate::group::Group;

@@ -2,7 +2,7 @@
 ghost use Rattle.std.specs.Prelude.{◌≡◌, ◌-◌, ◌≤◌, ◌&&◌, ◌↔◌, ℕ, IfOk, IfSome, IsTrue, None, length, slice_set, true};
 ghost use Rattle.dist_clause.specs.Formula.{value_of};
 ghost use Rattle.dist_strong.specs.Group.{AreLeft, GroupView, IsCandidate, IsLeft, IsNarrowed, is_open, new_group};
-ghost use Rattle.dist_strong.specs.Words.{true_variables};
+ghost use Rattle.dist_strong.specs.WordsPrivate.{true_variables};
 
 use crate::window::Window;
 use crate::words::true_variables;

@@ -6,8 +6,8 @@ ghost use Rattle.dist_solver.specs.Derived.{line_at};
 ghost use Rattle.dist_cert.specs.Form.{AreFromOne, KeepsRules, record_text};
 ghost use Rattle.dist_cert.specs.Refusal.{lines_text};
 ghost use Rattle.dist_cert.specs.Writing.{ended};
-ghost use Rattle.dist_strong.specs.Script.{Grows, PutAll, PutAllStops, PutMore, PutStops};
-ghost use Rattle.dist_strong.specs.Words.{AreDerived, derived_line, derived_lines};
+ghost use Rattle.dist_strong.specs.ScriptPrivate.{Grows, PutAll, PutAllStops, PutMore, PutStops};
+ghost use Rattle.dist_strong.specs.WordsPrivate.{AreDerived, derived_line, derived_lines};
 
 use crate::words::words_of;
 use dist_cert::{CertRecord, Items, Writer};

@@ -3,8 +3,8 @@ ghost use Rattle.std.specs.Prelude.{◌≡◌, ◌≢◌, ◌≤◌, IfErr, IfOk
 ghost use Rattle.dist_outside.specs.Files.{IsWriting};
 ghost use Rattle.dist_strong.specs.Asking.{IsOver};
 ghost use Rattle.dist_strong.specs.Group.{HasNoCandidate, IsCandidate};
-ghost use Rattle.dist_strong.specs.Script.{Grows};
-ghost use Rattle.dist_strong.specs.Settling.{Fits, IsFurther, SettleMore, SettleStops, without};
+ghost use Rattle.dist_strong.specs.ScriptPrivate.{Grows};
+ghost use Rattle.dist_strong.specs.SettlingPrivate.{Fits, IsFurther, SettleMore, SettleStops, without};
 
 use crate::asker::{Asker, Reply};
 use crate::group::Group;

@@ -11,9 +11,9 @@ ghost use Rattle.dist_outside.specs.Reading.{DeskWriteCause};
 ghost use Rattle.dist_outside.specs.declared.trouble.What.TheVariants as what;
 ghost use Rattle.dist_outside.specs.declared.trouble.WorkError.TheVariants.{NoMemory, TooLarge};
 ghost use Rattle.dist_repo.specs.Size.{IsWithinSize};
-ghost use Rattle.dist_strong.specs.Script.{Grows};
+ghost use Rattle.dist_strong.specs.ScriptPrivate.{Grows};
 ghost use Rattle.dist_strong.specs.Sweep.{SweepAnswers};
-ghost use Rattle.dist_strong.specs.Sweeping.{ClaimsMore, ClaimsStop, FileAnswers, InputCause, SweepMore, SweepStops};
+ghost use Rattle.dist_strong.specs.SweepingPrivate.{ClaimsMore, ClaimsStop, FileAnswers, InputCause, SweepMore, SweepStops};
 ghost use Rattle.dist_subject.specs.Limited.{AreStated};
 
 use crate::asker::Asker;

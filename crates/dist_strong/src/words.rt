@@ -2,7 +2,7 @@
 ghost use Rattle.std.specs.Prelude.{◌≡◌, ◌≤◌, All, IfOk, length};
 ghost use Rattle.dist_base.specs.declared.TheConstants.{MAX_VARIABLES};
 ghost use Rattle.dist_cert.specs.Groups.{clause_of};
-ghost use Rattle.dist_strong.specs.Words.{true_variables, words_of};
+ghost use Rattle.dist_strong.specs.WordsPrivate.{true_variables, words_of};
 
 use dist_base::MAX_VARIABLES;
 use dist_clause::{Assignment, Lit};

@@ -9,7 +9,7 @@ use Rattle.dist_now.specs.PresentLaws.{AreModelsInstallations}
 use Rattle.dist_subject.specs.TruthLaws.{truth-at, truth-length}
 use Rattle.dist_subject.specs.Installed.{AreTrueOf}
 use Rattle.dist_subject.specs.Present.{truth_of, packages_of}
-use Rattle.dist_cert.specs.ListFacts.{any-from, both-flags, from-any}
+use Rattle.dist_cert.specs.ListLaws.{any-from, both-flags, from-any}
 use Rattle.dist_cert.specs.Rising.{is_among}
 
 truth-same : (values : List Bool) (variables : List ℕ) → AreTrueOf values variables → truth_of (length values) variables ≡ values

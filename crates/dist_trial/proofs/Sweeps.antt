@@ -22,7 +22,7 @@ use Rattle.dist_check.specs.Answers.{Answers, IsOfText, IsVerdict}
 use Rattle.dist_check.specs.Checking.{OfText}
 use Rattle.dist_check.specs.declared.verdict.Verdict.{Verdict}
 use Rattle.dist_check.specs.declared.verdict.Verdict.TheVariants.{Accepted, Refused}
-use Rattle.dist_trial.specs.Claiming.{in_memory}
+use Rattle.dist_trial.specs.ClaimingPrivate.{in_memory}
 use Rattle.dist_trial.specs.Trial.{AreSwept, SweptAnswers}
 
 -- ---- a sweep that stops

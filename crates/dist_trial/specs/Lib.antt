@@ -1,4 +1,4 @@
 pub mod Summary
-pub mod Figures
+pub mod FiguresPrivate
 pub mod Trial
-pub mod Claiming
+pub mod ClaimingPrivate

@@ -6,7 +6,7 @@ ghost use Rattle.dist_outside.specs.declared.trouble.What.TheVariants as what;
 ghost use Rattle.dist_outside.specs.declared.trouble.WorkError.TheVariants.{NoMemory, TooLarge};
 ghost use Rattle.dist_repo.specs.Size.{IsWithinSize};
 ghost use Rattle.dist_subject.specs.Limited.{AreStated};
-ghost use Rattle.dist_trial.specs.Claiming.{in_memory};
+ghost use Rattle.dist_trial.specs.ClaimingPrivate.{in_memory};
 ghost use Rattle.dist_trial.specs.Trial.{AreSwept, SweptAnswers};
 
 use dist_base::DEFAULT_LIMIT;

@@ -2,7 +2,7 @@
 ghost use Rattle.std.specs.Prelude.{◌≡◌, ◌++◌, IfOk, OnOk, codes, length, sum_by};
 ghost use Rattle.std.specs.List.{list_any};
 ghost use Rattle.dist_report.specs.Marks.{has_mark};
-ghost use Rattle.dist_trial.specs.Figures.{figure_in};
+ghost use Rattle.dist_trial.specs.FiguresPrivate.{figure_in};
 ghost use Rattle.dist_trial.specs.Summary.{number_line, summary_text};
 
 use crate::trials::Trial;

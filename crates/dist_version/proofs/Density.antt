@@ -16,15 +16,16 @@ use Rattle.std.proofs.lemmas.Cmp.{tied_itself}
 use Rattle.std.proofs.lemmas.List.{length-replicate, drop-append-le, take-append-le}
 use Rattle.std.proofs.lemmas.List.Folds.{list_all-append}
 use Rattle.std.proofs.lemmas.List.Sums.{prefix_len-le-length}
+use Rattle.dist_base.specs.Ascii.{colon, hyphen, letter_b, plus, tilde}
 use Rattle.dist_version.specs.declared.error.VersionError.{VersionError}
-use Rattle.dist_version.specs.Spelling.{tilde, plus, hyphen, colon, rsplit_once, has, is_upstream_byte, is_revision_byte, IsMadeOf, Parts, Spells}
+use Rattle.dist_version.specs.Spelling.{rsplit_once, has, is_upstream_byte, is_revision_byte, IsMadeOf, Parts, Spells}
 use Rattle.dist_version.specs.Spelling.{revision_text, parts_of, epoch_of, upstream_of, revision_of}
 use Rattle.dist_version.specs.Faults.{fault_of}
 use Rattle.dist_version.specs.Order.{weight_of, text_start, digit_start, after_text, after_turn, number_of, weights_cmp, part_cmp, IsBelow}
-use Rattle.dist_version.specs.Between.{letter_b, IsRebuildOf, ends_in_digit, extension, missing_hyphen, above_text, below_text, is_rebuild}
+use Rattle.dist_version.specs.Between.{IsRebuildOf, ends_in_digit, extension, missing_hyphen, above_text, below_text, is_rebuild}
 use Rattle.dist_version.specs.Between.{without_rebuild_text}
 use Rattle.dist_version.specs.Kept.{Keeps}
-use Rattle.dist_version.specs.Cuts.{CutsLast, rsplit_once-at, cases_rsplit}
+use Rattle.dist_version.specs.CutLaws.{CutsLast, rsplit_once-at, cases_rsplit}
 use Rattle.dist_version.specs.OrderLaws.{weights_total, part_total, version_cmp-parts}
 use Rattle.dist_version.specs.TextLaws.{lacks, version_from_no_fault, spells_parts, one_version, no_fault_from_version}
 use Rattle.dist_version.proofs.Steps.{room, revision_size}

@@ -4,13 +4,14 @@ use Rattle.std.proofs.Common.{length-append, take, drop, drop_at, take_at, slice
 use Rattle.std.proofs.Common.{true≢false, eqb-true, ◌==◌, refl, sym, ap, ◌∙◌, arith}
 use Rattle.std.specs.Option.{option_map_or, option_or, unwrap_or}
 use Rattle.std.proofs.lemmas.Bool.{cond-true, cond-false}
+use Rattle.dist_base.specs.Ascii.{colon, hyphen}
 use Rattle.dist_version.specs.declared.error.VersionError.{VersionError}
 use Rattle.dist_version.specs.declared.error.VersionError.TheVariants.{Empty}
-use Rattle.dist_version.specs.Spelling.{colon, hyphen, is_upstream_byte, is_revision_byte, has, revision_text, split_once, rsplit_once, epoch_digits}
+use Rattle.dist_version.specs.Spelling.{is_upstream_byte, is_revision_byte, has, revision_text, split_once, rsplit_once, epoch_digits}
 use Rattle.dist_version.specs.Spelling.{after_epoch, epoch_of, upstream_of, revision_of}
 use Rattle.dist_version.specs.Faults.{empty_fault, epoch_fault, upstream_fault, revision_fault, bad_byte, byte_fault, fault_of}
 use Rattle.dist_version.specs.Kept.{Keeps}
-use Rattle.dist_version.specs.Cuts.{CutsFirst, CutsLast, cases_split, cases_rsplit}
+use Rattle.dist_version.specs.CutLaws.{CutsFirst, CutsLast, cases_split, cases_rsplit}
 use Rattle.dist_version.specs.TextLaws.{empty_fault-none}
 
 abbrev pub epoch_part_fault : List ℕ → Option VersionError

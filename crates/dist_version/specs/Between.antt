@@ -5,7 +5,8 @@ use Rattle.std.specs.Prelude.{None, Some, codes, is_none, if◌then◌else◌}
 use Rattle.std.specs.Char.{is_ascii_digit}
 use Rattle.std.specs.List.{list_all}
 use Rattle.std.specs.Option.{unwrap_or}
-use Rattle.dist_version.specs.Spelling.{hyphen, tilde, plus, IsMadeOf, IsVersion, rsplit_once, revision_of}
+use Rattle.dist_base.specs.Ascii.{hyphen, letter_b, plus, tilde}
+use Rattle.dist_version.specs.Spelling.{IsMadeOf, IsVersion, rsplit_once, revision_of}
 use Rattle.dist_version.specs.Faults.{fault_of}
 
 -- the last byte is a digit
@@ -31,9 +32,6 @@ above_text text tildes = text ++ (missing_hyphen (revision_of text)
 -- the text below another one: as many tildes as it has bytes, and one more
 abbrev pub below_text : List ℕ → List ℕ
 below_text text = replicate (length text + 1) tilde
-
-abbrev pub letter_b : ℕ
-letter_b = 98
 
 -- `b` and one or more digits
 abbrev pub is_rebuild : List ℕ → Bool

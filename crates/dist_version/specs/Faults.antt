@@ -60,5 +60,5 @@ fault_of text =
     (byte_fault text))))
 
 -- this is the first fault of the text
-abbrev pub HasFault : List ℕ → VersionError → Type 0
-HasFault text fault = fault_of text ≡ Some fault
+abbrev pub IsTextFault : List ℕ → VersionError → Type 0
+IsTextFault text fault = fault_of text ≡ Some fault

@@ -3,7 +3,7 @@ pub mod Faults
 pub mod Order
 pub mod Between
 pub mod Kept
-pub mod Cuts
+pub mod CutLaws
 pub mod TextLaws
 pub mod OrderLaws
 pub mod Examples

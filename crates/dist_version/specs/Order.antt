@@ -9,7 +9,8 @@ use Rattle.std.specs.List.{take_while}
 use Rattle.std.specs.Option.{unwrap_or}
 use Rattle.std.specs.Ordering.{ordering_then, nat_cmp, int_cmp}
 use Rattle.std.specs.Str.Parse.{digits_value}
-use Rattle.dist_version.specs.Spelling.{tilde, epoch_of, upstream_of, revision_of}
+use Rattle.dist_base.specs.Ascii.{tilde}
+use Rattle.dist_version.specs.Spelling.{epoch_of, upstream_of, revision_of}
 
 -- of a byte that is no digit: -1 for `~`, its code for a letter, and its code and 256 for any other
 abbrev pub weight_of : ℕ → ℤ

@@ -6,23 +6,8 @@ use Rattle.std.specs.Char.{is_ascii_alphanumeric, is_ascii_digit}
 use Rattle.std.specs.List.{list_any, list_all}
 use Rattle.std.specs.Option.{option_map, option_map_or, option_or}
 use Rattle.std.specs.Str.Parse.{digits_value}
+use Rattle.dist_base.specs.Ascii.{colon, hyphen}
 use Rattle.dist_version.specs.declared.TheConstants.{MAX_EPOCH}
-
-abbrev pub colon : ℕ
-colon = 58
-
-abbrev pub hyphen : ℕ
-hyphen = 45
-
-abbrev pub tilde : ℕ
-tilde = 126
-
-abbrev pub plus : ℕ
-plus = 43
-
--- the digit 0
-abbrev pub digit_zero : ℕ
-digit_zero = 48
 
 -- the byte stands somewhere in the bytes
 abbrev pub has : ℕ → List ℕ → Bool

@@ -9,17 +9,18 @@ use Rattle.std.specs.Option.{option_map_or, option_or, unwrap_or}
 use Rattle.std.specs.Str.Parse.{digits_value}
 use Rattle.std.proofs.lemmas.Bool.{false≢true, and_parts, and_from, or_parts, or_from, false_from_ne_true, cases_Bool}
 use Rattle.std.proofs.lemmas.Iterator.Adapters.{position_from-zero}
+use Rattle.dist_base.specs.Ascii.{colon, hyphen}
 use Rattle.dist_base.specs.Answers.{IsExact}
 use Rattle.dist_version.specs.declared.TheConstants.{MAX_EPOCH}
 use Rattle.dist_version.specs.declared.error.VersionError.{VersionError}
 use Rattle.dist_version.specs.declared.error.VersionError.TheVariants.{NoMemory, BadEpoch, EpochTooLarge, BadByte}
-use Rattle.dist_version.specs.Spelling.{ReadsVersion, colon, hyphen, has, is_upstream_byte, is_revision_byte, IsMadeOf}
+use Rattle.dist_version.specs.Spelling.{ReadsVersion, has, is_upstream_byte, is_revision_byte, IsMadeOf}
 use Rattle.dist_version.specs.Spelling.{Parts, Spells, SpellsEpoch, revision_text, IsVersion, split_once, rsplit_once}
 use Rattle.dist_version.specs.Spelling.{epoch_digits, after_epoch, epoch_of, upstream_of, revision_of, parts_of}
-use Rattle.dist_version.specs.Faults.{HasFault, empty_fault, epoch_fault, upstream_fault, revision_fault, bad_byte}
+use Rattle.dist_version.specs.Faults.{IsTextFault, empty_fault, epoch_fault, upstream_fault, revision_fault, bad_byte}
 use Rattle.dist_version.specs.Faults.{byte_fault, upstream_start, revision_start, fault_of}
-use Rattle.dist_version.specs.Cuts.{CutsFirst, CutsLast, split_once-at, split_once-none, cases_split, rsplit_once-at}
-use Rattle.dist_version.specs.Cuts.{rsplit_once-none, cases_rsplit}
+use Rattle.dist_version.specs.CutLaws.{CutsFirst, CutsLast, split_once-at, split_once-none, cases_split, rsplit_once-at}
+use Rattle.dist_version.specs.CutLaws.{rsplit_once-none, cases_rsplit}
 
 -- bytes that all pass a test lack a byte that doesn't
 pub lacks : (byte : ℕ) (test : ℕ → Bool) (bytes : List ℕ) → test byte ≡ false → list_all test bytes ≡ true
@@ -420,11 +421,11 @@ some_same : (f g : VersionError) → Some f ≡ Some g → f ≡ g
 some_same f g e = cc
 
 cases_fault : (text : List ℕ) (o : Option VersionError) → fault_of text ≡ o
-    → ((version : List ℕ) × ReadsVersion text version) ⊎ ((fault : VersionError) × HasFault text fault)
+    → ((version : List ℕ) × ReadsVersion text version) ⊎ ((fault : VersionError) × IsTextFault text fault)
 cases_fault text None e = inl (text, (refl, version_from_no_fault text e))
 cases_fault text (Some fault) e = inr (fault, e)
 
-pub exact_texts : (text : List ℕ) → IsExact (ReadsVersion text) (HasFault text)
+pub exact_texts : (text : List ℕ) → IsExact (ReadsVersion text) (IsTextFault text)
 exact_texts text = record {
   some = cases_fault text (fault_of text) refl;
   one_reading = λ version other h k. h.0 ∙ sym k.0;

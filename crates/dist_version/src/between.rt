@@ -1,6 +1,6 @@
 //! Versions in between: just above a version, below one, and one without the suffix of a rebuild.
 ghost use Rattle.std.specs.Prelude.{◌≡◌, ◌≤◌, ◌++◌, ℕ, List, IfOk, OnOk, MatchOption, length, replicate};
-ghost use Rattle.dist_version.specs.Spelling.{tilde};
+ghost use Rattle.dist_base.specs.Ascii.{tilde};
 ghost use Rattle.dist_version.specs.Order.{IsBelow};
 ghost use Rattle.dist_version.specs.Between.{ends_in_digit, extension, above_text, below_text, is_rebuild, without_rebuild_text};
 ghost use Rattle.dist_version.specs.Kept.{Keeps};

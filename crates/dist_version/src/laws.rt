@@ -5,18 +5,18 @@ ghost use Rattle.std.specs.declared.cmp.Ordering.TheVariants.{Less, Equal};
 ghost use Rattle.dist_base.specs.Answers.{IsExact};
 ghost use Rattle.dist_version.specs.declared.error.VersionError.TheVariants.{NoMemory};
 ghost use Rattle.dist_version.specs.Spelling.{Parts, Spells, IsVersion, ReadsVersion, parts_of};
-ghost use Rattle.dist_version.specs.Faults.{fault_of, HasFault};
+ghost use Rattle.dist_version.specs.Faults.{fault_of, IsTextFault};
 ghost use Rattle.dist_version.specs.Between.{above_text, below_text, without_rebuild_text, IsRebuildOf};
 ghost use Rattle.dist_version.specs.Order.{weight_of, text_start, after_turn, number_of, weights_of, IsLighter, part_cmp, version_cmp, IsBelow};
 
 /// Each text spells one version or has one first fault.
 pub fn texts_are_exact()
-    ensures exact { (text : List ℕ) → IsExact (ReadsVersion text) (HasFault text) }
+    ensures exact { (text : List ℕ) → IsExact (ReadsVersion text) (IsTextFault text) }
 
     // A text has no fault exactly where it spells a version, and it spells at most one. Want of memory is no fault of a text.
     ensures versions { (text : List ℕ) → (fault_of text ≡ None) ↔ IsVersion text }
     ensures one { (text : List ℕ) (version : Parts) → Spells text version → version ≡ parts_of text }
-    ensures memory { (text : List ℕ) → ¬ HasFault text NoMemory }
+    ensures memory { (text : List ℕ) → ¬ IsTextFault text NoMemory }
 {}
 
 /// Of two upstream versions or revisions the first difference of their weights decides, with zeros past the end.

@@ -5,7 +5,7 @@ ghost use Rattle.std.specs.Prelude.{◌≡◌, ◌↔◌, ℕ, List, None, IfOk,
 ghost use Rattle.std.specs.Option.{option_copied};
 ghost use Rattle.dist_base.specs.Answers.{Answers};
 ghost use Rattle.dist_version.specs.Spelling.{Spells, ReadsVersion, parts_of, epoch_of, upstream_of, revision_of};
-ghost use Rattle.dist_version.specs.Faults.{fault_of, HasFault};
+ghost use Rattle.dist_version.specs.Faults.{fault_of, IsTextFault};
 ghost use Rattle.dist_version.specs.Order.{version_cmp};
 ghost use Rattle.dist_version.specs.Kept.{Keeps};
 
@@ -50,7 +50,7 @@ impl Version {
     /// Reads a version and keeps a copy of its text.
     pub fn read(alloc: Global, bytes: &[u8]) -> Result<Version, VersionError>
         // The version of this text, or the text's first fault.
-        ensures { Answers (ReadsVersion bytes.now) (HasFault bytes.now) VersionError.NoMemory result }
+        ensures { Answers (ReadsVersion bytes.now) (IsTextFault bytes.now) VersionError.NoMemory result }
     {
         let places = places_of(bytes)?;
         let text = SmallVec::from_slice(alloc, bytes)?;

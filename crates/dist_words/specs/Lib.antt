@@ -1,6 +1,6 @@
 pub mod Clap
 pub mod CommandLine
 pub mod Lines
-pub mod SimpleCommand
+pub mod SimpleCommandPrivate
 pub mod Table
-pub mod Tables
+pub mod TableExamples

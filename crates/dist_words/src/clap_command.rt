@@ -6,7 +6,7 @@ ghost use Rattle.clap.specs.Simple.{matches_of};
 ghost use Rattle.clap.specs.Walk.{rows_of};
 ghost use Rattle.clap.specs.declared.builder.value_parser.ValueParser.TheVariants as values;
 ghost use Rattle.dist_words.specs.Clap.{command_rule, files_rule, essential_rule, number_option, simple_command};
-ghost use Rattle.dist_words.specs.SimpleCommand.{IsArg, IsMatched, IsSimpleCommand, IsStart};
+ghost use Rattle.dist_words.specs.SimpleCommandPrivate.{IsArg, IsMatched, IsSimpleCommand, IsStart};
 ghost use Rattle.dist_words.specs.declared.error.WordsError.TheVariants.{BadWords};
 
 use crate::error::WordsError;

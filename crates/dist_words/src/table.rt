@@ -3,7 +3,7 @@ ghost use Rattle.std.specs.Prelude.{◌≡◌, IfOk, IfSome, Err, Some, map, opt
 ghost use Rattle.clap.specs.Matches.{found_of};
 ghost use Rattle.clap.specs.Walk.{rows_of};
 ghost use Rattle.dist_words.specs.Clap.{taken_of};
-ghost use Rattle.dist_words.specs.SimpleCommand.{IsMatched};
+ghost use Rattle.dist_words.specs.SimpleCommandPrivate.{IsMatched};
 ghost use Rattle.dist_words.specs.CommandLine.{Health, Classes, Check};
 ghost use Rattle.dist_words.specs.Lines.{HasLimit, IsLimit, IsSize, line_of, names, seen};
 ghost use Rattle.dist_words.specs.Table.{IsBadWords, accepted, command_of, in_table, has_no_limit, has_no_option, has_no_seed, seeded, strong_with, where_allowed, with_none, with_one, with_two};

@@ -4,7 +4,7 @@ ghost use Rattle.clap.specs.Matches.{found_of};
 ghost use Rattle.clap.specs.Walk.{rows_of};
 ghost use Rattle.dist_words.specs.Clap.{options_of};
 ghost use Rattle.dist_words.specs.Lines.{IsLimit, IsSize, seen};
-ghost use Rattle.dist_words.specs.SimpleCommand.{IsMatched};
+ghost use Rattle.dist_words.specs.SimpleCommandPrivate.{IsMatched};
 
 use clap::ArgMatches;
 

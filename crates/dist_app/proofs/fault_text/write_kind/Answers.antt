@@ -1,5 +1,5 @@
 use Rattle.std.proofs.Common.{ℕ, List, ◌∙◌, ap, decimal, subst}
-use Rattle.dist_app.specs.Writes.{Writes}
+use Rattle.dist_app.specs.WritesPrivate.{Writes}
 use Rattle.dist_app.proofs.KindText.{two_pieces, clash_carried, relation_carried, nothing_carried}
 use Rattle.dist_app.proofs.fault_text.write_kind.Goals as goal
 

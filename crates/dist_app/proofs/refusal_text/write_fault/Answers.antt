@@ -1,6 +1,6 @@
 use Rattle.std.proofs.Common.{ℕ, List, ◌++◌, ◌∙◌, Err, subst}
 use Rattle.dist_app.specs.FaultText.{kind_name, carried_text}
-use Rattle.dist_app.specs.Writes.{Writes}
+use Rattle.dist_app.specs.WritesPrivate.{Writes}
 use Rattle.dist_app.proofs.KindText.{fault_line}
 use Rattle.dist_app.proofs.Writing.{writes_then, writes_cut}
 use Rattle.dist_app.proofs.refusal_text.write_fault.Goals as goal

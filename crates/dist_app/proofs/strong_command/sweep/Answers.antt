@@ -1,5 +1,5 @@
 use Rattle.std.proofs.Common.{subst, sym}
-use Rattle.dist_app.specs.Due.{SweepStops}
+use Rattle.dist_app.specs.DuePrivate.{SweepStops}
 use Rattle.dist_app.specs.declared.refusal.Refusal.{Refusal}
 use Rattle.dist_app.proofs.Sweeping.{swept, unreported, sweep_refused}
 use Rattle.dist_app.proofs.strong_command.sweep.Goals as goal

@@ -1,5 +1,5 @@
 use Rattle.std.proofs.Common.{sym, subst}
-use Rattle.dist_app.specs.Due.{IsPartGivenUp}
+use Rattle.dist_app.specs.DuePrivate.{IsPartGivenUp}
 use Rattle.dist_app.specs.Try.{Tries, TryStages}
 use Rattle.dist_app.specs.declared.refusal.Refusal.{Refusal}
 use Rattle.dist_app.proofs.Trying.{tried, untried}

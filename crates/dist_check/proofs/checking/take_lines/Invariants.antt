@@ -2,7 +2,7 @@ use Rattle.std.proofs.Common.{◌≡◌, ◌-◌, ◌^◌, List, Option, ℕ, No
 use Rattle.dist_outside.specs.DeskView.{OnlyReads}
 use Rattle.dist_outside.specs.Files.{IsReading}
 use Rattle.dist_cert.specs.Reading.{text_left}
-use Rattle.dist_check.specs.Checked.{IsChecked}
+use Rattle.dist_check.specs.CheckedPrivate.{IsChecked}
 use Rattle.dist_check.proofs.checking.take_lines.Given as goal
 
 abbrev pub invariant-lines : goal.invariant-lines

@@ -1,5 +1,5 @@
 use Rattle.std.proofs.Common.{⊎_elim}
-use Rattle.dist_cert.specs.SomeVerdict.{some_verdict}
+use Rattle.dist_cert.specs.SomeVerdictLaws.{some_verdict}
 use Rattle.dist_subject.specs.Present.{subject_of}
 use Rattle.dist_check.proofs.laws.each_text_has_a_verdict.Goals as goal
 

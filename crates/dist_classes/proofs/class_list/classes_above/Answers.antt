@@ -1,6 +1,6 @@
 use Rattle.std.proofs.Common.{inl, ◌∙◌, ap, ◌++◌, List}
 use Rattle.dist_classes.specs.ClassList.{classes_above}
-use Rattle.dist_classes.specs.Sorted.{cuts_after}
+use Rattle.dist_classes.specs.SortedPrivate.{cuts_after}
 use Rattle.dist_classes.specs.declared.class_value.Class.{Class}
 use Rattle.dist_classes.proofs.SortedLemmas.{cuts-rise}
 use Rattle.dist_classes.proofs.class_list.classes_above.Goals as goal

@@ -1,6 +1,6 @@
 use Rattle.std.proofs.Common.{inr, ◌∙◌, ap, ◌++◌, List}
 use Rattle.dist_classes.specs.ClassList.{classes_of_all}
-use Rattle.dist_classes.specs.Sorted.{cuts_of}
+use Rattle.dist_classes.specs.SortedPrivate.{cuts_of}
 use Rattle.dist_classes.specs.declared.class_value.Class.{Class}
 use Rattle.dist_classes.proofs.SortedLemmas.{all-rise}
 use Rattle.dist_classes.proofs.class_list.classes_of_all.Goals as goal

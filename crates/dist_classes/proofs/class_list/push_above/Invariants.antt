@@ -1,6 +1,6 @@
 use Rattle.std.proofs.Common.{◌≡◌, ◌++◌, length}
 use Rattle.dist_classes.specs.ClassList.{classes_above}
-use Rattle.dist_classes.specs.Sorted.{cuts_after}
+use Rattle.dist_classes.specs.SortedPrivate.{cuts_after}
 use Rattle.dist_classes.proofs.class_list.push_above.Given as goal
 
 -- what is there and what is still to come are all

@@ -1,7 +1,7 @@
 use Rattle.std.proofs.Common.{ℕ, List, sym, subst}
 use Rattle.dist_classes.specs.ClassList.{IsOfClass}
 use Rattle.dist_classes.specs.declared.class_value.Class.{Class}
-use Rattle.dist_classes.specs.VersionOrder.{equal-itself}
+use Rattle.dist_classes.specs.VersionOrderLaws.{equal-itself}
 use Rattle.dist_classes.proofs.class_value.example.Goals as goal
 
 pub returns-in_ok-try_clone-in-Point-clause-inside : goal.returns-in_ok-try_clone-in-Point-clause-inside

@@ -1,6 +1,6 @@
 use Rattle.std.proofs.Common.{sym, ap, ◌∙◌}
 use Rattle.std.proofs.lemmas.Bool.{not-true}
-use Rattle.dist_control.specs.Bytes.{is_white}
+use Rattle.dist_base.specs.Ascii.{is_white}
 use Rattle.dist_control.proofs.TrimLemmas.{trim-between}
 use Rattle.dist_control.proofs.field.is_trimmed.Goals as goal
 

@@ -1,7 +1,7 @@
 use Rattle.std.proofs.Common.{◌≡◌, ◌+◌, ◌-◌, ◌<◌, ℕ, List, length, get_or, take, drop, reverse, sym, ap, ◌∙◌, arith}
 use Rattle.std.proofs.lemmas.Bool.{both_ways}
 use Rattle.std.proofs.lemmas.List.{take_rest, get_or-drop, length-drop}
-use Rattle.dist_control.specs.Bytes.{is_white}
+use Rattle.dist_base.specs.Ascii.{is_white}
 use Rattle.dist_control.specs.Fields.{trim_start}
 use Rattle.dist_control.proofs.TrimLemmas.{not_white, white, trim_start-at, trim_start-all, trim_end-at}
 use Rattle.dist_control.proofs.field.without_white_ends.Goals as goal

@@ -5,8 +5,8 @@ use Rattle.std.proofs.lemmas.List.{get_or_default}
 use Rattle.dist_base.specs.Least.{IsLeastIfAny}
 use Rattle.dist_base.specs.ListLaws.{within-from}
 use Rattle.dist_repo.specs.Providers.{IsProvider}
-use Rattle.dist_space_clauses.specs.Gathering.{IsLaterOf}
-use Rattle.dist_future.specs.Matching.{IsMovedBut}
+use Rattle.dist_space_clauses.specs.GatheringPrivate.{IsLaterOf}
+use Rattle.dist_future.specs.MatchingPrivate.{IsMovedBut}
 use Rattle.dist_future.proofs.FoundLemmas.{OneOf, moved-one, moved-provided, none-moved, providers-all}
 use Rattle.dist_future.proofs.Leasts.{Before, least-more, least-skip}
 use Rattle.dist_future.proofs.found.moved_found.Goals.{then-not-is_left_out, else-not-is_left_out}

@@ -1,6 +1,6 @@
 use Rattle.dist_base.specs.Least.{IsLeastIfAny}
-use Rattle.dist_space_clauses.specs.Gathering.{IsLaterOf}
-use Rattle.dist_future.specs.Matching.{IsMovedBut}
+use Rattle.dist_space_clauses.specs.GatheringPrivate.{IsLaterOf}
+use Rattle.dist_future.specs.MatchingPrivate.{IsMovedBut}
 use Rattle.dist_future.proofs.FoundLemmas.{OneOf}
 use Rattle.dist_future.proofs.Leasts.{Before}
 use Rattle.dist_future.proofs.found.moved_found.Given as goal

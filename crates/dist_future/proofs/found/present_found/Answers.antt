@@ -5,7 +5,7 @@ use Rattle.std.proofs.lemmas.List.{get_or_default}
 use Rattle.dist_base.specs.Least.{IsLeastIfAny}
 use Rattle.dist_base.specs.ListLaws.{within-from}
 use Rattle.dist_repo.specs.Providers.{IsProvider}
-use Rattle.dist_future.specs.Matching.{IsPresentBut}
+use Rattle.dist_future.specs.MatchingPrivate.{IsPresentBut}
 use Rattle.dist_future.proofs.FoundLemmas.{IsPresentOf, OneOf, none-left, present-one, present-provided, providers-all}
 use Rattle.dist_future.proofs.Leasts.{Before, least-more, least-skip}
 use Rattle.dist_future.proofs.found.present_found.Goals.{then-not-is_left_out, else-not-is_left_out}

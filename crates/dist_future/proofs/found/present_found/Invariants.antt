@@ -1,5 +1,5 @@
 use Rattle.dist_base.specs.Least.{IsLeastIfAny}
-use Rattle.dist_future.specs.Matching.{IsPresentBut}
+use Rattle.dist_future.specs.MatchingPrivate.{IsPresentBut}
 use Rattle.dist_future.proofs.FoundLemmas.{IsPresentOf, OneOf}
 use Rattle.dist_future.proofs.Leasts.{Before}
 use Rattle.dist_future.proofs.found.present_found.Given as goal

@@ -1,5 +1,5 @@
 use Rattle.std.proofs.Common.{◌≢◌, ℕ, ◌+◌, ◌<◌, inl, inr, refl, arith, subst, sym, Option}
-use Rattle.dist_future.specs.Matching.{IsRejectedFrom}
+use Rattle.dist_future.specs.MatchingPrivate.{IsRejectedFrom}
 use Rattle.dist_future.proofs.ConflictPairs.{IsLeastSeenIfAny, below-from, conflicting-first, conflicting-second, least-conflict, never-itself, seen-none}
 use Rattle.dist_future.proofs.ConflictPairs.{seen-some}
 use Rattle.dist_future.proofs.health.conflict.Goals.{in-Some+then-variable-other, in-Some+else-variable-other, in_default}

@@ -1,6 +1,6 @@
 use Rattle.std.proofs.Common.{arith, refl}
 use borrow.Author.Count.{below_more}
-use Rattle.dist_future.specs.Matching.{IsUnmetItem}
+use Rattle.dist_future.specs.MatchingPrivate.{IsUnmetItem}
 use Rattle.dist_future.proofs.UnmetLemmas.{count-more, place-fits, unmet-none, unmet-past}
 use Rattle.dist_future.proofs.health.unmet_item.Goals as goal
 

@@ -1,5 +1,5 @@
 use Rattle.std.specs.Prelude.{◌≤◌, length, sum_by, take}
-use Rattle.dist_future.specs.Matching.{IsUnmetItem}
+use Rattle.dist_future.specs.MatchingPrivate.{IsUnmetItem}
 use Rattle.dist_future.proofs.Leasts.{IsNoneTo}
 use Rattle.dist_future.proofs.health.unmet_item.Given as goal
 

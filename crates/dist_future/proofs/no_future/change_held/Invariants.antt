@@ -1,4 +1,4 @@
-use Rattle.dist_future.specs.Matching.{IsChangeAt}
+use Rattle.dist_future.specs.MatchingPrivate.{IsChangeAt}
 use Rattle.dist_future.proofs.Leasts.{IsNoneTo}
 use Rattle.dist_future.proofs.no_future.change_held.Given as goal
 

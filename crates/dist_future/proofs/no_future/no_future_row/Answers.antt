@@ -1,7 +1,7 @@
 use Rattle.std.proofs.Common.{◌+◌, ℕ, subst, refl, sym, arith}
 use Rattle.std.specs.Prelude.{slice_index}
 use Rattle.dist_base.specs.Least.{IsLeastIfAny}
-use Rattle.dist_future.specs.Matching.{IsChangeAt, IsHeldFrom, IsLacking}
+use Rattle.dist_future.specs.MatchingPrivate.{IsChangeAt, IsHeldFrom, IsLacking}
 use Rattle.dist_space.specs.declared.meaning.Meaning.{Meaning}
 use Rattle.dist_space.specs.declared.meaning.Meaning.TheVariants.{Now, Present, At, New, Kept, Fresh}
 use Rattle.dist_future.proofs.FoundLemmas.{holds-from}

@@ -1,6 +1,6 @@
 use Rattle.std.proofs.Common.{drop}
 use Rattle.std.specs.List.{prefix_len}
-use Rattle.dist_list.specs.LineParts.{is_padding}
+use Rattle.dist_base.specs.Ascii.{is_padding}
 use Rattle.dist_list.proofs.PartLemmas.{parts-drop_padding, past_padding, parts-at_part}
 use Rattle.dist_list.proofs.line_parts.split_part.Goals as goal
 

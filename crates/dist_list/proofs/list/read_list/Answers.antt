@@ -1,7 +1,7 @@
 use Rattle.std.proofs.Common.{◌≡◌, List, [], ℕ, arith, subst, sym}
 use Rattle.std.proofs.lemmas.Bool.{eqb-true}
 use Rattle.std.proofs.lemmas.List.{nil_from_length}
-use Rattle.dist_list.specs.Listed.{ReadSoFar}
+use Rattle.dist_list.specs.ListedPrivate.{ReadSoFar}
 use Rattle.dist_list.proofs.Lists.{ReadSoFar-none, ReadSoFar-marked, ReadSoFar-end, Marks-true}
 use Rattle.dist_list.proofs.list.read_list.Goals as goal
 

@@ -1,5 +1,5 @@
 use Rattle.std.proofs.Common.{◌+◌, ◌≤◌, length}
-use Rattle.dist_list.specs.Listed.{ReadSoFar}
+use Rattle.dist_list.specs.ListedPrivate.{ReadSoFar}
 use Rattle.dist_list.proofs.list.read_list.Given as goal
 
 -- the lines that were read name these packages

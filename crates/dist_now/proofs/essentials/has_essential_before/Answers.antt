@@ -1,5 +1,5 @@
 use Rattle.std.proofs.Common.{ℕ, Option, subst}
-use Rattle.dist_now.specs.Gathering.{IsLastEssential}
+use Rattle.dist_now.specs.GatheringPrivate.{IsLastEssential}
 use Rattle.dist_now.proofs.NameFronts.{last-named, named-last, none-named}
 use Rattle.dist_now.proofs.essentials.has_essential_before.Goals as goal
 

@@ -1,5 +1,5 @@
 use Rattle.std.specs.Prelude.{◌≡◌, ◌<◌}
-use Rattle.dist_now.specs.Rows.{IsLater}
+use Rattle.dist_now.specs.RowsPrivate.{IsLater}
 use Rattle.dist_now.proofs.LeastLemmas.{IsNoneTo}
 use Rattle.dist_now.proofs.faults.later_version.Given as goal
 

@@ -5,7 +5,7 @@ use Rattle.dist_base.specs.ListLaws.{element-is, has-at, some-element}
 use Rattle.dist_relation.specs.declared.atom.Atom.{Atom}
 use Rattle.dist_repo.specs.Healthy.{IsMet}
 use Rattle.dist_now.specs.Members.{members_of}
-use Rattle.dist_now.specs.Rows.{IsUnmetItem}
+use Rattle.dist_now.specs.RowsPrivate.{IsUnmetItem}
 use Rattle.dist_now.proofs.Sizes.{count-more, place-fits}
 use Rattle.dist_now.proofs.faults.unmet_item.Goals as goal
 

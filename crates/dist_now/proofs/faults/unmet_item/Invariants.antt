@@ -1,5 +1,5 @@
 use Rattle.std.specs.Prelude.{◌≤◌, length, sum_by, take}
-use Rattle.dist_now.specs.Rows.{IsUnmetItem}
+use Rattle.dist_now.specs.RowsPrivate.{IsUnmetItem}
 use Rattle.dist_now.proofs.LeastLemmas.{IsNoneTo}
 use Rattle.dist_now.proofs.faults.unmet_item.Given as goal
 

@@ -1,4 +1,4 @@
-use Rattle.dist_now.specs.Gathering.{IsLastEssential}
+use Rattle.dist_now.specs.GatheringPrivate.{IsLastEssential}
 use Rattle.dist_now.specs.Health.{IsMissing}
 use Rattle.dist_now.proofs.LeastLemmas.{IsNoneTo}
 use Rattle.dist_now.proofs.judging.missing.Given as goal

@@ -1,5 +1,5 @@
 use Rattle.std.proofs.Common.{◌+◌, arith, [], refl}
-use Rattle.dist_now.specs.Gathering.{IsMatchedAt}
+use Rattle.dist_now.specs.GatheringPrivate.{IsMatchedAt}
 use Rattle.dist_now.proofs.AddsLemmas.{UpTo, adds-more, adds-moved, adds-repeated}
 use Rattle.dist_now.proofs.NumberLemmas.{meeting-all}
 use Rattle.dist_now.proofs.numbers.gather_meeting.Goals.{then-not-is_repeated_in_item+in_ok-add_alternative, else-not-is_repeated_in_item}

@@ -1,5 +1,5 @@
 use Rattle.std.proofs.Common.{ℕ, List, [], subst}
-use Rattle.dist_now.specs.Gathering.{Adds}
+use Rattle.dist_now.specs.GatheringPrivate.{Adds}
 use Rattle.dist_now.proofs.PairFronts.{seconds-are}
 use Rattle.dist_now.proofs.VersionLemmas.{IsVersion}
 use Rattle.dist_now.proofs.present_clauses.gather_apart.Goals as goal

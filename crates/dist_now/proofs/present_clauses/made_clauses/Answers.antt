@@ -1,7 +1,7 @@
 use Rattle.std.proofs.Common.{Bool, true, false, subst, sym, refl}
 use Rattle.std.proofs.lemmas.Result.{err_from_is_err_and}
 use Rattle.dist_clause.specs.ClauseList.{ClauseList}
-use Rattle.dist_now.specs.Gathering.{IsCauseAt, IsFront}
+use Rattle.dist_now.specs.GatheringPrivate.{IsCauseAt, IsFront}
 use Rattle.dist_now.specs.PresentClauses.{Item}
 use Rattle.dist_now.specs.PresentSet.{IsCause}
 use Rattle.dist_now.proofs.FrontLemmas.{cause-later, cause-too, front-start}

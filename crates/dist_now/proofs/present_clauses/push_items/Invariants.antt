@@ -1,4 +1,4 @@
-use Rattle.dist_now.specs.Gathering.{IsFront}
+use Rattle.dist_now.specs.GatheringPrivate.{IsFront}
 use Rattle.dist_now.specs.PresentClauses.{Item}
 use Rattle.dist_now.proofs.present_clauses.push_items.Given as goal
 

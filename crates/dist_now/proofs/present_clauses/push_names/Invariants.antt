@@ -1,4 +1,4 @@
-use Rattle.dist_now.specs.Gathering.{IsLastEssential, IsNamedFront}
+use Rattle.dist_now.specs.GatheringPrivate.{IsLastEssential, IsNamedFront}
 use Rattle.dist_now.proofs.present_clauses.push_names.Given as goal
 
 -- the clauses of names of earlier packages are there

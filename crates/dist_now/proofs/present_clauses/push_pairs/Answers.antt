@@ -1,7 +1,7 @@
 use Rattle.std.proofs.Common.{false, ◌↔◌, ℕ, List, arith, subst, sym}
 use Rattle.std.proofs.lemmas.Result.{err_from_is_err_and}
 use Rattle.std.specs.Prelude.{Contains}
-use Rattle.dist_now.specs.Gathering.{IsPairIn, IsRejectingPair}
+use Rattle.dist_now.specs.GatheringPrivate.{IsPairIn, IsRejectingPair}
 use Rattle.dist_now.proofs.FrontLemmas.{cause-later, all-pairs}
 use Rattle.dist_now.proofs.present_clauses.push_pairs.Goals as goal
 

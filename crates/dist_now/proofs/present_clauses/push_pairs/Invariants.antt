@@ -1,5 +1,5 @@
 use Rattle.std.proofs.Common.{◌-◌, ◌≤◌, length}
-use Rattle.dist_now.specs.Gathering.{IsFront}
+use Rattle.dist_now.specs.GatheringPrivate.{IsFront}
 use Rattle.dist_now.specs.PresentClauses.{Apart}
 use Rattle.dist_now.proofs.present_clauses.push_pairs.Given as goal
 

@@ -1,4 +1,4 @@
-use Rattle.dist_now.specs.Gathering.{AreSplitAt, IsFront}
+use Rattle.dist_now.specs.GatheringPrivate.{AreSplitAt, IsFront}
 use Rattle.dist_now.specs.PresentClauses.{Apart}
 use Rattle.dist_now.proofs.present_clauses.push_pairs_from.Given as goal
 

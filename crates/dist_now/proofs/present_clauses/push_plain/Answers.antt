@@ -1,6 +1,6 @@
 use Rattle.std.proofs.Common.{false}
 use Rattle.std.proofs.lemmas.Result.{IfErr-weaker}
-use Rattle.dist_now.specs.Gathering.{IsCauseAt}
+use Rattle.dist_now.specs.GatheringPrivate.{IsCauseAt}
 use Rattle.dist_now.proofs.FrontLemmas.{cause-later}
 use Rattle.dist_now.proofs.present_clauses.push_plain.Goals as goal
 

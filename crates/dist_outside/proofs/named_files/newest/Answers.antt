@@ -3,7 +3,7 @@ use Rattle.std.proofs.lemmas.List.{at_drop_all}
 use Rattle.std.specs.Ordering.{nat_cmp}
 use Rattle.std.specs.Cmp.Lexicographic.{slice_cmp, pointwise}
 use Rattle.std.specs.FinMap.{get, get-empty}
-use Rattle.dist_outside.specs.Kept.{files_of}
+use Rattle.dist_outside.specs.KeptPrivate.{files_of}
 use Rattle.dist_outside.proofs.Newest.{newest_from}
 use Rattle.dist_outside.proofs.named_files.newest.Goals as goal
 

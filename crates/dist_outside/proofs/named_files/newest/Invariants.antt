@@ -1,6 +1,6 @@
 use Rattle.std.proofs.Common.{◌≡◌, drop}
 use Rattle.std.specs.FinMap.{get}
-use Rattle.dist_outside.specs.Kept.{files_of}
+use Rattle.dist_outside.specs.KeptPrivate.{files_of}
 use Rattle.dist_outside.proofs.named_files.newest.Given as goal
 
 -- none of the files so far has the name

@@ -1,5 +1,5 @@
 use Rattle.std.proofs.Common.{◌<◌, ◌≤◌, length, ◌-◌, vec_len}
-use Rattle.dist_outside.specs.SoFar.{SoFar}
+use Rattle.dist_outside.specs.SoFarPrivate.{SoFar}
 use Rattle.dist_outside.specs.DeskView.{OnlyReads}
 use Rattle.dist_outside.proofs.whole.read_whole.Given as goal
 

@@ -7,7 +7,7 @@ use Rattle.dist_repo.specs.declared.builder.AddError.{AddError}
 use Rattle.dist_repo.specs.declared.builder.AddError.TheVariants as errors
 use Rattle.dist_repo.specs.declared.package.Package.{Package}
 use Rattle.dist_package.specs.FirstFault.{IsBad}
-use Rattle.dist_package.specs.Steps.{IsClashFault}
+use Rattle.dist_package.specs.StepsPrivate.{IsClashFault}
 use Rattle.dist_package.proofs.reader.add_package.Goals as goal
 
 other-answer : (a : Added) (e : AddError) → (let ok : Result Added AddError = Ok a in let err : Result Added AddError = Err e in ok ≡ err) → ⊥

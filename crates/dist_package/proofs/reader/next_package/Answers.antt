@@ -1,6 +1,6 @@
 use Rattle.std.proofs.Common.{inl, inr}
 use Rattle.dist_package.specs.FirstFault.{HasFieldFault}
-use Rattle.dist_package.specs.Steps.{IsFaulty}
+use Rattle.dist_package.specs.StepsPrivate.{IsFaulty}
 use Rattle.dist_package.proofs.FieldLemmas.{bad-weaker}
 use Rattle.dist_package.proofs.reader.next_package.Goals as goal
 

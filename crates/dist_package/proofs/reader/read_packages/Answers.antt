@@ -2,7 +2,7 @@ use Rattle.std.proofs.Common.{List, None, inl, inr, sym, subst, refl}
 use Rattle.std.proofs.lemmas.Bool.{false≢true}
 use Rattle.dist_repo.specs.Held.{Held}
 use Rattle.dist_control.specs.RawStanza.{raw_stanzas}
-use Rattle.dist_package.specs.Steps.{IsFaulty, IsClashFault}
+use Rattle.dist_package.specs.StepsPrivate.{IsFaulty, IsClashFault}
 use Rattle.dist_package.proofs.SoFar.{IsFileSoFar, file-none, too-many, file-fault, file-clash, file-more, file-all, file-fewer, refused}
 use Rattle.dist_package.proofs.reader.read_packages.Goals as goal
 

@@ -1,6 +1,6 @@
 use Rattle.dist_relation.specs.declared.atom.Kind.TheVariants.{Depends, Conflicts, Provides}
 use Rattle.dist_relation.specs.Grammar.{SpellsAtom, SpellsAlternatives, SpellsProvide}
-use Rattle.dist_relation.specs.Reading.{atom_at, alternatives_at, provide_at}
+use Rattle.dist_relation.specs.ReadingPrivate.{atom_at, alternatives_at, provide_at}
 use Rattle.dist_relation.proofs.ThreeKinds.{alternatives_reader, conflict_reader, provide_reader, one_answer}
 use Rattle.dist_relation.proofs.laws.values_are_exact.Goals as goal
 

@@ -1,7 +1,7 @@
 use Rattle.std.proofs.Common.{◌≡◌, ◌++◌, take}
 use Rattle.std.specs.List.{flat_map}
 use Rattle.dist_relation.specs.Canonical.{behind_bar}
-use Rattle.dist_relation.specs.Written.{AreAtoms}
+use Rattle.dist_relation.specs.WrittenPrivate.{AreAtoms}
 use Rattle.dist_relation.proofs.printing.print_more.Given as goal
 
 -- the atoms so far are printed

@@ -1,8 +1,8 @@
 use Rattle.std.proofs.Common.{◌≡◌, ◌≤◌, length, ap, arith, ◌∷◌, ◌∙◌}
 use Rattle.std.proofs.lemmas.Result.{err_from_is_err_and}
+use Rattle.dist_base.specs.Ascii.{bar}
 use Rattle.dist_relation.specs.declared.atom.Kind.TheVariants.{Depends}
-use Rattle.dist_relation.specs.Bytes.{bar}
-use Rattle.dist_relation.specs.Reading.{atom_at, alternatives_at}
+use Rattle.dist_relation.specs.ReadingPrivate.{atom_at, alternatives_at}
 use Rattle.dist_relation.proofs.Heads.{done}
 use Rattle.dist_relation.proofs.Loops.{start, loop_more, loop_last, loop_fails}
 use Rattle.dist_relation.proofs.ThreeKinds.{atom_shorter}
@@ -34,5 +34,6 @@ loop-atoms-preserved c =
 
 pub returns-in-None : goal.returns-in-None
 returns-in-None c =
-    rw (c.shrink_to_fit.ensures.items, c.in_ok-push.ensures.items) (loop_last bar (atom_at Depends) (atom_shorter Depends) c.loop-atoms.atoms.items c.loop-atoms.text.now c.in_ok-atom.atom
+    rw (c.shrink_to_fit.ensures.items, c.in_ok-push.ensures.items)
+    (loop_last bar (atom_at Depends) (atom_shorter Depends) c.loop-atoms.atoms.items c.loop-atoms.text.now c.in_ok-atom.atom
     c.in_ok-atom.rest.now (alternatives_at c.args.text.now) c.in_ok-atom.ensures c.in-None.ensures c.loop-atoms.invariant)

@@ -1,7 +1,7 @@
 use Rattle.std.proofs.Common.{◌≡◌, suc, length}
+use Rattle.dist_base.specs.Ascii.{bar}
 use Rattle.dist_relation.specs.declared.atom.Kind.TheVariants.{Depends}
-use Rattle.dist_relation.specs.Bytes.{bar}
-use Rattle.dist_relation.specs.Reading.{joined_at, atom_at, alternatives_at}
+use Rattle.dist_relation.specs.ReadingPrivate.{joined_at, atom_at, alternatives_at}
 use Rattle.dist_relation.proofs.Loops.{with_front}
 use Rattle.dist_relation.proofs.values.atoms_of.Given as goal
 

@@ -1,7 +1,7 @@
 use Rattle.std.proofs.Common.{◌≡◌, ◌≤◌, length, ap, arith, ◌∷◌, ◌∙◌}
 use Rattle.std.proofs.lemmas.Result.{err_from_is_err_and}
-use Rattle.dist_relation.specs.Bytes.{comma}
-use Rattle.dist_relation.specs.Reading.{piece_at, items_of}
+use Rattle.dist_base.specs.Ascii.{comma}
+use Rattle.dist_relation.specs.ReadingPrivate.{piece_at, items_of}
 use Rattle.dist_relation.proofs.Loops.{piece_done, entries_start, entries_more, entries_last, entries_fail, piece_shorter}
 use Rattle.dist_relation.proofs.values.entries_of.Goals as goal
 
@@ -42,5 +42,6 @@ returns-in-None g c =
     let reading = g.T.Entry.reading in
     let shorter = piece_shorter reading c.requires in
     let p = c.in_ok-rest.ensures in
-    rw (c.shrink_to_fit.ensures.items, p.2) (entries_last reading shorter c.loop-entries.entries.items c.loop-entries.text.now p.0 c.in_ok-rest.rest.now (items_of reading c.args.value.now) p.1
+    rw (c.shrink_to_fit.ensures.items, p.2) (entries_last reading shorter c.loop-entries.entries.items c.loop-entries.text.now p.0 c.in_ok-rest.rest.now
+    (items_of reading c.args.value.now) p.1
     c.in-None.ensures c.loop-entries.invariant)

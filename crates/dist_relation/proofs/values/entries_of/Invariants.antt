@@ -1,6 +1,6 @@
 use Rattle.std.proofs.Common.{◌≡◌, suc, length}
-use Rattle.dist_relation.specs.Bytes.{comma}
-use Rattle.dist_relation.specs.Reading.{joined_at, piece_at, items_of}
+use Rattle.dist_base.specs.Ascii.{comma}
+use Rattle.dist_relation.specs.ReadingPrivate.{joined_at, piece_at, items_of}
 use Rattle.dist_relation.proofs.Loops.{with_entries}
 use Rattle.dist_relation.proofs.values.entries_of.Given as goal
 

@@ -1,6 +1,6 @@
 use Rattle.dist_relation.specs.declared.atom.Kind.TheVariants.{Conflicts}
 use Rattle.dist_relation.specs.Grammar.{SpellsAtom}
-use Rattle.dist_relation.specs.Reading.{atom_at}
+use Rattle.dist_relation.specs.ReadingPrivate.{atom_at}
 use Rattle.dist_relation.proofs.ThreeKinds.{conflict_reader, conflict_shorter, value_reads, read_fits, read_fault}
 use Rattle.dist_relation.proofs.values.read_atoms.Goals as goal
 

@@ -1,6 +1,6 @@
 use Rattle.dist_relation.specs.declared.atom.Kind.TheVariants.{Depends}
 use Rattle.dist_relation.specs.Grammar.{SpellsAlternatives}
-use Rattle.dist_relation.specs.Reading.{alternatives_at}
+use Rattle.dist_relation.specs.ReadingPrivate.{alternatives_at}
 use Rattle.dist_relation.proofs.ThreeKinds.{alternatives_reader, alternatives_shorter, value_reads, read_fits, read_fault}
 use Rattle.dist_relation.proofs.values.read_depends.Goals as goal
 

@@ -1,6 +1,6 @@
 use Rattle.dist_relation.specs.declared.atom.Kind.TheVariants.{Provides}
 use Rattle.dist_relation.specs.Grammar.{SpellsProvide}
-use Rattle.dist_relation.specs.Reading.{provide_at}
+use Rattle.dist_relation.specs.ReadingPrivate.{provide_at}
 use Rattle.dist_relation.proofs.ThreeKinds.{provide_reader, provide_shorter, value_reads, read_fits, read_fault}
 use Rattle.dist_relation.proofs.values.read_provides.Goals as goal
 

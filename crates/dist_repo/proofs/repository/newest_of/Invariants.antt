@@ -1,5 +1,5 @@
 use Rattle.std.proofs.Common.{◌≡◌, ◌++◌, length}
-use Rattle.dist_repo.specs.Latest.{last_of_names}
+use Rattle.dist_repo.specs.LatestPrivate.{last_of_names}
 use Rattle.dist_repo.proofs.repository.newest_of.Given as goal
 
 -- what was found and what is still to be found are all

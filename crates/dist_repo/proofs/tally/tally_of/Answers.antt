@@ -1,7 +1,7 @@
 use Rattle.std.proofs.Common.{ℕ, List, arith, sym, subst, refl}
 use Rattle.std.proofs.lemmas.Option.{slice_get_read}
 use Rattle.dist_repo.specs.Providers.{IsProvider}
-use Rattle.dist_repo.specs.Tally.{NotesEach}
+use Rattle.dist_repo.specs.TallyPrivate.{NotesEach}
 use Rattle.dist_repo.specs.declared.package.Package.{Package}
 use Rattle.dist_repo.proofs.NotedLemmas.{IsTallyBelow, tally-none, tally-more, tally-all, below-bound}
 use Rattle.dist_repo.proofs.tally.tally_of.Goals as goal

@@ -1,7 +1,7 @@
 use Rattle.std.proofs.Common.{◌≡◌, ℕ, Bool, false, Option, sym, ap, ◌∙◌, slice_get}
 use Rattle.std.specs.Option.{option_map_or}
 use Rattle.dist_cert.specs.declared.records.Claim.{Claim}
-use Rattle.dist_report.specs.ClaimParts.{is_part}
+use Rattle.dist_report.specs.ClaimPartsPrivate.{is_part}
 use Rattle.dist_report.proofs.PickedLemmas.{picked-none, picked-one}
 use Rattle.dist_report.proofs.claim_parts.told.Goals as goal
 use Rattle.dist_report.proofs.claim_parts.told.Goals.{then-is_told+in_ok-push, else-is_told}

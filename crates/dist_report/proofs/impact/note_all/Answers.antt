@@ -1,7 +1,7 @@
 use Rattle.std.proofs.Common.{◌≡◌, ℕ, ◌<◌, List, [], length, get_or, ap, ◌∙◌, arith}
 use Rattle.std.proofs.lemmas.List.{get_or_default}
 use Rattle.dist_cert.specs.Rising.{is_among}
-use Rattle.dist_report.specs.ClaimParts.{noted}
+use Rattle.dist_report.specs.ClaimPartsPrivate.{noted}
 use Rattle.dist_report.proofs.NotedLemmas.{noted-more, noted-none}
 use Rattle.dist_report.proofs.ToldLemmas.{take-past}
 use Rattle.dist_report.proofs.impact.note_all.Goals as goal

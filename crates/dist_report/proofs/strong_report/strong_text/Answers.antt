@@ -1,5 +1,5 @@
 use Rattle.std.proofs.Common.{List, ℕ, ◌++◌, codes, ap, ◌∙◌}
-use Rattle.dist_report.specs.ClaimParts.{is_part}
+use Rattle.dist_report.specs.ClaimPartsPrivate.{is_part}
 use Rattle.dist_report.specs.Lines.{listed}
 use Rattle.dist_report.specs.PackageText.{package_line}
 use Rattle.dist_report.specs.StrongReport.{packages_with, strong_opening}

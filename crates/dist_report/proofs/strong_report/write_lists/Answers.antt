@@ -5,7 +5,7 @@ use Rattle.std.specs.List.{flat_map}
 use Rattle.std.specs.Option.{option_map_or}
 use Rattle.std.proofs.lemmas.Option.{slice_get-get_or}
 use Rattle.dist_cert.specs.declared.records.Claim.{Claim}
-use Rattle.dist_report.specs.ClaimParts.{list_at, list_of}
+use Rattle.dist_report.specs.ClaimPartsPrivate.{list_at, list_of}
 use Rattle.dist_report.specs.Lines.{key_line}
 use Rattle.dist_report.specs.StrongReport.{entry_lines}
 use Rattle.dist_report.proofs.LineLemmas.{lines-all, lines-more}

@@ -1,7 +1,7 @@
 use Rattle.std.proofs.Common.{◌≡◌, ◌++◌, codes, length, take}
 use Rattle.std.specs.Prelude.{◌==◌}
 use Rattle.std.specs.List.{flat_map}
-use Rattle.dist_report.specs.ClaimParts.{list_at}
+use Rattle.dist_report.specs.ClaimPartsPrivate.{list_at}
 use Rattle.dist_report.specs.Lines.{key_line}
 use Rattle.dist_report.specs.StrongReport.{entry_lines}
 use Rattle.dist_report.proofs.strong_report.write_lists.Given as goal

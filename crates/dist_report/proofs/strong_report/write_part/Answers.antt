@@ -1,6 +1,6 @@
 use Rattle.std.proofs.Common.{◌<◌, ℕ, List, ◌++◌, codes, length, sym, ap, subst, ◌∙◌}
 use Rattle.std.specs.Prelude.{All}
-use Rattle.dist_report.specs.ClaimParts.{is_part}
+use Rattle.dist_report.specs.ClaimPartsPrivate.{is_part}
 use Rattle.dist_report.specs.Lines.{listed}
 use Rattle.dist_report.specs.PackageText.{package_line}
 use Rattle.dist_report.proofs.PickedLemmas.{claimed-within}

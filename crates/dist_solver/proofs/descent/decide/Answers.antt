@@ -7,7 +7,7 @@ use Rattle.dist_derive.specs.ClauseLog.{inputs_of}
 use Rattle.dist_derive.specs.Propagation.{AllFalse, IsPropagated, IsSettled}
 use Rattle.dist_derive.specs.TrueLiterals.{HasOutcome}
 use Rattle.dist_derive.specs.declared.true_literals.Outcome.TheVariants.{Open}
-use Rattle.dist_solver.specs.Descent.{IsDecided}
+use Rattle.dist_solver.specs.DescentPrivate.{IsDecided}
 use Rattle.dist_solver.proofs.DecisionLemmas.{decided_more}
 use Rattle.dist_solver.proofs.ModelLemmas.{true_in_values, makes_true}
 use Rattle.dist_solver.proofs.descent.decide.Goals as goal

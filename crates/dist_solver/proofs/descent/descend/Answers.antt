@@ -2,7 +2,7 @@ use Rattle.std.proofs.Common.{◌≡◌, ◌<◌, inl, List, [], length, Option,
 use Rattle.std.proofs.lemmas.List.Elements.{All-nil}
 use Rattle.dist_clause.specs.Formula.{Literal, IsClauseOver}
 use Rattle.dist_derive.specs.ClauseLog.{ClauseLog, inputs_of}
-use Rattle.dist_solver.specs.Descent.{IsDecided, GoesOn}
+use Rattle.dist_solver.specs.DescentPrivate.{IsDecided, GoesOn}
 use Rattle.dist_solver.specs.declared.descent.Descent.{Descent}
 use Rattle.dist_solver.proofs.LessonLemmas.{contains_itself}
 use Rattle.dist_solver.proofs.descent.descend.Goals as goal

@@ -1,5 +1,5 @@
 use Rattle.std.proofs.Common.{◌≡◌, ◌-◌, length}
-use Rattle.dist_solver.specs.Descent.{IsDecided}
+use Rattle.dist_solver.specs.DescentPrivate.{IsDecided}
 use Rattle.dist_solver.proofs.descent.descend.Given as goal
 
 abbrev pub invariant-loop-start : goal.invariant-loop-start

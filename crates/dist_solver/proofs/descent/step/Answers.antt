@@ -1,8 +1,8 @@
 use Rattle.std.proofs.Common.{refl, sym, subst, ◌∙◌}
-use Rattle.dist_derive.specs.Containment.{ContainsAll}
+use Rattle.dist_derive.specs.ContainmentPrivate.{ContainsAll}
 use Rattle.dist_derive.specs.Follows.{EndsFalse}
 use Rattle.dist_solver.specs.Trail.{EndsFrom}
-use Rattle.dist_solver.specs.Descent.{IsDecided}
+use Rattle.dist_solver.specs.DescentPrivate.{IsDecided}
 use Rattle.dist_solver.proofs.descent.step.Goals as goal
 
 pub decide-requires-clause-started : goal.decide-requires-clause-started

@@ -4,7 +4,7 @@ use Rattle.std.proofs.lemmas.List.{length_push}
 use Rattle.dist_derive.specs.ClauseLog.{ClauseLog}
 use Rattle.dist_derive.specs.Follows.{EachLineFollows}
 use Rattle.dist_derive.specs.Cone.{InCone}
-use Rattle.dist_solver.specs.Descent.{IsEnd, IsLesson}
+use Rattle.dist_solver.specs.DescentPrivate.{IsEnd, IsLesson}
 use Rattle.dist_solver.proofs.EvidenceLemmas.{inputs_same, model_of_old, adds_more}
 use Rattle.dist_solver.proofs.search.search.Goals as goal
 

@@ -2,7 +2,7 @@ use Rattle.std.proofs.Common.{ℕ, ◌+◌, [], ◌∷◌, List, length, subst, 
 use Rattle.std.specs.List.{flat_map}
 use Rattle.std.proofs.lemmas.Result.{IfErr-weaker, IfOk-weaker}
 use Rattle.dist_space.specs.Kept.{IsFull}
-use Rattle.dist_space.specs.Numbering.{member_part}
+use Rattle.dist_space.specs.NumberingPrivate.{member_part}
 use Rattle.dist_space.specs.declared.meaning.Meaning.{Meaning}
 use Rattle.dist_space.specs.declared.meaning.Meaning.TheVariants.{At}
 use Rattle.dist_space.proofs.ExtendLemmas.{extend-on, extend-same, full-second}

@@ -1,7 +1,7 @@
 use Rattle.std.proofs.Common.{length, take}
 use Rattle.std.specs.List.{flat_map}
 use Rattle.dist_space.specs.Kept.{IsExtended}
-use Rattle.dist_space.specs.Numbering.{below, class_part}
+use Rattle.dist_space.specs.NumberingPrivate.{below, class_part}
 use Rattle.dist_space.specs.Space.{cluster_classes}
 use Rattle.dist_space.proofs.numbering.add_cluster.Given as goal
 

@@ -1,6 +1,6 @@
 use Rattle.std.proofs.Common.{length, arith}
 use Rattle.std.proofs.lemmas.Result.{err_from_is_err_and}
-use Rattle.dist_space.specs.Numbering.{below, cluster_part}
+use Rattle.dist_space.specs.NumberingPrivate.{below, cluster_part}
 use Rattle.dist_space.proofs.ExtendLemmas.{below-at, extend-all, extend-more, full-at, length-below}
 use Rattle.dist_space.proofs.numbering.add_clusters.Goals as goal
 

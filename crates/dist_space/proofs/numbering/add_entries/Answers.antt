@@ -1,7 +1,7 @@
 use Rattle.std.proofs.Common.{◌≡◌, ℕ, ◌+◌, List, length, map, arith, slice_get, subst, sym, ap}
 use Rattle.std.proofs.lemmas.Result.{err_from_is_err_and}
 use Rattle.dist_space.specs.Kept.{IsExtended, IsFull}
-use Rattle.dist_space.specs.Numbering.{provided_by, usable_from}
+use Rattle.dist_space.specs.NumberingPrivate.{provided_by, usable_from}
 use Rattle.dist_space.specs.declared.meaning.Meaning.TheVariants.{Kept}
 use Rattle.dist_relation.specs.declared.atom.Provide.{Provide}
 use Rattle.dist_space.proofs.ExtendLemmas.{entries-all, extend-entry, full-entry}

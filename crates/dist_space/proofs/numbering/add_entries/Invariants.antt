@@ -1,6 +1,6 @@
 use Rattle.std.proofs.Common.{map, take}
 use Rattle.dist_space.specs.Kept.{IsExtended}
-use Rattle.dist_space.specs.Numbering.{usable_from}
+use Rattle.dist_space.specs.NumberingPrivate.{usable_from}
 use Rattle.dist_space.specs.declared.meaning.Meaning.TheVariants.{Kept}
 use Rattle.dist_space.proofs.numbering.add_entries.Given as goal
 

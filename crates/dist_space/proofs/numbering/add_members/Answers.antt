@@ -1,6 +1,6 @@
 use Rattle.std.proofs.Common.{arith}
 use Rattle.std.proofs.lemmas.Result.{err_from_is_err_and}
-use Rattle.dist_space.specs.Numbering.{member_part}
+use Rattle.dist_space.specs.NumberingPrivate.{member_part}
 use Rattle.std.proofs.lemmas.Option.{slice_get-get_or}
 use Rattle.dist_space.proofs.ExtendLemmas.{full-at}
 use Rattle.dist_space.proofs.numbering.add_members.Goals as goal

@@ -1,7 +1,7 @@
 use Rattle.std.proofs.Common.{length, take}
 use Rattle.std.specs.List.{flat_map}
 use Rattle.dist_space.specs.Kept.{IsExtended}
-use Rattle.dist_space.specs.Numbering.{below, fresh_part}
+use Rattle.dist_space.specs.NumberingPrivate.{below, fresh_part}
 use Rattle.dist_space.proofs.numbering.add_names.Given as goal
 
 abbrev pub invariant-loop-name : goal.invariant-loop-name

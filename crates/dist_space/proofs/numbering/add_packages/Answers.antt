@@ -2,7 +2,7 @@ use Rattle.std.proofs.Common.{◌+◌, [], ◌∷◌, List, length, map, arith, 
 use Rattle.std.specs.List.{flat_map}
 use Rattle.std.proofs.lemmas.Result.{err_from_is_err_and}
 use Rattle.dist_space.specs.Kept.{IsFull}
-use Rattle.dist_space.specs.Numbering.{below}
+use Rattle.dist_space.specs.NumberingPrivate.{below}
 use Rattle.dist_space.specs.declared.meaning.Meaning.{Meaning}
 use Rattle.dist_space.specs.declared.meaning.Meaning.TheVariants.{Present}
 use Rattle.std.proofs.lemmas.List.Concat.{flat_map_single}

@@ -1,7 +1,7 @@
 use Rattle.std.proofs.Common.{[], ◌∷◌, length, take}
 use Rattle.std.specs.List.{flat_map}
 use Rattle.dist_space.specs.Kept.{IsExtended}
-use Rattle.dist_space.specs.Numbering.{below}
+use Rattle.dist_space.specs.NumberingPrivate.{below}
 use Rattle.dist_space.specs.declared.meaning.Meaning.TheVariants.{Present}
 use Rattle.dist_space.proofs.numbering.add_packages.Given as goal
 

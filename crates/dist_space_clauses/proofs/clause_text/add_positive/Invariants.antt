@@ -1,5 +1,5 @@
 use Rattle.std.specs.Prelude.{◌≡◌, ◌++◌, map, take}
-use Rattle.dist_space_clauses.specs.Gathering.{positive}
+use Rattle.dist_space_clauses.specs.GatheringPrivate.{positive}
 use Rattle.dist_space_clauses.proofs.clause_text.add_positive.Given as goal
 
 -- the literals of the variables so far were added

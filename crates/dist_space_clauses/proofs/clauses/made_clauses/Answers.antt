@@ -1,6 +1,6 @@
 use Rattle.std.proofs.Common.{subst, sym}
 use Rattle.dist_clause.specs.ClauseList.{ClauseList}
-use Rattle.dist_space_clauses.specs.Gathering.{IsGroupsFront}
+use Rattle.dist_space_clauses.specs.GatheringPrivate.{IsGroupsFront}
 use Rattle.dist_space_clauses.proofs.GroupFronts.{groups-none}
 use Rattle.dist_space_clauses.proofs.clauses.made_clauses.Goals as goal
 

@@ -5,7 +5,7 @@ use Rattle.dist_base.specs.ListLaws.{any-more}
 use Rattle.dist_repo.specs.Match.{IsUsable}
 use Rattle.dist_repo.specs.PackageList.{PackageList}
 use Rattle.dist_repo.specs.Providers.{AreProviders}
-use Rattle.dist_space_clauses.specs.Gathering.{IsFresh, IsOf}
+use Rattle.dist_space_clauses.specs.GatheringPrivate.{IsFresh, IsOf}
 use Rattle.dist_space.specs.Space.{IsMatched}
 use Rattle.dist_space_clauses.specs.SpaceClauses.{Excludes}
 use Rattle.dist_space.specs.declared.meaning.Meaning.{Meaning}

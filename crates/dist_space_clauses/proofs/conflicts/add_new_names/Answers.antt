@@ -1,7 +1,7 @@
 use Rattle.std.proofs.Common.{refl}
 use Rattle.std.proofs.lemmas.Bool.{false≢true}
 use Rattle.std.proofs.lemmas.Result.{on_ok_weaker}
-use Rattle.dist_space_clauses.specs.Gathering.{IsFresh}
+use Rattle.dist_space_clauses.specs.GatheringPrivate.{IsFresh}
 use Rattle.dist_space.specs.declared.meaning.Meaning.{Meaning}
 use Rattle.dist_space_clauses.proofs.ConflictLemmas.{IsNamedOther, fresh-other, other-fresh}
 use Rattle.dist_space_clauses.proofs.Gathered.{gathers-nothing, gathers-weaker}

@@ -1,7 +1,7 @@
 use Rattle.std.proofs.Common.{◌≡◌, inl, inr, refl}
 use Rattle.std.proofs.lemmas.Bool.{false≢true}
 use Rattle.std.proofs.lemmas.Result.{on_ok_weaker}
-use Rattle.dist_space_clauses.specs.Gathering.{IsLaterOf, IsOf}
+use Rattle.dist_space_clauses.specs.GatheringPrivate.{IsLaterOf, IsOf}
 use Rattle.dist_space.specs.Space.{IsMatchedBy}
 use Rattle.dist_space_clauses.specs.SpaceClauses.{Excludes}
 use Rattle.dist_space.specs.declared.meaning.Meaning.{Meaning}

@@ -1,5 +1,5 @@
 use Rattle.std.proofs.Common.{take}
-use Rattle.dist_space_clauses.specs.Gathering.{Gathers}
+use Rattle.dist_space_clauses.specs.GatheringPrivate.{Gathers}
 use Rattle.dist_space_clauses.specs.SpaceClauses.{Excludes}
 use Rattle.dist_space_clauses.proofs.ConflictLemmas.{IsOneOf}
 use Rattle.dist_space_clauses.proofs.conflicts.add_rejecting.Given as goal

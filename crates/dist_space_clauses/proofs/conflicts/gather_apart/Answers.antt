@@ -1,6 +1,6 @@
 use Rattle.std.proofs.Common.{ℕ, ◌<◌, ◌⊎◌, List, [], length, inl, inr, subst, sym}
 use Rattle.std.specs.Prelude.{All}
-use Rattle.dist_space_clauses.specs.Gathering.{Gathers}
+use Rattle.dist_space_clauses.specs.GatheringPrivate.{Gathers}
 use Rattle.dist_space_clauses.specs.Rejecting.{numbers_at}
 use Rattle.dist_space_clauses.specs.SpaceClauses.{Excludes}
 use Rattle.dist_space.specs.declared.meaning.Meaning.{Meaning}

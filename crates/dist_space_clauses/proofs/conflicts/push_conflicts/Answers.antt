@@ -1,6 +1,6 @@
 use Rattle.std.proofs.Common.{subst, sym}
 use Rattle.std.proofs.lemmas.Option.{slice_get_within}
-use Rattle.dist_space_clauses.specs.Gathering.{AreVariablesOf}
+use Rattle.dist_space_clauses.specs.GatheringPrivate.{AreVariablesOf}
 use Rattle.dist_space_clauses.proofs.GroupFronts.{ExcludedBy, excluded-by}
 use Rattle.dist_space_clauses.proofs.conflicts.push_conflicts.Goals as goal
 

@@ -1,6 +1,6 @@
 use Rattle.std.proofs.Common.{ℕ, ◌+◌, arith, subst, sym}
 use Rattle.std.specs.Prelude.{OnOk}
-use Rattle.dist_space_clauses.specs.Gathering.{IsFront}
+use Rattle.dist_space_clauses.specs.GatheringPrivate.{IsFront}
 use Rattle.dist_space_clauses.proofs.GroupFronts.{no-conflicts}
 use Rattle.dist_space_clauses.proofs.LedFronts.{leads-none}
 use Rattle.dist_space_clauses.proofs.conflicts.push_conflicts_of.Goals as goal

@@ -1,6 +1,6 @@
 use Rattle.std.proofs.Common.{◌≡◌, ◌⊎◌, ◌+◌, ℕ, List, [], length, arith, inl, inr, ap, subst, ◌∙◌}
 use Rattle.std.proofs.lemmas.Option.{slice_get_within}
-use Rattle.dist_space_clauses.specs.Gathering.{Gathers}
+use Rattle.dist_space_clauses.specs.GatheringPrivate.{Gathers}
 use Rattle.dist_space.specs.Space.{cluster_classes}
 use Rattle.dist_space_clauses.specs.SpaceClauses.{IsBearer}
 use Rattle.dist_space.specs.declared.meaning.Meaning.{Meaning}

@@ -1,5 +1,5 @@
 use Rattle.std.proofs.Common.{◌≡◌, ◌⊎◌, []}
-use Rattle.dist_space_clauses.specs.Gathering.{Gathers}
+use Rattle.dist_space_clauses.specs.GatheringPrivate.{Gathers}
 use Rattle.dist_space_clauses.specs.SpaceClauses.{IsBearer}
 use Rattle.dist_space.specs.declared.meaning.Meaning.TheVariants.{New, Present}
 use Rattle.dist_space_clauses.proofs.Gathered.{UpTo}

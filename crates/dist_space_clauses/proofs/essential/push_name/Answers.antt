@@ -5,7 +5,7 @@ use Rattle.dist_clause.specs.ClauseList.{ClauseList}
 use Rattle.dist_clause.specs.Formula.{IsClauseOver}
 use Rattle.dist_repo.specs.Order.{IsInOrder}
 use Rattle.dist_repo.specs.PackageList.{PackageList}
-use Rattle.dist_space_clauses.specs.Gathering.{IsNamedFront, positive}
+use Rattle.dist_space_clauses.specs.GatheringPrivate.{IsNamedFront, positive}
 use Rattle.dist_space_clauses.specs.SpaceClauses.{Required, IsBearer}
 use Rattle.dist_space_clauses.proofs.Fronts.{stops-at}
 use Rattle.dist_space_clauses.proofs.NameFronts.{name-demand, named-before, named-pushed, named-skipped}

@@ -1,4 +1,4 @@
-use Rattle.dist_space_clauses.specs.Gathering.{IsNamedFront}
+use Rattle.dist_space_clauses.specs.GatheringPrivate.{IsNamedFront}
 use Rattle.dist_space_clauses.proofs.essential.push_names.Given as goal
 
 -- the clauses of the names of the packages so far were added

@@ -1,7 +1,7 @@
 use Rattle.std.proofs.Common.{◌+◌, arith}
 use Rattle.std.proofs.lemmas.Result.{err_from_is_err_and}
-use Rattle.dist_space_clauses.specs.Gathering.{IsBelow}
-use Rattle.dist_space_clauses.specs.Groups.{number_of}
+use Rattle.dist_space_clauses.specs.GatheringPrivate.{IsBelow}
+use Rattle.dist_space_clauses.specs.GroupsPrivate.{number_of}
 use Rattle.dist_space_clauses.proofs.GroupFronts.{few-groups, groups-close, groups-open, own-limits, same-cause, same-limits}
 use Rattle.dist_space_clauses.proofs.groups.push_group.Goals as goal
 

@@ -1,5 +1,5 @@
-use Rattle.dist_space_clauses.specs.Gathering.{IsFront}
-use Rattle.dist_space_clauses.specs.Groups.{number_of}
+use Rattle.dist_space_clauses.specs.GatheringPrivate.{IsFront}
+use Rattle.dist_space_clauses.specs.GroupsPrivate.{number_of}
 use Rattle.dist_space_clauses.proofs.groups.push_group.Given as goal
 
 -- the clauses that the variables so far lead were added

@@ -4,7 +4,7 @@ use Rattle.std.proofs.lemmas.Result.{on_ok_weaker}
 use Rattle.dist_repo.specs.Match.{IsUsable}
 use Rattle.dist_repo.specs.PackageList.{PackageList}
 use Rattle.dist_repo.specs.Providers.{AreProviders}
-use Rattle.dist_space_clauses.specs.Gathering.{IsFresh, IsOf}
+use Rattle.dist_space_clauses.specs.GatheringPrivate.{IsFresh, IsOf}
 use Rattle.dist_space.specs.Space.{IsMatched, IsMatchedBy}
 use Rattle.dist_space.specs.declared.meaning.Meaning.{Meaning}
 use Rattle.dist_space_clauses.proofs.Gathered.{gathers-both, gathers-weaker}

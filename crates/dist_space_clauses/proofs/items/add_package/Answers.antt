@@ -1,6 +1,6 @@
 use Rattle.std.proofs.Common.{◌≡◌, inl, inr}
 use Rattle.std.proofs.lemmas.Result.{on_ok_weaker}
-use Rattle.dist_space_clauses.specs.Gathering.{IsLaterOf, IsOf}
+use Rattle.dist_space_clauses.specs.GatheringPrivate.{IsLaterOf, IsOf}
 use Rattle.dist_space.specs.declared.meaning.Meaning.TheVariants.{Present}
 use Rattle.dist_space_clauses.proofs.Gathered.{gathers-both, gathers-weaker}
 use Rattle.dist_space_clauses.proofs.MatchLemmas.{MatchedAnd}

@@ -1,7 +1,7 @@
 use Rattle.std.proofs.Common.{ℕ, get_or, arith}
 use Rattle.std.proofs.lemmas.List.{get_or_default}
 use Rattle.std.proofs.lemmas.Option.{slice_get-get_or}
-use Rattle.dist_space_clauses.specs.Gathering.{IsOf}
+use Rattle.dist_space_clauses.specs.GatheringPrivate.{IsOf}
 use Rattle.dist_space.specs.Space.{IsMatchedBy}
 use Rattle.dist_space.specs.declared.meaning.Meaning.{Meaning}
 use Rattle.dist_space_clauses.proofs.Gathered.{each-more, each-none, each-whole, gathers-weaker}

@@ -1,6 +1,6 @@
 use Rattle.std.proofs.Common.{take}
 use Rattle.std.specs.Prelude.{Any}
-use Rattle.dist_space_clauses.specs.Gathering.{Gathers, IsOf}
+use Rattle.dist_space_clauses.specs.GatheringPrivate.{Gathers, IsOf}
 use Rattle.dist_space.specs.Space.{IsMatchedBy}
 use Rattle.dist_space_clauses.proofs.MatchLemmas.{MatchedAnd}
 use Rattle.dist_space_clauses.proofs.items.add_packages.Given as goal

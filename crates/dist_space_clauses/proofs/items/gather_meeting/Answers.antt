@@ -1,6 +1,6 @@
 use Rattle.std.proofs.Common.{ℕ, List, [], arith, subst, sym}
 use Rattle.dist_base.specs.ListLaws.{any-at}
-use Rattle.dist_space_clauses.specs.Gathering.{Gathers}
+use Rattle.dist_space_clauses.specs.GatheringPrivate.{Gathers}
 use Rattle.dist_space.specs.Space.{IsMatched, IsMetBy}
 use Rattle.dist_space_clauses.proofs.Gathered.{each-more, each-none, each-whole, gathers-weaker, in-order}
 use Rattle.dist_space_clauses.proofs.items.gather_meeting.Goals as goal

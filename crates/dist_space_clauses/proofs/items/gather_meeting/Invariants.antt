@@ -1,5 +1,5 @@
 use Rattle.std.proofs.Common.{[], take}
-use Rattle.dist_space_clauses.specs.Gathering.{Gathers}
+use Rattle.dist_space_clauses.specs.GatheringPrivate.{Gathers}
 use Rattle.dist_space.specs.Space.{IsMetBy}
 use Rattle.dist_space_clauses.proofs.items.gather_meeting.Given as goal
 

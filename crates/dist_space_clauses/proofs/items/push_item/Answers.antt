@@ -5,7 +5,7 @@ use Rattle.std.proofs.lemmas.Result.{IfErr-weaker, on_ok_weaker}
 use Rattle.dist_base.specs.declared.TheConstants.{MAX_VARIABLES}
 use Rattle.dist_clause.specs.ClauseList.{ClauseList}
 use Rattle.dist_clause.specs.Formula.{IsClauseOver, literal}
-use Rattle.dist_space_clauses.specs.Gathering.{IsFront, positive}
+use Rattle.dist_space_clauses.specs.GatheringPrivate.{IsFront, positive}
 use Rattle.dist_space.specs.Space.{IsMetBy, variable_of}
 use Rattle.dist_space.specs.declared.meaning.Meaning.TheVariants.{Present}
 use Rattle.dist_space_clauses.proofs.GroupFronts.{item-pushed, item-skipped, item-stops}

@@ -1,7 +1,7 @@
 use Rattle.std.proofs.Common.{◌+◌, arith}
 use Rattle.std.proofs.lemmas.Option.{slice_get_within}
 use Rattle.std.proofs.lemmas.Result.{err_from_is_err_and}
-use Rattle.dist_space_clauses.specs.Gathering.{IsBelow}
+use Rattle.dist_space_clauses.specs.GatheringPrivate.{IsBelow}
 use Rattle.dist_space.specs.Space.{variable_of}
 use Rattle.dist_space.specs.declared.meaning.Meaning.TheVariants.{Present}
 use Rattle.dist_space_clauses.proofs.GroupFronts.{items-end, own-limits, same-cause, same-limits}

@@ -1,4 +1,4 @@
-use Rattle.dist_space_clauses.specs.Gathering.{IsFront}
+use Rattle.dist_space_clauses.specs.GatheringPrivate.{IsFront}
 use Rattle.dist_space.specs.Space.{variable_of}
 use Rattle.dist_space.specs.declared.meaning.Meaning.TheVariants.{Present}
 use Rattle.dist_space_clauses.proofs.items.push_items.Given as goal

@@ -1,4 +1,4 @@
-use Rattle.dist_space_clauses.specs.Gathering.{IsFront}
+use Rattle.dist_space_clauses.specs.GatheringPrivate.{IsFront}
 use Rattle.dist_space_clauses.proofs.led_clauses.push_later_fresh.Given as goal
 
 abbrev pub invariant-loop-later : goal.invariant-loop-later

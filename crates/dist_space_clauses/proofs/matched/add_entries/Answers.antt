@@ -1,5 +1,5 @@
 use Rattle.std.proofs.Common.{◌≡◌, ℕ, arith}
-use Rattle.dist_space_clauses.specs.Gathering.{IsKeptOf}
+use Rattle.dist_space_clauses.specs.GatheringPrivate.{IsKeptOf}
 use Rattle.dist_space.specs.declared.meaning.Meaning.TheVariants.{Kept}
 use Rattle.dist_space_clauses.proofs.Gathered.{UpTo, count-more, count-none, gathers-weaker}
 use Rattle.dist_space_clauses.proofs.MatchLemmas.{MatchedAnd, kept-among, kept-one}

@@ -1,5 +1,5 @@
 use Rattle.std.proofs.Common.{◌≡◌, arith, sym}
-use Rattle.dist_space_clauses.specs.Gathering.{IsFresh}
+use Rattle.dist_space_clauses.specs.GatheringPrivate.{IsFresh}
 use Rattle.dist_space.specs.declared.meaning.Meaning.TheVariants.{Fresh}
 use Rattle.dist_space_clauses.proofs.Gathered.{UpTo, count-more, count-none, gathers-weaker}
 use Rattle.dist_space_clauses.proofs.MatchLemmas.{MatchedAnd, fresh-among, fresh-one}

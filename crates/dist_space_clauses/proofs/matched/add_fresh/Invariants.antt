@@ -1,5 +1,5 @@
 use Rattle.std.proofs.Common.{◌≡◌}
-use Rattle.dist_space_clauses.specs.Gathering.{Gathers, IsFresh}
+use Rattle.dist_space_clauses.specs.GatheringPrivate.{Gathers, IsFresh}
 use Rattle.dist_space.specs.declared.meaning.Meaning.TheVariants.{Fresh}
 use Rattle.dist_space_clauses.proofs.Gathered.{UpTo}
 use Rattle.dist_space_clauses.proofs.MatchLemmas.{MatchedAnd}

@@ -1,5 +1,5 @@
 use Rattle.std.proofs.Common.{ℕ, length, ap, ◌∙◌, arith}
-use Rattle.dist_space_clauses.specs.Gathering.{IsLaterOf, IsOfVersion}
+use Rattle.dist_space_clauses.specs.GatheringPrivate.{IsLaterOf, IsOfVersion}
 use Rattle.dist_space.specs.Space.{cluster_classes}
 use Rattle.dist_space_clauses.proofs.Gathered.{UpTo, count-more, count-none, gathers-weaker}
 use Rattle.dist_space_clauses.proofs.MatchLemmas.{MatchedAnd, later-version, version-later}

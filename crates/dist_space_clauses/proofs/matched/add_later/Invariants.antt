@@ -1,4 +1,4 @@
-use Rattle.dist_space_clauses.specs.Gathering.{Gathers, IsLaterOf, IsOfVersion}
+use Rattle.dist_space_clauses.specs.GatheringPrivate.{Gathers, IsLaterOf, IsOfVersion}
 use Rattle.dist_space_clauses.proofs.Gathered.{UpTo}
 use Rattle.dist_space_clauses.proofs.MatchLemmas.{MatchedAnd}
 use Rattle.dist_space_clauses.proofs.matched.add_later.Given as goal

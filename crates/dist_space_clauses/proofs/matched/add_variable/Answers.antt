@@ -1,5 +1,5 @@
 use Rattle.std.proofs.Common.{◌≡◌, ℕ, List, subst, sym}
-use Rattle.dist_space_clauses.specs.Gathering.{Adds}
+use Rattle.dist_space_clauses.specs.GatheringPrivate.{Adds}
 use Rattle.dist_space_clauses.proofs.Gathered.{gathers-push}
 use Rattle.dist_space_clauses.proofs.matched.add_variable.Goals as goal
 

@@ -1,6 +1,6 @@
 use Rattle.std.proofs.Common.{◌≡◌}
 use Rattle.std.proofs.lemmas.Result.{on_ok_weaker}
-use Rattle.dist_space_clauses.specs.Gathering.{IsKeptOf, IsOfVersion}
+use Rattle.dist_space_clauses.specs.GatheringPrivate.{IsKeptOf, IsOfVersion}
 use Rattle.dist_space.specs.declared.meaning.Meaning.TheVariants.{New}
 use Rattle.dist_space_clauses.proofs.Gathered.{gathers-both, gathers-weaker}
 use Rattle.dist_space_clauses.proofs.MatchLemmas.{MatchedAnd, kept-of-version, new-of-version, version-cases}

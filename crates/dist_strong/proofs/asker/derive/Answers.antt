@@ -8,8 +8,8 @@ use Rattle.dist_solver.specs.declared.answers.Answer.{Answer}
 use Rattle.dist_solver.specs.declared.answers.AskError.{AskError}
 use Rattle.dist_cert.specs.Refusal.{lines_text}
 use Rattle.dist_cert.specs.declared.records.CertRecord.{CertRecord}
-use Rattle.dist_strong.specs.Script.{PutAll, PutAllStops}
-use Rattle.dist_strong.specs.Words.{AreDerived, derived_lines}
+use Rattle.dist_strong.specs.ScriptPrivate.{PutAll, PutAllStops}
+use Rattle.dist_strong.specs.WordsPrivate.{AreDerived, derived_lines}
 use Rattle.dist_strong.proofs.Answered.{derived-over, small-log}
 use Rattle.dist_strong.proofs.Closing.{DerivesNone, answer-over, derives, derives-none, derives-stopped}
 use Rattle.dist_strong.proofs.OneLine.{by-exit}

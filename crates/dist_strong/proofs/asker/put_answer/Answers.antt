@@ -1,4 +1,4 @@
-use Rattle.dist_strong.specs.Words.{closing_line}
+use Rattle.dist_strong.specs.WordsPrivate.{closing_line}
 use Rattle.dist_strong.proofs.OneLine.{no-memory}
 use Rattle.dist_strong.proofs.asker.put_answer.Goals as goal
 

@@ -1,7 +1,7 @@
 use Rattle.std.proofs.lemmas.Result.{IfErr-weaker, IfOk-weaker}
 use Rattle.dist_outside.specs.DeskView.{DeskView}
-use Rattle.dist_strong.specs.Claiming.{StrongMore}
-use Rattle.dist_strong.specs.Settling.{SettleStops}
+use Rattle.dist_strong.specs.ClaimingPrivate.{StrongMore}
+use Rattle.dist_strong.specs.SettlingPrivate.{SettleStops}
 use Rattle.dist_strong.proofs.Claimed.{group-claimed}
 use Rattle.dist_strong.proofs.OneLine.{two-grow}
 use Rattle.dist_strong.proofs.SettleSteps.{settle-stops}

@@ -3,7 +3,7 @@ use Rattle.dist_outside.specs.DeskView.{DeskView}
 use Rattle.dist_outside.specs.declared.trouble.WorkError.{WorkError}
 use Rattle.dist_outside.specs.declared.trouble.WorkError.TheVariants.{NoMemory}
 use Rattle.dist_cert.specs.declared.records.Claim.{Claim}
-use Rattle.dist_strong.specs.Settling.{SettleStops}
+use Rattle.dist_strong.specs.SettlingPrivate.{SettleStops}
 use Rattle.dist_strong.proofs.ClaimSteps.{strong-more, strong-stops}
 use Rattle.dist_strong.proofs.OneLine.{by-exit}
 use Rattle.dist_strong.proofs.SettleSteps.{memory-stops}

@@ -7,8 +7,8 @@ use Rattle.dist_cert.specs.declared.records.Claim.{Claim}
 use Rattle.dist_cert.specs.ClaimRules.{yes}
 use Rattle.dist_cert.specs.Form.{Word}
 use Rattle.dist_strong.specs.Asking.{AskerView, Holds, IsOver}
-use Rattle.dist_strong.specs.Claiming.{ClaimMore, ClaimStops, StrongMore}
-use Rattle.dist_strong.specs.Settling.{SettleStops}
+use Rattle.dist_strong.specs.ClaimingPrivate.{ClaimMore, ClaimStops, StrongMore}
+use Rattle.dist_strong.specs.SettlingPrivate.{SettleStops}
 use Rattle.dist_strong.specs.Window.{WindowView}
 use Rattle.dist_strong.specs.declared.asker.Reply.{Reply}
 use Rattle.dist_strong.specs.declared.asker.Reply.TheVariants as replies

@@ -7,8 +7,8 @@ use Rattle.dist_cert.specs.declared.records.CertRecord.{CertRecord}
 use Rattle.dist_cert.specs.Form.{record_text}
 use Rattle.dist_cert.specs.Refusal.{lines_text}
 use Rattle.dist_cert.specs.Writing.{ended}
-use Rattle.dist_strong.specs.Script.{IsWriter, KeepsLines, PutAllStops}
-use Rattle.dist_strong.specs.Words.{derived_line, derived_lines}
+use Rattle.dist_strong.specs.ScriptPrivate.{IsWriter, KeepsLines, PutAllStops}
+use Rattle.dist_strong.specs.WordsPrivate.{derived_line, derived_lines}
 use Rattle.dist_strong.proofs.Lists.{map-more, map-split}
 use Rattle.dist_strong.proofs.DerivedLines.{next-at}
 use Rattle.dist_strong.proofs.Keeping.{keeps-front}

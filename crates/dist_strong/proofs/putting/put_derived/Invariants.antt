@@ -2,8 +2,8 @@ use Rattle.std.proofs.Common.{take}
 use Rattle.dist_outside.specs.DeskView.{FileGrew}
 use Rattle.dist_outside.specs.Files.{IsWriting}
 use Rattle.dist_cert.specs.Refusal.{lines_text}
-use Rattle.dist_strong.specs.Script.{PutFront}
-use Rattle.dist_strong.specs.Words.{derived_lines}
+use Rattle.dist_strong.specs.ScriptPrivate.{PutFront}
+use Rattle.dist_strong.specs.WordsPrivate.{derived_lines}
 use Rattle.dist_strong.proofs.putting.put_derived.Given as goal
 
 abbrev pub invariant-loop-place : goal.invariant-loop-place

@@ -3,8 +3,8 @@ use Rattle.dist_outside.specs.DeskView.{DeskView}
 use Rattle.dist_outside.specs.declared.trouble.WorkError.{WorkError}
 use Rattle.dist_outside.specs.declared.trouble.WorkError.TheVariants.{NoMemory}
 use Rattle.dist_solver.specs.Derived.{line_at}
-use Rattle.dist_strong.specs.Script.{PutStops}
-use Rattle.dist_strong.specs.Words.{derived_line}
+use Rattle.dist_strong.specs.ScriptPrivate.{PutStops}
+use Rattle.dist_strong.specs.WordsPrivate.{derived_line}
 use Rattle.dist_strong.proofs.OneLine.{by-exit, stops-for-memory}
 use Rattle.dist_strong.proofs.putting.put_derived_at.Goals as goal
 

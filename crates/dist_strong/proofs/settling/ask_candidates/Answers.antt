@@ -2,7 +2,7 @@ use Rattle.std.proofs.Common.{◌∙◌, Result, IfErr, subst, sym}
 use Rattle.dist_outside.specs.DeskView.{DeskView}
 use Rattle.dist_outside.specs.Files.{IsWriting}
 use Rattle.dist_outside.specs.declared.trouble.WorkError.{WorkError}
-use Rattle.dist_strong.specs.Settling.{SettleStops}
+use Rattle.dist_strong.specs.SettlingPrivate.{SettleStops}
 use Rattle.dist_strong.proofs.Counting.{fewer-open}
 use Rattle.dist_strong.proofs.OneLine.{by-exit, two-grow}
 use Rattle.dist_strong.proofs.SettleSteps.{settle-join, settle-stops}

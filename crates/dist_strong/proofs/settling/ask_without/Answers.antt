@@ -5,7 +5,7 @@ use Rattle.dist_outside.specs.declared.trouble.WorkError.TheVariants.{NoMemory}
 use Rattle.dist_cert.specs.Form.{Word}
 use Rattle.dist_strong.specs.Asking.{Holds}
 use Rattle.dist_strong.specs.Group.{GroupView}
-use Rattle.dist_strong.specs.Settling.{HasSizes, SettleStops, without}
+use Rattle.dist_strong.specs.SettlingPrivate.{HasSizes, SettleStops, without}
 use Rattle.dist_strong.specs.Window.{WindowView}
 use Rattle.dist_strong.specs.declared.asker.Reply.{Reply}
 use Rattle.dist_strong.specs.declared.asker.Reply.TheVariants as replies

@@ -2,7 +2,7 @@ use Rattle.std.proofs.Common.{List, Result, IfErr}
 use Rattle.dist_outside.specs.DeskView.{DeskView}
 use Rattle.dist_outside.specs.declared.trouble.WorkError.{WorkError}
 use Rattle.dist_cert.specs.declared.records.Claim.{Claim}
-use Rattle.dist_strong.specs.Sweeping.{SweepStops}
+use Rattle.dist_strong.specs.SweepingPrivate.{SweepStops}
 use Rattle.dist_strong.proofs.OneLine.{by-exit, two-grow}
 use Rattle.dist_strong.proofs.SweepLines.{header-swept, sweep-end-stops, sweep-first, sweep-later, sweep-whole}
 use Rattle.dist_strong.proofs.sweep.put_all.Goals as goal

@@ -4,7 +4,7 @@ use Rattle.dist_outside.specs.Files.{IsWriting}
 use Rattle.dist_outside.specs.declared.trouble.WorkError.{WorkError}
 use Rattle.dist_outside.specs.declared.trouble.WorkError.TheVariants.{NoMemory}
 use Rattle.dist_cert.specs.declared.records.Claim.{Claim}
-use Rattle.dist_strong.specs.Sweeping.{ClaimsStop}
+use Rattle.dist_strong.specs.SweepingPrivate.{ClaimsStop}
 use Rattle.dist_strong.proofs.OneLine.{by-exit, two-grow}
 use Rattle.dist_strong.proofs.SweepLines.{claims-memory, one-more, one-stops}
 use Rattle.dist_strong.proofs.sweep.put_claims.Goals as goal

@@ -1,7 +1,7 @@
 use Rattle.std.proofs.Common.{◌≡◌, ◌≤◌, length}
 use Rattle.dist_outside.specs.Files.{IsWriting}
-use Rattle.dist_strong.specs.Script.{Grows}
-use Rattle.dist_strong.specs.Sweeping.{ClaimsMore}
+use Rattle.dist_strong.specs.ScriptPrivate.{Grows}
+use Rattle.dist_strong.specs.SweepingPrivate.{ClaimsMore}
 use Rattle.dist_strong.proofs.sweep.put_claims.Given as goal
 
 abbrev pub invariant-loop-place : goal.invariant-loop-place

@@ -2,7 +2,7 @@ use Rattle.std.proofs.Common.{List, Result}
 use Rattle.dist_outside.specs.DeskView.{DeskView}
 use Rattle.dist_outside.specs.declared.trouble.WorkError.{WorkError}
 use Rattle.dist_cert.specs.declared.records.Claim.{Claim}
-use Rattle.dist_strong.specs.Sweeping.{FileAnswers}
+use Rattle.dist_strong.specs.SweepingPrivate.{FileAnswers}
 use Rattle.dist_strong.proofs.OneLine.{by-exit}
 use Rattle.dist_strong.proofs.SweptFile.{IsDone, file-closed, file-refused, file-stopped, file-whole}
 use Rattle.dist_strong.proofs.sweep.write_file.Goals as goal

@@ -1,5 +1,5 @@
 use Rattle.std.proofs.Common.{◌≡◌, take}
-use Rattle.dist_strong.specs.Words.{words_of}
+use Rattle.dist_strong.specs.WordsPrivate.{words_of}
 use Rattle.dist_strong.proofs.words.words_of.Given as goal
 
 abbrev pub invariant-loop-literal : goal.invariant-loop-literal

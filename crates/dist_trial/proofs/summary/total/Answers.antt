@@ -3,7 +3,7 @@ use Rattle.std.proofs.lemmas.List.Sums.{sum_by_more}
 use Rattle.std.proofs.lemmas.Option.{get_or_from_slice_get, slice_get_within}
 use Rattle.std.specs.Prelude.{sum_by}
 use Rattle.dist_cert.specs.declared.records.Claim.{Claim}
-use Rattle.dist_trial.specs.Figures.{figure_in}
+use Rattle.dist_trial.specs.FiguresPrivate.{figure_in}
 use Rattle.dist_trial.proofs.summary.total.Goals as goal
 
 one-more : (f : Claim → ℕ) (made : List Claim) (place : ℕ) (claim : Claim) → slice_get made place ≡ Some claim

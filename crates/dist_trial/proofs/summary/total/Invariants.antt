@@ -1,6 +1,6 @@
 use Rattle.std.proofs.Common.{◌≡◌, ◌*◌, ◌≤◌, take}
 use Rattle.std.specs.Prelude.{sum_by}
-use Rattle.dist_trial.specs.Figures.{figure_in}
+use Rattle.dist_trial.specs.FiguresPrivate.{figure_in}
 use Rattle.dist_trial.proofs.summary.total.Given as goal
 
 abbrev pub invariant-loop-place : goal.invariant-loop-place

@@ -1,7 +1,7 @@
 use Rattle.std.proofs.Common.{◌≡◌, ℕ, ◌+◌, List, ◌++◌, length, sym, ap, ◌∙◌}
 use Rattle.std.specs.Prelude.{replicate}
 use Rattle.std.proofs.lemmas.List.{length-replicate}
-use Rattle.dist_version.specs.Spelling.{tilde}
+use Rattle.dist_base.specs.Ascii.{tilde}
 use Rattle.dist_version.specs.Between.{below_text}
 use Rattle.dist_version.proofs.Density.{below_keeps, below_is_below}
 use Rattle.dist_version.proofs.Version.below.Goals as goal

@@ -1,5 +1,6 @@
 use Rattle.std.proofs.Common.{◌≡◌, ℕ, List, Some, None, [], ◌∷◌, ◌++◌, ap, sym, ◌∙◌}
-use Rattle.dist_version.specs.Spelling.{hyphen, revision_of}
+use Rattle.dist_base.specs.Ascii.{hyphen}
+use Rattle.dist_version.specs.Spelling.{revision_of}
 use Rattle.dist_version.specs.Between.{extension}
 use Rattle.dist_version.proofs.Density.{above_text-some, above_text-none}
 use Rattle.dist_version.proofs.Version.text_after.Goals.{in-Some+in_ok-push_extension-in-Some, in-None+in_ok-push-in-None+in_ok-push_extension-in-None}

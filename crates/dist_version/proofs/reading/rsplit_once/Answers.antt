@@ -1,6 +1,6 @@
 use Rattle.std.proofs.Common.{◌+◌, sym, ap, ◌∙◌, option_map}
 use Rattle.std.proofs.lemmas.List.{take_rest}
-use Rattle.dist_version.specs.Cuts.{sides, rsplit_once-last}
+use Rattle.dist_version.specs.CutLaws.{sides, rsplit_once-last}
 use Rattle.dist_version.proofs.reading.rsplit_once.Goals as goal
 
 pub returns-in_err-at : goal.returns-in_err-at

@@ -1,6 +1,6 @@
 use Rattle.std.proofs.Common.{◌+◌, sym, ap, ◌∙◌, option_map}
 use Rattle.std.proofs.lemmas.List.{take_rest}
-use Rattle.dist_version.specs.Cuts.{sides, split_once-first}
+use Rattle.dist_version.specs.CutLaws.{sides, split_once-first}
 use Rattle.dist_version.proofs.reading.split_once.Goals as goal
 
 pub returns-in_err-at : goal.returns-in_err-at

@@ -1,6 +1,6 @@
 use Rattle.std.proofs.Common.{ap, sym, ◌∙◌, get_or, take, drop, length, ◌-◌}
 use Rattle.std.proofs.lemmas.Bool.{false≢true}
-use Rattle.dist_cert.specs.Decoded.{decoded}
+use Rattle.dist_cert.specs.DecodedPrivate.{decoded}
 use Rattle.dist_cert.proofs.RecordForms.{line_parts, has_form, no_form}
 use Rattle.dist_cert.proofs.forms.Forms.record.Goals as goal
 

@@ -2,7 +2,7 @@ use Rattle.std.proofs.Common.{◌≡◌, ◌-◌, length}
 use Rattle.dist_outside.specs.Files.{IsReading}
 use Rattle.dist_outside.specs.DeskView.{OnlyReads}
 use Rattle.dist_cert.specs.Reading.{WhereTold}
-use Rattle.dist_cert.specs.LineReading.{text_held}
+use Rattle.dist_cert.specs.LineReadingPrivate.{text_held}
 use Rattle.dist_cert.proofs.lines.Lines.read_line.Given as goal
 
 -- no byte was lost

@@ -1,5 +1,5 @@
 use Rattle.std.proofs.Common.{ap, subst, length, ◌-◌}
-use Rattle.dist_cert.specs.LineReading.{IsJudged}
+use Rattle.dist_cert.specs.LineReadingPrivate.{IsJudged}
 use Rattle.dist_cert.proofs.LineEnds.{ends, judged}
 use Rattle.dist_cert.proofs.lines.Lines.read_within.Goals as goal
 

@@ -1,5 +1,5 @@
 use Rattle.std.proofs.Common.{◌≡◌, ◌++◌, length}
-use Rattle.dist_cert.specs.Decoded as of
+use Rattle.dist_cert.specs.DecodedPrivate as of
 use Rattle.dist_cert.proofs.loose_words.Words.literals.Given as goal
 
 -- the literals so far, and those of the words left, are all

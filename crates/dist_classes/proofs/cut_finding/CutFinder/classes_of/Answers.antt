@@ -4,7 +4,7 @@ use Rattle.dist_classes.specs.Answers.{AreClassesOf}
 use Rattle.dist_classes.specs.Atoms.{IsBoundOn}
 use Rattle.dist_classes.specs.ClassList.{classes_above}
 use Rattle.dist_classes.specs.Cuts.{IsNameOfCluster}
-use Rattle.dist_classes.specs.Sorted.{cuts_after}
+use Rattle.dist_classes.specs.SortedPrivate.{cuts_after}
 use Rattle.dist_classes.specs.Table.{Adds}
 use Rattle.dist_classes.proofs.FoundCuts.{cluster-classes}
 use Rattle.dist_classes.proofs.cut_finding.CutFinder.classes_of.Goals as goal

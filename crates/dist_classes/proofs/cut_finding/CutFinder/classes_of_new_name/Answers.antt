@@ -3,7 +3,7 @@ use Rattle.std.proofs.lemmas.Result.{IfOk-weaker}
 use Rattle.dist_classes.specs.Answers.{AreClassesOfName}
 use Rattle.dist_classes.specs.Atoms.{IsBoundOn}
 use Rattle.dist_classes.specs.ClassList.{classes_of_all}
-use Rattle.dist_classes.specs.Sorted.{cuts_of}
+use Rattle.dist_classes.specs.SortedPrivate.{cuts_of}
 use Rattle.dist_classes.specs.Table.{Adds}
 use Rattle.dist_classes.proofs.FoundCuts.{name-classes}
 use Rattle.dist_classes.proofs.cut_finding.CutFinder.classes_of_new_name.Goals as goal

@@ -3,7 +3,7 @@ use Rattle.std.specs.BTreeMap.{is_at}
 use Rattle.std.proofs.lemmas.Option.{slice_get_read}
 use Rattle.dist_cluster.specs.Found.{AreFound, number_at}
 use Rattle.dist_cluster.specs.Relation.{Member}
-use Rattle.dist_cluster.specs.Total.{member_cmp}
+use Rattle.dist_cluster.specs.TotalLaws.{member_cmp}
 use Rattle.dist_cluster.proofs.FoundLemmas.{found-joined, found-begun}
 use Rattle.dist_cluster.proofs.finding.Finding.place.Goals as goal
 

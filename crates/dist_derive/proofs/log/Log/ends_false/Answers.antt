@@ -2,7 +2,7 @@ use Rattle.std.proofs.Common.{◌+◌, List, Bool, true, false, [], ◌∷◌, �
 use Rattle.std.proofs.lemmas.Bool.{false≢true}
 use Rattle.dist_clause.specs.Formula.{Literal}
 use Rattle.dist_derive.specs.TrueLiterals.{LiteralList}
-use Rattle.dist_derive.specs.Hints.{AreConflicts}
+use Rattle.dist_derive.specs.HintsPrivate.{AreConflicts}
 use Rattle.dist_derive.proofs.FollowsLemmas.{HintsSoFar, hints_none, hints_more, hints_refused, hints_all, ends_conflict, ends_unit, ends_open}
 use Rattle.dist_derive.proofs.log.Log.ends_false.Goals as goal
 use Rattle.dist_derive.proofs.log.Log.ends_false.Goals.{in-Conflict, in-Unit}

@@ -1,5 +1,5 @@
 use Rattle.std.proofs.Common.{◌≡◌}
-use Rattle.dist_derive.specs.Hints.{AreConflicts}
+use Rattle.dist_derive.specs.HintsPrivate.{AreConflicts}
 use Rattle.dist_derive.proofs.FollowsLemmas.{HintsSoFar}
 use Rattle.dist_derive.proofs.log.Log.ends_false.Given as goal
 

@@ -6,8 +6,8 @@ use Rattle.dist_clause.specs.Formula.{Literal}
 use Rattle.dist_clause.specs.ClauseList.{clause_at}
 use Rattle.dist_derive.specs.TrueLiterals.{LiteralList}
 use Rattle.dist_derive.specs.Propagation.{AllFalse, IsPropagated}
-use Rattle.dist_derive.specs.Containment.{ContainsAll}
-use Rattle.dist_derive.specs.Sweep.{AllOpen}
+use Rattle.dist_derive.specs.ContainmentPrivate.{ContainsAll}
+use Rattle.dist_derive.specs.SweepPrivate.{AllOpen}
 use Rattle.dist_derive.proofs.GrowingLemmas.{clause_item}
 use Rattle.dist_derive.proofs.SweepLemmas.{SweepsSoFar, sweeps_none, sweeps_open, sweeps_unit, sweeps_conflict, sweeps_to}
 use Rattle.dist_derive.proofs.log.Log.sweep.Goals as goal

@@ -4,7 +4,7 @@ use Rattle.dist_clause.specs.ClauseList.{clause_at}
 use Rattle.dist_derive.specs.Propagation.{AllFalse}
 use Rattle.dist_derive.specs.Follows.{IsNumberOf}
 use Rattle.dist_derive.specs.TrueLiterals.{LiteralList}
-use Rattle.dist_derive.specs.Hints.{AreConflicts}
+use Rattle.dist_derive.specs.HintsPrivate.{AreConflicts}
 use Rattle.dist_derive.proofs.FollowsLemmas.{conflicts_more, conflicts_kept}
 use Rattle.dist_derive.proofs.log.Log.take_once.Goals as goal
 

@@ -4,7 +4,7 @@ use Rattle.std.proofs.lemmas.List.{take_all}
 use Rattle.std.proofs.lemmas.List.Elements.{All-take, All-contains}
 use Rattle.dist_clause.specs.Formula.{negation}
 use Rattle.dist_derive.specs.TrueLiterals.{LiteralList, Assumes}
-use Rattle.dist_derive.specs.Containment.{ContainsAll}
+use Rattle.dist_derive.specs.ContainmentPrivate.{ContainsAll}
 use Rattle.dist_derive.proofs.ValuedLemmas.{take_item, All-item}
 use Rattle.dist_derive.proofs.AssumeLemmas.{AssumesSoFar, assumes_none, assumes_more}
 use Rattle.dist_derive.proofs.true_literals.TrueLiterals.assume_all.Goals as goal

@@ -1,6 +1,6 @@
 use Rattle.std.proofs.Common.{Bool, ◌&&◌, sym, ap, ◌∙◌}
 use Rattle.std.specs.Cmp.Lexicographic.{pointwise}
-use Rattle.dist_relation.specs.Equality.{answers_equality, atom_eq, atoms_decide}
+use Rattle.dist_relation.specs.EqualityPrivate.{answers_equality, atom_eq, atoms_decide}
 use Rattle.dist_relation.proofs.lists.AlternativesPartialEq.eq.Goals as goal
 
 pub returns-then-eq-clause-same : goal.returns-then-eq-clause-same

@@ -1,4 +1,4 @@
-use Rattle.dist_relation.specs.Equality.{answers_equality, items_decide}
+use Rattle.dist_relation.specs.EqualityPrivate.{answers_equality, items_decide}
 use Rattle.dist_relation.proofs.lists.ItemsPartialEq.eq.Goals as goal
 
 pub returns-clause-same : goal.returns-clause-same

@@ -1,8 +1,8 @@
 use Rattle.std.proofs.Common.{List, ◌∙◌, ap, sym}
 use Rattle.std.proofs.lemmas.Result.{err_from_is_err_and}
+use Rattle.dist_base.specs.Ascii.{bar}
 use Rattle.dist_relation.specs.declared.atom.Kind.TheVariants.{Depends}
-use Rattle.dist_relation.specs.Bytes.{bar}
-use Rattle.dist_relation.specs.Reading.{atom_at, alternatives_at}
+use Rattle.dist_relation.specs.ReadingPrivate.{atom_at, alternatives_at}
 use Rattle.dist_relation.specs.declared.atom.Atom.{Atom}
 use Rattle.dist_relation.proofs.Heads.{done}
 use Rattle.dist_relation.proofs.Loops.{first_fails, others_fail, with_others}

@@ -1,5 +1,5 @@
 use Rattle.std.proofs.Common.{List, subst}
-use Rattle.dist_repo.specs.Tally.{IsTallyOf}
+use Rattle.dist_repo.specs.TallyPrivate.{IsTallyOf}
 use Rattle.dist_repo.specs.declared.package.Package.{Package}
 use Rattle.dist_repo.proofs.FlatTally.{index-from_tally}
 use Rattle.dist_repo.proofs.repository.Repository.from_packages.Goals as goal

@@ -1,6 +1,6 @@
 use Rattle.std.proofs.Common.{◌≡◌, ℕ, Some, List, length, arith, sym, ap, subst, ◌∙◌}
 use Rattle.std.proofs.lemmas.Result.{IfOk-weaker}
-use Rattle.dist_repo.specs.Latest.{last_of_names}
+use Rattle.dist_repo.specs.LatestPrivate.{last_of_names}
 use Rattle.dist_repo.specs.Order.{IsInOrder, IsLatestOf}
 use Rattle.dist_repo.specs.PackageList.{PackageList}
 use Rattle.dist_repo.specs.declared.package.Package.{Package}

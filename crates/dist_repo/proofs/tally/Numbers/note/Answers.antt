@@ -2,7 +2,7 @@ use Rattle.std.proofs.Common.{◌≤◌, ◌++◌, ◌∷◌, [], List, ℕ, sym
 use Rattle.std.specs.List.Sorted.{IsStrictlyIncreasing}
 use Rattle.std.specs.Prelude.{Contains}
 use Rattle.std.proofs.lemmas.Bool.{false≢true}
-use Rattle.dist_repo.specs.Tally.{EndsWith, NotesNumber}
+use Rattle.dist_repo.specs.TallyPrivate.{EndsWith, NotesNumber}
 use Rattle.dist_repo.proofs.TallyLemmas.{increasing-push, notes-pushed, notes-known}
 use Rattle.dist_repo.proofs.tally.Numbers.note.Goals as goal
 

@@ -1,7 +1,7 @@
 use Rattle.std.proofs.Common.{◌≡◌, ℕ, ◌≤◌, List, sym, subst, rules}
 use Rattle.std.specs.Prelude.{Contains}
 use Rattle.std.proofs.lemmas.Result.{on_ok_weaker}
-use Rattle.dist_repo.specs.Tally.{numbers_at, NotesNumber}
+use Rattle.dist_repo.specs.TallyPrivate.{numbers_at, NotesNumber}
 use Rattle.dist_repo.proofs.TallyLemmas.{notes-updated}
 use Rattle.dist_repo.proofs.tally.Tally.note.Goals as goal
 

@@ -1,6 +1,6 @@
 use Rattle.std.proofs.Common.{◌+◌, ℕ, List, arith, sym, subst, ◌∙◌}
 use Rattle.std.proofs.lemmas.Bool.{false≢true}
-use Rattle.dist_repo.specs.Tally.{NotesEach}
+use Rattle.dist_repo.specs.TallyPrivate.{NotesEach}
 use Rattle.dist_repo.proofs.NotedLemmas.{IsProviderBy, bound-after, each-name, each-usable, each-unusable, each-all}
 use Rattle.dist_repo.proofs.tally.Tally.note_package.Goals as goal
 use Rattle.dist_repo.proofs.tally.Tally.note_package.Goals.{then-is_usable+in_ok-note-2, else-is_usable}

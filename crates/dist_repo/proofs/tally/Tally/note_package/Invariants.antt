@@ -1,4 +1,4 @@
-use Rattle.dist_repo.specs.Tally.{NotesEach}
+use Rattle.dist_repo.specs.TallyPrivate.{NotesEach}
 use Rattle.dist_repo.proofs.NotedLemmas.{IsProviderBy}
 use Rattle.dist_repo.proofs.tally.Tally.note_package.Given as goal
 

@@ -3,7 +3,7 @@ use Rattle.std.proofs.lemmas.List.{length_push, length-map}
 use Rattle.dist_clause.specs.ClauseList.{clause_at}
 use Rattle.dist_derive.specs.Propagation.{AllFalse}
 use Rattle.dist_derive.specs.Follows.{EndsFalse, Step, AreUnitSteps}
-use Rattle.dist_derive.specs.Containment.{ContainsAll}
+use Rattle.dist_derive.specs.ContainmentPrivate.{ContainsAll}
 use Rattle.dist_solver.specs.Trail.{TrailList, Ends}
 use Rattle.dist_solver.proofs.StartLemmas.{has_front}
 use Rattle.dist_solver.proofs.trail.Trail.propagate_from.Goals as goal

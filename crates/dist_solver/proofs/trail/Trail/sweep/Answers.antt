@@ -3,7 +3,7 @@ use Rattle.std.proofs.lemmas.List.{take_more, take_all, length_push}
 use Rattle.dist_clause.specs.Formula.{Literal}
 use Rattle.dist_clause.specs.ClauseList.{clause_at}
 use Rattle.dist_derive.specs.Propagation.{AllFalse}
-use Rattle.dist_derive.specs.Sweep.{AllOpen}
+use Rattle.dist_derive.specs.SweepPrivate.{AllOpen}
 use Rattle.dist_solver.specs.Trail.{TrailList, Visits}
 use Rattle.dist_solver.proofs.SweepLemmas.{SweepsSoFar, sweeps_none, sweeps_open, sweeps_unit, grows_one}
 use Rattle.dist_solver.proofs.trail.Trail.sweep.Goals as goal

@@ -2,7 +2,7 @@ use Rattle.std.proofs.Common.{IfErr, OnOk, ap, subst}
 use Rattle.dist_outside.specs.DeskView.{DeskView}
 use Rattle.dist_cert.specs.Writing.{WriterView}
 use Rattle.dist_strong.specs.Asking.{AskerView}
-use Rattle.dist_strong.specs.Sweeping.{HeaderMore, HeaderStops}
+use Rattle.dist_strong.specs.SweepingPrivate.{HeaderMore, HeaderStops}
 use Rattle.dist_strong.proofs.FirstLine.{header-more, header-stops}
 use Rattle.dist_strong.proofs.asker.Asker.put_header.Goals as goal
 

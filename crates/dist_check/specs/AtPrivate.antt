@@ -1,0 +1,54 @@
+-- How what is kept of the lines before a line stands to these lines.
+use Rattle.std.proofs.Common.{◌≡◌, ℕ, ◌+◌, ◌↔◌, true, List, [], ◌∷◌, ◌++◌, Option, Some, None, length}
+use Rattle.std.specs.List.{All, Any, Contains}
+use Rattle.dist_clause.specs.Formula.{Literal}
+use Rattle.dist_repo.specs.PackageList.{PackageList}
+use Rattle.dist_cert.specs.declared.records.CertRecord.{CertRecord}
+use Rattle.dist_cert.specs.declared.records.Header.{Header}
+use Rattle.dist_cert.specs.Form.{Word}
+use Rattle.dist_cert.specs.Groups.{derived, installations, claim_count, group, IsOpen, HasOpenQuestion, IsRefutedIn}
+use Rattle.dist_cert.specs.Groups.{IsUndecidedIn}
+use Rattle.dist_cert.specs.ClaimRules.{yes, no}
+use Rattle.dist_cert.specs.Accepted.{claims_in}
+use Rattle.dist_cert.specs.Rising.{is_among}
+use Rattle.dist_check_group.specs.Window.{latest}
+use Rattle.dist_check_group.specs.Closed.{ClosedView}
+use Rattle.dist_check_group.specs.Group.{GroupView}
+use Rattle.dist_check_state.specs.State.{QuestionView, StateView}
+
+-- the open question, with the clauses before its line
+abbrev pub IsQuestionOf : List (List Literal) → List CertRecord → Option QuestionView → Type 0
+IsQuestionOf inputs before None = ¬ HasOpenQuestion before
+IsQuestionOf inputs before (Some q) = (earlier since : List CertRecord) × IsOpen before earlier q.assumptions since
+    × (q.last ≡ length (inputs ++ derived earlier))
+
+-- which questions of a group were closed in one way
+pub record AreClosed (IsClosed : List Word → Type 0) (p : ℕ) (closed : ClosedView) : Type 0 where
+  pub alone : (closed.alone ≡ true) ↔ IsClosed (yes p ∷ [])
+  pub without : (q : ℕ) → (is_among closed.without q ≡ true) ↔ IsClosed (yes p ∷ no q ∷ [])
+
+-- what the members with a package have in common
+abbrev pub IsCommonOf : List (List ℕ) → ℕ → Option (List ℕ) → Type 0
+IsCommonOf members p None = All (λ m. ¬ Contains m p) members
+IsCommonOf members p (Some common) = Any (λ m. Contains m p) members
+    × ((q : ℕ) → Contains common q ↔ All (λ m. Contains m p → Contains m q) members)
+
+pub record IsGroupOf (lines : List CertRecord) (p : ℕ) (kept : GroupView) : Type 0 where
+  pub refuted : AreClosed (IsRefutedIn lines) p kept.refuted
+  pub undecided : AreClosed (IsUndecidedIn lines) p kept.undecided
+  pub common : IsCommonOf (installations lines) p kept.common
+
+-- What is kept is what these lines hold.
+pub record IsAt (r : PackageList) (inputs : List (List Literal)) (h : Header) (before : List CertRecord)
+    (s : StateView) : Type 0 where
+  pub limit : s.limit ≡ h.limit
+  pub packages : s.packages ≡ length r.packages
+  pub clauses : s.log.clauses ≡ inputs ++ derived before
+  pub inputs_are : s.log.inputs ≡ length inputs
+  pub variables : s.log.variables ≡ length r.packages
+  pub kept : s.window.kept ≡ latest (installations before)
+  pub count : s.window.count ≡ length (installations before)
+  pub question : IsQuestionOf inputs before s.question
+  pub next : s.next ≡ claim_count before + 1
+  pub group_is : IsGroupOf (group before) s.next s.group
+  pub claims : s.claims ≡ claims_in before

@@ -1,0 +1,18 @@
+use Rattle.std.proofs.Common.{◌≡◌, ◌∙◌, ◌+◌, List, ℕ, ap, arith, subst, sym}
+use Rattle.dist_check_state.specs.Denials.{first_denied}
+use Rattle.dist_check_state.proofs.DenialLemmas.{ArePairsUpTo, denials-from, pairs-more}
+use Rattle.dist_check_state.proofs.denials.pairs_of.Goals as goal
+
+pub loop-place-preserved : goal.loop-place-preserved
+loop-place-preserved c =
+    subst (λ (ps : List (ℕ × ℕ)). ArePairsUpTo c.args.log.now.clauses (c.loop-place.place + 1) ps) (sym c.in_ok-push.ensures.items)
+    (pairs-more c.args.log.now.clauses c.loop-place.pairs.items c.loop-place.place c.first_denied.result
+    (c.first_denied.ensures ∙ ap first_denied c.clause.ensures.value) c.loop-place.invariant)
+
+pub returns : goal.returns
+returns c =
+    let all : c.loop-place.place ≡ c.args.log.now.inputs = omega (arith, c.loop-place-test.false, c.loop-place.auto.place-end, c.inputs-place-end.ensures.value)
+    in
+    denials-from c.args.log.now.clauses c.args.log.now.inputs c.loop-place.pairs.items
+    (omega (arith, c.inputs-place-end.ensures.value, c.inputs-place-end.ensures.within))
+    (subst (λ (n : ℕ). ArePairsUpTo c.args.log.now.clauses n c.loop-place.pairs.items) all c.loop-place.invariant)
