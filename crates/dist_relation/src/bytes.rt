@@ -32,7 +32,7 @@ fn is_operator_byte(byte: u8) -> bool
 fn is_word_byte(byte: u8) -> bool
     ensures { result ≡ is_word_byte byte }
 {
-    !is_space(byte) && !matches!(byte, b'(' | b')' | b',' | b'|')
+    !is_white(byte) && !matches!(byte, b'(' | b')' | b',' | b'|')
 }
 
 /// Whether a name may have all these bytes behind its first one.
