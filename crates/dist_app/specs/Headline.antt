@@ -10,11 +10,12 @@ use Rattle.dist_repo.specs.PackageList.{PackageList}
 use Rattle.dist_cert.specs.Accepted.{IsAcceptedAs}
 use Rattle.dist_cert.specs.Form.{Word}
 use Rattle.dist_cert.specs.Groups.{clause_of, IsUndecidedIn}
+use Rattle.dist_cert.specs.Tried.{AreMarksTried}
 use Rattle.dist_cert.specs.declared.records.CertRecord.{CertRecord}
 use Rattle.dist_cert.specs.declared.records.Claim.{Claim}
 use Rattle.dist_cert.specs.declared.records.Header.{Header}
 use Rattle.dist_subject.specs.Completed.{IsCompleted}
-use Rattle.dist_subject.specs.Present.{AreInputs, subject_of}
+use Rattle.dist_subject.specs.Present.{AreInputs, matter_of, subject_of}
 use Rattle.dist_strong.specs.Sweep.{IsSweep}
 use Rattle.dist_check.specs.Answers.{AcceptedMeans}
 use Rattle.dist_check.specs.Checking.{OfText}
@@ -82,3 +83,10 @@ UndecidedAreHard limits = (r : PackageList) (inputs : Bool → List (List Litera
     (steps : List CertRecord) (question : List Word) (cone : List ℕ)
     → AreInputs r inputs → IsAcceptedAs (subject_of r inputs) limits text h steps → IsUndecidedIn steps question
     → ((v : ℕ) → Contains cone v ↔ InCone (inputs h.essential) (clause_of question) v) → h.limit ≤ 3 ^ length cone
+
+-- What an accepted text leaves undecided was tried: each mark's question is closed in the text behind at least as many
+-- derived lines as the limit, each of which follows and was new.
+abbrev pub MarksAreTried : Limits → Type 0
+MarksAreTried limits = (r : PackageList) (inputs : Bool → List (List Literal)) (text : List ℕ) (h : Header)
+    (steps : List CertRecord) → IsAcceptedAs (subject_of r inputs) limits text h steps
+    → AreMarksTried (matter_of r h.essential (inputs h.essential)) h.kind h.limit steps

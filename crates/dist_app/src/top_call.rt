@@ -2,7 +2,7 @@
 ghost use Rattle.std.specs.Prelude.{◌≡◌, ℕ, List, map, string_bytes, MatchResult};
 ghost use Rattle.dist_outside.specs.Files.{IsNotWriting};
 ghost use Rattle.dist_app.specs.Complete.{IsComplete};
-ghost use Rattle.dist_app.specs.Headline.{CheckIsProved, StrongIsProved, UndecidedAreHard};
+ghost use Rattle.dist_app.specs.Headline.{CheckIsProved, MarksAreTried, StrongIsProved, UndecidedAreHard};
 ghost use Rattle.dist_app.specs.Run.{IsWithinStated, Leaves, Runs, stated_limits};
 ghost use Rattle.dist_app.specs.CarriedPrivate.{IsAnswered, IsRefused, Prints};
 
@@ -11,7 +11,9 @@ use crate::command::run_command;
 use crate::refusal::{Refusal, refusal_of};
 use crate::refusal_text::write_refusal;
 use crate::status::Status;
-use dist_check::{accepted_claims_hold, texts_have_one_answer, undecided_questions_are_hard};
+use dist_check::{
+    accepted_claims_hold, marks_are_tried, texts_have_one_answer, undecided_questions_are_hard,
+};
 use dist_list::lists_are_exact;
 use dist_now::one_health;
 use dist_outside::{Desk, Limits, Sink, sink_grows, write_whole};
@@ -40,6 +42,7 @@ pub fn run<D: Desk, W: Sink, E: Sink>(
     ensures complete { IsComplete (map string_bytes words.now) stated_limits result (D.view desk.old) (D.view desk.new)
         (W.view out.old) (W.view out.new) }
     ensures hard { UndecidedAreHard stated_limits }
+    ensures tried { MarksAreTried stated_limits }
 {
     run_with(alloc, words, desk, out, err, &Limits::stated())
 }
@@ -64,6 +67,7 @@ pub fn run_with<D: Desk, W: Sink, E: Sink>(
     ensures complete { IsComplete (map string_bytes words.now) limits.now result (D.view desk.old) (D.view desk.new)
         (W.view out.old) (W.view out.new) }
     ensures hard { UndecidedAreHard limits.now }
+    ensures tried { MarksAreTried limits.now }
 {
     packages_are_exact();
     one_health();
@@ -72,6 +76,7 @@ pub fn run_with<D: Desk, W: Sink, E: Sink>(
     lists_are_exact();
     accepted_claims_hold();
     undecided_questions_are_hard();
+    marks_are_tried();
     sink_grows();
     match carry_out(alloc, words, desk, out, limits) {
         Ok(status) => status,

@@ -58,6 +58,12 @@ returns-in-Ok-clause-hard g c = λ r inputs. c.undecided_questions_are_hard.ensu
 pub returns-in-Err-clause-hard : goal.returns-in-Err-clause-hard
 returns-in-Err-clause-hard g c = λ r inputs. c.undecided_questions_are_hard.ensures r inputs c.args.limits.now
 
+pub returns-in-Ok-clause-tried : goal.returns-in-Ok-clause-tried
+returns-in-Ok-clause-tried g c = λ r inputs. c.marks_are_tried.ensures r inputs c.args.limits.now
+
+pub returns-in-Err-clause-tried : goal.returns-in-Err-clause-tried
+returns-in-Err-clause-tried g c = λ r inputs. c.marks_are_tried.ensures r inputs c.args.limits.now
+
 pub returns-in-Ok-clause-complete : goal.returns-in-Ok-clause-complete
 returns-in-Ok-clause-complete g c =
     run_completes
