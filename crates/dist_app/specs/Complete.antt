@@ -116,6 +116,7 @@ pub record Completes (words : List (List ℕ)) (limits : Limits) (result : Statu
     pub strong : StrongIsComplete words limits result files left
     pub check : CheckIsComplete words limits result files
 
+-- where nothing outside fails, a run comes to what the files and the limits decide
 pub record IsComplete (words : List (List ℕ)) (limits : Limits) (result : Status) (desk desk' : DeskView)
     (out out' : SinkView) : Type 0 where
   pub of_files : IsUndisturbed desk desk' out out' → Completes words limits result desk.files desk'.files

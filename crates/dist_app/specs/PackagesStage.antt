@@ -7,6 +7,7 @@ use Rattle.dist_app.specs.RepositoryStage.{RepositoryStage}
 use Rattle.dist_app.specs.Stages.{Step, Goes, Ends, Then}
 use Rattle.dist_app.specs.TextStage.{TextStage}
 
+-- PACKAGES is read, then taken apart to its repository
 abbrev pub PackagesStage : Option Files → Limits → (name : List ℕ) → Step PackageList → Type 0
 PackagesStage files limits name (Goes repository) = (text : List ℕ) × TextStage files name limits.bytes (Goes text)
     × RepositoryStage files limits.stanzas text (Goes repository)

@@ -12,6 +12,7 @@ use Rattle.dist_app.specs.declared.refusal.Refusal.{Refusal}
 use Rattle.dist_app.specs.declared.refusal.Refusal.TheVariants.{BadWords, BadPackages, CertificateRefused, ReadFault}
 use Rattle.dist_app.specs.declared.refusal.Refusal.TheVariants.{WriteFault, NoMemory, TooLarge, BadList}
 
+-- the status of a run that was given up for this
 abbrev pub status_of : Refusal → Status
 status_of BadWords = status.BadWords
 status_of (BadPackages fault) = status.BadPackages

@@ -1,4 +1,7 @@
-//! The top call: a command from its words to its status.
+//! The top call: a command from its words to its status. Its contract is the program's theorem.
+//!
+//! A command is a chain of stages (`specs/Stages.antt`), each of which goes on or ends the run; `specs/Run.antt` joins the
+//! commands. The work is that of the crates below. A change of what a command comes to begins in `specs/`.
 #![tactic(auto)]
 
 mod answer;

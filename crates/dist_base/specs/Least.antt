@@ -13,6 +13,7 @@ pub record IsLeastPair (P : ℕ → ℕ → Type 0) (first second : ℕ) : Type 
 abbrev pub IsNoPair : (ℕ → ℕ → Type 0) → Type 0
 IsNoPair P = (n k : ℕ) → ¬ P n k
 
+-- the number has the property, and no lesser one has it
 pub record IsLeast (P : ℕ → Type 0) (number : ℕ) : Type 0 where
   pub holds : P number
   pub least : (n : ℕ) → P n → number ≤ n

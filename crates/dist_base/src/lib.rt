@@ -1,5 +1,8 @@
 //! What all layers share: the stated limits, lists kept flat, the words for what a reader answers, for a front of a text and
-//! for the least with a property, and the laws of lists and of rows.
+//! for the least with a property, the bytes by name, and the laws of lists and of rows.
+//!
+//! `Flat` keeps a list of lists in one vector of items and one of ends, so a list costs no memory of its own. A change here is
+//! proved again in every crate: add a file to `specs/` rather than change one.
 #![tactic(auto)]
 
 mod pieces;

@@ -26,6 +26,7 @@ plain n = (n, true)
 abbrev pub separator : Word
 separator = plain 0
 
+-- a literal: its variable, behind a hyphen where it is negative
 abbrev pub signed_text : ℕ → Bool → List ℕ
 signed_text n true = decimal n
 signed_text n false = 45 ∷ decimal n
@@ -128,11 +129,13 @@ is_end step = false
 
 -- ---- the first line
 
+-- the word of a kind
 abbrev pub kind_text : CertKind → List ℕ
 kind_text kinds.Strong = codes "strong"
 kind_text kinds.Outdated = codes "outdated"
 kind_text kinds.Challenged = codes "challenged"
 
+-- the word of a mode
 abbrev pub mode_text : Bool → List ℕ
 mode_text true = codes "essential"
 mode_text false = codes "plain"

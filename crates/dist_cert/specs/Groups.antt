@@ -17,6 +17,7 @@ use Rattle.dist_cert.specs.Subject.{Matter}
 abbrev pub clause_of : List Word → List Literal
 clause_of words = map (λ word. literal word.0 word.1) words
 
+-- the clause of a derived line
 abbrev pub derived_in : CertRecord → List (List Literal)
 derived_in (Derived literals hints) = clause_of literals ∷ []
 derived_in step = []
@@ -31,6 +32,7 @@ numbered matter before = matter.inputs ++ derived before
 
 -- ---- numbered installations
 
+-- the variables of an installation
 abbrev pub installed_in : CertRecord → List (List ℕ)
 installed_in (Installation variables) = variables ∷ []
 installed_in step = []
@@ -59,6 +61,7 @@ claimed (Alive p installation) = p ∷ []
 claimed (Challenged p installations by undecided) = p ∷ []
 claimed step = []
 
+-- the list is not empty
 abbrev pub is_some_number : List ℕ → Bool
 is_some_number [] = false
 is_some_number (n ∷ ns) = true

@@ -20,12 +20,14 @@ use Rattle.dist_cert.specs.ClaimRules.{HoldsClaim, OmitsPackage, OmitsPair}
 
 -- ---- what a line names
 
+-- the variables that a line names
 abbrev pub variables_of : CertRecord → List ℕ
 variables_of (Question literals) = map (λ word. word.0) literals
 variables_of (Derived literals hints) = map (λ word. word.0) literals
 variables_of (Installation variables) = variables
 variables_of step = []
 
+-- the hints of a line
 abbrev pub hints_of : CertRecord → List ℕ
 hints_of (Derived literals hints) = hints
 hints_of (Refuted hints) = hints

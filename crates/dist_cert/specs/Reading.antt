@@ -1,5 +1,5 @@
 -- What a reader of certificates knows, and what it answers.
-use Rattle.std.specs.Prelude.{◌≡◌, ℕ, ◌+◌, ◌-◌, ◌<◌, Bool, false, IsTrue, List, [], ◌++◌, length, take, Option, Some}
+use Rattle.std.specs.Prelude.{◌≢◌, ◌⊎◌, ◌≡◌, ℕ, ◌+◌, ◌-◌, ◌<◌, Bool, false, IsTrue, List, [], ◌++◌, length, take, Option, Some}
 use Rattle.std.specs.Prelude.{None, Result, Ok, Err}
 use Rattle.dist_outside.specs.Counts.{Rose}
 use Rattle.dist_outside.specs.DeskView.{DeskView}
@@ -14,7 +14,7 @@ use Rattle.dist_cert.specs.declared.faults.ReadCertError.TheVariants.{Bad, Work}
 use Rattle.dist_cert.specs.declared.records.CertRecord.{CertRecord}
 use Rattle.dist_cert.specs.declared.records.Header.{Header}
 use Rattle.dist_cert.specs.Form.{record_text, HasForm, is_end, header_text, HasHeaderForm}
-use Rattle.dist_cert.specs.Refusal.{IsOneLine, BeginsWith, IsTooLong, IsCutBehind, IsBadBehind}
+use Rattle.dist_cert.specs.Refusal.{IsOneLine, BeginsWith, IsTooLong}
 
 -- ---- a reader
 
@@ -99,11 +99,20 @@ pub record IsAtEnd (r : ReaderView) (rest : List ℕ) : Type 0 where
   pub ended : IsTrue r.ended
   pub nothing : rest ≡ []
 
+-- the text ends within the line, or before it where the end was not read
+abbrev pub IsCutRead : Bool → List ℕ → Type 0
+IsCutRead ended rest = IsOneLine rest × ((rest ≢ []) ⊎ (¬ IsTrue ended))
+
+-- the line has a line feed, and stands behind the end or has no form
+abbrev pub IsBadRead : Bool → List ℕ → Type 0
+IsBadRead ended rest = (line more : List ℕ) × BeginsWith rest line more
+    × (IsTrue ended ⊎ ((step : CertRecord) → ¬ HasForm line step))
+
 -- the first of the faults of form, cut and length that a later line has on its own
 abbrev pub RecordFault : ReaderView → List ℕ → CertCause → Type 0
 RecordFault r rest causes.LineTooLong = (¬ PassesWhole r.limits r.given rest) × IsTooLong r.limits rest
-RecordFault r rest causes.Truncated = KeepsLimits r.limits r.given rest × IsCutBehind (IsTrue r.ended) rest
-RecordFault r rest causes.BadRecord = KeepsLimits r.limits r.given rest × IsBadBehind (IsTrue r.ended) rest
+RecordFault r rest causes.Truncated = KeepsLimits r.limits r.given rest × IsCutRead r.ended rest
+RecordFault r rest causes.BadRecord = KeepsLimits r.limits r.given rest × IsBadRead r.ended rest
 RecordFault r rest cause = ⊥
 
 -- The same as `HeaderAnswers` of a later line.

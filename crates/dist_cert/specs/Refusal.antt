@@ -66,21 +66,14 @@ HasFirstFault subject limits text cause = ⊥
 
 -- ---- later lines
 
--- the text ends within the line, or before it where the end was not reached
-abbrev pub IsCutBehind : Type 0 → List ℕ → Type 0
-IsCutBehind Ended rest = IsOneLine rest × ((rest ≢ []) ⊎ (¬ Ended))
-
--- the line has a line feed, and stands after the end or has no form
-abbrev pub IsBadBehind : Type 0 → List ℕ → Type 0
-IsBadBehind Ended rest = (line more : List ℕ) × BeginsWith rest line more
-    × (Ended ⊎ ((step : CertRecord) → ¬ HasForm line step))
-
--- the same behind these records
+-- the text ends within the line, or before it where none of the records before it is the end
 abbrev pub IsCut : List CertRecord → List ℕ → Type 0
-IsCut before rest = IsCutBehind (Contains before End) rest
+IsCut before rest = IsOneLine rest × ((rest ≢ []) ⊎ (¬ Contains before End))
 
+-- the line has a line feed, and stands behind the end or has no form
 abbrev pub IsBadRecord : List CertRecord → List ℕ → Type 0
-IsBadRecord before rest = IsBadBehind (Contains before End) rest
+IsBadRecord before rest = (line more : List ℕ) × BeginsWith rest line more
+    × (Contains before End ⊎ ((step : CertRecord) → ¬ HasForm line step))
 
 -- the line has the form of a record with a fault of this cause
 abbrev pub IsBadStep : Matter → Header → List CertRecord → List ℕ → CertCause → Type 0

@@ -1,4 +1,7 @@
 //! Certificates as text: the records of their lines, their writer and their reader, and when a text is accepted.
+//!
+//! Acceptance is defined over plain data (`specs/Accepted.antt`), for all kinds at once; sweeps and the checker put in theirs.
+//! A reader keeps one line, and its numbers once; a writer one line. A change of a form changes `docs/CERTIFICATES.md`.
 #![tactic(auto)]
 
 mod clear_forms;

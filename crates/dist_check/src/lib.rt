@@ -1,4 +1,7 @@
 //! The checker of certificates: whether a text is one of a repository, and what an accepted one proves.
+//!
+//! One pass over the lines, with one log and one window of installations. The promises are laws over texts
+//! (`accepted_claims_hold` and its fellows): they hold of every text, whoever wrote it.
 #![tactic(auto)]
 
 mod checking;

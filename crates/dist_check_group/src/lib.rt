@@ -1,5 +1,7 @@
 //! What a checker keeps of the latest installations and of a claim's group, and the rules of a claim on strong
 //! dependencies.
+//!
+//! Installations are rising lists, looked up by halving; what all of a claim's installations share is found once.
 #![tactic(auto)]
 
 mod closed;

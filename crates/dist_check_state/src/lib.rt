@@ -1,4 +1,7 @@
 //! What a checker keeps of the lines before a line: the first fault of the next one by it, and what it makes of it.
+//!
+//! An installation asks each of its members for the clauses that begin their denials with it. That what is kept is enough is
+//! shown in dist_check, against the definition of acceptance.
 #![tactic(auto)]
 
 mod above;

@@ -26,6 +26,7 @@ abbrev pub RisesFrom : List ℕ → List (List ℕ) → Type 0
 RisesFrom low [] = Unit {0}
 RisesFrom low (v ∷ versions) = IsBelow low v × RisesFrom v versions
 
+-- each version of the list is below the next one
 abbrev pub Rises : List (List ℕ) → Type 0
 Rises [] = Unit {0}
 Rises (v ∷ versions) = RisesFrom v versions

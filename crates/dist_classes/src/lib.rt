@@ -1,4 +1,8 @@
-//! Classes of later versions: the versions above a cluster's top, and those of a new name, cut at what a repository's atoms tell apart.
+//! Classes of later versions: the versions above a cluster's top, and those of a new name, cut at what a repository's atoms
+//! tell apart. All versions of a class match alike, so one example of each is enough for every question.
+//!
+//! `CutFinder` goes through the atoms once and then gives each cluster and each name its cuts; each name is asked once for a
+//! cluster, however many entries have it.
 #![tactic(auto)]
 
 mod bound_table;

@@ -1,4 +1,6 @@
 //! Source clusters: packages that are built from one source package at one version. Their partition, and the top of each.
+//!
+//! Keys are sorted by source, source version and version without its rebuild suffix; clusters are runs of equal keys.
 #![tactic(auto)]
 
 mod cluster_list;

@@ -4,6 +4,7 @@ use Rattle.std.specs.Prelude.{ℕ, ◌+◌, Bool, true, false, List, [], ◌∷�
 use Rattle.dist_control.specs.Bytes.{is_blank}
 use Rattle.dist_control.specs.Lines.{lines}
 
+-- a stanza as lines: the number of its first line, from 1, and the lines
 pub record RawStanza : Type 0 where
   pub line : ℕ
   pub lines : List (List ℕ)

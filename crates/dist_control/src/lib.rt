@@ -1,7 +1,8 @@
 //! Control text (Debian Policy 5.1): stanzas of fields, read as slices of the text.
 //!
-//! A reader hands out the stanzas of a text one by one, each line looked at once by `memchr`. A stanza with a
-//! fault ends the reading for good.
+//! A reader hands out the stanzas of a text one by one, each line looked at once by `memchr`; no byte is copied. A stanza of
+//! many fields costs no square: a mark for each name says that no earlier field can have it. A stanza with a fault ends the
+//! reading for good.
 #![tactic(auto)]
 
 mod error;

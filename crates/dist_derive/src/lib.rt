@@ -1,5 +1,8 @@
 //! The log of derived clauses and the two tests on which certificates rest: whether a clause follows by hints, and
 //! whether it is new. The literals that are true for now are public, so that a search propagates over the same ones.
+//!
+//! `follows` costs the literals of the hinted clauses and takes no memory; `is_new` walks over all clauses until nothing
+//! grows. What stands here decides what a certificate proves: a change needs the checker's laws again.
 #![tactic(auto)]
 
 mod cone;

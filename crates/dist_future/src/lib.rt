@@ -1,4 +1,7 @@
 //! Futures: the archives that may come of a repository, and what the variables and clauses of its space mean for them.
+//!
+//! The definitions (`specs/Future.antt`, `Outdated.antt`) know no class, clause or variable; the laws tie them to the models of
+//! the clauses, both ways. `health_in` takes no memory.
 #![tactic(auto)]
 
 mod found;

@@ -1,4 +1,8 @@
-//! The present: whether an installation of a repository's packages is healthy, and where it is not.
+//! The present: whether an installation of a repository's packages is healthy, and where it is not; and the clauses whose
+//! models are the healthy installations.
+//!
+//! Clauses come in the order of their demands, so the first limit that they pass ends the work. Pairs in conflict are found by
+//! the providers of a name and never by trying all pairs. `health` takes no memory.
 #![tactic(auto)]
 
 mod clause_text;

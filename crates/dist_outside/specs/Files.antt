@@ -30,6 +30,7 @@ IsWriting Idle = ⊥
 IsWriting (Reading at) = ⊥
 IsWriting (Writing name) = Unit {0}
 
+-- the desk does nothing, or reads
 abbrev pub IsNotWriting : Mode → Type 0
 IsNotWriting Idle = Unit {0}
 IsNotWriting (Reading at) = Unit {0}

@@ -1,4 +1,8 @@
 //! The outside: sinks that take text, desks that have files, what can go wrong there, and the limits of a run.
+//!
+//! What a device told is a ghost: clauses on contents hold where it is told, clauses on causes hold always, by counts that
+//! never fall. The adapters over the system are a few lines and tell nothing; they are the trusted edge. Pieces of `PIECE`
+//! bytes go through one buffer. The desk in memory looks names up one by one: it is for tests and trials.
 #![tactic(auto)]
 
 mod desk;

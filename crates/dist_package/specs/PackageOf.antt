@@ -29,6 +29,7 @@ pub record ReadsName (stanza : Stanza) (name : List ℕ) : Type 0 where
   pub field : IsFieldOf stanza (codes "Package") name line
   pub is_name : IsName name
 
+-- the value of the Package field is no name
 pub record IsNoName (stanza : Stanza) (fault : Fault) : Type 0 where
   pub value : List ℕ
   pub line : ℕ
@@ -48,6 +49,7 @@ pub record ReadsVersionField (stanza : Stanza) (version : List ℕ) : Type 0 whe
   pub field : IsFieldOf stanza (codes "Version") value line
   pub reads : ReadsVersion value version
 
+-- the value of the Version field is no version
 pub record IsNoVersion (stanza : Stanza) (fault : Fault) : Type 0 where
   pub value : List ℕ
   pub line : ℕ
@@ -101,6 +103,7 @@ pub record ReadsArchitecture (earlier : Option (List ℕ)) (stanza : Stanza) (ar
 abbrev pub GivesArchitecture : (earlier : Option (List ℕ)) → Stanza → Option (List ℕ) → Type 0
 GivesArchitecture earlier stanza given = ReadsArchitecture earlier stanza (unwrap_or given all) × (given ≢ Some all)
 
+-- the Architecture is no name, or a second one beside `all`
 pub record HasArchitectureFault (earlier : Option (List ℕ)) (stanza : Stanza) (fault : Fault) : Type 0 where
   pub value : List ℕ
   pub line : ℕ

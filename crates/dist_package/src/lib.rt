@@ -1,4 +1,7 @@
 //! A Packages file (Debian Policy 5.3 and chapter 7), read to its repository or to exactly its first fault.
+//!
+//! One pass: stanzas by dist_control, each to a package, packages to dist_repo's builder. The order of faults is that of
+//! `specs/FirstFault.antt`; each text has a repository or a first fault, and never both.
 #![tactic(auto)]
 
 mod error;

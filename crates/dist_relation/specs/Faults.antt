@@ -205,6 +205,7 @@ pub record PassedOver (text : List ℕ) : Type 0 where
   pub parts : text ≡ space ++ rest
   pub ends : Meets is_comma rest
 
+-- the error of a fault at a place
 abbrev pub error_at : Problem → ℕ → RelationError
 error_at BadName place = errors.BadName place
 error_at BadOp place = errors.BadOp place

@@ -22,10 +22,12 @@ abbrev pub qualifier_text : Qualifier → List ℕ
 qualifier_text Plain = []
 qualifier_text (Named name) = colon ∷ name
 
+-- a qualifier, where there is one, is a name
 abbrev pub IsQualifier : Qualifier → Type 0
 IsQualifier Plain = Unit {0}
 IsQualifier (Named name) = IsName name
 
+-- how an operator is written
 abbrev pub operator_text : Op → List ℕ
 operator_text Lt = codes "<<"
 operator_text Le = codes "<="

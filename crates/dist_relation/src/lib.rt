@@ -1,4 +1,8 @@
 //! Relation fields of Debian packages: what Depends, Conflicts and Provides values spell, by Debian Policy 7.1.
+//!
+//! A value is read from left to right, once. Room for its entries is counted by commas before it is read, and given back where
+//! entries were blank. The grammar is a relation between a value and its items (`specs/Grammar.antt`); the first fault of a
+//! value that has none is its own definition (`specs/Faults.antt`).
 #![tactic(auto)]
 
 mod atom;

@@ -4,6 +4,7 @@ use Rattle.std.specs.Prelude.{◌≡◌, ℕ, List, Option, IsSomeAnd, slice_get
 use Rattle.dist_relation.specs.declared.atom.Atom.{Atom}
 use Rattle.dist_repo.specs.declared.package.Package.{Package}
 
+-- a repository as contracts see it: the architecture of the file, and the packages in order
 pub record PackageList : Type 0 where
   pub architecture : Option (List ℕ)
   pub packages : List Package

@@ -1,4 +1,8 @@
-//! Packages of a file and their repository: which package an atom matches, which packages are in conflict, and which provide a name.
+//! Packages of a file and their repository: which package an atom matches, which packages are in conflict, and which
+//! provide a name. Here stand the definitions of the subject: match, conflict, healthy, installable, strong dependency.
+//!
+//! Packages stand in boxes in the order of names and versions, names in a sorted table: crafted names cannot cost the square,
+//! as in a hash with a fixed seed. Asking takes no memory.
 #![tactic(auto)]
 
 mod builder;

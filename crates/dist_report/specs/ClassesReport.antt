@@ -17,6 +17,7 @@ pub record ToldCluster : Type 0 where
   pub top : List ℕ
   pub classes : List Class
 
+-- a new name as the report tells it
 pub record ToldName : Type 0 where
   pub name : List ℕ
   pub classes : List Class

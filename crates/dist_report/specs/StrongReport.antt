@@ -13,10 +13,12 @@ use Rattle.dist_report.specs.PackageText.{package_line}
 
 -- ---- what a claim says
 
+-- the claim says that its package is not installable
 abbrev pub is_uninstallable : Claim → Bool
 is_uninstallable Uninstallable = true
 is_uninstallable claim = false
 
+-- the claim says nothing
 abbrev pub is_unknown : Claim → Bool
 is_unknown Unknown = true
 is_unknown claim = false

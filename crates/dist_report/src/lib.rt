@@ -1,4 +1,6 @@
 //! Reports: the texts that tell what was found, in YAML 1.2.
+//!
+//! Each text is one vector and a few walks over the claims. No string needs an escape, which is a law.
 #![tactic(auto)]
 
 mod claim_parts;

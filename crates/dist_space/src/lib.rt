@@ -1,5 +1,8 @@
 //! The space of the futures of a repository: its variables with what they mean, in their order, and which of them an atom
 //! matches.
+//!
+//! A variable is found by a guess that is tested, and by halving where the guess is wrong. No package of a future is ever made
+//! but its example. Changing the order of variables changes every certificate of the futures.
 #![tactic(auto)]
 
 mod bounds;

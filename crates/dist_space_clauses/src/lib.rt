@@ -1,5 +1,8 @@
 //! The clauses of the space of futures, made in their order: their models stand for the futures and the healthy installations
 //! in them.
+//!
+//! A row of clauses is made for each demand from what the atoms of its package match; the work is that of the literals that
+//! are written. The words for lists of clauses are dist_clause's.
 #![tactic(auto)]
 
 mod clause_laws;

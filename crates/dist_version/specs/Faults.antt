@@ -24,10 +24,12 @@ epoch_fault (d ∷ ds) =
     if not (list_all is_ascii_digit (d ∷ ds)) then Some BadEpoch else if nat_lt MAX_EPOCH (digits_value 10 (d ∷ ds))
     then Some EpochTooLarge else None
 
+-- an upstream version is not empty
 abbrev pub upstream_fault : List ℕ → Option VersionError
 upstream_fault [] = Some EmptyUpstream
 upstream_fault (b ∷ bs) = None
 
+-- a revision, where a hyphen begins one, is not empty
 abbrev pub revision_fault : Option (List ℕ) → Option VersionError
 revision_fault None = None
 revision_fault (Some []) = Some EmptyRevision

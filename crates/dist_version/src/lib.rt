@@ -1,4 +1,8 @@
-//! Debian versions: read, kept and compared by Debian Policy 5.6.12.
+//! Debian versions: read, kept and compared by Debian Policy 5.6.12; and versions just above and below a given one.
+//!
+//! A version keeps its text and the places of its parts. Comparing costs the bytes of the shorter text, takes no memory, and
+//! passes what the texts begin with alike many bytes at a time. The order is defined by weights of bytes (`specs/Order.antt`);
+//! a change of the order is a change there first.
 #![tactic(auto)]
 
 ghost use Rattle.std.specs.Prelude.{◌≡◌, ◌↔◌, ℕ, List, None, IfOk, IsTrue, bytes_eq};

@@ -31,14 +31,17 @@ has_no_option options = has_no_seed options && has_no_limit options
 
 -- ---- files
 
+-- a command of one file
 abbrev pub with_one : (Text → CommandLine) → List Text → Option CommandLine
 with_one command (first ∷ []) = Some (command first)
 with_one command files = None
 
+-- a command of two files
 abbrev pub with_two : (Text → Text → CommandLine) → List Text → Option CommandLine
 with_two command (first ∷ second ∷ []) = Some (command first second)
 with_two command files = None
 
+-- a command of no file
 abbrev pub with_none : Option CommandLine → List Text → Option CommandLine
 with_none command [] = command
 with_none command files = None
