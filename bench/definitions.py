@@ -190,7 +190,7 @@ def entries_of(path, wanted):
     file = load(path)
     for words, names in file.entries:
         told = [name for name in names if wanted(path, name)]
-        if told and not words and len(told) == 1 and len(file.equations.get(told[0], [])) == 1:
+        if told and not words and len(told) == 1 and len(file.equations.get(told[0], [])) == 1 and not file.equations[told[0]][0].endswith("="):
             words = f"`{file.equations[told[0]][0]}`"
         if told:
             yield told, words

@@ -73,6 +73,7 @@ pub record IsSourceOf (name version source source_version : List ℕ) (value : L
   pub spells : SpellsSource value source written
   pub version_is : source_version ≡ unwrap_or written version
 
+-- the field Source of a stanza gives this source and version
 abbrev pub ReadsSource : Stanza → (name version source source_version : List ℕ) → Type 0
 ReadsSource stanza name version source source_version =
     ((field_named stanza (codes "Source") ≡ None) × (source ≡ name) × (source_version ≡ version))

@@ -48,6 +48,7 @@ head_lines packages first top =
     ++ (string_line (codes "    source: ") (option_map_or (λ p. p.source) (slice_get packages first) [])
     ++ string_line (codes "    top: ") top)
 
+-- a cluster: its first member, source, top, members and classes
 abbrev pub cluster_lines : List Package → ToldCluster → List ℕ
 cluster_lines packages c =
     head_lines packages (least c.members) c.top

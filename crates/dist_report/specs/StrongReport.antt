@@ -68,6 +68,7 @@ abbrev pub strong_opening : List Package → (limit : ℕ) → List ℕ
 strong_opening packages limit = codes "report: \"strong\"\nlimit: "
     ++ (decimal limit ++ (codes "\npackages: " ++ (decimal (length packages) ++ codes "\n")))
 
+-- the whole report: its head, and a list for each key in this order
 abbrev pub strong_lines : List Package → (limit : ℕ) → List Claim → List ℕ
 strong_lines packages limit made =
     strong_opening packages limit

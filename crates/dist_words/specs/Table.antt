@@ -60,6 +60,7 @@ abbrev pub seeded : Option ℕ → Option ℕ → Option CommandLine
 seeded (Some size) (Some seed) = Some (Try size seed)
 seeded size seed = None
 
+-- the command of the words, by its name: how many files it takes, and which options
 abbrev pub in_table : Text → List Text → Options → Option CommandLine
 in_table word files options =
     if bytes_eq word (codes "health") then where_allowed (has_no_option options) (with_two Health files)
