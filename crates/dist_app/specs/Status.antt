@@ -5,6 +5,7 @@ use Rattle.dist_app.specs.declared.status.Status.TheVariants.{Done, DoneWithUnde
 use Rattle.dist_app.specs.declared.status.Status.TheVariants.{CertificateRefused, ReadFault, WriteFault, NoMemory}
 use Rattle.dist_app.specs.declared.status.Status.TheVariants.{TooLarge, NotHealthy, BadList}
 
+-- the number of a status
 abbrev pub number_of : Status → ℕ
 number_of Done = 0
 number_of DoneWithUndecided = 1

@@ -133,6 +133,7 @@ IsHeaderCause causes.Truncated = Unit {0}
 IsHeaderCause causes.BadHeader = Unit {0}
 IsHeaderCause cause = ⊥
 
+-- the causes that a later line may have on its own
 abbrev pub IsRecordCause : CertCause → Type 0
 IsRecordCause causes.LineTooLong = Unit {0}
 IsRecordCause causes.Truncated = Unit {0}
@@ -171,6 +172,7 @@ abbrev pub GivesHeader : ReaderView → ReaderView → Result Header ReadCertErr
 GivesHeader old new (Ok h) = new ≡ past_line old new.held (header_text h)
 GivesHeader old new (Err error) = new ≡ record old { held = new.held }
 
+-- the reader after a call: past the line of the record that it gives, and else as before, but for bytes that came
 abbrev pub GivesRecord : ReaderView → ReaderView → Result (Option CertRecord) ReadCertError → Type 0
 GivesRecord old new (Ok (Some step)) = new ≡ record (past_line old new.held (record_text step)) { ended = is_end step }
 GivesRecord old new other = new ≡ record old { held = new.held }

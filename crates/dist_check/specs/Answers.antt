@@ -39,6 +39,7 @@ pub record AcceptedMeans (r : PackageList) (h : Header) (made : List Claim) : Ty
   pub numbers : HasNumbers r clauses h
   pub means : Means h.essential r made
 
+-- what a verdict says whatever the desk tells
 abbrev pub VerdictMeans : PackageList → Verdict → Type 0
 VerdictMeans r (Accepted h made) = AcceptedMeans r h made
 VerdictMeans r (Refused fault) = Unit {0}

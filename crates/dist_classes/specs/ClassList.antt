@@ -49,6 +49,7 @@ pub record AreClassesAbove (classes : List Class) : Type 0 where
   pub rising : RisesFrom top cuts
   pub are : classes ≡ classes_above top cuts
 
+-- the classes of all versions, for a new name
 pub record AreClassesOfAll (classes : List Class) : Type 0 where
   pub cuts : List (List ℕ)
   pub rising : Rises cuts

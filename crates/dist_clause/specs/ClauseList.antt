@@ -2,6 +2,7 @@
 use Rattle.std.specs.Prelude.{ℕ, ◌-◌, ◌≤◌, List, [], length, All, sum_by, slice_index_or}
 use Rattle.dist_clause.specs.Formula.{Literal, IsClauseOver}
 
+-- a clause set as contracts see it: its clauses, variables and limits
 pub record ClauseList : Type 0 where
   pub clauses : List (List Literal)
   pub variables : ℕ

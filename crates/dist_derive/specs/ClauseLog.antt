@@ -3,6 +3,7 @@ use Rattle.std.specs.Prelude.{ℕ, ◌≤◌, List, ◌++◌, length, All, take,
 use Rattle.dist_clause.specs.Formula.{Literal, IsClauseOver}
 use Rattle.dist_clause.specs.ClauseList.{ClauseList, literal_count}
 
+-- a log as contracts see it: input clauses, derived lines behind them, and limits
 pub record ClauseLog : Type 0 where
   pub clauses : List (List Literal)
   pub inputs : ℕ

@@ -25,6 +25,7 @@ atom_of alternative = record {
   bound = bound_of alternative.bound;
 }
 
+-- the conflict atoms of a drawn package
 abbrev pub conflicts_of : Option ℕ → List Atom
 conflicts_of None = []
 conflicts_of (Some other) = record { name = name_of other; qualifier = Plain; bound = None } ∷ []

@@ -3,6 +3,7 @@ use Rattle.std.specs.Prelude.{◌≡◌, ℕ, Bool, List}
 use Rattle.dist_repo.specs.declared.package.Package.{Package}
 use Rattle.dist_list.specs.PackageSet.{NamesSet, IsBadAt}
 
+-- a text names one set at most, has one first bad line at most, and never both
 pub record HasOneAnswer (packages : List Package) (text : List ℕ) : Type 0 where
   pub one_set : (members other : List Bool) → NamesSet packages text members → NamesSet packages text other
       → other ≡ members

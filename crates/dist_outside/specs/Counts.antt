@@ -17,6 +17,7 @@ abbrev pub faults_by : Trouble → ℕ → ℕ
 faults_by Failed count = counted count
 faults_by NoMemory count = count
 
+-- how many wants of memory there are after a trouble
 abbrev pub wants_by : Trouble → ℕ → ℕ
 wants_by Failed count = count
 wants_by NoMemory count = counted count
@@ -26,6 +27,7 @@ abbrev pub faults_after : {A : Type 0} → Result A Trouble → ℕ → ℕ
 faults_after (Ok value) count = count
 faults_after (Err trouble) count = faults_by trouble count
 
+-- the same after an answer
 abbrev pub wants_after : {A : Type 0} → Result A Trouble → ℕ → ℕ
 wants_after (Ok value) count = count
 wants_after (Err trouble) count = wants_by trouble count

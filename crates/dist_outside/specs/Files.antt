@@ -20,11 +20,13 @@ abbrev pub where_told : {A : Type 0} → Option Files → A → Option A
 where_told None x = None
 where_told (Some files) x = Some x
 
+-- the desk reads a file
 abbrev pub IsReading : Mode → Type 0
 IsReading Idle = ⊥
 IsReading (Reading at) = Unit {0}
 IsReading (Writing name) = ⊥
 
+-- the desk writes a file
 abbrev pub IsWriting : Mode → Type 0
 IsWriting Idle = ⊥
 IsWriting (Reading at) = ⊥

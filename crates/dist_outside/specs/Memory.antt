@@ -84,11 +84,13 @@ split_mode Idle = None
 split_mode (Reading at) = Some (inl at)
 split_mode (Writing name) = Some (inr name)
 
+-- the mode as a desk in memory tells it
 abbrev pub join_mode : Option (Option (List ℕ × ℕ) ⊎ Option (List ℕ)) → Mode
 join_mode None = Idle
 join_mode (Some (inl at)) = Reading at
 join_mode (Some (inr name)) = Writing name
 
+-- taken apart and put together it is the same
 pub join_split : (mode : Mode) → join_mode (split_mode mode) ≡ mode
 join_split Idle = refl
 join_split (Reading at) = refl

@@ -6,6 +6,7 @@ use Rattle.dist_package.specs.FirstFault.{IsRefused}
 use Rattle.dist_package.specs.RepositoryOf.{IsRepositoryOf}
 use Rattle.dist_package.specs.declared.error.PackagesError.{PackagesError}
 
+-- a text has one repository at most, one error at most, and never both
 pub record HasOneAnswer (text : List ℕ) (limit : ℕ) : Type 0 where
   pub one_repository : (repository other : PackageList) → IsRepositoryOf text limit repository
       → IsRepositoryOf text limit other → other ≡ repository

@@ -13,6 +13,7 @@ IsSpelledAtom atom = IsName atom.name × IfSome atom.bound (λ bound. IsVersion 
 abbrev pub IsSpelledEntry : Provide → Type 0
 IsSpelledEntry entry = IsName entry.name × IfSome entry.version IsVersion
 
+-- the names of a package are names, and its versions are versions
 pub record IsSpelled (p : Package) : Type 0 where
   pub name : IsName p.name
   pub version : IsVersion p.version

@@ -16,6 +16,7 @@ pub record IsIndex (repository : PackageList) (names : List (List ℕ)) (numbers
       → AreProviders repository (slice_index_or names place []) (slice_index_or numbers place [])
   pub others : (name : List ℕ) → ¬ Contains names name → AreProviders repository name []
 
+-- the packages of a repository are in order, few enough, and have this index of names
 pub record IsRepository (repository : PackageList) (names : List (List ℕ)) (numbers : List (List ℕ)) : Type 0 where
   pub in_order : IsInOrder repository.packages
   pub few : length repository.packages < 2 ^ 32
