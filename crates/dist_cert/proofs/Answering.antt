@@ -1,21 +1,26 @@
 -- What a reader answers, from where the reading of a line ended.
-use Rattle.std.proofs.Common.{◌≡◌, ◌≢◌, ℕ, ◌+◌, ◌-◌, ◌^◌, ◌<◌, Bool, true, false, List, [], ◌++◌, length, drop, Option, Some, None, Result, Ok, Err, ⊎_elim}
-use Rattle.std.proofs.Common.{inl, inr, refl, ap, sym, subst, ◌∙◌, arith, append_assoc}
+use Rattle.std.proofs.Common.{◌≡◌, ◌≢◌, ℕ, ◌+◌, ◌-◌, ◌^◌, ◌<◌, Bool, true, false, List, [], ◌∷◌, ◌++◌, length, drop, Option, Some, None, Result, Ok, Err}
+use Rattle.std.proofs.Common.{⊎_elim, inl, inr, refl, ap, sym, subst, ◌∙◌, arith, append_assoc}
 use Rattle.std.specs.Prelude.{◌⊎◌}
 use Rattle.std.proofs.lemmas.Bool.{false≢true}
+use Rattle.dist_base.specs.Ascii.{line_feed}
 use Rattle.dist_outside.specs.DeskView.{DeskView}
 use Rattle.dist_outside.specs.declared.limits.Limits.{Limits}
+use Rattle.dist_outside.specs.declared.trouble.What.TheVariants.{Certificate}
+use Rattle.dist_outside.specs.declared.trouble.WorkError.{WorkError}
+use Rattle.dist_outside.specs.declared.trouble.WorkError.TheVariants.{TooLarge}
 use Rattle.dist_cert.specs.declared.faults.CertCause.TheVariants as causes
 use Rattle.dist_cert.specs.declared.faults.ReadCertError.{ReadCertError}
-use Rattle.dist_cert.specs.declared.faults.ReadCertError.TheVariants.{Bad}
+use Rattle.dist_cert.specs.declared.faults.ReadCertError.TheVariants.{Bad, Work}
 use Rattle.dist_cert.specs.declared.lines.Reached.{Reached}
-use Rattle.dist_cert.specs.declared.lines.Reached.TheVariants.{Feed, File}
+use Rattle.dist_cert.specs.declared.lines.Reached.TheVariants.{Feed, File, Within}
 use Rattle.dist_cert.specs.declared.records.CertRecord.{CertRecord}
 use Rattle.dist_cert.specs.declared.records.Header.{Header}
-use Rattle.dist_cert.specs.Refusal.{IsOneLine, BeginsWith}
-use Rattle.dist_cert.specs.Reading.{ReaderView, in_front, text_left, WhereTold, KeepsLimits, HeaderAnswers, RecordAnswers}
+use Rattle.dist_cert.specs.Refusal.{IsOneLine, BeginsWith, IsTooLong}
+use Rattle.dist_cert.specs.Reading.{ReaderView, in_front, text_left, WhereTold, PassesWhole, KeepsLimits, HeaderAnswers, RecordAnswers}
+use Rattle.dist_cert.specs.Reading.{HeaderOfSome, RecordOfSome}
 use Rattle.dist_cert.specs.Held.{Held}
-use Rattle.dist_cert.specs.LineReadingPrivate.{unread, held_text, text_held, Ends, EndsAt, HasFeed, HasEnd, AtFileEnd}
+use Rattle.dist_cert.specs.LineReadingPrivate.{unread, held_text, text_held, Ends, EndsAt, EndsAtSome, HasFeed, HasEnd, AtFileEnd}
 use Rattle.dist_cert.specs.LooseHeaderPrivate.{IsReadAs, IsReadAsHeader}
 use Rattle.dist_cert.proofs.Filling.{told_weaker}
 use Rattle.dist_cert.proofs.LineEnds.{begins}
@@ -143,12 +148,14 @@ module _ (limits : Limits) (given lines : ℕ) (ended : Bool) (old new : Held) (
   record_file at line same (Err error) h = record_cut at (⊎_elim (λ some. inl (λ none. some (same ∙ none))) (λ not_over. inr not_over) h.1) (lines + 1) error
       h.0
 
-  pub record_bad : reached ≡ Feed → IsReadAs new.line None → (line : ℕ) (error : ReadCertError) → error ≡ Bad (record { line = line; cause = causes.BadRecord })
+  -- what is behind the end, or no form of a record
+  pub record_bad : reached ≡ Feed → (ended ≡ true) ⊎ IsReadAs new.line None → (line : ℕ) (error : ReadCertError)
+      → error ≡ Bad (record { line = line; cause = causes.BadRecord })
       → WhereTold (text_left r left) (text_held new after) (λ rest more. RecordAnswers r rest more (Err error))
   record_bad at none line error e = subst (λ x. WhereTold (text_left r left) (text_held new after) (λ rest more. RecordAnswers r rest more (Err x))) (sym e)
       (opened (λ v rest more. RecordAnswers v rest more (Err (Bad (record { line = line; cause = causes.BadRecord })))) (text_held new after)
       (kept limits given new (feed limits given new reached at end) (text_held old left) (unread after) _ (reached_as Feed at)
-      (λ rest more keeps line_is. (keeps, (new.line, more, line_is, inr none)))))
+      (λ rest more keeps line_is. (keeps, (new.line, more, line_is, none)))))
 
   pub record_ok : reached ≡ Feed → ended ≡ false → (step : CertRecord) → IsReadAs new.line (Some step) → (next : Held)
       → next ≡ record { line = []; behind = drop 1 new.behind }
@@ -158,3 +165,101 @@ module _ (limits : Limits) (given lines : ℕ) (ended : Bool) (old new : Held) (
       (opened (λ v rest more. RecordAnswers v rest more (Ok (Some step))) (in_front ([] ++ drop 1 new.behind) (unread after))
       (passed limits given new (feed limits given new reached at end) (text_held old left) (unread after) _ (reached_as Feed at)
       (λ rest more keeps line_is. record { limits = keeps; not_ended = not_over; line = new.line; begins = line_is; form = form })))
+
+  -- ---- some bytes that have the answer
+
+  module _ (some : EndsAtSome limits given new (Ok reached)) where
+    feed_some : reached ≡ Feed → (more : List ℕ) → KeepsLimits limits given (new.line ++ line_feed ∷ more)
+    feed_some at = subst (λ to. EndsAtSome limits given new (Ok to)) at some
+
+    file_some : reached ≡ File → KeepsLimits limits given new.line
+    file_some at = subst (λ to. EndsAtSome limits given new (Ok to)) at some
+
+    within_some : reached ≡ Within → (rest : List ℕ) × (¬ PassesWhole limits given rest) × IsTooLong limits rest
+    within_some at = subst (λ to. EndsAtSome limits given new (Ok to)) at some
+
+    line_begins : reached ≡ Feed → (more : List ℕ) → BeginsWith (new.line ++ line_feed ∷ more) new.line more
+    line_begins at more = record { ended = refl; one_line = (feed limits given new reached at end).one_line }
+
+    pub header_long_some : reached ≡ Within → (line : ℕ) (error : ReadCertError) → error ≡ Bad (record { line = line; cause = causes.LineTooLong })
+        → HeaderOfSome r (Err error)
+    header_long_some at line error e =
+        let found = within_some at in
+        subst (λ x. HeaderOfSome r (Err x)) (sym e) (subst (λ v. HeaderOfSome v (Err (Bad (record { line = line; cause = causes.LineTooLong })))) is
+        (found.0, ((found.1, found.2), refl)))
+
+    pub header_cut_some : reached ≡ File → (line : ℕ) (error : ReadCertError) → error ≡ Bad (record { line = line; cause = causes.Truncated })
+        → HeaderOfSome r (Err error)
+    header_cut_some at line error e =
+        subst (λ x. HeaderOfSome r (Err x)) (sym e) (subst (λ v. HeaderOfSome v (Err (Bad (record { line = line; cause = causes.Truncated })))) is
+        (new.line, ((file_some at, subst (HasEnd limits given new) at end), refl)))
+
+    pub header_bad_some : reached ≡ Feed → IsReadAsHeader new.line None → (line : ℕ) (error : ReadCertError)
+        → error ≡ Bad (record { line = line; cause = causes.BadHeader }) → HeaderOfSome r (Err error)
+    header_bad_some at none line error e =
+        subst (λ x. HeaderOfSome r (Err x)) (sym e) (subst (λ v. HeaderOfSome v (Err (Bad (record { line = line; cause = causes.BadHeader })))) is
+        (new.line ++ line_feed ∷ [], ((feed_some at [], (new.line, [], line_begins at [], none)), refl)))
+
+    pub header_ok_some : reached ≡ Feed → (h : Header) → IsReadAsHeader new.line (Some h) → HeaderOfSome r (Ok h)
+    header_ok_some at h form = λ more.
+        subst (λ line. HeaderAnswers r (line ++ line_feed ∷ more) more (Ok h)) form.text
+        (subst (λ v. HeaderAnswers v (new.line ++ line_feed ∷ more) more (Ok h)) is
+        (record { limits = feed_some at more; line = new.line; begins = line_begins at more; form = form }))
+
+    pub record_long_some : reached ≡ Within → (line : ℕ) (error : ReadCertError) → error ≡ Bad (record { line = line; cause = causes.LineTooLong })
+        → RecordOfSome r (Err error)
+    record_long_some at line error e =
+        let found = within_some at in
+        subst (λ x. RecordOfSome r (Err x)) (sym e) (subst (λ v. RecordOfSome v (Err (Bad (record { line = line; cause = causes.LineTooLong })))) is
+        (found.0, ((found.1, found.2), refl)))
+
+    pub record_bad_some : reached ≡ Feed → (ended ≡ true) ⊎ IsReadAs new.line None → (line : ℕ) (error : ReadCertError)
+        → error ≡ Bad (record { line = line; cause = causes.BadRecord }) → RecordOfSome r (Err error)
+    record_bad_some at none line error e =
+        subst (λ x. RecordOfSome r (Err x)) (sym e) (subst (λ v. RecordOfSome v (Err (Bad (record { line = line; cause = causes.BadRecord })))) is
+        (new.line ++ line_feed ∷ [], ((feed_some at [], (new.line, [], line_begins at [], none)), refl)))
+
+    pub record_ok_some : reached ≡ Feed → ended ≡ false → (step : CertRecord) → IsReadAs new.line (Some step) → RecordOfSome r (Ok (Some step))
+    record_ok_some at not_over step form = λ more.
+        subst (λ line. RecordAnswers r (line ++ line_feed ∷ more) more (Ok (Some step))) form.text
+        (subst (λ v. RecordAnswers v (new.line ++ line_feed ∷ more) more (Ok (Some step))) is
+        (record { limits = feed_some at more; not_ended = not_over; line = new.line; begins = line_begins at more; form = form }))
+
+    cut_some : reached ≡ File → (new.line ≢ []) ⊎ (ended ≡ false) → (error : ReadCertError)
+        → error ≡ Bad (record { line = lines + 1; cause = causes.Truncated }) → RecordOfSome r (Err error)
+    cut_some at cut error e =
+        subst (λ x. RecordOfSome r (Err x)) (sym e) (subst (λ v. RecordOfSome v (Err (Bad (record { line = lines + 1; cause = causes.Truncated })))) is (
+          new.line,
+          (
+            (
+              file_some at,
+              (
+                subst (HasEnd limits given new) at end,
+                ⊎_elim (λ some_line. inl some_line) (λ not_over. inr (λ over. false≢true (sym not_over ∙ over))) cut,
+              ),
+            ),
+            refl,
+          ),
+        ))
+
+    pub record_file_some : reached ≡ File → (line : List ℕ) → line ≡ new.line → (result : Result (Option CertRecord) ReadCertError)
+        → AtFileEnd ended lines line result → RecordOfSome r result
+    record_file_some at line same (Ok None) h =
+        let nothing : new.line ≡ [] = sym same ∙ h.1 in
+        subst (λ v. RecordOfSome v (Ok None)) is
+        (record { limits = subst (KeepsLimits limits given) nothing (file_some at); ended = h.0; nothing = refl }, refl)
+    record_file_some at line same (Ok (Some step)) h = absurd h
+    record_file_some at line same (Err error) h =
+        cut_some at (⊎_elim (λ some_line. inl (λ none. some_line (same ∙ none))) (λ not_over. inr not_over) h.1) error h.0
+
+-- where the work was given up: of too many bytes there are some that pass the limit
+module _ (limits : Limits) (given lines : ℕ) (ended : Bool) (old new : Held) (r : ReaderView) (is : view_of limits given lines ended old ≡ r) where
+  pub header_work_some : (work : WorkError) → EndsAtSome limits given new (Err work) → HeaderOfSome r (Err (Work work))
+  header_work_some (TooLarge Certificate) some = subst (λ v. HeaderOfSome v (Err (Work (TooLarge Certificate)))) is (some.0, (some.1, refl))
+  header_work_some (TooLarge what) some = ([], refl)
+  header_work_some work some = ([], refl)
+
+  pub record_work_some : (work : WorkError) → EndsAtSome limits given new (Err work) → RecordOfSome r (Err (Work work))
+  record_work_some (TooLarge Certificate) some = subst (λ v. RecordOfSome v (Err (Work (TooLarge Certificate)))) is (some.0, (some.1, refl))
+  record_work_some (TooLarge what) some = ([], refl)
+  record_work_some work some = ([], refl)

@@ -13,7 +13,7 @@ use Rattle.dist_outside.specs.declared.trouble.WorkError.{WorkError}
 use Rattle.dist_outside.specs.declared.trouble.WorkError.TheVariants.{TooLarge}
 use Rattle.dist_cert.specs.declared.lines.Reached.{Reached}
 use Rattle.dist_cert.specs.declared.lines.Reached.TheVariants.{Feed, File, Within}
-use Rattle.dist_cert.specs.LineReadingPrivate.{held_text, KeepsText, IsReached, came, IsJudged, Ends, EndsOr}
+use Rattle.dist_cert.specs.LineReadingPrivate.{held_text, KeepsText, IsReached, came, IsJudged, Ends, EndsOr, EndsOrSome}
 
 -- ---- what is told
 
@@ -132,3 +132,26 @@ judged limits given within old new one reached is (Err (TooLarge Certificate)) j
     (passes limits given within new.line one (new.behind ++ more) (omega (arith, j.0, most reached (length new.line)))
     (omega (arith, j.0, all_there old new reached is more)) j.1)
 judged limits given within old new one reached is (Err error) j rest more e whole = absurd j
+
+-- the same of some bytes, whatever is told
+pub judged_some : (limits : Limits) (given : ℕ) → given ≤ limits.certificate → (old new : Held) → IsOneLine new.line → (reached : Reached)
+    → IsReached old new (Ok reached)
+    → (result : Result (Option Reached) WorkError) → IsJudged limits (limits.certificate - given) (length new.line) reached result
+    → EndsOrSome limits given new result
+judged_some limits given within old new one reached is (Ok None) j = tt
+judged_some limits given within old new one reached is (Ok (Some Within)) j = (
+  new.line ++ [],
+  not_passed limits given within new.line one (new.line ++ []) (λ short. omega (arith, j.1 short, least reached (length new.line))) j.0,
+  too_long limits given within new.line one [] j.0,
+)
+judged_some limits given within old new one Feed is (Ok (Some Feed)) j =
+    λ more. keeps limits given within new.line one more j.1 (λ short. omega (arith, j.2 short))
+judged_some limits given within old new one reached is (Ok (Some Feed)) j = absurd (let bad = j.0 in cc)
+judged_some limits given within old new one reached is (Ok (Some File)) j =
+    keeps_last limits given within new.line one j.1 (λ short. omega (arith, j.2 short, least reached (length new.line)))
+judged_some limits given within old new one reached is (Err (TooLarge Certificate)) j = (
+  new.line ++ (new.behind ++ []),
+  passes limits given within new.line one (new.behind ++ []) (omega (arith, j.0, most reached (length new.line)))
+      (omega (arith, j.0, all_there old new reached is [])) j.1,
+)
+judged_some limits given within old new one reached is (Err error) j = absurd j

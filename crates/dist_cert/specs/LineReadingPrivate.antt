@@ -55,6 +55,20 @@ EndsAt limits given new rest (Ok Within) = (¬ PassesWhole limits given rest) ×
 EndsAt limits given new rest (Err (TooLarge Certificate)) = PassesWhole limits given rest
 EndsAt limits given new rest (Err error) = Unit {0}
 
+-- The same of some bytes: of the line with its line feed and any bytes behind it, of the line alone where the file ends
+-- behind it, or of some bytes at which the reading stops.
+abbrev pub EndsAtSome : Limits → ℕ → Held → Result Reached WorkError → Type 0
+EndsAtSome limits given new (Ok Feed) = (more : List ℕ) → KeepsLimits limits given (new.line ++ line_feed ∷ more)
+EndsAtSome limits given new (Ok File) = KeepsLimits limits given new.line
+EndsAtSome limits given new (Ok Within) = (rest : List ℕ) × (¬ PassesWhole limits given rest) × IsTooLong limits rest
+EndsAtSome limits given new (Err (TooLarge Certificate)) = (rest : List ℕ) × PassesWhole limits given rest
+EndsAtSome limits given new (Err error) = Unit {0}
+
+abbrev pub EndsOrSome : Limits → ℕ → Held → Result (Option Reached) WorkError → Type 0
+EndsOrSome limits given new (Ok None) = Unit {0}
+EndsOrSome limits given new (Ok (Some reached)) = EndsAtSome limits given new (Ok reached)
+EndsOrSome limits given new (Err error) = EndsAtSome limits given new (Err error)
+
 -- the same, where it may go on within the limits
 abbrev pub EndsOr : Limits → ℕ → Held → List ℕ → Result (Option Reached) WorkError → Type 0
 EndsOr limits given new rest (Ok None) = Unit {0}

@@ -1,7 +1,7 @@
 -- What a reader of certificates knows, and what it answers.
-use Rattle.std.specs.Prelude.{◌≢◌, ◌⊎◌, ◌≡◌, ℕ, ◌+◌, ◌-◌, ◌<◌, Bool, false, IsTrue, List, [], ◌++◌, length, take}
-use Rattle.std.specs.Prelude.{Option, Some}
-use Rattle.std.specs.Prelude.{None, Result, Ok, Err}
+use Rattle.std.specs.Prelude.{◌≢◌, ◌⊎◌, ◌≡◌, ℕ, ◌+◌, ◌-◌, ◌<◌, Bool, false, IsTrue, List, [], ◌∷◌, ◌++◌, length}
+use Rattle.std.specs.Prelude.{take, Option, Some, None, Result, Ok, Err}
+use Rattle.dist_base.specs.Ascii.{line_feed}
 use Rattle.dist_outside.specs.Counts.{Rose}
 use Rattle.dist_outside.specs.DeskView.{DeskView}
 use Rattle.dist_outside.specs.Reading.{bytes_left}
@@ -160,6 +160,18 @@ RecordCause old new before after (Ok (Some step)) = HasForm (record_text step) s
 RecordCause old new before after (Ok None) = IsTrue old.ended
 RecordCause old new before after (Err (Bad fault)) = (fault.line ≡ old.lines + 1) × IsRecordCause fault.cause
 RecordCause old new before after (Err error) = WorkCause new before after error
+
+-- The answer is right for some bytes: for the line that is given, with any bytes behind it, or for some bytes at which
+-- the reader stops.
+abbrev pub HeaderOfSome : ReaderView → Result Header ReadCertError → Type 0
+HeaderOfSome r (Ok h) = (more : List ℕ) → HeaderAnswers r (header_text h ++ line_feed ∷ more) more (Ok h)
+HeaderOfSome r (Err error) = (rest : List ℕ) × HeaderAnswers r rest rest (Err error)
+
+abbrev pub RecordOfSome : ReaderView → Result (Option CertRecord) ReadCertError → Type 0
+RecordOfSome r (Ok (Some step)) = (more : List ℕ)
+    → RecordAnswers r (record_text step ++ line_feed ∷ more) more (Ok (Some step))
+RecordOfSome r (Ok None) = RecordAnswers r [] [] (Ok None)
+RecordOfSome r (Err error) = (rest : List ℕ) × RecordAnswers r rest rest (Err error)
 
 -- ---- the reader after a call
 

@@ -21,8 +21,7 @@ EachFollows matter before since = (front : List CertRecord) (literals : List Wor
     → Follows (numbered matter (before ++ front)) (clause_of literals) hints
 
 -- The question is opened, and closed by `u` behind at least so many derived lines. Each of them follows by its hints,
--- and
--- none of them was not new under the question's assumptions when it came.
+-- and none of them was not new under the question's assumptions when it came.
 pub record IsTried (matter : Matter) (limit : ℕ) (steps : List CertRecord) (question : List Word) : Type 0 where
   pub earlier : List CertRecord
   pub since : List CertRecord

@@ -7,7 +7,7 @@ ghost use Rattle.dist_outside.specs.Reading.{ReadCause};
 ghost use Rattle.dist_cert.specs.Refusal.{IsOneLine};
 ghost use Rattle.dist_cert.specs.Reading.{WhereTold};
 ghost use Rattle.dist_cert.specs.Held.{Held};
-ghost use Rattle.dist_cert.specs.LineReadingPrivate.{held_text, text_held, IsReached, KeepsText, Ends, EndsAt, EndsOr, HasEnd, HasEndOr, LineCause, IsJudged};
+ghost use Rattle.dist_cert.specs.LineReadingPrivate.{held_text, text_held, IsReached, KeepsText, Ends, EndsAt, EndsOr, EndsAtSome, EndsOrSome, HasEnd, HasEndOr, LineCause, IsJudged};
 
 use crate::pieces::Piece;
 use dist_outside::{Desk, Limits, What, WorkError};
@@ -119,6 +119,7 @@ impl Lines {
         ensures text { WhereTold (text_held self.old (D.view desk.old)) (text_held self.new (D.view desk.new))
             (Ends (λ rest. EndsOr limits.now given self.new rest result)) }
         ensures end { IfOk result (HasEndOr limits.now given self.old self.new) }
+        ensures some { EndsOrSome limits.now given self.new result }
         ensures cause { IfErr result (LineCause limits.now given self.new (D.view desk.old) (D.view desk.new)) }
         ensures reading { IsReading (D.view desk.new).mode }
         ensures only_reads { OnlyReads (D.view desk.old) (D.view desk.new) }
@@ -144,6 +145,7 @@ impl Lines {
         ensures text { WhereTold (text_held self.old (D.view desk.old)) (text_held self.new (D.view desk.new))
             (Ends (λ rest. EndsAt limits.now given self.new rest result)) }
         ensures end { IfOk result (HasEnd limits.now given self.new) }
+        ensures some { EndsAtSome limits.now given self.new result }
         ensures cause { IfErr result (LineCause limits.now given self.new (D.view desk.old) (D.view desk.new)) }
         ensures reading { IsReading (D.view desk.new).mode }
         ensures only_reads { OnlyReads (D.view desk.old) (D.view desk.new) }

@@ -3,7 +3,7 @@ ghost use Rattle.std.specs.Prelude.{◌≡◌, ◌+◌, ◌-◌, ◌^◌, ◌<�
 ghost use Rattle.dist_outside.specs.Files.{IsReading};
 ghost use Rattle.dist_outside.specs.DeskView.{OnlyReads};
 ghost use Rattle.dist_cert.specs.LineReadingPrivate.{AtFileEnd};
-ghost use Rattle.dist_cert.specs.Reading.{text_left, WhereTold, HeaderAnswers, HeaderCause, GivesHeader, RecordAnswers, RecordCause, GivesRecord};
+ghost use Rattle.dist_cert.specs.Reading.{text_left, WhereTold, HeaderAnswers, HeaderCause, HeaderOfSome, GivesHeader, RecordAnswers, RecordCause, RecordOfSome, GivesRecord};
 
 use crate::faults::{CertCause, CertFault, ReadCertError};
 use crate::forms::Forms;
@@ -110,6 +110,7 @@ impl Reader {
         ensures text { WhereTold (text_left self.old (D.view desk.old)) (text_left self.new (D.view desk.new))
             (λ rest more. HeaderAnswers self.old rest more result) }
         ensures cause { HeaderCause self.old self.new (D.view desk.old) (D.view desk.new) result }
+        ensures some { HeaderOfSome self.old result }
         ensures gives { GivesHeader self.old self.new result }
         ensures reading { IsReading (D.view desk.new).mode }
         ensures only_reads { OnlyReads (D.view desk.old) (D.view desk.new) }
@@ -135,6 +136,7 @@ impl Reader {
         ensures text { WhereTold (text_left self.old (D.view desk.old)) (text_left self.new (D.view desk.new))
             (λ rest more. RecordAnswers self.old rest more result) }
         ensures cause { RecordCause self.old self.new (D.view desk.old) (D.view desk.new) result }
+        ensures some { RecordOfSome self.old result }
         ensures gives { GivesRecord self.old self.new result }
         ensures reading { IsReading (D.view desk.new).mode }
         ensures only_reads { OnlyReads (D.view desk.old) (D.view desk.new) }

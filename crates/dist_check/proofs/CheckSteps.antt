@@ -4,6 +4,7 @@ use Rattle.std.proofs.Common.{ap, subst, ◌∙◌, arith, length-append}
 use Rattle.std.specs.List.{All}
 use Rattle.std.specs.Result.{IsErrAnd}
 use Rattle.std.proofs.lemmas.Bool.{true≢false, false≢true, cases_lt}
+use Rattle.dist_base.specs.Ascii.{line_feed}
 use Rattle.dist_outside.specs.Counts.{Rose}
 use Rattle.dist_outside.specs.DeskView.{DeskView, OnlyReads}
 use Rattle.dist_outside.specs.declared.limits.Limits.{Limits}
@@ -26,8 +27,8 @@ use Rattle.dist_cert.specs.ClearFormsLaws.{FormsAreClear}
 use Rattle.dist_cert.specs.Form.{Word, record_text, HasForm, header_text}
 use Rattle.dist_cert.specs.Groups.{clause_of, derived}
 use Rattle.dist_cert.specs.Reading.{ReaderView, WhereTold, PassesWhole, KeepsLimits, IsHeaderNext, IsRecordNext, HeaderAnswers, HeaderCause, GivesHeader}
-use Rattle.dist_cert.specs.Reading.{RecordAnswers, RecordCause, GivesRecord}
-use Rattle.dist_cert.specs.Refusal.{Fits, AreFaultless}
+use Rattle.dist_cert.specs.Reading.{HeaderOfSome, RecordAnswers, RecordCause, RecordOfSome, GivesRecord}
+use Rattle.dist_cert.specs.Refusal.{certificate_text, Fits, AreFaultless}
 use Rattle.dist_check.specs.Checking.{StopsAtDerived, StopsFirst, TextAnswers, TextCause, OfText}
 use Rattle.dist_subject.specs.Present.{matter_of, subject_of}
 use Rattle.dist_check_state.specs.Since.{IsAppendCause}
@@ -42,6 +43,32 @@ use Rattle.dist_check.proofs.Next.{told-verdict, becomes-at, starts-at}
 use Rattle.dist_check.proofs.Profile.{IsFaultless}
 use Rattle.dist_check.proofs.Whole.{ModelsAreInstallations}
 use Rattle.std.proofs.lemmas.List.Elements.{All-nil}
+
+-- ---- some text, where none is told
+
+-- the text of the lines that were read, with any bytes behind them
+pub at-bytes : (r : PackageList) (limits : Limits) (h : Header) (reader : ReaderView) (s : StateView) (x : IsChecked r limits None h reader None s)
+    (rest : List ℕ) → IsChecked r limits (Some (certificate_text h x.before ++ rest)) h reader (Some rest) s
+at-bytes r limits h reader s x rest = record {
+  inputs = x.inputs;
+  are_inputs = x.are_inputs;
+  inputs_mean = x.inputs_mean;
+  before = x.before;
+  at = x.at;
+  right = x.right;
+  forms = x.forms;
+  strong = x.strong;
+  clauses = x.clauses;
+  literals = x.literals;
+  line_limit = x.line_limit;
+  line_literal_limit = x.line_literal_limit;
+  within = x.within;
+  limits_are = x.limits_are;
+  line_count = x.line_count;
+  given = x.given;
+  ended = x.ended;
+  text = (rest, refl, x.text rest);
+}
 
 -- ---- a line that is read
 
@@ -132,15 +159,23 @@ line-stops clear r limits told h reader next left after s old new x bytes step a
         let answer = subst (λ l. WhereTold l after (λ rest more. RecordAnswers reader rest more (Ok (Some step)))) here.1 answers in
         at text here.0 answer.0 here.2 answer.2 error stops
 
+-- a text without a fault is that of its lines, with the rest behind them
+from-text : (r : PackageList) (inputs : Bool → List (List Literal)) (limits : Limits) (text : List ℕ) (h : Header) (before : List CertRecord) (rest : List ℕ)
+    → AreFaultless (subject_of r inputs) limits text h before rest
+    → AreFaultless (subject_of r inputs) limits (certificate_text h before ++ rest) h before rest
+from-text r inputs limits text h before rest faultless =
+    subst (λ bytes. AreFaultless (subject_of r inputs) limits bytes h before rest) faultless.reads.text_is faultless
+
 -- ---- a line that is taken
 
 pub next-checked : FormsAreClear → (r : PackageList) (limits : Limits) (told : Option (List ℕ)) (h : Header) (reader next : ReaderView)
     (left after : Option (List ℕ)) (s t : StateView) (old new : DeskView) → IsChecked r limits told h reader left s
     → reader.given ≤ reader.limits.certificate → (step : CertRecord) → WhereTold left after (λ rest more. RecordAnswers reader rest more (Ok (Some step)))
     → RecordCause reader next old new (Ok (Some step))
-    → GivesRecord reader next (Ok (Some step)) → TakesLine s step t → t.log.line_limit ≡ s.log.line_limit → t.log.line_literal_limit ≡ s.log.line_literal_limit
+    → RecordOfSome reader (Ok (Some step)) → GivesRecord reader next (Ok (Some step)) → TakesLine s step t
+    → t.log.line_limit ≡ s.log.line_limit → t.log.line_literal_limit ≡ s.log.line_literal_limit
     → IsChecked r limits told h next after t
-next-checked clear r limits told h reader next left after s t old new x bytes step answers because gives takes line_limit line_literal_limit = record {
+next-checked clear r limits told h reader next left after s t old new x bytes step answers because some gives takes line_limit line_literal_limit = record {
   inputs = x.inputs;
   are_inputs = x.are_inputs;
   inputs_mean = x.inputs_mean;
@@ -165,7 +200,13 @@ next-checked clear r limits told h reader next left after s t old new x bytes st
     faultless = told-verdict r (x.inputs h.essential) h x.before s x.strong x.at x.right x.forms x.inputs_mean step because.0.rules None takes.none
 
     by : (o : Option (List ℕ)) → TextAt r x.inputs limits h x.before o left → TextAt r x.inputs limits h (x.before ++ step ∷ []) o after
-    by None here = tt
+    by None here = λ more.
+        let rest : List ℕ = record_text step ++ line_feed ∷ more in
+        let text : List ℕ = certificate_text h x.before ++ rest in
+        let next_is = some more in
+        let one = line-next r limits told h reader left s x bytes text rest more (here rest) step next_is in
+        from-text r x.inputs limits text h (x.before ++ step ∷ []) more
+        (step-reached clear r x.inputs limits text h x.before rest next_is.line more step one faultless)
     by (Some text) here =
         let answer = subst (λ l. WhereTold l after (λ rest more. RecordAnswers reader rest more (Ok (Some step)))) here.1 answers in
         let one = line-next r limits told h reader left s x bytes text here.0 answer.0 here.2 step answer.2 in
@@ -266,9 +307,9 @@ start-stops clear there one r ordered limits reader told left after h is same {X
 
 pub starts-checked : FormsAreClear → (there : ThereAreClauses) → ClausesAreOne → ModelsAreInstallations → (r : PackageList) → IsInOrder r.packages
     → (limits : Limits) (reader next : ReaderView) (told left after : Option (List ℕ)) (h : Header) (s : StateView)
-    → reader ≡ new_reader limits → left ≡ told → WhereTold left after (λ rest more. HeaderAnswers reader rest more (Ok h)) → GivesHeader reader next (Ok h)
-    → IsStart r limits h s → IsChecked r limits told h next after s
-starts-checked clear there one models r ordered limits reader next told left after h s is same answers gives start = record {
+    → reader ≡ new_reader limits → left ≡ told → WhereTold left after (λ rest more. HeaderAnswers reader rest more (Ok h)) → HeaderOfSome reader (Ok h)
+    → GivesHeader reader next (Ok h) → IsStart r limits h s → IsChecked r limits told h next after s
+starts-checked clear there one models r ordered limits reader next told left after h s is same answers some gives start = record {
   inputs = inputs;
   are_inputs = are-inputs there r ordered;
   inputs_mean = record {
@@ -312,16 +353,16 @@ starts-checked clear there one models r ordered limits reader next told left aft
       clauses = start.numbers.clause_count ∙ sym size;
     }
 
+    at : (text more : List ℕ) → IsHeaderNext reader text more h → AreFaultless (subject_of r inputs) limits text h [] more
+    at text more next_is = starts-faultless clear r inputs limits text next_is.line more h
+        (subst (λ v. KeepsLimits v.limits v.given text) is next_is.limits) next_is.begins next_is.form fits
+
     by : (t : Option (List ℕ)) → left ≡ t → TextAt r inputs limits h [] t after
-    by None e = tt
+    by None e = λ more. from-text r inputs limits (header_text h ++ line_feed ∷ more) h [] more
+        (at (header_text h ++ line_feed ∷ more) more (some more))
     by (Some text) e =
         let answer = subst (λ l. WhereTold l after (λ rest more. HeaderAnswers reader rest more (Ok h))) e answers in
-        let next_is = answer.2 in (
-          answer.0,
-          answer.1,
-          starts-faultless clear r inputs limits text next_is.line answer.0 h
-              (subst (λ v. KeepsLimits v.limits v.given text) is next_is.limits) next_is.begins next_is.form fits,
-        )
+        (answer.0, answer.1, at text answer.0 answer.2)
 
 -- ---- causes, whatever is told
 

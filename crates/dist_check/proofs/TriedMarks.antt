@@ -97,13 +97,10 @@ no-mark : {X : Type 0} (x : X) → ¬ Contains [] x
 no-mark x there = omega (arith, there.1)
 
 unknown-left : (matter : Matter) (kind : CertKind) (before : List CertRecord) (p : ℕ) (question : List Word)
-    → Contains (claim_question matter kind p ∷ []) question → HoldsClaim matter kind before (lines.Unknown p) → IsUndecidedIn (group before) question
-unknown-left matter kinds.Strong before p question there holds =
-    subst (IsUndecidedIn (group before)) (alone (claim_question matter kinds.Strong p) question there) holds
-unknown-left matter kinds.Outdated before p question there holds =
-    subst (IsUndecidedIn (group before)) (alone (claim_question matter kinds.Outdated p) question there) holds
-unknown-left matter kinds.Challenged before p question there holds =
-    subst (IsUndecidedIn (group before)) (alone (claim_question matter kinds.Challenged p) question there) holds
+    → claim_question matter kind p ≡ question → HoldsClaim matter kind before (lines.Unknown p) → IsUndecidedIn (group before) question
+unknown-left matter kinds.Strong before p question is holds = subst (IsUndecidedIn (group before)) is holds
+unknown-left matter kinds.Outdated before p question is holds = subst (IsUndecidedIn (group before)) is holds
+unknown-left matter kinds.Challenged before p question is holds = subst (IsUndecidedIn (group before)) is holds
 
 strong-left : (matter : Matter) (kind : CertKind) (before : List CertRecord) (p : ℕ) (named on undecided : List ℕ) (question : List Word)
     → AreFromOne undecided → Contains (map (λ q. yes p ∷ no (q + 1) ∷ []) (from_zero undecided)) question
@@ -161,7 +158,7 @@ mark-closed matter h steps right forms before (lines.Unknown n) after claim is e
     let same : claim ≡ claims.Unknown = cc in
     let next = next-number (claim_count before) matter.packages n (right before step after is causes.OutOfOrder) in
     closed-for matter h steps right before step after is refl question (unknown-left matter h.kind before n question
-    (subst (λ p. Contains (claim_question matter h.kind p ∷ []) question) (sym next.0)
+    (ap (claim_question matter h.kind) next.0 ∙ alone (claim_question matter h.kind (claim_count before + 1)) question
     (subst (λ c. Contains (marked matter h.kind (claim_count before) c) question) same there)))
 mark-closed matter h steps right forms before (lines.Strong n named on undecided) after claim is e question there =
     let step = lines.Strong n named on undecided in

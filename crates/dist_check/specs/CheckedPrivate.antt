@@ -30,10 +30,12 @@ AreRight matter h steps = (before : List CertRecord) (step : CertRecord) (after 
 abbrev pub HaveForms : List CertRecord → Type 0
 HaveForms steps = All (λ step. HasForm (record_text step) step) steps
 
--- the lines that were read are those of the text, where it is told, and have no fault
+-- The lines that were read are those of the text, where it is told, and have no fault. Where it is not told, they have
+-- none whatever is behind them.
 abbrev pub TextAt : PackageList → (Bool → List (List Literal)) → Limits → Header → List CertRecord → Option (List ℕ)
     → Option (List ℕ) → Type 0
-TextAt r inputs limits h before None left = Unit {0}
+TextAt r inputs limits h before None left = (rest : List ℕ)
+    → AreFaultless (subject_of r inputs) limits (certificate_text h before ++ rest) h before rest
 TextAt r inputs limits h before (Some text) left = (rest : List ℕ) × (left ≡ Some rest)
     × AreFaultless (subject_of r inputs) limits text h before rest
 

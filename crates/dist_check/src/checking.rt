@@ -43,6 +43,7 @@ fn take_lines<D: Desk>(
     requires start { IsChecked repo.now limits.now None header.now reader.old None state.old }
     ensures text { (told : Option (List ℕ)) → IsChecked repo.now limits.now told header.now reader.old (text_left reader.old (D.view desk.old)) state.old
         → OfText told (λ text. TextAnswers (λ _. header.now) (λ _. state.new.claims) repo.now limits.now text result) }
+    ensures some { (text : List ℕ) × TextAnswers (λ _. header.now) (λ _. state.new.claims) repo.now limits.now text result }
     ensures means { OnOk result (Means header.now.essential repo.now state.new.claims) }
     ensures cause { IfErr result (TextCause (D.view desk.old) (D.view desk.new)) }
     ensures large { IfErr result (LargeCause repo.now limits.now) }
@@ -74,6 +75,7 @@ pub(crate) fn check_text<D: Desk>(
     requires limits { AreStated limits.now }
     ensures text { OfText (bytes_left (D.view desk.old).files (D.view desk.old).mode)
         (λ text. TextAnswers (λ c. c.header) (λ c. c.claims) repo.now limits.now text result) }
+    ensures some { (text : List ℕ) × TextAnswers (λ c. c.header) (λ c. c.claims) repo.now limits.now text result }
     ensures means { IfOk result (λ c. AcceptedMeans repo.now c.header c.claims) }
     ensures cause { IfErr result (TextCause (D.view desk.old) (D.view desk.new)) }
     ensures large { IfErr result (LargeCause repo.now limits.now) }

@@ -1,5 +1,5 @@
 //! The check of a certificate's file.
-ghost use Rattle.std.specs.Prelude.{IfErr, IfOk};
+ghost use Rattle.std.specs.Prelude.{IfErr, IfOk, List, ℕ};
 ghost use Rattle.dist_outside.specs.DeskView.{OnlyReads};
 ghost use Rattle.dist_outside.specs.Files.{IsNotWriting, IsPresent, file_bytes};
 ghost use Rattle.dist_repo.specs.Size.{IsWithinSize};
@@ -14,8 +14,8 @@ use dist_outside::{Desk, Limits, Trouble, WorkError};
 use dist_repo::Repository;
 use std::alloc::Global;
 
-/// Whether the file of that name is a certificate of the repository, read once. Whatever the desk tells of its files,
-/// what an accepted certificate claims is true, and its first line is one of the repository. A file that isn't there is
+/// Whether the file of that name is a certificate of the repository, read once. Whatever the desk tells of its files, the
+/// answer is that of some text, what an accepted certificate claims is true, and its first line is one of the repository. A file that isn't there is
 /// a fault of reading.
 pub fn check<D: Desk>(
     alloc: Global,
@@ -28,6 +28,7 @@ pub fn check<D: Desk>(
     requires size { IsWithinSize repo.now }
     requires limits { AreStated limits.now }
     ensures text { OfText (file_bytes (D.view desk.old).files name.now) (λ text. Answers repo.now limits.now text result) }
+    ensures some { (text : List ℕ) × Answers repo.now limits.now text result }
     ensures means { IfOk result (VerdictMeans repo.now) }
     ensures present { OnceRead result (IsPresent (D.view desk.old).files name.now) }
     ensures cause { IfErr result (λ error. TextCause (D.view desk.old) (D.view desk.new) (ReadCertError.Work error)) }

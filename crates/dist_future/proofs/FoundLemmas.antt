@@ -1,7 +1,7 @@
 -- The variables that hold and that an atom matches: by meanings, by members and their classes, and by the providers of a name.
-use Rattle.std.proofs.Common.{◌≡◌, ◌≢◌, ◌⊎◌, ℕ, ◌<◌, ◌≤◌, Bool, true, false, List, Option, Some, length, get_or, refl, sym, ap, subst, ◌∙◌, inl, inr, arith}
-use Rattle.std.proofs.Common.{slice_get}
-use Rattle.std.specs.Prelude.{Contains, IsSomeAnd}
+use Rattle.std.proofs.Common.{◌≡◌, ◌≢◌, ◌⊎◌, ◌↔◌, ℕ, ◌<◌, ◌≤◌, Bool, true, false, List, Option, Some, length, get_or, refl, sym, ap, subst, ◌∙◌, inl, inr}
+use Rattle.std.proofs.Common.{arith, slice_get}
+use Rattle.std.specs.Prelude.{Contains, IsSomeAnd, slice_index}
 use Rattle.std.proofs.lemmas.Bool.{false≢true}
 use Rattle.std.proofs.lemmas.List.{get_or_default}
 use Rattle.dist_base.specs.Least.{IsLeast, IsLeastIfAny}
@@ -16,6 +16,7 @@ use Rattle.dist_repo.specs.declared.package.Package.{Package}
 use Rattle.dist_future.specs.FutureHealth.{Holds}
 use Rattle.dist_space_clauses.specs.GatheringPrivate.{IsFresh, IsLaterOf, IsOfVersion}
 use Rattle.dist_future.specs.MatchingPrivate.{IsFound, IsLesserOf, IsMovedBut, IsOther, IsPresentBut}
+use Rattle.dist_space.specs.EntryOrder.{IsEntryNamed}
 use Rattle.dist_space.specs.Space.{IsMatchedBy, IsMeaning, IsSpace, MeetsBound, SpaceView, example_at, fresh_classes, member_classes, moved_entry, variable_of}
 use Rattle.dist_future.specs.SpaceLaws.{holds_under}
 use Rattle.dist_space.specs.declared.meaning.Meaning.{Meaning}
@@ -101,44 +102,54 @@ module _ (s : SpaceView) (values : List Bool) (atom : Atom) where
     is_meaning.1,
   )
 
-  version-split : (r k count v : ℕ) (p : Package) → slice_get s.repository.packages r ≡ Some p → length p.provides ≤ count → (m : Meaning) → variable_of s m ≡ v
-      → Holds s values m → IsMatchedBy s atom m → IsOfVersion r k m
-      → Found (λ n. n ≡ New r k) v ⊎ Before (KeptFound r k) count v
-  version-split r k count v p is past Now var holds matched of = absurd of
-  version-split r k count v p is past (Present q) var holds matched of = absurd of
-  version-split r k count v p is past (At c l) var holds matched of = absurd of
-  version-split r k count v p is past (Fresh x l) var holds matched of = absurd of
-  version-split r k count v p is past (New q l) var holds matched of =
-      inl (record { meaning = New q l; variable_is = var; holds = holds; matched = matched; kind = let a = of.0 in let b = of.1 in cc })
-  version-split r k count v p is past (Kept q l j) var holds matched of =
-      let same = of.0 in
-      let there = has-at (λ (x : Package). IsSomeAnd (slice_get x.provides j) (λ e. IsUsable s.repository.architecture e.qualifier)) s.repository.packages q p
-      (ap (slice_get s.repository.packages) same ∙ is) holds.is_meaning.0 in
-      let short = within-from (λ (e : Provide). IsUsable s.repository.architecture e.qualifier) p.provides j there in
-      inr (
-        j,
-        omega (arith, past, short),
-        record {
-          meaning = Kept q l j;
-          variable_is = var;
-          holds = holds;
-          matched = matched;
-          kind = let a = of.0 in let b = of.1 in cc;
-        },
-      )
+  -- of one of the entries at these places
+  abbrev pub KeptAmong : (r k : ℕ) → List ℕ → (i v : ℕ) → Type 0
+  KeptAmong r k places i v = KeptFound r k (slice_index places i) v
 
-  version-join : (r k count v : ℕ) → Found (λ n. n ≡ New r k) v ⊎ Before (KeptFound r k) count v → Found (IsOfVersion r k) v
-  version-join r k count v (inl f) = found-more (λ n. n ≡ New r k) (IsOfVersion r k) v (λ m holds matched is. subst (IsOfVersion r k) (sym is) (refl, refl)) f
-  version-join r k count v (inr (j, short, f)) = found-more (λ n. n ≡ Kept r k j) (IsOfVersion r k) v
-      (λ m holds matched is. subst (IsOfVersion r k) (sym is) (refl, refl)) f
+  kept-named : (r k j : ℕ) → IsMatchedBy s atom (Kept r k j) → IsEntryNamed s.repository.packages r atom.name j
+  kept-named r k j matched =
+      at-more (λ (p : Package). IsSomeAnd (slice_get p.provides j)
+      (λ e. MatchesByEntry s.repository.architecture atom (moved_entry p.version (example_at (member_classes s r) k) e)))
+      (λ (p : Package). IsSomeAnd (slice_get p.provides j) (λ e. e.name ≡ atom.name))
+      (λ p here. at-more (λ (e : Provide). MatchesByEntry s.repository.architecture atom (moved_entry p.version (example_at (member_classes s r) k) e))
+      (λ (e : Provide). e.name ≡ atom.name) (λ e matches. matches.name) p.provides j here)
+      s.repository.packages r matched
 
-  pub version-all : (r k count : ℕ) (p : Package) (a b o : Option ℕ) → slice_get s.repository.packages r ≡ Some p → length p.provides ≤ count → IsLesserOf a b o
-      → IsLeastIfAny (Found (λ n. n ≡ New r k)) a
-      → IsLeastIfAny (Before (KeptFound r k) count) b → IsLeastIfAny (Found (IsOfVersion r k)) o
-  version-all r k count p a b o is past lesser first second =
-      least-shift (λ v. Found (λ n. n ≡ New r k) v ⊎ Before (KeptFound r k) count v) (Found (IsOfVersion r k)) o (version-join r k count)
-      (λ v f. version-split r k count v p is past f.meaning f.variable_is f.holds f.matched f.kind)
-      (least-two (Found (λ n. n ≡ New r k)) (Before (KeptFound r k) count) a b o lesser first second)
+  module _ (r k : ℕ) (places : List ℕ) (all : (j : ℕ) → Contains places j ↔ IsEntryNamed s.repository.packages r atom.name j) where
+    version-split : (count v : ℕ) → length places ≤ count → (m : Meaning) → variable_of s m ≡ v → Holds s values m → IsMatchedBy s atom m → IsOfVersion r k m
+        → Found (λ n. n ≡ New r k) v ⊎ Before (KeptAmong r k places) count v
+    version-split count v past Now var holds matched of = absurd of
+    version-split count v past (Present q) var holds matched of = absurd of
+    version-split count v past (At c l) var holds matched of = absurd of
+    version-split count v past (Fresh x l) var holds matched of = absurd of
+    version-split count v past (New q l) var holds matched of =
+        inl (record { meaning = New q l; variable_is = var; holds = holds; matched = matched; kind = let a = of.0 in let b = of.1 in cc })
+    version-split count v past (Kept q l j) var holds matched of =
+        let there = (all j).1 (subst (λ (i : ℕ). IsEntryNamed s.repository.packages i atom.name j) of.0 (kept-named q l j matched)) in
+        let same : slice_index places there.0 ≡ j = get_or_default places there.0 0 j there.1 ∙ there.2 in
+        inr (
+          there.0,
+          (let short = there.1 in omega (arith, past, short)),
+          record {
+            meaning = Kept q l j;
+            variable_is = var;
+            holds = holds;
+            matched = matched;
+            kind = ap (λ (i : ℕ). Kept i l j) of.0 ∙ ap (λ (i : ℕ). Kept r i j) of.1 ∙ ap (λ (i : ℕ). Kept r k i) (sym same);
+          },
+        )
+
+    version-join : (count v : ℕ) → Found (λ n. n ≡ New r k) v ⊎ Before (KeptAmong r k places) count v → Found (IsOfVersion r k) v
+    version-join count v (inl f) = found-more (λ n. n ≡ New r k) (IsOfVersion r k) v (λ m holds matched is. subst (IsOfVersion r k) (sym is) (refl, refl)) f
+    version-join count v (inr (i, short, f)) = found-more (λ n. n ≡ Kept r k (slice_index places i)) (IsOfVersion r k) v
+        (λ m holds matched is. subst (IsOfVersion r k) (sym is) (refl, refl)) f
+
+    pub version-all : (count : ℕ) (a b o : Option ℕ) → length places ≤ count → IsLesserOf a b o → IsLeastIfAny (Found (λ n. n ≡ New r k)) a
+        → IsLeastIfAny (Before (KeptAmong r k places) count) b → IsLeastIfAny (Found (IsOfVersion r k)) o
+    version-all count a b o past lesser first second =
+        least-shift (λ v. Found (λ n. n ≡ New r k) v ⊎ Before (KeptAmong r k places) count v) (Found (IsOfVersion r k)) o (version-join count)
+        (λ v f. version-split count v past f.meaning f.variable_is f.holds f.matched f.kind)
+        (least-two (Found (λ n. n ≡ New r k)) (Before (KeptAmong r k places) count) a b o lesser first second)
 
   -- ---- all new versions of a member
 

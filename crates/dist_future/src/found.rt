@@ -1,11 +1,12 @@
 //! The least variable that holds under an assignment and that an atom matches, by the index of names.
-ghost use Rattle.std.specs.Prelude.{◌≡◌, ◌<◌, ◌↔◌, IsTrue, Some, length, slice_get};
+ghost use Rattle.std.specs.Prelude.{◌≡◌, ◌<◌, ◌↔◌, ℕ, Contains, IsTrue, Some, length, slice_get};
 ghost use Rattle.dist_base.specs.Least.{IsLeastIfAny};
 ghost use Rattle.dist_repo.specs.Match.{IsUsable};
 ghost use Rattle.dist_repo.specs.Providers.{AreProviders};
 ghost use Rattle.dist_future.specs.FutureHealth.{IsOneEach};
 ghost use Rattle.dist_space_clauses.specs.GatheringPrivate.{IsFresh, IsLaterOf, IsOfVersion};
 ghost use Rattle.dist_future.specs.MatchingPrivate.{IsFound, IsLesserOf, IsMovedBut, IsOther, IsPresentBut};
+ghost use Rattle.dist_space.specs.EntryOrder.{IsEntryNamed};
 ghost use Rattle.dist_space.specs.Space.{IsMeaning, member_classes};
 ghost use Rattle.dist_space.specs.declared.meaning.Meaning.TheVariants as meaning;
 
@@ -72,23 +73,25 @@ fn entry_found(
     candidate(space, members, atom, Meaning::Kept(member, class, place))
 }
 
-/// The least variable of a new version of a class.
+/// The least variable of a new version of a class. `places` are those of the entries of the atom's name.
 fn version_found(
     space: &Space,
     members: &Assignment,
     atom: &Atom,
     member: u32,
     class: u32,
+    places: &[u32],
 ) -> Option<u32>
     requires one_each { IsOneEach space.now members.now }
     requires class { IsMeaning space.now (meaning.New member class) }
+    requires places { (j : ℕ) → Contains places.now j ↔ IsEntryNamed space.now.repository.packages member atom.now.name j }
     ensures { IsLeastIfAny (IsFound space.now members.now atom.now (IsOfVersion member class)) result }
 {
     let mut least = None;
-    for place in 0..space.package(member).provides.len() {
+    for place in places {
         least = lesser(
             least,
-            entry_found(space, members, atom, member, class, place as u32),
+            entry_found(space, members, atom, member, class, *place),
         );
     }
     lesser(
@@ -103,9 +106,13 @@ fn member_found(space: &Space, members: &Assignment, atom: &Atom, member: u32) -
     requires member { member < length space.now.repository.packages }
     ensures { IsLeastIfAny (IsFound space.now members.now atom.now (IsLaterOf member)) result }
 {
+    let places = space.entries_named(member, &atom.name);
     let mut least = None;
     for class in 0..space.class_count(space.cluster_of(member)) {
-        least = lesser(least, version_found(space, members, atom, member, class));
+        least = lesser(
+            least,
+            version_found(space, members, atom, member, class, places),
+        );
     }
     least
 }

@@ -70,8 +70,8 @@ before-trans (Required a) (Required other) (Item n k) first second = absurd seco
 before-trans (Required a) (Required other) (Apart n k) first second = absurd second
 before-trans (Required a) (Required other) (Required name) first second = nat_list_cmp_total.trans a other name first second
 
-pairs-compared : (r : PackageList) (make : ℕ → ℕ → Demand) → ((a b n k : ℕ) → IsLesser a b n k → IsBefore (make a b) (make n k)) → (a b n k : ℕ)
-    → Compared (present_demands r) (make a b) (make n k)
+pairs-compared : (r : PackageList) (make : ℕ → ℕ → Demand) → ((a b n k : ℕ) → IsLesser a b n k → IsBefore (make a b) (make n k)) → (a b n k : ℕ) →
+    Compared (present_demands r) (make a b) (make n k)
 pairs-compared r make lesser a b n k =
     elim (cases_lt a n) [
       | inl less ↦ is_before (lesser a b n k (inl less))

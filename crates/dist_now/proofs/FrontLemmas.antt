@@ -53,8 +53,8 @@ pub item-pushed : (r : PackageList) (n k : ℕ) (limits set : ClauseList) (claus
     → IsClauseFor r (Item n k) clause
     → IsFront r (Item n (k + 1)) limits (record set { clauses = set.clauses ++ clause ∷ [] })
 item-pushed r n k limits set clause of demand is =
-    set-more (present_demands r) (Before r (Item n k)) (Before r (Item n (k + 1))) limits.clause_limit limits.literal_limit set (Item n k) clause of is
-    (λ e before. before.1)
+    set-more (present_demands r) (Before r (Item n k)) (Before r (Item n (k + 1))) limits.clause_limit limits.literal_limit set (Item n k) clause of
+    is (λ e before. before.1)
     (item-cases r n k) (item-wider r n k) (demand, inr (refl, omega arith))
 
 pub item-skipped : (r : PackageList) (n k : ℕ) (limits set : ClauseList) → IsFront r (Item n k) limits set → ¬ IsDemand r false (Item n k)
@@ -94,8 +94,8 @@ item-within : (r : PackageList) (a b : ℕ) → IsDemand r false (Item a b) → 
 item-within r a b demand = within-from (λ q. IsSomeAnd (slice_get q.depends b) (λ item. ¬ IsMetBy r.architecture item q)) r.packages a demand
 
 pub all-items : (r : PackageList) (n : ℕ) (limits set : ClauseList) → length r.packages ≤ n → IsFront r (Item n 0) limits set → IsFront r (Apart 0 0) limits set
-all-items r n limits set past of = set-shift (present_demands r) (Before r (Item n 0)) (Before r (Apart 0 0)) limits.clause_limit limits.literal_limit set to
-    from of
+all-items r n limits set past of = set-shift (present_demands r) (Before r (Item n 0)) (Before r (Apart 0 0)) limits.clause_limit
+    limits.literal_limit set to from of
   where
     to : (d : Demand) → Before r (Item n 0) d → Before r (Apart 0 0) d
     to (Item a b) (demand, before) = (demand, tt)
@@ -134,8 +134,8 @@ pub pair-pushed : (r : PackageList) (n k : ℕ) (limits set : ClauseList) (claus
     → IsDemand r false (Apart n k) → IsClauseFor r (Apart n k) clause
     → IsFront r (Apart n (k + 1)) limits (record set { clauses = set.clauses ++ clause ∷ [] })
 pair-pushed r n k limits set clause of demand is =
-    set-more (present_demands r) (Before r (Apart n k)) (Before r (Apart n (k + 1))) limits.clause_limit limits.literal_limit set (Apart n k) clause of is
-    (λ e before. before.1)
+    set-more (present_demands r) (Before r (Apart n k)) (Before r (Apart n (k + 1))) limits.clause_limit limits.literal_limit set (Apart n k) clause
+    of is (λ e before. before.1)
     cases wider (demand, inr (refl, omega arith))
   where
     cases : (d : Demand) → Before r (Apart n (k + 1)) d → Before r (Apart n k) d ⊎ (Apart n k ≡ d)
@@ -155,8 +155,8 @@ pair-pushed r n k limits set clause of demand is =
 
 pub pairs-end : (r : PackageList) (n k : ℕ) (limits set : ClauseList) → ((i : ℕ) → k ≤ i → ¬ IsDemand r false (Apart n i)) → IsFront r (Apart n k) limits set
     → IsFront r (Apart (n + 1) 0) limits set
-pairs-end r n k limits set none of = set-shift (present_demands r) (Before r (Apart n k)) (Before r (Apart (n + 1) 0)) limits.clause_limit limits.literal_limit
-    set to from of
+pairs-end r n k limits set none of = set-shift (present_demands r) (Before r (Apart n k)) (Before r (Apart (n + 1) 0)) limits.clause_limit
+    limits.literal_limit set to from of
   where
     to : (d : Demand) → Before r (Apart n k) d → Before r (Apart (n + 1) 0) d
     to (Item a b) (demand, before) = (demand, tt)
@@ -179,8 +179,8 @@ pairs-end r n k limits set none of = set-shift (present_demands r) (Before r (Ap
     from (Required name) (demand, before) = absurd before
 
 pub all-pairs : (r : PackageList) (n : ℕ) (limits set : ClauseList) → length r.packages ≤ n → IsFront r (Apart n 0) limits set → IsPlainSet r limits set
-all-pairs r n limits set past of = set-shift (present_demands r) (Before r (Apart n 0)) (IsDemand r false) limits.clause_limit limits.literal_limit set
-    (λ d before. before.0)
+all-pairs r n limits set past of = set-shift (present_demands r) (Before r (Apart n 0)) (IsDemand r false) limits.clause_limit limits.literal_limit
+    set (λ d before. before.0)
     from of
   where
     from : (d : Demand) → IsDemand r false d → Before r (Apart n 0) d
@@ -202,8 +202,8 @@ before-relation r essential (Item n k) (Required name) is demand before = absurd
 before-relation r essential (Apart n k) (Required name) is demand before = absurd before
 before-relation r essential (Required other) (Required name) is demand before = absurd (not-required r other is)
 
-stopped-too : (r : PackageList) (essential : Bool) (c l : ℕ) (Passes : List (List Literal) → List Literal → Type 0)
-    → made.IsStopped (present_demands r) (IsDemand r false) c l Passes
+stopped-too : (r : PackageList) (essential : Bool) (c l : ℕ) (Passes : List (List Literal) → List Literal → Type 0) → made.IsStopped (present_demands
+    r) (IsDemand r false) c l Passes
     → made.IsStopped (present_demands r) (IsDemand r essential) c l Passes
 stopped-too r essential c l Passes stop = record {
   demand = stop.demand;
@@ -211,8 +211,8 @@ stopped-too r essential c l Passes stop = record {
   clause = stop.clause;
   is_clause = stop.is_clause;
   front = stop.front;
-  before = clauses-shift (present_demands r) (λ e. IsDemand r false e × IsBefore e stop.demand) (λ e. IsDemand r essential e × IsBefore e stop.demand)
-      stop.front
+  before = clauses-shift (present_demands r) (λ e. IsDemand r false e × IsBefore e stop.demand) (λ e. IsDemand r essential e × IsBefore e
+      stop.demand) stop.front
       (λ e before. (relation-demand r essential e before.0, before.1))
       (λ e before. (before-relation r essential stop.demand e stop.is_demand before.0 before.1, before.1)) stop.before;
   clauses_kept = stop.clauses_kept;

@@ -78,8 +78,8 @@ last-named r number before p q ordered is_p is_q of below =
     elim (cases_lt before below.0) [
       | inl later ↦ absurd (of.last below.0 (omega arith) below.1 (essential-only r below.0 p.name below.2))
       | inr earlier ↦ elim (cases_lt below.0 before) [
-        | inl less ↦ between-named r.packages below.0 before number e.it q p ordered less (omega (arith, of.earlier))
-            (slice_get_within r.packages number p is_p)
+        | inl less ↦ between-named r.packages below.0 before number e.it q p ordered less (omega (arith, of.earlier)) (slice_get_within r.packages
+            number p is_p)
             e.is is_q is_p e.named
         | inr more ↦
             let same : below.0 ≡ before = omega arith in
@@ -150,8 +150,8 @@ named-start r limits set of = set-shift (present_demands r) (IsDemand r false) (
 
 pub named-end : (r : PackageList) (number : ℕ) (limits set : ClauseList) → length r.packages ≤ number → IsNamedFront r number limits set
     → IsEssentialSet r limits set
-named-end r number limits set past of = set-shift (present_demands r) (NamedBefore r number) (IsDemand r true) limits.clause_limit limits.literal_limit set
-    (λ d before. before.0)
+named-end r number limits set past of = set-shift (present_demands r) (NamedBefore r number) (IsDemand r true) limits.clause_limit
+    limits.literal_limit set (λ d before. before.0)
     from of
   where
     from : (d : Demand) → IsDemand r true d → NamedBefore r number d
@@ -183,8 +183,8 @@ named-wider r number (Required name) before = (before.0, below-wider r number na
 pub named-skipped : (r : PackageList) (number : ℕ) (p : Package) (limits set : ClauseList) → slice_get r.packages number ≡ Some p → (p.essential ≡ false)
     ⊎ IsNamedBelow r number p.name → IsNamedFront r number limits set
     → IsNamedFront r (number + 1) limits set
-named-skipped r number p limits set is skipped of = set-shift (present_demands r) (NamedBefore r number) (NamedBefore r (number + 1)) limits.clause_limit
-    limits.literal_limit set
+named-skipped r number p limits set is skipped of = set-shift (present_demands r) (NamedBefore r number) (NamedBefore r (number + 1))
+    limits.clause_limit limits.literal_limit set
     (named-wider r number) from of
   where
     from : (d : Demand) → NamedBefore r (number + 1) d → NamedBefore r number d
@@ -236,8 +236,8 @@ before-name r number p name ordered is demand less =
 pub named-before : (r : PackageList) (number : ℕ) (p : Package) (c l : ℕ) (set : ClauseList) → IsInOrder r.packages → slice_get r.packages number ≡ Some p
     → ¬ IsNamedBelow r number p.name → IsSetOf r (NamedBefore r number) c l set
     → IsSetOf r (λ e. IsDemand r true e × IsBefore e (Required p.name)) c l set
-named-before r number p c l set ordered is first of = set-shift (present_demands r) (NamedBefore r number)
-    (λ e. IsDemand r true e × IsBefore e (Required p.name)) c l set to from
+named-before r number p c l set ordered is first of = set-shift (present_demands r) (NamedBefore r number) (λ e. IsDemand r true e × IsBefore e
+    (Required p.name)) c l set to from
     of
   where
     to : (d : Demand) → NamedBefore r number d → IsDemand r true d × IsBefore d (Required p.name)
@@ -255,8 +255,8 @@ pub named-pushed : (r : PackageList) (number : ℕ) (p : Package) (limits set : 
     → IsNamedFront r number limits set → IsClauseFor r (Required p.name) clause
     → IsNamedFront r (number + 1) limits (record set { clauses = set.clauses ++ clause ∷ [] })
 named-pushed r number p limits set clause ordered is essential first of is_clause =
-    set-more (present_demands r) (NamedBefore r number) (NamedBefore r (number + 1)) limits.clause_limit limits.literal_limit set (Required p.name) clause of
-    is_clause below
+    set-more (present_demands r) (NamedBefore r number) (NamedBefore r (number + 1)) limits.clause_limit limits.literal_limit set (Required p.name)
+    clause of is_clause below
     cases (named-wider r number)
     (required-from r.packages number p is essential, some-below r (number + 1) number p.name p (omega arith) is essential refl)
   where

@@ -1,5 +1,5 @@
 -- Numbers of packages, gathered from the providers of names.
-use Rattle.std.proofs.Common.{◌≡◌, ◌↔◌, ℕ, ◌<◌, ◌≤◌, List, [], ◌∷◌, ◌++◌, length, get_or, refl, sym, ap, ◌∙◌, arith, inl, inr, Some, slice_get}
+use Rattle.std.proofs.Common.{◌≡◌, ◌↔◌, ℕ, ◌<◌, ◌≤◌, List, [], ◌∷◌, ◌++◌, length, get_or, refl, sym, ap, ◌∙◌, arith, inl, inr, Some, slice_get, subst}
 use Rattle.std.specs.Prelude.{Contains}
 use Rattle.std.specs.List.Sorted.{IsStrictlyIncreasing}
 use Rattle.std.proofs.lemmas.Bool.{cases_lt}
@@ -37,6 +37,10 @@ rises-from xs m k bound rising up short past = elim (cases_lt m k) [
   | inr most ↦ let same : m ≡ k = omega arith in let h = ap (λ (i : ℕ). get_or xs i 0) same in omega arith
 ]
 
+pub provider-at : (r : PackageList) (name : List ℕ) (providers : List ℕ) (k : ℕ) → AreProviders r name providers → k < length providers
+    → IsPackageAnd r.packages (get_or providers k 0) (IsProvider r.architecture name)
+provider-at r name providers k are short = (are.exact (get_or providers k 0)).0 (contains-index providers k short)
+
 -- the number at a place, if its package has a property
 abbrev pub IsAtAnd : (r : PackageList) (providers : List ℕ) (P : Package → Type 0) → ℕ → ℕ → Type 0
 IsAtAnd r providers P i x = (get_or providers i 0 ≡ x) × IsPackageAnd r.packages x P
@@ -52,6 +56,16 @@ pub adds-not : (r : PackageList) (providers : List ℕ) (P : Package → Type 0)
     → Adds numbers numbers (IsAtAnd r providers P i)
 adds-not r providers P i p numbers is none =
     adds-nothing numbers (IsAtAnd r providers P i) (λ x at. none (has-at P r.packages x p (ap (λ (n : ℕ). slice_get r.packages n) (sym at.0) ∙ is) at.1))
+
+pub adds-here : (r : PackageList) (providers : List ℕ) (P : Package → Type 0) (i : ℕ) (numbers : List ℕ)
+    → IsPackageAnd r.packages (get_or providers i 0) P → Adds numbers (numbers ++ get_or providers i 0 ∷ []) (IsAtAnd r providers P i)
+adds-here r providers P i numbers here =
+    adds-one numbers (get_or providers i 0) (IsAtAnd r providers P i) (refl, here) (λ x at. at.0)
+
+pub adds-never : (r : PackageList) (providers : List ℕ) (P : Package → Type 0) (i : ℕ) (numbers : List ℕ)
+    → ¬ IsPackageAnd r.packages (get_or providers i 0) P → Adds numbers numbers (IsAtAnd r providers P i)
+adds-never r providers P i numbers none =
+    adds-nothing numbers (IsAtAnd r providers P i) (λ x at. none (subst (λ (k : ℕ). IsPackageAnd r.packages k P) (sym at.0) at.1))
 
 -- all providers were gone through
 pub adds-all : (r : PackageList) (name : List ℕ) (providers : List ℕ) (P : Package → Type 0) (count : ℕ) (old new : List ℕ) → length providers ≤ count

@@ -35,11 +35,11 @@ never-itself n pair is = elim is.are [
   | inr h ↦ let less = is.rising in omega (arith, h.0, h.1)
 ]
 
-pub pair-added : (r : PackageList) (start end number other : ℕ) (P : Package → Type 0) (p : Package) (pairs : List (ℕ × ℕ)) (pair : ℕ × ℕ)
-    → IsPairOf number other pair → IsPairIn start end pair
-    → slice_get r.packages other ≡ Some p → P p → Adds pairs (pairs ++ pair ∷ []) (IsPairWithin r start end number other P)
-pair-added r start end number other P p pairs pair is_pair is_in is holds =
-    adds-one pairs pair (IsPairWithin r start end number other P) (record { is_pair = is_pair; is_in = is_in; has = at-has P r.packages other p is holds })
+pub pair-added : (r : PackageList) (start end number other : ℕ) (P : Package → Type 0) (pairs : List (ℕ × ℕ)) (pair : ℕ × ℕ)
+    → IsPairOf number other pair → IsPairIn start end pair → IsPackageAnd r.packages other P
+    → Adds pairs (pairs ++ pair ∷ []) (IsPairWithin r start end number other P)
+pair-added r start end number other P pairs pair is_pair is_in here =
+    adds-one pairs pair (IsPairWithin r start end number other P) (record { is_pair = is_pair; is_in = is_in; has = here })
     (λ x at. one-pair number other pair x is_pair at.is_pair)
 
 pub pair-itself : (r : PackageList) (start end number other : ℕ) (P : Package → Type 0) (pairs : List (ℕ × ℕ)) → other ≡ number
@@ -53,10 +53,9 @@ pair-not-in r start end number other P pairs pair is_pair outside =
     adds-nothing pairs (IsPairWithin r start end number other P)
     (λ x at. outside (subst (IsPairIn start end) (sym (one-pair number other pair x is_pair at.is_pair)) at.is_in))
 
-pub pair-not : (r : PackageList) (start end number other : ℕ) (P : Package → Type 0) (p : Package) (pairs : List (ℕ × ℕ)) → slice_get r.packages other ≡ Some p
-    → ¬ P p → Adds pairs pairs (IsPairWithin r start end number other P)
-pair-not r start end number other P p pairs is none =
-    adds-nothing pairs (IsPairWithin r start end number other P) (λ x at. none (has-at P r.packages other p is at.has))
+pub pair-not : (r : PackageList) (start end number other : ℕ) (P : Package → Type 0) (pairs : List (ℕ × ℕ)) → ¬ IsPackageAnd r.packages other P
+    → Adds pairs pairs (IsPairWithin r start end number other P)
+pair-not r start end number other P pairs none = adds-nothing pairs (IsPairWithin r start end number other P) (λ x at. none at.has)
 
 -- the pair with the provider at a place
 abbrev pub IsPairAt : (r : PackageList) (start end number : ℕ) (providers : List ℕ) (P : Package → Type 0) (i : ℕ) → ℕ × ℕ → Type 0
@@ -96,8 +95,8 @@ pairs-all r start end number atom providers count old new rest are adds =
     from : (x : ℕ × ℕ) → IsWith r start end number P x → UpTo (IsPairAt r start end number providers P) count x
     from x both =
         let with = both.1 in
-        let there : Contains providers with.other = (are.exact with.other).1 (at-more P _ (matched-provides r.architecture atom) r.packages with.other with.has)
-        in
+        let there : Contains providers with.other = (are.exact with.other).1 (at-more P _ (matched-provides r.architecture atom) r.packages
+        with.other with.has) in
         let is : get_or providers there.0 0 ≡ with.other = get_or_default providers there.0 0 with.other there.1 ∙ there.2 in
         let here : IsPairAt r start end number providers P there.0 x = record {
           is_pair = subst (λ (k : ℕ). IsPairOf number k x) (sym is) with.is_pair;

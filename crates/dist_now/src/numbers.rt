@@ -1,9 +1,9 @@
 //! Numbers of packages that a clause speaks of, gathered into one vector that is used again and again.
-ghost use Rattle.std.specs.Prelude.{◌≡◌, ◌≢◌, ◌<◌, ◌≤◌, ◌↔◌, ℕ, Any, Contains, OnOk, Some, length, slice_get, slice_index_or};
+ghost use Rattle.std.specs.Prelude.{◌≡◌, ◌≢◌, ◌<◌, ◌≤◌, ◌↔◌, ℕ, Any, Contains, IsTrue, OnOk, Some, length, slice_get, slice_index_or};
 ghost use Rattle.std.specs.List.Sorted.{IsStrictlyIncreasing};
-ghost use Rattle.dist_repo.specs.Match.{Matches};
+ghost use Rattle.dist_repo.specs.Match.{IsUsable, Matches};
 ghost use Rattle.dist_repo.specs.PackageList.{IsPackageAnd};
-ghost use Rattle.dist_repo.specs.Providers.{AreProviders};
+ghost use Rattle.dist_repo.specs.Providers.{AreProviders, IsProvider};
 ghost use Rattle.dist_now.specs.GatheringPrivate.{Adds, IsMatchedAt};
 ghost use Rattle.dist_now.specs.Members.{IsItemAt};
 ghost use Rattle.dist_now.specs.PresentClauses.{AreNumbersOf, IsMetBy};
@@ -44,6 +44,18 @@ pub(crate) fn place_from(numbers: &[u32], bound: u32) -> usize
     low
 }
 
+/// Whether an atom matches a provider of its name. Where it has no bound it does, so the package isn't looked at.
+pub(crate) fn matches_provider(repo: &Repository, atom: &Atom, number: u32) -> bool
+    requires usable { IsUsable repo.now.architecture atom.now.qualifier }
+    requires provider { IsPackageAnd repo.now.packages number (IsProvider repo.now.architecture atom.now.name) }
+    ensures { IsTrue result ↔ IsPackageAnd repo.now.packages number (Matches repo.now.architecture atom.now) }
+{
+    if atom.bound.is_none() {
+        return true;
+    }
+    repo.matches(atom, repo.package(number))
+}
+
 /// Adds the packages that an atom matches.
 fn add_matched(
     repo: &Repository,
@@ -59,7 +71,7 @@ fn add_matched(
         return Ok(());
     }
     for number in providers {
-        if repo.matches(atom, repo.package(*number)) {
+        if matches_provider(repo, atom, *number) {
             numbers.push(*number)?;
         }
     }

@@ -3,11 +3,12 @@
 //! than the clauses themselves may take.
 ghost use Rattle.std.specs.Prelude.{◌≡◌, ◌≢◌, ◌<◌, ◌≤◌, ◌+◌, ◌↔◌, ◌⊎◌, ℕ, false, Contains, IfOk, IfSome, IsTrue, None, OnOk, Some, length, slice_get, slice_index_or};
 ghost use Rattle.std.specs.List.Sorted.{IsNonDecreasingBy};
-ghost use Rattle.dist_repo.specs.Match.{Matches};
-ghost use Rattle.dist_repo.specs.Providers.{AreProviders};
+ghost use Rattle.dist_repo.specs.Match.{IsUsable, Matches};
+ghost use Rattle.dist_repo.specs.PackageList.{IsPackageAnd};
+ghost use Rattle.dist_repo.specs.Providers.{AreProviders, IsProvider};
 ghost use Rattle.dist_now.specs.GatheringPrivate.{Adds, AreSplitAt, IsPairIn, IsPairOf, IsPairWithin, IsPairWith, IsRejectingPair, Rejects};
 
-use crate::numbers::place_from;
+use crate::numbers::{matches_provider, place_from};
 use dist_relation::Atom;
 use dist_repo::{Package, Repeats, Repository};
 use std::alloc::{AllocError, Global};
@@ -67,14 +68,15 @@ fn add_match(
     span: Span,
     pairs: &mut Vec<(u32, u32)>,
 ) -> Result<(), AllocError>
-    requires { other < length repo.now.packages }
+    requires usable { IsUsable repo.now.architecture atom.now.qualifier }
+    requires provider { IsPackageAnd repo.now.packages other (IsProvider repo.now.architecture atom.now.name) }
     ensures { OnOk result (Adds pairs.old.items pairs.new.items (IsPairWithin repo.now span.start span.end number other (Matches repo.now.architecture atom.now))) }
 {
     if other == number {
         return Ok(());
     }
     let pair = pair_of(number, other);
-    if !span.has(pair) || !repo.matches(atom, repo.package(other)) {
+    if !span.has(pair) || !matches_provider(repo, atom, other) {
         return Ok(());
     }
     pairs.push(pair)?;

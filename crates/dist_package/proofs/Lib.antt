@@ -1,4 +1,6 @@
+pub mod EachAnswered
 pub mod OneReading
+pub mod Ordered
 pub mod OneStanza
 pub mod FieldLemmas
 pub mod SoFar

@@ -55,6 +55,16 @@ version-free kind (relations.Trailing place) comes = tt
 version-free kind (relations.OpInProvides place) comes = tt
 version-free kind relations.NoMemory comes = tt
 
+pub comes-free : (kind : _) (error : RelationError) → Comes kind error → error ≢ relations.NoMemory
+comes-free kind (relations.BadName place) comes = λ e. cc
+comes-free kind (relations.BadOp place) comes = λ e. cc
+comes-free kind (relations.BadVersion place fault) comes = λ e. cc
+comes-free kind (relations.Unclosed place) comes = λ e. cc
+comes-free kind (relations.BarNotAllowed place) comes = λ e. cc
+comes-free kind (relations.Trailing place) comes = λ e. cc
+comes-free kind (relations.OpInProvides place) comes = λ e. cc
+comes-free kind relations.NoMemory comes = absurd comes
+
 free-of : (error : RelationError) → VersionIsFree error → error ≢ relations.NoMemory → IsFreeOfMemory error
 free-of (relations.BadName place) free other = tt
 free-of (relations.BadOp place) free other = tt

@@ -35,15 +35,15 @@ use Rattle.dist_package.specs.StepsPrivate.{GivesPackage, IsFaulty, Adds, IsClas
 
 -- ---- one stanza more is read
 
-read-snoc : (earlier : List Read) (raws : List RawStanza) (reads : List Read) (raw : RawStanza) (read : Read) → AreReadAfter earlier raws reads →
+pub read-snoc : (earlier : List Read) (raws : List RawStanza) (reads : List Read) (raw : RawStanza) (read : Read) → AreReadAfter earlier raws reads →
     ReadsAs (earlier ++ reads) raw read → AreReadAfter earlier (raws ++ raw ∷ []) (reads ++ read ∷ [])
-read-snoc earlier [] [] raw read all here =
+read-snoc earlier [] [] raw read done here =
     let P : List Read → Type 0 = λ e. ReadsAs e raw read in (subst P (append-nil earlier) here, tt)
-read-snoc earlier [] (x ∷ reads) raw read all here = absurd all
-read-snoc earlier (r ∷ raws) [] raw read all here = absurd all
-read-snoc earlier (r ∷ raws) (x ∷ reads) raw read all here =
+read-snoc earlier [] (x ∷ reads) raw read done here = absurd done
+read-snoc earlier (r ∷ raws) [] raw read done here = absurd done
+read-snoc earlier (r ∷ raws) (x ∷ reads) raw read done here =
     let P : List Read → Type 0 = λ e. ReadsAs e raw read in
-    (all.0, read-snoc (earlier ++ x ∷ []) raws reads raw read all.1 (subst P (sym (append_assoc earlier (x ∷ []) reads)) here))
+    (done.0, read-snoc (earlier ++ x ∷ []) raws reads raw read done.1 (subst P (sym (append_assoc earlier (x ∷ []) reads)) here))
 
 -- the architecture that the reads have with one more
 architecture-one : (read : Read) (given : Option (List ℕ)) → read.architecture ≡ unwrap_or given all → given ≢ Some all →

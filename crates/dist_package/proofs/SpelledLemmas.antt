@@ -1,13 +1,13 @@
 -- What is read of a file is spelled with names and versions.
-use Rattle.std.proofs.Common.{◌≡◌, ◌⊎◌, ℕ, zero, suc, List, [], ◌∷◌, ◌++◌, Option, None, Some, inl, inr, refl, subst, sym, arith, length, unwrap_or}
-use Rattle.std.specs.Prelude.{All, Any, IfSome, codes, filter_map}
+use Rattle.std.proofs.Common.{◌≡◌, ℕ, List, [], ◌∷◌, ◌++◌, Option, None, Some, inl, inr, refl, subst, sym, arith, unwrap_or}
+use Rattle.std.specs.Prelude.{All, IfSome, filter_map}
 use Rattle.std.proofs.lemmas.List.Elements.{All-append, All-cons, All-contains, All-nil, All-tail}
 use Rattle.dist_base.specs.Ascii.{bar, comma}
 use Rattle.dist_control.specs.RawStanza.{RawStanza, raw_stanzas}
 use Rattle.dist_control.specs.declared.field_list.Stanza.{Stanza}
 use Rattle.dist_version.specs.Spelling.{IsVersion}
 use Rattle.dist_relation.specs.Bytes.{IsName}
-use Rattle.dist_relation.specs.Grammar.{Joined, ReadsValue, ReadsAtoms, ReadsDepends, ReadsProvides, SpellsAlternatives, SpellsAtom, SpellsBoundOf, SpellsPiece}
+use Rattle.dist_relation.specs.Grammar.{Joined, ReadsValue, ReadsAtoms, ReadsDepends, ReadsProvides, SpellsAtom, SpellsBoundOf, SpellsPiece}
 use Rattle.dist_relation.specs.Grammar.{SpellsProvide, atom_of}
 use Rattle.dist_relation.specs.declared.atom.Atom.{Atom}
 use Rattle.dist_relation.specs.declared.atom.Bound.{Bound}
@@ -15,7 +15,7 @@ use Rattle.dist_relation.specs.declared.atom.Provide.{Provide}
 use Rattle.dist_repo.specs.PackageList.{PackageList}
 use Rattle.dist_repo.specs.declared.package.Package.{Package}
 use Rattle.dist_package.specs.FirstFault.{AreReadAfter, Read}
-use Rattle.dist_package.specs.PackageOf.{IsPackageOf, ReadsRelations, ReadsSource}
+use Rattle.dist_package.specs.PackageOf.{IsPackageOf, ReadsSource}
 use Rattle.dist_package.specs.RepositoryOf.{IsRepositoryOf}
 use Rattle.dist_package.specs.Source.{ReadsVersionPart, version_part}
 use Rattle.dist_package.specs.Spelled.{IsSpelled, IsSpelledAtom, IsSpelledEntry}

@@ -1,5 +1,5 @@
 -- What the texts of a package that was read are: names and versions (Debian Policy 5.6.1, 5.6.12 and 7.1).
-use Rattle.std.specs.Prelude.{List, All, IfSome}
+use Rattle.std.specs.Prelude.{All, IfSome}
 use Rattle.dist_version.specs.Spelling.{IsVersion}
 use Rattle.dist_relation.specs.Bytes.{IsName}
 use Rattle.dist_relation.specs.declared.atom.Atom.{Atom}

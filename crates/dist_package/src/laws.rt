@@ -1,9 +1,10 @@
 //! What holds of files, their repositories and their faults, apart from any call.
 ghost use Rattle.std.specs.Prelude.{ℕ, ◌≤◌, List, All, length};
-ghost use Rattle.dist_control.specs.RawStanza.{RawStanza};
+ghost use Rattle.dist_base.specs.Answers.{IsExact};
+ghost use Rattle.dist_control.specs.RawStanza.{RawStanza, raw_stanzas};
 ghost use Rattle.dist_repo.specs.PackageList.{PackageList};
 ghost use Rattle.dist_repo.specs.Size.{relation_count};
-ghost use Rattle.dist_package.specs.FirstFault.{HasPackagesFault, CarriesNoMemory};
+ghost use Rattle.dist_package.specs.FirstFault.{HasPackagesFault, IsRefused, CarriesNoMemory};
 ghost use Rattle.dist_package.specs.declared.error.Fault.{Fault};
 ghost use Rattle.dist_package.specs.OneAnswer.{HasOneAnswer};
 ghost use Rattle.dist_package.specs.RepositoryOf.{IsRepositoryOf};
@@ -30,6 +31,18 @@ pub fn packages_are_exact()
     texts_are_exact();
     values_are_exact();
     each_stands_once();
+}
+
+/// Each Packages text has exactly one answer, whatever the limit: its repository, or the reason why it has none. So a text
+/// without a fault, of no more stanzas than the limit, has a repository.
+pub fn each_text_is_answered()
+    ensures { (text : List ℕ) (limit : ℕ) → IsExact (IsRepositoryOf text limit) (IsRefused (raw_stanzas text) limit) }
+{
+    one_reading_or_fault();
+    texts_are_exact();
+    values_are_exact();
+    faults_come();
+    packages_are_exact();
 }
 
 /// The packages of a file's repository have together at most as many atoms and entries of Provides as the file has bytes.

@@ -14,6 +14,7 @@ mod source;
 
 pub use error::{Fault, Kind, PackagesError, RelationField};
 pub use laws::{
-    kinds_carry_no_memory, packages_are_exact, packages_are_spelled, relations_take_bytes,
+    each_text_is_answered, kinds_carry_no_memory, packages_are_exact, packages_are_spelled,
+    relations_take_bytes,
 };
 pub use reader::read_packages;

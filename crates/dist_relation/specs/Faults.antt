@@ -245,8 +245,8 @@ FirstAtomsFault value error = FirstFault kinds.Conflicts (SpellsAtom kinds.Confl
 abbrev pub FirstProvidesFault : List ℕ → RelationError → Type 0
 FirstProvidesFault value error = FirstFault kinds.Provides SpellsProvide value error
 
--- Which errors a value of a kind may have: a bar is allowed in dependencies, and every operator but in Provides. A
--- version's fault is never want of memory.
+-- Which errors a value of a kind may have: a bar is allowed in dependencies, and every operator but in Provides. Want
+-- of memory is no fault, neither of the value nor of a version in it.
 abbrev pub Comes : Kind → RelationError → Type 0
 Comes kind (errors.BadVersion place fault) = fault ≢ versions.NoMemory
 Comes kind (errors.BarNotAllowed place) = kind ≢ kinds.Depends
@@ -255,7 +255,7 @@ Comes kind (errors.BadName place) = Unit {0}
 Comes kind (errors.BadOp place) = Unit {0}
 Comes kind (errors.Unclosed place) = Unit {0}
 Comes kind (errors.Trailing place) = Unit {0}
-Comes kind errors.NoMemory = Unit {0}
+Comes kind errors.NoMemory = ⊥
 
 -- The only fault of bytes that are to be a name.
 abbrev pub IsNoName : List ℕ → RelationError → Type 0

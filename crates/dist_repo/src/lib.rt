@@ -9,6 +9,7 @@ mod builder;
 mod key;
 mod laws;
 mod matching;
+mod name_key;
 mod names;
 mod package;
 mod prefix;
@@ -19,6 +20,7 @@ mod tally;
 
 pub use builder::{AddError, Added, Builder};
 pub use laws::{each_stands_once, latest_is_one};
+pub use name_key::NameKey;
 pub use package::Package;
 pub use repeats::Repeats;
 pub use repository::Repository;

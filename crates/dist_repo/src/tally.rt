@@ -9,112 +9,15 @@ ghost use Rattle.dist_repo.specs.TallyPrivate.{numbers_at, EndsWith, IsTallyOf, 
 
 use crate::key::Key;
 use crate::matching::is_usable;
+use crate::name_key::NameKey;
 use crate::names::NameIndex;
 use crate::package::Package;
-use crate::prefix::prefix_of;
 use dist_base::Flat;
 use dist_relation::Name;
 use smallvec::SmallVec;
 use std::alloc::{AllocError, Global};
-use std::cmp::Ordering;
 use std::collections::BTreeMap;
 use std::marker::Model;
-
-/// A name as a key, by its bytes.
-#[derive(Drop)]
-struct NameKey<'a> {
-    /// The prefix of the name, so that names of different prefixes are compared without their bytes.
-    prefix: u128,
-    bytes: &'a [u8],
-}
-
-impl<'a> Model for NameKey<'a> {
-    ghost use Rattle.std.specs.Prelude.{ℕ, List};
-    ghost use Rattle.dist_repo.specs.Prefix.{IsPrefixOf};
-
-    ghost Value = { List ℕ };
-
-    ghost view = { λ key. key.bytes.now };
-
-    ghost invariant = { λ key. IsPrefixOf key.prefix key.bytes.now };
-}
-
-impl<'a> NameKey<'a> {
-    fn new(bytes: &'a [u8]) -> NameKey<'a>
-        ensures { result ≡ bytes.now }
-    {
-        NameKey {
-            prefix: prefix_of(bytes),
-            bytes,
-        }
-    }
-
-    fn bytes(&self) -> &'a [u8]
-        ensures { result.now ≡ self.now }
-    {
-        self.bytes
-    }
-}
-
-impl Ord for NameKey<'_> {
-    ghost use Rattle.std.specs.Cmp.Lexicographic.{slice_cmp};
-    ghost use Rattle.std.specs.Ordering.{nat_cmp};
-    ghost use Rattle.std.proofs.lemmas.Cmp.{nat_list_cmp_total};
-    ghost use Rattle.std.proofs.Common.{refl};
-
-    ghost cmp = { slice_cmp nat_cmp };
-
-    ghost total = { nat_list_cmp_total };
-
-    ghost matches_partial_cmp = { λ _ _. refl };
-
-    ghost matches_eq = { λ _ _. refl };
-
-    fn cmp(&self, other: &Self) -> Ordering {
-        let by_prefix = self.prefix.cmp(&other.prefix);
-        if by_prefix.is_ne() {
-            return by_prefix;
-        }
-        self.bytes.cmp(other.bytes)
-    }
-}
-
-impl PartialOrd for NameKey<'_> {
-    ghost use Rattle.std.specs.Cmp.{partial_order_from_total};
-    ghost use Rattle.std.specs.Cmp.Lexicographic.{slice_cmp};
-    ghost use Rattle.std.specs.Ordering.{as_partial_cmp, nat_cmp};
-    ghost use Rattle.std.proofs.lemmas.Cmp.{nat_list_cmp_total};
-
-    ghost partial_cmp = { as_partial_cmp (slice_cmp nat_cmp) };
-
-    ghost laws = { partial_order_from_total nat_list_cmp_total };
-
-    fn partial_cmp(&self, other: &Self) -> Option<Ordering> {
-        Some(self.cmp(other))
-    }
-}
-
-impl PartialEq for NameKey<'_> {
-    ghost use Rattle.std.specs.Cmp.{eq_by_cmp_equiv, partial_equiv_from_equiv};
-    ghost use Rattle.std.specs.Cmp.Lexicographic.{slice_cmp};
-    ghost use Rattle.std.specs.Ordering.{eq_by_cmp, nat_cmp};
-    ghost use Rattle.std.proofs.lemmas.Cmp.{nat_list_cmp_total};
-
-    ghost eq = { eq_by_cmp (slice_cmp nat_cmp) };
-
-    ghost laws = { partial_equiv_from_equiv (eq_by_cmp_equiv nat_list_cmp_total) };
-
-    fn eq(&self, other: &Self) -> bool {
-        self.cmp(other).is_eq()
-    }
-}
-
-impl Eq for NameKey<'_> {
-    ghost use Rattle.std.specs.Cmp.{eq_by_cmp_equiv};
-    ghost use Rattle.std.proofs.lemmas.Cmp.{nat_list_cmp_total};
-
-    ghost laws = { eq_by_cmp_equiv nat_list_cmp_total };
-}
 
 /// Numbers that rise.
 #[derive(Drop)]
@@ -200,7 +103,7 @@ impl<'a> Tally<'a> {
     }
 
     /// Notes that the package of a number provides a name.
-    pub(crate) fn note(&mut self, name: &'a [u8], number: u32) -> Result<(), AllocError>
+    pub(crate) fn note(&mut self, name: &'a Name, number: u32) -> Result<(), AllocError>
         requires { (k : ℕ) → Contains (numbers_at self.old name.now) k → k ≤ number }
         ensures { OnOk result (Notes self.old self.new name.now number) }
     {
@@ -219,11 +122,11 @@ impl<'a> Tally<'a> {
         requires { (q : List ℕ) (k : ℕ) → Contains (numbers_at self.old q) k → k ≤ number }
         ensures { OnOk result (NotesEach self.old self.new (λ q. IsProvider architecture.now q «package».now) number) }
     {
-        self.note(package.name.bytes(), number)?;
+        self.note(&package.name, number)?;
         for place in 0..package.provides.len() {
             let entry = package.provides.get(place);
             if is_usable(architecture, &entry.qualifier) {
-                self.note(entry.name.bytes(), number)?;
+                self.note(&entry.name, number)?;
             }
         }
         Ok(())
@@ -239,7 +142,7 @@ impl<'a> Tally<'a> {
         let mut names = Flat::new(self.alloc);
         let mut numbers = Flat::new(self.alloc);
         for (key, list) in self.providers.iter() {
-            names.push(key.bytes())?;
+            names.push(key.name().bytes())?;
             numbers.push(list.as_slice())?;
         }
         Ok(NameIndex { names, numbers })

@@ -1,3 +1,4 @@
+pub mod EntryLemmas
 pub mod ExampleLemmas
 pub mod ExtendLemmas
 pub mod FrameLemmas

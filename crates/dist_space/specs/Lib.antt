@@ -8,3 +8,4 @@ pub mod KeyLaws
 pub mod VariableLaws
 pub mod ClusterLaws
 pub mod UsableLaws
+pub mod EntryOrder

@@ -6,6 +6,7 @@
 #![tactic(auto)]
 
 mod bounds;
+mod entry_order;
 mod errors;
 mod exampled;
 mod frame;

@@ -1,20 +1,24 @@
 //! The space of the futures of a repository.
-ghost use Rattle.std.specs.Prelude.{◌≡◌, ◌≤◌, ◌<◌, ◌-◌, ◌^◌, IfOk, Some, length, slice_get};
+ghost use Rattle.std.specs.Prelude.{◌≡◌, ◌≤◌, ◌<◌, ◌-◌, ◌^◌, ◌↔◌, ℕ, Contains, IfOk, Some, length, slice_get};
 ghost use Rattle.dist_base.specs.declared.TheConstants.{MAX_VARIABLES};
 ghost use Rattle.dist_base.specs.Answers.{IsExactly};
 ghost use Rattle.dist_repo.specs.Order.{IsFlat};
 ghost use Rattle.dist_repo.specs.Size.{IsWithinSize};
+ghost use Rattle.dist_space.specs.EntryOrder.{IsEntryNamed};
 ghost use Rattle.dist_space.specs.Space.{IsMeaningOf, IsMeaning, IsSpace, cluster_classes, example_at, fresh_classes, variable_of};
 ghost use Rattle.dist_space.specs.SpaceOf.{HasMoreVariables, IsSpaceOf};
 
+use crate::entry_order::{entry_orders, named};
 use crate::errors::SpaceError;
 use crate::frame::Frame;
 use crate::meaning::Meaning;
 use crate::numbering::number_meanings;
 use crate::places::Places;
 use crate::space_laws::spaces_are_one;
+use dist_base::Flat;
 use dist_classes::{Classes, Names};
 use dist_cluster::Clusters;
+use dist_relation::Name;
 use dist_repo::{Package, Repository};
 use dist_version::Version;
 use std::alloc::Global;
@@ -28,9 +32,12 @@ pub struct Space {
     /// The variable of a number, from 1, has the meaning at the place before.
     pub(crate) meanings: Vec<Meaning>,
     pub(crate) places: Places,
+    /// For each package the places of its entries of Provides, in the order of their names.
+    entries: Flat<u32>,
 }
 
 impl Model for Space {
+    ghost use Rattle.dist_space.specs.EntryOrder.{AreEntryOrders};
     ghost use Rattle.dist_space.specs.Kept.{IsWhole};
     ghost use Rattle.dist_space.specs.Space.{SpaceView};
 
@@ -56,7 +63,7 @@ impl Model for Space {
       names = s.frame.names;
       name_classes = s.frame.name_classes;
       meanings = s.meanings.items;
-    }) };
+    }) × AreEntryOrders s.frame.repository.packages s.entries };
 }
 
 /// The space of a flat repository, which is kept in it, at mode essential or plain. After an `Err` the repository is given up.
@@ -78,10 +85,12 @@ pub fn space_of(
     let frame = Frame::new(alloc, repo, essential)?;
     let meanings = number_meanings(alloc, &frame, variables)?;
     let places = Places::of(alloc, frame.package_count(), &meanings)?;
+    let entries = entry_orders(alloc, &frame)?;
     Ok(Space {
         frame,
         meanings,
         places,
+        entries,
     })
 }
 
@@ -187,6 +196,15 @@ impl Space {
         ensures few_entries { length result.now.provides < 2 ^ 32 }
     {
         self.frame.package(number)
+    }
+
+    /// The places of those entries of Provides of a package that have a name.
+    pub fn entries_named(&self, member: u32, name: &Name) -> &[u32]
+        requires { member < length self.now.repository.packages }
+        ensures { (j : ℕ) → Contains result.now j ↔ IsEntryNamed self.now.repository.packages member name.now j }
+    {
+        let provides = &self.frame.package(member).provides;
+        named(provides, self.entries.get(member as usize), name.bytes())
     }
 
     /// The example of a class of a cluster.

@@ -106,6 +106,14 @@ module _ (s : SpaceView) where
         (Contains-push xs variable);
   }
 
+  -- the same variables were there
+  pub gathers-from : (old mid new : List ℕ) (P Q : Property) → ((v : ℕ) → Contains mid v ↔ Contains old v) → Gathers s mid new P Q → Gathers s old new P Q
+  gathers-from old mid new P Q same of = record {
+    kept = λ v there. of.kept v ((same v).1 there);
+    only = λ v there. elim (of.only v there) [ inl first ↦ inl ((same v).0 first) | inr with ↦ inr with ];
+    all = of.all;
+  }
+
   -- one of the meanings with a property, or none
   pub gathers-one : (old new : List ℕ) (m : Meaning) (P : Property) → P m → Adds s old new (λ x. x ≡ m) → Adds s old new (λ x. (x ≡ m) × P x)
   gathers-one old new m P holds of = gathers-weaker old new (λ x. x ≡ m) (λ x. (x ≡ m) × P x) (λ x. x ≡ m) (λ x. (x ≡ m) × P x)

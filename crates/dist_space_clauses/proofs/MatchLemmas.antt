@@ -1,5 +1,5 @@
 -- What an atom matches, meaning by meaning.
-use Rattle.std.proofs.Common.{◌≡◌, ◌⊎◌, ℕ, ◌<◌, List, Some, length, refl, sym, ap, subst, ◌∙◌, inl, inr, slice_get}
+use Rattle.std.proofs.Common.{◌≡◌, ◌⊎◌, ◌↔◌, ℕ, ◌<◌, List, Some, length, refl, sym, ap, subst, ◌∙◌, inl, inr, slice_get}
 use Rattle.std.specs.Prelude.{Any, Contains, IsSomeAnd}
 use Rattle.std.proofs.lemmas.Option.{same_Some}
 use Rattle.dist_base.specs.ListLaws.{any-at, any-contained, at-has, at-more, has-at, here-at, within-from}
@@ -9,6 +9,7 @@ use Rattle.dist_repo.specs.Match.{IsUsable, Matches, MatchesByEntry}
 use Rattle.dist_repo.specs.Providers.{AreProviders, IsProvider}
 use Rattle.dist_repo.specs.declared.package.Package.{Package}
 use Rattle.dist_space_clauses.specs.GatheringPrivate.{IsFresh, IsKeptOf, IsLaterOf, IsOf, IsOfVersion}
+use Rattle.dist_space.specs.EntryOrder.{IsEntryNamed}
 use Rattle.dist_space.specs.Space.{IsMatchedBy, IsMeaning, MeetsBound, SpaceView, example_at, fresh_classes, member_classes, moved_entry}
 use Rattle.dist_space.specs.declared.meaning.Meaning.{Meaning}
 use Rattle.dist_space.specs.declared.meaning.Meaning.TheVariants.{Now, Present, At, New, Kept, Fresh}
@@ -73,17 +74,24 @@ module _ (s : SpaceView) (atom : Atom) where
   pub kept-among : (r k j : ℕ) (m : Meaning) → MatchedAnd (λ x. x ≡ Kept r k j) m → MatchedAnd (IsKeptOf r k) m
   kept-among r k j m both = (subst (IsKeptOf r k) (sym both.0) (refl, refl), both.1)
 
-  pub kept-one : (r k : ℕ) (p : Package) (m : Meaning) → slice_get s.repository.packages r ≡ Some p → MatchedAnd (IsKeptOf r k) m → (j : ℕ)
-      × (j < length p.provides) × MatchedAnd (λ x. x ≡ Kept r k j) m
-  kept-one r k p Now is both = absurd both.0
-  kept-one r k p (Present n) is both = absurd both.0
-  kept-one r k p (At c l) is both = absurd both.0
-  kept-one r k p (New n l) is both = absurd both.0
-  kept-one r k p (Kept n l j) is both =
-      let at_n : slice_get s.repository.packages n ≡ Some p = ap (λ (i : ℕ). slice_get s.repository.packages i) both.0.0 ∙ is in
-      let inner = has-at (λ (q : Package). IsSomeAnd (slice_get q.provides j) (EntryMatches n l q)) s.repository.packages n p at_n both.1 in
-      (j, within-from (EntryMatches n l p) p.provides j inner, (ap (λ (i : ℕ). Kept i l j) both.0.0 ∙ ap (λ (i : ℕ). Kept r i j) both.0.1, both.1))
-  kept-one r k p (Fresh x l) is both = absurd both.0
+  -- a kept entry that is matched has the atom's name
+  pub kept-one : (r k : ℕ) (places : List ℕ) (m : Meaning)
+      → ((j : ℕ) → Contains places j ↔ IsEntryNamed s.repository.packages r atom.name j) → MatchedAnd (IsKeptOf r k) m
+      → Any (λ j. MatchedAnd (λ x. x ≡ Kept r k j) m) places
+  kept-one r k places Now all both = absurd both.0
+  kept-one r k places (Present n) all both = absurd both.0
+  kept-one r k places (At c l) all both = absurd both.0
+  kept-one r k places (New n l) all both = absurd both.0
+  kept-one r k places (Kept n l j) all both =
+      let named : IsEntryNamed s.repository.packages n atom.name j =
+      at-more (λ (p : Package). IsSomeAnd (slice_get p.provides j) (EntryMatches n l p))
+      (λ (p : Package). IsSomeAnd (slice_get p.provides j) (λ entry. entry.name ≡ atom.name))
+      (λ p here. at-more (EntryMatches n l p) (λ (entry : Provide). entry.name ≡ atom.name) (λ entry matches. matches.name) p.provides j here)
+      s.repository.packages n both.1 in
+      any-contained (λ (i : ℕ). MatchedAnd (λ x. x ≡ Kept r k i) (Kept n l j)) places j
+      ((all j).1 (subst (λ (i : ℕ). IsEntryNamed s.repository.packages i atom.name j) both.0.0 named))
+      (ap (λ (i : ℕ). Kept i l j) both.0.0 ∙ ap (λ (i : ℕ). Kept r i j) both.0.1, both.1)
+  kept-one r k places (Fresh x l) all both = absurd both.0
 
   pub new-of-version : (r k : ℕ) (m : Meaning) → MatchedAnd (λ x. x ≡ New r k) m → MatchedAnd (IsOfVersion r k) m
   new-of-version r k m both = (subst (IsOfVersion r k) (sym both.0) (refl, refl), both.1)

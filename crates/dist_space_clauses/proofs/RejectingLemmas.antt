@@ -13,7 +13,7 @@ use Rattle.dist_base.specs.ListLaws.{at-has, has-at, within-from}
 use Rattle.dist_relation.specs.declared.atom.Atom.{Atom}
 use Rattle.dist_repo.specs.PackageList.{PackageList}
 use Rattle.dist_repo.specs.declared.package.Package.{Package}
-use Rattle.dist_space_clauses.specs.Rejecting.{AreRejecting, Entries, IsRejecting, Notes, numbers_at}
+use Rattle.dist_space_clauses.specs.Rejecting.{AreRejecting, Entries, IsRejecting, IsWith, Notes, numbers_at}
 use Rattle.dist_space_clauses.proofs.Gathered.{any-first, any-none, any-take, any-take-back, any-whole}
 
 -- ---- one number beside one name
@@ -27,12 +27,8 @@ at-same name q is = (bytes_eq-Decides name q).0 (sym (is_eq-slice_cmp name q) �
 at-other : (name q : List ℕ) → At name q ≡ false → name ≢ q
 at-other name q is same = false≢true (sym is ∙ is_eq-slice_cmp name q ∙ (bytes_eq-Decides name q).1 same)
 
--- a list with one number more
-abbrev pub IsWith : List ℕ → ℕ → List ℕ → Type 0
-IsWith list v new = new ≡ list ++ v ∷ []
-
-with-iff : (list new : List ℕ) (v x : ℕ) → IsWith list v new → Contains new x ↔ (Contains list x ⊎ (v ≡ x))
-with-iff list new v x is =
+pub with-pushed : (list new : List ℕ) (v : ℕ) → new ≡ list ++ v ∷ [] → IsWith list v new
+with-pushed list new v is x =
     let In : List ℕ → Type 0 = λ xs. Contains xs x in (
       (λ there. Contains-push_cases list v x (subst In is there)),
       λ either. subst In (sym is) (elim either [
@@ -49,7 +45,7 @@ noted-case true t n name q v w is found adds x =
     let now : numbers_at n q ≡ w = ap (λ (o : Option (List ℕ)). unwrap_or o []) found in
     let before : numbers_at t name ≡ numbers_at t q = ap (numbers_at t) here in
     let In : List ℕ → Type 0 = λ xs. Contains xs x in
-    let iff = with-iff (numbers_at t name) w v x adds in (
+    let iff = adds x in (
       (λ there. elim (iff.0 (subst In now there)) [
         | inl h ↦ inl (subst In before h)
         | inr h ↦ inr (here, h)

@@ -13,6 +13,10 @@ Entries = List (List ℕ × List ℕ)
 abbrev pub numbers_at : Entries → List ℕ → List ℕ
 numbers_at entries name = unwrap_or (lookup (is_at (slice_cmp nat_cmp name)) entries) []
 
+-- a list with one number more
+abbrev pub IsWith : (list : List ℕ) → (number : ℕ) → (new : List ℕ) → Type 0
+IsWith list number new = (x : ℕ) → Contains new x ↔ (Contains list x ⊎ (number ≡ x))
+
 -- beside each name the numbers that go with it are there too
 abbrev pub Notes : (old new : Entries) → (List ℕ → ℕ → Type 0) → Type 0
 Notes old new P = (q : List ℕ) (n : ℕ) → Contains (numbers_at new q) n ↔ (Contains (numbers_at old q) n ⊎ P q n)

@@ -55,7 +55,7 @@ fn add_rejected(
     if rejected.name == package.name {
         return Ok(());
     }
-    add_later(space, atom, rejected, other, variables)
+    add_later(space, atom, other, variables)
 }
 
 /// Adds what a conflict atom of a package matches of the packages that have or provide its name.

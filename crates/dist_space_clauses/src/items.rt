@@ -40,7 +40,7 @@ fn add_package(
     ensures { OnOk result (Adds space.now variables.old.items variables.new.items (λ m. IsOf number m × IsMatchedBy space.now atom.now m)) }
 {
     add_present(space, atom, number, variables)?;
-    add_later(space, atom, space.package(number), number, variables)
+    add_later(space, atom, number, variables)
 }
 
 /// Adds what an atom matches of the packages that have or provide its name.

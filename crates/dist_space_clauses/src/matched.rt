@@ -1,8 +1,9 @@
 //! The variables that an atom matches, added to a vector: packages as they are, their new versions with what these keep, and
 //! packages of new names.
-ghost use Rattle.std.specs.Prelude.{◌≡◌, ◌<◌, ◌^◌, ◌↔◌, ℕ, Contains, OnOk, Some, length, slice_get};
+ghost use Rattle.std.specs.Prelude.{◌≡◌, ◌<◌, ◌↔◌, ℕ, Contains, OnOk, Some, length, slice_get};
 ghost use Rattle.std.specs.List.Sorted.{IsStrictlyIncreasing};
 ghost use Rattle.dist_space_clauses.specs.GatheringPrivate.{Adds, IsFresh, IsKeptOf, IsLaterOf, IsOfVersion};
+ghost use Rattle.dist_space.specs.EntryOrder.{IsEntryNamed};
 ghost use Rattle.dist_space.specs.Space.{IsMatchedBy, IsMeaning, fresh_classes, member_classes};
 ghost use Rattle.dist_space.specs.declared.meaning.Meaning.TheVariants as meaning;
 
@@ -20,6 +21,15 @@ pub(crate) fn put_in_order(variables: &mut Vec<u32>)
     variables.dedup();
 }
 
+/// Leaves each variable once where there are many more than the space has.
+fn make_room(space: &Space, variables: &mut Vec<u32>)
+    ensures { (v : ℕ) → Contains variables.new.items v ↔ Contains variables.old.items v }
+{
+    if variables.len() / 2 > space.variables() as usize {
+        put_in_order(variables);
+    }
+}
+
 /// Adds the variable of a meaning.
 pub(crate) fn add_variable(
     space: &Space,
@@ -29,6 +39,7 @@ pub(crate) fn add_variable(
     requires { IsMeaning space.now meaning }
     ensures { OnOk result (Adds space.now variables.old.items variables.new.items (λ m. m ≡ meaning)) }
 {
+    make_room(space, variables);
     variables.push(space.variable(&meaning))?;
     Ok(())
 }
@@ -37,42 +48,39 @@ pub(crate) fn add_variable(
 fn add_entry(
     space: &Space,
     atom: &Atom,
-    package: &Package,
     member: u32,
     class: u32,
-    place: usize,
+    place: u32,
     variables: &mut Vec<u32>,
 ) -> Result<(), AllocError>
-    requires member { slice_get space.now.repository.packages member ≡ Some «package».now }
-    requires few_entries { length «package».now.provides < 2 ^ 32 }
     requires class { class < length (member_classes space.now member) }
-    requires place { place < length «package».now.provides }
+    requires place { IsEntryNamed space.now.repository.packages member atom.now.name place }
     ensures { OnOk result (Adds space.now variables.old.items variables.new.items (λ m. (m ≡ meaning.Kept member class place) × IsMatchedBy space.now atom.now m)) }
 {
-    let entry = package.provides.get(place);
+    let package = space.package(member);
+    let entry = package.provides.get(place as usize);
     let example = space.example(space.cluster_of(member), class);
     if matches_moved(space.repo(), atom, entry, &package.version, example) {
-        return add_variable(space, Meaning::Kept(member, class, place as u32), variables);
+        return add_variable(space, Meaning::Kept(member, class, place), variables);
     }
     Ok(())
 }
 
-/// Adds the entries of a new version that the atom matches.
+/// Adds the entries of a new version that the atom matches. `places` are those of the entries of its name.
 fn add_entries(
     space: &Space,
     atom: &Atom,
-    package: &Package,
     member: u32,
     class: u32,
+    places: &[u32],
     variables: &mut Vec<u32>,
 ) -> Result<(), AllocError>
-    requires member { slice_get space.now.repository.packages member ≡ Some «package».now }
-    requires few_entries { length «package».now.provides < 2 ^ 32 }
     requires class { class < length (member_classes space.now member) }
+    requires places { (j : ℕ) → Contains places.now j ↔ IsEntryNamed space.now.repository.packages member atom.now.name j }
     ensures { OnOk result (Adds space.now variables.old.items variables.new.items (λ m. IsKeptOf member class m × IsMatchedBy space.now atom.now m)) }
 {
-    for place in 0..package.provides.len() {
-        add_entry(space, atom, package, member, class, place, variables)?;
+    for place in places {
+        add_entry(space, atom, member, class, *place, variables)?;
     }
     Ok(())
 }
@@ -97,38 +105,37 @@ fn add_new(
     Ok(())
 }
 
-/// Adds what the atom matches of a new version.
+/// Adds what the atom matches of a new version. `places` are those of the entries of its name.
 fn add_version(
     space: &Space,
     atom: &Atom,
-    package: &Package,
     member: u32,
     class: u32,
+    places: &[u32],
     variables: &mut Vec<u32>,
 ) -> Result<(), AllocError>
-    requires member { slice_get space.now.repository.packages member ≡ Some «package».now }
-    requires few_entries { length «package».now.provides < 2 ^ 32 }
+    requires member { member < length space.now.repository.packages }
     requires class { class < length (member_classes space.now member) }
+    requires places { (j : ℕ) → Contains places.now j ↔ IsEntryNamed space.now.repository.packages member atom.now.name j }
     ensures { OnOk result (Adds space.now variables.old.items variables.new.items (λ m. IsOfVersion member class m × IsMatchedBy space.now atom.now m)) }
 {
-    add_new(space, atom, package, member, class, variables)?;
-    add_entries(space, atom, package, member, class, variables)
+    add_new(space, atom, space.package(member), member, class, variables)?;
+    add_entries(space, atom, member, class, places, variables)
 }
 
 /// Adds what the atom matches of all new versions of a package.
 pub(crate) fn add_later(
     space: &Space,
     atom: &Atom,
-    package: &Package,
     member: u32,
     variables: &mut Vec<u32>,
 ) -> Result<(), AllocError>
-    requires member { slice_get space.now.repository.packages member ≡ Some «package».now }
-    requires few_entries { length «package».now.provides < 2 ^ 32 }
+    requires { member < length space.now.repository.packages }
     ensures { OnOk result (Adds space.now variables.old.items variables.new.items (λ m. IsLaterOf member m × IsMatchedBy space.now atom.now m)) }
 {
+    let places = space.entries_named(member, &atom.name);
     for class in 0..space.class_count(space.cluster_of(member)) {
-        add_version(space, atom, package, member, class, variables)?;
+        add_version(space, atom, member, class, places, variables)?;
     }
     Ok(())
 }

@@ -1,6 +1,6 @@
 //! Which packages have a conflict atom on a name. All are found in one walk over the atoms.
-ghost use Rattle.std.specs.Prelude.{◌≡◌, ◌++◌, ◌∷◌, [], ℕ, Any, Contains, IfOk, OnOk};
-ghost use Rattle.dist_space_clauses.specs.Rejecting.{AreRejecting, Notes, numbers_at};
+ghost use Rattle.std.specs.Prelude.{◌≡◌, ◌∷◌, [], ℕ, Any, Contains, IfOk, IsTrue, OnOk};
+ghost use Rattle.dist_space_clauses.specs.Rejecting.{AreRejecting, IsWith, Notes, numbers_at};
 
 use dist_classes::NameKey;
 use dist_relation::{Atoms, Name};
@@ -23,6 +23,16 @@ impl Model for Numbers {
     ghost view = { λ n. n.numbers.items };
 }
 
+/// Whether a number is the last one.
+fn is_last(numbers: &[u32], number: u32) -> bool
+    ensures { IsTrue result → Contains numbers.now number }
+{
+    match numbers {
+        [.., last] => *last == number,
+        [] => false,
+    }
+}
+
 impl Numbers {
     /// One number.
     fn of(alloc: Global, number: u32) -> Result<Numbers, AllocError>
@@ -33,10 +43,13 @@ impl Numbers {
         Ok(Numbers { numbers })
     }
 
-    /// Adds a number as the last one.
+    /// Adds a number as the last one, unless it is that.
     fn push(&mut self, number: u32) -> Result<(), AllocError>
-        ensures { OnOk result (self.new ≡ self.old ++ number ∷ []) }
+        ensures { OnOk result (IsWith self.old number self.new) }
     {
+        if is_last(&self.numbers, number) {
+            return Ok(());
+        }
         self.numbers.push(number)?;
         Ok(())
     }
@@ -73,7 +86,7 @@ impl<'a> Rejecting<'a> {
         }
     }
 
-    /// The packages with a conflict atom on a name, one for each such atom.
+    /// The packages with a conflict atom on a name.
     pub(crate) fn of(&self, name: &'a Name) -> &[u32]
         ensures { result.now ≡ numbers_at self.now name.now }
     {

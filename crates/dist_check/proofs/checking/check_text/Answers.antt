@@ -1,4 +1,8 @@
-use Rattle.std.proofs.Common.{List, ℕ, Option, None, Result, IfErr, refl}
+use Rattle.std.proofs.Common.{List, [], ◌∷◌, ◌++◌, ℕ, Option, Some, None, Result, IfErr, refl}
+use Rattle.dist_base.specs.Ascii.{line_feed}
+use Rattle.dist_outside.specs.declared.limits.Limits.{Limits}
+use Rattle.dist_repo.specs.PackageList.{PackageList}
+use Rattle.dist_cert.specs.Form.{header_text}
 use Rattle.dist_outside.specs.DeskView.{DeskView}
 use Rattle.dist_outside.specs.Reading.{bytes_left}
 use Rattle.dist_outside.specs.declared.trouble.WorkError.TheVariants.{NoMemory}
@@ -54,7 +58,7 @@ pub take_lines-requires-clause-start : goal.take_lines-requires-clause-start
 take_lines-requires-clause-start g c =
     starts-checked c.forms_are_clear.ensures c.present_clauses_are_there.ensures c.present_clauses_are_one.ensures c.models_are_installations.ensures
     c.args.repo.now c.len-in_order.ensures.in_order c.args.limits.now c.new-reader.result c.header.new.self None None None
-    c.in_ok-header.header c.in_ok-state.state c.new-reader.ensures refl refl c.in_ok-header.ensures.gives c.in_ok-state.ensures
+    c.in_ok-header.header c.in_ok-state.state c.new-reader.ensures refl refl c.in_ok-header.ensures.some c.in_ok-header.ensures.gives c.in_ok-state.ensures
 
 pub returns-in_err-take_lines-clause-text : goal.returns-in_err-take_lines-clause-text
 returns-in_err-take_lines-clause-text g c =
@@ -65,7 +69,7 @@ returns-in_err-take_lines-clause-text g c =
     c.models_are_installations.ensures c.args.repo.now c.len-in_order.ensures.in_order c.args.limits.now c.new-reader.result c.header.new.self told
     (text_left c.new-reader.result old) (text_left c.header.new.self new) c.in_ok-header.header c.in_ok-state.state c.new-reader.ensures
     (nothing-read c.args.limits.now c.new-reader.result old c.new-reader.ensures) c.in_ok-header.ensures.text
-    c.in_ok-header.ensures.gives c.in_ok-state.ensures in
+    c.in_ok-header.ensures.some c.in_ok-header.ensures.gives c.in_ok-state.ensures in
     by-exit (λ (r : Result Checked ReadCertError). OfText told
     (λ text. TextAnswers (λ (x : Checked). x.header) (λ (x : Checked). x.claims) c.args.repo.now c.args.limits.now text r))
     c.from_residual-in_err-take_lines.result
@@ -92,7 +96,7 @@ returns-clause-text g c =
     c.models_are_installations.ensures c.args.repo.now c.len-in_order.ensures.in_order c.args.limits.now c.new-reader.result c.header.new.self told
     (text_left c.new-reader.result old) (text_left c.header.new.self new) c.in_ok-header.header c.in_ok-state.state c.new-reader.ensures
     (nothing-read c.args.limits.now c.new-reader.result old c.new-reader.ensures) c.in_ok-header.ensures.text
-    c.in_ok-header.ensures.gives c.in_ok-state.ensures in
+    c.in_ok-header.ensures.some c.in_ok-header.ensures.gives c.in_ok-state.ensures in
     completed-alike (λ (x : Checked). x.header) (λ (x : Checked). x.claims) c.args.repo.now c.args.limits.now told c.in_ok-header.header
     c.take_lines.new.state.claims
     (record { header = c.in_ok-header.header; claims = c.into_claims.result }) refl c.into_claims.ensures (c.in_ok-take_lines.ensures.text told checked)
@@ -120,3 +124,54 @@ returns-in_err-take_lines-clause-large g c =
     by-exit (λ (r : Result Checked ReadCertError). IfErr r (LargeCause c.args.repo.now c.args.limits.now)) c.from_residual-in_err-take_lines.result
     c.in_err-take_lines.field-0.0 c.from_residual-in_err-take_lines.ensures.1
     c.in_err-take_lines.ensures.large
+
+-- ---- some text, whatever is told
+
+abbrev Some_text : PackageList → Limits → Result Checked ReadCertError → Type 0
+Some_text r limits result = (text : List ℕ) × TextAnswers (λ (x : Checked). x.header) (λ (x : Checked). x.claims) r limits text result
+
+pub returns-in_err-header-clause-some : goal.returns-in_err-header-clause-some
+returns-in_err-header-clause-some g c =
+    let some = c.in_err-header.ensures.some in
+    by-exit (Some_text c.args.repo.now c.args.limits.now) c.from_residual.result c.in_err-header.field-0.0 c.from_residual.ensures.1 (
+      some.0,
+      header-stops c.present_clauses_are_there.ensures c.args.repo.now c.len-in_order.ensures.in_order c.args.limits.now c.new-reader.result
+          c.header.new.self (Some some.0) (Some some.0) (Some some.0) (g.D.Desk.view c.args.desk.now) (g.D.Desk.view c.header.new.desk)
+          c.new-reader.ensures refl (λ (x : Checked). x.header) (λ (x : Checked). x.claims) c.in_err-header.field-0.0 (some.0, refl, some.1)
+          c.in_err-header.ensures.cause,
+    )
+
+pub returns-in_err-state-clause-some : goal.returns-in_err-state-clause-some
+returns-in_err-state-clause-some g c =
+    let text : List ℕ = header_text c.in_ok-header.header ++ line_feed ∷ [] in
+    by-exit (Some_text c.args.repo.now c.args.limits.now) c.from_residual-in_err-state.result c.in_err-state.field-0.0
+    c.from_residual-in_err-state.ensures.1 (
+      text,
+      start-stops c.forms_are_clear.ensures c.present_clauses_are_there.ensures c.present_clauses_are_one.ensures c.args.repo.now
+          c.len-in_order.ensures.in_order c.args.limits.now c.new-reader.result (Some text) (Some text) (Some []) c.in_ok-header.header
+          c.new-reader.ensures refl
+          (λ (x : Checked). x.header) (λ (x : Checked). x.claims) c.in_err-state.field-0.0 ([], refl, c.in_ok-header.ensures.some []) c.in_err-state.ensures,
+    )
+
+pub returns-in_err-tools-clause-some : goal.returns-in_err-tools-clause-some
+returns-in_err-tools-clause-some g c =
+    by-exit (Some_text c.args.repo.now c.args.limits.now) c.from_residual-in_err-tools.result (Work NoMemory) c.from_residual-in_err-tools.ensures.1 ([], tt)
+
+pub returns-in_err-take_lines-clause-some : goal.returns-in_err-take_lines-clause-some
+returns-in_err-take_lines-clause-some g c =
+    let some = c.in_err-take_lines.ensures.some in
+    by-exit (Some_text c.args.repo.now c.args.limits.now) c.from_residual-in_err-take_lines.result c.in_err-take_lines.field-0.0
+    c.from_residual-in_err-take_lines.ensures.1 (
+      some.0,
+      stops-alike (λ (u : Unit {0}). c.in_ok-header.header) (λ (u : Unit {0}). c.take_lines.new.state.claims) (λ (x : Checked). x.header)
+          (λ (x : Checked). x.claims) c.args.repo.now c.args.limits.now (Some some.0) c.in_err-take_lines.field-0.0 some.1,
+    )
+
+pub returns-clause-some : goal.returns-clause-some
+returns-clause-some g c =
+    let some = c.in_ok-take_lines.ensures.some in (
+      some.0,
+      completed-alike (λ (x : Checked). x.header) (λ (x : Checked). x.claims) c.args.repo.now c.args.limits.now (Some some.0) c.in_ok-header.header
+          c.take_lines.new.state.claims
+          (record { header = c.in_ok-header.header; claims = c.into_claims.result }) refl c.into_claims.ensures some.1,
+    )

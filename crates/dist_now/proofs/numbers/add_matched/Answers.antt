@@ -5,8 +5,8 @@ use Rattle.dist_repo.specs.Match.{Matches}
 use Rattle.dist_repo.specs.PackageList.{IsPackageAnd}
 use Rattle.dist_now.proofs.AddsLemmas.{adds-more, adds-nothing}
 use Rattle.dist_now.proofs.MemberLemmas.{matched-provides}
-use Rattle.dist_now.proofs.NumberLemmas.{IsAtAnd, adds-all, adds-at, adds-not, provider-within}
-use Rattle.dist_now.proofs.numbers.add_matched.Goals.{then-matches+in_ok-push, else-matches}
+use Rattle.dist_now.proofs.NumberLemmas.{IsAtAnd, adds-all, adds-here, adds-never, provider-at}
+use Rattle.dist_now.proofs.numbers.add_matched.Goals.{then-matches_provider+in_ok-push, else-matches_provider}
 use Rattle.dist_now.proofs.numbers.add_matched.Goals as goal
 
 pub returns-then-not-usable : goal.returns-then-not-usable
@@ -15,24 +15,25 @@ returns-then-not-usable c =
     (λ k here. false≢true (c.if-not-usable.ensures.1
     (has-at (Matches c.args.repo.now.architecture c.args.atom.now) c.args.repo.now.packages k _ (element-is _ c.args.repo.now.packages k here) here).usable))
 
-pub package-requires : goal.package-requires
-package-requires c = provider-within c.args.repo.now c.args.atom.now.name c.args.providers.now c.loop-number.number-index c.requires c.loop-number-test.true
+pub matches_provider-requires-clause-provider : goal.matches_provider-requires-clause-provider
+matches_provider-requires-clause-provider c = provider-at c.args.repo.now c.args.atom.now.name c.args.providers.now c.loop-number.number-index
+    c.requires c.loop-number-test.true
 
 pub loop-number-preserved : goal.loop-number-preserved
 loop-number-preserved c =
     let P = Matches c.args.repo.now.architecture c.args.atom.now in
     let Of = IsAtAnd c.args.repo.now c.args.providers.now P in
-    elim c.if-matches.branch [
-      | then-matches+in_ok-push w ↦
+    elim c.if-matches_provider.branch [
+      | then-matches_provider+in_ok-push w ↦
           rw (w.numbers-is, w.in_ok-push.ensures.items)
           (adds-more c.args.numbers.now.items c.loop-number.numbers.items _ Of c.loop-number.number-index c.loop-number.invariant
-          (adds-at c.args.repo.now c.args.providers.now P c.loop-number.number-index c.package.result.now c.loop-number.numbers.items c.package.ensures
-          (w.if-matches.ensures.0 refl)))
-      | else-matches w ↦
+          (adds-here c.args.repo.now c.args.providers.now P c.loop-number.number-index c.loop-number.numbers.items
+          (w.if-matches_provider.ensures.0 refl)))
+      | else-matches_provider w ↦
           rw w.numbers-is
           (adds-more c.args.numbers.now.items c.loop-number.numbers.items c.loop-number.numbers.items Of c.loop-number.number-index c.loop-number.invariant
-          (adds-not c.args.repo.now c.args.providers.now P c.loop-number.number-index c.package.result.now c.loop-number.numbers.items c.package.ensures
-          (λ matches. false≢true (w.if-matches.ensures.1 matches))))
+          (adds-never c.args.repo.now c.args.providers.now P c.loop-number.number-index c.loop-number.numbers.items
+          (λ matches. false≢true (w.if-matches_provider.ensures.1 matches))))
     ]
 
 pub returns : goal.returns

@@ -61,6 +61,6 @@ returns-clause-err c =
     (λ here. absent ((c.in_default.ensures.exact c.args.number).1 here)) in
     let is = item-is-clause c.args.repo.now c.args.number c.args.place c.args.alternatives.now numbers c.deref.result.now c.requires.item c.in_default.ensures
     (c.deref.ensures.value ∙ c.in_default-write_item.ensures) in
-    pushed-err (present_demands c.args.repo.now) (IsDemand c.args.repo.now false) c.push.result c.args.set.now c.args.set.now (Item c.args.number c.args.place)
-    c.deref.result.now c.requires.front
+    pushed-err (present_demands c.args.repo.now) (IsDemand c.args.repo.now false) c.push.result c.args.set.now c.args.set.now (Item c.args.number
+    c.args.place) c.deref.result.now c.requires.front
     demand is c.push.ensures.cause

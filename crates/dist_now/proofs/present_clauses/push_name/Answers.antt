@@ -42,8 +42,8 @@ returns-clause-err c =
     let first : ¬ IsNamedBelow c.args.repo.now c.args.number c.args.package.now.name = λ below. false≢true (c.if-has_essential_before.ensures.1 below) in
     let is : IsClauseFor c.args.repo.now (Required c.args.package.now.name) c.deref.result.now =
     subst (IsClauseFor c.args.repo.now (Required c.args.package.now.name)) (sym c.deref.ensures.value) c.in_default.ensures in
-    pushed-err (present_demands c.args.repo.now) (IsDemand c.args.repo.now true) c.push.result c.args.set.now c.args.set.now (Required c.args.package.now.name)
-    c.deref.result.now
+    pushed-err (present_demands c.args.repo.now) (IsDemand c.args.repo.now true) c.push.result c.args.set.now c.args.set.now (Required
+    c.args.package.now.name) c.deref.result.now
     (named-before c.args.repo.now c.args.number c.args.package.now c.args.set.now.clause_limit c.args.set.now.literal_limit c.args.set.now
     c.len-end.ensures.in_order c.requires.number first c.requires.front)
     (required-from c.args.repo.now.packages c.args.number c.args.package.now c.requires.number c.if-not-package.false) is c.push.ensures.cause

@@ -39,8 +39,8 @@ returns-in_err-push-clause-err c =
     let front = pair-next c.args.repo.now c.args.first c.args.seconds.now c.loop-second.second-index c.args.set.now c.loop-second.set c.requires.rising
     c.requires.exact c.loop-second-test.true c.loop-second.invariant in
     let p = err_from_is_err_and c.from_residual.result c.from_residual.ensures.1 in
-    rw (p.1, p.2) (stops (present_demands c.args.repo.now) (IsDemand c.args.repo.now false) c.loop-second.set c.args.set.now (Apart c.args.first second) _ _
-    front demand
+    rw (p.1, p.2) (stops (present_demands c.args.repo.now) (IsDemand c.args.repo.now false) c.loop-second.set c.args.set.now (Apart c.args.first
+    second) _ _ front demand
     (pair-written c.args.repo.now c.args.first second c.not_installed.result c.not_installed-in-loop-second.result c.not_installed.ensures
     c.not_installed-in-loop-second.ensures) c.in_err-push.ensures.cause)
 

@@ -11,5 +11,5 @@ pub returns : goal.returns
 returns c =
     rw c.in_ok-push.ensures.items
     (pair-added c.args.repo.now c.args.span.start c.args.span.end c.args.number c.args.other (Matches c.args.repo.now.architecture c.args.atom.now)
-    c.package.result.now c.args.pairs.now.items c.pair_of-pair.result c.pair_of-pair.ensures
-    (c.if-not-has.ensures.0 refl) c.package.ensures (c.if-not-matches.ensures.0 refl))
+    c.args.pairs.now.items c.pair_of-pair.result c.pair_of-pair.ensures
+    (c.if-not-has.ensures.0 refl) (c.if-not-matches_provider.ensures.0 refl))

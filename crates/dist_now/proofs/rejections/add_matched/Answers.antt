@@ -2,7 +2,7 @@ use Rattle.std.proofs.Common.{arith, get_or}
 use Rattle.std.proofs.lemmas.Bool.{false≢true}
 use Rattle.dist_repo.specs.Match.{Matches}
 use Rattle.dist_now.proofs.AddsLemmas.{adds-more, adds-none}
-use Rattle.dist_now.proofs.NumberLemmas.{provider-within}
+use Rattle.dist_now.proofs.NumberLemmas.{provider-at}
 use Rattle.dist_now.proofs.PairLemmas.{IsPairAt, pair-behind, pair-below, pairs-all, pairs-none}
 use Rattle.dist_now.proofs.rejections.add_matched.Goals.{else-number-span, then-number-span}
 use Rattle.dist_now.proofs.rejections.add_matched.Goals as goal
@@ -19,8 +19,8 @@ loop-place-init c =
     (λ i x less. pair-below c.args.repo.now c.args.span.start c.args.span.end c.args.number (get_or c.args.providers.now i 0) P x
     (c.place_from-from.ensures.below i less))
 
-pub add_match-requires : goal.add_match-requires
-add_match-requires c = provider-within c.args.repo.now c.args.atom.now.name c.args.providers.now c.loop-place.place c.requires
+pub add_match-requires-clause-provider : goal.add_match-requires-clause-provider
+add_match-requires-clause-provider c = provider-at c.args.repo.now c.args.atom.now.name c.args.providers.now c.loop-place.place c.requires
     (elim c.if-number-span.branch [
       | then-number-span w ↦ let to = w.to-is in omega (arith, to, c.loop-place-test.true)
       | else-number-span w ↦ let to = w.to-is in omega (arith, to, c.loop-place-test.true, w.place_from-to.ensures.to_len)

@@ -11,11 +11,19 @@ returns-in_err-meanings-clause-too_many c =
     exactly-none c.args.repo c.args.essential c.in_ok-frame.frame c.args.variables c.in_err-meanings.field-0.0 c.from_residual-in_err-meanings.result
     (p.1 ∙ ap (λ (e : SpaceError). Err e) p.2) c.in_ok-frame.ensures c.in_err-meanings.ensures.err
 
+pub returns-in_err-entries-clause-too_many : goal.returns-in_err-entries-clause-too_many
+returns-in_err-entries-clause-too_many c =
+    let p = err_from_is_err_and c.from_residual-in_err-entries.result c.from_residual-in_err-entries.ensures.1 in
+    λ some. absurd (some (p.1 ∙ ap (λ (e : SpaceError). Err e) p.2))
+
 pub invariant_of-result : goal.invariant_of-result
-invariant_of-result c = record {
-  space = whole c.in_ok-frame.frame c.in_ok-meanings.meanings.items c.in_ok-frame.ensures.frame c.in_ok-meanings.ensures.ok.0;
-  stated = let short = c.in_ok-meanings.ensures.ok.1 in omega (arith, short, c.requires.variables);
-}
+invariant_of-result c = (
+  record {
+    space = whole c.in_ok-frame.frame c.in_ok-meanings.meanings.items c.in_ok-frame.ensures.frame c.in_ok-meanings.ensures.ok.0;
+    stated = let short = c.in_ok-meanings.ensures.ok.1 in omega (arith, short, c.requires.variables);
+  },
+  c.in_ok-entries.ensures,
+)
 
 pub returns-clause-ok : goal.returns-clause-ok
 returns-clause-ok c = whole-of c.args.repo c.args.essential c.in_ok-frame.frame c.in_ok-meanings.meanings.items c.in_ok-frame.ensures

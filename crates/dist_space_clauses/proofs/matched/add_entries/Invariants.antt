@@ -1,7 +1,7 @@
-use Rattle.std.proofs.Common.{◌≡◌}
+use Rattle.std.proofs.Common.{◌≡◌, take}
+use Rattle.std.specs.Prelude.{Any}
 use Rattle.dist_space_clauses.specs.GatheringPrivate.{Gathers, IsKeptOf}
 use Rattle.dist_space.specs.declared.meaning.Meaning.TheVariants.{Kept}
-use Rattle.dist_space_clauses.proofs.Gathered.{UpTo}
 use Rattle.dist_space_clauses.proofs.MatchLemmas.{MatchedAnd}
 use Rattle.dist_space_clauses.proofs.matched.add_entries.Given as goal
 
@@ -9,4 +9,4 @@ use Rattle.dist_space_clauses.proofs.matched.add_entries.Given as goal
 abbrev pub invariant-loop-place : goal.invariant-loop-place
 invariant-loop-place l =
     Gathers l.space l.initial.variables.items l.variables.items (MatchedAnd l.space l.atom (IsKeptOf l.member l.class))
-    (UpTo l.space (λ place. MatchedAnd l.space l.atom (λ m. m ≡ Kept l.member l.class place)) l.place)
+    (λ m. Any (λ place. MatchedAnd l.space l.atom (λ x. x ≡ Kept l.member l.class place) m) (take l.place-index l.places))

@@ -18,7 +18,8 @@ pub loop-key-preserved : goal.loop-key-preserved
 loop-key-preserved c =
     let name = c.in-Some.key.now in
     let list = c.in-Some.list.now in
-    let names : c.push.new.self ≡ c.loop-key.names ++ name ∷ [] = c.in_ok-push.ensures.ok ∙ ap (λ (x : List ℕ). c.loop-key.names ++ x ∷ []) c.bytes.ensures in
+    let names : c.push.new.self ≡ c.loop-key.names ++ name ∷ [] = c.in_ok-push.ensures.ok
+    ∙ ap (λ (x : List ℕ). c.loop-key.names ++ x ∷ []) (c.bytes.ensures.value ∙ c.name.ensures) in
     let numbers : c.push-in-loop-key.new.self ≡ c.loop-key.numbers ++ list ∷ [] = c.in_ok-push-2.ensures.ok
     ∙ ap (λ (x : List ℕ). c.loop-key.numbers ++ x ∷ []) c.as_slice.ensures.value in
     let Left : List (List ℕ × List ℕ) → Type 0 = λ entries. IsFlattened c.args.self.now entries c.loop-key.names c.loop-key.numbers in

@@ -17,10 +17,10 @@ is-at c =
     slice_get-get_or s.meanings (c.args.variable - 1) m short ∙ ap (λ (x : Meaning). Some x) at
 
 pub returns-clause-back : goal.returns-clause-back
-returns-clause-back c = variable-back c.args.self.now c.index.result.now c.args.variable (subst IsWhole c.self.view_is c.self.invariant).space
+returns-clause-back c = variable-back c.args.self.now c.index.result.now c.args.variable (subst IsWhole c.self.view_is c.self.invariant.0).space
     c.requires.from_one (is-at c)
 
 pub returns-clause-of : goal.returns-clause-of
 returns-clause-of c =
-    let whole = subst IsWhole c.self.view_is c.self.invariant in
+    let whole = subst IsWhole c.self.view_is c.self.invariant.0 in
     meaning-of c.args.self.now c.index.result.now c.args.variable whole.space c.requires.from_one (omega (arith, c.requires.in_range, whole.stated)) (is-at c)

@@ -13,7 +13,7 @@ pub returns : goal.returns
 returns c =
     let s : SpaceView = c.args.self.now in
     let m : Meaning = c.args.meaning.now in
-    let space = (subst IsWhole c.self.view_is c.self.invariant).space in
+    let space = (subst IsWhole c.self.view_is c.self.invariant.0).space in
     let same : s.meanings ≡ c.as_slice-meanings.result.now = ap (λ (v : SpaceView). v.meanings) (sym c.self.view_is) ∙ sym c.as_slice-meanings.ensures.value in
     let there : Contains s.meanings m = (space.meanings.exact m).1 (c.requires, tt) in
     let parted = meanings-parted s m s.meanings space.meanings.rising in

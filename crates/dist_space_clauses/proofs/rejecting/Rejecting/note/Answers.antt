@@ -2,8 +2,8 @@ use Rattle.std.proofs.Common.{◌≡◌, ◌++◌, ◌∷◌, [], ℕ, List, Opt
 use Rattle.std.specs.BTreeMap.{BTreeMap}
 use Rattle.std.specs.Prelude.{OnOk}
 use Rattle.std.proofs.lemmas.Result.{on_ok_weaker}
-use Rattle.dist_space_clauses.specs.Rejecting.{Entries, Notes, numbers_at}
-use Rattle.dist_space_clauses.proofs.RejectingLemmas.{noted-updated}
+use Rattle.dist_space_clauses.specs.Rejecting.{Entries, IsWith, Notes, numbers_at}
+use Rattle.dist_space_clauses.proofs.RejectingLemmas.{noted-updated, with-pushed}
 use Rattle.dist_space_clauses.proofs.rejecting.Rejecting.note.Goals as goal
 
 pub returns-in-Some : goal.returns-in-Some
@@ -16,7 +16,8 @@ returns-in-Some c =
     let Seen : Entries → Type 0 = λ list. OnOk c.push.result (Notes list n (λ q x. (name ≡ q) × (v ≡ x))) in
     let updates = (c.get_mut.follows.holds c.push.new.self).3 (search rules) in
     subst Seen c.self.view_is
-    (on_ok_weaker c.push.result (λ adds. noted-updated t n name v c.push.new.self (λ q. updates.0 q) (adds ∙ ap (λ (list : List ℕ). list ++ v ∷ []) (sym here)))
+    (on_ok_weaker c.push.result (λ adds. noted-updated t n name v c.push.new.self (λ q. updates.0 q)
+    (subst (λ (list : List ℕ). IsWith list v c.push.new.self) (sym here) adds))
     c.push.ensures)
 
 pub returns : goal.returns
@@ -31,4 +32,4 @@ returns c =
     let Seen : Entries → Type 0 = λ list. Notes list n (λ q x. (name ≡ q) × (v ≡ x)) in
     subst Seen was
     (noted-updated t n name v c.in_ok-numbers.numbers (λ q. c.in_ok-insert.ensures.updates.0 q)
-    (c.in_ok-numbers.ensures ∙ ap (λ (list : List ℕ). list ++ v ∷ []) (sym none_here)))
+    (with-pushed (numbers_at t name) c.in_ok-numbers.numbers v (c.in_ok-numbers.ensures ∙ ap (λ (list : List ℕ). list ++ v ∷ []) (sym none_here))))
