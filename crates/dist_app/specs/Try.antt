@@ -27,7 +27,7 @@ ArchiveStage files limits size seed (Ends ending) =
 
 -- A certificate of the archive, plain and with the limit of a question where none is given, is accepted, and the
 -- summary of its claims is told.
-pub record IsTried (files : Option Files) (limits : Limits) (size : ℕ) (r : PackageList) (ending : Ending) : Type 0
+pub record IsTrialTold (files : Option Files) (limits : Limits) (size : ℕ) (r : PackageList) (ending : Ending) : Type 0
   where
     pub made : List Claim
     pub text : List ℕ
@@ -42,7 +42,7 @@ pub record IsTrialStopped (files : Option Files) (limits : Limits) (r : PackageL
   pub is : ending ≡ refused files (TooLarge what)
 
 abbrev pub Tries : Option Files → Limits → (size : ℕ) → PackageList → Ending → Type 0
-Tries files limits size r ending = IsTried files limits size r ending ⊎ IsTrialStopped files limits r ending
+Tries files limits size r ending = IsTrialTold files limits size r ending ⊎ IsTrialStopped files limits r ending
 
 -- The archive is made and taken apart, then its input clauses are made. The first stage that is refused decides.
 abbrev pub TryStages : Option Files → Limits → (size seed : ℕ) → (PackageList → Ending → Type 0) → Ending → Type 0
