@@ -1,6 +1,6 @@
 #!/usr/bin/env bash
 # Tries, on a copy, the wrong bodies that the gate passes over (crates/NAME/must-fail/*.edit.md), and prints those that no
-# clause refuses. Run it whenever a contract of a crate changes. It wants `rt check` passed on the crates first.
+# clause refuses. Run it whenever a contract of a crate changes. It uses what `rt ci` has proved on this machine.
 # Usage: wrong-bodies.sh [CRATE..]    all crates where none is named
 set -eu
 top=$(cd "$(dirname "$0")/.." && pwd)
@@ -12,16 +12,16 @@ crates=("$@")
 if [ ${#crates[@]} = 0 ]; then
   for folder in crates/*/must-fail; do crates+=("$(basename "$(dirname "$folder")")"); done
 fi
+find crates -name '*.edit' -delete
 tried=()
 for crate in "${crates[@]}"; do
   found=0
-  for edit in crates/"$crate"/must-fail/*.edit; do [ -e "$edit" ] && rm "$edit"; done
   for edit in crates/"$crate"/must-fail/*.edit.md; do
     if [ -e "$edit" ]; then mv "$edit" "${edit%.md}"; found=1; fi
   done
   [ $found = 0 ] || tried+=("$crate")
 done
 if [ ${#tried[@]} = 0 ]; then echo "no wrong bodies are kept apart there"; exit 0; fi
-rt must-fail "${tried[@]}" > told 2>&1 || true
-grep -E 'NOT REFUSED|BAD EDIT|NOT TRIED|only because a proof file' told || true
-echo "tried: $(grep -c 'must-fail .*: ' told), refused: $(grep -c 'refused, as it must be' told), of ${tried[*]}"
+rt ci "${tried[@]}" > told 2>&1 || true
+grep -E 'NOT REFUSED|BAD EDIT|NOT TRIED|only because a proof file|NOT PROVED' told || true
+echo "tried: $(grep -cE '^(rt: )?must-fail .*: ' told), refused: $(grep -c 'refused, as it must be' told), of ${tried[*]}"
