@@ -143,29 +143,53 @@ CHAPTERS = [
     ("Packages files", ["dist_package"]),
     ("LIST, and the health of a set", ["dist_list", "dist_now"]),
     ("Source clusters, and classes of later versions", ["dist_cluster", "dist_classes"]),
+    ("Futures, and the space that stands for them", ["dist_future", "dist_space", "dist_space_clauses"]),
     ("Clauses, what follows, and what is new", ["dist_clause", "dist_derive"]),
     ("Certificates", ["dist_cert"]),
     ("What certificates speak of, and what their claims mean", ["dist_subject", "dist_check"]),
+    ("What a question answers", ["dist_solver"]),
     ("What a sweep may write", ["dist_strong"]),
+    ("What the checker keeps", ["dist_check_group", "dist_check_state"]),
     ("Reports", ["dist_report"]),
     ("Made archives, and trials on them", ["dist_generate", "dist_trial"]),
     ("Files and streams", ["dist_base", "dist_outside"]),
     ("The command line", ["dist_words"]),
     ("The commands, and the theorem", ["dist_app"]),
+    ("The benchmark program", ["dist_bench"]),
 ]
 HEAD = """# Definitions
 
 What the contracts speak of. This page is made by `bench/definitions.py --page` from the comments above the definitions.
 
 The first part has exactly the definitions that the contract of `run` reaches: {count} names. A reader who believes them, and the Rattle kit,
-need believe nothing of the code. The second part has the other words of public contracts: those of single libraries, and of the questions
-about the future, which have no command yet.
+need believe nothing of the code. The second part has the other words that contracts of public functions and types reach: those of single
+libraries, and of the questions about the future, which have no command yet.
 
 # Part one: what must be believed
 """
 SECOND = "# Part two: the other words of public contracts\n"
-# Files of specs/ that hold no definition of a public contract.
-APART = ("Laws", "Examples", "Private", "Lib")
+# What the clauses of public functions are, and the members that impls and traits state.
+PUBLIC = re.compile(r"(?:^|\n) *pub (?:const )?fn \w+.*?(?=\n *\{\n|;\n)", re.S)
+
+
+def public_reached():
+    """All definitions that public functions, and the impls of types, reach."""
+    found, left = set(), []
+    for folder, _, files in os.walk(f"{TOP}/crates"):
+        if f"{os.sep}src" not in folder or f"{os.sep}out" in folder:
+            continue
+        for name in files:
+            with open(f"{folder}/{name}", encoding="utf-8") as it:
+                text = it.read()
+            said = " ".join([*PUBLIC.findall(text), *re.findall(r"\n *ghost \w+ = [^\n]*(?:\n(?! *ghost|\n)[^\n]*)*", text)])
+            left += reached_by(said, *imports(text), None)
+    while left:
+        at = left.pop()
+        if at not in found:
+            found.add(at)
+            file = load(at[0])
+            left += reached_by(file.bodies[at[1]], file.names, file.modules, at[0])
+    return found
 
 
 def in_order(paths):
@@ -202,7 +226,7 @@ def part(wanted):
         chapter = []
         for crate in crates:
             folder = f"crates/{crate}/specs"
-            paths = [f"{folder}/{name}" for name in os.listdir(f"{TOP}/{folder}") if name.endswith(".antt") and not name[:-5].endswith(APART)]
+            paths = [f"{folder}/{name}" for name in os.listdir(f"{TOP}/{folder}") if name.endswith(".antt") and name != "Lib.antt"]
             for path in in_order(paths):
                 entries = list(entries_of(path, wanted))
                 if entries:
@@ -215,8 +239,8 @@ def part(wanted):
 
 
 def page(found):
-    first = lambda path, name: (path, name) in found
-    return "\n".join([HEAD.format(count=len(found)), *part(first), SECOND, *part(lambda path, name: not first(path, name))])
+    others = public_reached() - set(found)
+    return "\n".join([HEAD.format(count=len(found)), *part(lambda *at: at in found), SECOND, *part(lambda *at: at in others)])
 
 
 def main(words):

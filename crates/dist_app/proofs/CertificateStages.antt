@@ -20,12 +20,13 @@ same_answer files status status' text text' s t = rw (s, t) refl
 
 pub reported : (files : Option Files) (limits : Limits) (cert : List ℕ) (r : PackageList) (h : Header) (made : List Claim) (status : Status) (text : List ℕ)
     → IsPresent files cert
-    → OfText (file_bytes files cert) (λ bytes. Answers r limits bytes (Ok (Accepted h made))) → AcceptedMeans r h made → status ≡ claims_status made
+    → OfText (file_bytes files cert) (λ bytes. Answers r limits bytes (Ok (Accepted h made)))
+    → ((bytes : List ℕ) × Answers r limits bytes (Ok (Accepted h made))) → AcceptedMeans r h made → status ≡ claims_status made
     → text ≡ strong_lines r.packages h.limit made
     → Then (CertificateStage files limits cert r) (Reports files r) (answered files status text)
-reported files limits cert r h made status text present answers means s t =
+reported files limits cert r h made status text present answers some means s t =
     inr (
       (h, made),
-      record { present = present; answers = answers },
+      record { present = present; answers = answers; some = some },
       (means, same_answer files status (claims_status made) text (strong_lines r.packages h.limit made) s t),
     )

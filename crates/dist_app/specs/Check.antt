@@ -17,11 +17,12 @@ use Rattle.dist_app.specs.PackagesStage.{PackagesStage}
 use Rattle.dist_app.specs.Stages.{Ending, Step, Goes, Ends, Then, answered, refused}
 use Rattle.dist_app.specs.declared.refusal.Refusal.TheVariants.{CertificateRefused, TooLarge}
 
--- the file CERT is there, and this is the answer of its bytes
+-- The file CERT is there, and this is the answer of its bytes; where these are not told, it is that of some bytes.
 pub record IsJudged (files : Option Files) (limits : Limits) (cert : List ℕ) (r : PackageList)
     (result : Result Verdict WorkError) : Type 0 where
   pub present : IsPresent files cert
   pub answers : OfText (file_bytes files cert) (λ text. Answers r limits text result)
+  pub some : (text : List ℕ) × Answers r limits text result
 
 -- the end that a refused certificate gives, and one that passes a number
 abbrev pub IsEndOfCertificate : Option Files → Result Verdict WorkError → Ending → Type 0

@@ -58,7 +58,7 @@ fn judge_certificate<D: Desk>(
 {
     match check(alloc, repository, desk, cert, limits) {
         Ok(Verdict::Accepted(header, claims)) => {
-            match tell_claims(alloc, repository, header.limit, &claims) {
+            match tell_claims(alloc, repository, &header, &claims) {
                 Ok(answer) => Ok(answer),
                 Err(_) => Err(Refusal::NoMemory),
             }

@@ -5,9 +5,9 @@ ghost use Rattle.dist_app.specs.Claims.{claims_status, marked_status};
 
 use crate::answer::Answer;
 use crate::status::Status;
-use dist_cert::Claims;
+use dist_cert::{Claims, Header};
 use dist_repo::Repository;
-use dist_report::{some_has_mark, strong_text};
+use dist_report::{some_has_mark, text};
 use std::alloc::{AllocError, Global};
 
 /// The status of a run that reports claims, by whether something is left undecided.
@@ -25,13 +25,13 @@ pub(crate) fn marked_status(undecided: bool) -> Status
 pub(crate) fn tell_claims(
     alloc: Global,
     repository: &Repository,
-    limit: u32,
+    header: &Header,
     claims: &Claims,
 ) -> Result<Answer, AllocError>
     ensures status { IfOk result (λ answer. answer.status ≡ claims_status claims.now) }
-    ensures text { IfOk result (λ answer. answer.text.items ≡ strong_lines repository.now.packages limit claims.now) }
+    ensures text { IfOk result (λ answer. answer.text.items ≡ strong_lines repository.now.packages header.now.limit claims.now) }
 {
-    let text = strong_text(alloc, repository, limit, claims)?;
+    let text = text(alloc, repository, header, claims)?;
     Ok(Answer {
         status: marked_status(some_has_mark(claims)),
         text,

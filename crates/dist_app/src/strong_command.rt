@@ -17,12 +17,13 @@ use crate::answer::Answer;
 use crate::claims::tell_claims;
 use crate::files::read_repository;
 use crate::refusal::{Refusal, refusal_of};
+use dist_cert::{CertKind, Claims, Header};
 use dist_check::accepted_claims_hold;
 use dist_outside::{Desk, Limits};
 use dist_repo::Repository;
 use dist_strong::strong;
 use dist_words::StrongWords;
-use std::alloc::Global;
+use std::alloc::{AllocError, Global};
 
 /// What the command answers, or why it was given up.
 pub(crate) fn run_strong<D: Desk>(
@@ -75,10 +76,34 @@ fn sweep<D: Desk>(
         words.limit,
         limits,
     ) {
-        Ok(claims) => match tell_claims(alloc, repository, words.limit, &claims) {
+        Ok(claims) => match report(alloc, repository, words, &claims) {
             Ok(answer) => Ok(answer),
             Err(_) => Err(Refusal::NoMemory),
         },
         Err(error) => Err(refusal_of(error)),
     }
+}
+
+/// The report of what a sweep claims.
+fn report(
+    alloc: Global,
+    repository: &Repository,
+    words: &StrongWords<'_>,
+    claims: &Claims,
+) -> Result<Answer, AllocError>
+    ensures status { IfOk result (λ answer. answer.status ≡ claims_status claims.now) }
+    ensures text { IfOk result (λ answer. answer.text.items
+        ≡ strong_lines repository.now.packages words.now.limit claims.now) }
+{
+    let packages = repository.len();
+    // Of a first line the report tells the limit alone.
+    let header = Header {
+        kind: CertKind::Strong,
+        limit: words.limit,
+        packages,
+        variables: packages,
+        clauses: 0,
+        essential: words.essential,
+    };
+    tell_claims(alloc, repository, &header, claims)
 }

@@ -1,12 +1,21 @@
 //! Reports of strong dependencies, whole.
 use crate::stanzas::repository;
-use dist_cert::{Claim, Claims, Items, Numbers};
+use dist_cert::{CertKind, Claim, Claims, Header, Items, Numbers};
 use dist_repo::Repository;
-use dist_report::{some_has_mark, strong_text};
+use dist_report::{some_has_mark, text};
 use std::alloc::Global;
 
-/// The limit of the certificates.
-const LIMIT: u32 = 10_000;
+/// A first line, of which a report tells the limit alone.
+fn header() -> Header {
+    Header {
+        kind: CertKind::Strong,
+        limit: 10_000,
+        packages: 0,
+        variables: 0,
+        clauses: 0,
+        essential: false,
+    }
+}
 
 /// The list of some numbers.
 fn numbers(alloc: Global, list: &[u32]) -> Option<Numbers> {
@@ -62,7 +71,7 @@ fn text_is(alloc: Global, repo: &Repository, claims: &Claims, expected: &str) ->
     if repo.len() != 4 {
         return false;
     }
-    match strong_text(alloc, repo, LIMIT, claims) {
+    match text(alloc, repo, &header(), claims) {
         Ok(text) => text.as_slice() == expected.as_bytes(),
         Err(_) => false,
     }
@@ -164,7 +173,7 @@ fn none_are_told(alloc: Global, repo: &Repository, expected: &str) -> bool {
     if repo.len() != 0 {
         return false;
     }
-    match strong_text(alloc, repo, LIMIT, &Claims::new(alloc)) {
+    match text(alloc, repo, &header(), &Claims::new(alloc)) {
         Ok(text) => text.as_slice() == expected.as_bytes(),
         Err(_) => false,
     }

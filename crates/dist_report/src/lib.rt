@@ -17,4 +17,4 @@ pub use health_line::health_text;
 pub use laws::{classes_texts_are_one, strings_are_plain};
 pub use lines::print_label;
 pub use marks::some_has_mark;
-pub use strong_report::strong_text;
+pub use strong_report::text;

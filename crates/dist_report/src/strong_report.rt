@@ -9,7 +9,7 @@ ghost use Rattle.dist_report.specs.StrongReport.{packages_with, entry_lines, imp
 use crate::claim_parts::{Dependence, Part, claim_list, told};
 use crate::impact::{numbers_at, turned, with_some};
 use crate::lines::{write_key, write_numbered, write_packages};
-use dist_cert::{Claims, Numbers};
+use dist_cert::{Claims, Header, Numbers};
 use dist_repo::Repository;
 use itoa::Buffer;
 use std::alloc::{AllocError, Global};
@@ -130,22 +130,23 @@ fn opened(alloc: Global, repo: &Repository, limit: u32) -> Result<Vec<u8>, Alloc
     Ok(out)
 }
 
-/// The report of what an accepted certificate claims of the packages of a repository.
+/// The report of what an accepted certificate claims of the packages of a repository. Of the first line it tells the limit.
+/// Claims of other kinds have no report yet: of them nothing is listed.
 ///
 /// Its time and memory are linear in the packages and the listed pairs.
-pub fn strong_text(
+pub fn text(
     alloc: Global,
     repo: &Repository,
-    limit: u32,
+    header: &Header,
     claims: &Claims,
 ) -> Result<Vec<u8>, AllocError>
-    ensures { IfOk result (λ text. text.items ≡ strong_lines repo.now.packages limit claims.now) }
+    ensures { IfOk result (λ text. text.items ≡ strong_lines repo.now.packages header.now.limit claims.now) }
 {
     if claims.len() > u32::MAX as usize {
         // No memory has numbers for so many packages.
         return Err(AllocError);
     }
-    let mut out = opened(alloc, repo, limit)?;
+    let mut out = opened(alloc, repo, header.limit)?;
     write_part(
         alloc,
         &mut out,

@@ -1,7 +1,7 @@
 //! Files, and their repository or their first fault.
 use dist_package::{
-    Fault, Kind, PackagesError, RelationField, kinds_carry_no_memory, packages_are_exact,
-    packages_are_spelled, read_packages, relations_take_bytes,
+    Fault, Kind, PackagesError, RelationField, each_text_is_answered, kinds_carry_no_memory,
+    packages_are_exact, packages_are_spelled, read_packages, relations_take_bytes,
 };
 use dist_relation::RelationError;
 use dist_version::VersionError;
@@ -239,6 +239,7 @@ fn stanzas_are_counted(rt: HostRuntime) {
 fn the_laws_hold() {
     kinds_carry_no_memory();
     packages_are_exact();
+    each_text_is_answered();
     packages_are_spelled();
     relations_take_bytes();
 }

@@ -1,4 +1,4 @@
-use Rattle.std.proofs.Common.{Ok, subst}
+use Rattle.std.proofs.Common.{ℕ, List, Ok, subst}
 use Rattle.dist_outside.specs.DeskView.{DeskView}
 use Rattle.dist_outside.specs.Files.{file_bytes}
 use Rattle.dist_check.specs.Answers.{Answers, VerdictMeans}
@@ -15,5 +15,7 @@ returns-in-Ok-clause-answers g c =
     c.in-Ok-Accepted.ensures.present
     (subst (λ (v : Verdict). OfText (file_bytes desk.files c.args.cert.now) (λ text. Answers c.args.repository.now c.args.limits.now text (Ok v)))
     c.in-Ok-Accepted.field-0-is c.in-Ok-Accepted.ensures.text)
+    (subst (λ (v : Verdict). (text : List ℕ) × Answers c.args.repository.now c.args.limits.now text (Ok v)) c.in-Ok-Accepted.field-0-is
+    c.in-Ok-Accepted.ensures.some)
     (subst (VerdictMeans c.args.repository.now) c.in-Ok-Accepted.field-0-is c.in-Ok-Accepted.ensures.means)
     c.in-Ok.ensures.status c.in-Ok.ensures.text

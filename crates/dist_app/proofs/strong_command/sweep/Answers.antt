@@ -4,12 +4,12 @@ use Rattle.dist_app.specs.declared.refusal.Refusal.{Refusal}
 use Rattle.dist_app.proofs.Sweeping.{swept, unreported, sweep_refused}
 use Rattle.dist_app.proofs.strong_command.sweep.Goals as goal
 
-pub returns-in-Ok-tell_claims-clause-swept : goal.returns-in-Ok-tell_claims-clause-swept
-returns-in-Ok-tell_claims-clause-swept g c =
+pub returns-in-Ok-report-clause-swept : goal.returns-in-Ok-report-clause-swept
+returns-in-Ok-report-clause-swept g c =
     swept c.args.repository.now c.args.words.now.essential c.args.words.now.limit c.args.limits.now c.args.words.now.cert.now (g.D.Desk.view c.args.desk.now)
     (g.D.Desk.view c.strong.new.desk)
-    c.in-Ok.claims c.in-Ok-tell_claims.answer.status c.in-Ok-tell_claims.answer.text.items c.in-Ok.ensures.answers c.in-Ok-tell_claims.ensures.status
-    c.in-Ok-tell_claims.ensures.text
+    c.in-Ok.claims c.in-Ok-report.answer.status c.in-Ok-report.answer.text.items c.in-Ok.ensures.answers c.in-Ok-report.ensures.status
+    c.in-Ok-report.ensures.text
 
 pub returns-in-Ok-clause-stops : goal.returns-in-Ok-clause-stops
 returns-in-Ok-clause-stops g c =
