@@ -169,7 +169,7 @@ libraries, and of the questions about the future, which have no command yet.
 """
 SECOND = "# Part two: the other words of public contracts\n"
 # What the clauses of public functions are, and the members that impls and traits state.
-PUBLIC = re.compile(r"(?:^|\n) *pub (?:const )?fn \w+.*?(?=\n *\{\n|;\n)", re.S)
+PUBLIC = re.compile(r"(?:^|\n) *pub (?:const )?fn \w+.*?(?=\n *\{|;\n| \{\n)", re.S)
 
 
 def public_reached():
