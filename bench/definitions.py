@@ -148,7 +148,7 @@ CHAPTERS = [
     ("Certificates", ["dist_cert"]),
     ("What certificates speak of, and what their claims mean", ["dist_subject", "dist_check"]),
     ("What a question answers", ["dist_solver"]),
-    ("What a sweep may write", ["dist_strong"]),
+    ("What a sweep may write", ["dist_sweep", "dist_strong"]),
     ("What the checker keeps", ["dist_check_group", "dist_check_state"]),
     ("Reports", ["dist_report"]),
     ("Made archives, and trials on them", ["dist_generate", "dist_trial"]),

@@ -15,7 +15,7 @@ use Rattle.dist_now.specs.declared.kinds.Health.{Health as Judgement}
 use Rattle.dist_now.specs.declared.kinds.Health.TheVariants as health
 use Rattle.dist_cert.specs.declared.records.Claim.{Claim}
 use Rattle.dist_strong.specs.Budget.{IsBelowBudget}
-use Rattle.dist_strong.specs.Sweep.{IsFull}
+use Rattle.dist_sweep.specs.Sweep.{IsFull}
 use Rattle.dist_check.specs.Answers.{IsOfText}
 use Rattle.dist_check.specs.declared.verdict.Verdict.{Verdict}
 use Rattle.dist_check.specs.declared.verdict.Verdict.TheVariants as verdict

@@ -17,7 +17,7 @@ use Rattle.dist_cert.specs.declared.records.Header.{Header}
 use Rattle.dist_subject.specs.Claims.{AreClaimsOf}
 use Rattle.dist_subject.specs.Completed.{IsCompleted}
 use Rattle.dist_subject.specs.Present.{IsAccepted}
-use Rattle.dist_strong.specs.Sweep.{IsSweep, SweepAnswers, header_of}
+use Rattle.dist_sweep.specs.Sweep.{IsSweep, SweepAnswers, header_of}
 use Rattle.dist_check.specs.Means.{Means}
 use Rattle.dist_report.specs.StrongReport.{strong_lines}
 use Rattle.dist_words.specs.CommandLine.{Strong}

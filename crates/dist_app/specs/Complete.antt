@@ -12,7 +12,7 @@ use Rattle.dist_repo.specs.PackageList.{PackageList}
 use Rattle.dist_now.specs.Health.{IsHealth}
 use Rattle.dist_now.specs.declared.kinds.Health.TheVariants.{Healthy}
 use Rattle.dist_strong.specs.Budget.{IsBelowBudget}
-use Rattle.dist_strong.specs.Sweep.{IsFull}
+use Rattle.dist_sweep.specs.Sweep.{IsFull}
 use Rattle.dist_check.specs.Answers.{IsOfText}
 use Rattle.dist_check.specs.declared.verdict.Verdict.{Verdict}
 use Rattle.dist_check.specs.declared.verdict.Verdict.TheVariants.{Accepted, Refused}

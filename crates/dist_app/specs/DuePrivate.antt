@@ -5,7 +5,7 @@ use Rattle.dist_outside.specs.Files.{Files, IsNotWriting, with_file}
 use Rattle.dist_outside.specs.DeskView.{DeskView}
 use Rattle.dist_outside.specs.declared.limits.Limits.{Limits}
 use Rattle.dist_repo.specs.PackageList.{PackageList}
-use Rattle.dist_strong.specs.Sweep.{IsCutSweep}
+use Rattle.dist_sweep.specs.Sweep.{IsCutSweep}
 use Rattle.dist_words.specs.CommandLine.{CommandLine}
 use Rattle.dist_app.specs.Command.{CommandDecides, CommandIsGivenUp, IsApart}
 use Rattle.dist_app.specs.Stages.{Ending, Ends, Goes, answered, refused}

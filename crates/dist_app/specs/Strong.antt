@@ -7,7 +7,7 @@ use Rattle.dist_outside.specs.declared.trouble.What.TheVariants.{Clauses, Litera
 use Rattle.dist_repo.specs.PackageList.{PackageList}
 use Rattle.dist_now.specs.PresentSet.{PassesClauses, PassesLiterals}
 use Rattle.dist_cert.specs.declared.records.Claim.{Claim}
-use Rattle.dist_strong.specs.Sweep.{IsSweep, IsFull, IsCutSweep}
+use Rattle.dist_sweep.specs.Sweep.{IsSweep, IsFull, IsCutSweep}
 use Rattle.dist_report.specs.StrongReport.{strong_lines}
 use Rattle.dist_app.specs.Claims.{claims_status}
 use Rattle.dist_app.specs.PackagesStage.{PackagesStage}

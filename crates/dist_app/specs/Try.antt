@@ -9,7 +9,7 @@ use Rattle.dist_package.specs.RepositoryOf.{IsRepositoryOf}
 use Rattle.dist_repo.specs.PackageList.{PackageList}
 use Rattle.dist_cert.specs.declared.records.Claim.{Claim}
 use Rattle.dist_generate.specs.Generator.{generated}
-use Rattle.dist_strong.specs.Sweep.{IsFull, IsSweep}
+use Rattle.dist_sweep.specs.Sweep.{IsFull, IsSweep}
 use Rattle.dist_trial.specs.Summary.{summary_text}
 use Rattle.dist_app.specs.Claims.{claims_status}
 use Rattle.dist_app.specs.Stages.{Ending, Step, Goes, Ends, Then, answered, refused}

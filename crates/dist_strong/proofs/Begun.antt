@@ -1,10 +1,11 @@
 -- A sweep may begin, and when it is refused for its input clauses.
-use Rattle.std.proofs.Common.{◌≡◌, ◌≢◌, ℕ, ◌<◌, ◌≤◌, ◌^◌, Bool, List, [], length, Result, Ok, Err, refl, ap, sym, subst, ◌∙◌, append-nil, arith}
+use Rattle.std.proofs.Common.{◌≡◌, ◌≢◌, ℕ, ◌<◌, ◌≤◌, ◌^◌, Bool, List, length, Result, Ok, Err, refl, ap, sym, subst}
+use Rattle.std.proofs.Common.{◌∙◌, append-nil, arith}
 use Rattle.std.proofs.lemmas.List.Elements.{All-nil}
 use Rattle.dist_base.specs.declared.TheConstants.{MAX_CLAUSES, MAX_LIMIT, MAX_PACKAGES}
 use Rattle.dist_base.specs.Answers.{IsExactly}
 use Rattle.dist_clause.specs.ClauseList.{ClauseList, IsWithinLimits, literal_count}
-use Rattle.dist_clause.specs.Formula.{Literal}
+use Rattle.dist_clause.specs.Formula.{Literal, IsModel, value_of}
 use Rattle.dist_derive.specs.ClauseLog.{ClauseLog}
 use Rattle.dist_now.specs.PresentClauses.{ArePresentClauses, IsDemand}
 use Rattle.dist_now.specs.PresentSet.{IsSetOf, PassesClauses, PassesLiterals}
@@ -15,20 +16,27 @@ use Rattle.dist_outside.specs.declared.trouble.WorkError.{WorkError}
 use Rattle.dist_outside.specs.declared.trouble.WorkError.TheVariants.{NoMemory, TooLarge}
 use Rattle.dist_repo.specs.Order.{IsInOrder}
 use Rattle.dist_repo.specs.PackageList.{PackageList}
-use Rattle.dist_cert.specs.declared.records.CertKind.TheVariants as kinds
 use Rattle.dist_cert.specs.declared.records.Claim.{Claim}
 use Rattle.dist_cert.specs.declared.records.Header.{Header}
 use Rattle.dist_cert.specs.PartByRecordsLaws.{IsHeaderOf}
-use Rattle.dist_subject.specs.Present.{AreInputs, subject_of}
-use Rattle.dist_strong.specs.Asking.{AskerView}
-use Rattle.dist_strong.specs.Sweep.{SweepAnswers}
-use Rattle.dist_strong.specs.SweepingPrivate.{Begins, MayBegin, new_writer, setting_of}
-use Rattle.dist_strong.specs.Window.{WindowView}
+use Rattle.dist_subject.specs.Present.{AreInputs, subject_of, matter_of}
+use Rattle.dist_sweep.specs.Asking.{AskerView}
+use Rattle.dist_sweep.specs.Sweep.{SweepAnswers}
+use Rattle.dist_sweep.specs.Sweeping.{Begins, MayBegin, new_writer, setting_of, new_window}
+use Rattle.dist_strong.specs.SettlingPrivate.{IsOfStrong}
+use Rattle.dist_sweep.specs.Claiming.{Keeping}
+use Rattle.dist_subject.specs.Installed.{AreTrueOf}
+use Rattle.dist_cert.specs.declared.records.CertKind.TheVariants as kinds
 
 -- ---- the laws of dist_subject and dist_now
 
 abbrev pub ThereLaw : Type 0
 ThereLaw = (r : PackageList) → IsInOrder r.packages → (inputs : Bool → List (List Literal)) × AreInputs r inputs
+
+abbrev pub HealthyLaw : Type 0
+HealthyLaw = (r : PackageList) (essential : Bool) (clauses : List (List Literal)) (values : List Bool) (variables : List ℕ) → IsInOrder r.packages
+    → ArePresentClauses r essential clauses → length values ≡ length r.packages → IsModel (value_of values) clauses → AreTrueOf values variables
+    → (matter_of r essential clauses).IsHealthy variables
 
 abbrev pub OneLaw : Type 0
 OneLaw = (r : PackageList) (essential : Bool) (clauses other : List (List Literal)) → ArePresentClauses r essential clauses
@@ -54,8 +62,9 @@ first-log set limits =
 abbrev pub first-asker : ClauseList → ℕ → Limits → AskerView
 first-asker set limit limits = record { log = first-log set limits; writer = new_writer limits; limit = limit }
 
-abbrev pub first-window : ℕ → WindowView
-first-window variables = record { kept = []; count = 0; variables = variables }
+-- what is kept between claims
+abbrev pub keeps-strong : {C : Type 0} → Keeping C
+keeps-strong g before c = IsOfStrong g
 
 -- What a sweep starts from.
 pub record StartsFrom (r : PackageList) (essential : Bool) (limit : ℕ) (limits : Limits) (set : ClauseList) : Type 0 where
@@ -67,17 +76,21 @@ pub record StartsFrom (r : PackageList) (essential : Bool) (limit : ℕ) (limits
   pub within : IsWithinLimits set
   pub stated : length set.clauses ≤ MAX_CLAUSES
 
-begins : (r : PackageList) (essential : Bool) (limit : ℕ) (limits : Limits) (set : ClauseList) (inputs : Bool → List (List Literal))
-    → StartsFrom r essential limit limits set → AreInputs r inputs → inputs essential ≡ set.clauses
-    → Begins (setting_of r essential limit limits inputs) (first-header r essential limit (length set.clauses)) (first-asker set limit limits)
-    (first-window (length r.packages))
-begins r essential limit limits set inputs starts are same = record {
+begins : {C : Type 0} → HealthyLaw → (r : PackageList) (essential : Bool) (limit : ℕ) (limits : Limits) (set : ClauseList)
+    (inputs : Bool → List (List Literal)) (c : C) → StartsFrom r essential limit limits set → AreInputs r inputs → inputs essential ≡ set.clauses
+    → Begins keeps-strong (setting_of r essential limit limits inputs) (first-header r essential limit (length set.clauses)) (first-asker set limit limits)
+    (new_window set.variables) c
+begins healthy r essential limit limits set inputs c starts are same = record {
+  packages = refl;
+  keeps = record { kind = refl; same = refl };
   header_is = ap (λ (cs : List (List Literal)). first-header r essential limit (length cs)) (sym same);
   log = record {
-    strong = refl;
     limit_is = refl;
-    ordered = starts.ordered;
-    present = are essential;
+    stand = λ values variables size model true_ones. (
+      tt,
+      healthy r essential (inputs essential) values variables starts.ordered (are essential) size model
+          true_ones,
+    );
     clauses = sym same ∙ sym (append-nil (inputs essential));
     inputs = ap length (sym same);
     variables = starts.set_of.variables;
@@ -86,7 +99,7 @@ begins r essential limit limits set inputs starts are same = record {
     not_ended = refl;
   };
   writer = refl;
-  window = record { kept = refl; count = refl; sizes = All-nil (λ values. length values ≡ length r.packages) };
+  window = record { kept = refl; count = refl; sizes = All-nil (λ values. length values ≡ set.variables) };
 }
 
 header-of : (r : PackageList) (essential : Bool) (limit : ℕ) (limits : Limits) (set : ClauseList) (inputs : Bool → List (List Literal))
@@ -100,11 +113,11 @@ header-of r essential limit limits set inputs starts same =
       fits = record { taken = refl; packages = refl; variables = refl; clauses = refl };
     }
 
-pub may-begin : ThereLaw → OneLaw → (r : PackageList) (essential : Bool) (limit : ℕ) (limits : Limits) (set : ClauseList) (header : Header) (a : AskerView)
-    (w : WindowView) → StartsFrom r essential limit limits set
-    → header ≡ first-header r essential limit (length set.clauses) → a ≡ first-asker set limit limits → w ≡ first-window (length r.packages)
-    → MayBegin r essential limit limits header a w
-may-begin there one r essential limit limits set header a w starts header_is asker_is window_is =
+pub may-begin : {C : Type 0} → ThereLaw → OneLaw → HealthyLaw → (r : PackageList) (essential : Bool) (limit : ℕ) (limits : Limits) (set : ClauseList)
+    (header : Header) (a : AskerView) (c : C) → StartsFrom r essential limit limits set
+    → header ≡ first-header r essential limit (length set.clauses) → a ≡ first-asker set limit limits
+    → MayBegin keeps-strong r essential limit limits header a c
+may-begin there one healthy r essential limit limits set header a c starts header_is asker_is =
     let some = there r starts.ordered in
     let same : some.0 essential ≡ set.clauses = one r essential set.clauses (some.0 essential) starts.set_of.clauses (some.1 essential) in
     record {
@@ -115,12 +128,10 @@ may-begin there one r essential limit limits set header a w starts header_is ask
         literals = omega (arith, ap literal_count same, starts.within.literals_within, starts.set_of.literal_limit_is);
       };
       header_of = header-of r essential limit limits set some.0 starts same;
-      begins = subst (λ (h : Header). Begins (setting_of r essential limit limits some.0) h a w) (sym header_is)
-          (subst (λ (v : AskerView). Begins (setting_of r essential limit limits some.0) (first-header r essential limit (length set.clauses)) v w)
-          (sym asker_is)
-          (subst (λ (v : WindowView). Begins (setting_of r essential limit limits some.0) (first-header r essential limit (length set.clauses))
-          (first-asker set limit limits) v) (sym window_is)
-          (begins r essential limit limits set some.0 starts some.1 same)));
+      begins = subst (λ (h : Header). Begins keeps-strong (setting_of r essential limit limits some.0) h a (new_window a.log.variables) c) (sym header_is)
+          (subst (λ (v : AskerView). Begins keeps-strong (setting_of r essential limit limits some.0)
+          (first-header r essential limit (length set.clauses)) v (new_window v.log.variables) c) (sym asker_is)
+          (begins healthy r essential limit limits set some.0 c starts some.1 same));
     }
 
 -- ---- where there are input clauses, no limit of them was passed

@@ -21,7 +21,8 @@ use Rattle.dist_cert.specs.Subject.{Matter}
 use Rattle.dist_strong.proofs.BudgetCounts.{asked, asked_in, count-push, flat-push, few-claims}
 use Rattle.dist_strong.proofs.FewNumbers.{few-within}
 use Rattle.dist_strong.proofs.Fronts.{GoesOn, by-fronts}
-use Rattle.dist_strong.proofs.KeptLines.{IsKept, AreKept}
+use Rattle.dist_sweep.specs.TrueOnesLaws.{IsKept}
+use Rattle.dist_strong.proofs.KeptLines.{AreKept}
 
 -- ---- the questions of one package
 

@@ -21,7 +21,7 @@ use Rattle.dist_cert.specs.Subject.{Matter}
 use Rattle.dist_cert.specs.Writing.{ended}
 use Rattle.dist_subject.specs.Present.{matter_of, subject_of}
 use Rattle.dist_strong.specs.Budget.{question_budget, line_budget, literal_budget, record_budget, certificate_budget, IsBelowBudget}
-use Rattle.dist_strong.specs.Sweep.{IsFull}
+use Rattle.dist_sweep.specs.Sweep.{IsFull}
 use Rattle.dist_strong.proofs.BudgetCounts.{asked, answers, ends, few-derived, few-answers, few-ends, few-claims, all-sorts}
 use Rattle.dist_strong.proofs.BudgetQuestions.{few-asked}
 use Rattle.dist_strong.proofs.BudgetWidths.{all-narrow, all-literals, header-width, lines-width}

@@ -7,7 +7,7 @@ use Rattle.std.proofs.lemmas.List.Elements.{All-head, All-tail}
 use Rattle.std.proofs.lemmas.List.FromFn.{get_or-range_with_len, length-range_with_len}
 use Rattle.dist_strong.specs.Group.{GroupView, IsCandidate, is_open, open_count}
 use Rattle.dist_strong.specs.SettlingPrivate.{IsFurther}
-use Rattle.dist_strong.specs.Window.{WindowView}
+use Rattle.dist_sweep.specs.Window.{WindowView}
 
 abbrev Implies : (ℕ → Bool) → (ℕ → Bool) → ℕ → Type 0
 Implies few many r = few r ≡ true → many r ≡ true

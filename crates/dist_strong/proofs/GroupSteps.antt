@@ -1,30 +1,27 @@
 -- What the lines of a question make of what is kept of a group.
-use Rattle.std.proofs.Common.{◌≡◌, ◌≢◌, ◌⊎◌, ⊎_elim, inl, inr, ℕ, ◌+◌, ◌-◌, ◌<◌, ◌≤◌, ◌==◌, ◌&&◌, ◌↔◌, Bool, true, false, List, [], ◌∷◌, ◌++◌, length, drop}
-use Rattle.std.proofs.Common.{length-drop, map, slice_set, refl, ap, sym, subst, ◌∙◌, append-nil, arith, length-append, length-set, get_or-set_same}
-use Rattle.std.proofs.Common.{get_or-set_other, not}
-use Rattle.std.specs.List.{All, AllPass, Contains}
+use Rattle.std.proofs.Common.{◌≡◌, ◌≢◌, ◌⊎◌, ⊎_elim, inl, inr, ℕ, ◌+◌, ◌-◌, ◌<◌, ◌≤◌, ◌==◌, ◌&&◌, ◌↔◌, Bool, true}
+use Rattle.std.proofs.Common.{false, List, [], ◌∷◌, ◌++◌, length, slice_set, refl, ap, sym, subst, ◌∙◌, append-nil}
+use Rattle.std.proofs.Common.{arith, length-append, length-set, get_or-set_same, get_or-set_other, not}
+use Rattle.std.specs.List.{All, Contains}
 use Rattle.std.proofs.lemmas.Bool.{and_from, and_parts, cases_eq, eq-eqb, ne_eqb, true≢false, false≢true}
-use Rattle.std.proofs.lemmas.List.{drop-append-le, drop-drop, drop-map, get_or_append_left, get_or_at, length-map, map-append}
-use Rattle.std.proofs.lemmas.List.Elements.{All-append, All-nil, All-cons, All-drop, All-push}
-use Rattle.circular_buffer.specs.Buffer.{keep_last}
+use Rattle.std.proofs.lemmas.List.{get_or_append_left, get_or_at}
+use Rattle.std.proofs.lemmas.List.Elements.{All-append, All-nil, All-cons}
 use Rattle.dist_clause.specs.Formula.{value_of}
-use Rattle.dist_cert.specs.declared.TheConstants.{REACH}
 use Rattle.dist_cert.specs.declared.records.CertKind.{CertKind}
 use Rattle.dist_cert.specs.declared.records.CertRecord.{CertRecord}
 use Rattle.dist_cert.specs.declared.records.CertRecord.TheVariants.{Question, Refuted, Undecided}
 use Rattle.dist_cert.specs.ClaimRules.{yes, no}
 use Rattle.dist_cert.specs.Form.{Word}
-use Rattle.dist_cert.specs.Groups.{claim_count, group, installations, installed_in, IsClosedBy, IsRefutedIn, IsUndecidedIn}
-use Rattle.dist_cert.specs.GroupLaws.{closed-more, count-append, group-append, installations-append}
+use Rattle.dist_cert.specs.Groups.{claim_count, group, installations, IsClosedBy, IsRefutedIn, IsUndecidedIn}
 use Rattle.dist_cert.specs.Part.{IsNextQuestion, IsQuestionOn}
-use Rattle.dist_strong.specs.Asking.{AskerView, is_derived, question_lines}
+use Rattle.dist_sweep.specs.Asking.{AskerView}
 use Rattle.dist_strong.specs.Group.{GroupView, IsCandidate, IsNarrowed, is_open}
-use Rattle.dist_strong.specs.ScriptPrivate.{Setting, matter_in}
+use Rattle.dist_sweep.specs.Script.{Setting, matter_in}
 use Rattle.dist_strong.specs.SettlingPrivate.{AreNoted, IsGroupAt, IsSettling, without}
-use Rattle.dist_strong.specs.Window.{WindowView, IsWindowAt}
-use Rattle.dist_strong.specs.WordsPrivate.{true_variables}
-use Rattle.dist_strong.proofs.GroupLines.{IsAnswerLine, closed-now, question-claims, question-installs, questions-of}
-use Rattle.dist_strong.proofs.TrueOnes.{true-ones}
+use Rattle.dist_sweep.specs.Window.{WindowView}
+use Rattle.dist_sweep.specs.Words.{true_variables}
+use Rattle.dist_sweep.specs.QuestionLinesLaws.{questions-of, AreAsked, group-after, count-after, in-group-after, closed-after, closed-here}
+use Rattle.dist_sweep.specs.TrueOnesLaws.{true-ones}
 
 -- ---- values that are set
 
@@ -88,61 +85,12 @@ question-on g before a w group q settling candidate =
     let kept = settling.group_at in
     record {
       claim_left = omega (arith, kept.claimed, kept.upto, kept.variables);
-      on_next = subst (λ (k : CertKind). IsQuestionOn (matter_in g) k (claim_count before + 1) (without group.claimed q)) (sym settling.at.log.strong)
+      on_next = subst (λ (k : CertKind). IsQuestionOn (matter_in g) k (claim_count before + 1) (without group.claimed q)) (sym settling.of_strong.kind)
           (inr (q, ap (λ (p : ℕ). yes p ∷ no q ∷ []) kept.claimed));
       not_twice = λ there. true≢false (sym candidate.opens ∙ kept.asked q candidate.from_one candidate.upto there);
     }
 
 -- ---- what the lines of a question hold
-
--- the lines of a question, of which the last installs some packages or none
-pub record AreAsked (before : List CertRecord) (question : List Word) (installed : List (List ℕ)) (after : List CertRecord) : Type 0 where
-  pub between : List CertRecord
-  pub answer : CertRecord
-  pub only_derived : AllPass is_derived between
-  pub answer_line : IsAnswerLine answer
-  pub installs : installed_in answer ≡ installed
-  pub is : after ≡ before ++ question_lines question between answer
-
-pub group-after : (before : List CertRecord) (question : List Word) (installed : List (List ℕ)) (after : List CertRecord)
-    (asked : AreAsked before question installed after)
-    → group after ≡ group before ++ question_lines question asked.between asked.answer
-group-after before question installed after asked =
-    ap group asked.is ∙ group-append before (question_lines question asked.between asked.answer)
-    (question-claims question asked.between asked.answer asked.only_derived asked.answer_line)
-
-pub count-after : (before : List CertRecord) (question : List Word) (installed : List (List ℕ)) (after : List CertRecord)
-    → AreAsked before question installed after → claim_count after ≡ claim_count before
-count-after before question installed after asked =
-    ap claim_count asked.is ∙ count-append before (question_lines question asked.between asked.answer)
-    (question-claims question asked.between asked.answer asked.only_derived asked.answer_line)
-
-pub installed-after : (before : List CertRecord) (question : List Word) (installed : List (List ℕ)) (after : List CertRecord)
-    → AreAsked before question installed after → installations after ≡ installations before ++ installed
-installed-after before question installed after asked =
-    ap installations asked.is ∙ installations-append before (question_lines question asked.between asked.answer)
-    ∙ ap (λ (ms : List (List ℕ)). installations before ++ ms) (question-installs question asked.between asked.answer asked.only_derived ∙ asked.installs)
-
-pub in-group-after : (before : List CertRecord) (question : List Word) (installed : List (List ℕ)) (after : List CertRecord)
-    → AreAsked before question installed after → installations (group after) ≡ installations (group before) ++ installed
-in-group-after before question installed after asked =
-    ap installations (group-after before question installed after asked)
-    ∙ installations-append (group before) (question_lines question asked.between asked.answer)
-    ∙ ap (λ (ms : List (List ℕ)). installations (group before) ++ ms)
-    (question-installs question asked.between asked.answer asked.only_derived ∙ asked.installs)
-
-closed-after : (before : List CertRecord) (question : List Word) (installed : List (List ℕ)) (after : List CertRecord) (other : List Word) (answer : CertRecord)
-    → AreAsked before question installed after
-    → IsClosedBy (group before) other answer → IsClosedBy (group after) other answer
-closed-after before question installed after other answer asked closed =
-    subst (λ ls. IsClosedBy ls other answer) (sym (group-after before question installed after asked))
-    (closed-more (group before) (question_lines question asked.between asked.answer) other answer closed)
-
-pub closed-here : (before : List CertRecord) (question : List Word) (installed : List (List ℕ)) (after : List CertRecord)
-    (asked : AreAsked before question installed after) → IsClosedBy (group after) question asked.answer
-closed-here before question installed after asked =
-    subst (λ ls. IsClosedBy ls question asked.answer) (sym (group-after before question installed after asked))
-    (closed-now (group before) asked.between question asked.answer asked.only_derived)
 
 no-of : List Word → ℕ
 no-of (v ∷ w ∷ words) = w.0
@@ -369,41 +317,3 @@ found-step g before after w kept new q values at candidate asked size has lacks 
           ((at.common r from upto).1 (all-left (λ m. Contains m r) (installations (group before)) (true_variables values) all))
           ((true-ones values r from (omega (arith, upto, size))).0 (all-last (λ m. Contains m r) (installations (group before)) (true_variables values) all)),
     )
-
--- ---- the window
-
-keep-push : {X : Type 0} (n : ℕ) (xs : List X) (y : X) → keep_last n (keep_last n xs ++ y ∷ []) ≡ keep_last n (xs ++ y ∷ [])
-keep-push {X} n xs y =
-    let k : ℕ = length xs - n in
-    let within : k ≤ length xs = omega arith in
-    let joined : drop k xs ++ y ∷ [] ≡ drop k (xs ++ y ∷ []) = sym (drop-append-le k xs (y ∷ []) within) in
-    let size = length-append (drop k xs) (y ∷ []) in
-    let dropped = length-drop k xs in
-    let whole = length-append xs (y ∷ []) in
-    let count : k + (length (drop k xs ++ y ∷ []) - n) ≡ length (xs ++ y ∷ []) - n = omega (arith, size, dropped, whole) in
-    ap (λ (ys : List X). drop (length (drop k xs ++ y ∷ []) - n) ys) joined ∙ drop-drop (length (drop k xs ++ y ∷ []) - n) k (xs ++ y ∷ [])
-    ∙ ap (λ (m : ℕ). drop m (xs ++ y ∷ [])) count
-
-keep-map : {X Y : Type 0} (f : X → Y) (n : ℕ) (xs : List X) → map f (keep_last n xs) ≡ keep_last n (map f xs)
-keep-map f n xs = sym (drop-map f (length xs - n) xs) ∙ ap (λ (m : ℕ). drop (m - n) (map f xs)) (sym (length-map xs f))
-
-pub window-more : (before after : List CertRecord) (question : List Word) (w : WindowView) (values : List Bool) → IsWindowAt before w
-    → AreAsked before question (true_variables values ∷ []) after → length values ≡ w.variables
-    → IsWindowAt after (record w { kept = keep_last REACH (w.kept ++ values ∷ []); count = w.count + 1 })
-window-more before after question w values at asked size =
-    let inst = installed-after before question (true_variables values ∷ []) after asked in
-    record {
-      kept = keep-map true_variables REACH (w.kept ++ values ∷ [])
-          ∙ ap (λ (ms : List (List ℕ)). keep_last REACH ms) (map-append true_variables w.kept (values ∷ [])
-          ∙ ap (λ (ms : List (List ℕ)). ms ++ true_variables values ∷ []) at.kept)
-          ∙ keep-push REACH (installations before) (true_variables values) ∙ ap (λ (ms : List (List ℕ)). keep_last REACH ms) (sym inst);
-      count = ap (λ (n : ℕ). n + 1) at.count ∙ sym (ap length inst ∙ length-append (installations before) (true_variables values ∷ []));
-      sizes = All-drop (λ v. length v ≡ w.variables) (length (w.kept ++ values ∷ []) - REACH) (w.kept ++ values ∷ [])
-          (All-push (λ v. length v ≡ w.variables) w.kept values at.sizes size);
-    }
-
-pub window-same : (before after : List CertRecord) (question : List Word) (w : WindowView) → IsWindowAt before w → AreAsked before question [] after
-    → IsWindowAt after w
-window-same before after question w at asked =
-    let inst = installed-after before question [] after asked ∙ append-nil (installations before) in
-    record { kept = at.kept ∙ ap (λ (ms : List (List ℕ)). keep_last REACH ms) (sym inst); count = at.count ∙ ap length (sym inst); sizes = at.sizes }

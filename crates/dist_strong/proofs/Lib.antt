@@ -1,18 +1,6 @@
-mod Lists
-mod Keeping
-mod Opened
-mod Lines
-mod OneLine
-mod DerivedLines
-mod TrueOnes
-mod Answered
-mod Closing
-mod Asked
-mod GroupLines
 mod GroupSteps
 mod Counting
 mod SettleSteps
-mod ClaimLines
 mod StrongLine
 mod ClaimSteps
 mod FewNumbers
@@ -23,8 +11,4 @@ mod BudgetQuestions
 mod BudgetWidths
 mod Budgets
 mod Claimed
-mod FirstLine
-mod SweepLines
-mod Parts
-mod SweptFile
 mod Begun

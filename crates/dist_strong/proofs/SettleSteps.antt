@@ -1,6 +1,7 @@
 -- A candidate that was asked for, and several one after another.
-use Rattle.std.proofs.Common.{◌≡◌, inl, inr, ℕ, ◌≤◌, ◌+◌, ◌-◌, ◌++◌, Bool, true, false, List, [], ◌∷◌, length, slice_set, refl, ap, sym, subst, ◌∙◌}
-use Rattle.std.proofs.Common.{append_assoc, append-nil, arith, drop, length-append, lit<}
+use Rattle.std.proofs.Common.{◌≡◌, inl, inr, ℕ, ◌≤◌, ◌+◌, ◌-◌, ◌++◌, Bool, true, false, List, [], ◌∷◌, length}
+use Rattle.std.proofs.Common.{slice_set, refl, ap, sym, subst, ◌∙◌, append_assoc, append-nil, arith, drop}
+use Rattle.std.proofs.Common.{length-append, lit<}
 use Rattle.std.specs.List.{Any}
 use Rattle.std.proofs.lemmas.List.{drop-append-le, get_or_at}
 use Rattle.std.proofs.lemmas.Bool.{and_parts, cases_eq, true≢false}
@@ -15,19 +16,20 @@ use Rattle.dist_cert.specs.Form.{Word}
 use Rattle.dist_cert.specs.Groups.{installed_in}
 use Rattle.dist_cert.specs.Part.{IsNextQuestion}
 use Rattle.dist_cert.specs.Refusal.{lines_text}
-use Rattle.dist_strong.specs.Asking.{AskerView, Holds, IsAsked, IsAt, question_lines}
+use Rattle.dist_sweep.specs.Asking.{AskerView, Holds, IsAsked, question_lines, AskMore, AskStops}
 use Rattle.dist_strong.specs.Group.{GroupView, IsCandidate, IsNarrowed, is_open}
-use Rattle.dist_strong.specs.ScriptPrivate.{Setting, matter_in}
-use Rattle.dist_strong.specs.SettlingPrivate.{Fits, HasSizes, IsFurther, IsSettling, SettleMore, SettleStops, Settles, without}
-use Rattle.dist_strong.specs.Window.{WindowView}
-use Rattle.dist_strong.specs.WordsPrivate.{true_variables}
-use Rattle.dist_strong.specs.declared.asker.Reply.{Reply}
-use Rattle.dist_strong.specs.declared.asker.Reply.TheVariants as replies
-use Rattle.dist_strong.proofs.Asked.{AskStops}
-use Rattle.dist_strong.proofs.GroupLines.{any-join, question-claims, reply-line}
-use Rattle.dist_strong.proofs.GroupSteps.{AreAsked, found-step, never-open, open-from, open-parts, question-on, refuted-step, value-other, value-same}
-use Rattle.dist_strong.proofs.GroupSteps.{undecided-step, window-more, window-same}
-use Rattle.dist_strong.proofs.OneLine.{BeginsLaw, TwiceLaw, lines-more, stops-after, stops-for-memory}
+use Rattle.dist_sweep.specs.Script.{Setting, matter_in}
+use Rattle.dist_strong.specs.SettlingPrivate.{Fits, HasSizes, IsFurther, IsSettling, SettleMore, SettleStops, Settles}
+use Rattle.dist_strong.specs.SettlingPrivate.{without}
+use Rattle.dist_sweep.specs.Window.{WindowView}
+use Rattle.dist_sweep.specs.Words.{true_variables}
+use Rattle.dist_sweep.specs.declared.asker.Reply.{Reply}
+use Rattle.dist_sweep.specs.QuestionLinesLaws.{any-join, question-claims, reply-line, AreAsked}
+use Rattle.dist_strong.proofs.GroupSteps.{found-step, never-open, open-from, open-parts, question-on, refuted-step}
+use Rattle.dist_strong.proofs.GroupSteps.{value-other, value-same, undecided-step}
+use Rattle.dist_sweep.specs.WindowLaws.{window-more, window-same}
+use Rattle.dist_sweep.specs.ScriptLaws.{BeginsLaw, TwiceLaw, lines-more, stops-after, stops-for-memory}
+use Rattle.dist_sweep.specs.declared.asker.Reply.TheVariants as replies
 
 -- ---- one after another
 
@@ -72,6 +74,7 @@ asked-refuted g before old new a b w kept q settling candidate asked =
       no_claims = question-claims (without kept.claimed q) asked.between asked.answer asked.only_derived
           (reply-line replies.Refuted asked.answer asked.is_answer);
       settling = record {
+        of_strong = settling.of_strong;
         at = asked.at;
         window = window-same before (before ++ question_lines (without kept.claimed q) asked.between asked.answer) (without kept.claimed q) w settling.window
             lines;
@@ -99,6 +102,7 @@ asked-undecided g before old new a b w kept q settling candidate asked =
       no_claims = question-claims (without kept.claimed q) asked.between asked.answer asked.only_derived
           (reply-line replies.Undecided asked.answer asked.is_answer);
       settling = record {
+        of_strong = settling.of_strong;
         at = asked.at;
         window = window-same before (before ++ question_lines (without kept.claimed q) asked.between asked.answer) (without kept.claimed q) w settling.window
             lines;
@@ -136,6 +140,7 @@ asked-found g before old new a b w kept after q values settling candidate asked 
       no_claims = question-claims (without kept.claimed q) asked.between asked.answer asked.only_derived
           (reply-line (replies.Found values) asked.answer asked.is_answer);
       settling = record {
+        of_strong = settling.of_strong;
         at = asked.at;
         window = window-more before (before ++ question_lines (without kept.claimed q) asked.between asked.answer) (without kept.claimed q) w values
             settling.window lines (holds.0 ∙ sym window);
@@ -146,10 +151,6 @@ asked-found g before old new a b w kept after q values settling candidate asked 
     }
 
 -- ---- from what a question tells
-
-abbrev pub AskMore : DeskView → DeskView → AskerView → AskerView → List Word → Reply → Type 0
-AskMore old new a b words reply = (g : Setting) (before : List CertRecord) → IsAt g before a → IsNextQuestion (matter_in g) g.header before words
-    → IsAsked g before words old new b reply
 
 ask-at : (old new : DeskView) (a b : AskerView) (w : WindowView) (kept : GroupView) (q : ℕ) (words : List Word) (reply told : Reply)
     → words ≡ without kept.claimed q → reply ≡ told → AskMore old new a b words reply

@@ -1,33 +1,33 @@
 -- The line of a claim on strong dependencies may come next, once no candidate is left.
-use Rattle.std.proofs.Common.{◌≡◌, ◌≢◌, ℕ, zero, suc, ◌-◌, ◌<◌, ◌≤◌, ◌^◌, Bool, true, false, List, [], ◌∷◌, ◌++◌, length, get_or, refl, ap, sym, subst, ◌∙◌}
-use Rattle.std.proofs.Common.{arith, length-append, if◌then◌else◌}
+use Rattle.std.proofs.Common.{◌≡◌, ◌≢◌, ℕ, zero, suc, ◌-◌, ◌<◌, ◌≤◌, ◌^◌, Bool, true, false, List, [], ◌∷◌, ◌++◌}
+use Rattle.std.proofs.Common.{length, get_or, refl, ap, sym, subst, ◌∙◌, arith, length-append, if◌then◌else◌}
 use Rattle.std.specs.List.{All, AllPairs, Contains, list_any}
 use Rattle.std.proofs.lemmas.Bool.{true≢false}
 use Rattle.std.proofs.lemmas.List.{get_or-append_right}
 use Rattle.std.proofs.lemmas.List.Elements.{All-cons, All-append, Contains-append_left, Contains-append_right}
 use Rattle.dist_clause.specs.Formula.{value_of}
 use Rattle.dist_cert.specs.declared.faults.CertCause.{CertCause}
-use Rattle.dist_cert.specs.declared.faults.CertCause.TheVariants as causes
 use Rattle.dist_cert.specs.declared.records.CertKind.{CertKind}
-use Rattle.dist_cert.specs.declared.records.CertKind.TheVariants as kinds
 use Rattle.dist_cert.specs.declared.records.CertRecord.{CertRecord}
 use Rattle.dist_cert.specs.declared.records.CertRecord.TheVariants.{Strong}
 use Rattle.dist_cert.specs.ClaimRules.{HoldsClaim, HoldsStrong, IsInEach, OmitsPackage}
 use Rattle.dist_cert.specs.Form.{IsSmall, is_end, plain, plains, separator}
-use Rattle.dist_cert.specs.Groups.{claim_count, group, installations, installation_at, is_claim, IsRefutedIn, IsUndecidedIn}
+use Rattle.dist_cert.specs.Groups.{claim_count, group, installations, installation_at, is_claim, IsRefutedIn}
+use Rattle.dist_cert.specs.Groups.{IsUndecidedIn}
 use Rattle.dist_cert.specs.GroupLaws.{installations-append}
-use Rattle.dist_cert.specs.LineRules.{HasRecordFault, IsNoFuture}
+use Rattle.dist_cert.specs.LineRules.{HasRecordFault}
 use Rattle.dist_cert.specs.PartByRecordsLaws.{IsLine}
-use Rattle.dist_strong.specs.Group.{AreLeft, GroupView, HasEach, HasNoCandidate, IsLeft}
-use Rattle.dist_strong.specs.ScriptPrivate.{Setting, matter_in}
-use Rattle.dist_strong.specs.SettlingPrivate.{IsGroupAt, without}
-use Rattle.dist_strong.specs.Window.{WindowView, IsWindowAt, numbers_of}
-use Rattle.dist_strong.specs.WordsPrivate.{true_variables}
-use Rattle.dist_strong.proofs.ClaimLines.{each-named, latest-named, named-each, next-claim, numbers-named, numbers-rising}
+use Rattle.dist_strong.specs.Group.{AreLeft, GroupView, HasNoCandidate, IsLeft}
+use Rattle.dist_sweep.specs.Script.{Setting, matter_in}
+use Rattle.dist_strong.specs.SettlingPrivate.{IsGroupAt, IsOfStrong, without}
+use Rattle.dist_sweep.specs.Window.{HasEach, IsWindowAt, WindowView, numbers_of}
+use Rattle.dist_sweep.specs.Words.{true_variables}
+use Rattle.dist_sweep.specs.WindowLaws.{each-named, latest-named, named-each, numbers-named, numbers-rising}
+use Rattle.dist_sweep.specs.ClaimLinesLaws.{next-claim}
 use Rattle.dist_strong.proofs.GroupSteps.{open-from}
-use Rattle.dist_strong.proofs.Lines.{plains-small}
-use Rattle.dist_strong.proofs.Lists.{none-in}
-use Rattle.dist_strong.proofs.TrueOnes.{contained, true-low, true-ones, true-rising, true-upto}
+use Rattle.dist_sweep.specs.LineLaws.{no-future, none-in, plains-small}
+use Rattle.dist_sweep.specs.TrueOnesLaws.{contained, true-low, true-ones, true-rising, true-upto}
+use Rattle.dist_cert.specs.declared.faults.CertCause.TheVariants as causes
 
 -- ---- an installation is named
 
@@ -101,10 +101,10 @@ holds-strong g before w kept left at settled same are_left = record {
   rising = (true-rising kept.refuted, are_left.rising);
   apart = each-of {P = λ q. ¬ Contains left q} on (λ q there in_left. true≢false
       (sym (left-at q in_left).is_undecided ∙ settled.apart q (on-at q there).from_one (on-at q there).holds));
-  others = All-append (λ q. (q ≢ kept.claimed) × (q ≤ length g.repo.packages)) on left
-      (each-of {P = λ q. (q ≢ kept.claimed) × (q ≤ length g.repo.packages)} on
+  others = All-append (λ q. (q ≢ kept.claimed) × (q ≤ (matter_in g).packages)) on left
+      (each-of {P = λ q. (q ≢ kept.claimed) × (q ≤ (matter_in g).packages)} on
       (λ q there. ((settled.refuted q (on-at q there).from_one (on-at q there).upto (on-at q there).holds).0, packages q (on-at q there).upto)))
-      (each-of {P = λ q. (q ≢ kept.claimed) × (q ≤ length g.repo.packages)} left
+      (each-of {P = λ q. (q ≢ kept.claimed) × (q ≤ (matter_in g).packages)} left
       (λ q there. (
         (settled.undecided q (left-at q there).from_one (left-at q there).upto (left-at q there).is_undecided).0,
         packages q (left-at q there).upto,
@@ -127,7 +127,7 @@ holds-strong g before w kept left at settled same are_left = record {
     left-at : (q : ℕ) → Contains left q → IsLeft w kept q
     left-at q there = contained (IsLeft w kept) left q are_left.each there
 
-    packages : (q : ℕ) → q ≤ kept.variables → q ≤ length g.repo.packages
+    packages : (q : ℕ) → q ≤ kept.variables → q ≤ (matter_in g).packages
     packages q upto = omega (arith, upto, settled.variables)
 
     within : (q : ℕ) → Contains left q → q ≤ w.variables
@@ -170,8 +170,8 @@ omits-none g before w kept left at settled same are_left none omitted =
 distinct : (ns : List ℕ) → AllPairs (λ m n. m < n) ns → AllPairs (λ m n. m ≢ n) ns
 distinct ns rising i j d before within = λ e. let less = rising i j d before within in omega (arith, less, e)
 
-pub strong-line : (g : Setting) (before : List CertRecord) (w : WindowView) (kept : GroupView) (left : List ℕ) → g.header.kind ≡ kinds.Strong
-    → list_any is_end before ≡ false → length g.repo.packages < 2 ^ 32
+pub strong-line : (g : Setting) (before : List CertRecord) (w : WindowView) (kept : GroupView) (left : List ℕ) → IsOfStrong g
+    → list_any is_end before ≡ false → (matter_in g).packages < 2 ^ 32
     → IsWindowAt before w → IsGroupAt g before kept → w.variables ≡ kept.variables → AreLeft w kept left → HasNoCandidate w kept → w.count < 2 ^ 32
     → IsLine (matter_in g) g.header before (Strong kept.claimed (numbers_of w kept.claimed) (true_variables kept.refuted) left)
 strong-line g before w kept left strong going fits at settled same are_left none_left small = record {
@@ -182,8 +182,8 @@ strong-line g before w kept left strong going fits at settled same are_left none
         (omega (arith, settled.upto, settled.variables, fits))
         (All-append (λ v. IsSmall v.0) (plains named) (separator ∷ (plains on ++ (separator ∷ plains left))) (plains-small w.count named small upto-named)
         (All-cons (λ v. IsSmall v.0) separator (plains on ++ (separator ∷ plains left)) (omega arith)
-        (All-append (λ v. IsSmall v.0) (plains on) (separator ∷ plains left) (plains-small (length g.repo.packages) on fits upto-on)
-        (All-cons (λ v. IsSmall v.0) separator (plains left) (omega arith) (plains-small (length g.repo.packages) left fits upto-left)))));
+        (All-append (λ v. IsSmall v.0) (plains on) (separator ∷ plains left) (plains-small (matter_in g).packages on fits upto-on)
+        (All-cons (λ v. IsSmall v.0) separator (plains left) (omega arith) (plains-small (matter_in g).packages left fits upto-left)))));
   };
   not_ended = going;
   faultless = none;
@@ -208,21 +208,21 @@ strong-line g before w kept left strong going fits at settled same are_left none
     from-left : All (λ n. 1 ≤ n) left
     from-left k d within = (are_left.each k d within).from_one
 
-    upto-on : All (λ n. n ≤ length g.repo.packages) (true_variables kept.refuted)
+    upto-on : All (λ n. n ≤ (matter_in g).packages) (true_variables kept.refuted)
     upto-on k d within = let least = true-upto kept.refuted k d within in omega (arith, least, settled.sizes.refuted, settled.variables)
 
-    upto-left : All (λ n. n ≤ length g.repo.packages) left
+    upto-left : All (λ n. n ≤ (matter_in g).packages) left
     upto-left k d within = let least = (are_left.each k d within).upto in omega (arith, least, settled.variables)
 
     none : (cause : CertCause) → ¬ HasRecordFault (matter_in g) g.header before
         (Strong kept.claimed (numbers_of w kept.claimed) (true_variables kept.refuted) left) cause
     none causes.OutOfRange f = none-in _ f
-    none causes.OutOfOrder f = next-claim (length g.repo.packages) (claim_count before) kept.claimed settled.claimed
+    none causes.OutOfOrder f = next-claim (matter_in g).packages (claim_count before) kept.claimed settled.claimed
         (omega (arith, settled.upto, settled.variables)) f
     none causes.UnknownLine f = none-in _ f
-    none causes.NotAFuture f = subst (λ (k : CertKind). IsNoFuture (matter_in g) k
-        (Strong kept.claimed (numbers_of w kept.claimed) (true_variables kept.refuted) left)) strong f
+    none causes.NotAFuture f = no-future (matter_in g) g.header.kind
+        (Strong kept.claimed (numbers_of w kept.claimed) (true_variables kept.refuted) left) refl f
     none causes.WrongClaim f = f.1 (subst (λ (k : CertKind). HoldsClaim (matter_in g) k before
-        (Strong kept.claimed (numbers_of w kept.claimed) (true_variables kept.refuted) left)) (sym strong) rules)
+        (Strong kept.claimed (numbers_of w kept.claimed) (true_variables kept.refuted) left)) (sym strong.kind) rules)
     none causes.Incomplete f = omits-none g before w kept left at settled same are_left none_left f
     none cause f = f

@@ -3,7 +3,7 @@ use Rattle.std.specs.Prelude.{◌≡◌, ◌==◌, ◌&&◌, ◌<◌, ◌≤◌,
 use Rattle.std.specs.Prelude.{length, not, replicate}
 use Rattle.std.specs.List.{range_with_len}
 use Rattle.dist_clause.specs.Formula.{value_of}
-use Rattle.dist_strong.specs.Window.{WindowView}
+use Rattle.dist_sweep.specs.Window.{WindowView, HasEach}
 
 -- the package of the claim, what all installations of its group have, and the packages without which it was refuted, or
 -- stayed undecided
@@ -28,10 +28,6 @@ new_group p variables values = record {
 abbrev pub is_open : GroupView → ℕ → Bool
 is_open group q = not (q == group.claimed) && value_of group.common q && not (value_of group.refuted q)
     && not (value_of group.undecided q)
-
--- each kept installation with the package has the other one
-abbrev pub HasEach : WindowView → ℕ → ℕ → Type 0
-HasEach w p q = All (λ v. value_of v p ≡ true → value_of v q ≡ true) w.kept
 
 -- A package that is in all installations of the claim and was not asked for.
 pub record IsCandidate (w : WindowView) (group : GroupView) (q : ℕ) : Type 0 where

@@ -1,10 +1,5 @@
-pub mod WordsPrivate
-pub mod ScriptPrivate
-pub mod Asking
-pub mod Window
 pub mod Group
 pub mod SettlingPrivate
 pub mod ClaimingPrivate
-pub mod Sweep
 pub mod Budget
-pub mod SweepingPrivate
+pub mod InputsPrivate

@@ -5,16 +5,22 @@ use Rattle.std.specs.List.{list_any}
 use Rattle.dist_clause.specs.Formula.{value_of}
 use Rattle.dist_outside.specs.DeskView.{DeskView, FileGrew}
 use Rattle.dist_outside.specs.declared.trouble.WorkError.{WorkError}
+use Rattle.dist_cert.specs.declared.records.CertKind.TheVariants as kinds
 use Rattle.dist_cert.specs.declared.records.CertRecord.{CertRecord}
 use Rattle.dist_cert.specs.declared.records.CertRecord.TheVariants.{Question}
 use Rattle.dist_cert.specs.Form.{Word}
 use Rattle.dist_cert.specs.Groups as lines
 use Rattle.dist_cert.specs.ClaimRules.{yes, no}
 use Rattle.dist_cert.specs.Refusal.{lines_text}
-use Rattle.dist_strong.specs.Asking.{AskerView, IsAt}
+use Rattle.dist_sweep.specs.Asking.{AskerView, IsAt}
 use Rattle.dist_strong.specs.Group.{GroupView, is_open}
-use Rattle.dist_strong.specs.ScriptPrivate.{Setting, Stops}
-use Rattle.dist_strong.specs.Window.{WindowView, IsWindowAt}
+use Rattle.dist_sweep.specs.Script.{Setting, Stops, matter_in}
+use Rattle.dist_sweep.specs.Window.{WindowView, IsWindowAt}
+
+-- The certificate is of kind strong, where the packages are the variables.
+pub record IsOfStrong (g : Setting) : Type 0 where
+  pub kind : g.header.kind ≡ kinds.Strong
+  pub same : (matter_in g).variables ≡ (matter_in g).packages
 
 -- the question of a package without another one
 abbrev pub without : ℕ → ℕ → List Word
@@ -36,7 +42,7 @@ pub record IsGroupAt (g : Setting) (before : List CertRecord) (group : GroupView
   pub claimed : group.claimed ≡ lines.claim_count before + 1
   pub from_one : 1 ≤ group.claimed
   pub upto : group.claimed ≤ group.variables
-  pub variables : group.variables ≡ length g.repo.packages
+  pub variables : group.variables ≡ (matter_in g).packages
   pub sizes : HasSizes group
   pub some : 0 < length (lines.installations (lines.group before))
   pub each : All (λ members. Contains members group.claimed) (lines.installations (lines.group before))
@@ -51,6 +57,7 @@ pub record IsGroupAt (g : Setting) (before : List CertRecord) (group : GroupView
 -- All that is kept is what these lines hold.
 pub record IsSettling (g : Setting) (before : List CertRecord) (a : AskerView) (w : WindowView)
     (group : GroupView) : Type 0 where
+  pub of_strong : IsOfStrong g
   pub at : IsAt g before a
   pub window : IsWindowAt before w
   pub group_at : IsGroupAt g before group

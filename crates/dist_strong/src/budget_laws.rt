@@ -4,7 +4,7 @@ ghost use Rattle.dist_outside.specs.declared.limits.Limits.{Limits};
 ghost use Rattle.dist_outside.specs.declared.trouble.What.{What};
 ghost use Rattle.dist_repo.specs.PackageList.{PackageList};
 ghost use Rattle.dist_strong.specs.Budget.{IsBelowBudget};
-ghost use Rattle.dist_strong.specs.Sweep.{IsFull};
+ghost use Rattle.dist_sweep.specs.Sweep.{IsFull};
 
 use dist_cert::forms_are_clear;
 

@@ -7,18 +7,17 @@ ghost use Rattle.dist_cert.specs.declared.TheConstants.{REACH};
 ghost use Rattle.dist_cert.specs.Accepted.{claim_in, from_zero};
 ghost use Rattle.dist_cert.specs.ClaimRules.{yes};
 ghost use Rattle.dist_cert.specs.Form.{AreFromOne, KeepsRules};
-ghost use Rattle.dist_strong.specs.ClaimingPrivate.{ClaimMore, ClaimStops, IsStrongLine, StrongMore, Suits};
+ghost use Rattle.dist_strong.specs.ClaimingPrivate.{IsStrongLine, StrongClaims, StrongMore, StrongStops, StrongSuits};
 ghost use Rattle.dist_strong.specs.Group.{HasNoCandidate, new_group};
-ghost use Rattle.dist_strong.specs.ScriptPrivate.{Grows};
+ghost use Rattle.dist_sweep.specs.Script.{Grows};
 ghost use Rattle.dist_strong.specs.SettlingPrivate.{Fits, SettleStops};
 
-use crate::asker::{Asker, Reply};
 use crate::group::Group;
 use crate::settling::ask_candidates;
-use crate::window::Window;
 use dist_cert::{CertRecord, Claim, Items, Numbers};
 use dist_clause::Assignment;
 use dist_outside::{Desk, WorkError, file_grows};
+use dist_sweep::{Asker, Reply, Window};
 use std::alloc::{AllocError, Global};
 
 /// The question of a package.
@@ -106,7 +105,7 @@ fn claim_group<D: Desk>(
     requires fits { Fits asker.old window.old group.old }
     ensures ok { IfOk result (StrongMore (D.view desk.old) (D.view desk.new) asker.old asker.new window.old window.new group.old) }
     ensures err { IfErr result (SettleStops (D.view desk.old) (D.view desk.new) asker.old window.old group.old) }
-    ensures suits { OnOk result (Suits asker.new window.new group.old.claimed) }
+    ensures suits { OnOk result (StrongSuits asker.new window.new group.old.claimed) }
     ensures variables { OnOk result (window.new.variables ≡ window.old.variables) }
     ensures grows { Grows (D.view desk.old) (D.view desk.new) }
 {
@@ -140,10 +139,10 @@ pub(crate) fn settle<D: Desk>(
     package: u32,
 ) -> Result<Claim, WorkError>
     requires writing { IsWriting (D.view desk.old).mode }
-    requires suits { Suits asker.old window.old «package» }
-    ensures ok { IfOk result (ClaimMore «package» (D.view desk.old) (D.view desk.new) asker.old asker.new window.old window.new) }
-    ensures err { IfErr result (ClaimStops «package» (D.view desk.old) (D.view desk.new) asker.old window.old) }
-    ensures suits { OnOk result (Suits asker.new window.new «package») }
+    requires suits { StrongSuits asker.old window.old «package» }
+    ensures ok { IfOk result (StrongClaims «package» (D.view desk.old) (D.view desk.new) asker.old asker.new window.old window.new) }
+    ensures err { IfErr result (StrongStops «package» (D.view desk.old) (D.view desk.new) asker.old window.old) }
+    ensures suits { OnOk result (StrongSuits asker.new window.new «package») }
     ensures variables { OnOk result (window.new.variables ≡ window.old.variables) }
     ensures grows { Grows (D.view desk.old) (D.view desk.new) }
 {

@@ -2,11 +2,10 @@
 ghost use Rattle.std.specs.Prelude.{◌≡◌, ◌-◌, ◌≤◌, ◌&&◌, ◌↔◌, ℕ, IfOk, IfSome, IsTrue, None, length, slice_set, true};
 ghost use Rattle.dist_clause.specs.Formula.{value_of};
 ghost use Rattle.dist_strong.specs.Group.{AreLeft, GroupView, IsCandidate, IsLeft, IsNarrowed, is_open, new_group};
-ghost use Rattle.dist_strong.specs.WordsPrivate.{true_variables};
+ghost use Rattle.dist_sweep.specs.Words.{true_variables};
 
-use crate::window::Window;
-use crate::words::true_variables;
 use dist_clause::Assignment;
+use dist_sweep::{Window, true_variables};
 use std::alloc::{AllocError, Global};
 use std::marker::Model;
 

@@ -1,15 +1,14 @@
 //! The group of a claim: each package that may be strongly needed is asked for once.
 ghost use Rattle.std.specs.Prelude.{◌≡◌, ◌≢◌, ◌≤◌, IfErr, IfOk, OnOk};
 ghost use Rattle.dist_outside.specs.Files.{IsWriting};
-ghost use Rattle.dist_strong.specs.Asking.{IsOver};
+ghost use Rattle.dist_sweep.specs.Asking.{IsOver};
 ghost use Rattle.dist_strong.specs.Group.{HasNoCandidate, IsCandidate};
-ghost use Rattle.dist_strong.specs.ScriptPrivate.{Grows};
+ghost use Rattle.dist_sweep.specs.Script.{Grows};
 ghost use Rattle.dist_strong.specs.SettlingPrivate.{Fits, IsFurther, SettleMore, SettleStops, without};
 
-use crate::asker::{Asker, Reply};
 use crate::group::Group;
-use crate::window::Window;
 use dist_outside::{Desk, WorkError, file_grows};
+use dist_sweep::{Asker, Reply, Window};
 use std::alloc::{AllocError, Global};
 
 /// The question of a package without another one.

@@ -9,7 +9,7 @@ use Rattle.dist_outside.specs.declared.trouble.WorkError.{WorkError}
 use Rattle.dist_outside.specs.declared.trouble.WorkError.TheVariants.{ReadFault, WriteFault, TooLarge, NoMemory}
 use Rattle.dist_repo.specs.PackageList.{PackageList}
 use Rattle.dist_now.specs.PresentSet.{PassesClauses, PassesLiterals}
-use Rattle.dist_strong.specs.Sweep.{IsFull}
+use Rattle.dist_sweep.specs.Sweep.{IsFull}
 use Rattle.dist_generate.specs.Generator.{generated}
 use Rattle.dist_trial.specs.Trial.{ArchiveAnswers, IsTrial, OfArchive, SweptAnswers, TrialAnswers}
 use Rattle.dist_trial.specs.declared.trials.Trial.{Trial}

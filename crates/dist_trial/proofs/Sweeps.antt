@@ -17,7 +17,7 @@ use Rattle.dist_repo.specs.PackageList.{PackageList}
 use Rattle.dist_cert.specs.declared.faults.CertFault.{CertFault}
 use Rattle.dist_cert.specs.declared.records.Claim.{Claim}
 use Rattle.dist_cert.specs.declared.records.Header.{Header}
-use Rattle.dist_strong.specs.Sweep.{SweepAnswers, header_of}
+use Rattle.dist_sweep.specs.Sweep.{SweepAnswers, header_of}
 use Rattle.dist_check.specs.Answers.{Answers, IsOfText, IsVerdict}
 use Rattle.dist_check.specs.Checking.{OfText}
 use Rattle.dist_check.specs.declared.verdict.Verdict.{Verdict}

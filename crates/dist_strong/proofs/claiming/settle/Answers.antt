@@ -6,15 +6,15 @@ use Rattle.dist_outside.specs.declared.trouble.WorkError.TheVariants.{NoMemory}
 use Rattle.dist_cert.specs.declared.records.Claim.{Claim}
 use Rattle.dist_cert.specs.ClaimRules.{yes}
 use Rattle.dist_cert.specs.Form.{Word}
-use Rattle.dist_strong.specs.Asking.{AskerView, Holds, IsOver}
-use Rattle.dist_strong.specs.ClaimingPrivate.{ClaimMore, ClaimStops, StrongMore}
+use Rattle.dist_sweep.specs.Asking.{AskerView, Holds, IsOver}
+use Rattle.dist_strong.specs.ClaimingPrivate.{StrongClaims, StrongMore, StrongStops}
 use Rattle.dist_strong.specs.SettlingPrivate.{SettleStops}
-use Rattle.dist_strong.specs.Window.{WindowView}
-use Rattle.dist_strong.specs.declared.asker.Reply.{Reply}
-use Rattle.dist_strong.specs.declared.asker.Reply.TheVariants as replies
+use Rattle.dist_sweep.specs.Window.{WindowView}
+use Rattle.dist_sweep.specs.declared.asker.Reply.{Reply}
+use Rattle.dist_sweep.specs.declared.asker.Reply.TheVariants as replies
 use Rattle.dist_strong.proofs.Claimed.{alone-over, claim-ask-stops, claim-memory, claimed-found, claimed-uninstallable, claimed-unknown, group-memory}
 use Rattle.dist_strong.proofs.Claimed.{group-stops, new-fits, uninstallable-stops, unknown-stops}
-use Rattle.dist_strong.proofs.OneLine.{by-exit, two-grow}
+use Rattle.dist_sweep.specs.ScriptLaws.{by-exit, two-grow}
 use Rattle.dist_strong.proofs.claiming.settle.Goals as goal
 
 -- what is told of an installation with the package
@@ -31,7 +31,7 @@ ask-requires-clause-question g c =
 pub returns-in_err-question-clause-err : goal.returns-in_err-question-clause-err
 returns-in_err-question-clause-err g c =
     let old : DeskView = g.D.Desk.view c.args.desk.now in
-    by-exit (λ (r : Result Claim WorkError). IfErr r (ClaimStops c.args.package old old c.args.asker.now c.args.window.now)) c.from_residual.result NoMemory
+    by-exit (λ (r : Result Claim WorkError). IfErr r (StrongStops c.args.package old old c.args.asker.now c.args.window.now)) c.from_residual.result NoMemory
     c.from_residual.ensures.1
     (claim-memory c.file_grows.ensures.begin c.args.package old c.args.asker.now c.args.window.now)
 
@@ -39,7 +39,7 @@ pub returns-in_err-values-clause-err : goal.returns-in_err-values-clause-err
 returns-in_err-values-clause-err g c =
     let old : DeskView = g.D.Desk.view c.args.desk.now in
     let new : DeskView = g.D.Desk.view c.ask.new.desk in
-    by-exit (λ (r : Result Claim WorkError). IfErr r (ClaimStops c.args.package old new c.args.asker.now c.args.window.now))
+    by-exit (λ (r : Result Claim WorkError). IfErr r (StrongStops c.args.package old new c.args.asker.now c.args.window.now))
     c.from_residual-in_err-values.result c.in_err-values.field-0.0 c.from_residual-in_err-values.ensures.1
     (claim-ask-stops c.args.package old new c.args.asker.now c.args.window.now
     c.deref.result.now c.in_err-values.field-0.0 (c.deref.ensures.value ∙ c.in_ok-question.ensures) c.requires.suits c.in_err-values.ensures.err)
@@ -48,7 +48,7 @@ pub returns-in_err-group-in-Found-clause-err : goal.returns-in_err-group-in-Foun
 returns-in_err-group-in-Found-clause-err g c =
     let old : DeskView = g.D.Desk.view c.args.desk.now in
     let new : DeskView = g.D.Desk.view c.ask.new.desk in
-    by-exit (λ (r : Result Claim WorkError). IfErr r (ClaimStops c.args.package old new c.args.asker.now c.args.window.now))
+    by-exit (λ (r : Result Claim WorkError). IfErr r (StrongStops c.args.package old new c.args.asker.now c.args.window.now))
     c.from_residual-in_err-group-in-Found.result NoMemory c.from_residual-in_err-group-in-Found.ensures.1
     (group-memory c.file_grows.ensures.begin c.file_grows.ensures.twice old new c.args.asker.now c.ask.new.self c.args.window.now c.args.package
     c.deref.result.now c.in_ok-values.field-0 (c.deref.ensures.value ∙ c.in_ok-question.ensures) c.in_ok-values.ensures.ok c.requires.suits)
@@ -78,7 +78,7 @@ returns-in-Found-clause-ok g c =
     c.requires.suits.variables (c.deref.ensures.value ∙ c.in_ok-question.ensures) c.in-Found.is refl c.in_ok-values.ensures.holds in
     IfOk-weaker c.claim_group.result (StrongMore mid new c.ask.new.self c.claim_group.new.asker c.first_group.new.window c.claim_group.new.window
     c.in_ok-group-in-Found.group)
-    (ClaimMore c.args.package old new c.args.asker.now c.claim_group.new.asker c.args.window.now c.claim_group.new.window)
+    (StrongClaims c.args.package old new c.args.asker.now c.claim_group.new.asker c.args.window.now c.claim_group.new.window)
     (λ claim more. claimed-found c.file_grows.ensures.twice old mid new c.args.asker.now c.ask.new.self c.claim_group.new.asker c.args.window.now
     c.first_group.new.window c.claim_group.new.window
     c.in_ok-group-in-Found.group c.args.package c.in-Found.values
@@ -95,7 +95,7 @@ returns-in-Found-clause-err g c =
     (replies.Found c.in-Found.values)
     c.requires.suits.variables (c.deref.ensures.value ∙ c.in_ok-question.ensures) c.in-Found.is refl c.in_ok-values.ensures.holds in
     IfErr-weaker c.claim_group.result (SettleStops mid new c.ask.new.self c.first_group.new.window c.in_ok-group-in-Found.group)
-    (ClaimStops c.args.package old new c.args.asker.now c.args.window.now)
+    (StrongStops c.args.package old new c.args.asker.now c.args.window.now)
     (λ error stops. group-stops c.file_grows.ensures.twice old mid new c.args.asker.now c.ask.new.self c.args.window.now c.first_group.new.window
     c.in_ok-group-in-Found.group c.args.package c.in-Found.values
     c.deref.result.now c.in_ok-values.field-0 error (c.deref.ensures.value ∙ c.in_ok-question.ensures)
@@ -114,7 +114,7 @@ returns-in_err-put-in-Refuted-clause-err g c =
     let mid : DeskView = g.D.Desk.view c.ask.new.desk in
     let new : DeskView = g.D.Desk.view c.put.new.desk in
     let fits : c.args.asker.now.log.variables < 2 ^ 32 = omega (arith, c.variables-stated.ensures.value, c.variables-stated.ensures.stated) in
-    by-exit (λ (r : Result Claim WorkError). IfErr r (ClaimStops c.args.package old new c.args.asker.now c.args.window.now))
+    by-exit (λ (r : Result Claim WorkError). IfErr r (StrongStops c.args.package old new c.args.asker.now c.args.window.now))
     c.from_residual-in_err-put-in-Refuted.result c.in_err-put-in-Refuted.field-0.0 c.from_residual-in_err-put-in-Refuted.ensures.1
     (uninstallable-stops c.file_grows.ensures.twice old mid new c.args.asker.now c.ask.new.self c.args.window.now c.args.package
     c.deref.result.now c.in_ok-values.field-0 c.in_err-put-in-Refuted.field-0.0 fits (c.deref.ensures.value ∙ c.in_ok-question.ensures) c.in-Refuted.is
@@ -148,7 +148,7 @@ returns-in_err-put-in-Undecided-clause-err g c =
     let mid : DeskView = g.D.Desk.view c.ask.new.desk in
     let new : DeskView = g.D.Desk.view c.put-in-Undecided.new.desk in
     let fits : c.args.asker.now.log.variables < 2 ^ 32 = omega (arith, c.variables-stated.ensures.value, c.variables-stated.ensures.stated) in
-    by-exit (λ (r : Result Claim WorkError). IfErr r (ClaimStops c.args.package old new c.args.asker.now c.args.window.now))
+    by-exit (λ (r : Result Claim WorkError). IfErr r (StrongStops c.args.package old new c.args.asker.now c.args.window.now))
     c.from_residual-in_err-put-in-Undecided.result c.in_err-put-in-Undecided.field-0.0 c.from_residual-in_err-put-in-Undecided.ensures.1
     (unknown-stops c.file_grows.ensures.twice old mid new c.args.asker.now c.ask.new.self c.args.window.now c.args.package
     c.deref.result.now c.in_ok-values.field-0 c.in_err-put-in-Undecided.field-0.0 fits (c.deref.ensures.value ∙ c.in_ok-question.ensures) c.in-Undecided.is

@@ -1,8 +1,8 @@
 use Rattle.std.proofs.Common.{◌<◌, ◌≤◌, ◌∙◌, List, ℕ, length, subst, sym}
 use Rattle.dist_cert.specs.Form.{AreFromOne}
-use Rattle.dist_strong.specs.Window.{numbers_of}
-use Rattle.dist_strong.proofs.ClaimLines.{numbers-low, some-numbers}
-use Rattle.dist_strong.proofs.TrueOnes.{true-low}
+use Rattle.dist_sweep.specs.Window.{numbers_of}
+use Rattle.dist_sweep.specs.WindowLaws.{numbers-low, some-numbers}
+use Rattle.dist_sweep.specs.TrueOnesLaws.{true-low}
 use Rattle.dist_strong.proofs.claiming.strong_line.Goals as goal
 
 pub from_zero-requires : goal.from_zero-requires

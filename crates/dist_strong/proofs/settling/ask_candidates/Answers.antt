@@ -4,7 +4,7 @@ use Rattle.dist_outside.specs.Files.{IsWriting}
 use Rattle.dist_outside.specs.declared.trouble.WorkError.{WorkError}
 use Rattle.dist_strong.specs.SettlingPrivate.{SettleStops}
 use Rattle.dist_strong.proofs.Counting.{fewer-open}
-use Rattle.dist_strong.proofs.OneLine.{by-exit, two-grow}
+use Rattle.dist_sweep.specs.ScriptLaws.{by-exit, two-grow}
 use Rattle.dist_strong.proofs.SettleSteps.{settle-join, settle-stops}
 use Rattle.dist_strong.proofs.settling.ask_candidates.Goals as goal
 

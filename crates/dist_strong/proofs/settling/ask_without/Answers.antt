@@ -3,13 +3,13 @@ use Rattle.dist_outside.specs.DeskView.{DeskView}
 use Rattle.dist_outside.specs.declared.trouble.WorkError.{WorkError}
 use Rattle.dist_outside.specs.declared.trouble.WorkError.TheVariants.{NoMemory}
 use Rattle.dist_cert.specs.Form.{Word}
-use Rattle.dist_strong.specs.Asking.{Holds}
+use Rattle.dist_sweep.specs.Asking.{Holds}
 use Rattle.dist_strong.specs.Group.{GroupView}
 use Rattle.dist_strong.specs.SettlingPrivate.{HasSizes, SettleStops, without}
-use Rattle.dist_strong.specs.Window.{WindowView}
-use Rattle.dist_strong.specs.declared.asker.Reply.{Reply}
-use Rattle.dist_strong.specs.declared.asker.Reply.TheVariants as replies
-use Rattle.dist_strong.proofs.OneLine.{by-exit}
+use Rattle.dist_sweep.specs.Window.{WindowView}
+use Rattle.dist_sweep.specs.declared.asker.Reply.{Reply}
+use Rattle.dist_sweep.specs.declared.asker.Reply.TheVariants as replies
+use Rattle.dist_sweep.specs.ScriptLaws.{by-exit}
 use Rattle.dist_strong.proofs.SettleSteps.{added-some, ask-stops, has-claimed, fits-after, found-further, found-stops, lacks-other, leave-further, memory-stops}
 use Rattle.dist_strong.proofs.SettleSteps.{refute-further, settled-found, settled-refuted, settled-undecided}
 use Rattle.dist_strong.proofs.settling.ask_without.Goals as goal

@@ -3,8 +3,8 @@ use Rattle.std.specs.List.{All, Contains}
 use Rattle.std.proofs.lemmas.Bool.{cases_lt, true≢false}
 use Rattle.std.proofs.lemmas.List.Elements.{All-push}
 use Rattle.dist_strong.specs.Group.{AreLeftUpto, GroupView, IsLeft}
-use Rattle.dist_strong.specs.Window.{WindowView}
-use Rattle.dist_strong.proofs.Lists.{contains-last, contains-push, rising-push}
+use Rattle.dist_sweep.specs.Window.{WindowView}
+use Rattle.dist_sweep.specs.LineLaws.{contains-last, contains-push, rising-push}
 use Rattle.dist_strong.proofs.group.Group.left.Goals as goal
 use Rattle.dist_strong.proofs.group.Group.left.Goals.{then-is_left+in_ok-push, else-is_left}
 

@@ -1,0 +1,12 @@
+mod Lists
+mod Opened
+mod Lines
+mod OneLine
+mod DerivedLines
+mod Answered
+mod Closing
+mod Asked
+mod FirstLine
+mod SweepLines
+mod Parts
+mod SweptFile

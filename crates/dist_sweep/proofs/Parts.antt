@@ -1,0 +1,273 @@
+-- What a sweep wrote as a text: a part of a certificate, one that is full, and an accepted one.
+use Rattle.std.proofs.Common.{◌≡◌, ◌⊎◌, ⊎_elim, inl, inr, ℕ, Bool, List, [], ◌∷◌, ◌++◌, length, refl, ap, sym, subst, ◌∙◌, append_assoc, append-nil, arith}
+use Rattle.std.proofs.Common.{length-append}
+use Rattle.std.specs.List.{All}
+use Rattle.std.proofs.lemmas.List.Elements.{All-cons, All-head, All-nil, All-tail}
+use Rattle.dist_base.specs.Ascii.{line_feed}
+use Rattle.dist_base.specs.Front.{IsFrontOf}
+use Rattle.dist_clause.specs.Formula.{Literal}
+use Rattle.dist_outside.specs.declared.limits.Limits.{Limits}
+use Rattle.dist_outside.specs.declared.trouble.What.{What}
+use Rattle.dist_outside.specs.declared.trouble.What.TheVariants.{Lines, LineLiterals, RecordLine, Certificate}
+use Rattle.dist_outside.specs.declared.trouble.WorkError.TheVariants.{TooLarge}
+use Rattle.dist_repo.specs.PackageList.{PackageList}
+use Rattle.dist_cert.specs.declared.records.CertRecord.{CertRecord}
+use Rattle.dist_cert.specs.declared.records.CertRecord.TheVariants.{End}
+use Rattle.dist_cert.specs.declared.records.Header.{Header}
+use Rattle.dist_cert.specs.Accepted.{Accepted, claims_in}
+use Rattle.dist_cert.specs.ByRecordsLaws.{AreSound, IsSoundHeader, accepted_by_records}
+use Rattle.dist_cert.specs.ClearFormsLaws.{FormsAreClear}
+use Rattle.dist_cert.specs.Form.{HasForm, HasHeaderForm, header_text, record_text}
+use Rattle.dist_cert.specs.OneVerdictLaws.{one_line}
+use Rattle.dist_cert.specs.Part.{IsPartOf, Passes}
+use Rattle.dist_cert.specs.PartByRecordsLaws.{AreLines, IsHeaderOf, IsLine, IsShortLine, part_by_records, sound_by_lines}
+use Rattle.dist_cert.specs.Refusal.{Reads, certificate_text, lines_text}
+use Rattle.dist_cert.specs.Writing.{ended}
+use Rattle.dist_subject.specs.Completed.{IsCompleted, KeepsNumbers}
+use Rattle.dist_subject.specs.Present.{AreInputs, subject_of}
+use Rattle.dist_sweep.specs.Script.{AllNext, AreWritten, IsCutOff, IsPassed, Setting, matter_in}
+use Rattle.dist_sweep.specs.Sweep.{IsCutSweep, IsFull, IsSweep}
+use Rattle.dist_sweep.specs.Sweeping.{KeepsInputs, setting_of}
+use Rattle.dist_sweep.specs.LineLaws.{contains-last}
+use Rattle.dist_sweep.proofs.OneLine.{certificate-push}
+
+-- ---- lines one after another
+
+are-lines : (g : Setting) (before steps : List CertRecord) → AllNext g before steps → All (IsShortLine g.limits) steps
+    → AreLines g.limits (matter_in g) g.header before steps
+are-lines g before [] all short = tt
+are-lines g before (step ∷ steps) all short = (
+  all.0,
+  (λ some. All-head (IsShortLine g.limits) step steps short),
+  are-lines g (before ++ step ∷ []) steps all.1 (All-tail (IsShortLine g.limits) step steps short),
+)
+
+with-last : (g : Setting) (before steps : List CertRecord) (step : CertRecord) → AllNext g before steps → All (IsShortLine g.limits) steps
+    → IsLine (matter_in g) g.header (before ++ steps) step
+    → AreLines g.limits (matter_in g) g.header before (steps ++ step ∷ [])
+with-last g before [] step all short line = (subst (λ b. IsLine (matter_in g) g.header b step) (append-nil before) line, (λ some. absurd (some refl)), tt)
+with-last g before (s ∷ steps) step all short line = (
+  all.0,
+  (λ some. All-head (IsShortLine g.limits) s steps short),
+  with-last g (before ++ s ∷ []) steps step all.1 (All-tail (IsShortLine g.limits) s steps short)
+      (subst (λ b. IsLine (matter_in g) g.header b step) (sym (append_assoc before (s ∷ []) steps)) line),
+)
+
+-- no number is passed by what is written
+not-passed : (g : Setting) (lines : List CertRecord) (what : What) → AreWritten g lines → ¬ Passes g.limits g.header lines what
+not-passed g lines Lines written passes = omega (arith, written.kept.count, passes)
+not-passed g lines LineLiterals written passes = omega (arith, written.kept.literals, passes)
+not-passed g lines RecordLine written passes = ⊎_elim
+    (λ first. omega (arith, written.header_short, first, length-append (header_text g.header) (10 ∷ [])))
+    (λ any. let short = written.short any.0 any.1 any.2 in let size = length-append (record_text any.1) (10 ∷ []) in
+    omega (arith, short, size, ap (λ (s : CertRecord). length (record_text s)) any.3, any.4)) passes
+not-passed g lines Certificate written passes = omega (arith, written.bytes, passes)
+not-passed g lines what written passes = passes
+
+-- ---- one reading
+
+same-lines : FormsAreClear → (ones twos : List CertRecord) → All (λ step. HasForm (record_text step) step) ones
+    → All (λ step. HasForm (record_text step) step) twos → lines_text ones ≡ lines_text twos → ones ≡ twos
+same-lines clear [] [] a b e = refl
+same-lines clear [] (y ∷ twos) a b e = let n = ap length e in
+    absurd (omega (
+      arith,
+      n,
+      ap length (append_assoc (record_text y) (line_feed ∷ []) (lines_text twos)),
+      length-append (record_text y) (line_feed ∷ lines_text twos),
+    ))
+same-lines clear (x ∷ ones) [] a b e = let n = ap length e in
+    absurd (omega (
+      arith,
+      n,
+      ap length (append_assoc (record_text x) (line_feed ∷ []) (lines_text ones)),
+      length-append (record_text x) (line_feed ∷ lines_text ones),
+    ))
+same-lines clear (x ∷ ones) (y ∷ twos) a b e =
+    let Form : CertRecord → Type 0 = λ step. HasForm (record_text step) step in
+    let first = All-head Form x ones a in
+    let other = All-head Form y twos b in
+    let lines = one_line (record_text x) (record_text y) (lines_text ones) (lines_text twos) (clear.record_line x first) (clear.record_line y other)
+    (sym (append_assoc (record_text x) (line_feed ∷ []) (lines_text ones)) ∙ e ∙ append_assoc (record_text y) (line_feed ∷ []) (lines_text twos)) in
+    let same : x ≡ y = clear.one_record (record_text x) x y first (subst (λ line. HasForm line y) (sym lines.0) other) in
+    subst (λ z. x ∷ ones ≡ z ∷ twos) same (ap (λ (ls : List CertRecord). x ∷ ls)
+    (same-lines clear ones twos (All-tail Form x ones a) (All-tail Form y twos b) lines.1))
+
+formed : (g : Setting) (before steps : List CertRecord) → AllNext g before steps → All (λ step. HasForm (record_text step) step) steps
+formed g before [] all = All-nil (λ step. HasForm (record_text step) step)
+formed g before (step ∷ steps) all = All-cons (λ s. HasForm (record_text s) s) step steps all.0.form (formed g (before ++ step ∷ []) steps all.1)
+
+one-reading : FormsAreClear → (g : Setting) (lines others : List CertRecord) → HasHeaderForm (header_text g.header) g.header → AreWritten g lines
+    → Reads (certificate_text g.header lines) g.header others [] → others ≡ lines
+one-reading clear g lines others form written reads =
+    let first = clear.header_line g.header form in
+    let texts = one_line (header_text g.header) (header_text g.header) (lines_text others) (lines_text lines) first first
+    (sym (append-nil (certificate_text g.header others)) ∙ sym reads.text_is) in
+    same-lines clear others lines reads.records (formed g [] lines written.next) texts.1
+
+-- ---- parts
+
+-- a setting of a sweep whose first line has a form
+pub record IsSet (r : PackageList) (essential : Bool) (limit : ℕ) (limits : Limits) (inputs : Bool → List (List Literal)) : Type 0 where
+  pub clear : FormsAreClear
+  pub are_inputs : AreInputs r inputs
+  pub header : IsHeaderOf (subject_of r inputs) (setting_of r essential limit limits inputs).header
+
+part-of : (r : PackageList) (essential : Bool) (limit : ℕ) (limits : Limits) (inputs : Bool → List (List Literal)) → IsSet r essential limit limits inputs
+    → (lines : List CertRecord)
+    → AreWritten (setting_of r essential limit limits inputs) lines
+    → IsPartOf (subject_of r inputs) limits (setting_of r essential limit limits inputs).header
+    (certificate_text (setting_of r essential limit limits inputs).header lines) lines
+part-of r essential limit limits inputs is lines written =
+    let g = setting_of r essential limit limits inputs in
+    part_by_records is.clear (subject_of r inputs) limits g.header lines is.header (λ some. written.header_short)
+    (are-lines g [] lines written.next written.short)
+
+part-with : (r : PackageList) (essential : Bool) (limit : ℕ) (limits : Limits) (inputs : Bool → List (List Literal)) → IsSet r essential limit limits inputs
+    → (lines : List CertRecord) (step : CertRecord)
+    → AreWritten (setting_of r essential limit limits inputs) lines
+    → IsLine (matter_in (setting_of r essential limit limits inputs)) (setting_of r essential limit limits inputs).header lines step
+    → IsPartOf (subject_of r inputs) limits (setting_of r essential limit limits inputs).header
+    (certificate_text (setting_of r essential limit limits inputs).header lines ++ ended (record_text step)) (lines ++ step ∷ [])
+part-with r essential limit limits inputs is lines step written line =
+    let g = setting_of r essential limit limits inputs in
+    subst (λ (text : List ℕ). IsPartOf (subject_of r inputs) limits g.header text (lines ++ step ∷ [])) (certificate-push g.header lines step)
+    (part_by_records is.clear (subject_of r inputs) limits g.header (lines ++ step ∷ []) is.header (λ some. written.header_short)
+    (with-last g [] lines step written.next written.short line))
+
+-- one line more would pass a number
+pub full : (r : PackageList) (essential : Bool) (limit : ℕ) (limits : Limits) (inputs : Bool → List (List Literal)) → IsSet r essential limit limits inputs
+    → (lines : List CertRecord) (what : What)
+    → AreWritten (setting_of r essential limit limits inputs) lines → IsPassed (setting_of r essential limit limits inputs) lines (TooLarge what)
+    → IsFull r essential limit limits what (certificate_text (setting_of r essential limit limits inputs).header lines)
+full r essential limit limits inputs is lines what written passed =
+    let g = setting_of r essential limit limits inputs in (
+      inputs,
+      is.are_inputs,
+      record {
+        part = inr (lines, part-of r essential limit limits inputs is lines written);
+        kept = λ steps other passes. not-passed g lines what written
+            (subst (λ (ls : List CertRecord). Passes limits g.header ls what) (one-reading is.clear g lines steps is.header.form written other.reads) passes);
+        line = record_text passed.0;
+        next = record {
+          one_line = is.clear.record_line passed.0 passed.1.form;
+          steps = lines ++ passed.0 ∷ [];
+          longer = part-with r essential limit limits inputs is lines passed.0 written passed.1;
+        };
+        passes = passed.2;
+      },
+    )
+
+nothing-read : (h : Header) (steps : List CertRecord) → [] ≡ certificate_text h steps ++ [] → ⊥
+nothing-read h steps e =
+    let n = ap length e in omega (arith, n, length-append (certificate_text h steps) [], length-append (header_text h) (line_feed ∷ lines_text steps))
+
+-- the first line would pass one
+pub first-full : (r : PackageList) (essential : Bool) (limit : ℕ) (limits : Limits) (inputs : Bool → List (List Literal))
+    → IsSet r essential limit limits inputs → (what : What)
+    → Passes limits (setting_of r essential limit limits inputs).header [] what → IsFull r essential limit limits what []
+first-full r essential limit limits inputs is what passes =
+    let g = setting_of r essential limit limits inputs in (
+      inputs,
+      is.are_inputs,
+      record {
+        part = inl refl;
+        kept = λ steps other past. nothing-read g.header steps other.reads.text_is;
+        line = header_text g.header;
+        next = record {
+          one_line = is.clear.header_line g.header is.header.form;
+          steps = [];
+          longer = part_by_records is.clear (subject_of r inputs) limits g.header [] is.header (λ some. absurd (some refl)) tt;
+        };
+        passes = passes;
+      },
+    )
+
+-- ---- cut lines
+
+pub cut-behind : (r : PackageList) (essential : Bool) (limit : ℕ) (limits : Limits) (inputs : Bool → List (List Literal))
+    → IsSet r essential limit limits inputs → (lines : List CertRecord) (cut : List ℕ)
+    → AreWritten (setting_of r essential limit limits inputs) lines → (cut ≡ []) ⊎ IsCutOff (setting_of r essential limit limits inputs) lines cut
+    → IsCutSweep r essential limit limits (certificate_text (setting_of r essential limit limits inputs).header lines ++ cut)
+cut-behind r essential limit limits inputs is lines cut written off =
+    let g = setting_of r essential limit limits inputs in (
+      inputs,
+      is.are_inputs,
+      record {
+        whole = certificate_text g.header lines;
+        part = inr (lines, part-of r essential limit limits inputs is lines written);
+        cut = cut;
+        is = refl;
+        cut_off = ⊎_elim inl (λ some. inr (
+          record_text some.0,
+          record {
+            one_line = is.clear.record_line some.0 some.1.form;
+            steps = lines ++ some.0 ∷ [];
+            longer = part-with r essential limit limits inputs is lines some.0 written some.1;
+          },
+          some.2,
+        )) off;
+      },
+    )
+
+pub cut-first : (r : PackageList) (essential : Bool) (limit : ℕ) (limits : Limits) (inputs : Bool → List (List Literal)) → IsSet r essential limit limits inputs
+    → (cut : List ℕ)
+    → IsFrontOf (ended (header_text (setting_of r essential limit limits inputs).header)) cut → IsCutSweep r essential limit limits cut
+cut-first r essential limit limits inputs is cut front =
+    let g = setting_of r essential limit limits inputs in (
+      inputs,
+      is.are_inputs,
+      record {
+        whole = [];
+        part = inl refl;
+        cut = cut;
+        is = refl;
+        cut_off = inr (
+          header_text g.header,
+          record {
+            one_line = is.clear.header_line g.header is.header.form;
+            steps = [];
+            longer = part_by_records is.clear (subject_of r inputs) limits g.header [] is.header (λ some. absurd (some refl)) tt;
+          },
+          front,
+        );
+      },
+    )
+
+pub cut-nothing : (r : PackageList) (essential : Bool) (limit : ℕ) (limits : Limits) (inputs : Bool → List (List Literal))
+    → IsSet r essential limit limits inputs → IsCutSweep r essential limit limits []
+cut-nothing r essential limit limits inputs is = (inputs, is.are_inputs, record { whole = []; part = inl refl; cut = []; is = refl; cut_off = inl refl })
+
+-- ---- a whole certificate
+
+pub whole : (r : PackageList) (essential : Bool) (limit : ℕ) (limits : Limits) (inputs : Bool → List (List Literal)) → IsSet r essential limit limits inputs
+    → KeepsInputs limits (inputs essential) → (lines : List CertRecord)
+    → AreWritten (setting_of r essential limit limits inputs) (lines ++ End ∷ [])
+    → IsSweep r essential limit limits (claims_in (lines ++ End ∷ []))
+    (certificate_text (setting_of r essential limit limits inputs).header (lines ++ End ∷ []))
+whole r essential limit limits inputs is kept lines written =
+    let g = setting_of r essential limit limits inputs in
+    let steps : List CertRecord = lines ++ End ∷ [] in
+    let sound : IsSoundHeader (subject_of r inputs) limits g.header = record { form = is.header.form; fits = is.header.fits; short = written.header_short } in
+    let all : AreSound limits (matter_in g) g.header [] steps =
+    sound_by_lines limits (matter_in g) g.header [] steps (are-lines g [] steps written.next written.short) written.short in
+    let accepted = subst (λ (text : List ℕ). Accepted (subject_of r inputs) limits text g.header (claims_in steps))
+    (append-nil (certificate_text g.header steps))
+    (accepted_by_records is.clear (subject_of r inputs) limits g.header steps sound all (contains-last lines End)) in
+    let same : accepted.0 ≡ steps = one-reading is.clear g steps accepted.0 is.header.form written accepted.1.faultless.reads in
+    let completed : IsCompleted r limits (certificate_text g.header steps) g.header (claims_in steps) = record {
+      inputs = inputs;
+      are_inputs = is.are_inputs;
+      steps = accepted.0;
+      accepted = accepted.1;
+      claims = accepted.2;
+      numbers = subst (λ (ls : List CertRecord). KeepsNumbers limits (inputs essential) g.header ls) (sym same)
+          (record {
+            clauses = kept.clauses;
+            literals = kept.literals;
+            derived_lines = written.kept.count;
+            line_literals = written.kept.literals;
+            bytes = written.bytes;
+          });
+    } in
+    (inputs, is.are_inputs, (completed, inr (steps, part-of r essential limit limits inputs is steps written)))

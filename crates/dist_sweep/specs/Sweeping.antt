@@ -1,0 +1,158 @@
+-- What is kept between the first line and the last one of a sweep, and what it leaves where it stops.
+use Rattle.std.specs.Prelude.{◌≡◌, ◌⊎◌, ◌≤◌, ℕ, Bool, List, [], ◌∷◌, ◌++◌, Result, length}
+use Rattle.dist_base.specs.Front.{IsFrontOf}
+use Rattle.dist_clause.specs.ClauseList.{literal_count}
+use Rattle.dist_clause.specs.Formula.{Literal}
+use Rattle.dist_outside.specs.Counts.{Rose}
+use Rattle.dist_outside.specs.DeskView.{DeskView, FileGrew}
+use Rattle.dist_outside.specs.declared.limits.Limits.{Limits}
+use Rattle.dist_outside.specs.declared.trouble.WorkError.{WorkError}
+use Rattle.dist_outside.specs.declared.trouble.WorkError.TheVariants.{WriteFault, TooLarge, NoMemory}
+use Rattle.dist_repo.specs.PackageList.{PackageList}
+use Rattle.dist_cert.specs.declared.records.CertRecord.{CertRecord}
+use Rattle.dist_cert.specs.declared.records.CertRecord.TheVariants.{End}
+use Rattle.dist_cert.specs.declared.records.Claim.{Claim}
+use Rattle.dist_cert.specs.declared.records.Header.{Header}
+use Rattle.dist_cert.specs.Accepted.{claims_in}
+use Rattle.dist_cert.specs.Form.{header_text}
+use Rattle.dist_cert.specs.Groups.{claim_count}
+use Rattle.dist_cert.specs.Part.{Passes}
+use Rattle.dist_cert.specs.PartByRecordsLaws.{IsHeaderOf}
+use Rattle.dist_cert.specs.Refusal.{lines_text, certificate_text}
+use Rattle.dist_cert.specs.Writing.{WriterView, ended}
+use Rattle.dist_subject.specs.Present.{AreInputs, subject_of}
+use Rattle.dist_sweep.specs.Asking.{AskerView, IsLogAt}
+use Rattle.dist_sweep.specs.Claiming.{Keeping, IsSwept}
+use Rattle.dist_sweep.specs.Script.{Setting, AreWritten, IsCutOff, IsWriter, Stops, StopsBy, matter_in}
+use Rattle.dist_sweep.specs.Sweep.{SweepAnswers, header_of}
+use Rattle.dist_sweep.specs.Window.{WindowView, IsWindowAt}
+
+-- ---- the first line
+
+-- a writer that has written nothing
+abbrev pub new_writer : Limits → WriterView
+new_writer limits = record { line_limit = limits.record_line; whole_limit = limits.certificate; written = 0 }
+
+-- where nothing was written, the writer stands behind the first line
+abbrev pub HeaderMore : WriterView → WriterView → Header → Type 0
+HeaderMore w after header = (g : Setting) → header ≡ g.header → w ≡ new_writer g.limits → IsWriter g [] after
+
+-- why the writing stops in the first line, of which it may have written a front
+abbrev pub FirstStopsBy : Setting → List ℕ → DeskView → DeskView → WorkError → Type 0
+FirstStopsBy g cut old new WriteFault = Rose old.write_faults new.write_faults
+FirstStopsBy g cut old new (TooLarge what) = (cut ≡ []) × Passes g.limits g.header [] what
+FirstStopsBy g cut old new NoMemory = Unit {0}
+FirstStopsBy g cut old new error = ⊥
+
+-- The writing stopped in the first line.
+pub record StopsFirst (g : Setting) (old new : DeskView) (error : WorkError) : Type 0 where
+  pub cut : List ℕ
+  pub grew : FileGrew cut old new
+  pub is_front : IsFrontOf (ended (header_text g.header)) cut
+  pub by : FirstStopsBy g cut old new error
+
+abbrev pub HeaderStops : WriterView → Header → DeskView → DeskView → WorkError → Type 0
+HeaderStops w header old new error = (g : Setting) → header ≡ g.header → w ≡ new_writer g.limits
+    → StopsFirst g old new error
+
+-- ---- the claims
+
+-- Nothing is claimed yet, and there are so many packages.
+pub record StartsClaims {C : Type 0} (Keeps : Keeping C) (g : Setting) (packages : ℕ) (a : AskerView) (w : WindowView)
+    (c : C) : Type 0 where
+  pub swept : IsSwept g [] a w
+  pub keeps : Keeps g [] c
+  pub packages_are : packages ≡ (matter_in g).packages
+
+-- The lines of these claims were written behind the first line.
+pub record AreClaimed (g : Setting) (old new : DeskView) (a : AskerView) (w : WindowView)
+    (Kept : List CertRecord → Type 0) (made : List Claim) : Type 0 where
+  pub lines : List CertRecord
+  pub grew : FileGrew (lines_text lines) old new
+  pub swept : IsSwept g lines a w
+  pub kept : Kept lines
+  pub counted : claim_count lines ≡ length made
+  pub claims : claims_in lines ≡ made
+
+abbrev pub ClaimsMore : {C : Type 0} → Keeping C → ℕ → DeskView → DeskView → AskerView → AskerView → WindowView
+    → WindowView → C → C → List Claim → Type 0
+ClaimsMore Keeps packages old new a b w v c d made = (g : Setting) → StartsClaims Keeps g packages a w c
+    → AreClaimed g old new b v (λ lines. Keeps g lines d) made
+
+abbrev pub ClaimsStop : {C : Type 0} → Keeping C → ℕ → DeskView → DeskView → AskerView → WindowView → C → WorkError
+    → Type 0
+ClaimsStop Keeps packages old new a w c error = (g : Setting) → StartsClaims Keeps g packages a w c
+    → Stops g [] old new error
+
+-- ---- the whole
+
+-- Nothing was written, and what is kept fits the first line and the limits.
+pub record Begins {C : Type 0} (Keeps : Keeping C) (g : Setting) (header : Header) (a : AskerView) (w : WindowView)
+    (c : C) : Type 0 where
+  pub header_is : header ≡ g.header
+  pub packages : g.header.packages ≡ (matter_in g).packages
+  pub log : IsLogAt g [] a.log a.limit
+  pub writer : a.writer ≡ new_writer g.limits
+  pub window : IsWindowAt [] w
+  pub keeps : Keeps g [] c
+
+-- All lines of these claims were written, from the first to the end.
+pub record IsWhole (g : Setting) (old new : DeskView) (made : List Claim) : Type 0 where
+  pub lines : List CertRecord
+  pub written : AreWritten g (lines ++ End ∷ [])
+  pub grew : FileGrew (certificate_text g.header (lines ++ End ∷ [])) old new
+  pub claims : claims_in (lines ++ End ∷ []) ≡ made
+
+-- The writing stopped behind the first line.
+pub record StopsLater (g : Setting) (old new : DeskView) (error : WorkError) : Type 0 where
+  pub lines : List CertRecord
+  pub cut : List ℕ
+  pub written : AreWritten g lines
+  pub grew : FileGrew (certificate_text g.header lines ++ cut) old new
+  pub cut_off : (cut ≡ []) ⊎ IsCutOff g lines cut
+  pub by : StopsBy g lines cut old new error
+
+abbrev pub SweepMore : {C : Type 0} → Keeping C → Header → DeskView → DeskView → AskerView → WindowView → C
+    → List Claim → Type 0
+SweepMore Keeps header old new a w c made = (g : Setting) → Begins Keeps g header a w c → IsWhole g old new made
+
+abbrev pub SweepStops : {C : Type 0} → Keeping C → Header → DeskView → DeskView → AskerView → WindowView → C
+    → WorkError → Type 0
+SweepStops Keeps header old new a w c error = (g : Setting) → Begins Keeps g header a w c → StopsFirst g old new error
+    ⊎ StopsLater g old new error
+
+-- ---- the file
+
+-- the repository with its input clauses, the first line of its certificate, and the limits
+abbrev pub setting_of : PackageList → Bool → ℕ → Limits → (Bool → List (List Literal)) → Setting
+setting_of r essential limit limits inputs =
+    record {
+      repo = r;
+      inputs = inputs essential;
+      header = header_of r essential limit (inputs essential);
+      limits = limits;
+    }
+
+-- the input clauses keep the limits of their number and of that of their literals
+pub record KeepsInputs (limits : Limits) (inputs : List (List Literal)) : Type 0 where
+  pub clauses : length inputs ≤ limits.clauses
+  pub literals : literal_count inputs ≤ limits.literals
+
+-- no installations
+abbrev pub new_window : ℕ → WindowView
+new_window variables = record { kept = []; count = 0; variables = variables }
+
+-- A sweep may begin, with input clauses at both modes and a first line of a form.
+pub record MayBegin {C : Type 0} (Keeps : Keeping C) (r : PackageList) (essential : Bool) (limit : ℕ) (limits : Limits)
+    (header : Header) (a : AskerView) (c : C) : Type 0 where
+  pub inputs : Bool → List (List Literal)
+  pub are_inputs : AreInputs r inputs
+  pub kept : KeepsInputs limits (inputs essential)
+  pub header_of : IsHeaderOf (subject_of r inputs) (setting_of r essential limit limits inputs).header
+  pub begins : Begins Keeps (setting_of r essential limit limits inputs) header a (new_window a.log.variables) c
+
+abbrev pub FileAnswers : {C : Type 0} → Keeping C → Header → AskerView → C → (name : List ℕ) → DeskView → DeskView
+    → Result (List Claim) WorkError → Type 0
+FileAnswers Keeps header a c name old new result =
+    (r : PackageList) (essential : Bool) (limit : ℕ) (limits : Limits)
+    → MayBegin Keeps r essential limit limits header a c → SweepAnswers r essential limit limits name old new result
