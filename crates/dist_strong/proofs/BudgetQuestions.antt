@@ -21,8 +21,7 @@ use Rattle.dist_cert.specs.Subject.{Matter}
 use Rattle.dist_strong.proofs.BudgetCounts.{asked, asked_in, count-push, flat-push, few-claims}
 use Rattle.dist_strong.proofs.FewNumbers.{few-within}
 use Rattle.dist_strong.proofs.Fronts.{GoesOn, by-fronts}
-use Rattle.dist_sweep.specs.TrueOnesLaws.{IsKept}
-use Rattle.dist_strong.proofs.KeptLines.{AreKept}
+use Rattle.dist_strong.proofs.KeptLines.{IsKept, AreKept}
 
 -- ---- the questions of one package
 

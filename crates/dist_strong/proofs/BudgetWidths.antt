@@ -28,8 +28,7 @@ use Rattle.dist_strong.specs.Budget.{record_budget}
 use Rattle.dist_strong.proofs.BudgetCounts.{flat-push}
 use Rattle.dist_strong.proofs.FewNumbers.{few-within}
 use Rattle.dist_strong.proofs.Fronts.{GoesOn, by-fronts}
-use Rattle.dist_sweep.specs.TrueOnesLaws.{IsKept}
-use Rattle.dist_strong.proofs.KeptLines.{AreKept}
+use Rattle.dist_strong.proofs.KeptLines.{IsKept, AreKept}
 use Rattle.dist_cert.specs.ListLaws.{pairs-map}
 
 -- ---- words

@@ -9,7 +9,7 @@ pub returns-clause-answers : goal.returns-clause-answers
 returns-clause-answers g c =
     let set : ClauseList = c.in_ok-inputs.inputs in
     let starts : StartsFrom c.args.repo.now c.args.essential c.args.limit c.args.limits.now set = record {
-      ordered = c.header_of.ensures.in_order;
+      ordered = c.header_of-header.ensures.in_order;
       packages = c.requires.size.packages;
       from_one = c.requires.from_one;
       upto = c.requires.upto;
@@ -17,11 +17,11 @@ returns-clause-answers g c =
       within = c.len.ensures.within;
       stated = omega (arith, c.len.ensures.stated, c.len.ensures.value);
     } in
-    let header_is : c.header_of.result ≡ first-header c.args.repo.now c.args.essential c.args.limit (length set.clauses)
-    = c.header_of.ensures.value ∙ ap (λ (n : ℕ). first-header c.args.repo.now c.args.essential c.args.limit n) c.len.ensures.value in
+    let header_is : c.header_of-header.result ≡ first-header c.args.repo.now c.args.essential c.args.limit (length set.clauses)
+    = c.header_of-header.ensures.value ∙ ap (λ (n : ℕ). first-header c.args.repo.now c.args.essential c.args.limit n) c.len.ensures.value in
     c.write_file.ensures c.args.repo.now c.args.essential c.args.limit c.args.limits.now
     (may-begin c.inputs_are_one.ensures.there c.present_clauses_are_one.ensures c.models_are_healthy.ensures c.args.repo.now c.args.essential c.args.limit
-    c.args.limits.now set c.header_of.result c.in_ok-asker.asker _ starts header_is c.in_ok-asker.ensures)
+    c.args.limits.now set c.header_of-header.result c.in_ok-asker.asker _ starts header_is c.in_ok-asker.ensures)
 
 pub returns-clause-too_many_clauses : goal.returns-clause-too_many_clauses
 returns-clause-too_many_clauses g c =
