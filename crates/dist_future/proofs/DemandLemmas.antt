@@ -1,5 +1,6 @@
 -- What the demands of a space ask of the meanings that hold, and that the models of its clauses are what meets them.
-use Rattle.std.proofs.Common.{◌≡◌, ◌⊎◌, ℕ, suc, ◌<◌, Bool, true, false, List, [], ◌∷◌, Some, length, map, refl, sym, ap, subst, ◌∙◌, inl, inr, arith, slice_get}
+use Rattle.std.proofs.Common.{◌≡◌, ◌≢◌, ◌⊎◌, ℕ, suc, ◌<◌, ◌≤◌, Bool, true, false, List, [], ◌∷◌, Some, length, map, refl, sym, ap, subst, ◌∙◌, inl, inr, arith}
+use Rattle.std.proofs.Common.{slice_get}
 use Rattle.std.specs.Prelude.{All, Any, Contains, IsSomeAnd, slice_index}
 use Rattle.std.specs.Option.{option_map}
 use Rattle.std.proofs.lemmas.Bool.{false≢true}
@@ -15,6 +16,7 @@ use Rattle.dist_repo.specs.declared.package.Package.{Package}
 use Rattle.dist_space.specs.Space.{SpaceView, AreMeaningsOf, IsMatched, IsMeaning, IsMetBy, cluster_classes, fresh_classes, variable_of}
 use Rattle.dist_space_clauses.specs.SpaceClauses.{Demand, OneClass, Gone, Moved, Carried, OneFresh, Item, Apart, StaysNow, AbsentNow, Required, AreSpaceClauses}
 use Rattle.dist_space_clauses.specs.SpaceClauses.{Excludes, IsBearer, IsClauseFor, IsDemand, no, yes}
+use Rattle.dist_future.specs.FutureClauses.{IsOfFuture}
 use Rattle.dist_space.specs.declared.meaning.Meaning.{Meaning}
 use Rattle.dist_space.specs.declared.meaning.Meaning.TheVariants.{Now, Present, At, New, Kept, Fresh}
 use Rattle.dist_space_clauses.specs.ItemLaws.{item-at, item-has}
@@ -26,17 +28,22 @@ pub record IsMetIn (s : SpaceView) (T : Meaning → Type 0) (P : Meaning → Typ
   pub holds : T meaning
   pub has : P meaning
 
-pub record AreMet (s : SpaceView) (T : Meaning → Type 0) : Type 0 where
+-- the demands of futures: those of the groups 1, 2, 3 and 6
+pub record AreFutureMet (s : SpaceView) (T : Meaning → Type 0) : Type 0 where
   pub one_class : (c k l : ℕ) → k < l → l < length (cluster_classes s c) → T (At c k) → T (At c l) → ⊥
   pub gone : (r k : ℕ) → IsMeaning s (New r k) → T (Present r) → T (At (slice_index s.cluster_of r) k) → ⊥
   pub moved : (r k : ℕ) → IsMeaning s (New r k) → T (New r k) → T (At (slice_index s.cluster_of r) k)
   pub carried : (r k j : ℕ) → IsMeaning s (Kept r k j) → T (Kept r k j) → T (New r k)
   pub one_fresh : (x k l : ℕ) → k < l → l < length (fresh_classes s x) → T (Fresh x k) → T (Fresh x l) → ⊥
+  pub stays : (c k : ℕ) → IsMeaning s (At c k) → T Now → T (At c k) → ⊥
+  pub absent : (x k : ℕ) → IsMeaning s (Fresh x k) → T Now → T (Fresh x k) → ⊥
+
+-- all demands
+pub record AreMet (s : SpaceView) (T : Meaning → Type 0) : Type 0 where
+  pub future : AreFutureMet s T
   pub met : (r place : ℕ) (p : Package) (item : List Atom) → slice_get s.repository.packages r ≡ Some p → slice_get p.depends place ≡ Some item → T (Present r)
       → IsMetIn s T (IsMetBy s item)
   pub apart : (r : ℕ) (p : Package) (m : Meaning) → slice_get s.repository.packages r ≡ Some p → IsMeaning s m → Excludes s r p m → T (Present r) → T m → ⊥
-  pub stays : (c k : ℕ) → IsMeaning s (At c k) → T Now → T (At c k) → ⊥
-  pub absent : (x k : ℕ) → IsMeaning s (Fresh x k) → T Now → T (Fresh x k) → ⊥
   pub required : (name : List ℕ) → Contains (required_names s.essential s.repository.packages) name → IsMetIn s T (IsBearer s name)
 
 -- ---- literals
@@ -115,6 +122,44 @@ module _ (s : SpaceView) (values : List Bool) where
   one-true : (m : Meaning) → IsTrueMeaning m → Makes (yes s m ∷ [])
   one-true m holds = any-head (IsTrueLiteral (value_of values)) (yes s m) [] holds
 
+  -- ---- the demands of futures, each of which has one clause
+
+  abbrev IsOnlyFor : Demand → List Literal → Type 0
+  IsOnlyFor d clause = (other : List Literal) → IsClauseFor s d other → other ≡ clause
+
+  pub future-from : ((d : Demand) (clause : List Literal) → IsDemand s d → IsOfFuture d → IsClauseFor s d clause → IsOnlyFor d clause → Makes clause)
+      → AreFutureMet s IsTrueMeaning
+  future-from makes = record {
+    one_class = λ c k l less short. never-both (At c k) (At c l) (makes (OneClass c k l) _ (less, short) (inl (omega arith)) refl (λ other is. is));
+    gone = λ r k is. never-both (Present r) (At (slice_index s.cluster_of r) k) (makes (Gone r k) _ is (inl (omega arith)) refl (λ other is. is));
+    moved = λ r k is. with-it (New r k) (At (slice_index s.cluster_of r) k) (makes (Moved r k) _ is (inl (omega arith)) refl (λ other is. is));
+    carried = λ r k j is. with-it (Kept r k j) (New r k) (makes (Carried r k j) _ is (inl (omega arith)) refl (λ other is. is));
+    one_fresh = λ x k l less short. never-both (Fresh x k) (Fresh x l) (makes (OneFresh x k l) _ (less, short) (inl (omega arith)) refl (λ other is. is));
+    stays = λ c k is. never-both Now (At c k) (makes (StaysNow c k) _ is (inr refl) refl (λ other is. is));
+    absent = λ x k is. never-both Now (Fresh x k) (makes (AbsentNow x k) _ is (inr refl) refl (λ other is. is));
+  }
+
+  later-group : (n : ℕ) → 3 < n → n ≢ 6 → ¬ ((n ≤ 3) ⊎ (n ≡ 6))
+  later-group n more other of = elim of [
+    | inl first ↦ omega (arith, more, first)
+    | inr sixth ↦ other sixth
+  ]
+
+  pub future-true : AreFutureMet s IsTrueMeaning → (d : Demand) (clause : List Literal) → IsDemand s d → IsOfFuture d → IsClauseFor s d clause → Makes clause
+  future-true met (OneClass c k l) clause here of is = subst Makes (sym is) (not-both (At c k) (At c l) (met.one_class c k l here.0 here.1))
+  future-true met (Gone r k) clause here of is = subst Makes (sym is) (not-both (Present r) (At (slice_index s.cluster_of r) k) (met.gone r k here))
+  future-true met (Moved r k) clause here of is =
+      subst Makes (sym is) (when-it (New r k) (yes s (At (slice_index s.cluster_of r) k) ∷ [])
+      (λ t. one-true (At (slice_index s.cluster_of r) k) (met.moved r k here t)))
+  future-true met (Carried r k j) clause here of is =
+      subst Makes (sym is) (when-it (Kept r k j) (yes s (New r k) ∷ []) (λ t. one-true (New r k) (met.carried r k j here t)))
+  future-true met (OneFresh x k l) clause here of is = subst Makes (sym is) (not-both (Fresh x k) (Fresh x l) (met.one_fresh x k l here.0 here.1))
+  future-true met (StaysNow c k) clause here of is = subst Makes (sym is) (not-both Now (At c k) (met.stays c k here))
+  future-true met (AbsentNow x k) clause here of is = subst Makes (sym is) (not-both Now (Fresh x k) (met.absent x k here))
+  future-true met (Item r place) clause here of is = absurd (later-group 4 (omega arith) (λ same. omega (arith, same)) of)
+  future-true met (Apart r m) clause here of is = absurd (later-group 5 (omega arith) (λ same. omega (arith, same)) of)
+  future-true met (Required name) clause here of is = absurd (later-group 7 (omega arith) (λ same. omega (arith, same)) of)
+
   -- ---- a model meets the demands
 
   module _ (clauses : List (List Literal)) (are : AreSpaceClauses s clauses) where
@@ -149,16 +194,10 @@ module _ (s : SpaceView) (values : List Bool) where
 
     pub met-from-model : IsModel (value_of values) clauses → AreMet s IsTrueMeaning
     met-from-model model = record {
-      one_class = λ c k l less short. never-both (At c k) (At c l) (makes model (OneClass c k l) _ (less, short) (λ other is. is));
-      gone = λ r k is. never-both (Present r) (At (slice_index s.cluster_of r) k) (makes model (Gone r k) _ is (λ other is. is));
-      moved = λ r k is. with-it (New r k) (At (slice_index s.cluster_of r) k) (makes model (Moved r k) _ is (λ other is. is));
-      carried = λ r k j is. with-it (Kept r k j) (New r k) (makes model (Carried r k j) _ is (λ other is. is));
-      one_fresh = λ x k l less short. never-both (Fresh x k) (Fresh x l) (makes model (OneFresh x k l) _ (less, short) (λ other is. is));
+      future = future-from (λ d clause here of is only. makes model d clause here only);
       met = met;
       apart = λ r p m is is_meaning excludes. never-both (Present r) m
           (makes model (Apart r m) _ (is_meaning, at-has (λ q. Excludes s r q m) s.repository.packages r p is excludes) (λ other is. is));
-      stays = λ c k is. never-both Now (At c k) (makes model (StaysNow c k) _ is (λ other is. is));
-      absent = λ x k is. never-both Now (Fresh x k) (makes model (AbsentNow x k) _ is (λ other is. is));
       required = λ name there.
           let t = true-clause model (Required name) there in
           let some = some-true t.is_clause.0 (subst Makes t.is_clause.2 t.holds) in
@@ -193,14 +232,11 @@ module _ (s : SpaceView) (values : List Bool) where
     -- ---- and what meets the demands is a model
 
     true-for : AreMet s IsTrueMeaning → (d : Demand) (clause : List Literal) → IsDemand s d → IsClauseFor s d clause → Makes clause
-    true-for are_met (OneClass c k l) clause here is = subst Makes (sym is) (not-both (At c k) (At c l) (are_met.one_class c k l here.0 here.1))
-    true-for are_met (Gone r k) clause here is = subst Makes (sym is) (not-both (Present r) (At (slice_index s.cluster_of r) k) (are_met.gone r k here))
-    true-for are_met (Moved r k) clause here is =
-        subst Makes (sym is) (when-it (New r k) (yes s (At (slice_index s.cluster_of r) k) ∷ [])
-        (λ t. one-true (At (slice_index s.cluster_of r) k) (are_met.moved r k here t)))
-    true-for are_met (Carried r k j) clause here is = subst Makes (sym is)
-        (when-it (Kept r k j) (yes s (New r k) ∷ []) (λ t. one-true (New r k) (are_met.carried r k j here t)))
-    true-for are_met (OneFresh x k l) clause here is = subst Makes (sym is) (not-both (Fresh x k) (Fresh x l) (are_met.one_fresh x k l here.0 here.1))
+    true-for are_met (OneClass c k l) clause here is = future-true are_met.future (OneClass c k l) clause here (inl (omega arith)) is
+    true-for are_met (Gone r k) clause here is = future-true are_met.future (Gone r k) clause here (inl (omega arith)) is
+    true-for are_met (Moved r k) clause here is = future-true are_met.future (Moved r k) clause here (inl (omega arith)) is
+    true-for are_met (Carried r k j) clause here is = future-true are_met.future (Carried r k j) clause here (inl (omega arith)) is
+    true-for are_met (OneFresh x k l) clause here is = future-true are_met.future (OneFresh x k l) clause here (inl (omega arith)) is
     true-for are_met (Item r place) clause here (matching, matches, is) =
         let Unmet : Package → List Atom → Type 0 = λ q i. ¬ Any (λ atom. Matches s.repository.architecture atom q) i in
         let p = here-at (λ q. IsSomeAnd (slice_get q.depends place) (Unmet q)) s.repository.packages r here in
@@ -212,8 +248,8 @@ module _ (s : SpaceView) (values : List Bool) where
     true-for are_met (Apart r m) clause here is =
         let p = here-at (λ q. Excludes s r q m) s.repository.packages r here.1 in
         subst Makes (sym is) (not-both (Present r) m (are_met.apart r p.element m p.is here.0 p.holds))
-    true-for are_met (StaysNow c k) clause here is = subst Makes (sym is) (not-both Now (At c k) (are_met.stays c k here))
-    true-for are_met (AbsentNow x k) clause here is = subst Makes (sym is) (not-both Now (Fresh x k) (are_met.absent x k here))
+    true-for are_met (StaysNow c k) clause here is = future-true are_met.future (StaysNow c k) clause here (inr refl) is
+    true-for are_met (AbsentNow x k) clause here is = future-true are_met.future (AbsentNow x k) clause here (inr refl) is
     true-for are_met (Required name) clause here (bearers, bear, is) =
         let some = are_met.required name here in
         subst Makes (sym is) (true-some bearers some.meaning ((bear.exact some.meaning).1 (some.is_meaning, some.has)) some.holds)
@@ -233,21 +269,24 @@ meets-more s T U P to met = record { meaning = met.meaning; is_meaning = met.is_
 pub met-alike : (s : SpaceView) (T U : Meaning → Type 0) → ((m : Meaning) → IsMeaning s m → T m → U m) → ((m : Meaning) → IsMeaning s m → U m → T m)
     → AreMet s T → AreMet s U
 met-alike s T U to back met = record {
-  one_class = λ c k l less short first second. met.one_class c k l less short (back (At c k) (omega (arith, less, short)) first) (back (At c l) short second);
-  gone = λ r k is present at. met.gone r k is (back (Present r) is.0 present) (back (At (slice_index s.cluster_of r) k) is.1 at);
-  moved = λ r k is holds. to (At (slice_index s.cluster_of r) k) is.1 (met.moved r k is (back (New r k) is holds));
-  carried = λ r k j is holds. to (New r k) (
-    within-from (λ p. IsSomeAnd (slice_get p.provides j) (λ entry. IsUsable s.repository.architecture entry.qualifier))
-        s.repository.packages r is.0,
-    is.1,
-  ) (met.carried r k j is (back (Kept r k j) is holds));
-  one_fresh = λ x k l less short first second. met.one_fresh x k l less short (back (Fresh x k) (omega (arith, less, short)) first)
-      (back (Fresh x l) short second);
+  future = record {
+    one_class = λ c k l less short first second. met.future.one_class c k l less short (back (At c k) (omega (arith, less, short)) first)
+        (back (At c l) short second);
+    gone = λ r k is present at. met.future.gone r k is (back (Present r) is.0 present) (back (At (slice_index s.cluster_of r) k) is.1 at);
+    moved = λ r k is holds. to (At (slice_index s.cluster_of r) k) is.1 (met.future.moved r k is (back (New r k) is holds));
+    carried = λ r k j is holds. to (New r k) (
+      within-from (λ p. IsSomeAnd (slice_get p.provides j) (λ entry. IsUsable s.repository.architecture entry.qualifier))
+          s.repository.packages r is.0,
+      is.1,
+    ) (met.future.carried r k j is (back (Kept r k j) is holds));
+    one_fresh = λ x k l less short first second. met.future.one_fresh x k l less short (back (Fresh x k) (omega (arith, less, short)) first)
+        (back (Fresh x l) short second);
+    stays = λ c k is now at. met.future.stays c k is (back Now tt now) (back (At c k) is at);
+    absent = λ x k is now holds. met.future.absent x k is (back Now tt now) (back (Fresh x k) is holds);
+  };
   met = λ r place p item is is_item holds. meets-more s T U (IsMetBy s item) to
       (met.met r place p item is is_item (back (Present r) (slice_get_within s.repository.packages r p is) holds));
   apart = λ r p m is is_meaning excludes present holds. met.apart r p m is is_meaning excludes
       (back (Present r) (slice_get_within s.repository.packages r p is) present) (back m is_meaning holds);
-  stays = λ c k is now at. met.stays c k is (back Now tt now) (back (At c k) is at);
-  absent = λ x k is now holds. met.absent x k is (back Now tt now) (back (Fresh x k) is holds);
   required = λ name there. meets-more s T U (IsBearer s name) to (met.required name there);
 }

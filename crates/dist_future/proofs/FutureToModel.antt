@@ -426,15 +426,17 @@ module _ (laws : ClassLaws) (s : SpaceView) (space : IsSpace s) (future members 
 
   pub met-by-future : AreMet s Holds
   met-by-future = record {
-    one_class = λ c k l less short first second. let same : k ≡ l = same_Some k l (sym first ∙ second) in omega (arith, less, same);
-    gone = gone;
-    moved = λ r k is_meaning holds. holds.0;
-    carried = λ r k j is_meaning holds. (holds.0, holds.1);
-    one_fresh = one-fresh;
+    future = record {
+      one_class = λ c k l less short first second. let same : k ≡ l = same_Some k l (sym first ∙ second) in omega (arith, less, same);
+      gone = gone;
+      moved = λ r k is_meaning holds. holds.0;
+      carried = λ r k j is_meaning holds. (holds.0, holds.1);
+      one_fresh = one-fresh;
+      stays = λ c k is_meaning now moves. let no : None ≡ Some k = sym (seen.now_stays now c) ∙ moves in cc;
+      absent = λ x k is_meaning now holds. let m = fresh-member x k holds in
+          never-taken s space x m.name m.is (subst (λ (name : List ℕ). IsTaken s.repository name) m.name_is (seen.now_taken now m.n (in_future m.n m.there)));
+    };
     met = met-item;
     apart = apart-from;
-    stays = λ c k is_meaning now moves. let no : None ≡ Some k = sym (seen.now_stays now c) ∙ moves in cc;
-    absent = λ x k is_meaning now holds. let m = fresh-member x k holds in
-        never-taken s space x m.name m.is (subst (λ (name : List ℕ). IsTaken s.repository name) m.name_is (seen.now_taken now m.n (in_future m.n m.there)));
     required = bearer;
   }

@@ -1,4 +1,4 @@
--- The model that a healthy installation of a future gives.
+-- The model of meanings that meet the demands of a space, and of those that a healthy installation of a future gives.
 use Rattle.std.proofs.Common.{◌≡◌, ℕ, Bool, true, false, List, Option, Some, None, Ordering, Less, Equal, Greater, length, map, refl, sym, ap, subst, ◌∙◌, inl}
 use Rattle.std.proofs.Common.{inr, arith, slice_get}
 use Rattle.std.specs.Prelude.{Any, Contains, slice_index}
@@ -21,7 +21,7 @@ use Rattle.dist_space_clauses.specs.SpaceClauses.{AreSpaceClauses}
 use Rattle.dist_space.specs.declared.meaning.Meaning.{Meaning}
 use Rattle.dist_space.specs.declared.meaning.Meaning.TheVariants.{Now, Present, At, New, Kept, Fresh}
 use Rattle.dist_future.proofs.ClassMatch.{ClassLaws}
-use Rattle.dist_future.proofs.DemandLemmas.{IsTrueMeaning, met-alike, model-from-met}
+use Rattle.dist_future.proofs.DemandLemmas.{AreMet, IsTrueMeaning, met-alike, model-from-met}
 use Rattle.dist_future.proofs.FutureToModel.{Holds, IsNamedIn, IsSeen, kept_of, met-by-future}
 use Rattle.dist_space.specs.VariableLaws.{value-at}
 
@@ -86,7 +86,35 @@ contains-decided xs p =
     same-as (λ any. subst (λ (x : Package). Contains xs x) any.4 (any.0, any.2, any.3)) (λ there. any-contained (λ (q : Package). q ≡ p) xs p there refl)
     (any-decided (λ (q : Package). q ≡ p) (λ q. package-decided q p) xs)
 
--- ---- values
+-- ---- the model of what meets the demands
+
+-- a model of the clauses that makes true what holds
+pub record ModelOf (s : SpaceView) (clauses : List (List Literal)) (T : Meaning → Type 0) : Type 0 where
+  pub values : List Bool
+  pub one_each : length values ≡ length s.meanings
+  pub model : IsModel (value_of values) clauses
+  pub holds : (m : Meaning) → IsMeaning s m → T m → IsTrueMeaning s values m
+
+module _ (s : SpaceView) (space : IsSpace s) (T : Meaning → Type 0) (decided : (m : Meaning) → IsDecided (T m)) where
+  value : Meaning → Bool
+  value m = answer (decided m)
+
+  pub decided-model : AreMet s T → (clauses : List (List Literal)) → AreSpaceClauses s clauses → ModelOf s clauses T
+  unfolding value
+  decided-model met clauses are =
+      let values : List Bool = map value s.meanings in
+      let to : (m : Meaning) → IsMeaning s m → T m → IsTrueMeaning s values m =
+      λ m is_meaning holds. value-at s value m space is_meaning ∙ answer-true (decided m) holds in
+      let back : (m : Meaning) → IsMeaning s m → IsTrueMeaning s values m → T m =
+      λ m is_meaning is. answer-from (decided m) (sym (value-at s value m space is_meaning) ∙ is) in
+      record {
+        values = values;
+        one_each = length-map s.meanings value;
+        model = model-from-met s values clauses are (met-alike s T (IsTrueMeaning s values) to back met);
+        holds = to;
+      }
+
+-- ---- that of a future
 
 module _ (laws : ClassLaws) (s : SpaceView) (space : IsSpace s) (future members : List Package) (N : Type 0) (fate : ℕ → Option ℕ)
     (seen : IsSeen s future members N fate) where
@@ -110,28 +138,6 @@ module _ (laws : ClassLaws) (s : SpaceView) (space : IsSpace s) (future members 
       (λ n. both-decided (text-decided n.name name) (class_at-decided (fresh_classes s x) k n.version)) members)
       (slice_get s.names x)
 
-  value : Meaning → Bool
-  value m = answer (holds-decided m)
-
-  -- the model
-  pub record FutureModel (clauses : List (List Literal)) : Type 0 where
-    pub values : List Bool
-    pub one_each : length values ≡ length s.meanings
-    pub model : IsModel (value_of values) clauses
-    pub holds : (m : Meaning) → IsMeaning s m → Holds laws s space future members N fate seen m → IsTrueMeaning s values m
-
-  pub future-model : (clauses : List (List Literal)) → AreSpaceClauses s clauses → FutureModel clauses
-  unfolding value
+  pub future-model : (clauses : List (List Literal)) → AreSpaceClauses s clauses → ModelOf s clauses (Holds laws s space future members N fate seen)
   future-model clauses are =
-      let values : List Bool = map value s.meanings in
-      let to : (m : Meaning) → IsMeaning s m → Holds laws s space future members N fate seen m → IsTrueMeaning s values m =
-      λ m is_meaning holds. value-at s value m space is_meaning ∙ answer-true (holds-decided m) holds in
-      let back : (m : Meaning) → IsMeaning s m → IsTrueMeaning s values m → Holds laws s space future members N fate seen m =
-      λ m is_meaning is. answer-from (holds-decided m) (sym (value-at s value m space is_meaning) ∙ is) in
-      record {
-        values = values;
-        one_each = length-map s.meanings value;
-        model = model-from-met s values clauses are (met-alike s (Holds laws s space future members N fate seen) (IsTrueMeaning s values) to back
-            (met-by-future laws s space future members N fate seen));
-        holds = to;
-      }
+      decided-model s space (Holds laws s space future members N fate seen) holds-decided (met-by-future laws s space future members N fate seen) clauses are

@@ -18,7 +18,7 @@ use Rattle.dist_future.specs.declared.health_kind.FutureHealth.TheVariants.{Heal
 use Rattle.dist_space.specs.declared.meaning.Meaning.{Meaning}
 use Rattle.dist_space.specs.declared.meaning.Meaning.TheVariants.{Now, Present, At, New, Kept, Fresh}
 use Rattle.dist_space_clauses.specs.DecidedLaws.{bearer-decided, met-decided}
-use Rattle.dist_future.proofs.DemandLemmas.{AreMet, IsMetIn, IsTrueMeaning}
+use Rattle.dist_future.proofs.DemandLemmas.{AreFutureMet, AreMet, IsMetIn, IsTrueMeaning}
 use Rattle.dist_space_clauses.specs.ItemLaws.{item-at}
 use Rattle.dist_future.proofs.NoFutureLemmas.{new-of}
 use Rattle.dist_space.specs.RisingLaws.{contains-cons, contains-first, contains-later, in-map, map-in}
@@ -79,16 +79,16 @@ essential-required true packages p is there essential =
 
 -- ---- what holds
 
+pub bool-decided : (b : Bool) → IsDecided (b ≡ true)
+bool-decided true = inl refl
+bool-decided false = inr (λ is. false≢true is)
+
 module _ (s : SpaceView) (values : List Bool) where
   abbrev Meets : Meaning → Type 0
   Meets = IsTrueMeaning s values
 
   held : (m : Meaning) → IsMeaning s m → IsTrueMeaning s values m → Holds s values m
   held m is holds = record { is_meaning = is; is_true = holds }
-
-  bool-decided : (b : Bool) → IsDecided (b ≡ true)
-  bool-decided true = inl refl
-  bool-decided false = inr (λ is. false≢true is)
 
   -- some meaning with a property holds, or none does
   some-decided : IsSpace s → (P : Meaning → Type 0) → ((m : Meaning) → IsDecided (P m)) → IsDecided (SomeHolds s values P)
@@ -136,14 +136,8 @@ module _ (s : SpaceView) (values : List Bool) where
   -- ---- from health to the demands
 
   -- the demands of a future are met where no pair of variables is none
-  pub met-with : IsNoPair (AreNoFuture s values)
-      → ((r place : ℕ) (p : Package) (item : List Atom) → slice_get s.repository.packages r ≡ Some p → slice_get p.depends place ≡ Some item
-      → IsTrueMeaning s values (Present r) → IsMetIn s (IsTrueMeaning s values) (IsMetBy s item))
-      → ((r : ℕ) (p : Package) (m : Meaning) → slice_get s.repository.packages r ≡ Some p → IsMeaning s m → Excludes s r p m
-      → IsTrueMeaning s values (Present r) → IsTrueMeaning s values m → ⊥)
-      → ((name : List ℕ) → Contains (required_names s.essential s.repository.packages) name → IsMetIn s (IsTrueMeaning s values) (IsBearer s name))
-      → AreMet s (IsTrueMeaning s values)
-  met-with never items conflicts required =
+  pub future-met : IsNoPair (AreNoFuture s values) → AreFutureMet s (IsTrueMeaning s values)
+  future-met never =
       let apart : (m n : Meaning) → IsMeaning s m → IsMeaning s n → AreApart s m n → IsTrueMeaning s values m → IsTrueMeaning s values n → ⊥ =
       λ m n is_m is_n are first second. never (variable_of s m) (variable_of s n) (apart-broken m n (held m is_m first) (held n is_n second) are) in
       record {
@@ -152,12 +146,18 @@ module _ (s : SpaceView) (values : List Bool) where
         moved = λ r k is holds. with-it (New r k) (At (slice_index s.cluster_of r) k) never (held (New r k) is holds) is.1 (refl, refl);
         carried = λ r k j is holds. with-it (Kept r k j) (New r k) never (held (Kept r k j) is holds) (new-of s r k j is) (refl, refl);
         one_fresh = λ x k l less short. apart (Fresh x k) (Fresh x l) (omega (arith, less, short)) short (refl, less);
-        met = items;
-        apart = conflicts;
         stays = λ c k is. apart Now (At c k) tt is tt;
         absent = λ x k is. apart Now (Fresh x k) tt is tt;
-        required = required;
       }
+
+  pub met-with : IsNoPair (AreNoFuture s values)
+      → ((r place : ℕ) (p : Package) (item : List Atom) → slice_get s.repository.packages r ≡ Some p → slice_get p.depends place ≡ Some item
+      → IsTrueMeaning s values (Present r) → IsMetIn s (IsTrueMeaning s values) (IsMetBy s item))
+      → ((r : ℕ) (p : Package) (m : Meaning) → slice_get s.repository.packages r ≡ Some p → IsMeaning s m → Excludes s r p m
+      → IsTrueMeaning s values (Present r) → IsTrueMeaning s values m → ⊥)
+      → ((name : List ℕ) → Contains (required_names s.essential s.repository.packages) name → IsMetIn s (IsTrueMeaning s values) (IsBearer s name))
+      → AreMet s (IsTrueMeaning s values)
+  met-with never items conflicts required = record { future = future-met never; met = items; apart = conflicts; required = required }
 
   pub met-from-health : IsSpace s → IsFutureHealth s values Healthy → AreMet s (IsTrueMeaning s values)
   met-from-health space healthy =
@@ -193,7 +193,7 @@ module _ (s : SpaceView) (values : List Bool) where
 
   -- ---- and back
 
-  never-apart : AreMet s (IsTrueMeaning s values) → (m n : Meaning) → IsMeaning s m → IsMeaning s n → AreApart s m n → IsTrueMeaning s values m
+  never-apart : AreFutureMet s (IsTrueMeaning s values) → (m n : Meaning) → IsMeaning s m → IsMeaning s n → AreApart s m n → IsTrueMeaning s values m
       → IsTrueMeaning s values n → ⊥
   never-apart met (At c k) (At d l) is_m is_n apart first second =
       let At' : ℕ → Type 0 = λ e. IsTrueMeaning s values (At e l) in
@@ -208,8 +208,8 @@ module _ (s : SpaceView) (values : List Bool) where
   never-apart met Now (Fresh x k) is_m is_n apart first second = met.absent x k is_n first second
   never-apart met m n is_m is_n apart first second = absurd apart
 
-  never-lacks : AreMet s (IsTrueMeaning s values) → (m n : Meaning) → IsMeaning s m → Needs s m n → IsTrueMeaning s values m → holds_under s values n ≡ false
-      → ⊥
+  never-lacks : AreFutureMet s (IsTrueMeaning s values) → (m n : Meaning) → IsMeaning s m → Needs s m n → IsTrueMeaning s values m
+      → holds_under s values n ≡ false → ⊥
   never-lacks met (New r k) (At c l) is_m needs first fails =
       let same : At (slice_index s.cluster_of r) k ≡ At c l = let a = needs.0 in let b = needs.1 in cc in
       false≢true (sym fails ∙ subst (IsTrueMeaning s values) same (met.moved r k is_m first))
@@ -218,12 +218,15 @@ module _ (s : SpaceView) (values : List Bool) where
       false≢true (sym fails ∙ subst (IsTrueMeaning s values) same (met.carried r k j is_m first))
   never-lacks met m n is_m needs first fails = absurd needs
 
+  pub no-pair : AreFutureMet s (IsTrueMeaning s values) → IsNoPair (AreNoFuture s values)
+  no-pair met n k f = elim f.broken [
+    | inl h ↦ never-apart met f.one f.other f.holds.is_meaning f.is_other h.0 f.holds.is_true h.1
+    | inr h ↦ never-lacks met f.one f.other f.holds.is_meaning h.0 f.holds.is_true h.1
+  ]
+
   pub health-from-met : AreMet s (IsTrueMeaning s values) → IsFutureHealth s values Healthy
   health-from-met met = (
-    λ n k f. elim f.broken [
-      | inl h ↦ never-apart met f.one f.other f.holds.is_meaning f.is_other h.0 f.holds.is_true h.1
-      | inr h ↦ never-lacks met f.one f.other f.holds.is_meaning h.0 f.holds.is_true h.1
-    ],
+    no-pair met.future,
     λ v place f.
         let Unmet' : Package → List Atom → Type 0 = λ p item. ¬ SomeHolds s values (IsMetBy s item) in
         let p = here-at (λ q. IsSomeAnd (slice_get q.depends place) (Unmet' q)) s.repository.packages f.number f.unmet in

@@ -10,10 +10,12 @@ pub mod Leasts
 pub mod MissingLemmas
 pub mod ModelToFuture
 pub mod NoFutureLemmas
+pub mod PairMeaning
 pub mod Parts
 pub mod RejectedLemmas
 pub mod SpaceLemmas
 pub mod SpaceMeaning
 pub mod SpaceParts
 pub mod UnmetLemmas
+pub mod UnusedClusters
 pub mod VariableOrder

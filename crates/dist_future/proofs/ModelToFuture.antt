@@ -92,9 +92,9 @@ module _ (laws : ClassLaws) (s : SpaceView) (space : IsSpace s) (holds : Meaning
         let l = some.0 in
         let first = chosen-short c l some.1 in
         let same : l ≡ k = elim (cases_lt l k) [
-          | inl less ↦ absurd (met.one_class c l k less short first.1 at)
+          | inl less ↦ absurd (met.future.one_class c l k less short first.1 at)
           | inr more ↦ elim (cases_lt k l) [
-            | inl less ↦ absurd (met.one_class c k l less first.0 at first.1)
+            | inl less ↦ absurd (met.future.one_class c k l less first.0 at first.1)
             | inr also ↦ omega (arith, more, also)
           ]
         ] in
@@ -223,9 +223,9 @@ module _ (laws : ClassLaws) (s : SpaceView) (space : IsSpace s) (holds : Meaning
       let also : holds (Fresh x l) ≡ true = subst (λ (z : ℕ). holds (Fresh z l) ≡ true) (sym one) b.holds_is in
       let short : l < length (fresh_classes s x) = subst (λ (z : ℕ). IsMeaning s (Fresh z l)) (sym one) second in
       elim (cases_lt k l) [
-        | inl less ↦ met.one_fresh x k l less short a.holds_is also
+        | inl less ↦ met.future.one_fresh x k l less short a.holds_is also
         | inr more ↦ elim (cases_lt l k) [
-          | inl less ↦ met.one_fresh x l k less first also a.holds_is
+          | inl less ↦ met.future.one_fresh x l k less first also a.holds_is
           | inr equal ↦ let k_is : k ≡ l = omega (arith, more, equal) in apart (ap (λ (z : ℕ). Fresh z k) one ∙ ap (λ (z : ℕ). Fresh y z) k_is)
         ]
       ]
@@ -396,11 +396,11 @@ module _ (laws : ClassLaws) (s : SpaceView) (space : IsSpace s) (holds : Meaning
   old-stays : (r : ℕ) → r < length s.repository.packages → holds (Present r) ≡ true → class_chosen s holds (slice_index s.cluster_of r) ≡ None
   old-stays r within true_is = elim (option-cases (class_chosen s holds (slice_index s.cluster_of r))) [
     | inl none ↦ none
-    | inr some ↦ let at = chosen-short (slice_index s.cluster_of r) some.0 some.1 in absurd (met.gone r some.0 (within, at.0) true_is at.1)
+    | inr some ↦ let at = chosen-short (slice_index s.cluster_of r) some.0 some.1 in absurd (met.future.gone r some.0 (within, at.0) true_is at.1)
   ]
 
   new-moves : (r k : ℕ) → IsMeaning s (New r k) → holds (New r k) ≡ true → class_chosen s holds (slice_index s.cluster_of r) ≡ Some k
-  new-moves r k is_meaning true_is = chosen-is (slice_index s.cluster_of r) k is_meaning.1 (met.moved r k is_meaning true_is)
+  new-moves r k is_meaning true_is = chosen-is (slice_index s.cluster_of r) k is_meaning.1 (met.future.moved r k is_meaning true_is)
 
   member-in-future : (n : Package) → Contains (installation_of s holds version) n → Contains (future_of s holds version) n
   member-in-future n there = let g = member-given n there in at g.meaning g.is_meaning g.given
@@ -420,7 +420,7 @@ module _ (laws : ClassLaws) (s : SpaceView) (space : IsSpace s) (holds : Meaning
   old-new-apart : (r o k : ℕ) (p n : Package) → IsMeaning s (New o k) → IsOld r p → IsNew o k n → p.name ≢ n.name
   old-new-apart r o k p n is_meaning a b same =
       let one : r ≡ o = names-apart s.repository.packages r o p b.q space.frame.flat a.is b.is (same ∙ ap (λ (x : Package). x.name) b.same) in
-      met.gone o k is_meaning (subst (λ (x : ℕ). holds (Present x) ≡ true) one a.holds_is) (met.moved o k is_meaning b.holds_is)
+      met.future.gone o k is_meaning (subst (λ (x : ℕ). holds (Present x) ≡ true) one a.holds_is) (met.future.moved o k is_meaning b.holds_is)
 
   new-new-apart : (r k o l : ℕ) (p n : Package) → IsMeaning s (New r k) → IsMeaning s (New o l) → New r k ≢ New o l → IsNew r k p → IsNew o l n
       → p.name ≢ n.name
@@ -501,7 +501,7 @@ module _ (laws : ClassLaws) (s : SpaceView) (space : IsSpace s) (holds : Meaning
       let within = kept-within r k j is_meaning in
       let q = element-at s.repository.packages r within.0 in
       any-contained (Matches s.repository.architecture atom) (installation_of s holds version) (new_version s holds version r k q.element)
-      (new-member r k q.element q.is within (met.carried r k j is_meaning true_is))
+      (new-member r k q.element q.is within (met.future.carried r k j is_meaning true_is))
       (kept-matches r k j q.element atom of q.is is_meaning true_is matched)
   member-for (Fresh x k) is_meaning true_is atom of matched =
       let name = here-at (λ (n : List ℕ). (n ≡ atom.name) × MeetsBound atom (example_at (fresh_classes s x) k)) s.names x matched.1 in
@@ -684,5 +684,6 @@ module _ (laws : ClassLaws) (s : SpaceView) (space : IsSpace s) (holds : Meaning
     where
       at : (n : Package) (m : Meaning) → IsMeaning s m → Installed n m → Contains s.repository.packages n
       at n _ is_meaning (installed_old r o) = contains-at s.repository.packages r n o.is
-      at n _ is_meaning (installed_new r k w) = absurd (met.stays (slice_index s.cluster_of r) k is_meaning.1 now (met.moved r k is_meaning w.holds_is))
-      at n _ is_meaning (installed_fresh x k f) = absurd (met.absent x k is_meaning now f.holds_is)
+      at n _ is_meaning (installed_new r k w) =
+          absurd (met.future.stays (slice_index s.cluster_of r) k is_meaning.1 now (met.future.moved r k is_meaning w.holds_is))
+      at n _ is_meaning (installed_fresh x k f) = absurd (met.future.absent x k is_meaning now f.holds_is)

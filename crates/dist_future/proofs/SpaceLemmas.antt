@@ -2,8 +2,9 @@
 use Rattle.std.proofs.Common.{◌≡◌, ◌≢◌, ℕ, ◌<◌, List, [], Some, Equal, length, get_or, map, refl, sym, ap, subst, ◌∙◌, slice_get}
 use Rattle.std.specs.Prelude.{AllPairs, Contains, IsSomeAnd, slice_index}
 use Rattle.std.proofs.lemmas.Option.{slice_get-get_or, slice_get_within}
-use Rattle.dist_base.specs.ListLaws.{at-has, contains-at, has-at, here-at, place-of}
+use Rattle.dist_base.specs.ListLaws.{at-has, contains-at, has-at, here-at, place-of, within-from}
 use Rattle.dist_version.specs.Order.{version_cmp, IsBelow}
+use Rattle.dist_version.specs.Spelling.{IsVersion}
 use Rattle.dist_cluster.specs.Partition.{IsIn}
 use Rattle.dist_cluster.specs.Relation.{Member, AreClustered, AreTogether}
 use Rattle.dist_cluster.specs.Top.{IsTop, IsVersionIn}
@@ -72,6 +73,26 @@ module _ (s : SpaceView) (frame : IsFrame s) where
       has-at (λ b. AreClustered (member_of p) b) (map member_of s.repository.packages) n (member_of q) (member-at s frame n q is_q)
       (has-at Second (map member_of s.repository.packages) m (member_of p) (member-at s frame m p is_p) together)
 
+  -- a package is in the cluster of its number
+  pub in-its-cluster : (m : ℕ) → m < length s.repository.packages → IsIn s.clusters.members (slice_index s.cluster_of m) m
+  in-its-cluster m short =
+      let c = slice_index s.cluster_of m in
+      let has = has-cluster s frame m short in
+      at-has (λ (cluster : List ℕ). Contains cluster m) s.clusters.members c (get_or s.clusters.members c [])
+      (slice_get-get_or s.clusters.members c [] has.within) has.there
+
+  -- a cluster has what is clustered with one of it, and nothing else
+  pub cluster-has : (c m n : ℕ) (p q : Package) → IsIn s.clusters.members c m → slice_get s.repository.packages m ≡ Some p
+      → slice_get s.repository.packages n ≡ Some q → AreClustered (member_of p) (member_of q) → IsIn s.clusters.members c n
+  cluster-has c m n p q is_in is_p is_q clustered =
+      subst (λ (d : ℕ). IsIn s.clusters.members d n) (clustered-same m n p q is_p is_q clustered ∙ placed-in s frame c m is_in)
+      (in-its-cluster n (slice_get_within s.repository.packages n q is_q))
+
+  pub has-cluster-of : (c m n : ℕ) (p q : Package) → IsIn s.clusters.members c m → slice_get s.repository.packages m ≡ Some p
+      → slice_get s.repository.packages n ≡ Some q → IsIn s.clusters.members c n → AreClustered (member_of p) (member_of q)
+  has-cluster-of c m n p q is_in is_p is_q other =
+      same-clustered m n p q is_p is_q (placed-in s frame c n other ∙ sym (placed-in s frame c m is_in))
+
   -- ---- tops
 
   top-is : (c : ℕ) → c < length s.clusters.members → IsTop (map member_of s.repository.packages) (get_or s.clusters.members c []) (get_or s.clusters.tops c [])
@@ -138,6 +159,29 @@ module _ (laws : ClassLaws) (s : SpaceView) (frame : IsFrame s) where
   one-class c k l v short first second =
       let one = one-of c v short (class-above c k v short first) in
       one.alone k first ∙ sym (one.alone l second)
+
+  -- a version is of a class of a cluster exactly where it is above the cluster, and then of no other class
+  cluster-short : (c m : ℕ) → IsIn s.clusters.members c m → c < length s.clusters.members
+  cluster-short c m is_in = within-from (λ (cluster : List ℕ). Contains cluster m) s.clusters.members c is_in
+
+  pub above-cluster : (c k m : ℕ) (q : Package) (v : List ℕ) → IsIn s.clusters.members c m → slice_get s.repository.packages m ≡ Some q → IsVersion v
+      → IsOfClassAt (cluster_classes s c) k v → IsAboveCluster s.repository q v
+  above-cluster c k m q v is_in is_q is_version class =
+      let above : IsBelow (get_or s.clusters.tops c []) v = class-above c k v (cluster-short c m is_in) class in
+      record {
+        is_version = is_version;
+        above = λ x in_cluster.
+            let at = place-of s.repository.packages x in_cluster.there in
+            let same : slice_index s.cluster_of at.place ≡ c = clustered-same s frame m at.place q x is_q at.is in_cluster.clustered
+            ∙ placed-in s frame c m is_in in
+            above-top s frame at.place x v at.is (subst (λ (d : ℕ). IsBelow (get_or s.clusters.tops d []) v) (sym same) above);
+      }
+
+  pub class-above-cluster : (c m : ℕ) (q : Package) (v : List ℕ) → IsIn s.clusters.members c m → slice_get s.repository.packages m ≡ Some q
+      → IsAboveCluster s.repository q v → IsInOneClass (cluster_classes s c) v
+  class-above-cluster c m q v is_in is_q above =
+      one-of c v (cluster-short c m is_in)
+      (subst (λ (d : ℕ). IsBelow (get_or s.clusters.tops d []) v) (placed-in s frame c m is_in) (top-below s frame m q v is_q above))
 
   -- a member is at no class of its cluster
   pub never-at : (m k : ℕ) (p : Package) → slice_get s.repository.packages m ≡ Some p → ¬ IsOfClassAt (member_classes s m) k p.version

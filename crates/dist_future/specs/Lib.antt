@@ -6,6 +6,8 @@ pub mod FutureExamples
 pub mod FutureHealth
 pub mod MatchingPrivate
 pub mod HealthLaws
+pub mod Pairs
+pub mod FutureClauses
 pub use Rattle.dist_space.specs.Space
 pub use Rattle.dist_space.specs.SpaceOf
 pub use Rattle.dist_space_clauses.specs.SpaceClauses

@@ -1,7 +1,9 @@
 //! What health means, apart from the work. These functions do nothing.
 ghost use Rattle.std.specs.Prelude.{◌≡◌, ◌↔◌, Bool, List};
 ghost use Rattle.dist_clause.specs.Formula.{IsModel, Literal, value_of};
-ghost use Rattle.dist_future.specs.FutureHealth.{IsFutureHealth};
+ghost use Rattle.dist_base.specs.Least.{IsNoPair};
+ghost use Rattle.dist_future.specs.FutureClauses.{MeetsFuture};
+ghost use Rattle.dist_future.specs.FutureHealth.{AreNoFuture, IsFutureHealth};
 ghost use Rattle.dist_future.specs.HealthLaws.{IsHealthyIn, StandsForHealthy};
 ghost use Rattle.dist_space.specs.Space.{IsSpace, SpaceView};
 ghost use Rattle.dist_space_clauses.specs.SpaceClauses.{AreSpaceClauses};
@@ -32,3 +34,9 @@ pub fn healthy_stand_for_futures()
     new_versions_match_alike();
     new_names_match_alike();
 }
+
+/// An assignment stands for a future exactly where it makes each clause of the demands of futures true: those of the groups 1,
+/// 2, 3 and 6.
+pub fn futures_meet_their_clauses()
+    ensures { (s : SpaceView) (values : List Bool) → IsNoPair (AreNoFuture s values) ↔ MeetsFuture s values }
+{}

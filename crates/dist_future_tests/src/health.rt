@@ -3,8 +3,10 @@ use crate::assignments::{are_models, have_health};
 use crate::spaces::{ESSENTIAL, LIBRARY, MOVING, NEW_NAME, ONE_SOURCE, VIRTUAL, small_space};
 use dist_future::Meaning::{self, At, Fresh, Now, Present};
 use dist_future::{
-    FutureHealth, each_model_is_a_future, healthy_are_models, healthy_stand_for_futures,
-    models_stand_for_futures, one_future_health,
+    FutureHealth, clusters_and_classes_are_numbered, covered_pairs_have_models,
+    each_model_is_a_future, futures_meet_their_clauses, healthy_are_models,
+    healthy_stand_for_futures, models_stand_for_futures, models_tell_of_packages,
+    one_future_health,
 };
 use std::alloc::Global;
 use std::process::Abort;
@@ -250,9 +252,13 @@ fn packages_have_models(rt: HostRuntime) {
 
 #[test]
 fn the_laws_hold() {
+    clusters_and_classes_are_numbered();
+    covered_pairs_have_models();
     each_model_is_a_future();
+    futures_meet_their_clauses();
     healthy_are_models();
     healthy_stand_for_futures();
     models_stand_for_futures();
+    models_tell_of_packages();
     one_future_health();
 }

@@ -2,7 +2,7 @@
 ghost use Rattle.std.specs.Prelude.{◌≤◌};
 
 use crate::spaces::{LIBRARY, ONE_SOURCE, space_within};
-use dist_future::{Meaning, Space, SpaceError, spaces_are_one};
+use dist_future::{Meaning, Space, SpaceError, spaces_are_one, spaces_are_there};
 use std::alloc::Global;
 use std::process::Abort;
 
@@ -123,6 +123,7 @@ fn variables_have_their_meanings(rt: HostRuntime) {
 }
 
 #[test]
-fn the_law_holds() {
+fn the_laws_hold() {
     spaces_are_one();
+    spaces_are_there();
 }

@@ -6,5 +6,6 @@ pub mod NewNames
 pub mod NumberingLemmas
 pub mod OneSpace
 pub mod SizeLemmas
+pub mod SomeSpace
 pub mod Variables
 pub mod WholeSpace

@@ -1,11 +1,27 @@
-//! A law of spaces, apart from the work. The function does nothing.
-ghost use Rattle.std.specs.Prelude.{◌≡◌, Bool};
+//! Laws of spaces, apart from the work. The functions do nothing.
+ghost use Rattle.std.specs.Prelude.{◌≡◌, All, Bool};
+ghost use Rattle.dist_version.specs.Spelling.{IsVersion};
+ghost use Rattle.dist_repo.specs.Order.{IsFlat};
 ghost use Rattle.dist_repo.specs.PackageList.{PackageList};
+ghost use Rattle.dist_classes.specs.Atoms.{AreBoundsVersions};
 ghost use Rattle.dist_space.specs.Space.{SpaceView};
 ghost use Rattle.dist_space.specs.SpaceOf.{IsSpaceOf};
 
-use dist_classes::{cuts_are_one, new_names_are_one};
+use dist_classes::{classes_are_there, cuts_are_one, new_names_are_one, no_class_is_empty};
 use dist_cluster::{partitions_are_one, tops_are_one};
+
+/// A flat repository has a space at each mode, at least where its versions and those of its bounds are versions, as they are in
+/// a repository that was read.
+pub fn spaces_are_there()
+    ensures { (r : PackageList) (essential : Bool) → IsFlat r.packages → AreBoundsVersions r → All (λ p. IsVersion p.version) r.packages
+        → (s : SpaceView) × IsSpaceOf r essential s }
+{
+    partitions_are_one();
+    tops_are_one();
+    classes_are_there();
+    no_class_is_empty();
+    new_names_are_one();
+}
 
 /// A repository has one space at a mode.
 pub fn spaces_are_one()
