@@ -5,17 +5,16 @@ use Rattle.std.specs.Cmp.Lexicographic.{slice_cmp}
 use Rattle.std.proofs.lemmas.Bool.{cases_lt}
 use Rattle.dist_base.specs.ListLaws.{within-from}
 use Rattle.dist_clause.specs.ClauseList.{ClauseList}
+use Rattle.dist_clause.specs.DemandLaws as made
+use Rattle.dist_clause.specs.Demands.{IsRefused, IsSetLike}
 use Rattle.dist_clause.specs.Formula.{Literal}
 use Rattle.dist_clause.specs.declared.clause_set.PushError.{PushError}
-use Rattle.dist_clause.specs.declared.clause_set.PushError.TheVariants.{TooManyClauses, TooManyLiterals, NoMemory}
 use Rattle.dist_repo.specs.declared.package.Package.{Package}
-use Rattle.dist_space_clauses.specs.GatheringPrivate.{IsBelow, IsCauseAt, IsFront, IsRefused}
+use Rattle.dist_space_clauses.specs.GatheringPrivate.{IsBelow, IsCauseAt, IsFront}
 use Rattle.dist_space.specs.Space.{IsMeaning, IsSpace, SpaceView, variable_of}
 use Rattle.dist_space_clauses.specs.SpaceClauses.{Demand, OneClass, Gone, Moved, Carried, OneFresh, Item, Apart, StaysNow, AbsentNow, Required, Excludes}
-use Rattle.dist_space_clauses.specs.SpaceClauses.{IsBefore, IsClauseFor, IsDemand, group_of, leading, rank_of, second_of}
-use Rattle.dist_space_clauses.specs.SpaceSet.{IsSetOf}
+use Rattle.dist_space_clauses.specs.SpaceClauses.{IsBefore, IsClauseFor, IsDemand, group_of, leading, rank_of, second_of, space_demands}
 use Rattle.dist_space.specs.declared.meaning.Meaning.{Meaning}
-use Rattle.dist_space_clauses.proofs.DemandLists.{clauses-more, clauses-shift}
 use Rattle.dist_space.specs.KeyLaws.{IsLess, cmp-less, less-cmp}
 use Rattle.dist_space.specs.VariableLaws.{one-meaning}
 
@@ -116,21 +115,12 @@ rank-one s d e space is_d is_e group lead second = absurd (omega (arith, group))
 -- ---- fronts
 
 module _ (s : SpaceView) (space : IsSpace s) (limits : ClauseList) where
-  pub set-shift : (P Q : Demand → Type 0) (c l : ℕ) (set : ClauseList) → ((d : Demand) → P d → Q d) → ((d : Demand) → Q d → P d) → IsSetOf s P c l set
-      → IsSetOf s Q c l set
-  set-shift P Q c l set to from of = record {
-    clauses = clauses-shift s P Q set.clauses to from of.clauses;
-    variables = of.variables;
-    clause_limit_is = of.clause_limit_is;
-    literal_limit_is = of.literal_limit_is;
-  }
-
   -- to a greater number with no demand in between
   pub front-skip : (g v b c : ℕ) (set : ClauseList) → b ≤ c
       → ((d : Demand) → IsDemand s d → group_of d ≡ g → variable_of s (leading d) ≡ v → (n : ℕ) → second_of s d ≡ n ∷ [] → n < c → n < b) → g < 7
       → IsFront s g v b limits set → IsFront s g v c limits set
   front-skip g v b c set up none few of =
-      set-shift (IsBelow s g v b) (IsBelow s g v c) limits.clause_limit limits.literal_limit set
+      made.set-shift (space_demands s) (IsBelow s g v b) (IsBelow s g v c) limits.clause_limit limits.literal_limit set
       (λ d h. (h.0, cases-below s d g v c (number-less s d g v b c up (below-cases s d g v b h.1))))
       (λ d h. (h.0, cases-below s d g v b (back d h.0 (below-cases s d g v c h.1)))) of
     where
@@ -150,7 +140,7 @@ module _ (s : SpaceView) (space : IsSpace s) (limits : ClauseList) where
   pub front-variable : (g v b : ℕ) (set : ClauseList) → ((d : Demand) → IsDemand s d → group_of d ≡ g → variable_of s (leading d) ≡ v → (n : ℕ)
       → second_of s d ≡ n ∷ [] → n < b) → g < 7 → IsFront s g v b limits set → IsFront s g (v + 1) 0 limits set
   front-variable g v b set all few of =
-      set-shift (IsBelow s g v b) (IsBelow s g (v + 1) 0) limits.clause_limit limits.literal_limit set
+      made.set-shift (space_demands s) (IsBelow s g v b) (IsBelow s g (v + 1) 0) limits.clause_limit limits.literal_limit set
       (λ d h. (h.0, cases-below s d g (v + 1) 0 (to d (below-cases s d g v b h.1))))
       (λ d h. (h.0, cases-below s d g v b (back d h.0 (below-cases s d g (v + 1) 0 h.1)))) of
     where
@@ -182,14 +172,10 @@ module _ (s : SpaceView) (space : IsSpace s) (limits : ClauseList) where
   pub front-more : (g v b : ℕ) (set : ClauseList) (d : Demand) (clause : List Literal) → g < 7 → IsDemand s d → group_of d ≡ g → variable_of s (leading d) ≡ v
       → second_of s d ≡ b ∷ [] → IsClauseFor s d clause
       → IsFront s g v b limits set → IsFront s g v (b + 1) limits (record set { clauses = set.clauses ++ clause ∷ [] })
-  front-more g v b set d clause few is group variable second is_clause of = record {
-    clauses = clauses-more s (IsBelow s g v b) (IsBelow s g v (b + 1)) set.clauses d clause of.clauses is_clause before cases
-        (λ e h. (h.0, cases-below s e g v (b + 1) (number-less s e g v b (b + 1) (omega arith) (below-cases s e g v b h.1))))
-        (is, cases-below s d g v (b + 1) here);
-    variables = of.variables;
-    clause_limit_is = of.clause_limit_is;
-    literal_limit_is = of.literal_limit_is;
-  }
+  front-more g v b set d clause few is group variable second is_clause of =
+      made.set-more (space_demands s) (IsBelow s g v b) (IsBelow s g v (b + 1)) limits.clause_limit limits.literal_limit set d clause of is_clause before cases
+      (λ e h. (h.0, cases-below s e g v (b + 1) (number-less s e g v b (b + 1) (omega arith) (below-cases s e g v b h.1))))
+      (is, cases-below s d g v (b + 1) here)
     where
       rank_is : rank_of s d ≡ g ∷ v ∷ b ∷ []
       rank_is = ap (λ (x : ℕ). x ∷ variable_of s (leading d) ∷ second_of s d) group ∙ ap (λ (x : ℕ). g ∷ x ∷ second_of s d) variable
@@ -209,48 +195,13 @@ module _ (s : SpaceView) (space : IsSpace s) (limits : ClauseList) where
             inr (rank-one s d e space is h.0 (group ∙ sym same.0) lead (second ∙ sym same.2))
       ]
 
-  -- why a set stops at the clause of a demand
-  pub stops-at : (set : ClauseList) (d : Demand) (clause : List Literal) (error : PushError) → IsDemand s d → IsClauseFor s d clause
-      → IsSetOf s (λ e. IsDemand s e × IsBefore s e d) limits.clause_limit limits.literal_limit set → IsRefused set clause error → IsCauseAt s limits error
-  stops-at set d clause error is is_clause of refused = by error refused
-    where
-      by : (e : PushError) → IsRefused set clause e → IsCauseAt s limits e
-      by TooManyClauses r =
-          let c = of.clause_limit_is in let l = of.literal_limit_is in
-          record {
-            demand = d;
-            is_demand = is;
-            clause = clause;
-            is_clause = is_clause;
-            front = set.clauses;
-            before = of.clauses;
-            clauses_kept = omega (arith, r.1, c);
-            literals_kept = omega (arith, r.0, l);
-            passes = r.1 ∙ c;
-          }
-      by TooManyLiterals r =
-          let c = of.clause_limit_is in let l = of.literal_limit_is in
-          record {
-            demand = d;
-            is_demand = is;
-            clause = clause;
-            is_clause = is_clause;
-            front = set.clauses;
-            before = of.clauses;
-            clauses_kept = omega (arith, r.1, c);
-            literals_kept = omega (arith, r.0, l);
-            passes = (omega (arith, r.1, c), omega (arith, r.2, l));
-          }
-      by NoMemory r = tt
-
-  -- the same at this place
-  pub stops : (g v b : ℕ) (set : ClauseList) (d : Demand) (clause : List Literal) (error : PushError) → IsDemand s d → group_of d ≡ g
+  -- why a set stops at this place
+  pub front-stops : (g v b : ℕ) (set : ClauseList) (d : Demand) (clause : List Literal) (error : PushError) → IsDemand s d → group_of d ≡ g
       → variable_of s (leading d) ≡ v → second_of s d ≡ b ∷ [] → IsClauseFor s d clause
       → IsFront s g v b limits set → IsRefused set clause error → IsCauseAt s limits error
-  stops g v b set d clause error is group variable second is_clause of refused =
+  front-stops g v b set d clause error is group variable second is_clause of refused =
       let rank_is : rank_of s d ≡ g ∷ v ∷ b ∷ [] =
       ap (λ (x : ℕ). x ∷ variable_of s (leading d) ∷ second_of s d) group ∙ ap (λ (x : ℕ). g ∷ x ∷ second_of s d) variable
       ∙ ap (λ (xs : List ℕ). g ∷ v ∷ xs) second in
-      let Of : List ℕ → Type 0 = λ xs. IsSetOf s (λ e. IsDemand s e × (slice_cmp nat_cmp (rank_of s e) xs ≡ Less)) limits.clause_limit limits.literal_limit
-      set in
-      stops-at set d clause error is is_clause (subst Of (sym rank_is) of) refused
+      let Of : List ℕ → Type 0 = λ xs. IsSetLike (space_demands s) (λ e. IsDemand s e × (slice_cmp nat_cmp (rank_of s e) xs ≡ Less)) limits set in
+      made.stops (space_demands s) (IsDemand s) set limits d clause error (subst Of (sym rank_is) of) is is_clause refused

@@ -1,59 +1,34 @@
 -- Whole groups, and the fronts of items and conflicts.
-use Rattle.std.proofs.Common.{◌≡◌, ◌≢◌, ℕ, ◌+◌, ◌<◌, ◌≤◌, false, List, [], ◌∷◌, ◌++◌, Some, length, get_or, refl, sym, ap, subst, ◌∙◌, arith, inl, inr}
-use Rattle.std.proofs.Common.{slice_get}
+use Rattle.std.proofs.Common.{◌≡◌, ◌≢◌, ℕ, ◌+◌, ◌<◌, ◌≤◌, false, List, [], ◌∷◌, Some, length, get_or, map, refl, sym, ap, subst, ◌∙◌, arith, inl, inr}
+use Rattle.std.proofs.Common.{eqb, slice_get}
 use Rattle.std.specs.Prelude.{Any, Contains, IsSomeAnd}
 use Rattle.std.proofs.lemmas.Bool.{cases_lt}
 use Rattle.std.proofs.lemmas.List.{get_or_default}
 use Rattle.std.proofs.lemmas.List.Kept.{AllPairs-from_increasing}
+use Rattle.std.proofs.lemmas.Option.{slice_get_within}
 use Rattle.dist_base.specs.ListLaws.{at-has, has-at, here-at, within-from}
 use Rattle.dist_clause.specs.ClauseList.{ClauseList}
-use Rattle.dist_clause.specs.Formula.{Literal}
-use Rattle.dist_clause.specs.declared.clause_set.PushError.{PushError}
+use Rattle.dist_clause.specs.DemandLaws as made
+use Rattle.dist_clause.specs.Formula.{IsClauseOver, Literal, literal}
 use Rattle.dist_relation.specs.declared.atom.Atom.{Atom}
 use Rattle.dist_repo.specs.Match.{Matches}
 use Rattle.dist_repo.specs.PackageList.{IsPackageAnd}
 use Rattle.dist_repo.specs.declared.package.Package.{Package}
-use Rattle.dist_space_clauses.specs.GatheringPrivate.{AreVariablesOf, IsCauseAt, IsFront, IsGroupsFront, IsRefused, IsVariableWith}
+use Rattle.dist_space_clauses.specs.GatheringPrivate.{AreVariablesOf, IsFront, IsGroupsFront, IsItemAt, IsVariableWith, positive}
 use Rattle.dist_space_clauses.specs.GroupsPrivate.{number_of}
 use Rattle.dist_space_clauses.specs.declared.groups.Group.{Group}
 use Rattle.dist_space_clauses.specs.declared.groups.Group.TheVariants.{Classes, Versions, Names, Items, Conflicts, Today}
-use Rattle.dist_space.specs.Space.{IsMeaning, IsSpace, SpaceView, variable_of}
+use Rattle.dist_space.specs.Space.{IsMeaning, IsMetBy, IsSpace, SpaceView, variable_of}
 use Rattle.dist_space_clauses.specs.SpaceClauses.{Demand, OneClass, Gone, Moved, Carried, OneFresh, Item, Apart, StaysNow, AbsentNow, Required, Excludes}
-use Rattle.dist_space_clauses.specs.SpaceClauses.{IsClauseFor, IsDemand, group_of, leading, rank_of, second_of}
-use Rattle.dist_space_clauses.specs.SpaceSet.{IsCause, IsSetOf}
+use Rattle.dist_space_clauses.specs.SpaceClauses.{IsDemand, group_of, leading, rank_of, second_of, space_demands}
 use Rattle.dist_space.specs.declared.meaning.Meaning.{Meaning}
 use Rattle.dist_space.specs.declared.meaning.Meaning.TheVariants.{Present}
-use Rattle.dist_space_clauses.proofs.DemandLists.{clauses-none}
-use Rattle.dist_space_clauses.proofs.Fronts.{below-cases, cases-below, first-number, front-more, front-skip, front-variable, leading-is, leads, second-one}
-use Rattle.dist_space_clauses.proofs.Fronts.{set-shift, stops}
+use Rattle.dist_space_clauses.proofs.Fronts.{below-cases, cases-below, first-number, front-skip, front-variable, leading-is, leads, second-one}
 use Rattle.dist_space.specs.VariableLaws.{variable-range}
 use Rattle.dist_space.specs.KeyLaws.{IsLess}
-use Rattle.dist_space_clauses.proofs.LedFronts.{IsPairAt}
-
--- ---- the limits of one set and of another
-
-module _ (s : SpaceView) (P : Demand → Type 0) (limits : ClauseList) where
-  -- a set has its own limits
-  pub own-limits : (set : ClauseList) → IsSetOf s P limits.clause_limit limits.literal_limit set → IsSetOf s P set.clause_limit set.literal_limit set
-  own-limits set of = record { clauses = of.clauses; variables = of.variables; clause_limit_is = refl; literal_limit_is = refl }
-
-  -- one set after another
-  pub same-limits : (Q : Demand → Type 0) (set new : ClauseList) → IsSetOf s P limits.clause_limit limits.literal_limit set
-      → IsSetOf s Q set.clause_limit set.literal_limit new → IsSetOf s Q limits.clause_limit limits.literal_limit new
-  same-limits Q set new of next = record {
-    clauses = next.clauses;
-    variables = next.variables;
-    clause_limit_is = next.clause_limit_is ∙ of.clause_limit_is;
-    literal_limit_is = next.literal_limit_is ∙ of.literal_limit_is;
-  }
-
-  -- a cause on the way is one
-  pub same-cause : (set : ClauseList) → IsSetOf s P limits.clause_limit limits.literal_limit set → (error : PushError) → IsCauseAt s set error
-      → IsCauseAt s limits error
-  same-cause set of error cause =
-      let Clauses : ℕ → Type 0 = λ n. IsCause s n limits.literal_limit error in
-      let Literals : ℕ → Type 0 = λ n. IsCause s set.clause_limit n error in
-      subst Clauses of.clause_limit_is (subst Literals of.literal_limit_is cause)
+use Rattle.dist_space_clauses.proofs.FoundIn.{not-found}
+use Rattle.dist_space_clauses.proofs.LedFronts.{IsPairAt, Steps, pair-steps, steps, written}
+use Rattle.dist_space_clauses.proofs.VariableLists.{item-clause, item-demand, over-implied}
 
 pub few-groups : (group : Group) → number_of group < 7
 few-groups Classes = omega arith
@@ -68,7 +43,7 @@ few-groups Today = omega arith
 abbrev pub ExcludedBy : SpaceView → ℕ → Meaning → Type 0
 ExcludedBy s n m = IsPackageAnd s.repository.packages n (λ p. Excludes s n p m)
 
-pub never-itself : (s : SpaceView) (n : ℕ) (m : Meaning) → ExcludedBy s n m → Present n ≢ m
+never-itself : (s : SpaceView) (n : ℕ) (m : Meaning) → ExcludedBy s n m → Present n ≢ m
 never-itself s n m excluded same =
     let here = here-at (λ (p : Package). Excludes s n p m) s.repository.packages n excluded in
     let own : Excludes s n here.element (Present n) = subst (Excludes s n here.element) (sym same) here.holds in
@@ -115,7 +90,7 @@ pub groups-none : (s : SpaceView) (variables clause_limit literal_limit : ℕ) �
     → let set : ClauseList = record { clauses = []; variables = variables; clause_limit = clause_limit; literal_limit = literal_limit } in
     IsGroupsFront s 1 set set
 groups-none s variables clause_limit literal_limit is = record {
-  clauses = clauses-none s (λ d. IsDemand s d × (group_of d < 1)) (λ d h. from-one d h.1);
+  clauses = made.clauses-none (space_demands s) (λ d. IsDemand s d × (group_of d < 1)) (λ d h. from-one d h.1);
   variables = is;
   clause_limit_is = refl;
   literal_limit_is = refl;
@@ -146,7 +121,7 @@ module _ (s : SpaceView) (space : IsSpace s) (limits : ClauseList) where
   -- from the groups before one to its first variable
   pub groups-open : (g : ℕ) (set : ClauseList) → g < 7 → IsGroupsFront s g limits set → IsFront s g 1 0 limits set
   groups-open g set few of =
-      set-shift s space limits (Before g) (Below g 1 0) limits.clause_limit limits.literal_limit set
+      made.set-shift (space_demands s) (Before g) (Below g 1 0) limits.clause_limit limits.literal_limit set
       (λ d h. (h.0, cases-below s d g 1 0 (inl h.1))) (λ d h. (h.0, back d h.0 (below-cases s d g 1 0 h.1))) of
     where
       back : (d : Demand) → IsDemand s d → IsLess (rank_of s d) (g ∷ 1 ∷ 0 ∷ []) → group_of d < g
@@ -163,7 +138,7 @@ module _ (s : SpaceView) (space : IsSpace s) (limits : ClauseList) where
   -- from past its last variable to the groups up to it
   pub groups-close : (g v : ℕ) (set : ClauseList) → length s.meanings < v → IsFront s g v 0 limits set → IsGroupsFront s (g + 1) limits set
   groups-close g v set past of =
-      set-shift s space limits (Below g v 0) (Before (g + 1)) limits.clause_limit limits.literal_limit set
+      made.set-shift (space_demands s) (Below g v 0) (Before (g + 1)) limits.clause_limit limits.literal_limit set
       (λ d h. (h.0, to d (below-cases s d g v 0 h.1))) (λ d h. (h.0, cases-below s d g v 0 (back d h.0 h.1))) of
     where
       to : (d : Demand) → IsLess (rank_of s d) (g ∷ v ∷ 0 ∷ []) → group_of d < g + 1
@@ -203,18 +178,6 @@ module _ (s : SpaceView) (space : IsSpace s) (limits : ClauseList) where
         ])
         (omega arith) of
 
-    pub item-pushed : (place : ℕ) (set : ClauseList) (clause : List Literal) → IsDemand s (Item n place) → IsClauseFor s (Item n place) clause
-        → IsFront s 4 (variable_of s (Present n)) place limits set
-        → IsFront s 4 (variable_of s (Present n)) (place + 1) limits (record set { clauses = set.clauses ++ clause ∷ [] })
-    item-pushed place set clause demand is of = front-more s space limits 4 (variable_of s (Present n)) place set (Item n place) clause (omega arith) demand
-        refl refl refl is of
-
-    pub item-stops : (place : ℕ) (set : ClauseList) (clause : List Literal) (error : PushError) → IsDemand s (Item n place)
-        → IsClauseFor s (Item n place) clause → IsFront s 4 (variable_of s (Present n)) place limits set
-        → IsRefused set clause error → IsCauseAt s limits error
-    item-stops place set clause error demand is of refused =
-        stops s space limits 4 (variable_of s (Present n)) place set (Item n place) clause error demand refl refl refl is of refused
-
     pub items-end : (count : ℕ) (p : Package) (set : ClauseList) → slice_get s.repository.packages n ≡ Some p → length p.depends ≤ count
         → IsFront s 4 (variable_of s (Present n)) count limits set → IsFront s 4 (variable_of s (Present n) + 1) 0 limits set
     items-end count p set is_p past of =
@@ -225,6 +188,20 @@ module _ (s : SpaceView) (space : IsSpace s) (limits : ClauseList) where
         let inner = has-at (λ (q : Package). IsSomeAnd (slice_get q.depends k) (Other q)) s.repository.packages n p is_p demand in
         omega (arith, past, within-from (Other p) p.depends k inner))
         (omega arith) of
+
+  -- the clause of an item, as it is written where its package isn't found in what meets it
+  pub item-steps : (n place w : ℕ) (item : List Atom) (variables searched : List ℕ) (clause : List Literal) (set : ClauseList)
+      → IsItemAt s.repository.packages n place item → AreVariablesOf s (IsMetBy s item) variables → searched ≡ variables → w ≡ variable_of s (Present n)
+      → ((k d : ℕ) → 0 ≤ k → k < length searched → eqb (get_or searched k d) w ≡ false) → clause ≡ literal w false ∷ map positive variables
+      → IsFront s 4 (variable_of s (Present n)) place limits set → Steps s limits 4 (variable_of s (Present n)) place set clause
+  item-steps n place w item variables searched clause set at are is_searched is_variable none is front =
+      let is_meaning = slice_get_within s.repository.packages n at.holder at.is_holder in
+      let other = not-found variables searched w (variable_of s (Present n)) is_searched is_variable none in
+      let made : clause ≡ literal (variable_of s (Present n)) false ∷ map positive variables =
+      is ∙ ap (λ (v : ℕ). literal v false ∷ map positive variables) is_variable in
+      steps s limits 4 (variable_of s (Present n)) place set (Item n place) clause space (omega arith)
+      (item-demand s space n place item variables at are is_meaning other) refl refl refl (item-clause s space n place item variables clause at are made)
+      (subst (IsClauseOver (length s.meanings)) (sym made) (over-implied s space (IsMetBy s item) variables (Present n) is_meaning are other)) front
 
   pub no-items : (m : Meaning) → ((n : ℕ) → m ≢ Present n) → (d : Demand) → IsDemand s d → group_of d ≡ 4 → leading d ≡ m → ⊥
   no-items m other (Item n k) is group lead = other n (sym lead)
@@ -263,11 +240,17 @@ module _ (s : SpaceView) (space : IsSpace s) (limits : ClauseList) where
     at-index k here = get_or_default others here.0 0 k here.1 ∙ here.2
 
     -- the meaning of the next variable
-    pub next-with : (count : ℕ) → count < length others → IsVariableWith s (ExcludedBy s n) (get_or others count 0)
+    next-with : (count : ℕ) → count < length others → IsVariableWith s (ExcludedBy s n) (get_or others count 0)
     next-with count short = (are.exact (get_or others count 0)).0 (count, short, get_or_default others count (get_or others count 0) 0 short)
 
+    pub next-range : (count : ℕ) → count < length others → (1 ≤ get_or others count 0) × (get_or others count 0 ≤ length s.meanings)
+    next-range count short =
+        let with = next-with count short in
+        let range = variable-range s with.meaning space with.is_meaning in
+        (omega (arith, range.0, with.variable_is), omega (arith, range.1, with.variable_is))
+
     -- the front up to the next variable
-    pub pair-next : (count : ℕ) (set : ClauseList) → count < length others → IsPairFront s limits n others count set
+    pair-next : (count : ℕ) (set : ClauseList) → count < length others → IsPairFront s limits n others count set
         → IsFront s 5 (variable_of s (Present n)) (get_or others count 0) limits set
     pair-next count set short of =
         front-skip s space limits 5 (variable_of s (Present n)) of.bound (get_or others count 0) set (of.high count (omega arith) short)
@@ -284,9 +267,9 @@ module _ (s : SpaceView) (space : IsSpace s) (limits : ClauseList) where
         ])
         (omega arith) of.front
 
-    pub pair-at : (count : ℕ) → count < length others → (with : IsVariableWith s (ExcludedBy s n) (get_or others count 0)) → Present n ≢ with.meaning
+    pair-at : (count : ℕ) → count < length others → (with : IsVariableWith s (ExcludedBy s n) (get_or others count 0))
         → IsPairAt s 5 (variable_of s (Present n)) (get_or others count 0) (Apart n with.meaning) (Present n) with.meaning false false
-    pair-at count short with other = record {
+    pair-at count short with = record {
       few = omega arith;
       is = (with.is_meaning, with.has);
       group = refl;
@@ -295,8 +278,18 @@ module _ (s : SpaceView) (space : IsSpace s) (limits : ClauseList) where
       is_clause = refl;
       is_x = is_meaning;
       is_y = with.is_meaning;
-      apart = other;
+      apart = never-itself s n with.meaning with.has;
     }
+
+    -- the clause with the next variable, as it is written
+    pub next-steps : (count v : ℕ) (set : ClauseList) (first second : Literal) → count < length others → first ≡ literal v false → v ≡ variable_of s (Present n)
+        → second ≡ literal (get_or others count 0) false → IsPairFront s limits n others count set
+        → Steps s limits 5 (variable_of s (Present n)) (get_or others count 0) set (first ∷ second ∷ [])
+    next-steps count v set first second short is_first is_variable is_second of =
+        let with = next-with count short in
+        pair-steps s limits 5 (variable_of s (Present n)) (get_or others count 0) set (Apart n with.meaning) (Present n) with.meaning false false first second
+        space (pair-at count short with) (written first v (variable_of s (Present n)) false is_first is_variable)
+        (written second (get_or others count 0) (variable_of s with.meaning) false is_second (sym with.variable_is)) (pair-next count set short of)
 
     pub pair-further : (count : ℕ) (new : ClauseList) → count < length others → IsFront s 5 (variable_of s (Present n)) (get_or others count 0 + 1) limits new
         → IsPairFront s limits n others (count + 1) new

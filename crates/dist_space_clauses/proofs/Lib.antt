@@ -1,7 +1,6 @@
 pub mod Bearers
 pub mod ConflictLemmas
-pub mod DemandLists
-pub mod ExactLemmas
+pub mod DemandOrder
 pub mod FoundIn
 pub mod Fronts
 pub mod Gathered

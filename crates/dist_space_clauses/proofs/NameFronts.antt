@@ -12,6 +12,7 @@ use Rattle.std.proofs.lemmas.Option.{get_or_from_slice_get, slice_get_within}
 use Rattle.std.proofs.lemmas.Slice.Eq.{bytes_eq-Decides}
 use Rattle.dist_base.specs.ListLaws.{all-contained, at-has, has-at, here-at, within-from}
 use Rattle.dist_clause.specs.ClauseList.{ClauseList}
+use Rattle.dist_clause.specs.DemandLaws as made
 use Rattle.dist_clause.specs.Formula.{Literal}
 use Rattle.dist_version.specs.Order.{version_cmp}
 use Rattle.dist_repo.specs.Healthy.{required_names}
@@ -21,10 +22,8 @@ use Rattle.dist_repo.specs.declared.package.Package.{Package}
 use Rattle.dist_space_clauses.specs.GatheringPrivate.{IsGroupsFront, IsNamedBelow, IsNamedFront, IsNamedSoFar, IsWholeSet}
 use Rattle.dist_space.specs.Space.{IsSpace, SpaceView}
 use Rattle.dist_space_clauses.specs.SpaceClauses.{Demand, OneClass, Gone, Moved, Carried, OneFresh, Item, Apart, StaysNow, AbsentNow, Required, IsBefore}
-use Rattle.dist_space_clauses.specs.SpaceClauses.{IsClauseFor, IsDemand, group_of, rank_of}
+use Rattle.dist_space_clauses.specs.SpaceClauses.{IsClauseFor, IsDemand, group_of, rank_of, space_demands}
 use Rattle.dist_space_clauses.specs.SpaceSet.{IsSetOf}
-use Rattle.dist_space_clauses.proofs.DemandLists.{clauses-more}
-use Rattle.dist_space_clauses.proofs.Fronts.{set-shift}
 use Rattle.dist_space.specs.KeyLaws.{cmp-less, less-cmp}
 use Rattle.dist_space.specs.ClusterLaws.{names-apart}
 
@@ -161,7 +160,7 @@ module _ (s : SpaceView) (space : IsSpace s) (limits : ClauseList) where
 
   pub named-start : (set : ClauseList) → IsGroupsFront s 7 limits set → IsNamedFront s 0 limits set
   named-start set of =
-      set-shift s space limits (λ d. IsDemand s d × (group_of d < 7)) (NamedBefore s 0) limits.clause_limit limits.literal_limit set
+      made.set-shift (space_demands s) (λ d. IsDemand s d × (group_of d < 7)) (NamedBefore s 0) limits.clause_limit limits.literal_limit set
       (λ d h. (h.0, so-far 0 d h.1))
       (λ d h. (
         h.0,
@@ -172,7 +171,7 @@ module _ (s : SpaceView) (space : IsSpace s) (limits : ClauseList) where
   pub named-end : (number : ℕ) (set : ClauseList) → s.essential ≡ true → length s.repository.packages ≤ number → IsNamedFront s number limits set
       → IsWholeSet s limits set
   named-end number set essential past of =
-      set-shift s space limits (NamedBefore s number) (IsDemand s) limits.clause_limit limits.literal_limit set (λ d h. h.0)
+      made.set-shift (space_demands s) (NamedBefore s number) (IsDemand s) limits.clause_limit limits.literal_limit set (λ d h. h.0)
       (λ d demand. (
         demand,
         by-name (IsNamedSoFar s number) d (so-far number d) (λ name is.
@@ -200,7 +199,7 @@ module _ (s : SpaceView) (space : IsSpace s) (limits : ClauseList) where
     -- a package that is not essential
     pub named-skipped : (set : ClauseList) → p.essential ≡ false → IsNamedFront s number limits set → IsNamedFront s (number + 1) limits set
     named-skipped set plain of =
-        set-shift s space limits (NamedBefore s number) (NamedBefore s (number + 1)) limits.clause_limit limits.literal_limit set wider
+        made.set-shift (space_demands s) (NamedBefore s number) (NamedBefore s (number + 1)) limits.clause_limit limits.literal_limit set wider
         (λ d h. (
           h.0,
           by-name (IsNamedSoFar s number) d (so-far number d) (λ name same. elim (below-cases name (subst (IsNamedSoFar s (number + 1)) same h.1)) [
@@ -258,7 +257,8 @@ module _ (s : SpaceView) (space : IsSpace s) (limits : ClauseList) where
       pub named-before : (set : ClauseList) → IsNamedFront s number limits set
           → IsSetOf s (λ d. IsDemand s d × IsBefore s d (Required p.name)) limits.clause_limit limits.literal_limit set
       named-before set of =
-          set-shift s space limits (NamedBefore s number) (λ d. IsDemand s d × IsBefore s d (Required p.name)) limits.clause_limit limits.literal_limit set
+          made.set-shift (space_demands s) (NamedBefore s number) (λ d. IsDemand s d × IsBefore s d (Required p.name)) limits.clause_limit
+          limits.literal_limit set
           (λ d h. (
             h.0,
             by-name (λ e. IsBefore s e (Required p.name)) d (others-before d)
@@ -273,14 +273,10 @@ module _ (s : SpaceView) (space : IsSpace s) (limits : ClauseList) where
       -- with that clause
       pub named-pushed : (set : ClauseList) (clause : List Literal) → IsClauseFor s (Required p.name) clause → IsNamedFront s number limits set
           → IsNamedFront s (number + 1) limits (record set { clauses = set.clauses ++ clause ∷ [] })
-      named-pushed set clause is_clause of = record {
-        clauses = clauses-more s (NamedBefore s number) (NamedBefore s (number + 1)) set.clauses (Required p.name) clause of.clauses is_clause before cases
-            wider
-            (name-demand, (number, omega arith, at-has (IsEssentialOf p.name) s.repository.packages number p is (essential, refl)));
-        variables = of.variables;
-        clause_limit_is = of.clause_limit_is;
-        literal_limit_is = of.literal_limit_is;
-      }
+      named-pushed set clause is_clause of =
+          made.set-more (space_demands s) (NamedBefore s number) (NamedBefore s (number + 1)) limits.clause_limit limits.literal_limit set (Required p.name)
+          clause of is_clause before cases wider
+          (name-demand, (number, omega arith, at-has (IsEssentialOf p.name) s.repository.packages number p is (essential, refl)))
         where
           before : (d : Demand) → NamedBefore s number d → IsBefore s d (Required p.name)
           before d h = by-name (λ e. IsBefore s e (Required p.name)) d (others-before d)

@@ -1,5 +1,5 @@
 -- Clauses of two literals of a space.
-use Rattle.std.proofs.Common.{◌≡◌, ◌≢◌, ℕ, ◌≤◌, Bool, [], ◌∷◌, length, sym, ap, subst, ◌∙◌, arith}
+use Rattle.std.proofs.Common.{◌≡◌, ◌≢◌, ℕ, ◌≤◌, Bool, [], ◌∷◌, length, arith}
 use Rattle.std.proofs.lemmas.List.Elements.{All-cons, All-nil}
 use Rattle.std.proofs.lemmas.List.Kept.{AllPairs-cons}
 use Rattle.dist_clause.specs.Formula.{IsClauseOver, Literal, literal}
@@ -29,14 +29,3 @@ meanings-over s n a b p q space count is_a is_b apart =
     let second = variable-range s b space is_b in
     pair-over n (variable_of s a) (variable_of s b) p q first.0 (omega (arith, first.1, count)) second.0 (omega (arith, second.1, count))
     (λ same. apart (one-meaning s a b space is_a is_b same))
-
--- as it is written with variables
-pub written : (s : SpaceView) (n v w : ℕ) (a b : Meaning) (p q : Bool) (first second : Literal) → IsSpace s → n ≡ length s.meanings → IsMeaning s a
-    → IsMeaning s b → a ≢ b → variable_of s a ≡ v → w ≡ variable_of s b → first ≡ literal v p → second ≡ literal w q
-    → (first ∷ second ∷ [] ≡ literal (variable_of s a) p ∷ literal (variable_of s b) q ∷ []) × IsClauseOver n (first ∷ second ∷ [])
-written s n v w a b p q first second space count is_a is_b apart is_v is_w is_first is_second =
-    let one : first ≡ literal (variable_of s a) p = is_first ∙ ap (λ (x : ℕ). literal x p) (sym is_v) in
-    let two : second ≡ literal (variable_of s b) q = is_second ∙ ap (λ (x : ℕ). literal x q) is_w in
-    let same : first ∷ second ∷ [] ≡ literal (variable_of s a) p ∷ literal (variable_of s b) q ∷ [] = ap (λ (l : Literal). l ∷ second ∷ []) one
-    ∙ ap (λ (l : Literal). literal (variable_of s a) p ∷ l ∷ []) two in
-    (same, subst (IsClauseOver n) (sym same) (meanings-over s n a b p q space count is_a is_b apart))

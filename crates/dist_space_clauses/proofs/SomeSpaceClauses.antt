@@ -5,6 +5,7 @@ use Rattle.std.specs.Prelude.{◌↔◌, AllPairs, Any, Contains, IsSomeAnd, sli
 use Rattle.std.proofs.lemmas.Bool.{cases_lt}
 use Rattle.dist_base.specs.ListLaws.{any-contained, contains-at, element-at, ElementAt, has-at, here-at, pairs-head, pairs-tail, within-from}
 use Rattle.dist_clause.specs.ClauseList.{ClauseList}
+use Rattle.dist_clause.specs.DemandLaws as made
 use Rattle.dist_clause.specs.Formula.{Literal}
 use Rattle.dist_relation.specs.declared.atom.Atom.{Atom}
 use Rattle.dist_repo.specs.Conflict.{AreInConflict}
@@ -15,20 +16,23 @@ use Rattle.dist_repo.specs.Healthy.{required_names}
 use Rattle.dist_repo.specs.PackageList.{IsPackageAnd}
 use Rattle.dist_repo.specs.declared.package.Package.{Package}
 use Rattle.dist_space_clauses.specs.GatheringPrivate.{IsFront, IsGroupsFront}
-use Rattle.dist_space.specs.Space.{AreMeaningsOf, IsMeaning, IsMetBy, IsSpace, SpaceView, StandsBefore, cluster_classes, fresh_classes, name_of, variable_of}
+use Rattle.dist_space.specs.Space.{AreMeaningsOf, IsMeaning, IsMetBy, IsSpace, SpaceView, StandsBefore, name_of, variable_of}
 use Rattle.dist_space_clauses.specs.SpaceClauses.{Demand, OneClass, Gone, Moved, Carried, OneFresh, Item, Apart, StaysNow, AbsentNow, Required, AreSpaceClauses}
 use Rattle.dist_space_clauses.specs.SpaceClauses.{Excludes, IsBearer, IsBefore, IsClauseFor, IsDemand, group_of, leading, rank_of, no, second_of, yes}
+use Rattle.dist_space_clauses.specs.SpaceClauses.{space_demands}
 use Rattle.dist_space_clauses.specs.SpaceSet.{IsSetOf}
+use Rattle.dist_space_clauses.specs.GroupsPrivate.{class_of, classes_of, group_for}
+use Rattle.dist_space_clauses.specs.declared.classed.Classed.{Classed}
+use Rattle.dist_space_clauses.specs.declared.classed.Classed.TheVariants.{Cluster, Name}
 use Rattle.dist_space.specs.declared.meaning.Meaning.{Meaning}
 use Rattle.dist_space.specs.declared.meaning.Meaning.TheVariants.{Now, Present, At, New, Kept, Fresh}
 use Rattle.dist_space_clauses.specs.DecidedLaws.{bearer-decided, less-decided, met-decided}
 use Rattle.dist_space_clauses.specs.ItemLaws.{item-at}
-use Rattle.dist_space_clauses.proofs.DemandLists.{clauses-more, clauses-shift}
-use Rattle.dist_space_clauses.proofs.Fronts.{set-shift, front-more, front-skip, front-variable, leads}
+use Rattle.dist_space_clauses.proofs.Fronts.{front-more, front-skip, front-variable, leads}
 use Rattle.dist_space.specs.VariableLaws.{one-meaning, variable-range, variable-back}
 use Rattle.dist_space_clauses.proofs.Gathered.{any-none, any-take, any-take-back, any-whole}
 use Rattle.dist_space_clauses.proofs.GroupFronts.{apart-of, groups-close, groups-none, groups-open, item-from, no-conflicts, no-items}
-use Rattle.dist_space_clauses.proofs.LedFronts.{carried-of, classes-of, fresh-of, moves-of, no-classes, no-fresh, no-moves, no-today, today-of}
+use Rattle.dist_space_clauses.proofs.LedFronts.{carried-of, later-of, moves-of, no-later, no-moves, no-today, today-of}
 use Rattle.dist_space.specs.KeyLaws.{cmp-less, less-cmp}
 use Rattle.dist_space_clauses.proofs.NameFronts.{group-cases}
 use Rattle.dist_space_clauses.proofs.SortedNames.{InOrder, IsLess, first-less, in-order}
@@ -245,20 +249,29 @@ module _ (s : SpaceView) where
         within = first;
       }
 
-    classes-walk : (v : ℕ) (m : Meaning) → IsMeaning s m → variable_of s m ≡ v → Walk 1 v
-    classes-walk v (At c k) is variable = record {
-      bound = length (cluster_classes s c);
-      decide = λ b. elim (both-decided (less-decided k b) (less-decided b (length (cluster_classes s c)))) [
-        | inl both ↦ inl (record { demand = OneClass c k b; is = both; group = refl; variable = variable; second = refl })
-        | inr none ↦ inr (λ at. none (classes-of s at.demand c k b at.is at.group (led v (At c k) is variable 1 b at) at.second))
+    -- the classes of a cluster, or of a new name
+    later-walk : (kind : Classed) (v n k : ℕ) → IsMeaning s (class_of kind n k) → variable_of s (class_of kind n k) ≡ v → Walk (group_for kind) v
+    later-walk kind v n k is variable = record {
+      bound = length (classes_of s kind n);
+      decide = λ b. elim (both-decided (less-decided k b) (less-decided b (length (classes_of s kind n)))) [
+        | inl both ↦ inl (at-later kind b both variable)
+        | inr none ↦ inr (λ at. none (later-of s kind at.demand n k b at.is at.group (led v (class_of kind n k) is variable (group_for kind) b at) at.second))
       ];
-      within = λ b at. (classes-of s at.demand c k b at.is at.group (led v (At c k) is variable 1 b at) at.second).1;
+      within = λ b at. (later-of s kind at.demand n k b at.is at.group (led v (class_of kind n k) is variable (group_for kind) b at) at.second).1;
     }
-    classes-walk v Now is variable = nothing v Now is variable 1 (no-classes s Now (λ c k same. cc))
-    classes-walk v (Present r) is variable = nothing v (Present r) is variable 1 (no-classes s (Present r) (λ c k same. cc))
-    classes-walk v (New r l) is variable = nothing v (New r l) is variable 1 (no-classes s (New r l) (λ c k same. cc))
-    classes-walk v (Kept r l j) is variable = nothing v (Kept r l j) is variable 1 (no-classes s (Kept r l j) (λ c k same. cc))
-    classes-walk v (Fresh x l) is variable = nothing v (Fresh x l) is variable 1 (no-classes s (Fresh x l) (λ c k same. cc))
+      where
+        at-later : (other : Classed) (b : ℕ) → (k < b) × (b < length (classes_of s other n)) → variable_of s (class_of other n k) ≡ v
+            → RankAt (group_for other) v b
+        at-later Cluster b both variable = record { demand = OneClass n k b; is = both; group = refl; variable = variable; second = refl }
+        at-later Name b both variable = record { demand = OneFresh n k b; is = both; group = refl; variable = variable; second = refl }
+
+    classes-walk : (v : ℕ) (m : Meaning) → IsMeaning s m → variable_of s m ≡ v → Walk 1 v
+    classes-walk v (At c k) is variable = later-walk Cluster v c k is variable
+    classes-walk v Now is variable = nothing v Now is variable 1 (no-later s Cluster Now (λ c k same. cc))
+    classes-walk v (Present r) is variable = nothing v (Present r) is variable 1 (no-later s Cluster (Present r) (λ c k same. cc))
+    classes-walk v (New r l) is variable = nothing v (New r l) is variable 1 (no-later s Cluster (New r l) (λ c k same. cc))
+    classes-walk v (Kept r l j) is variable = nothing v (Kept r l j) is variable 1 (no-later s Cluster (Kept r l j) (λ c k same. cc))
+    classes-walk v (Fresh x l) is variable = nothing v (Fresh x l) is variable 1 (no-later s Cluster (Fresh x l) (λ c k same. cc))
 
     moves-walk : (v : ℕ) (m : Meaning) → IsMeaning s m → variable_of s m ≡ v → Walk 2 v
     moves-walk v (New r k) is variable = record {
@@ -293,19 +306,12 @@ module _ (s : SpaceView) where
     moves-walk v (Fresh x l) is variable = nothing v (Fresh x l) is variable 2 (no-moves s (Fresh x l) (λ r k same. cc) (λ r k j same. cc))
 
     fresh-walk : (v : ℕ) (m : Meaning) → IsMeaning s m → variable_of s m ≡ v → Walk 3 v
-    fresh-walk v (Fresh x k) is variable = record {
-      bound = length (fresh_classes s x);
-      decide = λ b. elim (both-decided (less-decided k b) (less-decided b (length (fresh_classes s x)))) [
-        | inl both ↦ inl (record { demand = OneFresh x k b; is = both; group = refl; variable = variable; second = refl })
-        | inr none ↦ inr (λ at. none (fresh-of s at.demand x k b at.is at.group (led v (Fresh x k) is variable 3 b at) at.second))
-      ];
-      within = λ b at. (fresh-of s at.demand x k b at.is at.group (led v (Fresh x k) is variable 3 b at) at.second).1;
-    }
-    fresh-walk v Now is variable = nothing v Now is variable 3 (no-fresh s Now (λ c k same. cc))
-    fresh-walk v (Present r) is variable = nothing v (Present r) is variable 3 (no-fresh s (Present r) (λ c k same. cc))
-    fresh-walk v (At c l) is variable = nothing v (At c l) is variable 3 (no-fresh s (At c l) (λ x k same. cc))
-    fresh-walk v (New r l) is variable = nothing v (New r l) is variable 3 (no-fresh s (New r l) (λ c k same. cc))
-    fresh-walk v (Kept r l j) is variable = nothing v (Kept r l j) is variable 3 (no-fresh s (Kept r l j) (λ c k same. cc))
+    fresh-walk v (Fresh x k) is variable = later-walk Name v x k is variable
+    fresh-walk v Now is variable = nothing v Now is variable 3 (no-later s Name Now (λ c k same. cc))
+    fresh-walk v (Present r) is variable = nothing v (Present r) is variable 3 (no-later s Name (Present r) (λ c k same. cc))
+    fresh-walk v (At c l) is variable = nothing v (At c l) is variable 3 (no-later s Name (At c l) (λ x k same. cc))
+    fresh-walk v (New r l) is variable = nothing v (New r l) is variable 3 (no-later s Name (New r l) (λ c k same. cc))
+    fresh-walk v (Kept r l j) is variable = nothing v (Kept r l j) is variable 3 (no-later s Name (Kept r l j) (λ c k same. cc))
 
     items-walk : (v : ℕ) (m : Meaning) → IsMeaning s m → variable_of s m ≡ v → Walk 4 v
     items-walk v (Present n) is variable = record {
@@ -437,7 +443,7 @@ module _ (s : SpaceView) where
     unfolding Names SoFar
     names-start = record {
       set = plain.set;
-      has = set-shift s space empty (λ d. IsDemand s d × (group_of d < 7)) (SoFar 0) 0 0 plain.set (λ d h. (h.0, inl h.1)) (λ d h. (
+      has = made.set-shift (space_demands s) (λ d. IsDemand s d × (group_of d < 7)) (SoFar 0) 0 0 plain.set (λ d h. (h.0, inl h.1)) (λ d h. (
         h.0,
         elim h.1 [
           | inl less ↦ less
@@ -450,20 +456,15 @@ module _ (s : SpaceView) where
     unfolding Names SoFar
     name-step count short before = record {
       set = record before.set { clauses = before.set.clauses ++ some.clause ∷ [] };
-      has = record {
-        clauses = clauses-more s (SoFar count) (SoFar (count + 1)) before.set.clauses (Required name) some.clause before.has.clauses some.is_clause below cases
-            (λ d h. (
-              h.0,
-              elim h.1 [
-                | inl less ↦ inl less
-                | inr any ↦ inr (any-take-back (λ n. d ≡ Required n) names.names count name at.is (inl any))
-              ],
-            ))
-            (demand, inr (any-take-back (λ n. Required name ≡ Required n) names.names count name at.is (inr refl)));
-        variables = before.has.variables;
-        clause_limit_is = before.has.clause_limit_is;
-        literal_limit_is = before.has.literal_limit_is;
-      };
+      has = made.set-more (space_demands s) (SoFar count) (SoFar (count + 1)) 0 0 before.set (Required name) some.clause before.has some.is_clause below cases
+          (λ d h. (
+            h.0,
+            elim h.1 [
+              | inl less ↦ inl less
+              | inr any ↦ inr (any-take-back (λ n. d ≡ Required n) names.names count name at.is (inl any))
+            ],
+          ))
+          (demand, inr (any-take-back (λ n. Required name ≡ Required n) names.names count name at.is (inr refl)));
     }
       where
         at : ElementAt names.names count
@@ -506,7 +507,7 @@ module _ (s : SpaceView) where
     some-clauses =
         let all = names-to (length names.names) (omega arith) in (
           all.set.clauses,
-          clauses-shift s (SoFar (length names.names)) (IsDemand s) all.set.clauses (λ d h. h.0)
+          made.clauses-shift (space_demands s) (SoFar (length names.names)) (IsDemand s) all.set.clauses (λ d h. h.0)
               (λ d demand. (
                 demand,
                 elim (group-cases d) [

@@ -1,13 +1,12 @@
 -- What is gathered on the way to the clauses of a space. No public clause cites it.
-use Rattle.std.specs.Prelude.{◌≡◌, ◌⊎◌, ◌↔◌, ℕ, ◌+◌, ◌<◌, ◌≤◌, true, List, [], ◌∷◌, Some, Contains, length, slice_get}
+use Rattle.std.specs.Prelude.{◌≡◌, ◌⊎◌, ◌↔◌, ℕ, ◌<◌, true, List, [], ◌∷◌, Some, Contains, slice_get}
 use Rattle.std.specs.Cmp.Lexicographic.{slice_cmp}
 use Rattle.std.specs.List.Sorted.{IsStrictlyIncreasing}
 use Rattle.std.specs.Ordering.{nat_cmp}
 use Rattle.std.specs.declared.cmp.Ordering.TheVariants.{Less}
-use Rattle.dist_clause.specs.ClauseList.{ClauseList, literal_count}
+use Rattle.dist_clause.specs.ClauseList.{ClauseList}
 use Rattle.dist_clause.specs.Formula.{Literal, literal}
 use Rattle.dist_clause.specs.declared.clause_set.PushError.{PushError}
-use Rattle.dist_clause.specs.declared.clause_set.PushError.TheVariants.{TooManyClauses, TooManyLiterals, NoMemory}
 use Rattle.dist_relation.specs.declared.atom.Atom.{Atom}
 use Rattle.dist_repo.specs.PackageList.{IsPackageAnd}
 use Rattle.dist_repo.specs.declared.package.Package.{Package}
@@ -17,15 +16,6 @@ use Rattle.dist_space.specs.Space.{IsMeaning, SpaceView, variable_of}
 use Rattle.dist_space_clauses.specs.SpaceClauses.{Demand, OneClass, Gone, Moved, Carried, OneFresh, Item, Apart}
 use Rattle.dist_space_clauses.specs.SpaceClauses.{StaysNow, AbsentNow, Required, IsDemand, group_of, rank_of}
 use Rattle.dist_space_clauses.specs.SpaceSet.{IsCause, IsSetOf}
-
--- why a clause was refused by a set within its limits
-abbrev pub IsRefused : ClauseList → List Literal → PushError → Type 0
-IsRefused set clause TooManyClauses = (literal_count set.clauses ≤ set.literal_limit)
-    × (length set.clauses ≡ set.clause_limit)
-IsRefused set clause TooManyLiterals =
-    (literal_count set.clauses ≤ set.literal_limit) × (length set.clauses < set.clause_limit)
-    × (set.literal_limit < literal_count set.clauses + length clause)
-IsRefused set clause NoMemory = Unit {0}
 
 -- a demand whose rank is below a group, a variable and a number
 abbrev pub IsBelow : SpaceView → (group variable second : ℕ) → Demand → Type 0

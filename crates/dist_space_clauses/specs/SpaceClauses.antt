@@ -1,10 +1,12 @@
 -- The clauses of a space: what an assignment must meet to stand for a future and a healthy installation in it, a clause
 -- for each demand.
-use Rattle.std.specs.Prelude.{◌≡◌, ◌≢◌, ◌↔◌, ℕ, ◌<◌, true, false, List, [], ◌∷◌, All, AllPairs, Any, Contains}
+use Rattle.std.specs.Prelude.{◌≡◌, ◌≢◌, ℕ, ◌<◌, true, false, List, [], ◌∷◌, Any, Contains}
 use Rattle.std.specs.Prelude.{IsSomeAnd, length, map, slice_get, slice_index}
 use Rattle.std.specs.Cmp.Lexicographic.{slice_cmp}
 use Rattle.std.specs.Ordering.{nat_cmp}
 use Rattle.std.specs.declared.cmp.Ordering.TheVariants.{Less}
+use Rattle.dist_clause.specs.Demands as made
+use Rattle.dist_clause.specs.Demands.{Demands}
 use Rattle.dist_clause.specs.Formula.{Literal, literal}
 use Rattle.dist_relation.specs.declared.atom.Atom.{Atom}
 use Rattle.dist_repo.specs.Conflict.{AreInConflict}
@@ -136,13 +138,17 @@ IsClauseFor s (AbsentNow x k) clause = clause ≡ no s Now ∷ no s (Fresh x k) 
 IsClauseFor s (Required name) clause = (bearers : List Meaning) × AreMeaningsOf s (IsBearer s name) bearers
     × (clause ≡ map (yes s) bearers)
 
+-- the demands of a space in their order, and the clause of each
+abbrev pub space_demands : SpaceView → Demands Demand
+space_demands s = record {
+  IsBefore = IsBefore s;
+  IsClauseFor = IsClauseFor s;
+  variables = length s.meanings;
+}
+
 -- The clauses of the demands with a property: one for each demand, in the order of demands.
-pub record AreClausesOf (s : SpaceView) (P : Demand → Type 0) (clauses : List (List Literal)) : Type 0 where
-  pub rows : List (Demand × List Literal)
-  pub rising : AllPairs (λ a b. IsBefore s a.0 b.0) rows
-  pub exact : (d : Demand) → Any (λ a. a.0 ≡ d) rows ↔ P d
-  pub each : All (λ a. IsClauseFor s a.0 a.1) rows
-  pub are : clauses ≡ map (λ a. a.1) rows
+abbrev pub AreClausesOf : SpaceView → (Demand → Type 0) → List (List Literal) → Type 0
+AreClausesOf s = made.AreClausesFor (space_demands s)
 
 -- The clauses of the space.
 abbrev pub AreSpaceClauses : SpaceView → List (List Literal) → Type 0

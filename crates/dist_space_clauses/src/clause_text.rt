@@ -1,8 +1,9 @@
 //! Clauses over the variables of a space, and the set that they are added to.
 ghost use Rattle.std.specs.Prelude.{◌≡◌, ◌≤◌, ◌++◌, ◌∷◌, All, IfErr, OnOk, [], false, map};
 ghost use Rattle.dist_base.specs.declared.TheConstants.{MAX_VARIABLES};
+ghost use Rattle.dist_clause.specs.Demands.{IsRefused};
 ghost use Rattle.dist_clause.specs.Formula.{IsClauseOver, literal};
-ghost use Rattle.dist_space_clauses.specs.GatheringPrivate.{IsRefused, positive};
+ghost use Rattle.dist_space_clauses.specs.GatheringPrivate.{positive};
 
 use dist_clause::{ClauseSet, Lit, PushError};
 use std::alloc::{AllocError, Global};
@@ -56,22 +57,11 @@ impl Scratch {
     }
 }
 
-/// Adds a clause as the last one.
-pub(crate) fn add_clause(set: &mut ClauseSet, clause: &[Lit]) -> Result<(), PushError>
-    requires { IsClauseOver set.old.variables clause.now }
-    ensures ok { OnOk result (set.new ≡ record set.old { clauses = set.old.clauses ++ clause.now ∷ [] }) }
-    ensures err { IfErr result (IsRefused set.old clause.now) }
-{
-    // What this call tells is that the set is within its limits.
-    let _count = set.len();
-    set.push(clause)
-}
-
 /// Adds a clause of two literals.
 pub(crate) fn add_pair(set: &mut ClauseSet, first: Lit, second: Lit) -> Result<(), PushError>
     requires { IsClauseOver set.old.variables (first ∷ second ∷ []) }
     ensures ok { OnOk result (set.new ≡ record set.old { clauses = set.old.clauses ++ (first ∷ second ∷ []) ∷ [] }) }
     ensures err { IfErr result (IsRefused set.old (first ∷ second ∷ [])) }
 {
-    add_clause(set, &[first, second])
+    set.push(&[first, second])
 }

@@ -3,7 +3,7 @@ ghost use Rattle.std.specs.Prelude.{◌≡◌, ◌+◌, true, IfErr, OnOk, Some,
 ghost use Rattle.dist_space_clauses.specs.GatheringPrivate.{AreVariablesOf, IsCauseAt, IsGroupsFront, IsNamedFront, IsWholeSet};
 ghost use Rattle.dist_space_clauses.specs.SpaceClauses.{IsBearer};
 
-use crate::clause_text::{Scratch, add_clause};
+use crate::clause_text::Scratch;
 use crate::matched::{add_variable, put_in_order};
 use dist_clause::{ClauseSet, PushError};
 use dist_repo::Package;
@@ -58,7 +58,7 @@ fn push_name(
     if let Err(AllocError) = scratch.write_positive() {
         return Err(PushError::NoMemory);
     }
-    add_clause(set, &scratch.clause)
+    set.push(&scratch.clause)
 }
 
 /// Adds the clauses of the names of essential packages.

@@ -4,10 +4,11 @@ ghost use Rattle.dist_space_clauses.specs.GatheringPrivate.{IsCauseAt, IsFront, 
 ghost use Rattle.dist_space_clauses.specs.GroupsPrivate.{number_of};
 ghost use Rattle.dist_space_clauses.specs.Rejecting.{AreRejecting};
 
+use crate::classed::Classed;
 use crate::clause_text::Scratch;
 use crate::conflicts::push_conflicts_of;
 use crate::items::push_items_of;
-use crate::led_clauses::{push_moves, push_one_class, push_one_fresh, push_today};
+use crate::led_clauses::{push_moves, push_one_class, push_today};
 use crate::rejecting::Rejecting;
 use dist_clause::{ClauseSet, PushError};
 use dist_space::Space;
@@ -46,9 +47,9 @@ fn push_led<'a>(
     ensures err { IfErr result (IsCauseAt space.now set.old) }
 {
     match group {
-        Group::Classes => push_one_class(space, variable, set),
+        Group::Classes => push_one_class(space, Classed::Cluster, variable, set),
         Group::Versions => push_moves(space, variable, set),
-        Group::Names => push_one_fresh(space, variable, set),
+        Group::Names => push_one_class(space, Classed::Name, variable, set),
         Group::Items => push_items_of(space, variable, scratch, set),
         Group::Conflicts => push_conflicts_of(space, variable, rejecting, scratch, set),
         Group::Today => push_today(space, variable, set),

@@ -5,7 +5,7 @@ ghost use Rattle.dist_space_clauses.specs.GatheringPrivate.{Adds, AreVariablesOf
 ghost use Rattle.dist_space.specs.Space.{IsMatched, IsMatchedBy, IsMetBy, variable_of};
 ghost use Rattle.dist_space.specs.declared.meaning.Meaning.TheVariants as meaning;
 
-use crate::clause_text::{Scratch, add_clause};
+use crate::clause_text::Scratch;
 use crate::matched::{add_fresh, add_later, add_variable, put_in_order};
 use dist_clause::{ClauseSet, PushError};
 use dist_relation::{Alternatives, Atom};
@@ -113,7 +113,7 @@ fn push_item(
     if let Err(AllocError) = scratch.write_implied(variable) {
         return Err(PushError::NoMemory);
     }
-    add_clause(set, &scratch.clause)
+    set.push(&scratch.clause)
 }
 
 /// Adds the clauses of the items of a package.

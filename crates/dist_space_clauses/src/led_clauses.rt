@@ -1,49 +1,54 @@
 //! The clauses of two literals that one variable leads: those of clusters, of new versions, of new names and of today.
 ghost use Rattle.std.specs.Prelude.{◌≡◌, ◌+◌, ◌≤◌, ◌<◌, IfErr, OnOk, length, slice_index};
 ghost use Rattle.dist_space_clauses.specs.GatheringPrivate.{IsCauseAt, IsFront};
+ghost use Rattle.dist_space_clauses.specs.GroupsPrivate.{class_of, classes_of, group_for};
 ghost use Rattle.dist_space.specs.Space.{IsChange, IsMeaningOf};
 ghost use Rattle.dist_space.specs.declared.meaning.Meaning.TheVariants as meaning;
 
+use crate::classed::Classed;
 use crate::clause_text::add_pair;
 use dist_clause::{ClauseSet, Lit, PushError};
 use dist_space::{Meaning, Space};
 
-/// That a class of a cluster and each later one do not hold together.
-fn push_later_classes(
+/// That a class of a cluster or of a new name and each later one do not hold together.
+fn push_later(
     space: &Space,
+    classed: Classed,
     variable: u32,
-    cluster: u32,
+    number: u32,
     class: u32,
     set: &mut ClauseSet,
 ) -> Result<(), PushError>
-    requires meaning { IsMeaningOf space.now variable (meaning.At cluster class) }
-    requires front { IsFront space.now 1 variable 0 set.old set.old }
-    ensures ok { OnOk result (IsFront space.now 1 (variable + 1) 0 set.old set.new) }
+    requires meaning { IsMeaningOf space.now variable (class_of classed number class) }
+    requires class { class < length (classes_of space.now classed number) }
+    requires front { IsFront space.now (group_for classed) variable 0 set.old set.old }
+    ensures ok { OnOk result (IsFront space.now (group_for classed) (variable + 1) 0 set.old set.new) }
     ensures err { IfErr result (IsCauseAt space.now set.old) }
 {
-    let end = space.class_count(cluster);
+    let end = classed.class_count(space, number);
     for later in class + 1..end {
-        let other = space.variable(&Meaning::At(cluster, later));
+        let other = classed.variable(space, number, later);
         add_pair(set, Lit::new(variable, false), Lit::new(other, false))?;
     }
     Ok(())
 }
 
-/// The clauses of one class of a cluster.
+/// The clauses of one class of a cluster, or of a new name.
 pub(crate) fn push_one_class(
     space: &Space,
+    classed: Classed,
     variable: u32,
     set: &mut ClauseSet,
 ) -> Result<(), PushError>
     requires from_one { 1 ≤ variable }
     requires in_range { variable ≤ length space.now.meanings }
-    requires front { IsFront space.now 1 variable 0 set.old set.old }
-    ensures ok { OnOk result (IsFront space.now 1 (variable + 1) 0 set.old set.new) }
+    requires front { IsFront space.now (group_for classed) variable 0 set.old set.old }
+    ensures ok { OnOk result (IsFront space.now (group_for classed) (variable + 1) 0 set.old set.new) }
     ensures err { IfErr result (IsCauseAt space.now set.old) }
 {
-    match space.meaning(variable) {
-        Meaning::At(cluster, class) => push_later_classes(space, variable, cluster, class, set),
-        _ => Ok(()),
+    match classed.class_of(space.meaning(variable)) {
+        Some((number, class)) => push_later(space, classed, variable, number, class, set),
+        None => Ok(()),
     }
 }
 
@@ -97,45 +102,6 @@ pub(crate) fn push_moves(space: &Space, variable: u32, set: &mut ClauseSet) -> R
         Meaning::Kept(member, class, entry) => {
             push_kept(space, variable, member, class, entry, set)
         }
-        _ => Ok(()),
-    }
-}
-
-/// That a class of a new name and each later one do not hold together.
-fn push_later_fresh(
-    space: &Space,
-    variable: u32,
-    name: u32,
-    class: u32,
-    set: &mut ClauseSet,
-) -> Result<(), PushError>
-    requires meaning { IsMeaningOf space.now variable (meaning.Fresh name class) }
-    requires front { IsFront space.now 3 variable 0 set.old set.old }
-    ensures ok { OnOk result (IsFront space.now 3 (variable + 1) 0 set.old set.new) }
-    ensures err { IfErr result (IsCauseAt space.now set.old) }
-{
-    let end = space.name_class_count(name);
-    for later in class + 1..end {
-        let other = space.variable(&Meaning::Fresh(name, later));
-        add_pair(set, Lit::new(variable, false), Lit::new(other, false))?;
-    }
-    Ok(())
-}
-
-/// The clauses of one class of a new name.
-pub(crate) fn push_one_fresh(
-    space: &Space,
-    variable: u32,
-    set: &mut ClauseSet,
-) -> Result<(), PushError>
-    requires from_one { 1 ≤ variable }
-    requires in_range { variable ≤ length space.now.meanings }
-    requires front { IsFront space.now 3 variable 0 set.old set.old }
-    ensures ok { OnOk result (IsFront space.now 3 (variable + 1) 0 set.old set.new) }
-    ensures err { IfErr result (IsCauseAt space.now set.old) }
-{
-    match space.meaning(variable) {
-        Meaning::Fresh(name, class) => push_later_fresh(space, variable, name, class, set),
         _ => Ok(()),
     }
 }

@@ -5,6 +5,7 @@
 //! are written. The words for lists of clauses are dist_clause's.
 #![tactic(auto)]
 
+mod classed;
 mod clause_laws;
 mod clause_text;
 mod clauses;

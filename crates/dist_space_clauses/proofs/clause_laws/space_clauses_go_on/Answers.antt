@@ -1,6 +1,7 @@
-use Rattle.dist_space_clauses.proofs.ExactLemmas.{goes-on}
-use Rattle.dist_space_clauses.specs.SpaceClauses.{IsDemand}
+use Rattle.dist_clause.specs.DemandLaws.{goes-on}
+use Rattle.dist_space_clauses.specs.SpaceClauses.{IsDemand, space_demands}
+use Rattle.dist_space_clauses.proofs.DemandOrder.{orderly}
 use Rattle.dist_space_clauses.proofs.clause_laws.space_clauses_go_on.Goals as goal
 
 pub returns : goal.returns
-returns c = λ s d whole front clause are before is is_clause. goes-on s (IsDemand s) d whole front clause are before is is_clause
+returns c = λ s. goes-on (space_demands s) (orderly s) (IsDemand s)

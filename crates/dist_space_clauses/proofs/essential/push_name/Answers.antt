@@ -2,12 +2,12 @@ use Rattle.std.proofs.Common.{◌≡◌, ℕ, ◌+◌, map, arith, sym, subst, �
 use Rattle.std.proofs.lemmas.Result.{IfErr-weaker, on_ok_weaker}
 use Rattle.dist_base.specs.declared.TheConstants.{MAX_VARIABLES}
 use Rattle.dist_clause.specs.ClauseList.{ClauseList}
+use Rattle.dist_clause.specs.DemandLaws.{stops}
 use Rattle.dist_clause.specs.Formula.{IsClauseOver}
 use Rattle.dist_repo.specs.Order.{IsInOrder}
 use Rattle.dist_repo.specs.PackageList.{PackageList}
 use Rattle.dist_space_clauses.specs.GatheringPrivate.{IsNamedFront, positive}
-use Rattle.dist_space_clauses.specs.SpaceClauses.{Required, IsBearer}
-use Rattle.dist_space_clauses.proofs.Fronts.{stops-at}
+use Rattle.dist_space_clauses.specs.SpaceClauses.{Required, IsBearer, IsDemand, space_demands}
 use Rattle.dist_space_clauses.proofs.NameFronts.{name-demand, named-before, named-pushed, named-skipped}
 use Rattle.dist_space_clauses.proofs.VariableLists.{in-limit, name-clause, over-positive}
 use Rattle.dist_space_clauses.proofs.essential.push_name.Goals as goal
@@ -24,8 +24,8 @@ write_positive-requires c =
     in-limit s up.space (IsBearer s c.args.package.now.name) c.gather_bearers.new.variables.items MAX_VARIABLES (omega (arith, up.value, up.stated))
     c.in_default.ensures
 
-pub add_clause-requires : goal.add_clause-requires
-add_clause-requires c =
+pub push-requires : goal.push-requires
+push-requires c =
     let s = c.args.space.now in
     let space = c.variables-variables.ensures.space in
     let p = c.args.package.now in
@@ -47,11 +47,11 @@ returns-clause-ok c =
     let ordered : IsInOrder s.repository.packages = subst (λ (r : PackageList). IsInOrder r.packages) c.repo.ensures.value c.len-packages.ensures.in_order in
     let written : c.deref.result.now ≡ map positive vs = c.deref.ensures.value ∙ c.in_default-write_positive.ensures in
     let is = name-clause s space p.name vs c.deref.result.now c.in_default.ensures written in
-    on_ok_weaker c.add_clause.result
+    on_ok_weaker c.push.result
     (λ pushed. subst (λ (x : ClauseList). IsNamedFront s (n + 1) c.args.set.now x) (sym pushed)
     (named-pushed s space c.args.set.now n p c.requires.package ordered c.requires.essential c.if-not-package.false c.args.set.now c.deref.result.now is
     c.requires.front))
-    c.add_clause.ensures.ok
+    c.push.ensures.ok
 
 pub returns-clause-err : goal.returns-clause-err
 returns-clause-err c =
@@ -63,8 +63,8 @@ returns-clause-err c =
     let ordered : IsInOrder s.repository.packages = subst (λ (r : PackageList). IsInOrder r.packages) c.repo.ensures.value c.len-packages.ensures.in_order in
     let written : c.deref.result.now ≡ map positive vs = c.deref.ensures.value ∙ c.in_default-write_positive.ensures in
     let is = name-clause s space p.name vs c.deref.result.now c.in_default.ensures written in
-    IfErr-weaker c.add_clause.result _ _
-    (λ error refused. stops-at s space c.args.set.now c.args.set.now (Required p.name) c.deref.result.now error
-    (name-demand s space c.args.set.now n p c.requires.package ordered c.requires.essential c.if-not-package.false) is
-    (named-before s space c.args.set.now n p c.requires.package ordered c.requires.essential c.if-not-package.false c.args.set.now c.requires.front) refused)
-    c.add_clause.ensures.err
+    IfErr-weaker c.push.result _ _
+    (λ error. stops (space_demands s) (IsDemand s) c.args.set.now c.args.set.now (Required p.name) c.deref.result.now error
+    (named-before s space c.args.set.now n p c.requires.package ordered c.requires.essential c.if-not-package.false c.args.set.now c.requires.front)
+    (name-demand s space c.args.set.now n p c.requires.package ordered c.requires.essential c.if-not-package.false) is)
+    c.push.ensures.cause

@@ -1,8 +1,10 @@
 use Rattle.std.proofs.Common.{◌+◌, arith}
 use Rattle.std.proofs.lemmas.Result.{err_from_is_err_and}
+use Rattle.dist_clause.specs.DemandLaws.{cause-chain, set-chain, set-own}
 use Rattle.dist_space_clauses.specs.GatheringPrivate.{IsBelow}
+use Rattle.dist_space_clauses.specs.SpaceClauses.{IsDemand, space_demands}
 use Rattle.dist_space_clauses.specs.GroupsPrivate.{number_of}
-use Rattle.dist_space_clauses.proofs.GroupFronts.{few-groups, groups-close, groups-open, own-limits, same-cause, same-limits}
+use Rattle.dist_space_clauses.proofs.GroupFronts.{few-groups, groups-close, groups-open}
 use Rattle.dist_space_clauses.proofs.groups.push_group.Goals as goal
 
 pub loop-variable-init : goal.loop-variable-init
@@ -13,20 +15,24 @@ pub push_led-requires-clause-in_range : goal.push_led-requires-clause-in_range
 push_led-requires-clause-in_range c = omega (arith, c.variables-variable-end.ensures.value)
 
 pub push_led-requires-clause-front : goal.push_led-requires-clause-front
-push_led-requires-clause-front c = own-limits c.args.space.now (IsBelow c.args.space.now (number_of c.args.group) c.loop-variable.variable 0) c.args.set.now
+push_led-requires-clause-front c =
+    let s = c.args.space.now in
+    set-own (space_demands s) (IsBelow s (number_of c.args.group) c.loop-variable.variable 0) c.args.set.now.clause_limit c.args.set.now.literal_limit
     c.loop-variable.set c.loop-variable.invariant
 
 pub returns-in_err-push_led-clause-err : goal.returns-in_err-push_led-clause-err
 returns-in_err-push_led-clause-err c =
+    let s = c.args.space.now in
     let p = err_from_is_err_and c.from_residual.result c.from_residual.ensures.1 in
-    rw (p.1, p.2) (same-cause c.args.space.now (IsBelow c.args.space.now (number_of c.args.group) c.loop-variable.variable 0) c.args.set.now c.loop-variable.set
-    c.loop-variable.invariant _ c.in_err-push_led.ensures.err)
+    rw (p.1, p.2) (cause-chain (space_demands s) (IsBelow s (number_of c.args.group) c.loop-variable.variable 0) (IsDemand s) c.args.set.now.clause_limit
+    c.args.set.now.literal_limit c.loop-variable.set _ c.loop-variable.invariant c.in_err-push_led.ensures.err)
 
 pub loop-variable-preserved : goal.loop-variable-preserved
 loop-variable-preserved c =
     let s = c.args.space.now in
     let g = number_of c.args.group in
-    same-limits s (IsBelow s g c.loop-variable.variable 0) c.args.set.now (IsBelow s g (c.loop-variable.variable + 1) 0) c.loop-variable.set c.push_led.new.set
+    set-chain (space_demands s) (IsBelow s g c.loop-variable.variable 0) (IsBelow s g (c.loop-variable.variable + 1) 0) c.args.set.now.clause_limit
+    c.args.set.now.literal_limit c.loop-variable.set c.push_led.new.set
     c.loop-variable.invariant c.in_ok-push_led.ensures.ok
 
 pub returns-clause-ok : goal.returns-clause-ok

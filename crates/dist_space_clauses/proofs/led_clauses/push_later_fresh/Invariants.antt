@@ -1,5 +1,0 @@
-use Rattle.dist_space_clauses.specs.GatheringPrivate.{IsFront}
-use Rattle.dist_space_clauses.proofs.led_clauses.push_later_fresh.Given as goal
-
-abbrev pub invariant-loop-later : goal.invariant-loop-later
-invariant-loop-later l = IsFront l.space 3 l.variable l.later l.initial.set l.set
