@@ -12,6 +12,7 @@ pub mod DemandLists
 pub mod SetLemmas
 pub mod ModelLemmas
 pub mod AddsLemmas
+pub mod AskedLemmas
 pub mod NumberLemmas
 pub mod VersionLemmas
 pub mod PairLemmas

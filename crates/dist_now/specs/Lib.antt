@@ -7,5 +7,6 @@ pub mod PresentClauses
 pub mod PresentSet
 pub mod PresentLaws
 pub mod GatheringPrivate
+pub mod AtomOrderPrivate
 pub mod PresentExamples
 pub mod HealthExamples

@@ -8,8 +8,9 @@ ghost use Rattle.dist_now.specs.GatheringPrivate.{Adds, IsMatchedAt};
 ghost use Rattle.dist_now.specs.Members.{IsItemAt};
 ghost use Rattle.dist_now.specs.PresentClauses.{AreNumbersOf, IsMetBy};
 
+use crate::asked::AskedAtoms;
 use dist_relation::{Alternatives, Atom, Name};
-use dist_repo::{Package, Repeats, Repository};
+use dist_repo::{Package, Repository};
 use std::alloc::AllocError;
 
 /// So many numbers are kept before repeated ones among them are looked for.
@@ -120,10 +121,11 @@ pub(crate) fn gather_meeting(
     ensures { OnOk result (AreNumbersOf repo.now (IsMetBy repo.now.architecture alternatives.now) numbers.new.items) }
 {
     numbers.clear();
-    let repeats = Repeats::of_item(*numbers.allocator(), alternatives)?;
+    let mut asked = AskedAtoms::new(*numbers.allocator());
     let mut limit = MANY;
     for place in 0..alternatives.len() {
-        if !repeats.is_repeated_in_item(alternatives, place) {
+        let is_repeated = asked.note(alternatives.get(place), alternatives.len())?;
+        if !is_repeated {
             add_alternative(repo, number, item, place, alternatives, numbers)?;
             limit = thin(numbers, limit);
         }

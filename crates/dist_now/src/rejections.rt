@@ -8,9 +8,10 @@ ghost use Rattle.dist_repo.specs.PackageList.{IsPackageAnd};
 ghost use Rattle.dist_repo.specs.Providers.{AreProviders, IsProvider};
 ghost use Rattle.dist_now.specs.GatheringPrivate.{Adds, AreSplitAt, IsPairIn, IsPairOf, IsPairWithin, IsPairWith, IsRejectingPair, Rejects};
 
+use crate::asked::AskedAtoms;
 use crate::numbers::{matches_provider, place_from};
 use dist_relation::Atom;
-use dist_repo::{Package, Repeats, Repository};
+use dist_repo::{Package, Repository};
 use std::alloc::{AllocError, Global};
 
 /// How many pairs are kept at a time, unless they all have one lesser number.
@@ -123,10 +124,11 @@ fn add_rejected(
     ensures whole { IfOk result (λ whole. IsTrue whole → Adds pairs.old.items pairs.new.items (λ pair. IsPairIn span.start span.end pair × IsPairWith repo.now number (Rejects repo.now «package».now) pair)) }
     ensures wide { IfOk result (λ whole. whole ≡ false → span.start + 1 < span.end) }
 {
-    let repeats = Repeats::of_conflicts(*pairs.allocator(), &package.conflicts)?;
+    let mut asked = AskedAtoms::new(*pairs.allocator());
     for place in 0..package.conflicts.len() {
-        if !repeats.is_repeated_in_conflicts(&package.conflicts, place) {
-            let atom = package.conflicts.get(place);
+        let atom = package.conflicts.get(place);
+        let is_repeated = asked.note(atom, package.conflicts.len())?;
+        if !is_repeated {
             let providers = repo.conflict_providers(number, place);
             add_matched(repo, number, atom, providers, span, pairs)?;
         }
