@@ -2,9 +2,8 @@
 ghost use Rattle.std.specs.Prelude.{◌≡◌, ◌<◌, ◌↔◌, true, Any, Some, IsTrue, length, slice_get};
 ghost use Rattle.dist_repo.specs.Healthy.{IsMet};
 ghost use Rattle.dist_repo.specs.Match.{Matches};
-ghost use Rattle.dist_repo.specs.Providers.{AreProviders};
 ghost use Rattle.dist_now.specs.Fit.{IsOneEach};
-ghost use Rattle.dist_now.specs.Members.{IsItemAt, members_of};
+ghost use Rattle.dist_now.specs.Members.{members_of};
 
 use dist_clause::Assignment;
 use dist_relation::{Alternatives, Atom, Name};
@@ -19,42 +18,28 @@ pub(crate) fn is_member(repo: &Repository, members: &Assignment, number: u32) ->
     number < repo.len() && members.value(number + 1)
 }
 
-/// Whether a member matches the alternative at a place of an item.
-fn is_alternative_met(
-    repo: &Repository,
-    members: &Assignment,
-    atom: &Atom,
-    providers: &[u32],
-) -> bool
-    requires one_each { IsOneEach repo.now members.now }
-    requires providers { AreProviders repo.now atom.now.name providers.now }
+/// Whether a member matches an atom.
+fn is_alternative_met(repo: &Repository, members: &Assignment, atom: &Atom) -> bool
+    requires { IsOneEach repo.now members.now }
     ensures { IsTrue result ↔ Any (Matches repo.now.architecture atom.now) (members_of repo.now.packages members.now) }
 {
-    for number in providers {
-        if is_member(repo, members, *number) && repo.matches(atom, repo.package(*number)) {
+    let offers = repo.matched(atom);
+    for offer in offers {
+        if is_member(repo, members, offer.number) {
             return true;
         }
     }
     false
 }
 
-/// Whether a member matches an alternative of the item at a place of a package.
-pub(crate) fn is_met(
-    repo: &Repository,
-    members: &Assignment,
-    number: u32,
-    item: usize,
-    alternatives: &Alternatives,
-) -> bool
-    requires one_each { IsOneEach repo.now members.now }
-    requires item { IsItemAt repo.now.packages number item alternatives.now }
+/// Whether a member matches an alternative of an item.
+pub(crate) fn is_met(repo: &Repository, members: &Assignment, alternatives: &Alternatives) -> bool
+    requires { IsOneEach repo.now members.now }
     ensures some { 0 < length alternatives.now }
     ensures met { IsTrue result ↔ IsMet repo.now.architecture (members_of repo.now.packages members.now) alternatives.now }
 {
     for place in 0..alternatives.len() {
-        let atom = alternatives.get(place);
-        let providers = repo.alternative_providers(number, item, place);
-        if is_alternative_met(repo, members, atom, providers) {
+        if is_alternative_met(repo, members, alternatives.get(place)) {
             return true;
         }
     }

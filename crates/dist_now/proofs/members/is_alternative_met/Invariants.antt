@@ -1,6 +1,6 @@
-use Rattle.dist_now.proofs.MemberLemmas.{IsNoneMatched}
+use Rattle.dist_now.proofs.MatchedLemmas.{IsNoMember}
 use Rattle.dist_now.proofs.members.is_alternative_met.Given as goal
 
--- no provider so far is a member that the atom matches
-abbrev pub invariant-loop-number : goal.invariant-loop-number
-invariant-loop-number l = IsNoneMatched l.repo l.members l.atom l.providers l.number-index
+-- no package so far is a member
+abbrev pub invariant-loop-offer : goal.invariant-loop-offer
+invariant-loop-offer l = IsNoMember l.members l.offers l.offer-index

@@ -1,8 +1,7 @@
-use Rattle.dist_repo.specs.Match.{Matches}
 use Rattle.dist_now.proofs.AddsLemmas.{AddsUpTo}
-use Rattle.dist_now.proofs.NumberLemmas.{IsAtAnd}
+use Rattle.dist_now.proofs.MatchedLemmas.{IsNumberAt}
 use Rattle.dist_now.proofs.numbers.add_matched.Given as goal
 
--- the providers so far that the atom matches were added
-abbrev pub invariant-loop-number : goal.invariant-loop-number
-invariant-loop-number l = AddsUpTo l.initial.numbers.items l.numbers.items (IsAtAnd l.repo l.providers (Matches l.repo.architecture l.atom)) l.number-index
+-- the packages of the offers so far were added
+abbrev pub invariant-loop-offer : goal.invariant-loop-offer
+invariant-loop-offer l = AddsUpTo l.initial.numbers.items l.numbers.items (IsNumberAt l.offers) l.offer-index
