@@ -65,6 +65,15 @@ none-of r flags name Q providers count past are provides none any =
     let Member : ℕ → Type 0 = λ n. IsMemberAnd r.packages flags n Q in
     none there.0 (omega (arith, there.1)) (subst Member (sym is) (record { member = m.member; has = m.has }))
 
+abbrev pub IsNoneMatched : PackageList → List Bool → Atom → List ℕ → ℕ → Type 0
+IsNoneMatched r flags atom = IsNoneOf r flags (Matches r.architecture atom)
+
+pub none-matched : (r : PackageList) (flags : List Bool) (atom : Atom) (providers : List ℕ) (count : ℕ) → length providers ≤ count
+    → AreProviders r atom.name providers → IsNoneMatched r flags atom providers count →
+    ¬ Any (Matches r.architecture atom) (members_of r.packages flags)
+none-matched r flags atom providers count past are none =
+    none-of r flags atom.name (Matches r.architecture atom) providers count past are (matched-provides r.architecture atom) none
+
 -- of this name
 abbrev pub IsNamed : List ℕ → Package → Type 0
 IsNamed name q = q.name ≡ name
@@ -73,6 +82,13 @@ pub none-named : (r : PackageList) (flags : List Bool) (name : List ℕ) (provid
     → AreProviders r name providers → IsNoneOf r flags (IsNamed name) providers count →
     ¬ Any (IsNamed name) (members_of r.packages flags)
 none-named r flags name providers count past are none = none-of r flags name (IsNamed name) providers count past are (λ p is. inl is) none
+
+-- a provider that is a member and that the atom matches
+pub provider-any : (r : PackageList) (flags : List Bool) (atom : Atom) (number : ℕ) (p : Package) → slice_get flags number ≡ Some true
+    → slice_get r.packages number ≡ Some p
+    → Matches r.architecture atom p → Any (Matches r.architecture atom) (members_of r.packages flags)
+provider-any r flags atom number p member here matches =
+    member-any (Matches r.architecture atom) r.packages flags number member (at-has (Matches r.architecture atom) r.packages number p here matches)
 
 -- some member meets an alternative
 abbrev pub IsMetBy : PackageList → List Bool → Atom → Type 0

@@ -57,6 +57,16 @@ pub adds-not : (r : PackageList) (providers : List ℕ) (P : Package → Type 0)
 adds-not r providers P i p numbers is none =
     adds-nothing numbers (IsAtAnd r providers P i) (λ x at. none (has-at P r.packages x p (ap (λ (n : ℕ). slice_get r.packages n) (sym at.0) ∙ is) at.1))
 
+pub adds-here : (r : PackageList) (providers : List ℕ) (P : Package → Type 0) (i : ℕ) (numbers : List ℕ)
+    → IsPackageAnd r.packages (get_or providers i 0) P → Adds numbers (numbers ++ get_or providers i 0 ∷ []) (IsAtAnd r providers P i)
+adds-here r providers P i numbers here =
+    adds-one numbers (get_or providers i 0) (IsAtAnd r providers P i) (refl, here) (λ x at. at.0)
+
+pub adds-never : (r : PackageList) (providers : List ℕ) (P : Package → Type 0) (i : ℕ) (numbers : List ℕ)
+    → ¬ IsPackageAnd r.packages (get_or providers i 0) P → Adds numbers numbers (IsAtAnd r providers P i)
+adds-never r providers P i numbers none =
+    adds-nothing numbers (IsAtAnd r providers P i) (λ x at. none (subst (λ (k : ℕ). IsPackageAnd r.packages k P) (sym at.0) at.1))
+
 -- all providers were gone through
 pub adds-all : (r : PackageList) (name : List ℕ) (providers : List ℕ) (P : Package → Type 0) (count : ℕ) (old new : List ℕ) → length providers ≤ count
     → AreProviders r name providers

@@ -2,6 +2,7 @@
 ghost use Rattle.std.specs.Prelude.{◌≡◌, ◌<◌, ◌↔◌, true, Any, Some, IsTrue, length, slice_get};
 ghost use Rattle.dist_repo.specs.Healthy.{IsMet};
 ghost use Rattle.dist_repo.specs.Match.{Matches};
+ghost use Rattle.dist_repo.specs.Providers.{AreProviders};
 ghost use Rattle.dist_now.specs.Fit.{IsOneEach};
 ghost use Rattle.dist_now.specs.Members.{members_of};
 
@@ -18,8 +19,22 @@ pub(crate) fn is_member(repo: &Repository, members: &Assignment, number: u32) ->
     number < repo.len() && members.value(number + 1)
 }
 
-/// Whether a member matches an atom.
-fn is_alternative_met(repo: &Repository, members: &Assignment, atom: &Atom) -> bool
+/// Whether a member matches an atom without a bound: it is looked for among the providers of the name, of which each stands once.
+fn is_provider_met(repo: &Repository, members: &Assignment, atom: &Atom, providers: &[u32]) -> bool
+    requires one_each { IsOneEach repo.now members.now }
+    requires providers { AreProviders repo.now atom.now.name providers.now }
+    ensures { IsTrue result ↔ Any (Matches repo.now.architecture atom.now) (members_of repo.now.packages members.now) }
+{
+    for number in providers {
+        if is_member(repo, members, *number) && repo.matches(atom, repo.package(*number)) {
+            return true;
+        }
+    }
+    false
+}
+
+/// Whether a member matches an atom: it is looked for among the offers that meet the bound.
+fn is_offer_met(repo: &Repository, members: &Assignment, atom: &Atom) -> bool
     requires { IsOneEach repo.now members.now }
     ensures { IsTrue result ↔ Any (Matches repo.now.architecture atom.now) (members_of repo.now.packages members.now) }
 {
@@ -30,6 +45,18 @@ fn is_alternative_met(repo: &Repository, members: &Assignment, atom: &Atom) -> b
         }
     }
     false
+}
+
+/// Whether a member matches an atom.
+fn is_alternative_met(repo: &Repository, members: &Assignment, atom: &Atom) -> bool
+    requires { IsOneEach repo.now members.now }
+    ensures { IsTrue result ↔ Any (Matches repo.now.architecture atom.now) (members_of repo.now.packages members.now) }
+{
+    if atom.bound.is_some() {
+        return is_offer_met(repo, members, atom);
+    }
+    let providers = repo.providers(atom.name.bytes());
+    is_provider_met(repo, members, atom, providers)
 }
 
 /// Whether a member matches an alternative of an item.

@@ -3,7 +3,7 @@ ghost use Rattle.std.specs.Prelude.{◌≡◌, ◌≢◌, ◌<◌, ◌≤◌, �
 ghost use Rattle.std.specs.List.Sorted.{IsStrictlyIncreasing};
 ghost use Rattle.dist_repo.specs.Match.{IsUsable, Matches};
 ghost use Rattle.dist_repo.specs.PackageList.{IsPackageAnd};
-ghost use Rattle.dist_repo.specs.Providers.{IsProvider};
+ghost use Rattle.dist_repo.specs.Providers.{AreProviders, IsProvider};
 ghost use Rattle.dist_now.specs.GatheringPrivate.{Adds};
 ghost use Rattle.dist_now.specs.PresentClauses.{AreNumbersOf, IsMetBy};
 
@@ -56,8 +56,30 @@ pub(crate) fn matches_provider(repo: &Repository, atom: &Atom, number: u32) -> b
     repo.matches(atom, repo.package(number))
 }
 
-/// Adds the packages that an atom matches.
-fn add_matched(repo: &Repository, atom: &Atom, numbers: &mut Vec<u32>) -> Result<(), AllocError>
+/// Adds the packages that an atom matches, of the providers of its name.
+fn add_provided(
+    repo: &Repository,
+    atom: &Atom,
+    providers: &[u32],
+    numbers: &mut Vec<u32>,
+) -> Result<(), AllocError>
+    requires { AreProviders repo.now atom.now.name providers.now }
+    ensures { OnOk result (Adds numbers.old.items numbers.new.items (λ k. IsPackageAnd repo.now.packages k (Matches repo.now.architecture atom.now))) }
+{
+    // A qualifier that is not usable is looked at once, and not for each provider.
+    if !repo.usable(&atom.qualifier) {
+        return Ok(());
+    }
+    for number in providers {
+        if matches_provider(repo, atom, *number) {
+            numbers.push(*number)?;
+        }
+    }
+    Ok(())
+}
+
+/// Adds the packages that an atom matches, by the offers that meet its bound.
+fn add_offered(repo: &Repository, atom: &Atom, numbers: &mut Vec<u32>) -> Result<(), AllocError>
     ensures { OnOk result (Adds numbers.old.items numbers.new.items (λ k. IsPackageAnd repo.now.packages k (Matches repo.now.architecture atom.now))) }
 {
     let offers = repo.matched(atom);
@@ -65,6 +87,17 @@ fn add_matched(repo: &Repository, atom: &Atom, numbers: &mut Vec<u32>) -> Result
         numbers.push(offer.number)?;
     }
     Ok(())
+}
+
+/// Adds the packages that an atom matches. Where it has no bound these are the providers of its name, each of which stands once.
+fn add_matched(repo: &Repository, atom: &Atom, numbers: &mut Vec<u32>) -> Result<(), AllocError>
+    ensures { OnOk result (Adds numbers.old.items numbers.new.items (λ k. IsPackageAnd repo.now.packages k (Matches repo.now.architecture atom.now))) }
+{
+    if atom.bound.is_some() {
+        return add_offered(repo, atom, numbers);
+    }
+    let providers = repo.providers(atom.name.bytes());
+    add_provided(repo, atom, providers, numbers)
 }
 
 /// Puts numbers in order, each once, where they are more than a limit, so that alternatives that match the same packages

@@ -1,5 +1,5 @@
 use Rattle.dist_now.proofs.MatchedLemmas.{IsNoMember}
-use Rattle.dist_now.proofs.members.is_alternative_met.Given as goal
+use Rattle.dist_now.proofs.members.is_offer_met.Given as goal
 
 -- no package so far is a member
 abbrev pub invariant-loop-offer : goal.invariant-loop-offer

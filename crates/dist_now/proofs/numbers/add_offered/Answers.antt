@@ -1,7 +1,7 @@
 use Rattle.std.proofs.Common.{◌++◌, ◌∷◌, []}
 use Rattle.dist_now.proofs.AddsLemmas.{adds-more}
 use Rattle.dist_now.proofs.MatchedLemmas.{IsNumberAt, adds-number, matched-all, offer_at, offer-is}
-use Rattle.dist_now.proofs.numbers.add_matched.Goals as goal
+use Rattle.dist_now.proofs.numbers.add_offered.Goals as goal
 
 pub loop-offer-preserved : goal.loop-offer-preserved
 loop-offer-preserved c =

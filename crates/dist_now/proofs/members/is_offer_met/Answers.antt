@@ -1,6 +1,6 @@
 use Rattle.std.proofs.Common.{refl}
 use Rattle.dist_now.proofs.MatchedLemmas.{matched-within, member-matched, none-met, none-more, offer_at, offer-is}
-use Rattle.dist_now.proofs.members.is_alternative_met.Goals as goal
+use Rattle.dist_now.proofs.members.is_offer_met.Goals as goal
 
 pub is_member-requires-clause-number : goal.is_member-requires-clause-number
 is_member-requires-clause-number c =
