@@ -109,6 +109,8 @@ ROWS = {
         "".join(stanza(f"p{k}", more="Provides: x\n") for k in range(n)) + stanza("q", more="Depends: " + " | ".join(["x"] * (n // 20)) + "\n"))),
     "the clauses of so many essential packages of one name": (40_000, lambda n: clauses(
         "".join(stanza("a", k, "Essential: yes\n") for k in range(n)), "essential")),
+    "the clauses of as many on a package with as many entries": (40_000, lambda n: clauses(
+        stanza("q", more="Provides: " + ", ".join(["a"] * (n // 2)) + "\n") + "".join(stanza(f"p{k}", more="Depends: a\n") for k in range(n // 2)))),
     "more clauses than may be": (40_000, lambda n: clauses("".join(stanza(f"p{k}", more="Provides: x\nConflicts: x\n") for k in range(n)))),
     "one false hint told again and again": (100_000, lambda n: checked(*hints(n))),
     "one line of so many numbers": (6_000_000, lambda n: checked(*wide_line(n))),

@@ -13,6 +13,7 @@ pub mod SetLemmas
 pub mod ModelLemmas
 pub mod AddsLemmas
 pub mod AskedLemmas
+pub mod MatchedLemmas
 pub mod NumberLemmas
 pub mod VersionLemmas
 pub mod PairLemmas

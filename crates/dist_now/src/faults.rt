@@ -47,7 +47,7 @@ fn unmet_item(
     ensures { IsLeastIfAny (IsUnmetItem repo.now members.now «package».now.depends) result }
 {
     for place in 0..package.depends.len() {
-        if !is_met(repo, members, number, place, package.depends.get(place)) {
+        if !is_met(repo, members, package.depends.get(place)) {
             // An item has an atom, so the place is less than the number of atoms.
             return Some(place as u32);
         }

@@ -4,7 +4,7 @@ ghost use Rattle.dist_repo.specs.Healthy.{IsMet};
 ghost use Rattle.dist_repo.specs.Match.{Matches};
 ghost use Rattle.dist_repo.specs.Providers.{AreProviders};
 ghost use Rattle.dist_now.specs.Fit.{IsOneEach};
-ghost use Rattle.dist_now.specs.Members.{IsItemAt, members_of};
+ghost use Rattle.dist_now.specs.Members.{members_of};
 
 use dist_clause::Assignment;
 use dist_relation::{Alternatives, Atom, Name};
@@ -19,13 +19,8 @@ pub(crate) fn is_member(repo: &Repository, members: &Assignment, number: u32) ->
     number < repo.len() && members.value(number + 1)
 }
 
-/// Whether a member matches the alternative at a place of an item.
-fn is_alternative_met(
-    repo: &Repository,
-    members: &Assignment,
-    atom: &Atom,
-    providers: &[u32],
-) -> bool
+/// Whether a member matches an atom without a bound: it is looked for among the providers of the name, of which each stands once.
+fn is_provider_met(repo: &Repository, members: &Assignment, atom: &Atom, providers: &[u32]) -> bool
     requires one_each { IsOneEach repo.now members.now }
     requires providers { AreProviders repo.now atom.now.name providers.now }
     ensures { IsTrue result ↔ Any (Matches repo.now.architecture atom.now) (members_of repo.now.packages members.now) }
@@ -38,23 +33,40 @@ fn is_alternative_met(
     false
 }
 
-/// Whether a member matches an alternative of the item at a place of a package.
-pub(crate) fn is_met(
-    repo: &Repository,
-    members: &Assignment,
-    number: u32,
-    item: usize,
-    alternatives: &Alternatives,
-) -> bool
-    requires one_each { IsOneEach repo.now members.now }
-    requires item { IsItemAt repo.now.packages number item alternatives.now }
+/// Whether a member matches an atom: it is looked for among the offers that meet the bound.
+fn is_offer_met(repo: &Repository, members: &Assignment, atom: &Atom) -> bool
+    requires { IsOneEach repo.now members.now }
+    ensures { IsTrue result ↔ Any (Matches repo.now.architecture atom.now) (members_of repo.now.packages members.now) }
+{
+    let offers = repo.matched(atom);
+    for offer in offers {
+        if is_member(repo, members, offer.number) {
+            return true;
+        }
+    }
+    false
+}
+
+/// Whether a member matches an atom.
+fn is_alternative_met(repo: &Repository, members: &Assignment, atom: &Atom) -> bool
+    requires { IsOneEach repo.now members.now }
+    ensures { IsTrue result ↔ Any (Matches repo.now.architecture atom.now) (members_of repo.now.packages members.now) }
+{
+    if atom.bound.is_some() {
+        return is_offer_met(repo, members, atom);
+    }
+    let providers = repo.providers(atom.name.bytes());
+    is_provider_met(repo, members, atom, providers)
+}
+
+/// Whether a member matches an alternative of an item.
+pub(crate) fn is_met(repo: &Repository, members: &Assignment, alternatives: &Alternatives) -> bool
+    requires { IsOneEach repo.now members.now }
     ensures some { 0 < length alternatives.now }
     ensures met { IsTrue result ↔ IsMet repo.now.architecture (members_of repo.now.packages members.now) alternatives.now }
 {
     for place in 0..alternatives.len() {
-        let atom = alternatives.get(place);
-        let providers = repo.alternative_providers(number, item, place);
-        if is_alternative_met(repo, members, atom, providers) {
+        if is_alternative_met(repo, members, alternatives.get(place)) {
             return true;
         }
     }

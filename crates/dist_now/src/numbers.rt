@@ -4,8 +4,7 @@ ghost use Rattle.std.specs.List.Sorted.{IsStrictlyIncreasing};
 ghost use Rattle.dist_repo.specs.Match.{IsUsable, Matches};
 ghost use Rattle.dist_repo.specs.PackageList.{IsPackageAnd};
 ghost use Rattle.dist_repo.specs.Providers.{AreProviders, IsProvider};
-ghost use Rattle.dist_now.specs.GatheringPrivate.{Adds, IsMatchedAt};
-ghost use Rattle.dist_now.specs.Members.{IsItemAt};
+ghost use Rattle.dist_now.specs.GatheringPrivate.{Adds};
 ghost use Rattle.dist_now.specs.PresentClauses.{AreNumbersOf, IsMetBy};
 
 use crate::asked::AskedAtoms;
@@ -57,8 +56,8 @@ pub(crate) fn matches_provider(repo: &Repository, atom: &Atom, number: u32) -> b
     repo.matches(atom, repo.package(number))
 }
 
-/// Adds the packages that an atom matches.
-fn add_matched(
+/// Adds the packages that an atom matches, of the providers of its name.
+fn add_provided(
     repo: &Repository,
     atom: &Atom,
     providers: &[u32],
@@ -79,22 +78,26 @@ fn add_matched(
     Ok(())
 }
 
-/// Adds the packages that the alternative at a place of an item matches.
-fn add_alternative(
-    repo: &Repository,
-    number: u32,
-    item: usize,
-    place: usize,
-    alternatives: &Alternatives,
-    numbers: &mut Vec<u32>,
-) -> Result<(), AllocError>
-    requires item { IsItemAt repo.now.packages number item alternatives.now }
-    requires place { place < length alternatives.now }
-    ensures { OnOk result (Adds numbers.old.items numbers.new.items (IsMatchedAt repo.now alternatives.now place)) }
+/// Adds the packages that an atom matches, by the offers that meet its bound.
+fn add_offered(repo: &Repository, atom: &Atom, numbers: &mut Vec<u32>) -> Result<(), AllocError>
+    ensures { OnOk result (Adds numbers.old.items numbers.new.items (λ k. IsPackageAnd repo.now.packages k (Matches repo.now.architecture atom.now))) }
 {
-    let atom = alternatives.get(place);
-    let providers = repo.alternative_providers(number, item, place);
-    add_matched(repo, atom, providers, numbers)
+    let offers = repo.matched(atom);
+    for offer in offers {
+        numbers.push(offer.number)?;
+    }
+    Ok(())
+}
+
+/// Adds the packages that an atom matches. Where it has no bound these are the providers of its name, each of which stands once.
+fn add_matched(repo: &Repository, atom: &Atom, numbers: &mut Vec<u32>) -> Result<(), AllocError>
+    ensures { OnOk result (Adds numbers.old.items numbers.new.items (λ k. IsPackageAnd repo.now.packages k (Matches repo.now.architecture atom.now))) }
+{
+    if atom.bound.is_some() {
+        return add_offered(repo, atom, numbers);
+    }
+    let providers = repo.providers(atom.name.bytes());
+    add_provided(repo, atom, providers, numbers)
 }
 
 /// Puts numbers in order, each once, where they are more than a limit, so that alternatives that match the same packages
@@ -109,24 +112,22 @@ fn thin(numbers: &mut Vec<u32>, limit: usize) -> usize
     numbers.len().saturating_mul(2).max(limit)
 }
 
-/// Gathers the packages that meet the item at a place of a package.
+/// Gathers the packages that meet an item.
 pub(crate) fn gather_meeting(
     repo: &Repository,
-    number: u32,
-    item: usize,
     alternatives: &Alternatives,
     numbers: &mut Vec<u32>,
 ) -> Result<(), AllocError>
-    requires { IsItemAt repo.now.packages number item alternatives.now }
     ensures { OnOk result (AreNumbersOf repo.now (IsMetBy repo.now.architecture alternatives.now) numbers.new.items) }
 {
     numbers.clear();
     let mut asked = AskedAtoms::new(*numbers.allocator());
     let mut limit = MANY;
     for place in 0..alternatives.len() {
-        let is_repeated = asked.note(alternatives.get(place), alternatives.len())?;
+        let atom = alternatives.get(place);
+        let is_repeated = asked.note(atom, alternatives.len())?;
         if !is_repeated {
-            add_alternative(repo, number, item, place, alternatives, numbers)?;
+            add_matched(repo, atom, numbers)?;
             limit = thin(numbers, limit);
         }
     }

@@ -74,13 +74,7 @@ fn push_item(
     ensures ok { OnOk result (IsFront repo.now (Item number (place + 1)) set.old set.new) }
     ensures err { IfErr result (IsCauseAt repo.now false set.old) }
 {
-    if let Err(AllocError) = gather_meeting(
-        repo,
-        number,
-        place,
-        alternatives,
-        &mut scratch.numbers,
-    ) {
+    if let Err(AllocError) = gather_meeting(repo, alternatives, &mut scratch.numbers) {
         return Err(PushError::NoMemory);
     }
     if scratch.numbers.as_slice().contains(&number) {

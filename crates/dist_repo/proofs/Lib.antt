@@ -3,6 +3,8 @@ pub mod Search
 pub mod HeldLemmas
 pub mod NameSearch
 pub mod OrderLemmas
+pub mod OfferLemmas
+pub mod EdgeLemmas
 pub mod IndexLemmas
 pub mod TallyLemmas
 pub mod NotedLemmas

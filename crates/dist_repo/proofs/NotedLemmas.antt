@@ -1,161 +1,146 @@
 -- What is noted of one package, and of all packages so far.
-use Rattle.std.proofs.Common.{◌≡◌, ◌↔◌, ◌⊎◌, ℕ, zero, suc, ◌+◌, ◌<◌, ◌≤◌, List, [], ◌∷◌, ◌++◌, length, get_or, take, Some, Option, refl, sym, ap, subst, ◌∙◌}
+use Rattle.std.proofs.Common.{◌≡◌, ◌↔◌, ◌⊎◌, ℕ, ◌+◌, ◌<◌, ◌≤◌, List, [], length, Some, Option, sym, subst}
 use Rattle.std.proofs.Common.{arith, inl, inr, slice_get}
-use Rattle.std.specs.Prelude.{Any, Contains, IsSomeAnd}
+use Rattle.std.specs.Prelude.{Contains, IsSomeAnd}
 use Rattle.std.proofs.lemmas.Bool.{cases_lt}
-use Rattle.std.proofs.lemmas.List.{take_more}
-use Rattle.std.proofs.lemmas.List.Elements.{Contains-append_left, Contains-push, Contains-push_cases}
-use Rattle.std.proofs.lemmas.Option.{get_or_from_slice_get}
-use Rattle.dist_base.specs.ListLaws.{any-contained, within-from}
+use Rattle.dist_base.specs.ListLaws.{at-has, has-at, within-from}
 use Rattle.dist_relation.specs.declared.atom.Provide.{Provide}
 use Rattle.dist_repo.specs.Match.{IsUsable}
+use Rattle.dist_repo.specs.Offers.{IsOfferAt}
 use Rattle.dist_repo.specs.PackageList.{IsPackageAnd}
-use Rattle.dist_repo.specs.Providers.{IsEntryOf, IsProvider}
-use Rattle.dist_repo.specs.TallyPrivate.{numbers_at, IsTallyOf, Notes, NotesEach}
+use Rattle.dist_repo.specs.Providers.{IsEntryOf}
+use Rattle.dist_repo.specs.TallyPrivate.{offers_at, IsTallyOf, Notes, NotesEach}
+use Rattle.dist_repo.specs.declared.offers.Offer.{Offer}
 use Rattle.dist_repo.specs.declared.package.Package.{Package}
-use Rattle.dist_repo.proofs.Search.{stands-at}
 
 abbrev Entries : Type 0
-Entries = List (List ℕ × List ℕ)
-
--- ---- some of the first elements
-
-pub some-within : {X : Type 0} (xs : List X) (k : ℕ) (x : X) → slice_get xs k ≡ Some x → k < length xs
-some-within {X} xs k x is =
-    let Here : Option X → Type 0 = λ o. IsSomeAnd o (λ y. y ≡ x) in
-    (stands-at (λ y. y ≡ x) xs k x (subst Here (sym is) refl)).within
-
-pub any-take : {X : Type 0} (P : X → Type 0) (xs : List X) (k : ℕ) (x : X) → slice_get xs k ≡ Some x → Any P (take (k + 1) xs) ↔ (Any P (take k xs) ⊎ P x)
-any-take {X} P xs k x is =
-    let short = some-within xs k x is in
-    let here : get_or xs k x ≡ x = get_or_from_slice_get xs k x x is in
-    let more : take (k + 1) xs ≡ take k xs ++ x ∷ [] = take_more xs k x short ∙ ap (λ y. take k xs ++ y ∷ []) here in
-    let Some_of : List X → Type 0 = λ ys. Any P ys in (
-      (λ any.
-          let pushed = subst Some_of more any in
-          elim (Contains-push_cases (take k xs) x pushed.1 (pushed.0, pushed.2, pushed.3)) [
-            | inl h ↦ inl (any-contained P (take k xs) pushed.1 h pushed.4)
-            | inr h ↦ inr (subst P (sym h) pushed.4)
-          ]),
-      λ either. subst Some_of (sym more) (elim either [
-        | inl any ↦ any-contained P (take k xs ++ x ∷ []) any.1 (Contains-append_left (take k xs) (x ∷ []) any.1 (any.0, any.2, any.3)) any.4
-        | inr h ↦ any-contained P (take k xs ++ x ∷ []) x (Contains-push (take k xs) x) h
-      ]),
-    )
-
-take-all : {X : Type 0} (k : ℕ) (xs : List X) → length xs ≤ k → take k xs ≡ xs
-take-all zero [] past = refl
-take-all zero (x ∷ xs) past = absurd (omega arith)
-take-all (suc k) [] past = refl
-take-all (suc k) (x ∷ xs) past = ap (λ ys. x ∷ ys) (take-all k xs (omega arith))
+Entries = List (List ℕ × List Offer)
 
 -- ---- one package
 
-pub bound-after : (a b : Entries) (P : List ℕ → Type 0) (n : ℕ) → NotesEach a b P n → ((q : List ℕ) (k : ℕ) → Contains (numbers_at a q) k → k ≤ n) →
-    (q : List ℕ) (k : ℕ) → Contains (numbers_at b q) k → k ≤ n
-bound-after a b P n notes bound q k there = elim ((notes q k).0 there) [ inl h ↦ bound q k h | inr h ↦ omega (arith, h.1) ]
+pub bound-after : (a b : Entries) (P : List ℕ → ℕ → Type 0) (n : ℕ) → NotesEach a b P n
+    → ((q : List ℕ) (offer : Offer) → Contains (offers_at a q) offer → offer.number ≤ n)
+    → (q : List ℕ) (offer : Offer) → Contains (offers_at b q) offer → offer.number ≤ n
+bound-after a b P n notes bound q offer there = elim ((notes q offer).0 there) [ inl h ↦ bound q offer h | inr h ↦ omega (arith, h.1) ]
 
-each-iff : (a b : Entries) (P Q : List ℕ → Type 0) (n : ℕ) → ((q : List ℕ) → P q ↔ Q q) → NotesEach a b P n → NotesEach a b Q n
-each-iff a b P Q n same notes q k = (
-  (λ there. elim ((notes q k).0 there) [ inl h ↦ inl h | inr h ↦ inr ((same q).0 h.0, h.1) ]),
-  λ either. (notes q k).1 (elim either [ inl h ↦ inl h | inr h ↦ inr ((same q).1 h.0, h.1) ]),
+each-iff : (a b : Entries) (P Q : List ℕ → ℕ → Type 0) (n : ℕ) → ((q : List ℕ) (k : ℕ) → P q k ↔ Q q k) → NotesEach a b P n → NotesEach a b Q n
+each-iff a b P Q n same notes q offer = (
+  (λ there. elim ((notes q offer).0 there) [ inl h ↦ inl h | inr h ↦ inr ((same q offer.place).0 h.0, h.1) ]),
+  λ either. (notes q offer).1 (elim either [ inl h ↦ inl h | inr h ↦ inr ((same q offer.place).1 h.0, h.1) ]),
 )
 
-each-more : (a b c : Entries) (P Q : List ℕ → Type 0) (n : ℕ) → NotesEach a b P n → NotesEach b c Q n → NotesEach a c (λ q. P q ⊎ Q q) n
-each-more a b c P Q n first second q k = (
-  (λ there. elim ((second q k).0 there) [
-    | inl h ↦ elim ((first q k).0 h) [ inl g ↦ inl g | inr g ↦ inr (inl g.0, g.1) ]
+each-more : (a b c : Entries) (P Q : List ℕ → ℕ → Type 0) (n : ℕ) → NotesEach a b P n → NotesEach b c Q n → NotesEach a c (λ q k. P q k ⊎ Q q k) n
+each-more a b c P Q n first second q offer = (
+  (λ there. elim ((second q offer).0 there) [
+    | inl h ↦ elim ((first q offer).0 h) [ inl g ↦ inl g | inr g ↦ inr (inl g.0, g.1) ]
     | inr h ↦ inr (inr h.0, h.1)
   ]),
-  λ either. (second q k).1 (elim either [
-    | inl h ↦ inl ((first q k).1 (inl h))
-    | inr h ↦ elim h.0 [ inl g ↦ inl ((first q k).1 (inr (g, h.1))) | inr g ↦ inr (g, h.1) ]
+  λ either. (second q offer).1 (elim either [
+    | inl h ↦ inl ((first q offer).1 (inl h))
+    | inr h ↦ elim h.0 [ inl g ↦ inl ((first q offer).1 (inr (g, h.1))) | inr g ↦ inr (g, h.1) ]
   ]),
 )
 
--- the package has the name, or one of its first entries is of it
-abbrev pub IsProviderBy : Option (List ℕ) → Package → ℕ → List ℕ → Type 0
-IsProviderBy architecture p count q = (p.name ≡ q) ⊎ Any (IsEntryOf architecture q) (take count p.provides)
+-- the package offers the name by its own, or by one of its first entries
+abbrev pub IsOfferBy : Option (List ℕ) → Package → ℕ → List ℕ → ℕ → Type 0
+IsOfferBy architecture p count q k = ((k ≡ length p.provides) × (p.name ≡ q))
+    ⊎ ((k < count) × IsSomeAnd (slice_get p.provides k) (IsEntryOf architecture q))
 
-pub each-name : (a b : Entries) (architecture : Option (List ℕ)) (p : Package) (name : List ℕ) (n : ℕ) → name ≡ p.name → Notes a b name n
-    → NotesEach a b (IsProviderBy architecture p 0) n
-each-name a b architecture p name n is notes = each-iff a b (λ q. q ≡ name) (IsProviderBy architecture p 0) n (λ q. (
-  (λ same. inl (sym (same ∙ is))),
-  λ either. elim either [ inl h ↦ sym (is ∙ h) | inr any ↦ absurd (omega (arith, any.2)) ],
-)) notes
+pub each-name : (a b : Entries) (architecture : Option (List ℕ)) (p : Package) (n : ℕ) → Notes a b p.name n (length p.provides)
+    → NotesEach a b (IsOfferBy architecture p 0) n
+each-name a b architecture p n notes =
+    each-iff a b (λ q k. (q ≡ p.name) × (k ≡ length p.provides)) (IsOfferBy architecture p 0) n (λ q k. (
+      (λ both. inl (both.1, sym both.0)),
+      λ either. elim either [ inl h ↦ (sym h.1, h.0) | inr h ↦ absurd (omega (arith, h.0)) ],
+    )) notes
 
-pub each-usable : (a b c : Entries) (architecture : Option (List ℕ)) (p : Package) (place : ℕ) (entry : Provide) (name : List ℕ) (n : ℕ)
-    → slice_get p.provides place ≡ Some entry → name ≡ entry.name →
-    IsUsable architecture entry.qualifier → NotesEach a b (IsProviderBy architecture p place) n → Notes b c name n
-    → NotesEach a c (IsProviderBy architecture p (place + 1)) n
-each-usable a b c architecture p place entry name n here is usable before notes =
-    each-iff a c (λ q. IsProviderBy architecture p place q ⊎ (q ≡ name)) (IsProviderBy architecture p (place + 1)) n (λ q.
-    let taken = any-take (IsEntryOf architecture q) p.provides place entry here in (
+pub each-usable : (a b c : Entries) (architecture : Option (List ℕ)) (p : Package) (place : ℕ) (entry : Provide) (n : ℕ)
+    → slice_get p.provides place ≡ Some entry → IsUsable architecture entry.qualifier → NotesEach a b (IsOfferBy architecture p place) n
+    → Notes b c entry.name n place → NotesEach a c (IsOfferBy architecture p (place + 1)) n
+each-usable a b c architecture p place entry n here usable before notes =
+    each-iff a c (λ q k. IsOfferBy architecture p place q k ⊎ ((q ≡ entry.name) × (k ≡ place))) (IsOfferBy architecture p (place + 1)) n (λ q k.
+    let Of : ℕ → Type 0 = λ j. IsSomeAnd (slice_get p.provides j) (IsEntryOf architecture q) in (
       (λ either. elim either [
-        | inl h ↦ elim h [ inl g ↦ inl g | inr any ↦ inr (taken.1 (inl any)) ]
-        | inr same ↦ inr (taken.1 (inr (usable, sym (same ∙ is))))
+        | inl h ↦ elim h [ inl g ↦ inl g | inr g ↦ inr (omega (arith, g.0), g.1) ]
+        | inr same ↦ inr (
+          omega (arith, same.1),
+          subst Of (sym same.1) (at-has (IsEntryOf architecture q) p.provides place entry here (usable, sym same.0)),
+        )
       ]),
       λ either. elim either [
         | inl g ↦ inl (inl g)
-        | inr any ↦ elim (taken.0 any) [ inl h ↦ inl (inr h) | inr h ↦ inr (sym (is ∙ h.1)) ]
+        | inr h ↦ elim (cases_lt k place) [
+          | inl less ↦ inl (inr (less, h.1))
+          | inr most ↦
+              let same : k ≡ place = omega (arith, h.0) in
+              let at = has-at (IsEntryOf architecture q) p.provides place entry here (subst Of same h.1) in
+              inr (sym at.1, same)
+        ]
       ],
-    )) (each-more a b c (IsProviderBy architecture p place) (λ q. q ≡ name) n before notes)
+    )) (each-more a b c (IsOfferBy architecture p place) (λ q k. (q ≡ entry.name) × (k ≡ place)) n before notes)
 
 pub each-unusable : (a b : Entries) (architecture : Option (List ℕ)) (p : Package) (place : ℕ) (entry : Provide) (n : ℕ)
-    → slice_get p.provides place ≡ Some entry →
-    ¬ IsUsable architecture entry.qualifier → NotesEach a b (IsProviderBy architecture p place) n → NotesEach a b (IsProviderBy architecture p (place + 1)) n
+    → slice_get p.provides place ≡ Some entry → ¬ IsUsable architecture entry.qualifier → NotesEach a b (IsOfferBy architecture p place) n
+    → NotesEach a b (IsOfferBy architecture p (place + 1)) n
 each-unusable a b architecture p place entry n here unusable before =
-    each-iff a b (IsProviderBy architecture p place) (IsProviderBy architecture p (place + 1)) n (λ q.
-    let taken = any-take (IsEntryOf architecture q) p.provides place entry here in (
-      (λ either. elim either [ inl g ↦ inl g | inr any ↦ inr (taken.1 (inl any)) ]),
+    each-iff a b (IsOfferBy architecture p place) (IsOfferBy architecture p (place + 1)) n (λ q k.
+    let Of : ℕ → Type 0 = λ j. IsSomeAnd (slice_get p.provides j) (IsEntryOf architecture q) in (
+      (λ either. elim either [ inl g ↦ inl g | inr g ↦ inr (omega (arith, g.0), g.1) ]),
       λ either. elim either [
         | inl g ↦ inl g
-        | inr any ↦ elim (taken.0 any) [ inl h ↦ inr h | inr h ↦ absurd (unusable h.0) ]
+        | inr h ↦ elim (cases_lt k place) [
+          | inl less ↦ inr (less, h.1)
+          | inr most ↦
+              let same : k ≡ place = omega (arith, h.0) in
+              let at = has-at (IsEntryOf architecture q) p.provides place entry here (subst Of same h.1) in
+              absurd (unusable at.0)
+        ]
       ],
     )) before
 
 pub each-all : (a b : Entries) (architecture : Option (List ℕ)) (p : Package) (place n : ℕ) → length p.provides ≤ place
-    → NotesEach a b (IsProviderBy architecture p place) n →
-    NotesEach a b (λ q. IsProvider architecture q p) n
+    → NotesEach a b (IsOfferBy architecture p place) n → NotesEach a b (λ q k. IsOfferAt architecture q p k) n
 each-all a b architecture p place n past notes =
-    each-iff a b (IsProviderBy architecture p place) (λ q. IsProvider architecture q p) n (λ q.
-    let whole : take place p.provides ≡ p.provides = take-all place p.provides past in
-    let Some_of : List Provide → Type 0 = λ entries. Any (IsEntryOf architecture q) entries in (
-      (λ either. elim either [ inl g ↦ inl g | inr any ↦ inr (subst Some_of whole any) ]),
-      λ either. elim either [ inl g ↦ inl g | inr any ↦ inr (subst Some_of (sym whole) any) ],
+    each-iff a b (IsOfferBy architecture p place) (λ q k. IsOfferAt architecture q p k) n (λ q k. (
+      (λ either. elim either [ inl g ↦ inl g | inr g ↦ inr g.1 ]),
+      λ either. elim either [
+        | inl g ↦ inl g
+        | inr g ↦ inr (let short = within-from (IsEntryOf architecture q) p.provides k g in omega (arith, short, past), g)
+      ],
     )) notes
 
 -- ---- all packages so far
 
 abbrev pub IsTallyBelow : Option (List ℕ) → List Package → ℕ → Entries → Type 0
-IsTallyBelow architecture packages number tally =
-    (q : List ℕ) (k : ℕ) → Contains (numbers_at tally q) k ↔ ((k < number) × IsPackageAnd packages k (IsProvider architecture q))
+IsTallyBelow architecture packages number tally = (q : List ℕ) (offer : Offer) → Contains (offers_at tally q) offer
+    ↔ ((offer.number < number) × IsPackageAnd packages offer.number (λ p. IsOfferAt architecture q p offer.place))
 
 pub tally-none : (architecture : Option (List ℕ)) (packages : List Package) → IsTallyBelow architecture packages 0 []
-tally-none architecture packages q k = ((λ there. absurd (omega (arith, there.1))), λ both. absurd (omega (arith, both.0)))
+tally-none architecture packages q offer = ((λ there. absurd (omega (arith, there.1))), λ both. absurd (omega (arith, both.0)))
 
 pub tally-more : (architecture : Option (List ℕ)) (packages : List Package) (number : ℕ) (p : Package) (a b : Entries) → slice_get packages number ≡ Some p →
-    IsTallyBelow architecture packages number a → NotesEach a b (λ q. IsProvider architecture q p) number → IsTallyBelow architecture packages (number + 1) b
-tally-more architecture packages number p a b here before notes q k =
-    let Here : Option Package → Type 0 = λ o. IsSomeAnd o (IsProvider architecture q) in
-    let At : ℕ → Type 0 = λ n. IsPackageAnd packages n (IsProvider architecture q) in (
-      (λ there. elim ((notes q k).0 there) [
-        | inl h ↦ let both = (before q k).0 h in (omega (arith, both.0), both.1)
-        | inr h ↦ (omega (arith, h.1), subst At (sym h.1) (subst Here (sym here) h.0))
+    IsTallyBelow architecture packages number a → NotesEach a b (λ q k. IsOfferAt architecture q p k) number → IsTallyBelow architecture packages (number + 1) b
+tally-more architecture packages number p a b here before notes q offer =
+    let Of : Package → Type 0 = λ x. IsOfferAt architecture q x offer.place in
+    let At : ℕ → Type 0 = λ n. IsPackageAnd packages n Of in (
+      (λ there. elim ((notes q offer).0 there) [
+        | inl h ↦ let both = (before q offer).0 h in (omega (arith, both.0), both.1)
+        | inr h ↦ (omega (arith, h.1), subst At (sym h.1) (at-has Of packages number p here h.0))
       ]),
-      λ both. (notes q k).1 (elim (cases_lt k number) [
-        | inl h ↦ inl ((before q k).1 (h, both.1))
-        | inr h ↦ let same : k ≡ number = omega (arith, both.0) in inr (subst Here here (subst At same both.1), same)
+      λ both. (notes q offer).1 (elim (cases_lt offer.number number) [
+        | inl h ↦ inl ((before q offer).1 (h, both.1))
+        | inr h ↦ let same : offer.number ≡ number = omega (arith, both.0) in inr (has-at Of packages number p here (subst At same both.1), same)
       ]),
     )
 
 pub tally-all : (architecture : Option (List ℕ)) (packages : List Package) (number : ℕ) (tally : Entries) → length packages ≤ number
     → IsTallyBelow architecture packages number tally → IsTallyOf architecture packages tally
-tally-all architecture packages number tally past below q k = (
-  (λ there. ((below q k).0 there).1),
-  λ here. (below q k).1 (let at = within-from (IsProvider architecture q) packages k here in omega (arith, at), here),
+tally-all architecture packages number tally past below q offer = (
+  (λ there. ((below q offer).0 there).1),
+  λ here. (below q offer).1
+      (let at = within-from (λ p. IsOfferAt architecture q p offer.place) packages offer.number here in omega (arith, at, past), here),
 )
 
 pub below-bound : (architecture : Option (List ℕ)) (packages : List Package) (number : ℕ) (tally : Entries) → IsTallyBelow architecture packages number tally →
-    (q : List ℕ) (k : ℕ) → Contains (numbers_at tally q) k → k ≤ number
-below-bound architecture packages number tally below q k there = omega (arith, ((below q k).0 there).0)
+    (q : List ℕ) (offer : Offer) → Contains (offers_at tally q) offer → offer.number ≤ number
+below-bound architecture packages number tally below q offer there = let both = (below q offer).0 there in omega (arith, both.0)

@@ -1,67 +1,19 @@
--- What is noted of who provides a name.
-use Rattle.std.proofs.Common.{◌≡◌, ◌≢◌, ◌↔◌, ◌⊎◌, ℕ, ◌+◌, ◌-◌, ◌<◌, ◌≤◌, Bool, true, false, cond, List, [], ◌∷◌, ◌++◌, length, get_or, Some, Option, refl, sym}
-use Rattle.std.proofs.Common.{ap, subst, ◌∙◌, arith, inl, inr, nat_cmp, length-append, unwrap_or}
+-- What is noted of who offers a name.
+use Rattle.std.proofs.Common.{◌≡◌, ◌≢◌, ◌↔◌, ◌⊎◌, ℕ, Bool, true, false, cond, List, [], ◌∷◌, ◌++◌, Some, Option, refl, sym}
+use Rattle.std.proofs.Common.{ap, subst, ◌∙◌, inl, inr, nat_cmp, unwrap_or}
 use Rattle.std.specs.Prelude.{Contains}
 use Rattle.std.specs.BTreeMap.{is_at}
 use Rattle.std.specs.Cmp.Lexicographic.{slice_cmp}
-use Rattle.std.specs.List.Sorted.{IsStrictlyIncreasing}
 use Rattle.std.specs.Map.{lookup}
-use Rattle.std.proofs.lemmas.Bool.{cases_lt, false≢true}
-use Rattle.std.proofs.lemmas.List.{get_or_push, get_or_append_left, get_or_default}
+use Rattle.std.proofs.lemmas.Bool.{false≢true}
 use Rattle.std.proofs.lemmas.List.Elements.{Contains-append_left, Contains-push, Contains-push_cases}
 use Rattle.std.proofs.lemmas.Map.Text.{is_eq-slice_cmp}
 use Rattle.std.proofs.lemmas.Slice.Eq.{bytes_eq-Decides}
-use Rattle.dist_repo.specs.TallyPrivate.{numbers_at, EndsWith, Notes, NotesNumber}
-
--- ---- numbers
-
-pub increasing-push : (xs : List ℕ) (y : ℕ) → IsStrictlyIncreasing xs → ((k : ℕ) → Contains xs k → k ≤ y) → ¬ EndsWith xs y
-    → IsStrictlyIncreasing (xs ++ y ∷ [])
-increasing-push xs y rising bound other k short =
-    let total : length (xs ++ y ∷ []) ≡ length xs + 1 = length-append xs (y ∷ []) in
-    elim (cases_lt (k + 1) (length xs)) [
-      | inl h ↦
-          let left = get_or_append_left xs (y ∷ []) 0 k (omega arith) in
-          let right = get_or_append_left xs (y ∷ []) 0 (k + 1) h in
-          omega (arith, rising k h)
-      | inr h ↦
-          let at : length xs ≡ k + 1 = omega arith in
-          let left = get_or_append_left xs (y ∷ []) 0 k (omega arith) in
-          let right = get_or_push xs y 0 (k + 1) at in
-          let here : k < length xs = omega arith in
-          let there : Contains xs (get_or xs k 0) = (k, here, get_or_default xs k (get_or xs k 0) 0 here) in
-          let most = bound (get_or xs k 0) there in
-          let last : k ≡ length xs - 1 = omega arith in
-          let differs : get_or xs k 0 ≢ y = λ e. other (omega arith, let P : ℕ → Type 0 = λ n. get_or xs n 0 ≡ y in subst P last e) in
-          omega arith
-    ]
-
-pub notes-pushed : (xs : List ℕ) (y : ℕ) → NotesNumber xs (xs ++ y ∷ []) y
-notes-pushed xs y k = (
-  (λ there. elim (Contains-push_cases xs y k there) [ inl h ↦ inl h | inr h ↦ inr (sym h) ]),
-  λ either. elim either [
-    | inl h ↦ Contains-append_left xs (y ∷ []) k h
-    | inr h ↦ let P : ℕ → Type 0 = λ n. Contains (xs ++ y ∷ []) n in subst P (sym h) (Contains-push xs y)
-  ],
-)
-
-pub notes-known : (xs : List ℕ) (y : ℕ) → EndsWith xs y → NotesNumber xs xs y
-notes-known xs y last k = (
-  (λ there. inl there),
-  λ either. elim either [
-    | inl h ↦ h
-    | inr h ↦
-        let P : ℕ → Type 0 = λ n. Contains xs n in
-        let short : length xs - 1 < length xs = omega (arith, last.0) in
-        let there : Contains xs y = (length xs - 1, short, get_or_default xs (length xs - 1) y 0 short ∙ last.1) in
-        subst P (sym h) there
-  ],
-)
-
--- ---- beside a name
+use Rattle.dist_repo.specs.TallyPrivate.{offers_at, Notes}
+use Rattle.dist_repo.specs.declared.offers.Offer.{Offer}
 
 abbrev Entries : Type 0
-Entries = List (List ℕ × List ℕ)
+Entries = List (List ℕ × List Offer)
 
 abbrev At : List ℕ → List ℕ → Bool
 At = λ name. is_at (slice_cmp nat_cmp name)
@@ -72,35 +24,52 @@ at-same name q is = sym ((bytes_eq-Decides name q).0 (sym (is_eq-slice_cmp name 
 at-other : (name q : List ℕ) → At name q ≡ false → q ≢ name
 at-other name q is same = false≢true (sym is ∙ is_eq-slice_cmp name q ∙ (bytes_eq-Decides name q).1 (sym same))
 
-notes-case : (b : Bool) (t n : Entries) (name q : List ℕ) (number : ℕ) (w : List ℕ) → At name q ≡ b →
-    lookup (At q) n ≡ cond b (Some w) (lookup (At q) t) → NotesNumber (numbers_at t name) w number →
-    (k : ℕ) → Contains (numbers_at n q) k ↔ (Contains (numbers_at t q) k ⊎ ((q ≡ name) × (k ≡ number)))
-notes-case true t n name q number w is found notes k =
+-- one offer more at the end of some
+added : (offers : List Offer) (made offer : Offer) → Contains (offers ++ made ∷ []) offer
+    ↔ (Contains offers offer ⊎ ((offer.place ≡ made.place) × (offer.number ≡ made.number)))
+added offers made offer = (
+  (λ there. elim (Contains-push_cases offers made offer there) [
+    | inl h ↦ inl h
+    | inr h ↦ inr (ap (λ (o : Offer). o.place) (sym h), ap (λ (o : Offer). o.number) (sym h))
+  ]),
+  λ either. elim either [
+    | inl h ↦ Contains-append_left offers (made ∷ []) offer h
+    | inr h ↦
+        let same : offer ≡ made = (λ i. record { number = h.1 i; place = h.0 i }) in
+        subst (λ (o : Offer). Contains (offers ++ made ∷ []) o) (sym same) (Contains-push offers made)
+  ],
+)
+
+notes-case : (b : Bool) (t n : Entries) (name q : List ℕ) (made : Offer) (w : List Offer) → At name q ≡ b
+    → lookup (At q) n ≡ cond b (Some w) (lookup (At q) t) → w ≡ offers_at t name ++ made ∷ []
+    → (offer : Offer) → Contains (offers_at n q) offer
+    ↔ (Contains (offers_at t q) offer ⊎ (((q ≡ name) × (offer.place ≡ made.place)) × (offer.number ≡ made.number)))
+notes-case true t n name q made w is found now offer =
     let here : q ≡ name = at-same name q is in
-    let now : numbers_at n q ≡ w = ap (λ (o : Option (List ℕ)). unwrap_or o []) found in
-    let before : numbers_at t q ≡ numbers_at t name = ap (numbers_at t) here in
-    let In : List ℕ → Type 0 = λ xs. Contains xs k in (
-      (λ there. elim ((notes k).0 (subst In now there)) [
-        | inl h ↦ inl (subst In (sym before) h)
-        | inr h ↦ inr (here, h)
+    let all : offers_at n q ≡ offers_at t q ++ made ∷ [] = ap (λ (o : Option (List Offer)). unwrap_or o []) found ∙ now
+    ∙ ap (λ (x : List ℕ). offers_at t x ++ made ∷ []) (sym here) in
+    let In : List Offer → Type 0 = λ xs. Contains xs offer in (
+      (λ there. elim ((added (offers_at t q) made offer).0 (subst In all there)) [
+        | inl h ↦ inl h
+        | inr h ↦ inr ((here, h.0), h.1)
       ]),
-      λ either. elim either [
-        | inl h ↦ subst In (sym now) ((notes k).1 (inl (subst In before h)))
-        | inr h ↦ subst In (sym now) ((notes k).1 (inr h.1))
-      ],
+      λ either. subst In (sym all) ((added (offers_at t q) made offer).1 (elim either [
+        | inl h ↦ inl h
+        | inr h ↦ inr (h.0.1, h.1)
+      ])),
     )
-notes-case false t n name q number w is found notes k =
-    let same : numbers_at n q ≡ numbers_at t q = ap (λ (o : Option (List ℕ)). unwrap_or o []) found in
-    let In : List ℕ → Type 0 = λ xs. Contains xs k in (
+notes-case false t n name q made w is found now offer =
+    let same : offers_at n q ≡ offers_at t q = ap (λ (o : Option (List Offer)). unwrap_or o []) found in
+    let In : List Offer → Type 0 = λ xs. Contains xs offer in (
       (λ there. inl (subst In same there)),
       λ either. elim either [
         | inl h ↦ subst In (sym same) h
-        | inr h ↦ absurd (at-other name q is h.0)
+        | inr h ↦ absurd (at-other name q is h.0.0)
       ],
     )
 
--- what the map has beside each name, after the numbers of one name were written
-pub notes-updated : (t n : Entries) (name : List ℕ) (number : ℕ) (w : List ℕ) →
+-- what the map has beside each name, after an offer was added to those of one name
+pub notes-updated : (t n : Entries) (name : List ℕ) (made : Offer) (w : List Offer) →
     ((q : List ℕ) → lookup (is_at (slice_cmp nat_cmp q)) n ≡ cond (is_at (slice_cmp nat_cmp name) q) (Some w) (lookup (is_at (slice_cmp nat_cmp q)) t)) →
-    NotesNumber (numbers_at t name) w number → Notes t n name number
-notes-updated t n name number w updates notes q k = notes-case (At name q) t n name q number w refl (updates q) notes k
+    w ≡ offers_at t name ++ made ∷ [] → Notes t n name made.number made.place
+notes-updated t n name made w updates now q offer = notes-case (At name q) t n name q made w refl (updates q) now offer

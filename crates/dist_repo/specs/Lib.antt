@@ -7,6 +7,8 @@ pub mod Match
 pub mod Order
 pub mod PackageList
 pub mod Providers
+pub mod Offers
+pub mod EdgesPrivate
 pub mod Strong
 pub mod Size
 pub mod TotalLaws

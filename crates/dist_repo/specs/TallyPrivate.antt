@@ -1,36 +1,35 @@
--- Who provides which name, while the packages are gone through.
-use Rattle.std.specs.Prelude.{◌≡◌, ◌⊎◌, ◌↔◌, ℕ, ◌-◌, ◌<◌, List, [], Option, Contains, length, slice_index, unwrap_or}
+-- Who offers which name, while the packages are gone through.
+use Rattle.std.specs.Prelude.{◌≡◌, ◌⊎◌, ◌↔◌, ℕ, List, [], Option, Any, Contains, unwrap_or}
 use Rattle.std.specs.BTreeMap.{is_at}
 use Rattle.std.specs.Cmp.Lexicographic.{slice_cmp}
+use Rattle.std.specs.List.Sorted.{IsStrictlyIncreasing}
 use Rattle.std.specs.Map.{lookup}
 use Rattle.std.specs.Ordering.{nat_cmp}
+use Rattle.dist_repo.specs.Offers.{IsOfferAt}
 use Rattle.dist_repo.specs.PackageList.{IsPackageAnd}
-use Rattle.dist_repo.specs.Providers.{IsProvider}
+use Rattle.dist_repo.specs.declared.offers.Offer.{Offer}
 use Rattle.dist_repo.specs.declared.package.Package.{Package}
 
--- the numbers beside a name
-abbrev pub numbers_at : List (List ℕ × List ℕ) → List ℕ → List ℕ
-numbers_at tally name = unwrap_or (lookup (is_at (slice_cmp nat_cmp name)) tally) []
+-- the offers beside a name
+abbrev pub offers_at : List (List ℕ × List Offer) → List ℕ → List Offer
+offers_at tally name = unwrap_or (lookup (is_at (slice_cmp nat_cmp name)) tally) []
 
--- the number is the last one
-abbrev pub EndsWith : List ℕ → ℕ → Type 0
-EndsWith numbers number = (0 < length numbers) × (slice_index numbers (length numbers - 1) ≡ number)
+-- more offers of a package beside some names, each at its places
+abbrev pub NotesEach : (old new : List (List ℕ × List Offer)) (P : List ℕ → ℕ → Type 0) (number : ℕ) → Type 0
+NotesEach old new P number = (q : List ℕ) (offer : Offer) → Contains (offers_at new q) offer
+    ↔ (Contains (offers_at old q) offer ⊎ (P q offer.place × (offer.number ≡ number)))
 
--- one number more, unless it was there
-abbrev pub NotesNumber : (old new : List ℕ) (number : ℕ) → Type 0
-NotesNumber old new number = (k : ℕ) → Contains new k ↔ (Contains old k ⊎ (k ≡ number))
+-- one offer more beside one name
+abbrev pub Notes : (old new : List (List ℕ × List Offer)) (name : List ℕ) (number place : ℕ) → Type 0
+Notes old new name number place = NotesEach old new (λ q k. (q ≡ name) × (k ≡ place)) number
 
--- one number more beside each name of some
-abbrev pub NotesEach : (old new : List (List ℕ × List ℕ)) (P : List ℕ → Type 0) (number : ℕ) → Type 0
-NotesEach old new P number = (q : List ℕ) (k : ℕ) → Contains (numbers_at new q) k
-    ↔ (Contains (numbers_at old q) k ⊎ (P q × (k ≡ number)))
-
--- one number more beside one name
-abbrev pub Notes : (old new : List (List ℕ × List ℕ)) (name : List ℕ) (number : ℕ) → Type 0
-Notes old new name number = NotesEach old new (λ q. q ≡ name) number
-
--- beside each name are the numbers of exactly those packages that have or provide it
-abbrev pub IsTallyOf : (architecture : Option (List ℕ)) (packages : List Package) (tally : List (List ℕ × List ℕ))
+-- beside each name are exactly the offers of it
+abbrev pub IsTallyOf : (architecture : Option (List ℕ)) (packages : List Package) (tally : List (List ℕ × List Offer))
     → Type 0
-IsTallyOf architecture packages tally = (q : List ℕ) (k : ℕ) → Contains (numbers_at tally q) k
-    ↔ IsPackageAnd packages k (IsProvider architecture q)
+IsTallyOf architecture packages tally = (q : List ℕ) (offer : Offer) → Contains (offers_at tally q) offer
+    ↔ IsPackageAnd packages offer.number (λ p. IsOfferAt architecture q p offer.place)
+
+-- the numbers are those of the packages of some offers, rising
+pub record AreNumbersOf (numbers : List ℕ) (offers : List Offer) : Type 0 where
+  pub rising : IsStrictlyIncreasing numbers
+  pub exact : (k : ℕ) → Contains numbers k ↔ Any (λ offer. offer.number ≡ k) offers

@@ -6,11 +6,13 @@
 #![tactic(auto)]
 
 mod builder;
+mod edges;
 mod key;
 mod laws;
 mod matching;
 mod name_key;
 mod names;
+mod offers;
 mod package;
 mod prefix;
 mod repository;
@@ -20,5 +22,6 @@ mod tally;
 pub use builder::{AddError, Added, Builder};
 pub use laws::{each_stands_once, latest_is_one};
 pub use name_key::NameKey;
+pub use offers::Offer;
 pub use package::Package;
 pub use repository::Repository;

@@ -4,14 +4,16 @@ ghost use Rattle.std.specs.Cmp.Lexicographic.{slice_cmp};
 ghost use Rattle.std.specs.List.Sorted.{IsStrictlySortedBy};
 ghost use Rattle.std.specs.Ordering.{nat_cmp};
 
+use crate::offers::Offer;
 use dist_base::Flat;
 use std::cmp::Ordering;
 
-/// A table of names in order, with the numbers that belong to each.
+/// A table of names in order. Beside each stand the numbers of its providers, and their offers in the order of versions.
 #[derive(Drop)]
 pub(crate) struct NameIndex {
     pub(crate) names: Flat<u8>,
     pub(crate) numbers: Flat<u32>,
+    pub(crate) offers: Flat<Offer>,
 }
 
 /// The place of a name among names that rise in the order of their bytes.

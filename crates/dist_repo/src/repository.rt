@@ -5,14 +5,17 @@ ghost use Rattle.dist_relation.specs.declared.atom.Atom.{Atom};
 ghost use Rattle.dist_repo.specs.Conflict.{AreInConflict};
 ghost use Rattle.dist_repo.specs.LatestPrivate.{is_last_of_name, last_of_names};
 ghost use Rattle.dist_repo.specs.Match.{IsUsable, Matches};
+ghost use Rattle.dist_repo.specs.Offers.{AreMatched};
 ghost use Rattle.dist_repo.specs.Order.{key_cmp, IsFlat, IsInOrder, IsLatestOf};
 ghost use Rattle.dist_repo.specs.PackageList.{IsAlternativeAt, IsConflictAt};
 ghost use Rattle.dist_repo.specs.Providers.{AreProviders, IsPackageAt};
 ghost use Rattle.dist_repo.specs.Size.{IsWithinSize};
 
+use crate::edges::meeting;
 use crate::key::{Key, compare};
 use crate::matching;
 use crate::names::{NameIndex, place_of};
+use crate::offers::Offer;
 use crate::package::Package;
 use crate::size::has_few_relations;
 use crate::tally::tally_of;
@@ -28,7 +31,7 @@ use std::marker::Model;
 pub struct Repository {
     architecture: Option<Name>,
     packages: Vec<Key>,
-    /// The names that packages have or provide, and the numbers of the providers of each.
+    /// The names that packages have or provide, the numbers of the providers of each, and what they offer.
     index: NameIndex,
 }
 
@@ -40,7 +43,7 @@ impl Model for Repository {
 
     ghost view = { λ r. record { architecture = r.architecture; packages = r.packages.items } };
 
-    ghost invariant = { λ r. IsRepository (record { architecture = r.architecture; packages = r.packages.items }) r.index.names r.index.numbers };
+    ghost invariant = { λ r. IsRepository (record { architecture = r.architecture; packages = r.packages.items }) r.index.names r.index.numbers r.index.offers };
 }
 
 impl Repository {
@@ -54,7 +57,7 @@ impl Repository {
         requires few { length packages.items < 2 ^ 32 }
         ensures { IfOk result (λ r. r ≡ record { architecture = architecture; packages = packages.items }) }
     {
-        let index = tally_of(alloc, &architecture, &packages)?.flattened()?;
+        let index = tally_of(alloc, &architecture, &packages)?.flattened(&packages)?;
         Ok(Repository {
             architecture,
             packages,
@@ -137,6 +140,19 @@ impl Repository {
         ensures { IsTrue result ↔ Matches self.now.architecture atom.now «package».now }
     {
         matching::matches(&self.architecture, atom, package)
+    }
+
+    /// What packages offer of the name of an atom and it matches: the packages are those that it matches.
+    pub fn matched(&self, atom: &Atom) -> &[Offer]
+        ensures { AreMatched self.now atom.now result.now }
+    {
+        if !self.usable(&atom.qualifier) {
+            return &[];
+        }
+        match place_of(&self.index.names, atom.name.bytes()) {
+            Some(place) => meeting(&self.packages, self.index.offers.get(place), &atom.bound),
+            None => &[],
+        }
     }
 
     /// Whether two packages are in conflict.

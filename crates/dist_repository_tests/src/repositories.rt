@@ -1,4 +1,6 @@
 //! What the repository of a file answers: worked rows, and cases of Debian Policy 7.1 to 7.5.
+ghost use Rattle.std.specs.Prelude.{◌<◌, length};
+
 use dist_package::read_packages;
 use dist_relation::Atom;
 use dist_repo::{Package, Repository, each_stands_once, latest_is_one};
@@ -159,6 +161,18 @@ fn conflict(repository: &Repository, first: &Package, second: &Package) -> Optio
     Some(answer)
 }
 
+/// Whether an atom matches y, if both calls that tell it agree.
+fn matches_y(repository: &Repository, atom: &Atom) -> Option<bool>
+    requires { 1 < length repository.now.packages }
+{
+    let answer = repository.matches(atom, repository.package(1));
+    let is_found = repository.matched(atom).iter().any(|offer| offer.number == 1);
+    if is_found != answer {
+        return None;
+    }
+    Some(answer)
+}
+
 /// The answer of a repository.
 fn answer(repository: &Repository, question: Question) -> Option<bool> {
     if repository.len() < 2 {
@@ -166,7 +180,7 @@ fn answer(repository: &Repository, question: Question) -> Option<bool> {
     }
     let (a, y) = (repository.package(0), repository.package(1));
     match question {
-        Question::Matches => Some(repository.matches(first_atom(a)?, y)),
+        Question::Matches => matches_y(repository, first_atom(a)?),
         Question::Usable => Some(repository.usable(&first_atom(a)?.qualifier)),
         Question::Conflict => conflict(repository, a, y),
     }

@@ -4,24 +4,13 @@ use Rattle.dist_now.proofs.Places.{none-at-more, none-any}
 use Rattle.dist_now.proofs.MemberLemmas.{IsMetBy}
 use Rattle.dist_now.proofs.members.is_met.Goals as goal
 
-pub is_alternative_met-requires-clause-providers : goal.is_alternative_met-requires-clause-providers
-is_alternative_met-requires-clause-providers c =
-    c.alternative_providers-providers.ensures c.get-atom.result.now
-    (record {
-      holder = c.requires.item.holder;
-      alternatives = c.args.alternatives.now;
-      is_holder = c.requires.item.is_holder;
-      is_item = c.requires.item.is_item;
-      is_atom = c.get-atom.ensures;
-    })
-
 pub returns-then-is_alternative_met-clause-met : goal.returns-then-is_alternative_met-clause-met
 returns-then-is_alternative_met-clause-met c =
-    (λ _. any-at _ c.args.alternatives.now c.loop-place.place c.get-atom.result.now c.get-atom.ensures (c.if-is_alternative_met.ensures.0 refl), λ _. refl)
+    (λ _. any-at _ c.args.alternatives.now c.loop-place.place c.get.result.now c.get.ensures (c.if-is_alternative_met.ensures.0 refl), λ _. refl)
 
 pub loop-place-preserved : goal.loop-place-preserved
 loop-place-preserved c =
-    none-at-more (IsMetBy c.args.repo.now c.args.members.now) c.args.alternatives.now c.loop-place.place c.get-atom.result.now c.get-atom.ensures
+    none-at-more (IsMetBy c.args.repo.now c.args.members.now) c.args.alternatives.now c.loop-place.place c.get.result.now c.get.ensures
     c.loop-place.invariant
     (λ any. let is = c.if-is_alternative_met.ensures.1 any in cc)
 

@@ -1,4 +1,4 @@
-use Rattle.std.proofs.Common.{arith, refl}
+use Rattle.std.proofs.Common.{arith}
 use Rattle.dist_now.proofs.AddsLemmas.{adds-more, adds-repeated}
 use Rattle.dist_now.proofs.AskedLemmas.{asked-earlier, asked-more}
 use Rattle.dist_now.proofs.PairLemmas.{IsRejectedAt, rejected-all, rejected-at}

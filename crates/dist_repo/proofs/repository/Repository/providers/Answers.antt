@@ -6,9 +6,10 @@ use Rattle.dist_repo.proofs.repository.Repository.providers.Goals as goal
 
 pub returns-in-Some : goal.returns-in-Some
 returns-in-Some c =
+    let index = c.self.inside.index in
     let Provided : PackageList → Type 0 = λ r. AreProviders r c.args.name.now c.get.result.now in
-    subst Provided c.self.view_is (provided-at _ c.self.inside.index.names c.self.inside.index.numbers c.in-Some.place c.args.name.now c.get.result.now
-    c.self.invariant.index c.in-Some.ensures c.get.ensures)
+    subst Provided c.self.view_is (provided-at _ index.names index.numbers index.offers c.in-Some.place c.args.name.now
+    c.self.invariant.index c.in-Some.ensures c.get.result.now c.get.ensures)
 
 pub returns-in-None : goal.returns-in-None
 returns-in-None c =

@@ -1,50 +1,79 @@
 use Rattle.std.proofs.Common.{◌≡◌, ◌++◌, ◌∷◌, [], List, ℕ, nat_cmp, sym, ap, subst, ◌∙◌}
 use Rattle.std.specs.Cmp.Lexicographic.{slice_cmp}
+use Rattle.std.specs.List.{AllZip}
 use Rattle.std.specs.List.Sorted.{IsStrictlySortedBy}
 use Rattle.std.specs.Map.{keys_of, values_of}
 use Rattle.std.proofs.lemmas.List.{append-nil}
+use Rattle.dist_repo.specs.Offers.{IsOrderOf}
+use Rattle.dist_repo.specs.TallyPrivate.{AreNumbersOf}
+use Rattle.dist_repo.specs.declared.offers.Offer.{Offer}
 use Rattle.dist_repo.proofs.FlatTally.{IsFlattened, flattened-none, flattened-more}
 use Rattle.dist_repo.proofs.tally.Tally.flattened.Goals as goal
 
+abbrev Entries : Type 0
+Entries = List (List ℕ × List Offer)
+
 pub loop-key-init : goal.loop-key-init
 loop-key-init c =
-    let left : c.into_iter-key-iterator.result ≡ c.args.self.now = cc in
-    let Left : List (List ℕ × List ℕ) → Type 0 = λ entries. IsFlattened c.args.self.now entries [] [] in
-    let Names : List (List ℕ) → Type 0 = λ names. IsFlattened c.args.self.now c.into_iter-key-iterator.result names [] in
-    let Numbers : List (List ℕ) → Type 0 = λ numbers. IsFlattened c.args.self.now c.into_iter-key-iterator.result c.new-names.result numbers in
-    subst Numbers (sym c.new-numbers.ensures) (subst Names (sym c.new-names.ensures) (subst Left (sym left) (flattened-none c.args.self.now)))
+    let packages = c.args.packages.now in
+    let tally = c.args.self.now in
+    let left : c.into_iter-key-iterator.result ≡ tally = cc in
+    let Left : Entries → Type 0 = λ entries. IsFlattened packages tally entries [] [] [] in
+    let Names : List (List ℕ) → Type 0 = λ names. IsFlattened packages tally c.into_iter-key-iterator.result names [] [] in
+    let Numbers : List (List ℕ) → Type 0 = λ numbers. IsFlattened packages tally c.into_iter-key-iterator.result c.new-names.result numbers [] in
+    let Offers : List (List Offer) → Type 0 = λ offers. IsFlattened packages tally c.into_iter-key-iterator.result c.new-names.result c.new-numbers.result
+    offers in
+    subst Offers (sym c.new-offers.ensures)
+    (subst Numbers (sym c.new-numbers.ensures) (subst Names (sym c.new-names.ensures) (subst Left (sym left) (flattened-none packages tally))))
 
 pub loop-key-preserved : goal.loop-key-preserved
 loop-key-preserved c =
+    let packages = c.args.packages.now in
+    let tally = c.args.self.now in
     let name = c.in-Some.key.now in
     let list = c.in-Some.list.now in
-    let names : c.push.new.self ≡ c.loop-key.names ++ name ∷ [] = c.in_ok-push.ensures.ok
+    let some_numbers = c.write_numbers.new.numbers.items in
+    let some_offers = c.write_order.new.ordered.items in
+    let names_is : c.push.new.self ≡ c.loop-key.names ++ name ∷ [] = c.in_ok-push.ensures.ok
     ∙ ap (λ (x : List ℕ). c.loop-key.names ++ x ∷ []) (c.bytes.ensures.value ∙ c.name.ensures) in
-    let numbers : c.push-in-loop-key.new.self ≡ c.loop-key.numbers ++ list ∷ [] = c.in_ok-push-2.ensures.ok
-    ∙ ap (λ (x : List ℕ). c.loop-key.numbers ++ x ∷ []) c.as_slice.ensures.value in
-    let Left : List (List ℕ × List ℕ) → Type 0 = λ entries. IsFlattened c.args.self.now entries c.loop-key.names c.loop-key.numbers in
-    let Names : List (List ℕ) → Type 0 = λ lists. IsFlattened c.args.self.now c.next.new.self lists (c.loop-key.numbers ++ list ∷ []) in
-    let Numbers : List (List ℕ) → Type 0 = λ lists. IsFlattened c.args.self.now c.next.new.self c.push.new.self lists in
-    subst Numbers (sym numbers) (subst Names (sym names)
-    (flattened-more c.args.self.now c.next.new.self c.loop-key.names c.loop-key.numbers name list (subst Left c.in-Some.ensures.steps c.loop-key.invariant)
-    c.as_slice.ensures.rising))
+    let numbers_is : c.push-in-loop-key.new.self ≡ c.loop-key.numbers ++ some_numbers ∷ [] = c.in_ok-push-2.ensures.ok
+    ∙ ap (λ (x : List ℕ). c.loop-key.numbers ++ x ∷ []) c.deref.ensures.value in
+    let offers_is : c.push-in-loop-key-2.new.self ≡ c.loop-key.offers ++ some_offers ∷ [] = c.in_ok-push-3.ensures.ok
+    ∙ ap (λ (x : List Offer). c.loop-key.offers ++ x ∷ []) c.deref-in-loop-key.ensures.value in
+    let Left : Entries → Type 0 = λ entries. IsFlattened packages tally entries c.loop-key.names c.loop-key.numbers c.loop-key.offers in
+    let Names : List (List ℕ) → Type 0 = λ names. IsFlattened packages tally c.next.new.self names (c.loop-key.numbers ++ some_numbers ∷ [])
+    (c.loop-key.offers ++ some_offers ∷ []) in
+    let Numbers : List (List ℕ) → Type 0 = λ numbers. IsFlattened packages tally c.next.new.self c.push.new.self numbers
+    (c.loop-key.offers ++ some_offers ∷ []) in
+    let Offers : List (List Offer) → Type 0 = λ offers. IsFlattened packages tally c.next.new.self c.push.new.self c.push-in-loop-key.new.self offers in
+    subst Offers (sym offers_is) (subst Numbers (sym numbers_is) (subst Names (sym names_is)
+    (flattened-more packages tally c.next.new.self c.loop-key.names c.loop-key.numbers c.loop-key.offers name list some_numbers some_offers
+    (subst Left c.in-Some.ensures.steps c.loop-key.invariant)
+    (subst (AreNumbersOf some_numbers) c.as_slice.ensures.value c.in_ok-write_numbers.ensures)
+    (subst (IsOrderOf packages some_offers) c.as_slice-in-loop-key.ensures.value c.in_ok-write_order.ensures))))
 
 pub returns-clause-names : goal.returns-clause-names
 returns-clause-names c =
-    let none = ap (λ (entries : List (List ℕ × List ℕ)). c.loop-key.names ++ keys_of entries) c.in-None.ensures.steps.0 in
+    let none = ap (λ (entries : Entries). c.loop-key.names ++ keys_of entries) c.in-None.ensures.steps.0 in
     sym (append-nil c.loop-key.names) ∙ sym none ∙ c.loop-key.invariant.names_so_far
-
-pub returns-clause-numbers : goal.returns-clause-numbers
-returns-clause-numbers c =
-    let none = ap (λ (entries : List (List ℕ × List ℕ)). c.loop-key.numbers ++ values_of entries) c.in-None.ensures.steps.0 in
-    sym (append-nil c.loop-key.numbers) ∙ sym none ∙ c.loop-key.invariant.numbers_so_far
 
 pub returns-clause-in_order : goal.returns-clause-in_order
 returns-clause-in_order c =
     let Sorted : List (List ℕ) → Type 0 = λ names. IsStrictlySortedBy (slice_cmp nat_cmp) names in
-    let none = ap (λ (entries : List (List ℕ × List ℕ)). c.loop-key.names ++ keys_of entries) c.in-None.ensures.steps.0 in
+    let none = ap (λ (entries : Entries). c.loop-key.names ++ keys_of entries) c.in-None.ensures.steps.0 in
     let names = sym (append-nil c.loop-key.names) ∙ sym none ∙ c.loop-key.invariant.names_so_far in
-    subst Sorted (sym (names ∙ sym (ap (λ (entries : List (List ℕ × List ℕ)). keys_of entries) c.self.view_is))) c.iter-key-items.ensures.ordered
+    subst Sorted (sym (names ∙ sym (ap (λ (entries : Entries). keys_of entries) c.self.view_is))) c.iter-key-items.ensures.ordered
 
-pub returns-clause-rising : goal.returns-clause-rising
-returns-clause-rising c = c.loop-key.invariant.rising
+pub returns-clause-numbers : goal.returns-clause-numbers
+returns-clause-numbers c =
+    let gone = c.loop-key.invariant.gone in
+    let none = ap (λ (entries : Entries). gone ++ values_of entries) c.in-None.ensures.steps.0 in
+    let Of : List (List Offer) → Type 0 = λ lists. AllZip AreNumbersOf c.loop-key.numbers lists in
+    subst Of (sym (append-nil gone) ∙ sym none ∙ c.loop-key.invariant.offers_so_far) c.loop-key.invariant.numbers_are
+
+pub returns-clause-offers : goal.returns-clause-offers
+returns-clause-offers c =
+    let gone = c.loop-key.invariant.gone in
+    let none = ap (λ (entries : Entries). gone ++ values_of entries) c.in-None.ensures.steps.0 in
+    let Of : List (List Offer) → Type 0 = λ lists. AllZip (IsOrderOf c.args.packages.now) c.loop-key.offers lists in
+    subst Of (sym (append-nil gone) ∙ sym none ∙ c.loop-key.invariant.offers_so_far) c.loop-key.invariant.offers_are

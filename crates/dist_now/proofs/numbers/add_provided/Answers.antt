@@ -6,8 +6,8 @@ use Rattle.dist_repo.specs.PackageList.{IsPackageAnd}
 use Rattle.dist_now.proofs.AddsLemmas.{adds-more, adds-nothing}
 use Rattle.dist_now.proofs.MemberLemmas.{matched-provides}
 use Rattle.dist_now.proofs.NumberLemmas.{IsAtAnd, adds-all, adds-here, adds-never, provider-at}
-use Rattle.dist_now.proofs.numbers.add_matched.Goals.{then-matches_provider+in_ok-push, else-matches_provider}
-use Rattle.dist_now.proofs.numbers.add_matched.Goals as goal
+use Rattle.dist_now.proofs.numbers.add_provided.Goals.{then-matches_provider+in_ok-push, else-matches_provider}
+use Rattle.dist_now.proofs.numbers.add_provided.Goals as goal
 
 pub returns-then-not-usable : goal.returns-then-not-usable
 returns-then-not-usable c =

@@ -1,5 +1,5 @@
 use Rattle.dist_now.proofs.MemberLemmas.{IsNoneMatched}
-use Rattle.dist_now.proofs.members.is_alternative_met.Given as goal
+use Rattle.dist_now.proofs.members.is_provider_met.Given as goal
 
 -- no provider so far is a member that the atom matches
 abbrev pub invariant-loop-number : goal.invariant-loop-number

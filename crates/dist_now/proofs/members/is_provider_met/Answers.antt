@@ -1,6 +1,6 @@
 use Rattle.std.proofs.Common.{get_or, refl}
 use Rattle.dist_now.proofs.MemberLemmas.{provider-any, none-matched}
-use Rattle.dist_now.proofs.members.is_alternative_met.Goals as goal
+use Rattle.dist_now.proofs.members.is_provider_met.Goals as goal
 
 pub returns-then-matches : goal.returns-then-matches
 returns-then-matches c = (

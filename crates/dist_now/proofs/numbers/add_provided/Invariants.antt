@@ -1,7 +1,7 @@
 use Rattle.dist_repo.specs.Match.{Matches}
 use Rattle.dist_now.proofs.AddsLemmas.{AddsUpTo}
 use Rattle.dist_now.proofs.NumberLemmas.{IsAtAnd}
-use Rattle.dist_now.proofs.numbers.add_matched.Given as goal
+use Rattle.dist_now.proofs.numbers.add_provided.Given as goal
 
 -- the providers so far that the atom matches were added
 abbrev pub invariant-loop-number : goal.invariant-loop-number
