@@ -12,7 +12,7 @@ use Rattle.dist_subject.specs.Present.{truth_of, packages_of}
 use Rattle.dist_cert.specs.ListLaws.{any-from, both-flags, from-any}
 use Rattle.dist_cert.specs.Rising.{is_among}
 
-truth-same : (values : List Bool) (variables : List ℕ) → AreTrueOf values variables → truth_of (length values) variables ≡ values
+pub truth-same : (values : List Bool) (variables : List ℕ) → AreTrueOf values variables → truth_of (length values) variables ≡ values
 truth-same values variables are =
     ext_get_or false (truth_of (length values) variables) values (truth-length (length values) variables)
     (λ k within. at k (omega (arith, within, truth-length (length values) variables)))

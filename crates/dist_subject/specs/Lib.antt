@@ -1,4 +1,5 @@
 pub mod Present
+pub mod Later
 pub mod PresentExamples
 pub mod Claims
 pub mod Installed
