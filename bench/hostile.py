@@ -80,6 +80,12 @@ def wide_line(n):
     return stanza("a"), header("plain", "1 1 0") + "m " + " ".join(str(k) for k in range(1, n)) + "\n"
 
 
+def installed_again(n):
+    """A package in conflict with n others, installed alone 2 n times."""
+    packages = stanza("q", more="Conflicts: x\n") + "".join(stanza(f"p{k:06}", more="Provides: x\n") for k in range(n))
+    return packages, header("plain", f"{n + 1} {n + 1} {n}") + "m 1\n" * (2 * n)
+
+
 def many_entries(n):
     """A library with n / 4 entries and n / 20 bounds on another name, and n / 2 atoms on the library."""
     entries = ", ".join(f"e{k}" for k in range(n // 4))
@@ -114,6 +120,7 @@ ROWS = {
     "more clauses than may be": (40_000, lambda n: clauses("".join(stanza(f"p{k}", more="Provides: x\nConflicts: x\n") for k in range(n)))),
     "one false hint told again and again": (100_000, lambda n: checked(*hints(n))),
     "one line of so many numbers": (6_000_000, lambda n: checked(*wide_line(n))),
+    "a package in so many conflicts, installed again and again": (20_000, lambda n: checked(*installed_again(n))),
     "the classes of one entry told again and again": (8_000, lambda n: classes(
         stanza("libx", more="Provides: " + ", ".join(["a (= 1)"] * n) + "\n") + stanza("p", more="Conflicts: " + ", ".join(f"a (>= {k})" for k in range(n)) + "\n"))),
     "the clauses of futures of so many entries": (8_000, lambda n: futures(many_entries(n))),

@@ -3,7 +3,7 @@ ghost use Rattle.std.specs.Prelude.{◌+◌, ◌<◌, ◌≤◌, OnOk};
 
 use dist_cert::CertCause::{Incomplete, WrongClaim};
 use dist_cert::{CertCause, Items};
-use dist_check_group::{Group, Window, is_rising, judge_rules};
+use dist_check_group::{Group, StrongClaim, Window, is_rising, judge_rules};
 use std::alloc::{AllocError, Global};
 use std::test::Fail;
 
@@ -39,7 +39,13 @@ fn judged(
     install(alloc, &mut window, &mut group, &[1, 2])?;
     group.add_refuted(1, &[(1, true), (2, false)])?;
     group.add_undecided(1, &[(1, true), (3, false)])?;
-    judge_rules(alloc, &window, &group, 3, 1, named, on, undecided)
+    let claim = StrongClaim {
+        package: 1,
+        named,
+        on,
+        undecided,
+    };
+    judge_rules(alloc, &window, &group, 3, &claim)
 }
 
 #[test]

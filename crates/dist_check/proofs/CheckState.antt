@@ -31,10 +31,6 @@ use Rattle.dist_check.specs.CheckedPrivate.{TextAt, IsChecked}
 use Rattle.dist_check.proofs.LineLemmas.{WhatFollows, sound-rule}
 use Rattle.dist_check.proofs.Whole.{ModelsAreInstallations, records-mean}
 
-pub variables-same : (r : PackageList) (limits : Limits) (told : Option (List ℕ)) (h : Header) (reader : ReaderView) (left : Option (List ℕ)) (s : StateView)
-    → IsChecked r limits told h reader left s → s.log.variables ≡ s.packages
-variables-same r limits told h reader left s x = x.at.variables ∙ sym x.at.packages
-
 pub lines-are : (r : PackageList) (limits : Limits) (told : Option (List ℕ)) (h : Header) (reader : ReaderView) (left : Option (List ℕ)) (s : StateView)
     (x : IsChecked r limits told h reader left s) → lines_of s.log ≡ derived x.before
 lines-are r limits told h reader left s x =

@@ -228,20 +228,20 @@ limits-stay s t (lines.Alive p i) told is = absurd (false≢true told.1)
 limits-stay s t (lines.Challenged p named by undecided) told is = absurd (false≢true told.1)
 limits-stay s t lines.End told is = (ap (λ (v : StateView). v.log.line_limit) is, ap (λ (v : StateView). v.log.line_literal_limit) is)
 
--- the packages stay
-pub packages-stay : (s t : StateView) (step : CertRecord) → Tells s step None → Becomes s step t → t.packages ≡ s.packages
-packages-stay s t (lines.Question literals) told is = ap (λ (v : StateView). v.packages) is
-packages-stay s t (lines.Derived literals hints) told is = ap (λ (v : StateView). v.packages) is
-packages-stay s t (lines.Refuted hints) told is = ap (λ (v : StateView). v.packages) is.rest
-packages-stay s t lines.Undecided told is = ap (λ (v : StateView). v.packages) is.rest
-packages-stay s t (lines.Installation variables) told is = ap (λ (v : StateView). v.packages) is
-packages-stay s t (lines.NotInstallable p) told is = ap (λ (v : StateView). v.packages) is
-packages-stay s t (lines.Unknown p) told is = ap (λ (v : StateView). v.packages) is
-packages-stay s t (lines.Strong p named on undecided) told is = ap (λ (v : StateView). v.packages) is
-packages-stay s t (lines.Outdated p) told is = absurd (false≢true told.1)
-packages-stay s t (lines.Alive p i) told is = absurd (false≢true told.1)
-packages-stay s t (lines.Challenged p named by undecided) told is = absurd (false≢true told.1)
-packages-stay s t lines.End told is = ap (λ (v : StateView). v.packages) is
+-- the variables stay
+pub variables-stay : (s t : StateView) (step : CertRecord) → Tells s step None → Becomes s step t → t.log.variables ≡ s.log.variables
+variables-stay s t (lines.Question literals) told is = ap (λ (v : StateView). v.log.variables) is
+variables-stay s t (lines.Derived literals hints) told is = ap (λ (v : StateView). v.log.variables) is
+variables-stay s t (lines.Refuted hints) told is = ap (λ (v : StateView). v.log.variables) is.rest
+variables-stay s t lines.Undecided told is = ap (λ (v : StateView). v.log.variables) is.rest
+variables-stay s t (lines.Installation variables) told is = ap (λ (v : StateView). v.log.variables) is
+variables-stay s t (lines.NotInstallable p) told is = ap (λ (v : StateView). v.log.variables) is
+variables-stay s t (lines.Unknown p) told is = ap (λ (v : StateView). v.log.variables) is
+variables-stay s t (lines.Strong p named on undecided) told is = ap (λ (v : StateView). v.log.variables) is
+variables-stay s t (lines.Outdated p) told is = absurd (false≢true told.1)
+variables-stay s t (lines.Alive p i) told is = absurd (false≢true told.1)
+variables-stay s t (lines.Challenged p named by undecided) told is = absurd (false≢true told.1)
+variables-stay s t lines.End told is = ap (λ (v : StateView). v.log.variables) is
 
 -- ---- the first line
 
@@ -319,8 +319,8 @@ starts-checked clear there one models r ordered limits reader next told left aft
     models = models r h.essential (inputs h.essential) ordered (are-inputs there r ordered h.essential);
   };
   before = [];
-  at = starts-at r (inputs h.essential) h s start.limit start.packages (sym clauses) (start.inputs ∙ sym size) start.variables start.window start.question
-      start.next start.group_is start.claims;
+  at = starts-at r (inputs h.essential) h s start.limit start.packages (sym clauses) (start.inputs ∙ sym size) start.variables start.no_front
+      (start.no_back ∙ sym size) start.window start.question start.next start.group_is start.claims;
   right = right-none r (inputs h.essential) h;
   forms = All-nil (λ step. HasForm (record_text step) step);
   strong = start.strong;

@@ -82,6 +82,8 @@ plain-step r inputs h before s at step no_number no_claim no_members no_clause q
   clauses = at.clauses ∙ derived-same inputs before step no_clause;
   inputs_are = at.inputs_are;
   variables = at.variables;
+  no_front = at.no_front;
+  no_back = at.no_back;
   kept = at.kept ∙ ap latest (installed-same before step no_members);
   count = at.count ∙ ap (λ (ms : List (List ℕ)). length ms) (installed-same before step no_members);
   question = q;
@@ -100,6 +102,8 @@ claim-step r inputs h before s at step claim one no_members no_clause closes nev
   clauses = at.clauses ∙ derived-same inputs before step no_clause;
   inputs_are = at.inputs_are;
   variables = at.variables;
+  no_front = at.no_front;
+  no_back = at.no_back;
   kept = at.kept ∙ ap latest (installed-same before step no_members);
   count = at.count ∙ ap (λ (ms : List (List ℕ)). length ms) (installed-same before step no_members);
   question = none-open before step closes never;
@@ -145,6 +149,8 @@ becomes-at r inputs h before s t at (lines.Derived literals hints) told is =
           ∙ ap (λ (cs : List (List Literal)). inputs ++ cs) (sym (derived-push before step));
       inputs_are = at.inputs_are;
       variables = at.variables;
+      no_front = at.no_front;
+      no_back = at.no_back;
       kept = at.kept ∙ ap latest (installed-same before step refl);
       count = at.count ∙ ap (λ (ms : List (List ℕ)). length ms) (installed-same before step refl);
       question = question-stays inputs before step refl never s.question at.question;
@@ -161,6 +167,8 @@ becomes-at r inputs h before s t at (lines.Installation variables) told is =
       clauses = at.clauses ∙ derived-same inputs before step refl;
       inputs_are = at.inputs_are;
       variables = at.variables;
+      no_front = at.no_front;
+      no_back = at.no_back;
       kept = ap (λ (ms : List (List ℕ)). latest (ms ++ variables ∷ [])) at.kept ∙ latest-push (installations before) variables
           ∙ ap latest (sym (installed-push before step));
       count = omega (
@@ -208,14 +216,17 @@ becomes-at r inputs h before s t at lines.End told is =
 -- before the first line
 pub starts-at : (r : PackageList) (inputs : List (List Literal)) (h : Header) (s : StateView) → s.limit ≡ h.limit → s.packages ≡ length r.packages
     → s.log.clauses ≡ inputs → s.log.inputs ≡ length inputs
-    → s.log.variables ≡ length r.packages → s.window ≡ record { kept = []; count = 0 } → s.question ≡ None → s.next ≡ 1 → s.group ≡ empty_group → s.claims ≡ []
+    → s.log.variables ≡ length r.packages → s.future.upto ≡ 0 → s.future.behind ≡ length inputs
+    → s.window ≡ record { kept = []; count = 0 } → s.question ≡ None → s.next ≡ 1 → s.group ≡ empty_group → s.claims ≡ []
     → IsAt r inputs h [] s
-starts-at r inputs h s limit packages clauses inputs_are variables window question next kept claims = record {
+starts-at r inputs h s limit packages clauses inputs_are variables no_front no_back window question next kept claims = record {
   limit = limit;
   packages = packages;
   clauses = clauses ∙ sym (append-nil inputs);
   inputs_are = inputs_are;
   variables = variables;
+  no_front = no_front;
+  no_back = no_back;
   kept = ap (λ (w : WindowView). w.kept) window;
   count = ap (λ (w : WindowView). w.count) window;
   question = subst (IsQuestionOf inputs []) (sym question) none-first;

@@ -1,11 +1,13 @@
 -- What is told of a line by what is kept is its first fault, or that it has none.
-use Rattle.std.proofs.Common.{◌≡◌, inl, inr, ℕ, ◌+◌, ◌-◌, ◌<◌, ◌≤◌, true, false, List, [], ◌∷◌, ◌++◌, Option, Some, None, length, get_or, map, take, refl, sym}
-use Rattle.std.proofs.Common.{ap, subst, ◌∙◌, append_assoc, arith, length-append}
+use Rattle.std.proofs.Common.{◌≡◌, inl, inr, ℕ, ◌+◌, ◌-◌, ◌<◌, ◌≤◌, Bool, true, false, List, [], ◌∷◌, ◌++◌, Option, Some, None, length, get_or, map, take}
+use Rattle.std.proofs.Common.{refl, sym, ap, subst, ◌∙◌, append_assoc, arith, length-append}
 use Rattle.std.specs.List.{All, Any}
 use Rattle.std.proofs.lemmas.Bool.{false≢true, cases_lt}
-use Rattle.std.proofs.lemmas.List.{take_at, get_or_at}
+use Rattle.std.proofs.Math.ListN.{drop_of_length-le}
+use Rattle.std.proofs.lemmas.List.{take_at, get_or_at, length-take}
+use Rattle.std.proofs.lemmas.List.Elements.{All-nil}
 use Rattle.dist_clause.specs.ClauseList.{clause_at}
-use Rattle.dist_clause.specs.Formula.{Literal, negation, IsModel}
+use Rattle.dist_clause.specs.Formula.{Literal, negation, IsModel, MakesTrue}
 use Rattle.dist_derive.specs.ClauseLog.{inputs_of}
 use Rattle.dist_derive.specs.Follows.{Follows}
 use Rattle.dist_derive.specs.New.{IsNew, EachIsNew}
@@ -24,6 +26,7 @@ use Rattle.dist_check.specs.CheckedPrivate.{AreInputsOf}
 use Rattle.dist_subject.specs.Present.{matter_of, packages_of}
 use Rattle.dist_cert.specs.Rising.{is_among}
 use Rattle.dist_check_state.specs.Since.{AreNewFrom}
+use Rattle.dist_check_state.specs.Future.{StandsForFuture}
 use Rattle.dist_check_state.specs.State.{QuestionView, StateView, names_above, is_above, TellsQuestion, TellsDerived, TellsRefuted, TellsInstallation}
 use Rattle.dist_check.specs.AtPrivate.{IsQuestionOf, IsAt}
 use Rattle.dist_check.proofs.Above.{none-above, some-above, words-above}
@@ -64,17 +67,17 @@ hints-some last clauses hints same some = subst (λ n. Any (λ m. n < m) hints) 
 
 pub question-verdict : (r : PackageList) (inputs : List (List Literal)) (h : Header) (before : List CertRecord) (s : StateView) → h.kind ≡ kinds.Strong
     → IsAt r inputs h before s → (literals : List Word) (found : Option CertCause)
-    → TellsQuestion s.packages literals found → IsVerdict r inputs h before (lines.Question literals) found
+    → TellsQuestion s.log.variables literals found → IsVerdict r inputs h before (lines.Question literals) found
 question-verdict r inputs h before s strong at literals None told =
     faultless-from (matter_of r h.essential inputs) h before (lines.Question literals) strong none
   where
     none : (cause : CertCause) → may_have (lines.Question literals) cause ≡ true
         → ¬ HasRecordFault (matter_of r h.essential inputs) h before (lines.Question literals) cause
-    none causes.OutOfRange may fault = range-none s.packages (length r.packages) literals at.packages told fault
+    none causes.OutOfRange may fault = range-none s.log.variables (length r.packages) literals at.variables told fault
     none cause may fault = false≢true may
 question-verdict r inputs h before s strong at literals (Some causes.OutOfRange) told =
     first-from (matter_of r h.essential inputs) h before (lines.Question literals) causes.OutOfRange strong
-    (range-some s.packages (length r.packages) literals at.packages told) none
+    (range-some s.log.variables (length r.packages) literals at.variables told) none
   where
     none : (cause : CertCause) → may_have (lines.Question literals) cause ≡ true → rank cause < 4
         → ¬ HasRecordFault (matter_of r h.essential inputs) h before (lines.Question literals) cause
@@ -219,9 +222,20 @@ model-from r inputs h before s at mean variables healthy =
     subst (IsModel (is_among variables)) (sym (inputs-are r inputs h before s at))
     (installed-model r h.essential inputs variables mean.ordered mean.over mean.models healthy)
 
+-- no clause says what a future is
+no-future : (r : PackageList) (inputs : List (List Literal)) (h : Header) (before : List CertRecord) (s : StateView) → IsAt r inputs h before s
+    → (value : ℕ → Bool) → StandsForFuture s.future value (inputs_of s.log)
+no-future r inputs h before s at value = (
+  subst (λ n. IsModel value (take n (inputs_of s.log))) (sym at.no_front) (All-nil (MakesTrue value)),
+  subst (IsModel value) (sym (drop_of_length-le (inputs_of s.log) few)) (All-nil (MakesTrue value)),
+)
+  where
+    few : length (inputs_of s.log) ≤ s.future.behind
+    few = omega (arith, length-take s.log.inputs s.log.clauses, at.inputs_are, at.no_back)
+
 pub installation-verdict : (r : PackageList) (inputs : List (List Literal)) (h : Header) (before : List CertRecord) (s : StateView) → h.kind ≡ kinds.Strong
     → IsAt r inputs h before s → AreInputsOf r h.essential inputs
-    → (variables : List ℕ) (found : Option CertCause) → TellsInstallation s.log variables found
+    → (variables : List ℕ) (found : Option CertCause) → TellsInstallation s.log s.future variables found
     → IsVerdict r inputs h before (lines.Installation variables) found
 installation-verdict r inputs h before s strong at mean variables None told =
     faultless-from (matter_of r h.essential inputs) h before (lines.Installation variables) strong none
@@ -240,9 +254,11 @@ installation-verdict r inputs h before s strong at mean variables (Some causes.O
     none causes.OutOfRange may below fault = omega (arith, below)
     none causes.NotAnInstallation may below fault = omega (arith, below)
     none cause may below fault = false≢true may
+installation-verdict r inputs h before s strong at mean variables (Some causes.NotAFuture) told =
+    absurd (told.1 (no-future r inputs h before s at (is_among variables)))
 installation-verdict r inputs h before s strong at mean variables (Some causes.NotAnInstallation) told =
     first-from (matter_of r h.essential inputs) h before (lines.Installation variables) causes.NotAnInstallation strong
-    (λ healthy. told.1 (model-from r inputs h before s at mean variables healthy)) none
+    (λ healthy. told.2 (model-from r inputs h before s at mean variables healthy)) none
   where
     none : (cause : CertCause) → may_have (lines.Installation variables) cause ≡ true → rank cause < 9
         → ¬ HasRecordFault (matter_of r h.essential inputs) h before (lines.Installation variables) cause

@@ -46,6 +46,8 @@ pub record IsAt (r : PackageList) (inputs : List (List Literal)) (h : Header) (b
   pub clauses : s.log.clauses ≡ inputs ++ derived before
   pub inputs_are : s.log.inputs ≡ length inputs
   pub variables : s.log.variables ≡ length r.packages
+  pub no_front : s.future.upto ≡ 0
+  pub no_back : s.future.behind ≡ length inputs
   pub kept : s.window.kept ≡ latest (installations before)
   pub count : s.window.count ≡ length (installations before)
   pub question : IsQuestionOf inputs before s.question

@@ -34,6 +34,8 @@ pub record IsStart (r : PackageList) (limits : Limits) (h : Header) (s : StateVi
   pub packages : s.packages ≡ length r.packages
   pub inputs : s.log.inputs ≡ length s.log.clauses
   pub variables : s.log.variables ≡ length r.packages
+  pub no_front : s.future.upto ≡ 0
+  pub no_back : s.future.behind ≡ length s.log.clauses
   pub line_limit : s.log.line_limit ≡ limits.lines
   pub line_literal_limit : s.log.line_literal_limit ≡ limits.line_literals
   pub within : IsWithinLineLimits s.log

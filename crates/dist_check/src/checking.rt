@@ -39,7 +39,7 @@ fn take_lines<D: Desk>(
     tools: &mut Tools,
 ) -> Result<(), ReadCertError>
     requires reading { IsReading (D.view desk.old).mode }
-    requires tools { tools.old ≡ state.old.packages }
+    requires tools { tools.old ≡ state.old.log.variables }
     requires start { IsChecked repo.now limits.now None header.now reader.old None state.old }
     ensures text { (told : Option (List ℕ)) → IsChecked repo.now limits.now told header.now reader.old (text_left reader.old (D.view desk.old)) state.old
         → OfText told (λ text. TextAnswers (λ _. header.now) (λ _. state.new.claims) repo.now limits.now text result) }

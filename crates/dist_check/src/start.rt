@@ -6,7 +6,7 @@ ghost use Rattle.dist_check.specs.Limited.{large_by};
 ghost use Rattle.dist_subject.specs.Limited.{AreStated};
 
 use dist_cert::{CertCause, CertFault, CertKind, Header, ReadCertError};
-use dist_check_state::State;
+use dist_check_state::{FutureClauses, State};
 use dist_clause::{ClauseSet, PushError};
 use dist_derive::Log;
 use dist_now::clauses_of;
@@ -71,6 +71,10 @@ pub(crate) fn start(
     if !has_numbers(repo, &inputs, header) {
         return Err(bad_header());
     }
+    let future = FutureClauses {
+        upto: 0,
+        behind: inputs.len(),
+    };
     let log = Log::new(alloc, inputs, limits.lines, limits.line_literals);
-    Ok(State::new(alloc, header.limit, log)?)
+    Ok(State::new(alloc, header.limit, repo.len(), future, log)?)
 }

@@ -13,5 +13,5 @@ mod window;
 
 pub use group::Group;
 pub use numbers::{has, is_rising};
-pub use rules::judge_rules;
+pub use rules::{StrongClaim, judge_rules};
 pub use window::Window;

@@ -11,6 +11,15 @@ use crate::window::Window;
 use dist_cert::CertCause;
 use std::alloc::{AllocError, Global};
 
+/// A claim that a package depends strongly on some packages, and perhaps on others, by the installations that it names.
+#[derive(Clone, Copy, Debug)]
+pub struct StrongClaim<'a> {
+    pub package: u32,
+    pub named: &'a [u32],
+    pub on: &'a [u32],
+    pub undecided: &'a [u32],
+}
+
 /// Whether a package is in all installations that are named.
 fn is_in_each(window: &Window, named: &[u32], package: u32) -> bool
     ensures { result ≡ in_each window.now named.now «package» }
@@ -79,17 +88,16 @@ fn always(
 }
 
 /// Whether the rules of a claim's lists hold.
-fn are_lists_right(
-    window: &Window,
-    group: &Group,
-    packages: u32,
-    package: u32,
-    named: &[u32],
-    on: &[u32],
-    undecided: &[u32],
-) -> bool
-    ensures { IsTrue result ↔ AreListsRight window.now group.now packages «package» named.now on.now undecided.now }
+fn are_lists_right(window: &Window, group: &Group, packages: u32, claim: &StrongClaim<'_>) -> bool
+    ensures { IsTrue result
+        ↔ AreListsRight window.now group.now packages claim.now.package claim.now.named.now claim.now.on.now claim.now.undecided.now }
 {
+    let StrongClaim {
+        package,
+        named,
+        on,
+        undecided,
+    } = *claim;
     if !is_in_each(window, named, package) {
         return false;
     }
@@ -117,21 +125,19 @@ pub fn judge_rules(
     window: &Window,
     group: &Group,
     packages: u32,
-    package: u32,
-    named: &[u32],
-    on: &[u32],
-    undecided: &[u32],
+    claim: &StrongClaim<'_>,
 ) -> Result<Option<CertCause>, AllocError>
-    ensures { IfOk result (TellsRules window.now group.now packages «package» named.now on.now undecided.now) }
+    ensures { IfOk result
+        (TellsRules window.now group.now packages claim.now.package claim.now.named.now claim.now.on.now claim.now.undecided.now) }
 {
-    if !are_lists_right(window, group, packages, package, named, on, undecided) {
+    if !are_lists_right(window, group, packages, claim) {
         return Ok(Some(CertCause::WrongClaim));
     }
-    let always = always(alloc, window, group, named)?;
-    if !has_all(&always, undecided) {
+    let always = always(alloc, window, group, claim.named)?;
+    if !has_all(&always, claim.undecided) {
         return Ok(Some(CertCause::WrongClaim));
     }
-    if omits(&always, package, on, undecided) {
+    if omits(&always, claim.package, claim.on, claim.undecided) {
         return Ok(Some(CertCause::Incomplete));
     }
     Ok(None)

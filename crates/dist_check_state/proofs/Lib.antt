@@ -1,4 +1,5 @@
 mod LiteralLemmas
-mod NewLemmas
+mod RangeLemmas
 mod DenialLemmas
+mod FutureLemmas
 mod Growth

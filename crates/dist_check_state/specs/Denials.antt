@@ -1,21 +1,16 @@
--- Where a clause can be false: only where the variable of its first negative literal is true.
-use Rattle.std.specs.Prelude.{◌≡◌, ◌↔◌, ℕ, List, [], ◌∷◌, Contains, true, false, refl, if◌then◌else◌}
+-- Where a clause can be false: only where the variables of all its negative literals are true.
+use Rattle.std.specs.Prelude.{◌≡◌, ◌⊎◌, ℕ, List, Contains, false}
 use Rattle.dist_clause.specs.ClauseList.{clause_at}
 use Rattle.dist_clause.specs.Formula.{Literal, literal}
 use Rattle.dist_derive.specs.Follows.{IsNumberOf}
 
--- the variable of the first negative literal of a clause, or 0 where it has none
-abbrev pub first_denied : List Literal → ℕ
-first_denied [] = 0
-first_denied (l ∷ clause) = if l.positive then first_denied clause else l.variable
+-- the variable is that of a negative literal of the clause, or 0
+abbrev pub IsDenied : List Literal → ℕ → Type 0
+IsDenied clause variable = (variable ≡ 0) ⊎ Contains clause (literal variable false)
 
--- The pairs are those of each clause: the variable of its first negative literal, or 0, and its number.
-abbrev pub AreDenialsOf : List (List Literal) → List (ℕ × ℕ) → Type 0
-AreDenialsOf clauses pairs = (variable number : ℕ) → Contains pairs (variable, number)
-    ↔ (IsNumberOf clauses number × (first_denied (clause_at clauses number) ≡ variable))
-
-dependency : first_denied (literal 2 false ∷ literal 5 true ∷ []) ≡ 2
-dependency = refl
-
-name : first_denied (literal 2 true ∷ literal 5 true ∷ []) ≡ 0
-name = refl
+-- Each pair has the number of a clause, and each clause is in a pair with the variable of one of its negative literals,
+-- or with 0.
+pub record AreDenialsOf (clauses : List (List Literal)) (pairs : List (ℕ × ℕ)) : Type 0 where
+  pub numbers : (variable number : ℕ) → Contains pairs (variable, number) → IsNumberOf clauses number
+  pub each : (number : ℕ) → IsNumberOf clauses number
+      → (variable : ℕ) × Contains pairs (variable, number) × IsDenied (clause_at clauses number) variable

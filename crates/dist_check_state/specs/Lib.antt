@@ -1,3 +1,4 @@
 pub mod Since
 pub mod Denials
+pub mod Future
 pub mod State

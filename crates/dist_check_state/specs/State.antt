@@ -9,8 +9,8 @@ use Rattle.dist_derive.specs.ClauseLog.{ClauseLog, IsWithinLineLimits, inputs_of
 use Rattle.dist_derive.specs.Follows.{Follows}
 use Rattle.dist_cert.specs.declared.faults.CertCause.{CertCause}
 use Rattle.dist_cert.specs.declared.faults.CertCause.TheVariants.{OutOfRange, OutOfOrder, UnknownLine, BadLine}
-use Rattle.dist_cert.specs.declared.faults.CertCause.TheVariants.{NotAnInstallation, LimitNotReached, NotNew}
-use Rattle.dist_cert.specs.declared.faults.CertCause.TheVariants.{WrongClaim, Incomplete}
+use Rattle.dist_cert.specs.declared.faults.CertCause.TheVariants.{NotAFuture, NotAnInstallation, LimitNotReached}
+use Rattle.dist_cert.specs.declared.faults.CertCause.TheVariants.{NotNew, WrongClaim, Incomplete}
 use Rattle.dist_cert.specs.declared.faults.ReadCertError.{ReadCertError}
 use Rattle.dist_cert.specs.declared.faults.ReadCertError.TheVariants.{Bad, Work}
 use Rattle.dist_cert.specs.declared.records.CertRecord.{CertRecord}
@@ -24,18 +24,21 @@ use Rattle.dist_check_group.specs.Window.{WindowView, latest}
 use Rattle.dist_check_group.specs.Closed.{Closes}
 use Rattle.dist_check_group.specs.Group.{GroupView, common_with, TellsRules}
 use Rattle.dist_check_state.specs.Since.{AreNewFrom, IsAppendCause}
+use Rattle.dist_check_state.specs.Future.{StandsForFuture}
+use Rattle.dist_check_state.specs.declared.future.FutureClauses.{FutureClauses}
 
 -- The assumptions of the open question, and the number of the last clause before its line
 pub record QuestionView : Type 0 where
   pub assumptions : List Word
   pub last : ℕ
 
--- The limit of the first line, the number of packages, the clauses, installations and group, the open question, the
--- package of the next claim, and the claims.
+-- The limit of the first line, the number of packages, the clauses and which of them say what a future is, the
+-- installations and the group, the open question, the package of the next claim, and the claims.
 pub record StateView : Type 0 where
   pub limit : ℕ
   pub packages : ℕ
   pub log : ClauseLog
+  pub future : FutureClauses
   pub window : WindowView
   pub question : Option QuestionView
   pub next : ℕ
@@ -75,14 +78,17 @@ TellsRefuted log (Some question) hints (Some BadLine) = (is_above (length log.cl
     × (¬ Follows log.clauses (map negation (clause_of question.assumptions)) hints)
 TellsRefuted log (Some question) hints (Some cause) = ⊥
 
--- an installation is a model of the input clauses
-abbrev pub TellsInstallation : ClauseLog → List ℕ → Option CertCause → Type 0
-TellsInstallation log variables None = (is_above log.variables variables ≡ false)
+-- an installation is a model of the input clauses, and stands for a future by some of them
+abbrev pub TellsInstallation : ClauseLog → FutureClauses → List ℕ → Option CertCause → Type 0
+TellsInstallation log which variables None = (is_above log.variables variables ≡ false)
     × IsModel (is_among variables) (inputs_of log)
-TellsInstallation log variables (Some OutOfRange) = is_above log.variables variables ≡ true
-TellsInstallation log variables (Some NotAnInstallation) = (is_above log.variables variables ≡ false)
+TellsInstallation log which variables (Some OutOfRange) = is_above log.variables variables ≡ true
+TellsInstallation log which variables (Some NotAFuture) = (is_above log.variables variables ≡ false)
+    × (¬ StandsForFuture which (is_among variables) (inputs_of log))
+TellsInstallation log which variables (Some NotAnInstallation) = (is_above log.variables variables ≡ false)
+    × StandsForFuture which (is_among variables) (inputs_of log)
     × (¬ IsModel (is_among variables) (inputs_of log))
-TellsInstallation log variables (Some cause) = ⊥
+TellsInstallation log which variables (Some cause) = ⊥
 
 abbrev pub TellsUndecided : ClauseLog → ℕ → Option QuestionView → Option CertCause → Type 0
 TellsUndecided log limit None found = found ≡ Some OutOfOrder
@@ -116,10 +122,10 @@ TellsEnd next packages (Some cause) = ⊥
 
 -- what is told of a record
 abbrev pub Tells : StateView → CertRecord → Option CertCause → Type 0
-Tells s (lines.Question literals) = TellsQuestion s.packages literals
+Tells s (lines.Question literals) = TellsQuestion s.log.variables literals
 Tells s (lines.Derived literals hints) = TellsDerived s.log literals hints
 Tells s (lines.Refuted hints) = TellsRefuted s.log s.question hints
-Tells s (lines.Installation variables) = TellsInstallation s.log variables
+Tells s (lines.Installation variables) = TellsInstallation s.log s.future variables
 Tells s lines.Undecided = TellsUndecided s.log s.limit s.question
 Tells s (lines.NotInstallable p) = TellsClaim (is_next s.next s.packages p) s.group.refuted.alone
 Tells s (lines.Unknown p) = TellsClaim (is_next s.next s.packages p) s.group.undecided.alone
@@ -134,8 +140,8 @@ Tells s lines.End = TellsEnd s.next s.packages
 
 -- what is asked of a line that is taken: its literals are over the variables, and a claim is on the next package
 abbrev pub Allows : StateView → CertRecord → Type 0
-Allows s (lines.Question literals) = names_above s.packages literals ≡ false
-Allows s (lines.Derived literals hints) = names_above s.packages literals ≡ false
+Allows s (lines.Question literals) = names_above s.log.variables literals ≡ false
+Allows s (lines.Derived literals hints) = names_above s.log.variables literals ≡ false
 Allows s (lines.NotInstallable p) = is_next s.next s.packages p ≡ true
 Allows s (lines.Unknown p) = is_next s.next s.packages p ≡ true
 Allows s (lines.Strong p named on undecided) = is_next s.next s.packages p ≡ true

@@ -10,18 +10,19 @@ ghost use Rattle.dist_check_state.specs.State.{TellsClaim, TellsDerived, TellsEn
 
 use crate::above::{is_any_above, is_any_variable_above};
 use crate::denials::Denials;
+use crate::future::FutureClauses;
 use crate::question::Question;
 use crate::tools::Tools;
 use dist_cert::CertCause;
-use dist_check_group::{Group, Window, judge_rules};
+use dist_check_group::{Group, StrongClaim, Window, judge_rules};
 use dist_derive::Log;
 use std::alloc::{AllocError, Global};
 
 /// Of the line of a question.
-pub(crate) fn judge_question(last: u32, literals: &[(u32, bool)]) -> Option<CertCause>
-    ensures { TellsQuestion last literals.now result }
+pub(crate) fn judge_question(log: &Log, literals: &[(u32, bool)]) -> Option<CertCause>
+    ensures { TellsQuestion log.now.variables literals.now result }
 {
-    if is_any_variable_above(literals, last) {
+    if is_any_variable_above(literals, log.variables()) {
         return Some(CertCause::OutOfRange);
     }
     None
@@ -95,19 +96,23 @@ pub(crate) fn judge_refuted(
 pub(crate) fn judge_installation(
     log: &Log,
     denials: &Denials,
+    future: FutureClauses,
     variables: &[u32],
 ) -> Option<CertCause>
     requires denials { AreDenialsOf (inputs_of log.now) denials.now }
     requires rising { AreRising variables.now }
-    ensures { TellsInstallation log.now variables.now result }
+    ensures { TellsInstallation log.now future variables.now result }
 {
     if is_any_above(variables, log.variables()) {
         return Some(CertCause::OutOfRange);
     }
-    if !denials.is_model(log, variables) {
-        return Some(CertCause::NotAnInstallation);
+    if denials.is_model(log, variables) {
+        return None;
     }
-    None
+    if !future.are_true(log, variables) {
+        return Some(CertCause::NotAFuture);
+    }
+    Some(CertCause::NotAnInstallation)
 }
 
 /// Of the line that closes the open question as undecided.
@@ -178,19 +183,15 @@ pub(crate) fn judge_strong(
     window: &Window,
     group: &Group,
     packages: u32,
-    package: u32,
-    named: &[u32],
-    on: &[u32],
-    undecided: &[u32],
+    claim: &StrongClaim<'_>,
 ) -> Result<Option<CertCause>, AllocError>
-    ensures { IfOk result (TellsStrong next window.now group.now packages «package» named.now on.now undecided.now) }
+    ensures { IfOk result
+        (TellsStrong next window.now group.now packages claim.now.package claim.now.named.now claim.now.on.now claim.now.undecided.now) }
 {
     if !next {
         return Ok(Some(CertCause::OutOfOrder));
     }
-    judge_rules(
-        alloc, window, group, packages, package, named, on, undecided,
-    )
+    judge_rules(alloc, window, group, packages, claim)
 }
 
 /// Of the line of the end.

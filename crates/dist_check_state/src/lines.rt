@@ -17,8 +17,7 @@ pub fn take_line(
     step: CertRecord,
 ) -> Result<(), ReadCertError>
     requires form { KeepsRules step }
-    requires tools { tools.old ≡ state.old.packages }
-    requires variables { state.old.log.variables ≡ state.old.packages }
+    requires tools { tools.old ≡ state.old.log.variables }
     requires count { state.old.window.count + 1 < 2 ^ 64 }
     ensures ok { OnOk result (TakesLine state.old step state.new) }
     ensures err { IfErr result (LineStops state.old step line) }

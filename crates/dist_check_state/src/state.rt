@@ -10,6 +10,7 @@ ghost use Rattle.dist_check_state.specs.State.{Allows, Answers, Becomes, StopsAt
 
 use crate::denials::Denials;
 use crate::from_zero::from_zero;
+use crate::future::FutureClauses;
 use crate::judging::{
     is_next, judge_claim, judge_derived, judge_end, judge_installation, judge_question,
     judge_refuted, judge_strong, judge_undecided,
@@ -17,7 +18,7 @@ use crate::judging::{
 use crate::question::Question;
 use crate::tools::Tools;
 use dist_cert::{CertCause, CertRecord, Claim, Claims, Literals, Numbers};
-use dist_check_group::{Group, Window};
+use dist_check_group::{Group, StrongClaim, Window};
 use dist_derive::Log;
 use dist_outside::WorkError;
 use std::alloc::{AllocError, Global};
@@ -31,6 +32,7 @@ pub struct State {
     log: Log,
     /// Of the log's input clauses.
     denials: Denials,
+    future: FutureClauses,
     window: Window,
     question: Option<Question>,
     /// The package of the next claim.
@@ -53,6 +55,7 @@ impl Model for State {
       limit = s.limit;
       packages = s.packages;
       log = s.log;
+      future = s.future;
       window = s.window;
       question = s.question;
       next = s.next;
@@ -60,17 +63,25 @@ impl Model for State {
       claims = s.claims;
     } };
 
-    ghost invariant = { λ s. (s.log.variables ≡ s.packages) × AreDenialsOf (inputs_of s.log) s.denials × ForSome s.question (λ q. AreLiteralsOver s.packages q.assumptions) × ForSome s.question (λ q. q.last ≤ length s.log.clauses) };
+    ghost invariant = { λ s. (s.packages ≤ s.log.variables) × AreDenialsOf (inputs_of s.log) s.denials × ForSome s.question (λ q. AreLiteralsOver s.log.variables q.assumptions) × ForSome s.question (λ q. q.last ≤ length s.log.clauses) };
 }
 
 impl State {
-    /// Before the first line behind the header.
-    pub fn new(alloc: Global, limit: u32, log: Log) -> Result<State, AllocError>
+    /// Before the first line behind the header. Each package has a variable.
+    pub fn new(
+        alloc: Global,
+        limit: u32,
+        packages: u32,
+        future: FutureClauses,
+        log: Log,
+    ) -> Result<State, AllocError>
+        requires { packages ≤ log.variables }
         ensures within { IfOk result (λ s. IsWithinLineLimits s.log) }
         ensures value { IfOk result (λ s. s ≡ record {
           limit = limit;
-          packages = log.variables;
+          packages = packages;
           log = log;
+          future = future;
           window = record { kept = []; count = 0 };
           question = None;
           next = 1;
@@ -82,9 +93,10 @@ impl State {
         let denials = Denials::new(alloc, &log)?;
         Ok(State {
             limit,
-            packages: log.variables(),
+            packages,
             log,
             denials,
+            future,
             window: Window::new(alloc),
             question: None,
             next: 1,
@@ -115,14 +127,12 @@ impl State {
         step: &CertRecord,
     ) -> Result<Option<CertCause>, AllocError>
         requires form { KeepsRules step.now }
-        requires tools { tools.old ≡ self.now.packages }
+        requires tools { tools.old ≡ self.now.log.variables }
         ensures told { IfOk result (Tells self.now step.now) }
         ensures ready { tools.new ≡ tools.old }
     {
         match step {
-            CertRecord::Question(literals) => {
-                Ok(judge_question(self.packages, literals.as_slice()))
-            }
+            CertRecord::Question(literals) => { Ok(judge_question(&self.log, literals.as_slice())) }
             CertRecord::Derived(literals, hints) => {
                 judge_derived(&self.log, tools, literals.as_slice(), hints.as_slice())
             }
@@ -132,6 +142,7 @@ impl State {
             CertRecord::Installation(variables) => Ok(judge_installation(
                 &self.log,
                 &self.denials,
+                self.future,
                 variables.as_slice(),
             )),
             CertRecord::Undecided => {
@@ -149,10 +160,12 @@ impl State {
                 &self.window,
                 &self.group,
                 self.packages,
-                *package,
-                named.as_slice(),
-                on.as_slice(),
-                undecided.as_slice(),
+                &StrongClaim {
+                    package: *package,
+                    named: named.as_slice(),
+                    on: on.as_slice(),
+                    undecided: undecided.as_slice(),
+                },
             ),
             CertRecord::Outdated(package) => Ok(self.judge_claim(*package, false)),
             CertRecord::Alive(package, _) => Ok(self.judge_claim(*package, false)),
@@ -208,7 +221,7 @@ impl State {
 
     /// Opens a question.
     fn open(&mut self, assumptions: Literals)
-        requires { AreLiteralsOver self.old.packages assumptions }
+        requires { AreLiteralsOver self.old.log.variables assumptions }
         ensures { self.new ≡ record self.old { question = Some (record { assumptions = assumptions; last = length self.old.log.clauses }) } }
     {
         self.question = Some(Question::new(assumptions, self.log.len()));
@@ -216,7 +229,7 @@ impl State {
 
     /// Adds a derived line.
     fn derive(&mut self, tools: &mut Tools, literals: &[(u32, bool)]) -> Result<(), WorkError>
-        requires { AreLiteralsOver self.old.packages literals.now }
+        requires { AreLiteralsOver self.old.log.variables literals.now }
         ensures ok { OnOk result (self.new ≡ record self.old { log = record self.old.log { clauses = self.old.log.clauses ++ clause_of literals.now ∷ [] } }) }
         ensures err { IfErr result (IsAppendCause self.old.log (clause_of literals.now)) }
         ensures ready { tools.new ≡ tools.old }

@@ -8,7 +8,7 @@ use Rattle.dist_cert.specs.Refusal.{certificate_text}
 use Rattle.dist_cert.specs.Reading.{ReaderView, RecordAnswers, RecordCause, RecordOfSome, GivesRecord, WhereTold, text_left}
 use Rattle.dist_check.specs.Checking.{LargeCause, TextAnswers, OfText}
 use Rattle.dist_check.proofs.CheckState.{next-stops, completes, means-at, count-fits}
-use Rattle.dist_check.proofs.CheckSteps.{by-exit, at-bytes, line-stops, next-checked, limits-stay, packages-stay, reads-on}
+use Rattle.dist_check.proofs.CheckSteps.{by-exit, at-bytes, line-stops, next-checked, limits-stay, variables-stay, reads-on}
 use Rattle.dist_check.proofs.LargeCauses.{record-large, line-large}
 use Rattle.dist_check.proofs.checking.take_lines.Goals as goal
 
@@ -68,7 +68,8 @@ lines-preserved g c =
       told = λ told x. next-checked c.forms_are_clear.ensures c.args.repo.now c.args.limits.now told c.args.header.now c.lines.reader c.next.new.self left after
           c.lines.state c.take_line.new.state old new (c.lines.invariant.told told x)
           c.lines-within.ensures.within step answers cause some gives takes limits.0 limits.1;
-      tools = c.in_ok-take_line.ensures.ready ∙ c.lines.invariant.tools ∙ sym (packages-stay c.lines.state c.take_line.new.state step takes.none takes.becomes);
+      tools = c.in_ok-take_line.ensures.ready ∙ c.lines.invariant.tools
+          ∙ sym (variables-stay c.lines.state c.take_line.new.state step takes.none takes.becomes);
       reading = c.next.ensures.reading;
       only_reads = reads-on (g.D.Desk.view c.args.desk.now) old new c.lines.invariant.only_reads c.next.ensures.only_reads;
     }

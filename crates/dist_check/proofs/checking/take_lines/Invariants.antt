@@ -10,7 +10,7 @@ invariant-lines g l = record {
   checked : IsChecked l.repo l.limits None l.header l.reader None l.state;
   told : (told : Option (List ℕ)) → IsChecked l.repo l.limits told l.header l.fn.reader (text_left l.fn.reader (g.D.Desk.view l.fn.desk)) l.fn.state
       → IsChecked l.repo l.limits told l.header l.reader (text_left l.reader (g.D.Desk.view l.desk)) l.state;
-  tools : l.tools ≡ l.state.packages;
+  tools : l.tools ≡ l.state.log.variables;
   reading : IsReading (g.D.Desk.view l.desk).mode;
   only_reads : OnlyReads (g.D.Desk.view l.fn.desk) (g.D.Desk.view l.desk);
 }

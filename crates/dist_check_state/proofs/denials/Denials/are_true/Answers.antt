@@ -59,8 +59,8 @@ clause-requires-clause-from_one c =
     let here : get_or pairs place x ≡ x = sym c.index.ensures in
     let within : place < length pairs = omega (arith, c.loop-place-test.true, c.len-place-end.ensures) in
     let denials = subst (AreDenialsOf clauses) (sym c.self.view_is) c.requires.denials in
-    let is = (denials x.0 x.1).0 (place, within, here) in
-    is.0.0
+    let is = denials.numbers x.0 x.1 (place, within, here) in
+    is.0
 
 pub clause-requires-clause-to_len : goal.clause-requires-clause-to_len
 clause-requires-clause-to_len c =
@@ -72,9 +72,9 @@ clause-requires-clause-to_len c =
     let here : get_or pairs place x ≡ x = sym c.index.ensures in
     let within : place < length pairs = omega (arith, c.loop-place-test.true, c.len-place-end.ensures) in
     let denials = subst (AreDenialsOf clauses) (sym c.self.view_is) c.requires.denials in
-    let is = (denials x.0 x.1).0 (place, within, here) in
+    let is = denials.numbers x.0 x.1 (place, within, here) in
     let size = length-take-le c.args.log.now.inputs c.args.log.now.clauses (omega (arith, c.inputs-within.ensures.value, c.inputs-within.ensures.within)) in
-    let high = is.0.1 in
+    let high = is.1 in
     omega (arith, high, size, c.inputs-within.ensures.value, c.inputs-within.ensures.within)
 
 pub returns-then-not-makes_true : goal.returns-then-not-makes_true
@@ -87,10 +87,10 @@ returns-then-not-makes_true c =
     let here : get_or pairs place x ≡ x = sym c.index.ensures in
     let within : place < length pairs = omega (arith, c.loop-place-test.true, c.len-place-end.ensures) in
     let denials = subst (AreDenialsOf clauses) (sym c.self.view_is) c.requires.denials in
-    let is = (denials x.0 x.1).0 (place, within, here) in
-    let front : clause_at clauses x.1 ≡ c.clause.result.now = front-clause c.args.log.now.clauses c.args.log.now.inputs x.1 is.0.0
+    let is = denials.numbers x.0 x.1 (place, within, here) in
+    let front : clause_at clauses x.1 ≡ c.clause.result.now = front-clause c.args.log.now.clauses c.args.log.now.inputs x.1 is.0
     (let size = length-take-le c.args.log.now.inputs c.args.log.now.clauses (omega (arith, c.inputs-within.ensures.value, c.inputs-within.ensures.within)) in
-    let high = is.0.1 in omega (arith, high, size))
+    let high = is.1 in omega (arith, high, size))
     ∙ sym c.clause.ensures.value in
     let there = subst (λ (ps : List (ℕ × ℕ)). Contains ps (c.args.variable, x.1)) c.self.view_is
     (subst (λ (v : ℕ). Contains pairs (v, x.1)) c.if-denied-variable.false (place, within, here)) in (
@@ -108,10 +108,10 @@ loop-place-preserved c =
     let here : get_or pairs place x ≡ x = sym c.index.ensures in
     let within : place < length pairs = omega (arith, c.loop-place-test.true, c.len-place-end.ensures) in
     let denials = subst (AreDenialsOf clauses) (sym c.self.view_is) c.requires.denials in
-    let is = (denials x.0 x.1).0 (place, within, here) in
-    let front : clause_at clauses x.1 ≡ c.clause.result.now = front-clause c.args.log.now.clauses c.args.log.now.inputs x.1 is.0.0
+    let is = denials.numbers x.0 x.1 (place, within, here) in
+    let front : clause_at clauses x.1 ≡ c.clause.result.now = front-clause c.args.log.now.clauses c.args.log.now.inputs x.1 is.0
     (let size = length-take-le c.args.log.now.inputs c.args.log.now.clauses (omega (arith, c.inputs-within.ensures.value, c.inputs-within.ensures.within)) in
-    let high = is.0.1 in omega (arith, high, size))
+    let high = is.1 in omega (arith, high, size))
     ∙ sym c.clause.ensures.value in
     true-more value clauses pairs c.args.variable place x within here (subst (MakesTrue value) (sym front) (c.makes_true.ensures.0 c.if-not-makes_true.false))
     c.loop-place.invariant

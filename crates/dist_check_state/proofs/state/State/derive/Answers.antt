@@ -1,7 +1,9 @@
-use Rattle.std.proofs.Common.{◌∙◌, List, arith, subst, sym}
+use Rattle.std.proofs.Common.{List, ℕ, arith, subst, sym}
+use Rattle.std.specs.Option.{ForSome}
 use Rattle.dist_clause.specs.Formula.{Literal}
 use Rattle.dist_cert.specs.Groups.{clause_of}
 use Rattle.dist_check_state.specs.Denials.{AreDenialsOf}
+use Rattle.dist_check_state.specs.Since.{AreLiteralsOver}
 use Rattle.dist_check_state.proofs.Growth.{grown}
 use Rattle.dist_check_state.proofs.state.State.derive.Goals as goal
 
@@ -9,8 +11,8 @@ pub invariant_of-self : goal.invariant_of-self
 invariant_of-self c =
     let is = grown c.self.inside.log c.append.new.log (clause_of c.args.literals.now) c.append.result
     (omega (arith, c.inputs-within.ensures.value, c.inputs-within.ensures.within)) c.append.ensures.ok c.append.ensures.stays in (
-      is.variables ∙ c.self.invariant.0,
+      (let low = c.self.invariant.0 in omega (arith, low, is.variables)),
       subst (λ (cs : List (List Literal)). AreDenialsOf cs c.self.inside.denials) (sym is.inputs) c.self.invariant.1,
-      c.self.invariant.2,
+      subst (λ (n : ℕ). ForSome c.self.inside.question (λ q. AreLiteralsOver n q.assumptions)) (sym is.variables) c.self.invariant.2,
       λ q there. let low = c.self.invariant.3 q there in omega (arith, low, is.more),
     )

@@ -8,15 +8,16 @@ pub returns-in-Question-clause-told : goal.returns-in-Question-clause-told
 returns-in-Question-clause-told c =
     let found = c.judge_question.result in
     subst (λ (step : CertRecord). Tells c.args.self.now step found) (sym c.in-Question.is)
-    (subst (λ (s : StateView). TellsQuestion s.packages c.in-Question.literals found) c.self.view_is
-    (subst (λ (literals : List Word). TellsQuestion c.self.inside.packages literals found) c.as_slice.ensures c.judge_question.ensures))
+    (subst (λ (s : StateView). TellsQuestion s.log.variables c.in-Question.literals found) c.self.view_is
+    (subst (λ (literals : List Word). TellsQuestion c.self.inside.log.variables literals found) c.as_slice.ensures c.judge_question.ensures))
 
 pub returns-in-Installation-clause-told : goal.returns-in-Installation-clause-told
 returns-in-Installation-clause-told c =
     let found = c.judge_installation.result in
     subst (λ (step : CertRecord). Tells c.args.self.now step found) (sym c.in-Installation.is)
-    (subst (λ (s : StateView). TellsInstallation s.log c.in-Installation.variables found) c.self.view_is
-    (subst (λ (variables : List ℕ). TellsInstallation c.self.inside.log variables found) c.as_slice-in-Installation.ensures c.judge_installation.ensures))
+    (subst (λ (s : StateView). TellsInstallation s.log s.future c.in-Installation.variables found) c.self.view_is
+    (subst (λ (variables : List ℕ). TellsInstallation c.self.inside.log c.self.inside.future variables found) c.as_slice-in-Installation.ensures
+    c.judge_installation.ensures))
 
 pub returns-in-NotInstallable-clause-told : goal.returns-in-NotInstallable-clause-told
 returns-in-NotInstallable-clause-told c =
@@ -43,6 +44,7 @@ returns-in-Strong-clause-told c =
       limit = c.self.inside.limit;
       packages = c.self.inside.packages;
       log = c.self.inside.log;
+      future = c.self.inside.future;
       window = c.self.inside.window;
       question = c.self.inside.question;
       next = c.self.inside.next;
