@@ -11,6 +11,11 @@ returns-in_err-meanings-clause-too_many c =
     exactly-none c.args.repo c.args.essential c.in_ok-frame.frame c.args.variables c.in_err-meanings.field-0.0 c.from_residual-in_err-meanings.result
     (p.1 ∙ ap (λ (e : SpaceError). Err e) p.2) c.in_ok-frame.ensures c.in_err-meanings.ensures.err
 
+pub returns-in_err-places-clause-too_many : goal.returns-in_err-places-clause-too_many
+returns-in_err-places-clause-too_many c =
+    let p = err_from_is_err_and c.from_residual-in_err-places.result c.from_residual-in_err-places.ensures.1 in
+    λ some. absurd (some (p.1 ∙ ap (λ (e : SpaceError). Err e) p.2))
+
 pub returns-in_err-entries-clause-too_many : goal.returns-in_err-entries-clause-too_many
 returns-in_err-entries-clause-too_many c =
     let p = err_from_is_err_and c.from_residual-in_err-entries.result c.from_residual-in_err-entries.ensures.1 in
