@@ -166,7 +166,10 @@ fn matches_y(repository: &Repository, atom: &Atom) -> Option<bool>
     requires { 1 < length repository.now.packages }
 {
     let answer = repository.matches(atom, repository.package(1));
-    let is_found = repository.matched(atom).iter().any(|offer| offer.number == 1);
+    let is_found = repository
+        .matched(atom)
+        .iter()
+        .any(|offer| offer.number == 1);
     if is_found != answer {
         return None;
     }
