@@ -49,6 +49,10 @@ class File:
                 elif line.split()[0] in self.bodies:
                     name = line.split()[0]
                     self.equations.setdefault(name, []).append(line)
+                elif name in self.equations and line in ("}", ")"):
+                    self.equations[name][-1] += " " + line
+            elif name in self.equations:
+                self.equations[name][-1] += " " + line.strip()
             if name:
                 self.bodies[name] += re.sub(r'"(?:\\.|[^"])*"|--.*', " ", line) + "\n"
 
@@ -168,7 +172,8 @@ libraries, and of the questions about the future, which have no command yet.
 # Part one: what must be believed
 """
 SECOND = "# Part two: the other words of public contracts\n"
-# What the clauses of public functions are, and the members that impls and traits state.
+# What the clauses of public functions are, and those of traits, and the members that impls and traits state.
+TRAIT = re.compile(r"\npub trait .*?\n}", re.S)
 PUBLIC = re.compile(r"(?:^|\n) *pub (?:const )?fn \w+.*?(?=\n *\{|;\n| \{\n)", re.S)
 
 
@@ -181,7 +186,7 @@ def public_reached():
         for name in files:
             with open(f"{folder}/{name}", encoding="utf-8") as it:
                 text = it.read()
-            said = " ".join([*PUBLIC.findall(text), *re.findall(r"\n *ghost \w+ = [^\n]*(?:\n(?! *ghost|\n)[^\n]*)*", text)])
+            said = " ".join([*PUBLIC.findall(text), *TRAIT.findall(text), *re.findall(r"\n *ghost \w+ = [^\n]*(?:\n(?! *ghost|\n)[^\n]*)*", text)])
             left += reached_by(said, *imports(text), None)
     while left:
         at = left.pop()
@@ -210,12 +215,13 @@ def in_order(paths):
 
 
 def entries_of(path, wanted):
-    """The entries of a file: names that are wanted, and the words above them, or else the one short line that defines it."""
+    """The entries of a file: names that are wanted, and the words above them, or else what defines it, cut off where it is long."""
     file = load(path)
     for words, names in file.entries:
         told = [name for name in names if wanted(path, name)]
         if told and not words and len(told) == 1 and len(file.equations.get(told[0], [])) == 1 and not file.equations[told[0]][0].endswith("="):
-            words = f"`{file.equations[told[0]][0]}`"
+            told_by = file.equations[told[0]][0]
+            words = f"`{told_by if len(told_by) <= 400 else told_by[:400] + ' …'}`"
         if told:
             yield told, words
 
