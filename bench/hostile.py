@@ -66,6 +66,13 @@ def asked_by_many(n):
     return asks + offers, "".join(f"{letter}{k:06} 1\n" for letter in "pq" for k in range(n // 2))
 
 
+def rejecting_many(n):
+    """Packages that conflict with one version each of a name that as many provide, each at a version between theirs."""
+    rejects = "".join(stanza(f"p{k:06}", more=f"Conflicts: a (= {k}.5)\n") for k in range(n // 2))
+    offers = "".join(stanza(f"q{k:06}", more=f"Provides: a (= {k})\n") for k in range(n // 2))
+    return rejects + offers, "".join(f"{letter}{k:06} 1\n" for letter in "pq" for k in range(n // 2))
+
+
 def hints(n):
     """A derived line of n / 5 literals under a clause of as many, and one false hint n times behind it."""
     wide = n // 5
@@ -109,6 +116,8 @@ ROWS = {
     "so many packages that ask for a version of one name": (40_000, lambda n: judged(*asked_by_many(n))),
     "so many members of one name": (100_000, lambda n: judged("".join(stanza("a", k) for k in range(n)), f"a {n - 1}\n")),
     "the clauses of as many": (40_000, lambda n: clauses(asked_by_many(n)[0])),
+    "so many packages in conflict with a version of one name": (40_000, lambda n: judged(*rejecting_many(n))),
+    "the clauses of as many in conflict": (40_000, lambda n: clauses(rejecting_many(n)[0])),
     "the clauses of one conflict told again and again": (20_000, lambda n: clauses(
         "".join(stanza(f"p{k}", more="Provides: x\n") for k in range(n)) + stanza("q", more="Conflicts: " + ", ".join(["x"] * (n // 20)) + "\n"))),
     "the clauses of one alternative told again and again": (20_000, lambda n: clauses(

@@ -15,6 +15,7 @@ use Rattle.dist_now.specs.declared.kinds.Health.{Health as Judgement}
 use Rattle.dist_now.specs.declared.kinds.Health.TheVariants as health
 use Rattle.dist_cert.specs.declared.records.Claim.{Claim}
 use Rattle.dist_strong.specs.Budget.{IsBelowBudget}
+use Rattle.dist_cert.specs.declared.records.CertKind.TheVariants as kinds
 use Rattle.dist_sweep.specs.Sweep.{IsFull}
 use Rattle.dist_check.specs.Answers.{IsOfText}
 use Rattle.dist_check.specs.declared.verdict.Verdict.{Verdict}
@@ -51,7 +52,8 @@ HaveOneHealth = (r : PackageList) (essential : Bool) (flags : List Bool) (health
 
 -- a sweep is stopped by a number only where that is below its budget
 abbrev pub BudgetsSuffice : Type 0
-BudgetsSuffice = (r : PackageList) (essential : Bool) (limit : ℕ) (limits : Limits) (what : What) (text : List ℕ) → IsFull r essential limit limits what text
+BudgetsSuffice = (r : PackageList) (essential : Bool) (limit : ℕ) (limits : Limits) (what : What) (text : List ℕ)
+    → IsFull r kinds.Strong essential limit limits what text
     → IsBelowBudget limits (length r.packages) limit what
 
 -- what the ends of commands are told by

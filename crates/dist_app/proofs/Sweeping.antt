@@ -14,9 +14,10 @@ use Rattle.dist_repo.specs.PackageList.{PackageList}
 use Rattle.dist_now.specs.PresentSet.{PassesClauses, PassesLiterals}
 use Rattle.dist_cert.specs.declared.records.Claim.{Claim}
 use Rattle.dist_cert.specs.declared.records.Header.{Header}
+use Rattle.dist_cert.specs.declared.records.CertKind.TheVariants as kinds
 use Rattle.dist_subject.specs.Claims.{AreClaimsOf}
 use Rattle.dist_subject.specs.Completed.{IsCompleted}
-use Rattle.dist_subject.specs.Present.{IsAccepted}
+use Rattle.dist_subject.specs.Basis.{IsAccepted, matter_of}
 use Rattle.dist_sweep.specs.Sweep.{IsSweep, SweepAnswers, header_of}
 use Rattle.dist_check.specs.Means.{Means}
 use Rattle.dist_report.specs.StrongReport.{strong_lines}
@@ -42,12 +43,12 @@ ClaimsHold = (r : PackageList) (limits : Limits) (text : List ℕ) (h : Header) 
 pub completed_means : ClaimsHold → (r : PackageList) (limits : Limits) (text : List ℕ) (h : Header) (made : List Claim) → IsInOrder r.packages
     → IsCompleted r limits text h made → Means h.essential r made
 completed_means hold r limits text h made in_order done =
-    hold r limits text h made in_order (done.inputs, done.are_inputs, (done.steps, done.accepted, done.claims))
+    hold r limits text h made in_order (done.bases, done.are_bases, (done.steps, done.accepted, done.claims))
 
 pub sweep_means : ClaimsHold → (r : PackageList) (essential : Bool) (limit : ℕ) (limits : Limits) (text : List ℕ) (made : List Claim) → IsInOrder r.packages
-    → IsSweep r essential limit limits made text → Means essential r made
-sweep_means hold r essential limit limits text made in_order (inputs, are, (done, part)) =
-    completed_means hold r limits text (header_of r essential limit (inputs essential)) made in_order done
+    → IsSweep r kinds.Strong essential limit limits made text → Means essential r made
+sweep_means hold r essential limit limits text made in_order (bases, are, (done, part)) =
+    completed_means hold r limits text (header_of kinds.Strong essential limit (matter_of r essential (bases kinds.Strong essential))) made in_order done
 
 -- ---- a sweep
 
@@ -64,11 +65,12 @@ module _ (r : PackageList) (essential : Bool) (limit : ℕ) (limits : Limits) (n
   kept result (clauses, literals) memory no_clauses no_literals =
       ((λ passes. no_clauses ((clauses memory).1 passes)), (λ passes. no_literals ((literals memory).1 passes)))
 
-  pub claims_of : ClaimsHold → (made : List Claim) → IsInOrder r.packages → SweepAnswers r essential limit limits name old new (Ok made)
+  pub claims_of : ClaimsHold → (made : List Claim) → IsInOrder r.packages → SweepAnswers r kinds.Strong essential limit limits name old new (Ok made)
       → AreClaimsOf (length r.packages) made
   claims_of hold made in_order (text, holds, sweep) = (sweep_means hold r essential limit limits text made in_order sweep).are_claims
 
-  pub swept : (made : List Claim) (status : Status) (text : List ℕ) → SweepAnswers r essential limit limits name old new (Ok made) → status ≡ claims_status made
+  pub swept : (made : List Claim) (status : Status) (text : List ℕ) → SweepAnswers r kinds.Strong essential limit limits name old new (Ok made)
+      → status ≡ claims_status made
       → text ≡ strong_lines r.packages limit made → IsSwept old.files limits name essential limit r (answered new.files status text)
   swept made status text (bytes, holds, sweep) status_is text_is = record {
     made = made;
@@ -77,7 +79,7 @@ module _ (r : PackageList) (essential : Bool) (limit : ℕ) (limits : Limits) (n
     is = rw (holds.files, status_is, text_is) refl;
   }
 
-  pub unreported : (made : List Claim) → Exact (Ok made) → SweepAnswers r essential limit limits name old new (Ok made)
+  pub unreported : (made : List Claim) → Exact (Ok made) → SweepAnswers r kinds.Strong essential limit limits name old new (Ok made)
       → SweepStops r essential limit limits name old new refusal.NoMemory
   unreported made exact answers =
       inr (inr (inr (
@@ -100,7 +102,7 @@ module _ (r : PackageList) (essential : Bool) (limit : ℕ) (limits : Limits) (n
       error_is : {x y : WorkError} → ◌≡◌ {A = Result (List Claim) WorkError} (Err x) (Err y) → x ≡ y
       error_is {x} {y} e = cc
 
-  pub sweep_refused : (error : WorkError) → Exact (Err error) → SweepAnswers r essential limit limits name old new (Err error)
+  pub sweep_refused : (error : WorkError) → Exact (Err error) → SweepAnswers r kinds.Strong essential limit limits name old new (Err error)
       → SweepStops r essential limit limits name old new (refusal_of error)
   sweep_refused work.ReadFault exact answers = absurd answers
   sweep_refused work.WriteFault exact (rose, leaves) =
@@ -124,13 +126,7 @@ module _ (r : PackageList) (essential : Bool) (limit : ℕ) (limits : Limits) (n
         full = full;
         is = ap (λ (f : Option Files). refused f (refusal.TooLarge what.Stanzas)) holds.files;
       })
-  sweep_refused (work.TooLarge what.Variables) exact (text, holds, full) =
-      stopped what.Variables exact (λ e. cc) (λ e. cc) (record {
-        what = what.Variables;
-        text = text;
-        full = full;
-        is = ap (λ (f : Option Files). refused f (refusal.TooLarge what.Variables)) holds.files;
-      })
+  sweep_refused (work.TooLarge what.Variables) exact (same, passes) = absurd passes
   sweep_refused (work.TooLarge what.Lines) exact (text, holds, full) =
       stopped what.Lines exact (λ e. cc) (λ e. cc) (record {
         what = what.Lines;

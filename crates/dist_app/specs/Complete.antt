@@ -12,6 +12,7 @@ use Rattle.dist_repo.specs.PackageList.{PackageList}
 use Rattle.dist_now.specs.Health.{IsHealth}
 use Rattle.dist_now.specs.declared.kinds.Health.TheVariants.{Healthy}
 use Rattle.dist_strong.specs.Budget.{IsBelowBudget}
+use Rattle.dist_cert.specs.declared.records.CertKind.TheVariants as kinds
 use Rattle.dist_sweep.specs.Sweep.{IsFull}
 use Rattle.dist_check.specs.Answers.{IsOfText}
 use Rattle.dist_check.specs.declared.verdict.Verdict.{Verdict}
@@ -69,7 +70,7 @@ pub record StopsBelowBudget (r : PackageList) (essential : Bool) (limit : ℕ) (
   pub what : What
   pub stopped : status ≡ TooLarge
   pub below : IsBelowBudget limits (length r.packages) limit what
-  pub full : IsFull r essential limit limits what text
+  pub full : IsFull r kinds.Strong essential limit limits what text
 
 -- The input clauses of PACKAGES keep their numbers. The part that stopped stands in CERT.
 abbrev pub StrongIsComplete : List (List ℕ) → Limits → Status → (files left : Option Files) → Type 0

@@ -5,6 +5,7 @@ use Rattle.dist_outside.specs.Files.{Files, IsNotWriting, with_file}
 use Rattle.dist_outside.specs.DeskView.{DeskView}
 use Rattle.dist_outside.specs.declared.limits.Limits.{Limits}
 use Rattle.dist_repo.specs.PackageList.{PackageList}
+use Rattle.dist_cert.specs.declared.records.CertKind.TheVariants as kinds
 use Rattle.dist_sweep.specs.Sweep.{IsCutSweep}
 use Rattle.dist_words.specs.CommandLine.{CommandLine}
 use Rattle.dist_app.specs.Command.{CommandDecides, CommandIsGivenUp, IsApart}
@@ -30,7 +31,8 @@ IsDue Decided old new refusal = ((refusal ≡ ReadFault) × Rose old.read_faults
 -- the file is as before, or holds what a sweep may have written so far
 abbrev pub LeavesCut : PackageList → Bool → ℕ → Limits → (name : List ℕ) → (files left : Option Files) → Type 0
 LeavesCut r essential limit limits name files left =
-    (left ≡ files) ⊎ ((text : List ℕ) × IsCutSweep r essential limit limits text × (left ≡ with_file files name text))
+    (left ≡ files) ⊎ ((text : List ℕ) × IsCutSweep r kinds.Strong essential limit limits text
+    × (left ≡ with_file files name text))
 
 -- A sweep was given up: its clauses pass a number, a later line does, a fault of writing was counted, or memory was
 -- wanted, perhaps for the report alone.

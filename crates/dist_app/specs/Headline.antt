@@ -4,7 +4,6 @@ use Rattle.dist_outside.specs.DeskView.{DeskView}
 use Rattle.dist_outside.specs.Files.{IsPresent, file_bytes, with_file}
 use Rattle.dist_outside.specs.SinkView.{SinkView, Grew}
 use Rattle.dist_outside.specs.declared.limits.Limits.{Limits}
-use Rattle.dist_clause.specs.Formula.{Literal}
 use Rattle.dist_derive.specs.Cone.{InCone}
 use Rattle.dist_repo.specs.PackageList.{PackageList}
 use Rattle.dist_cert.specs.Accepted.{IsAcceptedAs}
@@ -14,8 +13,9 @@ use Rattle.dist_cert.specs.Tried.{AreMarksTried}
 use Rattle.dist_cert.specs.declared.records.CertRecord.{CertRecord}
 use Rattle.dist_cert.specs.declared.records.Claim.{Claim}
 use Rattle.dist_cert.specs.declared.records.Header.{Header}
+use Rattle.dist_cert.specs.declared.records.CertKind.TheVariants as kinds
 use Rattle.dist_subject.specs.Completed.{IsCompleted}
-use Rattle.dist_subject.specs.Present.{AreInputs, matter_of, subject_of}
+use Rattle.dist_subject.specs.Basis.{AreBases, Bases, matter_for, subject_of}
 use Rattle.dist_sweep.specs.Sweep.{IsSweep}
 use Rattle.dist_check.specs.Answers.{AcceptedMeans}
 use Rattle.dist_check.specs.Checking.{OfText}
@@ -43,7 +43,7 @@ pub record ProvesStrong (limits : Limits) (packages cert : List ℕ) (essential 
   pub read : PackagesStage desk.files limits packages (Goes repository)
   pub made : List Claim
   pub text : List ℕ
-  pub certificate : IsSweep repository essential limit limits made text
+  pub certificate : IsSweep repository kinds.Strong essential limit limits made text
   pub files : desk'.files ≡ with_file desk.files cert text
   pub means : Means essential repository made
   pub printed : Grew (strong_lines repository.packages limit made) out out'
@@ -79,14 +79,15 @@ CheckIsProved words limits result desk desk' out out' = (packages cert : List �
 -- A question that an accepted text leaves undecided is hard: its limit is at most 3 to the power of the number of
 -- variables that it reaches.
 abbrev pub UndecidedAreHard : Limits → Type 0
-UndecidedAreHard limits = (r : PackageList) (inputs : Bool → List (List Literal)) (text : List ℕ) (h : Header)
+UndecidedAreHard limits = (r : PackageList) (bases : Bases) (text : List ℕ) (h : Header)
     (steps : List CertRecord) (question : List Word) (cone : List ℕ)
-    → AreInputs r inputs → IsAcceptedAs (subject_of r inputs) limits text h steps → IsUndecidedIn steps question
-    → ((v : ℕ) → Contains cone v ↔ InCone (inputs h.essential) (clause_of question) v) → h.limit ≤ 3 ^ length cone
+    → AreBases r bases → IsAcceptedAs (subject_of r bases) limits text h steps → IsUndecidedIn steps question
+    → ((v : ℕ) → Contains cone v ↔ InCone (matter_for r bases h).inputs (clause_of question) v)
+    → h.limit ≤ 3 ^ length cone
 
 -- What an accepted text leaves undecided was tried: each mark's question is closed in the text behind at least as many
 -- derived lines as the limit, each of which follows and was new.
 abbrev pub MarksAreTried : Limits → Type 0
-MarksAreTried limits = (r : PackageList) (inputs : Bool → List (List Literal)) (text : List ℕ) (h : Header)
-    (steps : List CertRecord) → IsAcceptedAs (subject_of r inputs) limits text h steps
-    → AreMarksTried (matter_of r h.essential (inputs h.essential)) h.kind h.limit steps
+MarksAreTried limits = (r : PackageList) (bases : Bases) (text : List ℕ) (h : Header)
+    (steps : List CertRecord) → IsAcceptedAs (subject_of r bases) limits text h steps
+    → AreMarksTried (matter_for r bases h) h.kind h.limit steps

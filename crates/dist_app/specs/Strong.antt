@@ -7,6 +7,7 @@ use Rattle.dist_outside.specs.declared.trouble.What.TheVariants.{Clauses, Litera
 use Rattle.dist_repo.specs.PackageList.{PackageList}
 use Rattle.dist_now.specs.PresentSet.{PassesClauses, PassesLiterals}
 use Rattle.dist_cert.specs.declared.records.Claim.{Claim}
+use Rattle.dist_cert.specs.declared.records.CertKind.TheVariants as kinds
 use Rattle.dist_sweep.specs.Sweep.{IsSweep, IsFull, IsCutSweep}
 use Rattle.dist_report.specs.StrongReport.{strong_lines}
 use Rattle.dist_app.specs.Claims.{claims_status}
@@ -31,7 +32,7 @@ pub record IsSwept (files : Option Files) (limits : Limits) (cert : List ℕ) (e
     (r : PackageList) (ending : Ending) : Type 0 where
   pub made : List Claim
   pub text : List ℕ
-  pub certificate : IsSweep r essential limit limits made text
+  pub certificate : IsSweep r kinds.Strong essential limit limits made text
   pub is : ending ≡ answered (with_file files cert text) (claims_status made)
       (strong_lines r.packages limit made)
 
@@ -40,7 +41,7 @@ pub record IsSweepStopped (files : Option Files) (limits : Limits) (cert : List 
     (r : PackageList) (ending : Ending) : Type 0 where
   pub what : What
   pub text : List ℕ
-  pub full : IsFull r essential limit limits what text
+  pub full : IsFull r kinds.Strong essential limit limits what text
   pub is : ending ≡ refused (with_file files cert text) (TooLarge what)
 
 abbrev pub Sweeps : Option Files → Limits → (cert : List ℕ) → Bool → ℕ → PackageList → Ending → Type 0
@@ -63,6 +64,6 @@ pub record IsSweepGivenUp (files : Option Files) (limits : Limits) (packages cer
   pub read : PackagesStage files limits packages (Goes repository)
   pub kept : refusal ≡ WriteFault → ClausesStage files limits essential repository (Goes tt)
   pub left : Option Files
-  pub leaves : (left ≡ files) ⊎ ((text : List ℕ) × IsCutSweep repository essential limit limits text
+  pub leaves : (left ≡ files) ⊎ ((text : List ℕ) × IsCutSweep repository kinds.Strong essential limit limits text
       × (left ≡ with_file files cert text))
   pub is : ending ≡ refused left refusal

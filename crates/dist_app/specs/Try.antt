@@ -9,6 +9,7 @@ use Rattle.dist_package.specs.RepositoryOf.{IsRepositoryOf}
 use Rattle.dist_repo.specs.PackageList.{PackageList}
 use Rattle.dist_cert.specs.declared.records.Claim.{Claim}
 use Rattle.dist_generate.specs.Generator.{generated}
+use Rattle.dist_cert.specs.declared.records.CertKind.TheVariants as kinds
 use Rattle.dist_sweep.specs.Sweep.{IsFull, IsSweep}
 use Rattle.dist_trial.specs.Summary.{summary_text}
 use Rattle.dist_app.specs.Claims.{claims_status}
@@ -31,14 +32,14 @@ pub record IsTrialTold (files : Option Files) (limits : Limits) (size : ℕ) (r 
   where
     pub made : List Claim
     pub text : List ℕ
-    pub certificate : IsSweep r false DEFAULT_LIMIT limits made text
+    pub certificate : IsSweep r kinds.Strong false DEFAULT_LIMIT limits made text
     pub is : ending ≡ answered files (claims_status made) (summary_text size made)
 
 -- A part of such a certificate stopped, since one line more would pass a number.
 pub record IsTrialStopped (files : Option Files) (limits : Limits) (r : PackageList) (ending : Ending) : Type 0 where
   pub what : What
   pub text : List ℕ
-  pub full : IsFull r false DEFAULT_LIMIT limits what text
+  pub full : IsFull r kinds.Strong false DEFAULT_LIMIT limits what text
   pub is : ending ≡ refused files (TooLarge what)
 
 abbrev pub Tries : Option Files → Limits → (size : ℕ) → PackageList → Ending → Type 0

@@ -1,6 +1,6 @@
 //! What is told of the claims of a certificate.
 ghost use Rattle.std.specs.Prelude.{◌≡◌, IfOk};
-ghost use Rattle.dist_report.specs.StrongReport.{strong_lines};
+ghost use Rattle.dist_report.specs.ReportText.{IsReportText};
 ghost use Rattle.dist_app.specs.Claims.{claims_status, marked_status};
 
 use crate::answer::Answer;
@@ -29,7 +29,7 @@ pub(crate) fn tell_claims(
     claims: &Claims,
 ) -> Result<Answer, AllocError>
     ensures status { IfOk result (λ answer. answer.status ≡ claims_status claims.now) }
-    ensures text { IfOk result (λ answer. answer.text.items ≡ strong_lines repository.now.packages header.now.limit claims.now) }
+    ensures text { IfOk result (λ answer. IsReportText repository.now header.now claims.now answer.text.items) }
 {
     let text = text(alloc, repository, header, claims)?;
     Ok(Answer {

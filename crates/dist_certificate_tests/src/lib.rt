@@ -1,11 +1,17 @@
-//! The lines of certificates; sweeps, certificates and their checks, and the reports of claims, over repositories of a few
-//! stanzas; whole trials. Tests alone.
+//! The search and certificates: clauses, derived lines and questions; the lines of certificates; sweeps, certificates and their
+//! checks over repositories of a few stanzas; reports; whole trials. Tests alone.
 #![tactic(auto)]
 
 #[cfg(test)]
 mod accepted;
 #[cfg(test)]
+mod claim_reports;
+#[cfg(test)]
 mod claim_rules;
+#[cfg(test)]
+mod clauses;
+#[cfg(test)]
+mod derived_lines;
 #[cfg(test)]
 mod faults;
 #[cfg(test)]
@@ -17,11 +23,15 @@ mod line_lists;
 #[cfg(test)]
 mod line_texts;
 #[cfg(test)]
+mod numbers;
+#[cfg(test)]
+mod questions;
+#[cfg(test)]
+mod reports;
+#[cfg(test)]
 mod stanzas;
 #[cfg(test)]
 mod states;
-#[cfg(test)]
-mod strong_reports;
 #[cfg(test)]
 mod sweeps;
 #[cfg(test)]

@@ -15,6 +15,7 @@ use Rattle.dist_now.specs.PresentClauses.{ArePresentClauses}
 use Rattle.dist_cert.specs.declared.faults.CertCause.{CertCause}
 use Rattle.dist_cert.specs.declared.faults.CertCause.TheVariants as causes
 use Rattle.dist_cert.specs.declared.faults.CertFault.{CertFault}
+use Rattle.dist_cert.specs.declared.records.CertKind.{CertKind}
 use Rattle.dist_cert.specs.declared.records.CertKind.TheVariants as kinds
 use Rattle.dist_cert.specs.declared.records.CertRecord.{CertRecord}
 use Rattle.dist_cert.specs.declared.records.CertRecord.TheVariants.{Derived, End}
@@ -28,29 +29,39 @@ use Rattle.dist_cert.specs.OneVerdictLaws.{one_line}
 use Rattle.dist_cert.specs.Reading.{ReaderView, PassesWhole, KeepsLimits, HeaderFault, RecordFault}
 use Rattle.dist_cert.specs.Refusal.{IsOneLine, BeginsWith, lines_text, certificate_text, Fits, IsTooLong, HasFirstFault, HasLineFault, in_order}
 use Rattle.dist_cert.specs.Refusal.{IsFirstOf, AreFaultless}
+use Rattle.dist_cert.specs.Subject.{Matter}
 use Rattle.dist_cert.specs.SomeVerdictLaws.{split_push, grown}
 use Rattle.dist_check.specs.Checking.{IsReached, HasInputsWithin, StopsFirst, StopsLater, StopsAtDerived, HasLargeInputs}
-use Rattle.dist_subject.specs.Present.{AreInputs, matter_of, subject_of}
+use Rattle.dist_subject.specs.Basis.{AreBases, Basis, Bases, IsBasisOf, Later, Today, matter_for, matter_of, subject_of}
 use Rattle.dist_check.specs.Limited.{AreInputsWithin}
 use Rattle.dist_check.specs.Start.{IsUnfit}
 use Rattle.dist_cert.specs.ListLaws.{contains-cases, contains-later}
 use Rattle.dist_check.proofs.Profile.{IsFaultless, HasFirst}
 use Rattle.dist_check.specs.CheckedPrivate.{AreRight, HaveForms}
 
--- ---- inputs
+-- ---- what certificates are judged by
 
-abbrev pub ThereAreClauses : Type 0
-ThereAreClauses = (r : PackageList) (essential : Bool) → IsInOrder r.packages → (clauses : List (List Literal)) × ArePresentClauses r essential clauses
+abbrev pub BasesAreThere : Type 0
+BasesAreThere = (r : PackageList) → IsInOrder r.packages → (bases : Bases) × AreBases r bases
 
-abbrev pub ClausesAreOne : Type 0
-ClausesAreOne = (r : PackageList) (essential : Bool) (clauses other : List (List Literal)) → ArePresentClauses r essential clauses
-    → ArePresentClauses r essential other → other ≡ clauses
+abbrev pub BasesAreOne : Type 0
+BasesAreOne = (r : PackageList) (kind : CertKind) (essential : Bool) (basis other : Basis) → IsBasisOf r kind essential basis
+    → IsBasisOf r kind essential other → other ≡ basis
 
-abbrev pub inputs_by : ThereAreClauses → (r : PackageList) → IsInOrder r.packages → Bool → List (List Literal)
-inputs_by there r ordered essential = (there r essential ordered).0
+-- of kind strong they are the clauses of the present
+pub record IsToday (r : PackageList) (essential : Bool) (basis : Basis) : Type 0 where
+  pub inputs : List (List Literal)
+  pub is : basis ≡ Today inputs
+  pub are : ArePresentClauses r essential inputs
 
-pub are-inputs : (there : ThereAreClauses) (r : PackageList) (ordered : IsInOrder r.packages) → AreInputs r (inputs_by there r ordered)
-are-inputs there r ordered essential = (there r essential ordered).1
+pub today-of : (r : PackageList) (essential : Bool) (basis : Basis) → IsBasisOf r kinds.Strong essential basis → IsToday r essential basis
+today-of r essential (Today inputs) is = record { inputs = inputs; is = refl; are = is }
+today-of r essential (Later space inputs) is = absurd is
+
+pub inputs-are-present : (r : PackageList) (essential : Bool) (basis : Basis) → IsBasisOf r kinds.Strong essential basis
+    → ArePresentClauses r essential (matter_of r essential basis).inputs
+inputs-are-present r essential (Today inputs) is = is
+inputs-are-present r essential (Later space inputs) is = absurd is
 
 -- ---- the first line
 
@@ -61,37 +72,37 @@ begins-whole text line more begins one = whole_line line more (subst IsOneLine b
 same-begin : (text a b more other : List ℕ) → BeginsWith text a more → BeginsWith text b other → (a ≡ b) × (more ≡ other)
 same-begin text a b more other x y = one_line a b more other x.one_line y.one_line (sym x.ended ∙ y.ended)
 
-pub header-refused : (there : ThereAreClauses) (r : PackageList) (ordered : IsInOrder r.packages) (limits : Limits) (reader : ReaderView)
+pub header-refused : (there : BasesAreThere) (r : PackageList) (ordered : IsInOrder r.packages) (limits : Limits) (reader : ReaderView)
     → reader.limits ≡ limits → reader.given ≡ 0 → (text : List ℕ) (cause : CertCause)
     → HeaderFault reader text cause → StopsFirst r limits text cause
 header-refused there r ordered limits reader same none text cause fault =
     by cause (subst (λ l. HeaderFault (record reader { limits = l; given = 0 }) text cause) same
     (subst (λ n. HeaderFault (record reader { given = n }) text cause) none fault))
   where
-    inputs : Bool → List (List Literal)
-    inputs = inputs_by there r ordered
+    bases : Bases
+    bases = (there r ordered).0
 
-    other : (c : CertCause) → (c ≡ causes.BadHeader → ⊥) → c ≡ causes.BadHeader → HasInputsWithin inputs limits text
+    other : (c : CertCause) → (c ≡ causes.BadHeader → ⊥) → c ≡ causes.BadHeader → HasInputsWithin r bases limits text
     other c never is = absurd (never is)
 
     by : (c : CertCause) → HeaderFault (record reader { limits = limits; given = 0 }) text c → StopsFirst r limits text c
     by causes.LineTooLong f = record {
-      inputs = inputs;
-      are_inputs = are-inputs there r ordered;
+      bases = bases;
+      are_bases = (there r ordered).1;
       bytes = f.0;
       first = inl (f.1, refl);
       within = other causes.LineTooLong (λ e. cc);
     }
     by causes.Truncated f = record {
-      inputs = inputs;
-      are_inputs = are-inputs there r ordered;
+      bases = bases;
+      are_bases = (there r ordered).1;
       bytes = f.0.whole;
       first = inr (f.0.line, inl (f.1, refl));
       within = other causes.Truncated (λ e. cc);
     }
     by causes.BadHeader f = record {
-      inputs = inputs;
-      are_inputs = are-inputs there r ordered;
+      bases = bases;
+      are_bases = (there r ordered).1;
       bytes = f.0.whole;
       first = inr (f.0.line, inr (begins-whole text f.1.0 f.1.1 f.1.2, inl ((f.1.0, f.1.1, f.1.2, λ h form. absurd (f.1.3 h form)), refl)));
       within = λ is h line more begins form strong.
@@ -100,38 +111,47 @@ header-refused there r ordered limits reader same none text cause fault =
     by c f = absurd f
 
 -- a first line of another kind, or with wrong numbers
-pub header-unfit : FormsAreClear → (there : ThereAreClauses) → ClausesAreOne
+pub header-unfit : FormsAreClear → (there : BasesAreThere) → BasesAreOne
     → (r : PackageList) (ordered : IsInOrder r.packages) (limits : Limits) (text line more : List ℕ) (h : Header) → KeepsLimits limits 0 text
     → BeginsWith text line more
     → HasHeaderForm line h → IsUnfit r limits h → StopsFirst r limits text causes.BadHeader
 header-unfit clear there one r ordered limits text line more h keeps begins form unfit = record {
-  inputs = inputs_by there r ordered;
-  are_inputs = are-inputs there r ordered;
+  bases = (there r ordered).0;
+  are_bases = (there r ordered).1;
   bytes = keeps.whole;
   first = inr (keeps.line, inr (begins-whole text line more begins, inl ((line, more, begins, never), refl)));
   within = λ is k other rest other_begins kform strong.
       let same : k ≡ h = clear.one_header line k h (subst (λ l. HasHeaderForm l k) (same-begin text other line rest more other_begins begins).0 kform) form in
-      subst (λ g. AreInputsWithin limits (inputs_by there r ordered g.essential)) (sym same) (kept (ap (λ (g : Header). g.kind) (sym same) ∙ strong));
+      subst (λ g. AreInputsWithin limits (matter_for r (there r ordered).0 g).inputs) (sym same) (kept (ap (λ (g : Header). g.kind) (sym same) ∙ strong));
 }
   where
-    kept : h.kind ≡ kinds.Strong → AreInputsWithin limits (inputs_by there r ordered h.essential)
+    bases : Bases
+    bases = (there r ordered).0
+
+    basis : IsBasisOf r kinds.Strong h.essential (bases h.kind h.essential)
+    basis = (there r ordered).1 h.kind h.essential
+
+    -- the clauses of the present are those that are judged by
+    same-inputs : (clauses : List (List Literal)) → ArePresentClauses r h.essential clauses → (matter_for r bases h).inputs ≡ clauses
+    same-inputs clauses are =
+        ap (λ (x : Basis). (matter_of r h.essential x).inputs) (one r kinds.Strong h.essential (Today clauses) (bases h.kind h.essential) are basis)
+
+    kept : h.kind ≡ kinds.Strong → AreInputsWithin limits (matter_for r bases h).inputs
     kept strong = ⊎_elim (λ other. absurd (other strong))
-        (λ wrong. subst (AreInputsWithin limits) (sym (one r h.essential wrong.0 (inputs_by there r ordered h.essential) wrong.1
-        (are-inputs there r ordered h.essential))) wrong.2)
+        (λ wrong. subst (AreInputsWithin limits) (sym (same-inputs wrong.0 wrong.1)) wrong.2)
         unfit
 
-    never : (k : Header) → HasHeaderForm line k → ¬ Fits (subject_of r (inputs_by there r ordered)) k
+    never : (k : Header) → HasHeaderForm line k → ¬ Fits (subject_of r bases) k
     never k kform fits =
         let same : k ≡ h = clear.one_header line k h kform form in
-        let fits_h : Fits (subject_of r (inputs_by there r ordered)) h = subst (Fits (subject_of r (inputs_by there r ordered))) same fits in
+        let fits_h : Fits (subject_of r bases) h = subst (Fits (subject_of r bases)) same fits in
         ⊎_elim (λ other. other fits_h.taken)
         (λ wrong.
-        let clauses : inputs_by there r ordered h.essential ≡ wrong.0 =
-        one r h.essential wrong.0 (inputs_by there r ordered h.essential) wrong.1 (are-inputs there r ordered h.essential) in
+        let today = today-of r h.essential (bases h.kind h.essential) basis in
         wrong.3 (record {
-          packages = fits_h.packages;
-          variables = fits_h.variables;
-          clause_count = fits_h.clauses ∙ ap (λ (cs : List (List Literal)). length cs) clauses;
+          packages = fits_h.packages ∙ ap (λ (x : Basis). (matter_of r h.essential x).packages) today.is;
+          variables = fits_h.variables ∙ ap (λ (x : Basis). (matter_of r h.essential x).variables) today.is;
+          clause_count = fits_h.clauses ∙ ap (λ (cs : List (List Literal)). length cs) (same-inputs wrong.0 wrong.1);
         }))
         unfit
 
@@ -142,10 +162,10 @@ large-inputs r limits text line more h keeps begins form strong Passes passes =
     record { keeps = keeps; h = h; line = line; more = more; begins = begins; form = form; strong = strong; passes = passes }
 
 -- the header of a text, behind which nothing was read
-pub starts-faultless : FormsAreClear → (r : PackageList) (inputs : Bool → List (List Literal)) (limits : Limits) (text line more : List ℕ) (h : Header)
+pub starts-faultless : FormsAreClear → (r : PackageList) (bases : Bases) (limits : Limits) (text line more : List ℕ) (h : Header)
     → KeepsLimits limits 0 text → BeginsWith text line more → HasHeaderForm line h
-    → Fits (subject_of r inputs) h → AreFaultless (subject_of r inputs) limits text h [] more
-starts-faultless clear r inputs limits text line more h keeps begins form fits = record {
+    → Fits (subject_of r bases) h → AreFaultless (subject_of r bases) limits text h [] more
+starts-faultless clear r bases limits text line more h keeps begins form fits = record {
   reads = record {
     text_is = begins.ended ∙ ap (λ (l : List ℕ). l ++ line_feed ∷ more) form.text ∙ sym (append_assoc (header_text h) (line_feed ∷ []) more);
     header = subst (λ l. HasHeaderForm l h) form.text form;
@@ -155,7 +175,7 @@ starts-faultless clear r inputs limits text line more h keeps begins form fits =
   later = λ earlier step others e. absurd (not_among earlier step others e);
 }
   where
-    first : (cause : CertCause) → ¬ HasFirstFault (subject_of r inputs) limits text cause
+    first : (cause : CertCause) → ¬ HasFirstFault (subject_of r bases) limits text cause
     first causes.LineTooLong f = keeps.line f
     first causes.Truncated f = begins-whole text line more begins f
     first causes.BadHeader f = f.3 h (subst (λ l. HasHeaderForm l h) (same-begin text line f.0 more f.1 begins f.2).0 form) fits
@@ -197,23 +217,23 @@ ended-push (s ∷ steps) step none =
 -- ---- a later line
 
 -- the line behind lines that are reached has a fault of form, cut or length
-pub record-refused : FormsAreClear → (r : PackageList) (inputs : Bool → List (List Literal)) (limits : Limits) (text : List ℕ) (h : Header)
-    (before : List CertRecord) (rest : List ℕ) (reader : ReaderView) → IsReached r inputs limits text h before rest
+pub record-refused : FormsAreClear → (r : PackageList) (bases : Bases) (limits : Limits) (text : List ℕ) (h : Header)
+    (before : List CertRecord) (rest : List ℕ) (reader : ReaderView) → IsReached r bases limits text h before rest
     → reader.limits ≡ limits → reader.given ≡ length (certificate_text h before) → reader.ended ≡ list_any is_end before → (fault : CertFault)
     → fault.line ≡ length before + 2 → RecordFault reader rest fault.cause → StopsLater r limits text fault
-record-refused clear r inputs limits text h before rest reader reached same given ended fault line bad =
+record-refused clear r bases limits text h before rest reader reached same given ended fault line bad =
     by fault.cause refl (subst (λ l. RecordFault (record reader { limits = l; given = length (certificate_text h before); ended = list_any is_end before }) rest
     fault.cause) same
     (subst (λ n. RecordFault (record reader { given = n; ended = list_any is_end before }) rest fault.cause) given
     (subst (λ e. RecordFault (record reader { ended = e }) rest fault.cause) ended bad)))
   where
     Has : CertCause → Type 0
-    Has = HasLineFault (subject_of r inputs) limits h before rest
+    Has = HasLineFault (subject_of r bases) limits h before rest
 
     stops : (c : CertCause) → fault.cause ≡ c → ¬ PassesWhole limits (length (certificate_text h before)) rest → IsFirstOf in_order Has c
         → StopsLater r limits text fault
     stops c is bytes first = record {
-      inputs = inputs;
+      bases = bases;
       h = h;
       before = before;
       rest = rest;
@@ -276,75 +296,75 @@ short-line limits line more one keeps = elim (cases_lt (length line) limits.reco
 ]
 
 -- A line with the form of a record, behind lines that are reached.
-pub record IsLineNext (r : PackageList) (inputs : Bool → List (List Literal)) (limits : Limits) (text : List ℕ) (h : Header) (before : List CertRecord)
+pub record IsLineNext (r : PackageList) (bases : Bases) (limits : Limits) (text : List ℕ) (h : Header) (before : List CertRecord)
     (rest line more : List ℕ) (step : CertRecord) : Type 0 where
-  pub reached : IsReached r inputs limits text h before rest
+  pub reached : IsReached r bases limits text h before rest
   pub keeps : KeepsLimits limits (length (certificate_text h before)) rest
   pub begins : BeginsWith rest line more
   pub form : HasForm line step
   pub open_still : ¬ Contains before End
 
-to-record : FormsAreClear → (r : PackageList) (inputs : Bool → List (List Literal)) (limits : Limits) (text : List ℕ) (h : Header) (before : List CertRecord)
+to-record : FormsAreClear → (r : PackageList) (bases : Bases) (limits : Limits) (text : List ℕ) (h : Header) (before : List CertRecord)
     (rest line more : List ℕ) (step : CertRecord)
-    → IsLineNext r inputs limits text h before rest line more step → (cause : CertCause) → HasLineFault (subject_of r inputs) limits h before rest cause
-    → HasRecordFault (matter_of r h.essential (inputs h.essential)) h before step cause
-to-record clear r inputs limits text h before rest line more step x cause fault =
+    → IsLineNext r bases limits text h before rest line more step → (cause : CertCause) → HasLineFault (subject_of r bases) limits h before rest cause
+    → HasRecordFault (matter_for r bases h) h before step cause
+to-record clear r bases limits text h before rest line more step x cause fault =
     let form : HasForm (record_text step) step = subst (λ l. HasForm l step) x.form.text x.form in
     let is : rest ≡ record_text step ++ line_feed ∷ more = x.begins.ended ∙ ap (λ (l : List ℕ). l ++ line_feed ∷ more) x.form.text in
     let keeps : ¬ IsTooLong limits (record_text step ++ line_feed ∷ more) = subst (λ bytes. ¬ IsTooLong limits bytes) is x.keeps.line in
-    line_to_record clear (subject_of r inputs) limits h before step more form x.open_still
+    line_to_record clear (subject_of r bases) limits h before step more form x.open_still
     (short-line limits (record_text step) more (clear.record_line step form) keeps) cause
-    (subst (λ bytes. HasLineFault (subject_of r inputs) limits h before bytes cause) is fault)
+    (subst (λ bytes. HasLineFault (subject_of r bases) limits h before bytes cause) is fault)
 
-from-record : FormsAreClear → (r : PackageList) (inputs : Bool → List (List Literal)) (limits : Limits) (text : List ℕ) (h : Header) (before : List CertRecord)
+from-record : FormsAreClear → (r : PackageList) (bases : Bases) (limits : Limits) (text : List ℕ) (h : Header) (before : List CertRecord)
     (rest line more : List ℕ) (step : CertRecord)
-    → IsLineNext r inputs limits text h before rest line more step → (cause : CertCause)
-    → HasRecordFault (matter_of r h.essential (inputs h.essential)) h before step cause → HasLineFault (subject_of r inputs) limits h before rest cause
-from-record clear r inputs limits text h before rest line more step x cause fault =
+    → IsLineNext r bases limits text h before rest line more step → (cause : CertCause)
+    → HasRecordFault (matter_for r bases h) h before step cause → HasLineFault (subject_of r bases) limits h before rest cause
+from-record clear r bases limits text h before rest line more step x cause fault =
     let form : HasForm (record_text step) step = subst (λ l. HasForm l step) x.form.text x.form in
     let is : record_text step ++ line_feed ∷ more ≡ rest = sym (x.begins.ended ∙ ap (λ (l : List ℕ). l ++ line_feed ∷ more) x.form.text) in
-    subst (λ bytes. HasLineFault (subject_of r inputs) limits h before bytes cause) is
-    (record_to_line clear (subject_of r inputs) limits h before step more form cause fault)
+    subst (λ bytes. HasLineFault (subject_of r bases) limits h before bytes cause) is
+    (record_to_line clear (subject_of r bases) limits h before step more form cause fault)
 
-pub step-refused : FormsAreClear → (r : PackageList) (inputs : Bool → List (List Literal)) (limits : Limits) (text : List ℕ) (h : Header)
+pub step-refused : FormsAreClear → (r : PackageList) (bases : Bases) (limits : Limits) (text : List ℕ) (h : Header)
     (before : List CertRecord) (rest line more : List ℕ) (step : CertRecord)
-    → IsLineNext r inputs limits text h before rest line more step → (fault : CertFault) → fault.line ≡ length before + 2
-    → HasFirst (matter_of r h.essential (inputs h.essential)) h before step fault.cause → StopsLater r limits text fault
-step-refused clear r inputs limits text h before rest line more step x fault number first = record {
-  inputs = inputs;
+    → IsLineNext r bases limits text h before rest line more step → (fault : CertFault) → fault.line ≡ length before + 2
+    → HasFirst (matter_for r bases h) h before step fault.cause → StopsLater r limits text fault
+step-refused clear r bases limits text h before rest line more step x fault number first = record {
+  bases = bases;
   h = h;
   before = before;
   rest = rest;
   reached = x.reached;
   bytes = x.keeps.whole;
   line = number;
-  first = map_first (HasRecordFault (matter_of r h.essential (inputs h.essential)) h before step) (HasLineFault (subject_of r inputs) limits h before rest)
-      (from-record clear r inputs limits text h before rest line more step x) (to-record clear r inputs limits text h before rest line more step x) in_order
+  first = map_first (HasRecordFault (matter_for r bases h) h before step) (HasLineFault (subject_of r bases) limits h before rest)
+      (from-record clear r bases limits text h before rest line more step x) (to-record clear r bases limits text h before rest line more step x) in_order
       fault.cause first;
 }
 
-pub step-none : FormsAreClear → (r : PackageList) (inputs : Bool → List (List Literal)) (limits : Limits) (text : List ℕ) (h : Header)
+pub step-none : FormsAreClear → (r : PackageList) (bases : Bases) (limits : Limits) (text : List ℕ) (h : Header)
     (before : List CertRecord) (rest line more : List ℕ) (step : CertRecord)
-    → IsLineNext r inputs limits text h before rest line more step → IsFaultless (matter_of r h.essential (inputs h.essential)) h before step
-    → (cause : CertCause) → ¬ HasLineFault (subject_of r inputs) limits h before rest cause
-step-none clear r inputs limits text h before rest line more step x faultless cause fault =
-    faultless cause (to-record clear r inputs limits text h before rest line more step x cause fault)
+    → IsLineNext r bases limits text h before rest line more step → IsFaultless (matter_for r bases h) h before step
+    → (cause : CertCause) → ¬ HasLineFault (subject_of r bases) limits h before rest cause
+step-none clear r bases limits text h before rest line more step x faultless cause fault =
+    faultless cause (to-record clear r bases limits text h before rest line more step x cause fault)
 
-pub step-reached : FormsAreClear → (r : PackageList) (inputs : Bool → List (List Literal)) (limits : Limits) (text : List ℕ) (h : Header)
+pub step-reached : FormsAreClear → (r : PackageList) (bases : Bases) (limits : Limits) (text : List ℕ) (h : Header)
     (before : List CertRecord) (rest line more : List ℕ) (step : CertRecord)
-    → IsLineNext r inputs limits text h before rest line more step → IsFaultless (matter_of r h.essential (inputs h.essential)) h before step
-    → AreFaultless (subject_of r inputs) limits text h (before ++ step ∷ []) more
-step-reached clear r inputs limits text h before rest line more step x faultless =
-    grown (subject_of r inputs) limits text h before rest line more step x.reached.faultless
-    (step-none clear r inputs limits text h before rest line more step x faultless) x.begins x.form
+    → IsLineNext r bases limits text h before rest line more step → IsFaultless (matter_for r bases h) h before step
+    → AreFaultless (subject_of r bases) limits text h (before ++ step ∷ []) more
+step-reached clear r bases limits text h before rest line more step x faultless =
+    grown (subject_of r bases) limits text h before rest line more step x.reached.faultless
+    (step-none clear r bases limits text h before rest line more step x faultless) x.begins x.form
 
-pub stops-derived : FormsAreClear → (r : PackageList) (inputs : Bool → List (List Literal)) (limits : Limits) (text : List ℕ) (h : Header)
+pub stops-derived : FormsAreClear → (r : PackageList) (bases : Bases) (limits : Limits) (text : List ℕ) (h : Header)
     (before : List CertRecord) (rest line more : List ℕ) (literals : List Word) (hints : List ℕ)
-    → IsLineNext r inputs limits text h before rest line more (Derived literals hints)
-    → IsFaultless (matter_of r h.essential (inputs h.essential)) h before (Derived literals hints) → (Passes : List (List Literal) → List Literal → Type 0)
+    → IsLineNext r bases limits text h before rest line more (Derived literals hints)
+    → IsFaultless (matter_for r bases h) h before (Derived literals hints) → (Passes : List (List Literal) → List Literal → Type 0)
     → Passes (derived before) (clause_of literals) → StopsAtDerived r limits text Passes
-stops-derived clear r inputs limits text h before rest line more literals hints x faultless Passes passes = record {
-  inputs = inputs;
+stops-derived clear r bases limits text h before rest line more literals hints x faultless Passes passes = record {
+  bases = bases;
   h = h;
   before = before;
   rest = rest;
@@ -356,7 +376,7 @@ stops-derived clear r inputs limits text h before rest line more literals hints 
   more = more;
   begins = x.begins;
   form = x.form;
-  none = step-none clear r inputs limits text h before rest line more (Derived literals hints) x faultless;
+  none = step-none clear r bases limits text h before rest line more (Derived literals hints) x faultless;
   passes = passes;
 }
 
@@ -365,28 +385,27 @@ stops-derived clear r inputs limits text h before rest line more literals hints 
 nothing-begins : (line more : List ℕ) → [] ≡ line ++ line_feed ∷ more → ⊥
 nothing-begins line more e = let n = ap length e in omega (arith, n, length-append line (line_feed ∷ more))
 
-pub end-none : (r : PackageList) (inputs : Bool → List (List Literal)) (limits : Limits) (h : Header) (before : List CertRecord) → ¬ IsTooLong limits []
+pub end-none : (r : PackageList) (bases : Bases) (limits : Limits) (h : Header) (before : List CertRecord) → ¬ IsTooLong limits []
     → Contains before End → (cause : CertCause)
-    → ¬ HasLineFault (subject_of r inputs) limits h before [] cause
-end-none r inputs limits h before keeps ended causes.LineTooLong f = keeps f
-end-none r inputs limits h before keeps ended causes.Truncated f = ⊎_elim (λ some. some refl) (λ none. none ended) f.1
-end-none r inputs limits h before keeps ended causes.BadRecord f = nothing-begins f.0 f.1 f.2.ended
-end-none r inputs limits h before keeps ended cause f = nothing-begins f.0 f.1 f.3.ended
+    → ¬ HasLineFault (subject_of r bases) limits h before [] cause
+end-none r bases limits h before keeps ended causes.LineTooLong f = keeps f
+end-none r bases limits h before keeps ended causes.Truncated f = ⊎_elim (λ some. some refl) (λ none. none ended) f.1
+end-none r bases limits h before keeps ended causes.BadRecord f = nothing-begins f.0 f.1 f.2.ended
+end-none r bases limits h before keeps ended cause f = nothing-begins f.0 f.1 f.3.ended
 
 -- ---- records that were right
 
-pub right-push : (r : PackageList) (inputs : List (List Literal)) (h : Header) (before : List CertRecord) (step : CertRecord)
-    → AreRight (matter_of r h.essential inputs) h before → IsFaultless (matter_of r h.essential inputs) h before step
-    → AreRight (matter_of r h.essential inputs) h (before ++ step ∷ [])
-right-push r inputs h before step right faultless earlier s after is cause fault = elim (split_push before earlier after s step is) [
+pub right-push : (matter : Matter) (h : Header) (before : List CertRecord) (step : CertRecord) → AreRight matter h before
+    → IsFaultless matter h before step → AreRight matter h (before ++ step ∷ [])
+right-push matter h before step right faultless earlier s after is cause fault = elim (split_push before earlier after s step is) [
   | inl here ↦
-      let Fault : List CertRecord → CertRecord → Type 0 = λ ls x. HasRecordFault (matter_of r h.essential inputs) h ls x cause in
+      let Fault : List CertRecord → CertRecord → Type 0 = λ ls x. HasRecordFault matter h ls x cause in
       faultless cause (subst (λ x. Fault before x) here.1 (subst (λ ls. Fault ls s) here.0 fault))
   | inr later ↦ right earlier s later.0 later.1 cause fault
 ]
 
-pub right-none : (r : PackageList) (inputs : List (List Literal)) (h : Header) → AreRight (matter_of r h.essential inputs) h []
-right-none r inputs h earlier s after is cause fault = let n = ap length is in omega (arith, n, length-append earlier (s ∷ after))
+pub right-none : (matter : Matter) (h : Header) → AreRight matter h []
+right-none matter h earlier s after is cause fault = let n = ap length is in omega (arith, n, length-append earlier (s ∷ after))
 
 pub forms-push : (before : List CertRecord) (step : CertRecord) → HaveForms before → HasForm (record_text step) step → HaveForms (before ++ step ∷ [])
 forms-push before step forms form = All-push (λ s. HasForm (record_text s) s) before step forms form

@@ -1,6 +1,6 @@
 -- How a text that is checked goes on, and how it begins.
 use Rattle.std.proofs.Common.{◌≡◌, ◌≢◌, inl, inr, ℕ, ◌+◌, ◌<◌, ◌≤◌, Bool, false, List, [], ◌∷◌, ◌++◌, Option, Some, None, Result, Ok, Err, length, refl, sym}
-use Rattle.std.proofs.Common.{ap, subst, ◌∙◌, arith, length-append}
+use Rattle.std.proofs.Common.{ap, subst, take, ◌∙◌, arith, length-append}
 use Rattle.std.specs.List.{All}
 use Rattle.std.specs.Result.{IsErrAnd}
 use Rattle.std.proofs.lemmas.Bool.{true≢false, false≢true, cases_lt}
@@ -12,13 +12,15 @@ use Rattle.dist_outside.specs.declared.trouble.What.TheVariants.{Bytes, Stanzas,
 use Rattle.dist_outside.specs.declared.trouble.WorkError.{WorkError}
 use Rattle.dist_outside.specs.declared.trouble.WorkError.TheVariants.{ReadFault, WriteFault, TooLarge, NoMemory}
 use Rattle.dist_clause.specs.ClauseList.{literal_count}
-use Rattle.dist_clause.specs.Formula.{Literal, IsClauseOver}
+use Rattle.std.proofs.Math.ListN.{drop_of_length-le}
+use Rattle.dist_clause.specs.Formula.{Literal, IsClauseOver, IsModel, MakesTrue}
 use Rattle.dist_derive.specs.ClauseLog.{lines_of}
 use Rattle.dist_repo.specs.Order.{IsInOrder}
 use Rattle.dist_repo.specs.PackageList.{PackageList}
 use Rattle.dist_now.specs.PresentSet.{PassesClauses, PassesLiterals}
 use Rattle.dist_cert.specs.declared.faults.ReadCertError.{ReadCertError}
 use Rattle.dist_cert.specs.declared.faults.ReadCertError.TheVariants.{Bad, Work}
+use Rattle.dist_cert.specs.declared.records.CertKind.TheVariants as kinds
 use Rattle.dist_cert.specs.declared.records.CertRecord.{CertRecord}
 use Rattle.dist_cert.specs.declared.records.CertRecord.TheVariants as lines
 use Rattle.dist_cert.specs.declared.records.Claim.{Claim}
@@ -29,19 +31,22 @@ use Rattle.dist_cert.specs.Groups.{clause_of, derived}
 use Rattle.dist_cert.specs.Reading.{ReaderView, WhereTold, PassesWhole, KeepsLimits, IsHeaderNext, IsRecordNext, HeaderAnswers, HeaderCause, GivesHeader}
 use Rattle.dist_cert.specs.Reading.{HeaderOfSome, RecordAnswers, RecordCause, RecordOfSome, GivesRecord}
 use Rattle.dist_cert.specs.Refusal.{certificate_text, Fits, AreFaultless}
+use Rattle.dist_cert.specs.Rising.{is_among}
+use Rattle.dist_cert.specs.Subject.{Matter}
 use Rattle.dist_check.specs.Checking.{StopsAtDerived, StopsFirst, TextAnswers, TextCause, OfText}
-use Rattle.dist_subject.specs.Present.{matter_of, subject_of}
+use Rattle.dist_subject.specs.Basis.{AreBases, Basis, Bases, IsBasisOf, Today, matter_for, matter_of, subject_of}
 use Rattle.dist_check_state.specs.Since.{IsAppendCause}
 use Rattle.dist_check.specs.Start.{IsStart, StartAnswers}
 use Rattle.dist_check_state.specs.State.{StateView, Tells, Becomes, StopsAt, LineStops, TakesLine}
-use Rattle.dist_check.proofs.CheckLemmas.{ThereAreClauses, ClausesAreOne, inputs_by, are-inputs, header-refused, header-unfit, large-inputs, starts-faultless}
+use Rattle.dist_check.proofs.CheckLemmas.{BasesAreThere, BasesAreOne, IsToday, today-of, header-refused, header-unfit, large-inputs, starts-faultless}
 use Rattle.dist_check.proofs.CheckLemmas.{from-ended, ended-push, IsLineNext, step-refused, step-reached, stops-derived, right-push, right-none, forms-push}
 use Rattle.dist_check.proofs.CheckLemmas.{text-push}
+use Rattle.dist_check.specs.AtPrivate.{AreFuturesBy}
 use Rattle.dist_check.specs.CheckedPrivate.{TextAt, IsChecked}
 use Rattle.dist_check.proofs.CheckState.{lines-are, numbers-of}
 use Rattle.dist_check.proofs.Next.{told-verdict, becomes-at, starts-at}
 use Rattle.dist_check.proofs.Profile.{IsFaultless}
-use Rattle.dist_check.proofs.Whole.{ModelsAreInstallations}
+use Rattle.dist_check.proofs.Whole.{ModelsAreHealthy}
 use Rattle.std.proofs.lemmas.List.Elements.{All-nil}
 
 -- ---- some text, where none is told
@@ -50,8 +55,8 @@ use Rattle.std.proofs.lemmas.List.Elements.{All-nil}
 pub at-bytes : (r : PackageList) (limits : Limits) (h : Header) (reader : ReaderView) (s : StateView) (x : IsChecked r limits None h reader None s)
     (rest : List ℕ) → IsChecked r limits (Some (certificate_text h x.before ++ rest)) h reader (Some rest) s
 at-bytes r limits h reader s x rest = record {
-  inputs = x.inputs;
-  are_inputs = x.are_inputs;
+  bases = x.bases;
+  are_bases = x.are_bases;
   inputs_mean = x.inputs_mean;
   before = x.before;
   at = x.at;
@@ -75,10 +80,10 @@ at-bytes r limits h reader s x rest = record {
 -- the line that is next, where the text is told
 line-next : (r : PackageList) (limits : Limits) (told : Option (List ℕ)) (h : Header) (reader : ReaderView) (left : Option (List ℕ)) (s : StateView)
     (x : IsChecked r limits told h reader left s) → reader.given ≤ reader.limits.certificate
-    → (text rest more : List ℕ) → AreFaultless (subject_of r x.inputs) limits text h x.before rest
-    → (step : CertRecord) (next : IsRecordNext reader rest more step) → IsLineNext r x.inputs limits text h x.before rest next.line more step
+    → (text rest more : List ℕ) → AreFaultless (subject_of r x.bases) limits text h x.before rest
+    → (step : CertRecord) (next : IsRecordNext reader rest more step) → IsLineNext r x.bases limits text h x.before rest next.line more step
 line-next r limits told h reader left s x bytes text rest more faultless step next = record {
-  reached = record { are_inputs = x.are_inputs; faultless = faultless; numbers = numbers-of r limits told h reader left s x bytes };
+  reached = record { are_bases = x.are_bases; faultless = faultless; numbers = numbers-of r limits told h reader left s x bytes };
   keeps = subst (λ n. KeepsLimits limits n rest) x.given (subst (λ l. KeepsLimits l reader.given rest) x.limits_are next.limits);
   begins = next.begins;
   form = next.form;
@@ -88,13 +93,13 @@ line-next r limits told h reader left s x bytes text rest more faultless step ne
 -- the line of a derived clause that passes a number
 derived-stops : FormsAreClear → (r : PackageList) (limits : Limits) (told : Option (List ℕ)) (h : Header) (reader : ReaderView) (left : Option (List ℕ))
     (s : StateView) (x : IsChecked r limits told h reader left s) → (text rest more line : List ℕ)
-    (step : CertRecord) → IsLineNext r x.inputs limits text h x.before rest line more step
-    → IsFaultless (matter_of r h.essential (x.inputs h.essential)) h x.before step → (error : WorkError) → error ≢ NoMemory → StopsAt s step error
+    (step : CertRecord) → IsLineNext r x.bases limits text h x.before rest line more step
+    → IsFaultless (matter_for r x.bases h) h x.before step → (error : WorkError) → error ≢ NoMemory → StopsAt s step error
     → (Passes : List (List Literal) → List Literal → Type 0)
     → ((literals : List Word) → IsAppendCause s.log (clause_of literals) error → Passes (derived x.before) (clause_of literals))
     → StopsAtDerived r limits text Passes
 derived-stops clear r limits told h reader left s x text rest more line (lines.Derived literals hints) next faultless error not_memory stops Passes passes =
-    stops-derived clear r x.inputs limits text h x.before rest line more literals hints next faultless Passes (passes literals stops)
+    stops-derived clear r x.bases limits text h x.before rest line more literals hints next faultless Passes (passes literals stops)
 derived-stops clear r limits told h reader left s x text rest more line step next faultless error not_memory stops Passes passes = absurd (not_memory stops)
 
 -- no other number is passed
@@ -114,19 +119,19 @@ pub line-stops : FormsAreClear → (r : PackageList) (limits : Limits) (told : O
     → OfText told (λ text. TextAnswers header claims r limits text (Err error))
 line-stops clear r limits told h reader next left after s old new x bytes step answers because line number {X} header claims error stops = by told x.text
   where
-    faultless-line : Tells s step None → IsFaultless (matter_of r h.essential (x.inputs h.essential)) h x.before step
-    faultless-line none = told-verdict r (x.inputs h.essential) h x.before s x.strong x.at x.right x.forms x.inputs_mean step because.0.rules None none
+    faultless-line : Tells s step None → IsFaultless (matter_for r x.bases h) h x.before step
+    faultless-line none = told-verdict (matter_for r x.bases h) h x.before s x.strong x.at x.right x.forms x.inputs_mean step because.0.rules None none
 
     clauses-are : lines_of s.log ≡ derived x.before
     clauses-are = lines-are r limits told h reader left s x
 
-    at : (text rest more : List ℕ) → AreFaultless (subject_of r x.inputs) limits text h x.before rest → IsRecordNext reader rest more step → (e : ReadCertError)
+    at : (text rest more : List ℕ) → AreFaultless (subject_of r x.bases) limits text h x.before rest → IsRecordNext reader rest more step → (e : ReadCertError)
         → LineStops s step line e → TextAnswers header claims r limits text (Err e)
     at text rest more faultless after_it (Bad fault) stop =
         let one = line-next r limits told h reader left s x bytes text rest more faultless step after_it in
-        let first = told-verdict r (x.inputs h.essential) h x.before s x.strong x.at x.right x.forms x.inputs_mean step because.0.rules (Some fault.cause)
+        let first = told-verdict (matter_for r x.bases h) h x.before s x.strong x.at x.right x.forms x.inputs_mean step because.0.rules (Some fault.cause)
         stop.1 in
-        inr (step-refused clear r x.inputs limits text h x.before rest after_it.line more step one fault (omega (arith, stop.0, number, x.line_count)) first)
+        inr (step-refused clear r x.bases limits text h x.before rest after_it.line more step one fault (omega (arith, stop.0, number, x.line_count)) first)
     at text rest more faultless after_it (Work NoMemory) stop = tt
     at text rest more faultless after_it (Work (TooLarge Lines)) stop =
         derived-stops clear r limits told h reader left s x text rest more after_it.line step
@@ -153,18 +158,18 @@ line-stops clear r limits told h reader next left after s old new x bytes step a
         absurd (no-other s step (TooLarge Certificate) stop.1 (λ e. cc) (λ e. cc) (λ e. cc))
     at text rest more faultless after_it (Work (TooLarge RecordLine)) stop = no-other s step (TooLarge RecordLine) stop.1 (λ e. cc) (λ e. cc) (λ e. cc)
 
-    by : (t : Option (List ℕ)) → TextAt r x.inputs limits h x.before t left → OfText t (λ text. TextAnswers header claims r limits text (Err error))
+    by : (t : Option (List ℕ)) → TextAt (subject_of r x.bases) limits h x.before t left → OfText t (λ text. TextAnswers header claims r limits text (Err error))
     by None here = tt
     by (Some text) here =
         let answer = subst (λ l. WhereTold l after (λ rest more. RecordAnswers reader rest more (Ok (Some step)))) here.1 answers in
         at text here.0 answer.0 here.2 answer.2 error stops
 
 -- a text without a fault is that of its lines, with the rest behind them
-from-text : (r : PackageList) (inputs : Bool → List (List Literal)) (limits : Limits) (text : List ℕ) (h : Header) (before : List CertRecord) (rest : List ℕ)
-    → AreFaultless (subject_of r inputs) limits text h before rest
-    → AreFaultless (subject_of r inputs) limits (certificate_text h before ++ rest) h before rest
-from-text r inputs limits text h before rest faultless =
-    subst (λ bytes. AreFaultless (subject_of r inputs) limits bytes h before rest) faultless.reads.text_is faultless
+from-text : (r : PackageList) (bases : Bases) (limits : Limits) (text : List ℕ) (h : Header) (before : List CertRecord) (rest : List ℕ)
+    → AreFaultless (subject_of r bases) limits text h before rest
+    → AreFaultless (subject_of r bases) limits (certificate_text h before ++ rest) h before rest
+from-text r bases limits text h before rest faultless =
+    subst (λ bytes. AreFaultless (subject_of r bases) limits bytes h before rest) faultless.reads.text_is faultless
 
 -- ---- a line that is taken
 
@@ -176,12 +181,12 @@ pub next-checked : FormsAreClear → (r : PackageList) (limits : Limits) (told :
     → t.log.line_limit ≡ s.log.line_limit → t.log.line_literal_limit ≡ s.log.line_literal_limit
     → IsChecked r limits told h next after t
 next-checked clear r limits told h reader next left after s t old new x bytes step answers because some gives takes line_limit line_literal_limit = record {
-  inputs = x.inputs;
-  are_inputs = x.are_inputs;
+  bases = x.bases;
+  are_bases = x.are_bases;
   inputs_mean = x.inputs_mean;
   before = x.before ++ step ∷ [];
-  at = becomes-at r (x.inputs h.essential) h x.before s t x.at step takes.none takes.becomes;
-  right = right-push r (x.inputs h.essential) h x.before step x.right faultless;
+  at = becomes-at (matter_for r x.bases h) h x.before s t x.at step takes.none takes.becomes;
+  right = right-push (matter_for r x.bases h) h x.before step x.right faultless;
   forms = forms-push x.before step x.forms because.0;
   strong = x.strong;
   clauses = x.clauses;
@@ -196,21 +201,21 @@ next-checked clear r limits told h reader next left after s t old new x bytes st
   text = by told x.text;
 }
   where
-    faultless : IsFaultless (matter_of r h.essential (x.inputs h.essential)) h x.before step
-    faultless = told-verdict r (x.inputs h.essential) h x.before s x.strong x.at x.right x.forms x.inputs_mean step because.0.rules None takes.none
+    faultless : IsFaultless (matter_for r x.bases h) h x.before step
+    faultless = told-verdict (matter_for r x.bases h) h x.before s x.strong x.at x.right x.forms x.inputs_mean step because.0.rules None takes.none
 
-    by : (o : Option (List ℕ)) → TextAt r x.inputs limits h x.before o left → TextAt r x.inputs limits h (x.before ++ step ∷ []) o after
+    by : (o : Option (List ℕ)) → TextAt (subject_of r x.bases) limits h x.before o left → TextAt (subject_of r x.bases) limits h (x.before ++ step ∷ []) o after
     by None here = λ more.
         let rest : List ℕ = record_text step ++ line_feed ∷ more in
         let text : List ℕ = certificate_text h x.before ++ rest in
         let next_is = some more in
         let one = line-next r limits told h reader left s x bytes text rest more (here rest) step next_is in
-        from-text r x.inputs limits text h (x.before ++ step ∷ []) more
-        (step-reached clear r x.inputs limits text h x.before rest next_is.line more step one faultless)
+        from-text r x.bases limits text h (x.before ++ step ∷ []) more
+        (step-reached clear r x.bases limits text h x.before rest next_is.line more step one faultless)
     by (Some text) here =
         let answer = subst (λ l. WhereTold l after (λ rest more. RecordAnswers reader rest more (Ok (Some step)))) here.1 answers in
         let one = line-next r limits told h reader left s x bytes text here.0 answer.0 here.2 step answer.2 in
-        (answer.0, answer.1, step-reached clear r x.inputs limits text h x.before here.0 answer.2.line answer.0 step one faultless)
+        (answer.0, answer.1, step-reached clear r x.bases limits text h x.before here.0 answer.2.line answer.0 step one faultless)
 
 -- a line that is taken leaves the limits of derived lines
 pub limits-stay : (s t : StateView) (step : CertRecord) → Tells s step None → Becomes s step t → (t.log.line_limit ≡ s.log.line_limit)
@@ -249,7 +254,7 @@ variables-stay s t lines.End told is = ap (λ (v : StateView). v.log.variables) 
 abbrev pub new_reader : Limits → ReaderView
 new_reader limits = record { limits = limits; held = []; given = 0; lines = 0; ended = false }
 
-pub header-stops : ThereAreClauses → (r : PackageList) → IsInOrder r.packages
+pub header-stops : BasesAreThere → (r : PackageList) → IsInOrder r.packages
     → (limits : Limits) (reader next : ReaderView) (told left after : Option (List ℕ)) (old new : DeskView) → reader ≡ new_reader limits → left ≡ told
     → {X : Type 0} (header : X → Header) (claims : X → List Claim) (error : ReadCertError)
     → WhereTold left after (λ rest more. HeaderAnswers reader rest more (Err error)) → HeaderCause reader next old new (Err error)
@@ -276,7 +281,7 @@ header-stops there r ordered limits reader next told left after old new is same 
     by (Some text) e = let answer = subst (λ l. WhereTold l after (λ rest more. HeaderAnswers reader rest more (Err error))) e answers in
         at text answer.0 error answer.2 cause
 
-pub start-stops : FormsAreClear → ThereAreClauses → ClausesAreOne → (r : PackageList) → IsInOrder r.packages
+pub start-stops : FormsAreClear → BasesAreThere → BasesAreOne → (r : PackageList) → IsInOrder r.packages
     → (limits : Limits) (reader : ReaderView) (told left after : Option (List ℕ)) (h : Header) → reader ≡ new_reader limits → left ≡ told
     → {X : Type 0} (header : X → Header) (claims : X → List Claim) (error : ReadCertError)
     → WhereTold left after (λ rest more. HeaderAnswers reader rest more (Ok h)) → StartAnswers r limits h (Err error)
@@ -305,23 +310,24 @@ start-stops clear there one r ordered limits reader told left after h is same {X
     by (Some text) e = let answer = subst (λ l. WhereTold l after (λ rest more. HeaderAnswers reader rest more (Ok h))) e answers in
         at text answer.0 answer.2 error stops
 
-pub starts-checked : FormsAreClear → (there : ThereAreClauses) → ClausesAreOne → ModelsAreInstallations → (r : PackageList) → IsInOrder r.packages
+pub starts-checked : FormsAreClear → (there : BasesAreThere) → BasesAreOne → ModelsAreHealthy → (r : PackageList) → IsInOrder r.packages
     → (limits : Limits) (reader next : ReaderView) (told left after : Option (List ℕ)) (h : Header) (s : StateView)
     → reader ≡ new_reader limits → left ≡ told → WhereTold left after (λ rest more. HeaderAnswers reader rest more (Ok h)) → HeaderOfSome reader (Ok h)
     → GivesHeader reader next (Ok h) → IsStart r limits h s → IsChecked r limits told h next after s
 starts-checked clear there one models r ordered limits reader next told left after h s is same answers some gives start = record {
-  inputs = inputs;
-  are_inputs = are-inputs there r ordered;
+  bases = bases;
+  are_bases = are;
   inputs_mean = record {
-    ordered = ordered;
-    over = subst (λ cs. All (IsClauseOver (length r.packages)) cs) (sym clauses)
-        (subst (λ n. All (IsClauseOver n) s.log.clauses) start.variables start.within.over_variables);
-    models = models r h.essential (inputs h.essential) ordered (are-inputs there r ordered h.essential);
+    over = subst (λ cs. All (IsClauseOver (matter_for r bases h).variables) cs) (sym clauses)
+        (subst (λ n. All (IsClauseOver n) s.log.clauses) (start.variables ∙ sym variables) start.within.over_variables);
+    models = models r kinds.Strong h.essential (bases h.kind h.essential) ordered basis;
   };
   before = [];
-  at = starts-at r (inputs h.essential) h s start.limit start.packages (sym clauses) (start.inputs ∙ sym size) start.variables start.no_front
-      (start.no_back ∙ sym size) start.window start.question start.next start.group_is start.claims;
-  right = right-none r (inputs h.essential) h;
+  at = starts-at (matter_for r bases h) h s start.limit (start.packages ∙ sym packages) (sym clauses) (start.inputs ∙ sym size) (start.variables
+      ∙ sym variables) futures
+      (λ strong members. today-future today.inputs (bases h.kind h.essential) today.is members) (λ strong. variables ∙ sym packages)
+      start.window start.question start.next start.group_is start.claims;
+  right = right-none (matter_for r bases h) h;
   forms = All-nil (λ step. HasForm (record_text step) step);
   strong = start.strong;
   clauses = omega (arith, start.clauses_kept, size);
@@ -336,29 +342,59 @@ starts-checked clear there one models r ordered limits reader next told left aft
   text = by told same;
 }
   where
-    inputs : Bool → List (List Literal)
-    inputs = inputs_by there r ordered
+    bases : Bases
+    bases = (there r ordered).0
 
-    clauses : inputs h.essential ≡ s.log.clauses
-    clauses = one r h.essential s.log.clauses (inputs h.essential) start.are_clauses (are-inputs there r ordered h.essential)
+    are : AreBases r bases
+    are = (there r ordered).1
 
-    size : length (inputs h.essential) ≡ length s.log.clauses
+    basis : IsBasisOf r kinds.Strong h.essential (bases h.kind h.essential)
+    basis = are h.kind h.essential
+
+    today : IsToday r h.essential (bases h.kind h.essential)
+    today = today-of r h.essential (bases h.kind h.essential) basis
+
+    packages : (matter_for r bases h).packages ≡ length r.packages
+    packages = ap (λ (x : Basis). (matter_of r h.essential x).packages) today.is
+
+    variables : (matter_for r bases h).variables ≡ length r.packages
+    variables = ap (λ (x : Basis). (matter_of r h.essential x).variables) today.is
+
+    clauses : (matter_for r bases h).inputs ≡ s.log.clauses
+    clauses = ap (λ (x : Basis). (matter_of r h.essential x).inputs)
+        (one r kinds.Strong h.essential (Today s.log.clauses) (bases h.kind h.essential) start.are_clauses basis)
+
+    size : length (matter_for r bases h).inputs ≡ length s.log.clauses
     size = ap (λ (cs : List (List Literal)). length cs) clauses
 
-    fits : Fits (subject_of r inputs) h
+    today-future : (inputs : List (List Literal)) (x : Basis) → x ≡ Today inputs → (members : List ℕ) → (matter_of r h.essential x).IsFuture members
+    today-future inputs x is members = subst (λ y. (matter_of r h.essential y).IsFuture members) (sym is) tt
+
+    -- no clause says what a future is
+    futures : AreFuturesBy (matter_for r bases h) s.future
+    futures members = (
+      (λ future. (
+        subst (λ n. IsModel (is_among members) (take n (matter_for r bases h).inputs)) (sym start.no_front) (All-nil (MakesTrue (is_among members))),
+        subst (IsModel (is_among members)) (sym (drop_of_length-le (matter_for r bases h).inputs (omega (arith, start.no_back, size))))
+            (All-nil (MakesTrue (is_among members))),
+      )),
+      λ met. today-future today.inputs (bases h.kind h.essential) today.is members,
+    )
+
+    fits : Fits (subject_of r bases) h
     fits = record {
       taken = start.strong;
-      packages = start.numbers.packages;
-      variables = start.numbers.variables;
+      packages = start.numbers.packages ∙ sym packages;
+      variables = start.numbers.variables ∙ sym variables;
       clauses = start.numbers.clause_count ∙ sym size;
     }
 
-    at : (text more : List ℕ) → IsHeaderNext reader text more h → AreFaultless (subject_of r inputs) limits text h [] more
-    at text more next_is = starts-faultless clear r inputs limits text next_is.line more h
+    at : (text more : List ℕ) → IsHeaderNext reader text more h → AreFaultless (subject_of r bases) limits text h [] more
+    at text more next_is = starts-faultless clear r bases limits text next_is.line more h
         (subst (λ v. KeepsLimits v.limits v.given text) is next_is.limits) next_is.begins next_is.form fits
 
-    by : (t : Option (List ℕ)) → left ≡ t → TextAt r inputs limits h [] t after
-    by None e = λ more. from-text r inputs limits (header_text h ++ line_feed ∷ more) h [] more
+    by : (t : Option (List ℕ)) → left ≡ t → TextAt (subject_of r bases) limits h [] t after
+    by None e = λ more. from-text r bases limits (header_text h ++ line_feed ∷ more) h [] more
         (at (header_text h ++ line_feed ∷ more) more (some more))
     by (Some text) e =
         let answer = subst (λ l. WhereTold l after (λ rest more. HeaderAnswers reader rest more (Ok h))) e answers in

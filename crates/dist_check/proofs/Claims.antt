@@ -25,7 +25,7 @@ use Rattle.dist_cert.specs.Groups.{clause_of, installations, installation_at, is
 use Rattle.dist_cert.specs.GroupLaws.{all-at}
 use Rattle.dist_cert.specs.ClaimRules.{yes, no, IsNamed, IsInEach, HoldsStrong, HoldsClaim}
 use Rattle.dist_cert.specs.Accepted.{from_zero, claim_in}
-use Rattle.dist_subject.specs.Present.{matter_of, packages_of}
+use Rattle.dist_subject.specs.Present.{present_matter, packages_of}
 use Rattle.dist_subject.specs.Claims.{NamesOthers}
 use Rattle.dist_check.specs.Means.{Says}
 use Rattle.dist_check.proofs.Told.{IsTold, stable, most-told, less-told, bool-told, number-told}
@@ -33,14 +33,15 @@ use Rattle.dist_check.proofs.Places.{contains-map, image-of}
 use Rattle.dist_check.specs.CheckedPrivate.{AreRight, HaveForms}
 use Rattle.dist_check.proofs.LineLemmas.{IsSoundRule, refuted-true}
 use Rattle.dist_check.proofs.GroupLemmas.{group-behind, installation-healthy, recent-there}
-use Rattle.dist_check.proofs.MemberLemmas.{member-from, member-at, package-there, variable-there, packages-told}
+use Rattle.dist_subject.specs.MemberLaws.{member-from, member-at, package-there, variable-there}
+use Rattle.dist_check.proofs.MemberLemmas.{packages-told}
 
 -- Records without faults over a repository, and the laws that tell what they mean.
 pub record AreProven (r : PackageList) (inputs : List (List Literal)) (h : Header) (steps : List CertRecord) : Type 0 where
   pub sound : IsSoundRule
   pub ordered : IsInOrder r.packages
   pub models : AreModelsInstallations r h.essential inputs
-  pub right : AreRight (matter_of r h.essential inputs) h steps
+  pub right : AreRight (present_matter r h.essential inputs) h steps
   pub forms : HaveForms steps
   pub strong : h.kind ≡ kinds.Strong
   pub ended : Contains steps lines.End
@@ -71,7 +72,7 @@ healthy-there : (r : PackageList) (inputs : List (List Literal)) (h : Header) (s
     → steps ≡ (front ++ some) ++ after → Contains (installations some) members → IsInstallation h.essential r (packages_of r.packages members)
 healthy-there r inputs h steps x front some after members is there =
     stable (packages-told r h.essential inputs members x.ordered x.models)
-    (installation-healthy (matter_of r h.essential inputs) h steps x.right front some after members is there)
+    (installation-healthy (present_matter r h.essential inputs) h steps x.right front some after members is there)
 
 -- ---- refuted questions
 
@@ -81,7 +82,7 @@ question-refuted : (r : PackageList) (inputs : List (List Literal)) (h : Header)
     → MakesTrue value (map negation (clause_of question))
 question-refuted r inputs h steps x before step after question is refuted value model =
     let behind = group-behind before in
-    refuted-true x.sound (matter_of r h.essential inputs) h steps x.right behind.front (group before) (step ∷ after) question
+    refuted-true x.sound (present_matter r h.essential inputs) h steps x.right behind.front (group before) (step ∷ after) question
     (is ∙ ap (λ (ls : List CertRecord). ls ++ step ∷ after) behind.is) refuted value model
 
 never-any : {X : Type 0} (P : X → Type 0) → ¬ Any P []
@@ -131,12 +132,12 @@ named-told before p number = elim (most-told 1 number) [
 ]
 
 named-each : (before : List CertRecord) (p : ℕ) (h : Header) (r : PackageList) (inputs : List (List Literal)) (named on undecided : List ℕ)
-    → ¬ (¬ HoldsStrong (matter_of r h.essential inputs) before p named on undecided) → (number : ℕ) → Contains named number → IsNamed before p number
+    → ¬ (¬ HoldsStrong (present_matter r h.essential inputs) before p named on undecided) → (number : ℕ) → Contains named number → IsNamed before p number
 named-each before p h r inputs named on undecided twice number there =
     stable (named-told before p number) (λ none. twice (λ holds. none (All-contains (IsNamed before p) named number holds.names there)))
 
 other-each : (before : List CertRecord) (p : ℕ) (h : Header) (r : PackageList) (inputs : List (List Literal)) (named on undecided : List ℕ)
-    → ¬ (¬ HoldsStrong (matter_of r h.essential inputs) before p named on undecided) → (q : ℕ) → Contains (on ++ undecided) q → (q ≢ p)
+    → ¬ (¬ HoldsStrong (present_matter r h.essential inputs) before p named on undecided) → (q : ℕ) → Contains (on ++ undecided) q → (q ≢ p)
     × (q ≤ length r.packages)
 other-each before p h r inputs named on undecided twice q there =
     let Other : ℕ → Type 0 = λ n. (n ≢ p) × (n ≤ length r.packages) in (
@@ -198,7 +199,7 @@ first-of numbers some = (0, some, at numbers some)
 strong-says : (r : PackageList) (inputs : List (List Literal)) (h : Header) (steps : List CertRecord) → AreProven r inputs h steps
     → (before after : List CertRecord) (k : ℕ) (p : Package) (named on undecided : List ℕ)
     → steps ≡ before ++ lines.Strong (k + 1) named on undecided ∷ after → slice_get r.packages k ≡ Some p → KeepsRules (lines.Strong (k + 1) named on undecided)
-    → ¬ (¬ HoldsStrong (matter_of r h.essential inputs) before (k + 1) named on undecided)
+    → ¬ (¬ HoldsStrong (present_matter r h.essential inputs) before (k + 1) named on undecided)
     → Says h.essential r k p (claims.Strong (from_zero on) (from_zero undecided))
 strong-says r inputs h steps x before after k p named on undecided is at rules twice = (there, record { listed = listed; unlisted = unlisted })
   where
@@ -233,7 +234,7 @@ strong-says r inputs h steps x before after k p named on undecided is at rules t
 
 strong-names : (before : List CertRecord) (k : ℕ) (h : Header) (r : PackageList) (inputs : List (List Literal)) (named on undecided : List ℕ)
     → KeepsRules (lines.Strong (k + 1) named on undecided)
-    → ¬ (¬ HoldsStrong (matter_of r h.essential inputs) before (k + 1) named on undecided)
+    → ¬ (¬ HoldsStrong (present_matter r h.essential inputs) before (k + 1) named on undecided)
     → NamesOthers (length r.packages) k (claims.Strong (from_zero on) (from_zero undecided))
 strong-names before k h r inputs named on undecided rules twice =
     (names on rules.3 (λ q there. Contains-append_left on undecided q there), names undecided rules.4 (λ q there. Contains-append_right on undecided q there))
@@ -258,9 +259,13 @@ next-number count packages p none =
 
 holds-twice : (r : PackageList) (inputs : List (List Literal)) (h : Header) (steps : List CertRecord) → AreProven r inputs h steps
     → (before : List CertRecord) (step : CertRecord) (after : List CertRecord)
-    → steps ≡ before ++ step ∷ after → is_claim step ≡ true → ¬ (¬ HoldsClaim (matter_of r h.essential inputs) kinds.Strong before step)
+    → steps ≡ before ++ step ∷ after → is_claim step ≡ true → ¬ (¬ HoldsClaim (present_matter r h.essential inputs) kinds.Strong before step)
 holds-twice r inputs h steps x before step after is claim none =
-    x.right before step after is causes.WrongClaim (claim, subst (λ kind. ¬ HoldsClaim (matter_of r h.essential inputs) kind before step) (sym x.strong) none)
+    x.right before step after is causes.WrongClaim (
+      claim,
+      subst (λ kind. ¬ HoldsClaim (present_matter r h.essential inputs) kind before step)
+          (sym x.strong) none,
+    )
 
 -- the claim of a line with its number
 pub record IsClaimAt (r : PackageList) (h : Header) (number : ℕ) (claim : Claim) : Type 0 where
@@ -301,8 +306,8 @@ claim-says r inputs h steps x before (lines.Strong n named on undecided) after c
     let same : claims.Strong (from_zero on) (from_zero undecided) ≡ claim = cc in
     let k = claim_count before in
     let form = all-at (λ s. HasForm (record_text s) s) steps before (lines.Strong n named on undecided) after is x.forms in
-    let twice : ¬ (¬ HoldsStrong (matter_of r h.essential inputs) before (k + 1) named on undecided)
-    = subst (λ i. ¬ (¬ HoldsStrong (matter_of r h.essential inputs) before i named on undecided)) next.0
+    let twice : ¬ (¬ HoldsStrong (present_matter r h.essential inputs) before (k + 1) named on undecided)
+    = subst (λ i. ¬ (¬ HoldsStrong (present_matter r h.essential inputs) before i named on undecided)) next.0
     (holds-twice r inputs h steps x before (lines.Strong n named on undecided) after is refl) in
     let rules : KeepsRules (lines.Strong (k + 1) named on undecided) = subst (λ i. KeepsRules (lines.Strong i named on undecided)) next.0 form.rules in
     let is_k : steps ≡ before ++ lines.Strong (k + 1) named on undecided ∷ after =

@@ -7,7 +7,6 @@ use Rattle.std.proofs.lemmas.Grind.{flat_map-append}
 use Rattle.dist_base.specs.ListLaws.{any-cases, any-head}
 use Rattle.dist_clause.specs.Formula.{Literal}
 use Rattle.dist_derive.specs.New.{EachIsNew}
-use Rattle.dist_repo.specs.PackageList.{PackageList}
 use Rattle.dist_cert.specs.declared.faults.CertCause.{CertCause}
 use Rattle.dist_cert.specs.declared.faults.CertCause.TheVariants as causes
 use Rattle.dist_cert.specs.declared.records.CertKind.TheVariants as kinds
@@ -16,9 +15,9 @@ use Rattle.dist_cert.specs.declared.records.CertRecord.TheVariants as lines
 use Rattle.dist_cert.specs.declared.records.Header.{Header}
 use Rattle.dist_cert.specs.Form.{Word}
 use Rattle.dist_cert.specs.Groups.{clause_of, derived, derived_in, claim_count, is_claim, group, IsOpen, IsRefutedIn, IsUndecidedIn}
+use Rattle.dist_cert.specs.Subject.{Matter}
 use Rattle.dist_cert.specs.ClaimRules.{yes, HoldsClaim}
 use Rattle.dist_cert.specs.LineRules.{HasRecordFault}
-use Rattle.dist_subject.specs.Present.{matter_of}
 use Rattle.dist_check_state.specs.Since.{AreNewFrom}
 use Rattle.dist_check_state.specs.State.{QuestionView, StateView, is_next, TellsUndecided, TellsClaim, TellsEnd}
 use Rattle.dist_check.specs.AtPrivate.{IsQuestionOf, IsAt}
@@ -35,87 +34,87 @@ since-question inputs before earlier question since x =
     ∙ ap (λ (cs : List (List Literal)). inputs ++ cs) (flat_map-append derived_in earlier (lines.Question question ∷ since))
     ∙ sym (append_assoc inputs (derived earlier) (derived since))
 
-pub undecided-verdict : (r : PackageList) (inputs : List (List Literal)) (h : Header) (before : List CertRecord) (s : StateView) → h.kind ≡ kinds.Strong
-    → IsAt r inputs h before s → (question : Option QuestionView)
-    → IsQuestionOf inputs before question → (found : Option CertCause) → TellsUndecided s.log s.limit question found
-    → IsVerdict r inputs h before lines.Undecided found
-undecided-verdict r inputs h before s strong at None q found told =
-    subst (IsVerdict r inputs h before lines.Undecided) (sym told)
-    (first-from (matter_of r h.essential inputs) h before lines.Undecided causes.OutOfOrder strong q none)
+pub undecided-verdict : (matter : Matter) (h : Header) (before : List CertRecord) (s : StateView) → h.kind ≡ kinds.Strong
+    → IsAt matter h before s → (question : Option QuestionView)
+    → IsQuestionOf matter.inputs before question → (found : Option CertCause) → TellsUndecided s.log s.limit question found
+    → IsVerdict matter h before lines.Undecided found
+undecided-verdict matter h before s strong at None q found told =
+    subst (IsVerdict matter h before lines.Undecided) (sym told)
+    (first-from matter h before lines.Undecided causes.OutOfOrder strong q none)
   where
     none : (cause : CertCause) → may_have lines.Undecided cause ≡ true → rank cause < 5
-        → ¬ HasRecordFault (matter_of r h.essential inputs) h before lines.Undecided cause
+        → ¬ HasRecordFault matter h before lines.Undecided cause
     none causes.OutOfOrder may below fault = omega (arith, below)
     none causes.LimitNotReached may below fault = omega (arith, below)
     none causes.NotNew may below fault = omega (arith, below)
     none cause may below fault = false≢true may
-undecided-verdict r inputs h before s strong at (Some question) q found told = by found told
+undecided-verdict matter h before s strong at (Some question) q found told = by found told
   where
-    split : s.log.clauses ≡ (inputs ++ derived q.0) ++ derived q.1
-    split = at.clauses ∙ since-question inputs before q.0 question.assumptions q.1 q.2
+    split : s.log.clauses ≡ (matter.inputs ++ derived q.0) ++ derived q.1
+    split = at.clauses ∙ since-question matter.inputs before q.0 question.assumptions q.1 q.2
 
     size : length s.log.clauses ≡ question.last + length (derived q.1)
-    size = ap (λ (cs : List (List Literal)). length cs) split ∙ length-append (inputs ++ derived q.0) (derived q.1)
+    size = ap (λ (cs : List (List Literal)). length cs) split ∙ length-append (matter.inputs ++ derived q.0) (derived q.1)
         ∙ ap (λ (n : ℕ). n + length (derived q.1)) (sym q.3)
 
-    in-order : ¬ HasRecordFault (matter_of r h.essential inputs) h before lines.Undecided causes.OutOfOrder
+    in-order : ¬ HasRecordFault matter h before lines.Undecided causes.OutOfOrder
     in-order fault = fault (q.0, question.assumptions, q.1, q.2)
 
-    late : question.last + s.limit ≤ length s.log.clauses → ¬ HasRecordFault (matter_of r h.essential inputs) h before lines.Undecided causes.LimitNotReached
+    late : question.last + s.limit ≤ length s.log.clauses → ¬ HasRecordFault matter h before lines.Undecided causes.LimitNotReached
     late enough fault =
         let one = one-open before fault.0 q.0 fault.1 question.assumptions fault.2 q.1 fault.3 q.2 in
         let same : length (derived fault.2) ≡ length (derived q.1) = ap (λ (ls : List CertRecord). length (derived ls)) one.2 in
         omega (arith, enough, fault.4, same, size, at.limit)
 
-    early : length s.log.clauses < question.last + s.limit → HasRecordFault (matter_of r h.essential inputs) h before lines.Undecided causes.LimitNotReached
+    early : length s.log.clauses < question.last + s.limit → HasRecordFault matter h before lines.Undecided causes.LimitNotReached
     early few = (q.0, question.assumptions, q.1, q.2, omega (arith, few, size, at.limit))
 
     new : AreNewFrom s.log.clauses s.log.inputs (clause_of question.assumptions) question.last
-        → EachIsNew (inputs ++ derived q.0) (length inputs) (clause_of question.assumptions) (derived q.1)
+        → EachIsNew (matter.inputs ++ derived q.0) (length matter.inputs) (clause_of question.assumptions) (derived q.1)
     new were =
-        each-new (length inputs) (clause_of question.assumptions) (inputs ++ derived q.0) (derived q.1)
-        (subst (λ n. AreNewFrom ((inputs ++ derived q.0) ++ derived q.1) (length inputs) (clause_of question.assumptions) n) q.3
-        (subst (λ n. AreNewFrom ((inputs ++ derived q.0) ++ derived q.1) n (clause_of question.assumptions) question.last) at.inputs_are
+        each-new (length matter.inputs) (clause_of question.assumptions) (matter.inputs ++ derived q.0) (derived q.1)
+        (subst (λ n. AreNewFrom ((matter.inputs ++ derived q.0) ++ derived q.1) (length matter.inputs) (clause_of question.assumptions) n) q.3
+        (subst (λ n. AreNewFrom ((matter.inputs ++ derived q.0) ++ derived q.1) n (clause_of question.assumptions) question.last) at.inputs_are
         (subst (λ cs. AreNewFrom cs s.log.inputs (clause_of question.assumptions) question.last) split were)))
 
-    were-new : EachIsNew (inputs ++ derived q.0) (length inputs) (clause_of question.assumptions) (derived q.1)
+    were-new : EachIsNew (matter.inputs ++ derived q.0) (length matter.inputs) (clause_of question.assumptions) (derived q.1)
         → AreNewFrom s.log.clauses s.log.inputs (clause_of question.assumptions) question.last
     were-new each =
         subst (λ cs. AreNewFrom cs s.log.inputs (clause_of question.assumptions) question.last) (sym split)
-        (subst (λ n. AreNewFrom ((inputs ++ derived q.0) ++ derived q.1) n (clause_of question.assumptions) question.last) (sym at.inputs_are)
-        (subst (λ n. AreNewFrom ((inputs ++ derived q.0) ++ derived q.1) (length inputs) (clause_of question.assumptions) n) (sym q.3)
-        (new-from-each (length inputs) (clause_of question.assumptions) (inputs ++ derived q.0) (derived q.1) each)))
+        (subst (λ n. AreNewFrom ((matter.inputs ++ derived q.0) ++ derived q.1) n (clause_of question.assumptions) question.last) (sym at.inputs_are)
+        (subst (λ n. AreNewFrom ((matter.inputs ++ derived q.0) ++ derived q.1) (length matter.inputs) (clause_of question.assumptions) n) (sym q.3)
+        (new-from-each (length matter.inputs) (clause_of question.assumptions) (matter.inputs ++ derived q.0) (derived q.1) each)))
 
     no-old : AreNewFrom s.log.clauses s.log.inputs (clause_of question.assumptions) question.last
-        → ¬ HasRecordFault (matter_of r h.essential inputs) h before lines.Undecided causes.NotNew
+        → ¬ HasRecordFault matter h before lines.Undecided causes.NotNew
     no-old were fault =
         let one = one-open before fault.0 q.0 fault.1 question.assumptions fault.2 q.1 fault.3 q.2 in
         let New : List CertRecord → List Word → List CertRecord
-        → Type 0 = λ e asked si. EachIsNew (inputs ++ derived e) (length inputs) (clause_of asked) (derived si) in
+        → Type 0 = λ e asked si. EachIsNew (matter.inputs ++ derived e) (length matter.inputs) (clause_of asked) (derived si) in
         fault.4 (subst (λ e. New e fault.1 fault.2) (sym one.0)
         (subst (λ asked. New q.0 asked fault.2) (sym one.1) (subst (λ si. New q.0 question.assumptions si) (sym one.2) (new were))))
 
-    by : (f : Option CertCause) → TellsUndecided s.log s.limit (Some question) f → IsVerdict r inputs h before lines.Undecided f
-    by None t = faultless-from (matter_of r h.essential inputs) h before lines.Undecided strong none
+    by : (f : Option CertCause) → TellsUndecided s.log s.limit (Some question) f → IsVerdict matter h before lines.Undecided f
+    by None t = faultless-from matter h before lines.Undecided strong none
       where
-        none : (cause : CertCause) → may_have lines.Undecided cause ≡ true → ¬ HasRecordFault (matter_of r h.essential inputs) h before lines.Undecided cause
+        none : (cause : CertCause) → may_have lines.Undecided cause ≡ true → ¬ HasRecordFault matter h before lines.Undecided cause
         none causes.OutOfOrder may fault = in-order fault
         none causes.LimitNotReached may fault = late t.0 fault
         none causes.NotNew may fault = no-old t.1 fault
         none cause may fault = false≢true may
-    by (Some causes.LimitNotReached) t = first-from (matter_of r h.essential inputs) h before lines.Undecided causes.LimitNotReached strong (early t) none
+    by (Some causes.LimitNotReached) t = first-from matter h before lines.Undecided causes.LimitNotReached strong (early t) none
       where
         none : (cause : CertCause) → may_have lines.Undecided cause ≡ true → rank cause < 10
-            → ¬ HasRecordFault (matter_of r h.essential inputs) h before lines.Undecided cause
+            → ¬ HasRecordFault matter h before lines.Undecided cause
         none causes.OutOfOrder may below fault = in-order fault
         none causes.LimitNotReached may below fault = omega (arith, below)
         none causes.NotNew may below fault = omega (arith, below)
         none cause may below fault = false≢true may
-    by (Some causes.NotNew) t = first-from (matter_of r h.essential inputs) h before lines.Undecided causes.NotNew strong
+    by (Some causes.NotNew) t = first-from matter h before lines.Undecided causes.NotNew strong
         (q.0, question.assumptions, q.1, q.2, λ each. t.1 (were-new each)) none
       where
         none : (cause : CertCause) → may_have lines.Undecided cause ≡ true → rank cause < 11
-            → ¬ HasRecordFault (matter_of r h.essential inputs) h before lines.Undecided cause
+            → ¬ HasRecordFault matter h before lines.Undecided cause
         none causes.OutOfOrder may below fault = in-order fault
         none causes.LimitNotReached may below fault = late t.0 fault
         none causes.NotNew may below fault = omega (arith, below)
@@ -124,35 +123,35 @@ undecided-verdict r inputs h before s strong at (Some question) q found told = b
 
 -- ---- the end
 
-pub end-verdict : (r : PackageList) (inputs : List (List Literal)) (h : Header) (before : List CertRecord) (s : StateView) → h.kind ≡ kinds.Strong
-    → IsAt r inputs h before s → (found : Option CertCause)
-    → TellsEnd s.next s.packages found → IsVerdict r inputs h before lines.End found
-end-verdict r inputs h before s strong at None told = faultless-from (matter_of r h.essential inputs) h before lines.End strong none
+pub end-verdict : (matter : Matter) (h : Header) (before : List CertRecord) (s : StateView) → h.kind ≡ kinds.Strong
+    → IsAt matter h before s → (found : Option CertCause)
+    → TellsEnd s.next s.packages found → IsVerdict matter h before lines.End found
+end-verdict matter h before s strong at None told = faultless-from matter h before lines.End strong none
   where
-    none : (cause : CertCause) → may_have lines.End cause ≡ true → ¬ HasRecordFault (matter_of r h.essential inputs) h before lines.End cause
+    none : (cause : CertCause) → may_have lines.End cause ≡ true → ¬ HasRecordFault matter h before lines.End cause
     none causes.Incomplete may fault = omega (arith, told, fault, at.next, at.packages)
     none cause may fault = false≢true may
-end-verdict r inputs h before s strong at (Some causes.Incomplete) told =
-    first-from (matter_of r h.essential inputs) h before lines.End causes.Incomplete strong (omega (arith, told, at.next, at.packages)) none
+end-verdict matter h before s strong at (Some causes.Incomplete) told =
+    first-from matter h before lines.End causes.Incomplete strong (omega (arith, told, at.next, at.packages)) none
   where
-    none : (cause : CertCause) → may_have lines.End cause ≡ true → rank cause < 13 → ¬ HasRecordFault (matter_of r h.essential inputs) h before lines.End cause
+    none : (cause : CertCause) → may_have lines.End cause ≡ true → rank cause < 13 → ¬ HasRecordFault matter h before lines.End cause
     none causes.Incomplete may below fault = omega (arith, below)
     none cause may below fault = false≢true may
-end-verdict r inputs h before s strong at (Some cause) told = absurd told
+end-verdict matter h before s strong at (Some cause) told = absurd told
 
 -- ---- claims
 
 -- a package that is not the next one, or is above the last
-abbrev pub IsWrongNumber : List CertRecord → PackageList → ℕ → Type 0
-IsWrongNumber before r p = (p ≢ claim_count before + 1) ⊎ (length r.packages < p)
+abbrev pub IsWrongNumber : List CertRecord → Matter → ℕ → Type 0
+IsWrongNumber before matter p = (p ≢ claim_count before + 1) ⊎ (matter.packages < p)
 
-pub right-number : (r : PackageList) (inputs : List (List Literal)) (h : Header) (before : List CertRecord) (s : StateView) → IsAt r inputs h before s → (p : ℕ)
-    → is_next s.next s.packages p ≡ true → ¬ Any (IsWrongNumber before r) (p ∷ [])
-right-number r inputs h before s at p next wrong =
+pub right-number : (matter : Matter) (h : Header) (before : List CertRecord) (s : StateView) → IsAt matter h before s → (p : ℕ)
+    → is_next s.next s.packages p ≡ true → ¬ Any (IsWrongNumber before matter) (p ∷ [])
+right-number matter h before s at p next wrong =
     let parts = and_parts _ _ next in
     let same = eqb-true p s.next parts.0 in
     let low = leb-true p s.packages parts.1 in
-    elim (any-cases (IsWrongNumber before r) p [] wrong) [
+    elim (any-cases (IsWrongNumber before matter) p [] wrong) [
       | inl here ↦ elim here [
         | inl other ↦ other (same ∙ at.next)
         | inr high ↦ omega (arith, high, low, at.packages)
@@ -160,67 +159,67 @@ right-number r inputs h before s at p next wrong =
       | inr none ↦ omega (arith, none.2)
     ]
 
-pub wrong-number : (r : PackageList) (inputs : List (List Literal)) (h : Header) (before : List CertRecord) (s : StateView) → IsAt r inputs h before s → (p : ℕ)
-    → is_next s.next s.packages p ≡ false → Any (IsWrongNumber before r) (p ∷ [])
-wrong-number r inputs h before s at p next = any-head (IsWrongNumber before r) p [] (elim (and_cases _ _ next) [
+pub wrong-number : (matter : Matter) (h : Header) (before : List CertRecord) (s : StateView) → IsAt matter h before s → (p : ℕ)
+    → is_next s.next s.packages p ≡ false → Any (IsWrongNumber before matter) (p ∷ [])
+wrong-number matter h before s at p next = any-head (IsWrongNumber before matter) p [] (elim (and_cases _ _ next) [
   | inl other ↦ inl (λ e. eqb-false p s.next other (e ∙ sym at.next))
   | inr high ↦ inr (omega (arith, leb-false p s.packages high, at.packages))
 ])
 
 -- What the claim is on, as far as its number goes.
-pub record IsOn (r : PackageList) (inputs : List (List Literal)) (h : Header) (before : List CertRecord) (step : CertRecord) (p : ℕ) : Type 0 where
+pub record IsOn (matter : Matter) (h : Header) (before : List CertRecord) (step : CertRecord) (p : ℕ) : Type 0 where
   pub claim : is_claim step ≡ true
-  pub number : HasRecordFault (matter_of r h.essential inputs) h before step causes.OutOfOrder → Any (IsWrongNumber before r) (p ∷ [])
-  pub from_number : Any (IsWrongNumber before r) (p ∷ []) → HasRecordFault (matter_of r h.essential inputs) h before step causes.OutOfOrder
+  pub number : HasRecordFault matter h before step causes.OutOfOrder → Any (IsWrongNumber before matter) (p ∷ [])
+  pub from_number : Any (IsWrongNumber before matter) (p ∷ []) → HasRecordFault matter h before step causes.OutOfOrder
   pub may : (cause : CertCause) → may_have step cause ≡ true → (cause ≡ causes.OutOfOrder) ⊎ ((cause ≡ causes.WrongClaim) ⊎ (cause ≡ causes.Incomplete))
 
-pub number-verdict : (r : PackageList) (inputs : List (List Literal)) (h : Header) (before : List CertRecord) (s : StateView) → h.kind ≡ kinds.Strong
-    → IsAt r inputs h before s → (step : CertRecord) (p : ℕ) → IsOn r inputs h before step p
-    → is_next s.next s.packages p ≡ false → IsVerdict r inputs h before step (Some causes.OutOfOrder)
-number-verdict r inputs h before s strong at step p on next =
-    let Fault : CertCause → Type 0 = HasRecordFault (matter_of r h.essential inputs) h before step in
-    first-from (matter_of r h.essential inputs) h before step causes.OutOfOrder strong (on.from_number (wrong-number r inputs h before s at p next))
+pub number-verdict : (matter : Matter) (h : Header) (before : List CertRecord) (s : StateView) → h.kind ≡ kinds.Strong
+    → IsAt matter h before s → (step : CertRecord) (p : ℕ) → IsOn matter h before step p
+    → is_next s.next s.packages p ≡ false → IsVerdict matter h before step (Some causes.OutOfOrder)
+number-verdict matter h before s strong at step p on next =
+    let Fault : CertCause → Type 0 = HasRecordFault matter h before step in
+    first-from matter h before step causes.OutOfOrder strong (on.from_number (wrong-number matter h before s at p next))
     (λ cause may below. elim (on.may cause may) [
       | inl order ↦ let e : rank cause ≡ 5 = ap rank order in omega (arith, below, e)
       | inr (inl wrong) ↦ let e : rank cause ≡ 12 = ap rank wrong in omega (arith, below, e)
       | inr (inr incomplete) ↦ let e : rank cause ≡ 13 = ap rank incomplete in omega (arith, below, e)
     ])
 
-pub wrong-verdict : (r : PackageList) (inputs : List (List Literal)) (h : Header) (before : List CertRecord) (s : StateView) → h.kind ≡ kinds.Strong
-    → IsAt r inputs h before s → (step : CertRecord) (p : ℕ) → IsOn r inputs h before step p
-    → is_next s.next s.packages p ≡ true → ¬ HoldsClaim (matter_of r h.essential inputs) kinds.Strong before step
-    → IsVerdict r inputs h before step (Some causes.WrongClaim)
-wrong-verdict r inputs h before s strong at step p on next never =
-    let Fault : CertCause → Type 0 = HasRecordFault (matter_of r h.essential inputs) h before step in
-    first-from (matter_of r h.essential inputs) h before step causes.WrongClaim strong
-    (on.claim, subst (λ kind. ¬ HoldsClaim (matter_of r h.essential inputs) kind before step) (sym strong) never) (λ cause may below. elim (on.may cause may) [
-      | inl order ↦ λ fault. right-number r inputs h before s at p next (on.number (subst Fault order fault))
+pub wrong-verdict : (matter : Matter) (h : Header) (before : List CertRecord) (s : StateView) → h.kind ≡ kinds.Strong
+    → IsAt matter h before s → (step : CertRecord) (p : ℕ) → IsOn matter h before step p
+    → is_next s.next s.packages p ≡ true → ¬ HoldsClaim matter kinds.Strong before step
+    → IsVerdict matter h before step (Some causes.WrongClaim)
+wrong-verdict matter h before s strong at step p on next never =
+    let Fault : CertCause → Type 0 = HasRecordFault matter h before step in
+    first-from matter h before step causes.WrongClaim strong
+    (on.claim, subst (λ kind. ¬ HoldsClaim matter kind before step) (sym strong) never) (λ cause may below. elim (on.may cause may) [
+      | inl order ↦ λ fault. right-number matter h before s at p next (on.number (subst Fault order fault))
       | inr (inl wrong) ↦ let e : rank cause ≡ 12 = ap rank wrong in λ fault. omega (arith, below, e)
       | inr (inr incomplete) ↦ let e : rank cause ≡ 13 = ap rank incomplete in λ fault. omega (arith, below, e)
     ])
 
-pub right-verdict : (r : PackageList) (inputs : List (List Literal)) (h : Header) (before : List CertRecord) (s : StateView) → h.kind ≡ kinds.Strong
-    → IsAt r inputs h before s → (step : CertRecord) (p : ℕ) → IsOn r inputs h before step p
-    → is_next s.next s.packages p ≡ true → HoldsClaim (matter_of r h.essential inputs) kinds.Strong before step
-    → ¬ HasRecordFault (matter_of r h.essential inputs) h before step causes.Incomplete → IsVerdict r inputs h before step None
-right-verdict r inputs h before s strong at step p on next holds whole =
-    let Fault : CertCause → Type 0 = HasRecordFault (matter_of r h.essential inputs) h before step in
-    faultless-from (matter_of r h.essential inputs) h before step strong (λ cause may fault. elim (on.may cause may) [
-      | inl order ↦ right-number r inputs h before s at p next (on.number (subst Fault order fault))
-      | inr (inl wrong) ↦ (subst Fault wrong fault).1 (subst (λ kind. HoldsClaim (matter_of r h.essential inputs) kind before step) (sym strong) holds)
+pub right-verdict : (matter : Matter) (h : Header) (before : List CertRecord) (s : StateView) → h.kind ≡ kinds.Strong
+    → IsAt matter h before s → (step : CertRecord) (p : ℕ) → IsOn matter h before step p
+    → is_next s.next s.packages p ≡ true → HoldsClaim matter kinds.Strong before step
+    → ¬ HasRecordFault matter h before step causes.Incomplete → IsVerdict matter h before step None
+right-verdict matter h before s strong at step p on next holds whole =
+    let Fault : CertCause → Type 0 = HasRecordFault matter h before step in
+    faultless-from matter h before step strong (λ cause may fault. elim (on.may cause may) [
+      | inl order ↦ right-number matter h before s at p next (on.number (subst Fault order fault))
+      | inr (inl wrong) ↦ (subst Fault wrong fault).1 (subst (λ kind. HoldsClaim matter kind before step) (sym strong) holds)
       | inr (inr incomplete) ↦ whole (subst Fault incomplete fault)
     ])
 
-pub incomplete-verdict : (r : PackageList) (inputs : List (List Literal)) (h : Header) (before : List CertRecord) (s : StateView) → h.kind ≡ kinds.Strong
-    → IsAt r inputs h before s → (step : CertRecord) (p : ℕ) → IsOn r inputs h before step p
-    → is_next s.next s.packages p ≡ true → HoldsClaim (matter_of r h.essential inputs) kinds.Strong before step
-    → HasRecordFault (matter_of r h.essential inputs) h before step causes.Incomplete
-    → IsVerdict r inputs h before step (Some causes.Incomplete)
-incomplete-verdict r inputs h before s strong at step p on next holds omits =
-    let Fault : CertCause → Type 0 = HasRecordFault (matter_of r h.essential inputs) h before step in
-    first-from (matter_of r h.essential inputs) h before step causes.Incomplete strong omits (λ cause may below. elim (on.may cause may) [
-      | inl order ↦ λ fault. right-number r inputs h before s at p next (on.number (subst Fault order fault))
-      | inr (inl wrong) ↦ λ fault. (subst Fault wrong fault).1 (subst (λ kind. HoldsClaim (matter_of r h.essential inputs) kind before step) (sym strong) holds)
+pub incomplete-verdict : (matter : Matter) (h : Header) (before : List CertRecord) (s : StateView) → h.kind ≡ kinds.Strong
+    → IsAt matter h before s → (step : CertRecord) (p : ℕ) → IsOn matter h before step p
+    → is_next s.next s.packages p ≡ true → HoldsClaim matter kinds.Strong before step
+    → HasRecordFault matter h before step causes.Incomplete
+    → IsVerdict matter h before step (Some causes.Incomplete)
+incomplete-verdict matter h before s strong at step p on next holds omits =
+    let Fault : CertCause → Type 0 = HasRecordFault matter h before step in
+    first-from matter h before step causes.Incomplete strong omits (λ cause may below. elim (on.may cause may) [
+      | inl order ↦ λ fault. right-number matter h before s at p next (on.number (subst Fault order fault))
+      | inr (inl wrong) ↦ λ fault. (subst Fault wrong fault).1 (subst (λ kind. HoldsClaim matter kind before step) (sym strong) holds)
       | inr (inr incomplete) ↦ let e : rank cause ≡ 13 = ap rank incomplete in λ fault. omega (arith, below, e)
     ])
 
@@ -238,36 +237,36 @@ claim-causes (lines.Alive p i) cause claim may = absurd (false≢true may)
 claim-causes (lines.Challenged p named by undecided) cause claim may = absurd (false≢true may)
 claim-causes step cause claim may = absurd (false≢true claim)
 
-on-installable : (r : PackageList) (inputs : List (List Literal)) (h : Header) (before : List CertRecord) (p : ℕ)
-    → IsOn r inputs h before (lines.NotInstallable p) p
-on-installable r inputs h before p = record {
+on-installable : (matter : Matter) (h : Header) (before : List CertRecord) (p : ℕ)
+    → IsOn matter h before (lines.NotInstallable p) p
+on-installable matter h before p = record {
   claim = refl;
   number = λ f. f;
   from_number = λ f. f;
   may = λ cause. claim-causes (lines.NotInstallable p) cause refl;
 }
 
-on-unknown : (r : PackageList) (inputs : List (List Literal)) (h : Header) (before : List CertRecord) (p : ℕ) → IsOn r inputs h before (lines.Unknown p) p
-on-unknown r inputs h before p = record { claim = refl; number = λ f. f; from_number = λ f. f; may = λ cause. claim-causes (lines.Unknown p) cause refl }
+on-unknown : (matter : Matter) (h : Header) (before : List CertRecord) (p : ℕ) → IsOn matter h before (lines.Unknown p) p
+on-unknown matter h before p = record { claim = refl; number = λ f. f; from_number = λ f. f; may = λ cause. claim-causes (lines.Unknown p) cause refl }
 
-pub on-strong : (r : PackageList) (inputs : List (List Literal)) (h : Header) (before : List CertRecord) (p : ℕ) (named on undecided : List ℕ)
-    → IsOn r inputs h before (lines.Strong p named on undecided) p
-on-strong r inputs h before p named on undecided = record {
+pub on-strong : (matter : Matter) (h : Header) (before : List CertRecord) (p : ℕ) (named on undecided : List ℕ)
+    → IsOn matter h before (lines.Strong p named on undecided) p
+on-strong matter h before p named on undecided = record {
   claim = refl;
   number = λ f. f;
   from_number = λ f. f;
   may = λ cause. claim-causes (lines.Strong p named on undecided) cause refl;
 }
 
-on-outdated : (r : PackageList) (inputs : List (List Literal)) (h : Header) (before : List CertRecord) (p : ℕ) → IsOn r inputs h before (lines.Outdated p) p
-on-outdated r inputs h before p = record { claim = refl; number = λ f. f; from_number = λ f. f; may = λ cause. claim-causes (lines.Outdated p) cause refl }
+on-outdated : (matter : Matter) (h : Header) (before : List CertRecord) (p : ℕ) → IsOn matter h before (lines.Outdated p) p
+on-outdated matter h before p = record { claim = refl; number = λ f. f; from_number = λ f. f; may = λ cause. claim-causes (lines.Outdated p) cause refl }
 
-on-alive : (r : PackageList) (inputs : List (List Literal)) (h : Header) (before : List CertRecord) (p i : ℕ) → IsOn r inputs h before (lines.Alive p i) p
-on-alive r inputs h before p i = record { claim = refl; number = λ f. f; from_number = λ f. f; may = λ cause. claim-causes (lines.Alive p i) cause refl }
+on-alive : (matter : Matter) (h : Header) (before : List CertRecord) (p i : ℕ) → IsOn matter h before (lines.Alive p i) p
+on-alive matter h before p i = record { claim = refl; number = λ f. f; from_number = λ f. f; may = λ cause. claim-causes (lines.Alive p i) cause refl }
 
-on-challenged : (r : PackageList) (inputs : List (List Literal)) (h : Header) (before : List CertRecord) (p : ℕ) (named : List ℕ) (by undecided : List (ℕ × ℕ))
-    → IsOn r inputs h before (lines.Challenged p named by undecided) p
-on-challenged r inputs h before p named by undecided = record {
+on-challenged : (matter : Matter) (h : Header) (before : List CertRecord) (p : ℕ) (named : List ℕ) (by undecided : List (ℕ × ℕ))
+    → IsOn matter h before (lines.Challenged p named by undecided) p
+on-challenged matter h before p named by undecided = record {
   claim = refl;
   number = λ f. f;
   from_number = λ f. f;
@@ -275,61 +274,61 @@ on-challenged r inputs h before p named by undecided = record {
 }
 
 -- a claim without installations, whose rules are decided
-pub claim-verdict : (r : PackageList) (inputs : List (List Literal)) (h : Header) (before : List CertRecord) (s : StateView) → h.kind ≡ kinds.Strong
-    → IsAt r inputs h before s → (step : CertRecord) (p : ℕ) → IsOn r inputs h before step p
-    → (holds : Bool) → (is_next s.next s.packages p ≡ true → holds ≡ true → HoldsClaim (matter_of r h.essential inputs) kinds.Strong before step)
-    → (is_next s.next s.packages p ≡ true → holds ≡ false → ¬ HoldsClaim (matter_of r h.essential inputs) kinds.Strong before step)
-    → (HoldsClaim (matter_of r h.essential inputs) kinds.Strong before step → ¬ HasRecordFault (matter_of r h.essential inputs) h before step causes.Incomplete)
-    → (found : Option CertCause) → TellsClaim (is_next s.next s.packages p) holds found → IsVerdict r inputs h before step found
-claim-verdict r inputs h before s strong at step p on holds right wrong whole None told =
-    let rules = right told.0 told.1 in right-verdict r inputs h before s strong at step p on told.0 rules (whole rules)
-claim-verdict r inputs h before s strong at step p on holds right wrong whole (Some causes.OutOfOrder) told =
-    number-verdict r inputs h before s strong at step p on told
-claim-verdict r inputs h before s strong at step p on holds right wrong whole (Some causes.WrongClaim) told =
-    wrong-verdict r inputs h before s strong at step p on told.0 (wrong told.0 told.1)
-claim-verdict r inputs h before s strong at step p on holds right wrong whole (Some cause) told = absurd told
+pub claim-verdict : (matter : Matter) (h : Header) (before : List CertRecord) (s : StateView) → h.kind ≡ kinds.Strong
+    → IsAt matter h before s → (step : CertRecord) (p : ℕ) → IsOn matter h before step p
+    → (holds : Bool) → (is_next s.next s.packages p ≡ true → holds ≡ true → HoldsClaim matter kinds.Strong before step)
+    → (is_next s.next s.packages p ≡ true → holds ≡ false → ¬ HoldsClaim matter kinds.Strong before step)
+    → (HoldsClaim matter kinds.Strong before step → ¬ HasRecordFault matter h before step causes.Incomplete)
+    → (found : Option CertCause) → TellsClaim (is_next s.next s.packages p) holds found → IsVerdict matter h before step found
+claim-verdict matter h before s strong at step p on holds right wrong whole None told =
+    let rules = right told.0 told.1 in right-verdict matter h before s strong at step p on told.0 rules (whole rules)
+claim-verdict matter h before s strong at step p on holds right wrong whole (Some causes.OutOfOrder) told =
+    number-verdict matter h before s strong at step p on told
+claim-verdict matter h before s strong at step p on holds right wrong whole (Some causes.WrongClaim) told =
+    wrong-verdict matter h before s strong at step p on told.0 (wrong told.0 told.1)
+claim-verdict matter h before s strong at step p on holds right wrong whole (Some cause) told = absurd told
 
 next-is : (next packages p : ℕ) → is_next next packages p ≡ true → next ≡ p
 next-is next packages p is = sym (eqb-true p next (and_parts _ _ is).0)
 
-pub installable-verdict : (r : PackageList) (inputs : List (List Literal)) (h : Header) (before : List CertRecord) (s : StateView) → h.kind ≡ kinds.Strong
-    → IsAt r inputs h before s → (p : ℕ) (found : Option CertCause)
-    → TellsClaim (is_next s.next s.packages p) s.group.refuted.alone found → IsVerdict r inputs h before (lines.NotInstallable p) found
-installable-verdict r inputs h before s strong at p found told =
-    claim-verdict r inputs h before s strong at (lines.NotInstallable p) p (on-installable r inputs h before p) s.group.refuted.alone
+pub installable-verdict : (matter : Matter) (h : Header) (before : List CertRecord) (s : StateView) → h.kind ≡ kinds.Strong
+    → IsAt matter h before s → (p : ℕ) (found : Option CertCause)
+    → TellsClaim (is_next s.next s.packages p) s.group.refuted.alone found → IsVerdict matter h before (lines.NotInstallable p) found
+installable-verdict matter h before s strong at p found told =
+    claim-verdict matter h before s strong at (lines.NotInstallable p) p (on-installable matter h before p) s.group.refuted.alone
     (λ next holds. subst (λ k. IsRefutedIn (group before) (yes k ∷ [])) (next-is s.next s.packages p next) (at.group_is.refuted.alone.0 holds))
     (λ next fails refuted. false≢true (sym fails ∙ at.group_is.refuted.alone.1
     (subst (λ k. IsRefutedIn (group before) (yes k ∷ [])) (sym (next-is s.next s.packages p next)) refuted)))
     (λ rules fault. fault) found told
 
-pub unknown-verdict : (r : PackageList) (inputs : List (List Literal)) (h : Header) (before : List CertRecord) (s : StateView) → h.kind ≡ kinds.Strong
-    → IsAt r inputs h before s → (p : ℕ) (found : Option CertCause)
-    → TellsClaim (is_next s.next s.packages p) s.group.undecided.alone found → IsVerdict r inputs h before (lines.Unknown p) found
-unknown-verdict r inputs h before s strong at p found told =
-    claim-verdict r inputs h before s strong at (lines.Unknown p) p (on-unknown r inputs h before p) s.group.undecided.alone
+pub unknown-verdict : (matter : Matter) (h : Header) (before : List CertRecord) (s : StateView) → h.kind ≡ kinds.Strong
+    → IsAt matter h before s → (p : ℕ) (found : Option CertCause)
+    → TellsClaim (is_next s.next s.packages p) s.group.undecided.alone found → IsVerdict matter h before (lines.Unknown p) found
+unknown-verdict matter h before s strong at p found told =
+    claim-verdict matter h before s strong at (lines.Unknown p) p (on-unknown matter h before p) s.group.undecided.alone
     (λ next holds. subst (λ k. IsUndecidedIn (group before) (yes k ∷ [])) (next-is s.next s.packages p next) (at.group_is.undecided.alone.0 holds))
     (λ next fails closed. false≢true (sym fails ∙ at.group_is.undecided.alone.1
     (subst (λ k. IsUndecidedIn (group before) (yes k ∷ [])) (sym (next-is s.next s.packages p next)) closed)))
     (λ rules fault. fault) found told
 
-pub outdated-verdict : (r : PackageList) (inputs : List (List Literal)) (h : Header) (before : List CertRecord) (s : StateView) → h.kind ≡ kinds.Strong
-    → IsAt r inputs h before s → (p : ℕ) (found : Option CertCause)
-    → TellsClaim (is_next s.next s.packages p) false found → IsVerdict r inputs h before (lines.Outdated p) found
-outdated-verdict r inputs h before s strong at p found told =
-    claim-verdict r inputs h before s strong at (lines.Outdated p) p (on-outdated r inputs h before p) false (λ next holds. absurd (false≢true holds))
+pub outdated-verdict : (matter : Matter) (h : Header) (before : List CertRecord) (s : StateView) → h.kind ≡ kinds.Strong
+    → IsAt matter h before s → (p : ℕ) (found : Option CertCause)
+    → TellsClaim (is_next s.next s.packages p) false found → IsVerdict matter h before (lines.Outdated p) found
+outdated-verdict matter h before s strong at p found told =
+    claim-verdict matter h before s strong at (lines.Outdated p) p (on-outdated matter h before p) false (λ next holds. absurd (false≢true holds))
     (λ next fails rules. rules) (λ rules fault. rules) found told
 
-pub alive-verdict : (r : PackageList) (inputs : List (List Literal)) (h : Header) (before : List CertRecord) (s : StateView) → h.kind ≡ kinds.Strong
-    → IsAt r inputs h before s → (p i : ℕ) (found : Option CertCause)
-    → TellsClaim (is_next s.next s.packages p) false found → IsVerdict r inputs h before (lines.Alive p i) found
-alive-verdict r inputs h before s strong at p i found told =
-    claim-verdict r inputs h before s strong at (lines.Alive p i) p (on-alive r inputs h before p i) false (λ next holds. absurd (false≢true holds))
+pub alive-verdict : (matter : Matter) (h : Header) (before : List CertRecord) (s : StateView) → h.kind ≡ kinds.Strong
+    → IsAt matter h before s → (p i : ℕ) (found : Option CertCause)
+    → TellsClaim (is_next s.next s.packages p) false found → IsVerdict matter h before (lines.Alive p i) found
+alive-verdict matter h before s strong at p i found told =
+    claim-verdict matter h before s strong at (lines.Alive p i) p (on-alive matter h before p i) false (λ next holds. absurd (false≢true holds))
     (λ next fails rules. rules) (λ rules fault. rules) found told
 
-pub challenged-verdict : (r : PackageList) (inputs : List (List Literal)) (h : Header) (before : List CertRecord) (s : StateView) → h.kind ≡ kinds.Strong
-    → IsAt r inputs h before s → (p : ℕ) (named : List ℕ)
+pub challenged-verdict : (matter : Matter) (h : Header) (before : List CertRecord) (s : StateView) → h.kind ≡ kinds.Strong
+    → IsAt matter h before s → (p : ℕ) (named : List ℕ)
     (by undecided : List (ℕ × ℕ)) (found : Option CertCause) → TellsClaim (is_next s.next s.packages p) false found
-    → IsVerdict r inputs h before (lines.Challenged p named by undecided) found
-challenged-verdict r inputs h before s strong at p named by undecided found told =
-    claim-verdict r inputs h before s strong at (lines.Challenged p named by undecided) p (on-challenged r inputs h before p named by undecided) false
+    → IsVerdict matter h before (lines.Challenged p named by undecided) found
+challenged-verdict matter h before s strong at p named by undecided found told =
+    claim-verdict matter h before s strong at (lines.Challenged p named by undecided) p (on-challenged matter h before p named by undecided) false
     (λ next holds. absurd (false≢true holds)) (λ next fails rules. rules) (λ rules fault. rules) found told

@@ -25,23 +25,24 @@ use Rattle.dist_cert.specs.Refusal.{IsOneLine, BeginsWith, lines_text, HasFirstF
 use Rattle.dist_check.specs.Checking.{HasInputsWithin, HasLargeInputs}
 use Rattle.dist_check.specs.Limited.{AreInputsWithin}
 use Rattle.dist_check.specs.declared.verdict.Verdict.TheVariants.{Accepted, Refused}
-use Rattle.dist_subject.specs.Present.{AreInputs, subject_of}
+use Rattle.dist_subject.specs.Basis.{AreBases, Bases, matter_for, subject_of}
+use Rattle.dist_check.proofs.CheckLemmas.{inputs-are-present}
 use Rattle.dist_check.proofs.Stops.{Answer, IsAtPoint, passed-bytes, same-fault}
 
 -- The first line has this fault first.
-pub record IsFirstFaulty (r : PackageList) (inputs : Bool → List (List Literal)) (limits : Limits) (text : List ℕ) (fault : CertFault) : Type 0 where
+pub record IsFirstFaulty (r : PackageList) (bases : Bases) (limits : Limits) (text : List ℕ) (fault : CertFault) : Type 0 where
   pub line : fault.line ≡ 1
   pub bytes : ¬ PassesWhole limits 0 text
-  pub first : IsFirstOf in_order (HasFirstFault (subject_of r inputs) limits text) fault.cause
-  pub within : fault.cause ≡ causes.BadHeader → HasInputsWithin inputs limits text
+  pub first : IsFirstOf in_order (HasFirstFault (subject_of r bases) limits text) fault.cause
+  pub within : fault.cause ≡ causes.BadHeader → HasInputsWithin r bases limits text
 
 -- why a check stops in the first line with an answer
-abbrev pub FirstReason : PackageList → (Bool → List (List Literal)) → Limits → List ℕ → Answer → Type 0
-FirstReason r inputs limits text (Ok (Refused fault)) = IsFirstFaulty r inputs limits text fault
-FirstReason r inputs limits text (Err (TooLarge Clauses)) = HasLargeInputs limits text (λ essential. PassesClauses r essential limits.clauses limits.literals)
-FirstReason r inputs limits text (Err (TooLarge Literals)) = HasLargeInputs limits text (λ essential. PassesLiterals r essential limits.clauses limits.literals)
-FirstReason r inputs limits text (Err (TooLarge Certificate)) = PassesWhole limits 0 text
-FirstReason r inputs limits text other = ⊥
+abbrev pub FirstReason : PackageList → Bases → Limits → List ℕ → Answer → Type 0
+FirstReason r bases limits text (Ok (Refused fault)) = IsFirstFaulty r bases limits text fault
+FirstReason r bases limits text (Err (TooLarge Clauses)) = HasLargeInputs limits text (λ essential. PassesClauses r essential limits.clauses limits.literals)
+FirstReason r bases limits text (Err (TooLarge Literals)) = HasLargeInputs limits text (λ essential. PassesLiterals r essential limits.clauses limits.literals)
+FirstReason r bases limits text (Err (TooLarge Certificate)) = PassesWhole limits 0 text
+FirstReason r bases limits text other = ⊥
 
 -- ---- the input clauses
 
@@ -110,21 +111,21 @@ same-header clear text h other line more next after begins form starts shape =
 no-cut : (text line more : List ℕ) → BeginsWith text line more → ¬ IsOneLine text
 no-cut text line more begins one = whole_line line more (subst IsOneLine begins.ended one)
 
-large-not-faulty : (r : PackageList) (inputs : Bool → List (List Literal)) (limits : Limits) (text : List ℕ) (Passes : Bool → Type 0) (cause : CertCause)
-    → ((h : Header) → AreInputsWithin limits (inputs h.essential) → ¬ Passes h.essential) → HasLargeInputs limits text Passes
-    → HasFirstFault (subject_of r inputs) limits text cause
-    → (cause ≡ causes.BadHeader → HasInputsWithin inputs limits text) → ⊥
-large-not-faulty r inputs limits text Passes causes.LineTooLong never large fault within = large.keeps.line fault
-large-not-faulty r inputs limits text Passes causes.Truncated never large fault within = no-cut text large.line large.more large.begins fault
-large-not-faulty r inputs limits text Passes causes.BadHeader never large fault within =
+large-not-faulty : (r : PackageList) (bases : Bases) (limits : Limits) (text : List ℕ) (Passes : Bool → Type 0) (cause : CertCause)
+    → ((h : Header) → AreInputsWithin limits (matter_for r bases h).inputs → ¬ Passes h.essential) → HasLargeInputs limits text Passes
+    → HasFirstFault (subject_of r bases) limits text cause
+    → (cause ≡ causes.BadHeader → HasInputsWithin r bases limits text) → ⊥
+large-not-faulty r bases limits text Passes causes.LineTooLong never large fault within = large.keeps.line fault
+large-not-faulty r bases limits text Passes causes.Truncated never large fault within = no-cut text large.line large.more large.begins fault
+large-not-faulty r bases limits text Passes causes.BadHeader never large fault within =
     never large.h (within refl large.h large.line large.more large.begins large.form large.strong) large.passes
-large-not-faulty r inputs limits text Passes cause never large fault within = fault
+large-not-faulty r bases limits text Passes cause never large fault within = fault
 
-large-not-later : FormsAreClear → (r : PackageList) (inputs : Bool → List (List Literal)) (limits : Limits) (text : List ℕ) (Passes : Bool → Type 0)
+large-not-later : FormsAreClear → (r : PackageList) (bases : Bases) (limits : Limits) (text : List ℕ) (Passes : Bool → Type 0)
     (h : Header) (before : List CertRecord) (rest : List ℕ)
-    → ((g : Header) → AreInputsWithin limits (inputs g.essential) → ¬ Passes g.essential) → HasLargeInputs limits text Passes
-    → IsAtPoint (subject_of r inputs) inputs limits text h before rest → ⊥
-large-not-later clear r inputs limits text Passes h before rest never large point =
+    → ((g : Header) → AreInputsWithin limits (matter_for r bases g).inputs → ¬ Passes g.essential) → HasLargeInputs limits text Passes
+    → IsAtPoint (subject_of r bases) limits text h before rest → ⊥
+large-not-later clear r bases limits text Passes h before rest never large point =
     let starts : BeginsWith text (header_text h) (lines_text before ++ rest)
     = record {
       ended = point.faultless.reads.text_is ∙ append_assoc (header_text h) (line_feed ∷ lines_text before) rest;
@@ -132,82 +133,85 @@ large-not-later clear r inputs limits text Passes h before rest never large poin
     } in
     let same = same-header clear text large.h h large.line large.more (header_text h) (lines_text before ++ rest) large.begins large.form starts
     point.faultless.reads.header in
-    never large.h (subst (λ (g : Header). AreInputsWithin limits (inputs g.essential)) (sym same)
+    never large.h (subst (λ (g : Header). AreInputsWithin limits (matter_for r bases g).inputs) (sym same)
     (record { clauses = point.numbers.clauses; literals = point.numbers.literals })) large.passes
 
 -- what is known of the input clauses
-pub record AreKnown (r : PackageList) (inputs : Bool → List (List Literal)) (limits : Limits) : Type 0 where
-  pub clauses : (h : Header) → AreInputsWithin limits (inputs h.essential) → ¬ PassesClauses r h.essential limits.clauses limits.literals
-  pub literals : (h : Header) → AreInputsWithin limits (inputs h.essential) → ¬ PassesLiterals r h.essential limits.clauses limits.literals
+pub record AreKnown (r : PackageList) (bases : Bases) (limits : Limits) : Type 0 where
+  pub clauses : (h : Header) → AreInputsWithin limits (matter_for r bases h).inputs → ¬ PassesClauses r h.essential limits.clauses limits.literals
+  pub literals : (h : Header) → AreInputsWithin limits (matter_for r bases h).inputs → ¬ PassesLiterals r h.essential limits.clauses limits.literals
   pub both : (h : Header) → PassesClauses r h.essential limits.clauses limits.literals → ¬ PassesLiterals r h.essential limits.clauses limits.literals
 
-pub known : ClausesGoOn → (r : PackageList) (inputs : Bool → List (List Literal)) (limits : Limits) → AreInputs r inputs → AreKnown r inputs limits
-known on r inputs limits are = record {
-  clauses = λ h. clauses-within on r h.essential limits (inputs h.essential) (are h.essential);
-  literals = λ h. literals-within on r h.essential limits (inputs h.essential) (are h.essential);
-  both = λ h. not-both-passed on r h.essential limits (inputs h.essential) (are h.essential);
+pub known : ClausesGoOn → (r : PackageList) (bases : Bases) (limits : Limits) → AreBases r bases → AreKnown r bases limits
+known on r bases limits are = record {
+  clauses = λ h. clauses-within on r h.essential limits (matter_for r bases h).inputs (inputs-are-present r h.essential (bases h.kind h.essential)
+      (are h.kind h.essential));
+  literals = λ h. literals-within on r h.essential limits (matter_for r bases h).inputs (inputs-are-present r h.essential (bases h.kind h.essential)
+      (are h.kind h.essential));
+  both = λ h. not-both-passed on r h.essential limits (matter_for r bases h).inputs (inputs-are-present r h.essential (bases h.kind h.essential)
+      (are h.kind h.essential));
 }
 
-both-large : FormsAreClear → (r : PackageList) (inputs : Bool → List (List Literal)) (limits : Limits) (text : List ℕ) → AreKnown r inputs limits
+both-large : FormsAreClear → (r : PackageList) (bases : Bases) (limits : Limits) (text : List ℕ) → AreKnown r bases limits
     → HasLargeInputs limits text (λ essential. PassesClauses r essential limits.clauses limits.literals)
     → HasLargeInputs limits text (λ essential. PassesLiterals r essential limits.clauses limits.literals) → ⊥
-both-large clear r inputs limits text told clauses literals =
+both-large clear r bases limits text told clauses literals =
     let same = same-header clear text literals.h clauses.h literals.line literals.more clauses.line clauses.more literals.begins literals.form clauses.begins
     clauses.form in
     told.both clauses.h clauses.passes (subst (λ (h : Header). PassesLiterals r h.essential limits.clauses limits.literals) same literals.passes)
 
-pub one-first-stop : FormsAreClear → (r : PackageList) (inputs : Bool → List (List Literal)) (limits : Limits) (text : List ℕ) → AreKnown r inputs limits
+pub one-first-stop : FormsAreClear → (r : PackageList) (bases : Bases) (limits : Limits) (text : List ℕ) → AreKnown r bases limits
     → (one other : Answer)
-    → FirstReason r inputs limits text one → FirstReason r inputs limits text other → one ≡ other
-one-first-stop clear r inputs limits text told (Ok (Refused fault)) (Ok (Refused other)) x y =
+    → FirstReason r bases limits text one → FirstReason r bases limits text other → one ≡ other
+one-first-stop clear r bases limits text told (Ok (Refused fault)) (Ok (Refused other)) x y =
     ap (λ f. Ok (Refused f)) (same-fault fault other (x.line ∙ sym y.line)
-    (one_first (HasFirstFault (subject_of r inputs) limits text) in_order fault.cause other.cause x.first y.first))
-one-first-stop clear r inputs limits text told (Ok (Refused fault)) (Err (TooLarge Clauses)) x y =
-    absurd (large-not-faulty r inputs limits text _ fault.cause told.clauses y
-    (has_first (HasFirstFault (subject_of r inputs) limits text) in_order fault.cause x.first) x.within)
-one-first-stop clear r inputs limits text told (Ok (Refused fault)) (Err (TooLarge Literals)) x y =
-    absurd (large-not-faulty r inputs limits text _ fault.cause told.literals y
-    (has_first (HasFirstFault (subject_of r inputs) limits text) in_order fault.cause x.first) x.within)
-one-first-stop clear r inputs limits text told (Ok (Refused fault)) (Err (TooLarge Certificate)) x y = absurd (x.bytes y)
-one-first-stop clear r inputs limits text told (Err (TooLarge Clauses)) (Ok (Refused fault)) x y =
-    absurd (large-not-faulty r inputs limits text _ fault.cause told.clauses x
-    (has_first (HasFirstFault (subject_of r inputs) limits text) in_order fault.cause y.first) y.within)
-one-first-stop clear r inputs limits text told (Err (TooLarge Clauses)) (Err (TooLarge Clauses)) x y = refl
-one-first-stop clear r inputs limits text told (Err (TooLarge Clauses)) (Err (TooLarge Literals)) x y = absurd (both-large clear r inputs limits text told x y)
-one-first-stop clear r inputs limits text told (Err (TooLarge Clauses)) (Err (TooLarge Certificate)) x y = absurd (x.keeps.whole y)
-one-first-stop clear r inputs limits text told (Err (TooLarge Literals)) (Ok (Refused fault)) x y =
-    absurd (large-not-faulty r inputs limits text _ fault.cause told.literals x
-    (has_first (HasFirstFault (subject_of r inputs) limits text) in_order fault.cause y.first) y.within)
-one-first-stop clear r inputs limits text told (Err (TooLarge Literals)) (Err (TooLarge Clauses)) x y = absurd (both-large clear r inputs limits text told y x)
-one-first-stop clear r inputs limits text told (Err (TooLarge Literals)) (Err (TooLarge Literals)) x y = refl
-one-first-stop clear r inputs limits text told (Err (TooLarge Literals)) (Err (TooLarge Certificate)) x y = absurd (x.keeps.whole y)
-one-first-stop clear r inputs limits text told (Err (TooLarge Certificate)) (Ok (Refused fault)) x y = absurd (y.bytes x)
-one-first-stop clear r inputs limits text told (Err (TooLarge Certificate)) (Err (TooLarge Clauses)) x y = absurd (y.keeps.whole x)
-one-first-stop clear r inputs limits text told (Err (TooLarge Certificate)) (Err (TooLarge Literals)) x y = absurd (y.keeps.whole x)
-one-first-stop clear r inputs limits text told (Err (TooLarge Certificate)) (Err (TooLarge Certificate)) x y = refl
-one-first-stop clear r inputs limits text told (Ok (Accepted h made)) other x y = absurd x
-one-first-stop clear r inputs limits text told (Err ReadFault) other x y = absurd x
-one-first-stop clear r inputs limits text told (Err WriteFault) other x y = absurd x
-one-first-stop clear r inputs limits text told (Err NoMemory) other x y = absurd x
-one-first-stop clear r inputs limits text told (Err (TooLarge Bytes)) other x y = absurd x
-one-first-stop clear r inputs limits text told (Err (TooLarge Stanzas)) other x y = absurd x
-one-first-stop clear r inputs limits text told (Err (TooLarge Variables)) other x y = absurd x
-one-first-stop clear r inputs limits text told (Err (TooLarge Lines)) other x y = absurd x
-one-first-stop clear r inputs limits text told (Err (TooLarge LineLiterals)) other x y = absurd x
-one-first-stop clear r inputs limits text told (Err (TooLarge RecordLine)) other x y = absurd x
-one-first-stop clear r inputs limits text told one other x y = absurd y
+    (one_first (HasFirstFault (subject_of r bases) limits text) in_order fault.cause other.cause x.first y.first))
+one-first-stop clear r bases limits text told (Ok (Refused fault)) (Err (TooLarge Clauses)) x y =
+    absurd (large-not-faulty r bases limits text _ fault.cause told.clauses y
+    (has_first (HasFirstFault (subject_of r bases) limits text) in_order fault.cause x.first) x.within)
+one-first-stop clear r bases limits text told (Ok (Refused fault)) (Err (TooLarge Literals)) x y =
+    absurd (large-not-faulty r bases limits text _ fault.cause told.literals y
+    (has_first (HasFirstFault (subject_of r bases) limits text) in_order fault.cause x.first) x.within)
+one-first-stop clear r bases limits text told (Ok (Refused fault)) (Err (TooLarge Certificate)) x y = absurd (x.bytes y)
+one-first-stop clear r bases limits text told (Err (TooLarge Clauses)) (Ok (Refused fault)) x y =
+    absurd (large-not-faulty r bases limits text _ fault.cause told.clauses x
+    (has_first (HasFirstFault (subject_of r bases) limits text) in_order fault.cause y.first) y.within)
+one-first-stop clear r bases limits text told (Err (TooLarge Clauses)) (Err (TooLarge Clauses)) x y = refl
+one-first-stop clear r bases limits text told (Err (TooLarge Clauses)) (Err (TooLarge Literals)) x y = absurd (both-large clear r bases limits text told x y)
+one-first-stop clear r bases limits text told (Err (TooLarge Clauses)) (Err (TooLarge Certificate)) x y = absurd (x.keeps.whole y)
+one-first-stop clear r bases limits text told (Err (TooLarge Literals)) (Ok (Refused fault)) x y =
+    absurd (large-not-faulty r bases limits text _ fault.cause told.literals x
+    (has_first (HasFirstFault (subject_of r bases) limits text) in_order fault.cause y.first) y.within)
+one-first-stop clear r bases limits text told (Err (TooLarge Literals)) (Err (TooLarge Clauses)) x y = absurd (both-large clear r bases limits text told y x)
+one-first-stop clear r bases limits text told (Err (TooLarge Literals)) (Err (TooLarge Literals)) x y = refl
+one-first-stop clear r bases limits text told (Err (TooLarge Literals)) (Err (TooLarge Certificate)) x y = absurd (x.keeps.whole y)
+one-first-stop clear r bases limits text told (Err (TooLarge Certificate)) (Ok (Refused fault)) x y = absurd (y.bytes x)
+one-first-stop clear r bases limits text told (Err (TooLarge Certificate)) (Err (TooLarge Clauses)) x y = absurd (y.keeps.whole x)
+one-first-stop clear r bases limits text told (Err (TooLarge Certificate)) (Err (TooLarge Literals)) x y = absurd (y.keeps.whole x)
+one-first-stop clear r bases limits text told (Err (TooLarge Certificate)) (Err (TooLarge Certificate)) x y = refl
+one-first-stop clear r bases limits text told (Ok (Accepted h made)) other x y = absurd x
+one-first-stop clear r bases limits text told (Err ReadFault) other x y = absurd x
+one-first-stop clear r bases limits text told (Err WriteFault) other x y = absurd x
+one-first-stop clear r bases limits text told (Err NoMemory) other x y = absurd x
+one-first-stop clear r bases limits text told (Err (TooLarge Bytes)) other x y = absurd x
+one-first-stop clear r bases limits text told (Err (TooLarge Stanzas)) other x y = absurd x
+one-first-stop clear r bases limits text told (Err (TooLarge Variables)) other x y = absurd x
+one-first-stop clear r bases limits text told (Err (TooLarge Lines)) other x y = absurd x
+one-first-stop clear r bases limits text told (Err (TooLarge LineLiterals)) other x y = absurd x
+one-first-stop clear r bases limits text told (Err (TooLarge RecordLine)) other x y = absurd x
+one-first-stop clear r bases limits text told one other x y = absurd y
 
-pub first-alone : FormsAreClear → (r : PackageList) (inputs : Bool → List (List Literal)) (limits : Limits) (text : List ℕ) (h : Header)
-    (before : List CertRecord) (rest : List ℕ) → AreKnown r inputs limits → (one : Answer)
-    → FirstReason r inputs limits text one → IsAtPoint (subject_of r inputs) inputs limits text h before rest → ⊥
-first-alone clear r inputs limits text h before rest told (Ok (Refused fault)) x point =
-    point.faultless.first fault.cause (has_first (HasFirstFault (subject_of r inputs) limits text) in_order fault.cause x.first)
-first-alone clear r inputs limits text h before rest told (Err (TooLarge Clauses)) x point =
-    large-not-later clear r inputs limits text _ h before rest told.clauses x point
-first-alone clear r inputs limits text h before rest told (Err (TooLarge Literals)) x point =
-    large-not-later clear r inputs limits text _ h before rest told.literals x point
-first-alone clear r inputs limits text h before rest told (Err (TooLarge Certificate)) x point =
+pub first-alone : FormsAreClear → (r : PackageList) (bases : Bases) (limits : Limits) (text : List ℕ) (h : Header)
+    (before : List CertRecord) (rest : List ℕ) → AreKnown r bases limits → (one : Answer)
+    → FirstReason r bases limits text one → IsAtPoint (subject_of r bases) limits text h before rest → ⊥
+first-alone clear r bases limits text h before rest told (Ok (Refused fault)) x point =
+    point.faultless.first fault.cause (has_first (HasFirstFault (subject_of r bases) limits text) in_order fault.cause x.first)
+first-alone clear r bases limits text h before rest told (Err (TooLarge Clauses)) x point =
+    large-not-later clear r bases limits text _ h before rest told.clauses x point
+first-alone clear r bases limits text h before rest told (Err (TooLarge Literals)) x point =
+    large-not-later clear r bases limits text _ h before rest told.literals x point
+first-alone clear r bases limits text h before rest told (Err (TooLarge Certificate)) x point =
     passed-bytes limits 0 (header_text h) (lines_text before ++ rest) text
     (point.faultless.reads.text_is ∙ append_assoc (header_text h) (line_feed ∷ lines_text before) rest)
     (omega (arith, point.numbers.bytes, length-append (header_text h) (line_feed ∷ lines_text before))) x
-first-alone clear r inputs limits text h before rest told one x point = x
+first-alone clear r bases limits text h before rest told one x point = x

@@ -5,7 +5,6 @@ use Rattle.std.proofs.lemmas.Bool.{false≢true}
 use Rattle.std.proofs.lemmas.List.{append-nil}
 use Rattle.std.proofs.lemmas.Grind.{flat_map-append}
 use Rattle.dist_clause.specs.Formula.{Literal}
-use Rattle.dist_repo.specs.PackageList.{PackageList}
 use Rattle.dist_cert.specs.declared.faults.CertCause.{CertCause}
 use Rattle.dist_cert.specs.declared.records.CertKind.TheVariants as kinds
 use Rattle.dist_cert.specs.declared.records.CertRecord.{CertRecord}
@@ -15,12 +14,12 @@ use Rattle.dist_cert.specs.declared.records.Header.{Header}
 use Rattle.dist_cert.specs.Form.{KeepsRules}
 use Rattle.dist_cert.specs.Groups.{clause_of, derived, derived_in, installed_in, installations, is_claim, claimed, claim_count, group, leaves_open}
 use Rattle.dist_cert.specs.Accepted.{claim_in, claims_in}
-use Rattle.dist_subject.specs.Present.{matter_of}
+use Rattle.dist_cert.specs.Subject.{Matter}
 use Rattle.dist_check_group.specs.Window.{WindowView, latest}
 use Rattle.dist_check_group.specs.Closed.{Closes}
 use Rattle.dist_check_group.specs.Group.{GroupView}
 use Rattle.dist_check_state.specs.State.{QuestionView, StateView, Tells, Becomes, empty_group, after_claim, TellsRefuted, TellsUndecided}
-use Rattle.dist_check.specs.AtPrivate.{IsQuestionOf, IsGroupOf, IsAt}
+use Rattle.dist_check.specs.AtPrivate.{AreFuturesBy, IsQuestionOf, IsGroupOf, IsAt}
 use Rattle.dist_check.proofs.ClosingVerdicts.{undecided-verdict, end-verdict, installable-verdict, unknown-verdict, outdated-verdict, alive-verdict}
 use Rattle.dist_check.proofs.ClosingVerdicts.{challenged-verdict}
 use Rattle.dist_cert.specs.GroupLaws.{IsOpening, opened, none-open, none-first}
@@ -33,30 +32,30 @@ use Rattle.dist_check.proofs.Whole.{claim-count-push}
 
 -- ---- the verdict
 
-pub told-verdict : (r : PackageList) (inputs : List (List Literal)) (h : Header) (before : List CertRecord) (s : StateView) → h.kind ≡ kinds.Strong
-    → IsAt r inputs h before s → AreRight (matter_of r h.essential inputs) h before → HaveForms before
-    → AreInputsOf r h.essential inputs → (step : CertRecord) → KeepsRules step → (found : Option CertCause) → Tells s step found
-    → IsVerdict r inputs h before step found
-told-verdict r inputs h before s strong at right forms mean (lines.Question literals) rules found told =
-    question-verdict r inputs h before s strong at literals found told
-told-verdict r inputs h before s strong at right forms mean (lines.Derived literals hints) rules found told =
-    derived-verdict r inputs h before s strong at literals hints found told
-told-verdict r inputs h before s strong at right forms mean (lines.Refuted hints) rules found told =
-    refuted-verdict r inputs h before s strong at s.question at.question hints found told
-told-verdict r inputs h before s strong at right forms mean (lines.Installation variables) rules found told =
-    installation-verdict r inputs h before s strong at mean variables found told
-told-verdict r inputs h before s strong at right forms mean lines.Undecided rules found told =
-    undecided-verdict r inputs h before s strong at s.question at.question found told
-told-verdict r inputs h before s strong at right forms mean (lines.NotInstallable p) rules found told =
-    installable-verdict r inputs h before s strong at p found told
-told-verdict r inputs h before s strong at right forms mean (lines.Unknown p) rules found told = unknown-verdict r inputs h before s strong at p found told
-told-verdict r inputs h before s strong at right forms mean (lines.Strong p named on undecided) rules found told =
-    strong-verdict r inputs h before s strong at right forms p named on undecided rules found told
-told-verdict r inputs h before s strong at right forms mean (lines.Outdated p) rules found told = outdated-verdict r inputs h before s strong at p found told
-told-verdict r inputs h before s strong at right forms mean (lines.Alive p i) rules found told = alive-verdict r inputs h before s strong at p i found told
-told-verdict r inputs h before s strong at right forms mean (lines.Challenged p named by undecided) rules found told =
-    challenged-verdict r inputs h before s strong at p named by undecided found told
-told-verdict r inputs h before s strong at right forms mean lines.End rules found told = end-verdict r inputs h before s strong at found told
+pub told-verdict : (matter : Matter) (h : Header) (before : List CertRecord) (s : StateView) → h.kind ≡ kinds.Strong
+    → IsAt matter h before s → AreRight matter h before → HaveForms before
+    → AreInputsOf matter → (step : CertRecord) → KeepsRules step → (found : Option CertCause) → Tells s step found
+    → IsVerdict matter h before step found
+told-verdict matter h before s strong at right forms mean (lines.Question literals) rules found told =
+    question-verdict matter h before s strong at literals found told
+told-verdict matter h before s strong at right forms mean (lines.Derived literals hints) rules found told =
+    derived-verdict matter h before s strong at literals hints found told
+told-verdict matter h before s strong at right forms mean (lines.Refuted hints) rules found told =
+    refuted-verdict matter h before s strong at s.question at.question hints found told
+told-verdict matter h before s strong at right forms mean (lines.Installation variables) rules found told =
+    installation-verdict matter h before s strong at mean variables found told
+told-verdict matter h before s strong at right forms mean lines.Undecided rules found told =
+    undecided-verdict matter h before s strong at s.question at.question found told
+told-verdict matter h before s strong at right forms mean (lines.NotInstallable p) rules found told =
+    installable-verdict matter h before s strong at p found told
+told-verdict matter h before s strong at right forms mean (lines.Unknown p) rules found told = unknown-verdict matter h before s strong at p found told
+told-verdict matter h before s strong at right forms mean (lines.Strong p named on undecided) rules found told =
+    strong-verdict matter h before s strong at right forms p named on undecided rules found told
+told-verdict matter h before s strong at right forms mean (lines.Outdated p) rules found told = outdated-verdict matter h before s strong at p found told
+told-verdict matter h before s strong at right forms mean (lines.Alive p i) rules found told = alive-verdict matter h before s strong at p i found told
+told-verdict matter h before s strong at right forms mean (lines.Challenged p named by undecided) rules found told =
+    challenged-verdict matter h before s strong at p named by undecided found told
+told-verdict matter h before s strong at right forms mean lines.End rules found told = end-verdict matter h before s strong at found told
 
 -- ---- what is kept behind a line
 
@@ -71,19 +70,20 @@ claims-more : (before : List CertRecord) (step : CertRecord) → claims_in befor
 claims-more before step = sym (flat_map-append claim_in before (step ∷ []) ∙ ap (λ (cs : List Claim). claims_in before ++ cs) (append-nil (claim_in step)))
 
 -- a line that is no claim, with what it changes
-plain-step : (r : PackageList) (inputs : List (List Literal)) (h : Header) (before : List CertRecord) (s : StateView) → IsAt r inputs h before s
+plain-step : (matter : Matter) (h : Header) (before : List CertRecord) (s : StateView) → IsAt matter h before s
     → (step : CertRecord) → claimed step ≡ [] → claim_in step ≡ [] → installed_in step ≡ []
-    → derived_in step ≡ [] → (question : Option QuestionView) → IsQuestionOf inputs (before ++ step ∷ []) question → (kept : GroupView)
+    → derived_in step ≡ [] → (question : Option QuestionView) → IsQuestionOf matter.inputs (before ++ step ∷ []) question → (kept : GroupView)
     → IsGroupOf (group (before ++ step ∷ [])) s.next kept
-    → IsAt r inputs h (before ++ step ∷ []) (record s { question = question; group = kept })
-plain-step r inputs h before s at step no_number no_claim no_members no_clause question q kept g = record {
+    → IsAt matter h (before ++ step ∷ []) (record s { question = question; group = kept })
+plain-step matter h before s at step no_number no_claim no_members no_clause question q kept g = record {
   limit = at.limit;
   packages = at.packages;
-  clauses = at.clauses ∙ derived-same inputs before step no_clause;
+  clauses = at.clauses ∙ derived-same matter.inputs before step no_clause;
   inputs_are = at.inputs_are;
   variables = at.variables;
-  no_front = at.no_front;
-  no_back = at.no_back;
+  future = at.future;
+  today = at.today;
+  same = at.same;
   kept = at.kept ∙ ap latest (installed-same before step no_members);
   count = at.count ∙ ap (λ (ms : List (List ℕ)). length ms) (installed-same before step no_members);
   question = q;
@@ -93,17 +93,18 @@ plain-step r inputs h before s at step no_number no_claim no_members no_clause q
 }
 
 -- a claim on the next package
-claim-step : (r : PackageList) (inputs : List (List Literal)) (h : Header) (before : List CertRecord) (s : StateView) → IsAt r inputs h before s
+claim-step : (matter : Matter) (h : Header) (before : List CertRecord) (s : StateView) → IsAt matter h before s
     → (step : CertRecord) → is_claim step ≡ true → length (claimed step) ≡ 1 → installed_in step ≡ []
-    → derived_in step ≡ [] → leaves_open step ≡ false → ¬ IsOpening step → IsAt r inputs h (before ++ step ∷ []) (after_claim s (claim_in step))
-claim-step r inputs h before s at step claim one no_members no_clause closes never = record {
+    → derived_in step ≡ [] → leaves_open step ≡ false → ¬ IsOpening step → IsAt matter h (before ++ step ∷ []) (after_claim s (claim_in step))
+claim-step matter h before s at step claim one no_members no_clause closes never = record {
   limit = at.limit;
   packages = at.packages;
-  clauses = at.clauses ∙ derived-same inputs before step no_clause;
+  clauses = at.clauses ∙ derived-same matter.inputs before step no_clause;
   inputs_are = at.inputs_are;
   variables = at.variables;
-  no_front = at.no_front;
-  no_back = at.no_back;
+  future = at.future;
+  today = at.today;
+  same = at.same;
   kept = at.kept ∙ ap latest (installed-same before step no_members);
   count = at.count ∙ ap (λ (ms : List (List ℕ)). length ms) (installed-same before step no_members);
   question = none-open before step closes never;
@@ -131,44 +132,47 @@ undecided-group inputs before s t is None q told common noted = cc
 undecided-group inputs before s t is (Some question) q told common noted =
     group-undecided before q.0 question.assumptions q.1 s.next s.group t.group q.2 noted.0 noted.1 common is
 
-pub becomes-at : (r : PackageList) (inputs : List (List Literal)) (h : Header) (before : List CertRecord) (s t : StateView) → IsAt r inputs h before s
+pub becomes-at : (matter : Matter) (h : Header) (before : List CertRecord) (s t : StateView) → IsAt matter h before s
     → (step : CertRecord) → Tells s step None → Becomes s step t
-    → IsAt r inputs h (before ++ step ∷ []) t
-becomes-at r inputs h before s t at (lines.Question literals) told is =
-    subst (IsAt r inputs h (before ++ lines.Question literals ∷ [])) (sym is)
-    (plain-step r inputs h before s at (lines.Question literals) refl refl refl refl (Some (record { assumptions = literals; last = length s.log.clauses }))
+    → IsAt matter h (before ++ step ∷ []) t
+becomes-at matter h before s t at (lines.Question literals) told is =
+    subst (IsAt matter h (before ++ lines.Question literals ∷ [])) (sym is)
+    (plain-step matter h before s at (lines.Question literals) refl refl refl refl (Some (record { assumptions = literals; last = length s.log.clauses }))
     (before, [], opened before literals, ap (λ (cs : List (List Literal)). length cs) at.clauses) s.group
     (group-same before (lines.Question literals) s.next s.group refl refl (λ hints e. cc) (λ e. cc) at.group_is))
-becomes-at r inputs h before s t at (lines.Derived literals hints) told is =
+becomes-at matter h before s t at (lines.Derived literals hints) told is =
     let step = lines.Derived literals hints in
     let never : ¬ IsOpening step = λ o. let e = o.1 in cc in
-    subst (IsAt r inputs h (before ++ step ∷ [])) (sym is) (record {
+    subst (IsAt matter h (before ++ step ∷ [])) (sym is) (record {
       limit = at.limit;
       packages = at.packages;
-      clauses = ap (λ (cs : List (List Literal)). cs ++ clause_of literals ∷ []) at.clauses ∙ append_assoc inputs (derived before) (clause_of literals ∷ [])
-          ∙ ap (λ (cs : List (List Literal)). inputs ++ cs) (sym (derived-push before step));
+      clauses = ap (λ (cs : List (List Literal)). cs ++ clause_of literals ∷ []) at.clauses
+          ∙ append_assoc matter.inputs (derived before) (clause_of literals ∷ [])
+          ∙ ap (λ (cs : List (List Literal)). matter.inputs ++ cs) (sym (derived-push before step));
       inputs_are = at.inputs_are;
       variables = at.variables;
-      no_front = at.no_front;
-      no_back = at.no_back;
+      future = at.future;
+      today = at.today;
+      same = at.same;
       kept = at.kept ∙ ap latest (installed-same before step refl);
       count = at.count ∙ ap (λ (ms : List (List ℕ)). length ms) (installed-same before step refl);
-      question = question-stays inputs before step refl never s.question at.question;
+      question = question-stays matter.inputs before step refl never s.question at.question;
       next = at.next ∙ ap (λ (n : ℕ). n + 1) (counts-same before step refl);
       group_is = group-same before step s.next s.group refl refl (λ hs e. cc) (λ e. cc) at.group_is;
       claims = at.claims ∙ claims-same before step refl;
     })
-becomes-at r inputs h before s t at (lines.Installation variables) told is =
+becomes-at matter h before s t at (lines.Installation variables) told is =
     let step = lines.Installation variables in
     let never : ¬ IsOpening step = λ o. let e = o.1 in cc in
-    subst (IsAt r inputs h (before ++ step ∷ [])) (sym is) (record {
+    subst (IsAt matter h (before ++ step ∷ [])) (sym is) (record {
       limit = at.limit;
       packages = at.packages;
-      clauses = at.clauses ∙ derived-same inputs before step refl;
+      clauses = at.clauses ∙ derived-same matter.inputs before step refl;
       inputs_are = at.inputs_are;
       variables = at.variables;
-      no_front = at.no_front;
-      no_back = at.no_back;
+      future = at.future;
+      today = at.today;
+      same = at.same;
       kept = ap (λ (ms : List (List ℕ)). latest (ms ++ variables ∷ [])) at.kept ∙ latest-push (installations before) variables
           ∙ ap latest (sym (installed-push before step));
       count = omega (
@@ -177,59 +181,61 @@ becomes-at r inputs h before s t at (lines.Installation variables) told is =
         ap (λ (ms : List (List ℕ)). length ms) (installed-push before step),
         length-append (installations before) (variables ∷ []),
       );
-      question = question-stays inputs before step refl never s.question at.question;
+      question = question-stays matter.inputs before step refl never s.question at.question;
       next = at.next ∙ ap (λ (n : ℕ). n + 1) (counts-same before step refl);
       group_is = group-installed before variables s.next s.group at.group_is;
       claims = at.claims ∙ claims-same before step refl;
     })
-becomes-at r inputs h before s t at (lines.Refuted hints) told is =
+becomes-at matter h before s t at (lines.Refuted hints) told is =
     let step = lines.Refuted hints in
     let never : ¬ IsOpening step = λ o. let e = o.1 in cc in
-    subst (IsAt r inputs h (before ++ step ∷ [])) (sym is.rest)
-    (plain-step r inputs h before s at step refl refl refl refl None (none-open before step refl never) t.group
-    (refuted-group inputs before s t hints at.group_is s.question at.question told is.common is.noted))
-becomes-at r inputs h before s t at lines.Undecided told is =
+    subst (IsAt matter h (before ++ step ∷ [])) (sym is.rest)
+    (plain-step matter h before s at step refl refl refl refl None (none-open before step refl never) t.group
+    (refuted-group matter.inputs before s t hints at.group_is s.question at.question told is.common is.noted))
+becomes-at matter h before s t at lines.Undecided told is =
     let step = lines.Undecided in
     let never : ¬ IsOpening step = λ o. let e = o.1 in cc in
-    subst (IsAt r inputs h (before ++ step ∷ [])) (sym is.rest)
-    (plain-step r inputs h before s at step refl refl refl refl None (none-open before step refl never) t.group
-    (undecided-group inputs before s t at.group_is s.question at.question told is.common is.noted))
-becomes-at r inputs h before s t at (lines.NotInstallable p) told is =
-    subst (IsAt r inputs h (before ++ lines.NotInstallable p ∷ [])) (sym is)
-    (claim-step r inputs h before s at (lines.NotInstallable p) refl refl refl refl refl (λ o. let e = o.1 in cc))
-becomes-at r inputs h before s t at (lines.Unknown p) told is =
-    subst (IsAt r inputs h (before ++ lines.Unknown p ∷ [])) (sym is)
-    (claim-step r inputs h before s at (lines.Unknown p) refl refl refl refl refl (λ o. let e = o.1 in cc))
-becomes-at r inputs h before s t at (lines.Strong p named on undecided) told is =
-    subst (IsAt r inputs h (before ++ lines.Strong p named on undecided ∷ [])) (sym is)
-    (claim-step r inputs h before s at (lines.Strong p named on undecided) refl refl refl refl refl (λ o. let e = o.1 in cc))
-becomes-at r inputs h before s t at (lines.Outdated p) told is = absurd (false≢true told.1)
-becomes-at r inputs h before s t at (lines.Alive p i) told is = absurd (false≢true told.1)
-becomes-at r inputs h before s t at (lines.Challenged p named by undecided) told is = absurd (false≢true told.1)
-becomes-at r inputs h before s t at lines.End told is =
+    subst (IsAt matter h (before ++ step ∷ [])) (sym is.rest)
+    (plain-step matter h before s at step refl refl refl refl None (none-open before step refl never) t.group
+    (undecided-group matter.inputs before s t at.group_is s.question at.question told is.common is.noted))
+becomes-at matter h before s t at (lines.NotInstallable p) told is =
+    subst (IsAt matter h (before ++ lines.NotInstallable p ∷ [])) (sym is)
+    (claim-step matter h before s at (lines.NotInstallable p) refl refl refl refl refl (λ o. let e = o.1 in cc))
+becomes-at matter h before s t at (lines.Unknown p) told is =
+    subst (IsAt matter h (before ++ lines.Unknown p ∷ [])) (sym is)
+    (claim-step matter h before s at (lines.Unknown p) refl refl refl refl refl (λ o. let e = o.1 in cc))
+becomes-at matter h before s t at (lines.Strong p named on undecided) told is =
+    subst (IsAt matter h (before ++ lines.Strong p named on undecided ∷ [])) (sym is)
+    (claim-step matter h before s at (lines.Strong p named on undecided) refl refl refl refl refl (λ o. let e = o.1 in cc))
+becomes-at matter h before s t at (lines.Outdated p) told is = absurd (false≢true told.1)
+becomes-at matter h before s t at (lines.Alive p i) told is = absurd (false≢true told.1)
+becomes-at matter h before s t at (lines.Challenged p named by undecided) told is = absurd (false≢true told.1)
+becomes-at matter h before s t at lines.End told is =
     let step = lines.End in
     let never : ¬ IsOpening step = λ o. let e = o.1 in cc in
-    subst (IsAt r inputs h (before ++ step ∷ [])) (sym is)
-    (plain-step r inputs h before s at step refl refl refl refl None (none-open before step refl never) s.group
+    subst (IsAt matter h (before ++ step ∷ [])) (sym is)
+    (plain-step matter h before s at step refl refl refl refl None (none-open before step refl never) s.group
     (group-same before step s.next s.group refl refl (λ hints e. cc) (λ e. cc) at.group_is))
 
 -- before the first line
-pub starts-at : (r : PackageList) (inputs : List (List Literal)) (h : Header) (s : StateView) → s.limit ≡ h.limit → s.packages ≡ length r.packages
-    → s.log.clauses ≡ inputs → s.log.inputs ≡ length inputs
-    → s.log.variables ≡ length r.packages → s.future.upto ≡ 0 → s.future.behind ≡ length inputs
+pub starts-at : (matter : Matter) (h : Header) (s : StateView) → s.limit ≡ h.limit → s.packages ≡ matter.packages
+    → s.log.clauses ≡ matter.inputs → s.log.inputs ≡ length matter.inputs
+    → s.log.variables ≡ matter.variables → AreFuturesBy matter s.future → (h.kind ≡ kinds.Strong → (members : List ℕ) → matter.IsFuture members)
+    → (h.kind ≡ kinds.Strong → matter.variables ≡ matter.packages)
     → s.window ≡ record { kept = []; count = 0 } → s.question ≡ None → s.next ≡ 1 → s.group ≡ empty_group → s.claims ≡ []
-    → IsAt r inputs h [] s
-starts-at r inputs h s limit packages clauses inputs_are variables no_front no_back window question next kept claims = record {
+    → IsAt matter h [] s
+starts-at matter h s limit packages clauses inputs_are variables future today same window question next kept claims = record {
   limit = limit;
   packages = packages;
-  clauses = clauses ∙ sym (append-nil inputs);
+  clauses = clauses ∙ sym (append-nil matter.inputs);
   inputs_are = inputs_are;
   variables = variables;
-  no_front = no_front;
-  no_back = no_back;
+  future = future;
+  today = today;
+  same = same;
   kept = ap (λ (w : WindowView). w.kept) window;
   count = ap (λ (w : WindowView). w.count) window;
-  question = subst (IsQuestionOf inputs []) (sym question) none-first;
+  question = subst (IsQuestionOf matter.inputs []) (sym question) none-first;
   next = next;
   group_is = subst (IsGroupOf [] s.next) (sym kept) (group-first s.next);
   claims = claims;

@@ -10,30 +10,30 @@ use Rattle.dist_cert.specs.declared.records.Header.{Header}
 use Rattle.dist_cert.specs.ClearFormsLaws.{FormsAreClear}
 use Rattle.dist_check.specs.Answers.{Answers, IsOfText}
 use Rattle.dist_check.specs.declared.verdict.Verdict.TheVariants.{Accepted, Refused}
-use Rattle.dist_subject.specs.Present.{AreInputs, subject_of}
-use Rattle.dist_check.proofs.CheckLemmas.{ClausesAreOne}
+use Rattle.dist_subject.specs.Basis.{AreBases, Bases, matter_for, subject_of}
+use Rattle.dist_check.proofs.CheckLemmas.{BasesAreOne}
 use Rattle.dist_check.proofs.FirstStops.{FirstReason, ClausesGoOn, known, one-first-stop, first-alone}
-use Rattle.dist_check.proofs.OneVerdict.{same-inputs}
+use Rattle.dist_check.proofs.OneVerdict.{same-bases}
 use Rattle.dist_check.proofs.Stops.{Answer, Reason, IsAtPoint, one-later}
 
 -- behind some records
-abbrev StopsBehind : PackageList → (Bool → List (List Literal)) → Limits → List ℕ → Answer → Type 0
-StopsBehind r inputs limits text one = (h : Header) × (before : List CertRecord) × (rest : List ℕ)
-    × IsAtPoint (subject_of r inputs) inputs limits text h before rest
-    × Reason (subject_of r inputs) limits h before rest one
+abbrev StopsBehind : PackageList → Bases → Limits → List ℕ → Answer → Type 0
+StopsBehind r bases limits text one = (h : Header) × (before : List CertRecord) × (rest : List ℕ)
+    × IsAtPoint (subject_of r bases) limits text h before rest
+    × Reason (subject_of r bases) limits h before rest one
 
-abbrev StopsAt : PackageList → (Bool → List (List Literal)) → Limits → List ℕ → Answer → Type 0
-StopsAt r inputs limits text one = FirstReason r inputs limits text one ⊎ StopsBehind r inputs limits text one
+abbrev StopsAt : PackageList → Bases → Limits → List ℕ → Answer → Type 0
+StopsAt r bases limits text one = FirstReason r bases limits text one ⊎ StopsBehind r bases limits text one
 
 -- the input clauses that an answer speaks of, and where it stops
 abbrev Stop : PackageList → Limits → List ℕ → Answer → Type 0
-Stop r limits text one = (inputs : Bool → List (List Literal)) × AreInputs r inputs × StopsAt r inputs limits text one
+Stop r limits text one = (bases : Bases) × AreBases r bases × StopsAt r bases limits text one
 
-stop-of : (r : PackageList) (inputs : Bool → List (List Literal)) (limits : Limits) (text : List ℕ) (one : Answer) → AreInputs r inputs
+stop-of : (r : PackageList) (bases : Bases) (limits : Limits) (text : List ℕ) (one : Answer) → AreBases r bases
     → Answers r limits text one → IsOfText one → Stop r limits text one
-stop-of r inputs limits text (Ok (Accepted h made)) are x of = (
-  x.inputs,
-  x.are_inputs,
+stop-of r bases limits text (Ok (Accepted h made)) are x of = (
+  x.bases,
+  x.are_bases,
   inr (
     h,
     x.steps,
@@ -42,11 +42,11 @@ stop-of r inputs limits text (Ok (Accepted h made)) are x of = (
     record { header = refl; claims = x.claims; nothing = refl; ends = x.accepted.ends },
   ),
 )
-stop-of r inputs limits text (Ok (Refused fault)) are x of = ⊎_elim
-    (λ first. (first.1.inputs, first.1.are_inputs, inl (record { line = first.0; bytes = first.1.bytes; first = first.1.first; within = first.1.within })))
+stop-of r bases limits text (Ok (Refused fault)) are x of = ⊎_elim
+    (λ first. (first.1.bases, first.1.are_bases, inl (record { line = first.0; bytes = first.1.bytes; first = first.1.first; within = first.1.within })))
     (λ later. (
-      later.inputs,
-      later.reached.are_inputs,
+      later.bases,
+      later.reached.are_bases,
       inr (
         later.h,
         later.before,
@@ -56,11 +56,11 @@ stop-of r inputs limits text (Ok (Refused fault)) are x of = ⊎_elim
       ),
     ))
     x
-stop-of r inputs limits text (Err (TooLarge Clauses)) are x of = (inputs, are, inl x)
-stop-of r inputs limits text (Err (TooLarge Literals)) are x of = (inputs, are, inl x)
-stop-of r inputs limits text (Err (TooLarge Lines)) are x of = (
-  x.inputs,
-  x.reached.are_inputs,
+stop-of r bases limits text (Err (TooLarge Clauses)) are x of = (bases, are, inl x)
+stop-of r bases limits text (Err (TooLarge Literals)) are x of = (bases, are, inl x)
+stop-of r bases limits text (Err (TooLarge Lines)) are x of = (
+  x.bases,
+  x.reached.are_bases,
   inr (
     x.h,
     x.before,
@@ -79,9 +79,9 @@ stop-of r inputs limits text (Err (TooLarge Lines)) are x of = (
     },
   ),
 )
-stop-of r inputs limits text (Err (TooLarge LineLiterals)) are x of = (
-  x.inputs,
-  x.reached.are_inputs,
+stop-of r bases limits text (Err (TooLarge LineLiterals)) are x of = (
+  x.bases,
+  x.reached.are_bases,
   inr (
     x.h,
     x.before,
@@ -100,11 +100,11 @@ stop-of r inputs limits text (Err (TooLarge LineLiterals)) are x of = (
     },
   ),
 )
-stop-of r inputs limits text (Err (TooLarge Certificate)) are x of = ⊎_elim
-    (λ first. (inputs, are, inl first))
+stop-of r bases limits text (Err (TooLarge Certificate)) are x of = ⊎_elim
+    (λ first. (bases, are, inl first))
     (λ later. (
-      later.inputs,
-      later.reached.are_inputs,
+      later.bases,
+      later.reached.are_bases,
       inr (
         later.h,
         later.before,
@@ -114,31 +114,31 @@ stop-of r inputs limits text (Err (TooLarge Certificate)) are x of = ⊎_elim
       ),
     ))
     x
-stop-of r inputs limits text (Err ReadFault) are x of = absurd of
-stop-of r inputs limits text (Err NoMemory) are x of = absurd of
-stop-of r inputs limits text (Err (TooLarge what)) are x of = absurd x
-stop-of r inputs limits text (Err error) are x of = absurd x
+stop-of r bases limits text (Err ReadFault) are x of = absurd of
+stop-of r bases limits text (Err NoMemory) are x of = absurd of
+stop-of r bases limits text (Err (TooLarge what)) are x of = absurd x
+stop-of r bases limits text (Err error) are x of = absurd x
 
-one-stop : FormsAreClear → ClausesGoOn → (r : PackageList) (inputs : Bool → List (List Literal)) (limits : Limits) (text : List ℕ) (one other : Answer)
-    → AreInputs r inputs
-    → StopsAt r inputs limits text one → StopsAt r inputs limits text other → one ≡ other
-one-stop clear on r inputs limits text one other are x y =
-    let told = known on r inputs limits are in
+one-stop : FormsAreClear → ClausesGoOn → (r : PackageList) (bases : Bases) (limits : Limits) (text : List ℕ) (one other : Answer)
+    → AreBases r bases
+    → StopsAt r bases limits text one → StopsAt r bases limits text other → one ≡ other
+one-stop clear on r bases limits text one other are x y =
+    let told = known on r bases limits are in
     ⊎_elim
     (λ a. ⊎_elim
-    (λ b. one-first-stop clear r inputs limits text told one other a b)
-    (λ b. absurd (first-alone clear r inputs limits text b.0 b.1 b.2 told one a b.3))
+    (λ b. one-first-stop clear r bases limits text told one other a b)
+    (λ b. absurd (first-alone clear r bases limits text b.0 b.1 b.2 told one a b.3))
     y)
     (λ a. ⊎_elim
-    (λ b. absurd (first-alone clear r inputs limits text a.0 a.1 a.2 told other b a.3))
-    (λ b. one-later clear (subject_of r inputs) inputs limits text a.0 b.0 a.1 b.1 a.2 b.2 one other a.3 b.3 a.4 b.4)
+    (λ b. absurd (first-alone clear r bases limits text a.0 a.1 a.2 told other b a.3))
+    (λ b. one-later clear (subject_of r bases) limits text a.0 b.0 a.1 b.1 a.2 b.2 one other a.3 b.3 a.4 b.4)
     y)
     x
 
-pub one-answer : FormsAreClear → ClausesAreOne → ClausesGoOn
-    → (r : PackageList) (inputs : Bool → List (List Literal)) (limits : Limits) (text : List ℕ) (one other : Answer) → AreInputs r inputs
+pub one-answer : FormsAreClear → BasesAreOne → ClausesGoOn
+    → (r : PackageList) (bases : Bases) (limits : Limits) (text : List ℕ) (one other : Answer) → AreBases r bases
     → Answers r limits text one → Answers r limits text other → IsOfText one → IsOfText other → other ≡ one
-one-answer clear same on r inputs limits text one other are x y of of_other =
-    let a = stop-of r inputs limits text one are x of in
-    let b = stop-of r inputs limits text other are y of_other in
-    sym (one-stop clear on r a.0 limits text one other a.1 a.2 (subst (λ i. StopsAt r i limits text other) (sym (same-inputs same r a.0 b.0 a.1 b.1)) b.2))
+one-answer clear same on r bases limits text one other are x y of of_other =
+    let a = stop-of r bases limits text one are x of in
+    let b = stop-of r bases limits text other are y of_other in
+    sym (one-stop clear on r a.0 limits text one other a.1 a.2 (subst (λ i. StopsAt r i limits text other) (sym (same-bases same r a.0 b.0 a.1 b.1)) b.2))

@@ -5,6 +5,7 @@ use Rattle.dist_outside.specs.declared.limits.Limits.{Limits}
 use Rattle.dist_clause.specs.Formula.{Literal}
 use Rattle.dist_repo.specs.PackageList.{PackageList}
 use Rattle.dist_cert.specs.declared.faults.CertFault.{CertFault}
+use Rattle.dist_cert.specs.declared.records.CertKind.TheVariants.{Strong}
 use Rattle.dist_cert.specs.declared.records.Claim.{Claim}
 use Rattle.dist_cert.specs.declared.records.Header.{Header}
 use Rattle.dist_cert.specs.Accepted.{Accepted}
@@ -14,17 +15,17 @@ use Rattle.dist_cert.specs.Refusal.{Refusal}
 use Rattle.dist_check.specs.declared.verdict.Verdict.{Verdict}
 use Rattle.dist_check.specs.declared.verdict.Verdict.TheVariants as verdicts
 use Rattle.dist_check.specs.Answers.{Answers, IsVerdict}
-use Rattle.dist_subject.specs.Present.{AreInputs, subject_of, IsAccepted, IsRefused}
-use Rattle.dist_check.proofs.CheckLemmas.{ClausesAreOne}
+use Rattle.dist_subject.specs.Basis.{AreBases, Bases, IsAccepted, IsRefused, subject_of}
+use Rattle.dist_check.proofs.CheckLemmas.{BasesAreOne}
 
 -- an answer is the verdict
 pub right : (r : PackageList) (limits : Limits) (text : List ℕ) (verdict : Verdict) → Answers r limits text (Ok verdict) → IsVerdict r limits text verdict
-right r limits text (verdicts.Accepted h made) answer = (answer.inputs, answer.are_inputs, (answer.steps, answer.accepted, answer.claims))
+right r limits text (verdicts.Accepted h made) answer = (answer.bases, answer.are_bases, (answer.steps, answer.accepted, answer.claims))
 right r limits text (verdicts.Refused fault) answer = ⊎_elim
-    (λ first. (first.1.inputs, first.1.are_inputs, inl (record { line = first.0; cause = first.1.first })))
+    (λ first. (first.1.bases, first.1.are_bases, inl (record { line = first.0; cause = first.1.first })))
     (λ later. (
-      later.inputs,
-      later.reached.are_inputs,
+      later.bases,
+      later.reached.are_bases,
       inr (
         later.h,
         later.before,
@@ -34,22 +35,23 @@ right r limits text (verdicts.Refused fault) answer = ⊎_elim
     ))
     answer
 
--- the clauses of the present are the same ones
-pub same-inputs : ClausesAreOne → (r : PackageList) (inputs other : Bool → List (List Literal)) → AreInputs r inputs → AreInputs r other → inputs ≡ other
-same-inputs one r inputs other first second = fun_ext (λ essential. one r essential (other essential) (inputs essential) (second essential) (first essential))
+-- what is judged by is the same
+pub same-bases : BasesAreOne → (r : PackageList) (bases other : Bases) → AreBases r bases → AreBases r other → bases ≡ other
+same-bases one r bases other first second =
+    fun_ext (λ kind. fun_ext (λ essential. one r Strong essential (other kind essential) (bases kind essential) (second kind essential) (first kind essential)))
 
-accepted-by : ClausesAreOne → (r : PackageList) (limits : Limits) (text : List ℕ) (h : Header) (made : List Claim) (inputs : Bool → List (List Literal))
-    → AreInputs r inputs → IsAccepted r limits text h made
-    → Accepted (subject_of r inputs) limits text h made
-accepted-by one r limits text h made inputs are x = subst (λ i. Accepted (subject_of r i) limits text h made) (same-inputs one r x.0 inputs x.1 are) x.2
+accepted-by : BasesAreOne → (r : PackageList) (limits : Limits) (text : List ℕ) (h : Header) (made : List Claim) (bases : Bases)
+    → AreBases r bases → IsAccepted r limits text h made
+    → Accepted (subject_of r bases) limits text h made
+accepted-by one r limits text h made bases are x = subst (λ i. Accepted (subject_of r i) limits text h made) (same-bases one r x.0 bases x.1 are) x.2
 
-refused-by : ClausesAreOne → (r : PackageList) (limits : Limits) (text : List ℕ) (fault : CertFault) (inputs : Bool → List (List Literal)) → AreInputs r inputs
+refused-by : BasesAreOne → (r : PackageList) (limits : Limits) (text : List ℕ) (fault : CertFault) (bases : Bases) → AreBases r bases
     → IsRefused r limits text fault
-    → Refusal (subject_of r inputs) limits text fault
-refused-by one r limits text fault inputs are x = subst (λ i. Refusal (subject_of r i) limits text fault) (same-inputs one r x.0 inputs x.1 are) x.2
+    → Refusal (subject_of r bases) limits text fault
+refused-by one r limits text fault bases are x = subst (λ i. Refusal (subject_of r i) limits text fault) (same-bases one r x.0 bases x.1 are) x.2
 
 -- two verdicts of a text are the same
-pub one : FormsAreClear → ClausesAreOne → (r : PackageList) (limits : Limits) (text : List ℕ) (verdict other : Verdict) → IsVerdict r limits text verdict
+pub one : FormsAreClear → BasesAreOne → (r : PackageList) (limits : Limits) (text : List ℕ) (verdict other : Verdict) → IsVerdict r limits text verdict
     → IsVerdict r limits text other → verdict ≡ other
 one clear same r limits text (verdicts.Accepted h made) (verdicts.Accepted g claims) x y =
     let both = one_acceptance clear (subject_of r x.0) limits text h g made claims x.2 (accepted-by same r limits text g claims x.0 x.1 y) in

@@ -73,10 +73,10 @@ Reason subject limits h before rest (Err (TooLarge Certificate)) = PassesWhole l
 Reason subject limits h before rest other = ⊥
 
 -- The text is read up to behind these records, which have no fault and keep the numbers.
-pub record IsAtPoint (subject : Subject) (inputs : Bool → List (List Literal)) (limits : Limits) (text : List ℕ) (h : Header) (before : List CertRecord)
+pub record IsAtPoint (subject : Subject) (limits : Limits) (text : List ℕ) (h : Header) (before : List CertRecord)
     (rest : List ℕ) : Type 0 where
   pub faultless : AreFaultless subject limits text h before rest
-  pub numbers : KeepsNumbers limits (inputs h.essential) h before
+  pub numbers : KeepsNumbers limits (subject.matter h.kind h.essential).inputs h before
 
 -- ---- two reasons at one place
 
@@ -218,38 +218,38 @@ longer-bytes h few later many step is =
       length-append (record_text step) (line_feed ∷ []),
     )
 
-pub not-before : FormsAreClear → (subject : Subject) (inputs : Bool → List (List Literal)) (limits : Limits) (text : List ℕ) (h other : Header)
+pub not-before : FormsAreClear → (subject : Subject) (limits : Limits) (text : List ℕ) (h other : Header)
     (few many : List CertRecord) (rest more : List ℕ) (one : Answer) → h ≡ other
-    → IsAtPoint subject inputs limits text other many more → IsShorter few rest many more → Reason subject limits h few rest one → ⊥
-not-before clear subject inputs limits text h other few many rest more (Ok (Accepted g made)) same point shorter x =
+    → IsAtPoint subject limits text other many more → IsShorter few rest many more → Reason subject limits h few rest one → ⊥
+not-before clear subject limits text h other few many rest more (Ok (Accepted g made)) same point shorter x =
     nothing_more few many more (subst (λ bytes. IsShorter few bytes many more) x.nothing shorter)
-not-before clear subject inputs limits text h other few many rest more (Ok (Refused fault)) same point shorter x =
+not-before clear subject limits text h other few many rest more (Ok (Refused fault)) same point shorter x =
     not_faulty subject limits text h other few many rest more fault.cause same point.faultless shorter
     (has_first (HasLineFault subject limits h few rest) in_order fault.cause x.first)
-not-before clear subject inputs limits text h other few many rest more (Err (TooLarge Lines)) same point shorter x =
+not-before clear subject limits text h other few many rest more (Err (TooLarge Lines)) same point shorter x =
     let form = step-form few shorter.1 many shorter.0 shorter.2 point.faultless.reads.records in
     let is = same-step clear few shorter.1 shorter.0 rest more x.line x.more x.literals x.hints shorter.3 form x.begins x.form in
     passed-lines limits (derived few) (derived shorter.1) (derived many) (clause_of x.literals)
     (derived-more few shorter.1 many shorter.0 x.literals x.hints shorter.2 is) point.numbers.derived_lines x.passes
-not-before clear subject inputs limits text h other few many rest more (Err (TooLarge LineLiterals)) same point shorter x =
+not-before clear subject limits text h other few many rest more (Err (TooLarge LineLiterals)) same point shorter x =
     let form = step-form few shorter.1 many shorter.0 shorter.2 point.faultless.reads.records in
     let is = same-step clear few shorter.1 shorter.0 rest more x.line x.more x.literals x.hints shorter.3 form x.begins x.form in
     passed-literals limits (derived few) (derived shorter.1) (derived many) (clause_of x.literals)
     (derived-more few shorter.1 many shorter.0 x.literals x.hints shorter.2 is) point.numbers.line_literals x.passes.1
-not-before clear subject inputs limits text h other few many rest more (Err (TooLarge Certificate)) same point shorter x =
+not-before clear subject limits text h other few many rest more (Err (TooLarge Certificate)) same point shorter x =
     let long = longer-bytes other few shorter.1 many shorter.0 shorter.2 in
     let n : length (certificate_text h few) ≡ length (certificate_text other few) = ap (λ (k : Header). length (certificate_text k few)) same in
     passed-bytes limits (length (certificate_text h few)) (record_text shorter.0) (lines_text shorter.1 ++ more) rest
     (shorter.3 ∙ first_line_of shorter.0 shorter.1 more) (omega (arith, long, n, point.numbers.bytes)) x
-not-before clear subject inputs limits text h other few many rest more one same point shorter x = x
+not-before clear subject limits text h other few many rest more one same point shorter x = x
 
 -- ---- two places
 
-pub one-later : FormsAreClear → (subject : Subject) (inputs : Bool → List (List Literal)) (limits : Limits) (text : List ℕ) (h other : Header)
+pub one-later : FormsAreClear → (subject : Subject) (limits : Limits) (text : List ℕ) (h other : Header)
     (ones twos : List CertRecord) (rest more : List ℕ) (one two : Answer)
-    → IsAtPoint subject inputs limits text h ones rest → IsAtPoint subject inputs limits text other twos more → Reason subject limits h ones rest one
+    → IsAtPoint subject limits text h ones rest → IsAtPoint subject limits text other twos more → Reason subject limits h ones rest one
     → Reason subject limits other twos more two → one ≡ two
-one-later clear subject inputs limits text h other ones twos rest more one two x y a b =
+one-later clear subject limits text h other ones twos rest more one two x y a b =
     let read = readings clear text h other ones twos rest more x.faultless.reads y.faultless.reads in
     ⊎_elim
     (λ same. same-reason subject limits other twos more one two y.numbers.bytes
@@ -257,7 +257,7 @@ one-later clear subject inputs limits text h other ones twos rest more one two x
     (subst (λ steps. Reason subject limits other steps rest one) same.0
     (subst (λ k. Reason subject limits k ones rest one) read.0 a))) b)
     (λ apart. ⊎_elim
-    (λ shorter. absurd (not-before clear subject inputs limits text h other ones twos rest more one read.0 y shorter a))
-    (λ shorter. absurd (not-before clear subject inputs limits text other h twos ones more rest two (sym read.0) x shorter b))
+    (λ shorter. absurd (not-before clear subject limits text h other ones twos rest more one read.0 y shorter a))
+    (λ shorter. absurd (not-before clear subject limits text other h twos ones more rest two (sym read.0) x shorter b))
     apart)
     read.1

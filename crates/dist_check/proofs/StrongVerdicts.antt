@@ -9,7 +9,6 @@ use Rattle.std.proofs.lemmas.List.Elements.{All-append, All-contains, All-head, 
 use Rattle.std.proofs.lemmas.Option.{slice_get-get_or, slice_get_past}
 use Rattle.dist_base.specs.ListLaws.{all-contained}
 use Rattle.dist_clause.specs.Formula.{Literal}
-use Rattle.dist_repo.specs.PackageList.{PackageList}
 use Rattle.dist_cert.specs.declared.TheConstants.{REACH}
 use Rattle.dist_cert.specs.declared.faults.CertCause.{CertCause}
 use Rattle.dist_cert.specs.declared.faults.CertCause.TheVariants as causes
@@ -20,8 +19,8 @@ use Rattle.dist_cert.specs.declared.records.Header.{Header}
 use Rattle.dist_cert.specs.Form.{AreFromOne, record_text, HasForm, KeepsRules}
 use Rattle.dist_cert.specs.Groups.{installations, installation_at, IsRecent, group, IsRefutedIn, IsUndecidedIn}
 use Rattle.dist_cert.specs.GroupLaws.{all-at}
+use Rattle.dist_cert.specs.Subject.{Matter}
 use Rattle.dist_cert.specs.ClaimRules.{yes, no, IsNamed, IsInEach, HoldsStrong, OmitsPackage}
-use Rattle.dist_subject.specs.Present.{matter_of}
 use Rattle.dist_cert.specs.Rising.{is_among}
 use Rattle.dist_check_group.specs.Window.{kept_at, has_member}
 use Rattle.dist_check_group.specs.Group.{candidates, in_each, is_always, PassesStrong, TellsRules, omits_package}
@@ -50,9 +49,9 @@ recent-told before number = elim (most-told 1 number) [
 ]
 
 -- how many installations are kept no longer
-forgotten-is : (r : PackageList) (inputs : List (List Literal)) (h : Header) (before : List CertRecord) (s : StateView) → IsAt r inputs h before s
+forgotten-is : (matter : Matter) (h : Header) (before : List CertRecord) (s : StateView) → IsAt matter h before s
     → s.window.count - length s.window.kept ≡ length (installations before) - REACH
-forgotten-is r inputs h before s at =
+forgotten-is matter h before s at =
     let size : length s.window.kept ≡ length (installations before) - (length (installations before) - REACH)
     = ap (λ (xs : List (List ℕ)). length xs) at.kept ∙ length-drop (length (installations before) - REACH) (installations before) in
     omega (arith, size, at.count)
@@ -65,13 +64,13 @@ if-true : {X : Type 0} (b : Bool) (x y : X) → b ≡ true → (if b then x else
 if-true true x y e = refl
 if-true false x y e = absurd (false≢true e)
 
-kept-recent : (r : PackageList) (inputs : List (List Literal)) (h : Header) (before : List CertRecord) (s : StateView) → IsAt r inputs h before s → (number : ℕ)
+kept-recent : (matter : Matter) (h : Header) (before : List CertRecord) (s : StateView) → IsAt matter h before s → (number : ℕ)
     → IsRecent before number
     → kept_at s.window number ≡ Some (installation_at before number)
-kept-recent r inputs h before s at number recent =
+kept-recent matter h before s at number recent =
     let all = installations before in
     let forgotten : ℕ = s.window.count - length s.window.kept in
-    let is : forgotten ≡ length all - REACH = forgotten-is r inputs h before s at in
+    let is : forgotten ≡ length all - REACH = forgotten-is matter h before s at in
     let size : length s.window.kept ≡ length all - (length all - REACH) = ap (λ (xs : List (List ℕ)). length xs) at.kept
     ∙ length-drop (length all - REACH) all in
     let place : ℕ = number - forgotten - 1 in
@@ -82,13 +81,13 @@ kept-recent r inputs h before s at number recent =
     ∙ ap (λ (m : List ℕ). Some m) (ap (λ (xs : List (List ℕ)). get_or xs place []) at.kept ∙ get_or-drop (length all - REACH) all place []
     ∙ ap (λ (k : ℕ). get_or all k []) (let e : length all - REACH + place ≡ number - 1 = omega (arith, is, recent.0, recent.2) in e))
 
-kept-old : (r : PackageList) (inputs : List (List Literal)) (h : Header) (before : List CertRecord) (s : StateView) → IsAt r inputs h before s → (number : ℕ)
+kept-old : (matter : Matter) (h : Header) (before : List CertRecord) (s : StateView) → IsAt matter h before s → (number : ℕ)
     → 1 ≤ number → ¬ IsRecent before number
     → kept_at s.window number ≡ None
-kept-old r inputs h before s at number from old =
+kept-old matter h before s at number from old =
     let all = installations before in
     let forgotten : ℕ = s.window.count - length s.window.kept in
-    let is : forgotten ≡ length all - REACH = forgotten-is r inputs h before s at in
+    let is : forgotten ≡ length all - REACH = forgotten-is matter h before s at in
     let size : length s.window.kept ≡ length all - (length all - REACH) = ap (λ (xs : List (List ℕ)). length xs) at.kept
     ∙ length-drop (length all - REACH) all in
     elim (cases_lt forgotten number) [
@@ -102,16 +101,16 @@ kept-old r inputs h before s at number from old =
     ]
 
 -- a member of a recent installation
-pub member-tests : (r : PackageList) (inputs : List (List Literal)) (h : Header) (before : List CertRecord) (s : StateView) → IsAt r inputs h before s
+pub member-tests : (matter : Matter) (h : Header) (before : List CertRecord) (s : StateView) → IsAt matter h before s
     → (named : List ℕ) → AreFromOne named → (q : ℕ)
     → Tests (λ number. has_member (kept_at s.window number) q) (IsNamed before q) named
-member-tests r inputs h before s at named from_one q number there = elim (recent-told before number) [
+member-tests matter h before s at named from_one q number there = elim (recent-told before number) [
   | inl recent ↦
-      let is = ap (λ (kept : Option (List ℕ)). has_member kept q) (kept-recent r inputs h before s at number recent) in
+      let is = ap (λ (kept : Option (List ℕ)). has_member kept q) (kept-recent matter h before s at number recent) in
       ((λ e. (recent, from-any q (installation_at before number) (sym is ∙ e))), λ h. is ∙ any-from q (installation_at before number) h.1)
   | inr old ↦
       let is = ap (λ (kept : Option (List ℕ)). has_member kept q)
-      (kept-old r inputs h before s at number (All-contains (λ n. 1 ≤ n) named number from_one there) old) in
+      (kept-old matter h before s at number (All-contains (λ n. 1 ≤ n) named number from_one there) old) in
       ((λ e. absurd (false≢true (sym is ∙ e))), λ h. absurd (old h.0))
 ]
 
@@ -119,12 +118,12 @@ member-tests r inputs h before s at named from_one q number there = elim (recent
 abbrev pub InNamed : List CertRecord → List ℕ → ℕ → Type 0
 InNamed before named q = All (λ number. Contains (installation_at before number) q) named
 
-in-named : (r : PackageList) (inputs : List (List Literal)) (h : Header) (before : List CertRecord) (s : StateView) → IsAt r inputs h before s
+in-named : (matter : Matter) (h : Header) (before : List CertRecord) (s : StateView) → IsAt matter h before s
     → (named : List ℕ) → AreFromOne named → (p : ℕ) → All (IsNamed before p) named → (q : ℕ)
     → (in_each s.window named q ≡ true) ↔ InNamed before named q
-in-named r inputs h before s at named from_one p names q =
+in-named matter h before s at named from_one p names q =
     let tested = all-tested (λ number. has_member (kept_at s.window number) q) (IsNamed before q) named
-    (member-tests r inputs h before s at named from_one q) in
+    (member-tests matter h before s at named from_one q) in
     ((λ e k d within. (tested.0 e k d within).1), λ all. tested.1 (λ k d within. ((names k d within).0, all k d within)))
 
 -- ---- what is in all of a claim's installations
@@ -133,144 +132,145 @@ GroupHas : List CertRecord → ℕ → ℕ → Type 0
 GroupHas before p q = All (λ m. Contains m p → Contains m q) (installations (group before))
 
 -- the first list that is looked at
-candidates-there : (r : PackageList) (inputs : List (List Literal)) (h : Header) (before : List CertRecord) (s : StateView) → IsAt r inputs h before s
+candidates-there : (matter : Matter) (h : Header) (before : List CertRecord) (s : StateView) → IsAt matter h before s
     → (named : List ℕ) (p : ℕ) → 0 < length named → All (IsNamed before p) named
     → (common : Option (List ℕ)) → IsCommonOf (installations (group before)) p common → (q : ℕ) → InNamed before named q
     → Contains (candidates s.window common named) q ↔ GroupHas before p q
 unfolding GroupHas
-candidates-there r inputs h before s at named p some names (Some common) is q in_all = is.1 q
-candidates-there r inputs h before s at [] p some names None is q in_all = absurd (omega (arith, some))
-candidates-there r inputs h before s at (number ∷ named) p some names None is q in_all =
-    let kept = kept-recent r inputs h before s at number (All-head (IsNamed before p) number named names).0 in
+candidates-there matter h before s at named p some names (Some common) is q in_all = is.1 q
+candidates-there matter h before s at [] p some names None is q in_all = absurd (omega (arith, some))
+candidates-there matter h before s at (number ∷ named) p some names None is q in_all =
+    let kept = kept-recent matter h before s at number (All-head (IsNamed before p) number named names).0 in
     let first = All-head (λ n. Contains (installation_at before n) q) number named in_all in (
       (λ there k d within holds. absurd (is k d within holds)),
       λ all. subst (λ (found : Option (List ℕ)). Contains (unwrap_or found []) q) (sym kept) first,
     )
 
-always-is : (r : PackageList) (inputs : List (List Literal)) (h : Header) (before : List CertRecord) (s : StateView) → IsAt r inputs h before s
+always-is : (matter : Matter) (h : Header) (before : List CertRecord) (s : StateView) → IsAt matter h before s
     → (named : List ℕ) → AreFromOne named → (p : ℕ) → 0 < length named
     → All (IsNamed before p) named → (common : Option (List ℕ)) → IsCommonOf (installations (group before)) p common → (q : ℕ)
     → (is_always s.window common named q ≡ true) ↔ IsInEach before named p q
 unfolding GroupHas
-always-is r inputs h before s at named from_one p some names common is q =
-    let each = in-named r inputs h before s at named from_one p names q in (
+always-is matter h before s at named from_one p some names common is q =
+    let each = in-named matter h before s at named from_one p names q in (
       (λ e.
           let parts = and_parts (is_among (candidates s.window common named) q) (in_each s.window named q) e in
           let in_all = each.0 parts.1 in
-          (in_all, (candidates-there r inputs h before s at named p some names common is q in_all).0 (from-any q (candidates s.window common named) parts.0))),
+          (in_all, (candidates-there matter h before s at named p some names common is q in_all).0 (from-any q (candidates s.window common named) parts.0))),
       λ holds.
           and_from (is_among (candidates s.window common named) q) (in_each s.window named q)
-          (any-from q (candidates s.window common named) ((candidates-there r inputs h before s at named p some names common is q holds.0).1 holds.1))
+          (any-from q (candidates s.window common named) ((candidates-there matter h before s at named p some names common is q holds.0).1 holds.1))
           (each.1 holds.0),
     )
 
 -- ---- the rules
 
 -- What is known where a claim on the next package is looked at.
-record IsClaimed (r : PackageList) (inputs : List (List Literal)) (h : Header) (before : List CertRecord) (s : StateView) (p : ℕ) (named : List ℕ) : Type 0
+record IsClaimed (matter : Matter) (h : Header) (before : List CertRecord) (s : StateView) (p : ℕ) (named : List ℕ) : Type 0
   where
-    at : IsAt r inputs h before s
-    right : AreRight (matter_of r h.essential inputs) h before
+    at : IsAt matter h before s
+    right : AreRight matter h before
     forms : HaveForms before
     next : s.next ≡ p
     from_one : AreFromOne named
     some : 0 < length named
+    same : matter.variables ≡ matter.packages
 
-common-of : (r : PackageList) (inputs : List (List Literal)) (h : Header) (before : List CertRecord) (s : StateView) (p : ℕ) (named : List ℕ)
-    → IsClaimed r inputs h before s p named → IsCommonOf (installations (group before)) p s.group.common
-common-of r inputs h before s p named x = subst (λ n. IsCommonOf (installations (group before)) n s.group.common) x.next x.at.group_is.common
+common-of : (matter : Matter) (h : Header) (before : List CertRecord) (s : StateView) (p : ℕ) (named : List ℕ)
+    → IsClaimed matter h before s p named → IsCommonOf (installations (group before)) p s.group.common
+common-of matter h before s p named x = subst (λ n. IsCommonOf (installations (group before)) n s.group.common) x.next x.at.group_is.common
 
-refuted-tests : (r : PackageList) (inputs : List (List Literal)) (h : Header) (before : List CertRecord) (s : StateView) (p : ℕ) (named : List ℕ)
-    → IsClaimed r inputs h before s p named → (numbers : List ℕ)
+refuted-tests : (matter : Matter) (h : Header) (before : List CertRecord) (s : StateView) (p : ℕ) (named : List ℕ)
+    → IsClaimed matter h before s p named → (numbers : List ℕ)
     → Tests (is_among s.group.refuted.without) (λ q. IsRefutedIn (group before) (yes p ∷ no q ∷ [])) numbers
-refuted-tests r inputs h before s p named x numbers q there =
+refuted-tests matter h before s p named x numbers q there =
     subst (λ n. (is_among s.group.refuted.without q ≡ true) ↔ IsRefutedIn (group before) (yes n ∷ no q ∷ [])) x.next (x.at.group_is.refuted.without q)
 
-undecided-tests : (r : PackageList) (inputs : List (List Literal)) (h : Header) (before : List CertRecord) (s : StateView) (p : ℕ) (named : List ℕ)
-    → IsClaimed r inputs h before s p named → (numbers : List ℕ)
+undecided-tests : (matter : Matter) (h : Header) (before : List CertRecord) (s : StateView) (p : ℕ) (named : List ℕ)
+    → IsClaimed matter h before s p named → (numbers : List ℕ)
     → Tests (is_among s.group.undecided.without) (λ q. IsUndecidedIn (group before) (yes p ∷ no q ∷ [])) numbers
-undecided-tests r inputs h before s p named x numbers q there =
+undecided-tests matter h before s p named x numbers q there =
     subst (λ n. (is_among s.group.undecided.without q ≡ true) ↔ IsUndecidedIn (group before) (yes n ∷ no q ∷ [])) x.next (x.at.group_is.undecided.without q)
 
-names-tested : (r : PackageList) (inputs : List (List Literal)) (h : Header) (before : List CertRecord) (s : StateView) (p : ℕ) (named : List ℕ)
-    → IsClaimed r inputs h before s p named
+names-tested : (matter : Matter) (h : Header) (before : List CertRecord) (s : StateView) (p : ℕ) (named : List ℕ)
+    → IsClaimed matter h before s p named
     → (in_each s.window named p ≡ true) ↔ All (IsNamed before p) named
-names-tested r inputs h before s p named x = all-tested (λ number. has_member (kept_at s.window number) p) (IsNamed before p) named
-    (member-tests r inputs h before s x.at named x.from_one p)
+names-tested matter h before s p named x = all-tested (λ number. has_member (kept_at s.window number) p) (IsNamed before p) named
+    (member-tests matter h before s x.at named x.from_one p)
 
-Other : PackageList → ℕ → ℕ → Type 0
-Other r p q = (q ≢ p) × (q ≤ length r.packages)
+Other : Matter → ℕ → ℕ → Type 0
+Other matter p q = (q ≢ p) × (q ≤ matter.packages)
 
-others-tested : (r : PackageList) (inputs : List (List Literal)) (h : Header) (before : List CertRecord) (s : StateView) (p : ℕ) (named : List ℕ)
-    → IsClaimed r inputs h before s p named → (numbers : List ℕ)
-    → (list_all (λ q. not (q == p) && nat_le q s.packages) numbers ≡ true) ↔ All (λ q. (q ≢ p) × (q ≤ length r.packages)) numbers
-others-tested r inputs h before s p named x numbers =
-    subst (λ n. (list_all (λ q. not (q == p) && nat_le q n) numbers ≡ true) ↔ All (λ q. (q ≢ p) × (q ≤ length r.packages)) numbers) (sym x.at.packages)
-    (all-tested (λ q. not (q == p) && nat_le q (length r.packages)) (λ q. (q ≢ p) × (q ≤ length r.packages)) numbers
-    (other-tests p (length r.packages) numbers))
+others-tested : (matter : Matter) (h : Header) (before : List CertRecord) (s : StateView) (p : ℕ) (named : List ℕ)
+    → IsClaimed matter h before s p named → (numbers : List ℕ)
+    → (list_all (λ q. not (q == p) && nat_le q s.packages) numbers ≡ true) ↔ All (λ q. (q ≢ p) × (q ≤ matter.packages)) numbers
+others-tested matter h before s p named x numbers =
+    subst (λ n. (list_all (λ q. not (q == p) && nat_le q n) numbers ≡ true) ↔ All (λ q. (q ≢ p) × (q ≤ matter.packages)) numbers) (sym x.at.packages)
+    (all-tested (λ q. not (q == p) && nat_le q (matter.packages)) (λ q. (q ≢ p) × (q ≤ matter.packages)) numbers
+    (other-tests p (matter.packages) numbers))
 
-always-tests : (r : PackageList) (inputs : List (List Literal)) (h : Header) (before : List CertRecord) (s : StateView) (p : ℕ) (named : List ℕ)
-    → IsClaimed r inputs h before s p named → All (IsNamed before p) named → (numbers : List ℕ)
+always-tests : (matter : Matter) (h : Header) (before : List CertRecord) (s : StateView) (p : ℕ) (named : List ℕ)
+    → IsClaimed matter h before s p named → All (IsNamed before p) named → (numbers : List ℕ)
     → Tests (is_always s.window s.group.common named) (IsInEach before named p) numbers
-always-tests r inputs h before s p named x names numbers q there =
-    always-is r inputs h before s x.at named x.from_one p x.some names s.group.common (common-of r inputs h before s p named x) q
+always-tests matter h before s p named x names numbers q there =
+    always-is matter h before s x.at named x.from_one p x.some names s.group.common (common-of matter h before s p named x) q
 
-holds-from : (r : PackageList) (inputs : List (List Literal)) (h : Header) (before : List CertRecord) (s : StateView) (p : ℕ) (named on undecided : List ℕ)
-    → IsClaimed r inputs h before s p named
-    → PassesStrong s.window s.group s.packages p named on undecided → HoldsStrong (matter_of r h.essential inputs) before p named on undecided
-holds-from r inputs h before s p named on undecided x passes =
-    let names = (names-tested r inputs h before s p named x).0 passes.lists.names in
+holds-from : (matter : Matter) (h : Header) (before : List CertRecord) (s : StateView) (p : ℕ) (named on undecided : List ℕ)
+    → IsClaimed matter h before s p named
+    → PassesStrong s.window s.group s.packages p named on undecided → HoldsStrong matter before p named on undecided
+holds-from matter h before s p named on undecided x passes =
+    let names = (names-tested matter h before s p named x).0 passes.lists.names in
     let closed = (all-tested (is_among s.group.undecided.without) (λ q. IsUndecidedIn (group before) (yes p ∷ no q ∷ [])) undecided
-    (undecided-tests r inputs h before s p named x undecided)).0 passes.lists.open_still in
+    (undecided-tests matter h before s p named x undecided)).0 passes.lists.open_still in
     let always = (all-tested (is_always s.window s.group.common named) (IsInEach before named p) undecided
-    (always-tests r inputs h before s p named x names undecided)).0 passes.always in
+    (always-tests matter h before s p named x names undecided)).0 passes.always in
     record {
       names = names;
       rising = (passes.lists.rising, passes.lists.undecided_rising);
       apart = (none-tested (is_among undecided) (λ q. Contains undecided q) on (among-tests undecided on)).0 passes.lists.apart;
-      others = All-append (λ q. (q ≢ p) × (q ≤ length r.packages)) on undecided ((others-tested r inputs h before s p named x on).0 passes.lists.others)
-          ((others-tested r inputs h before s p named x undecided).0 passes.lists.undecided_others);
+      others = All-append (λ q. (q ≢ p) × (q ≤ matter.packages)) on undecided ((others-tested matter h before s p named x on).0 passes.lists.others)
+          ((others-tested matter h before s p named x undecided).0 passes.lists.undecided_others);
       refuted = (all-tested (is_among s.group.refuted.without) (λ q. IsRefutedIn (group before) (yes p ∷ no q ∷ [])) on
-          (refuted-tests r inputs h before s p named x on)).0 passes.lists.refuted;
+          (refuted-tests matter h before s p named x on)).0 passes.lists.refuted;
       open_still = λ k d within. (closed k d within, always k d within);
     }
 
-passes-from : (r : PackageList) (inputs : List (List Literal)) (h : Header) (before : List CertRecord) (s : StateView) (p : ℕ) (named on undecided : List ℕ)
-    → IsClaimed r inputs h before s p named
-    → HoldsStrong (matter_of r h.essential inputs) before p named on undecided → PassesStrong s.window s.group s.packages p named on undecided
-passes-from r inputs h before s p named on undecided x holds =
-    let IsOther : ℕ → Type 0 = λ q. (q ≢ p) × (q ≤ length r.packages) in record {
+passes-from : (matter : Matter) (h : Header) (before : List CertRecord) (s : StateView) (p : ℕ) (named on undecided : List ℕ)
+    → IsClaimed matter h before s p named
+    → HoldsStrong matter before p named on undecided → PassesStrong s.window s.group s.packages p named on undecided
+passes-from matter h before s p named on undecided x holds =
+    let IsOther : ℕ → Type 0 = λ q. (q ≢ p) × (q ≤ matter.packages) in record {
       lists = record {
-        names = (names-tested r inputs h before s p named x).1 holds.names;
+        names = (names-tested matter h before s p named x).1 holds.names;
         rising = holds.rising.0;
         undecided_rising = holds.rising.1;
         apart = (none-tested (is_among undecided) (λ q. Contains undecided q) on (among-tests undecided on)).1 holds.apart;
-        others = (others-tested r inputs h before s p named x on).1
+        others = (others-tested matter h before s p named x on).1
             (all-contained IsOther on (λ q there. All-contains IsOther (on ++ undecided) q holds.others (Contains-append_left on undecided q there)));
-        undecided_others = (others-tested r inputs h before s p named x undecided).1
+        undecided_others = (others-tested matter h before s p named x undecided).1
             (all-contained IsOther undecided (λ q there. All-contains IsOther (on ++ undecided) q holds.others (Contains-append_right on undecided q there)));
         refuted = (all-tested (is_among s.group.refuted.without) (λ q. IsRefutedIn (group before) (yes p ∷ no q ∷ [])) on
-            (refuted-tests r inputs h before s p named x on)).1 holds.refuted;
+            (refuted-tests matter h before s p named x on)).1 holds.refuted;
         open_still = (all-tested (is_among s.group.undecided.without) (λ q. IsUndecidedIn (group before) (yes p ∷ no q ∷ [])) undecided
-            (undecided-tests r inputs h before s p named x undecided)).1
+            (undecided-tests matter h before s p named x undecided)).1
             (λ k d within. (holds.open_still k d within).0);
       };
       always = (all-tested (is_always s.window s.group.common named) (IsInEach before named p) undecided
-          (always-tests r inputs h before s p named x holds.names undecided)).1 (λ k d within. (holds.open_still k d within).1);
+          (always-tests matter h before s p named x holds.names undecided)).1 (λ k d within. (holds.open_still k d within).1);
     }
 
 -- ---- what is left out
 
--- a member of a numbered installation is a package
-member-range : (r : PackageList) (inputs : List (List Literal)) (h : Header) (before : List CertRecord) → AreRight (matter_of r h.essential inputs) h before
+-- a member of a numbered installation is a variable
+member-range : (matter : Matter) (h : Header) (before : List CertRecord) → AreRight matter h before
     → HaveForms before → (members : List ℕ) → Contains (installations before) members
-    → (q : ℕ) → Contains members q → (1 ≤ q) × (q ≤ length r.packages)
-member-range r inputs h before right forms members there q among =
+    → (q : ℕ) → Contains members q → (1 ≤ q) × (q ≤ matter.variables)
+member-range matter h before right forms members there q among =
     let line = line-of before members there in
     let form = all-at (λ s. HasForm (record_text s) s) before line.before (lines.Installation members) line.after line.is forms in (
       All-contains (λ v. 1 ≤ v) members q form.rules.0 among,
-      stable (most-told q (length r.packages)) (λ high. right line.before (lines.Installation members) line.after line.is causes.OutOfRange
-          (among.0, q, among.1, among.2, stable (less-told (length r.packages) q) (λ low. high (omega (arith, not-less (length r.packages) q low))))),
+      stable (most-told q (matter.variables)) (λ high. right line.before (lines.Installation members) line.after line.is causes.OutOfRange
+          (among.0, q, among.1, among.2, stable (less-told (matter.variables) q) (λ low. high (omega (arith, not-less (matter.variables) q low))))),
     )
   where
     not-less : (a b : ℕ) → ¬ (a < b) → b ≤ a
@@ -291,14 +291,14 @@ not-among numbers q e there = true≢false (sym (any-from q numbers there) ∙ n
 among-not : (numbers : List ℕ) (q : ℕ) → ¬ Contains numbers q → not (is_among numbers q) ≡ true
 among-not numbers q never = not_from_false (is_among numbers q) (false_from_ne_true (is_among numbers q) (λ e. never (from-any q numbers e)))
 
-omitted-tests : (r : PackageList) (inputs : List (List Literal)) (h : Header) (before : List CertRecord) (s : StateView) (p : ℕ) (named on undecided : List ℕ)
-    → IsClaimed r inputs h before s p named → All (IsNamed before p) named
+omitted-tests : (matter : Matter) (h : Header) (before : List CertRecord) (s : StateView) (p : ℕ) (named on undecided : List ℕ)
+    → IsClaimed matter h before s p named → All (IsNamed before p) named
     → Tests (λ q. not (q == p) && not (is_among on q) && not (is_among undecided q) && in_each s.window named q) (Omitted before named p on undecided)
     (candidates s.window s.group.common named)
 unfolding Omitted
-omitted-tests r inputs h before s p named on undecided x names q there =
-    let each = in-named r inputs h before s x.at named x.from_one p names q in
-    let all = always-is r inputs h before s x.at named x.from_one p x.some names s.group.common (common-of r inputs h before s p named x) q in
+omitted-tests matter h before s p named on undecided x names q there =
+    let each = in-named matter h before s x.at named x.from_one p names q in
+    let all = always-is matter h before s x.at named x.from_one p x.some names s.group.common (common-of matter h before s p named x) q in
     let a : Bool = not (q == p) in
     let b : Bool = not (is_among on q) in
     let d : Bool = not (is_among undecided q) in
@@ -322,14 +322,14 @@ first-named : (named : List ℕ) → 0 < length named → Contains named (get_or
 first-named [] some = absurd (omega (arith, some))
 first-named (n ∷ named) some = (0, omega arith, refl)
 
-omits-from : (r : PackageList) (inputs : List (List Literal)) (h : Header) (before : List CertRecord) (s : StateView) (p : ℕ) (named on undecided : List ℕ)
-    → IsClaimed r inputs h before s p named → All (IsNamed before p) named
-    → (omits_package s.window s.group p named on undecided ≡ true) ↔ OmitsPackage (matter_of r h.essential inputs) before p named (on ++ undecided)
+omits-from : (matter : Matter) (h : Header) (before : List CertRecord) (s : StateView) (p : ℕ) (named on undecided : List ℕ)
+    → IsClaimed matter h before s p named → All (IsNamed before p) named
+    → (omits_package s.window s.group p named on undecided ≡ true) ↔ OmitsPackage matter before p named (on ++ undecided)
 unfolding Omitted
-omits-from r inputs h before s p named on undecided x names =
+omits-from matter h before s p named on undecided x names =
     let tested = any-tested (λ q. not (q == p) && not (is_among on q) && not (is_among undecided q) && in_each s.window named q)
     (Omitted before named p on undecided) (candidates s.window s.group.common named)
-    (omitted-tests r inputs h before s p named on undecided x names) in (
+    (omitted-tests matter h before s p named on undecided x names) in (
       (λ omits.
           let any = tested.0 omits in
           let q = any.1 in
@@ -337,12 +337,12 @@ omits-from r inputs h before s p named on undecided x names =
           let first = get_or named 0 0 in
           let there = first-named named x.some in
           let holds : Contains (installation_at before first) q = All-contains (λ n. Contains (installation_at before n) q) named first omitted.3.0 there in
-          let range = member-range r inputs h before x.right x.forms (installation_at before first)
+          let range = member-range matter h before x.right x.forms (installation_at before first)
           (recent-there before first (All-contains (IsNamed before p) named first names there).0) q holds in
-          (q, range.0, range.1, omitted.0, omitted.3, λ among. ⊎_elim omitted.1 omitted.2 (Contains-append_cases on undecided q among))),
+          (q, range.0, omega (arith, range.1, x.same), omitted.0, omitted.3, λ among. ⊎_elim omitted.1 omitted.2 (Contains-append_cases on undecided q among))),
       λ omits.
           let q = omits.0 in
-          let all = always-is r inputs h before s x.at named x.from_one p x.some names s.group.common (common-of r inputs h before s p named x) q in
+          let all = always-is matter h before s x.at named x.from_one p x.some names s.group.common (common-of matter h before s p named x) q in
           let there = from-any q (candidates s.window s.group.common named)
           (and_parts (is_among (candidates s.window s.group.common named) q) (in_each s.window named q) (all.1 omits.4)).0 in
           tested.1 (
@@ -356,14 +356,14 @@ omits-from r inputs h before s p named on undecided x names =
 
 -- ---- the verdict
 
-pub strong-verdict : (r : PackageList) (inputs : List (List Literal)) (h : Header) (before : List CertRecord) (s : StateView) → h.kind ≡ kinds.Strong
-    → IsAt r inputs h before s → AreRight (matter_of r h.essential inputs) h before → HaveForms before
+pub strong-verdict : (matter : Matter) (h : Header) (before : List CertRecord) (s : StateView) → h.kind ≡ kinds.Strong
+    → IsAt matter h before s → AreRight matter h before → HaveForms before
     → (p : ℕ) (named on undecided : List ℕ) → KeepsRules (lines.Strong p named on undecided) → (found : Option CertCause)
     → TellsStrong (is_next s.next s.packages p) s.window s.group s.packages p named on undecided found
-    → IsVerdict r inputs h before (lines.Strong p named on undecided) found
-strong-verdict r inputs h before s strong at right forms p named on undecided rules found told = by (is_next s.next s.packages p) refl told
+    → IsVerdict matter h before (lines.Strong p named on undecided) found
+strong-verdict matter h before s strong at right forms p named on undecided rules found told = by (is_next s.next s.packages p) refl told
   where
-    claimed : is_next s.next s.packages p ≡ true → IsClaimed r inputs h before s p named
+    claimed : is_next s.next s.packages p ≡ true → IsClaimed matter h before s p named
     claimed next = record {
       at = at;
       right = right;
@@ -371,28 +371,29 @@ strong-verdict r inputs h before s strong at right forms p named on undecided ru
       next = sym (eqb-true p s.next (and_parts (p == s.next) (nat_le p s.packages) next).0);
       from_one = rules.2;
       some = rules.1;
+      same = at.same strong;
     }
 
     ruled : is_next s.next s.packages p ≡ true → (f : Option CertCause) → TellsRules s.window s.group s.packages p named on undecided f
-        → IsVerdict r inputs h before (lines.Strong p named on undecided) f
+        → IsVerdict matter h before (lines.Strong p named on undecided) f
     ruled next None t =
         let x = claimed next in
-        let holds = holds-from r inputs h before s p named on undecided x t.0 in
-        right-verdict r inputs h before s strong at (lines.Strong p named on undecided) p (on-strong r inputs h before p named on undecided) next holds
-        (λ omits. false≢true (sym t.1 ∙ (omits-from r inputs h before s p named on undecided x holds.names).1 omits))
+        let holds = holds-from matter h before s p named on undecided x t.0 in
+        right-verdict matter h before s strong at (lines.Strong p named on undecided) p (on-strong matter h before p named on undecided) next holds
+        (λ omits. false≢true (sym t.1 ∙ (omits-from matter h before s p named on undecided x holds.names).1 omits))
     ruled next (Some causes.WrongClaim) t =
-        wrong-verdict r inputs h before s strong at (lines.Strong p named on undecided) p (on-strong r inputs h before p named on undecided) next
-        (λ holds. t (passes-from r inputs h before s p named on undecided (claimed next) holds))
+        wrong-verdict matter h before s strong at (lines.Strong p named on undecided) p (on-strong matter h before p named on undecided) next
+        (λ holds. t (passes-from matter h before s p named on undecided (claimed next) holds))
     ruled next (Some causes.Incomplete) t =
         let x = claimed next in
-        let holds = holds-from r inputs h before s p named on undecided x t.0 in
-        incomplete-verdict r inputs h before s strong at (lines.Strong p named on undecided) p (on-strong r inputs h before p named on undecided) next holds
-        ((omits-from r inputs h before s p named on undecided x holds.names).0 t.1)
+        let holds = holds-from matter h before s p named on undecided x t.0 in
+        incomplete-verdict matter h before s strong at (lines.Strong p named on undecided) p (on-strong matter h before p named on undecided) next holds
+        ((omits-from matter h before s p named on undecided x holds.names).0 t.1)
     ruled next (Some cause) t = absurd t
 
     by : (b : Bool) → is_next s.next s.packages p ≡ b → TellsStrong b s.window s.group s.packages p named on undecided found
-        → IsVerdict r inputs h before (lines.Strong p named on undecided) found
+        → IsVerdict matter h before (lines.Strong p named on undecided) found
     by true next t = ruled next found t
     by false other t =
-        subst (IsVerdict r inputs h before (lines.Strong p named on undecided)) (sym t)
-        (number-verdict r inputs h before s strong at (lines.Strong p named on undecided) p (on-strong r inputs h before p named on undecided) other)
+        subst (IsVerdict matter h before (lines.Strong p named on undecided)) (sym t)
+        (number-verdict matter h before s strong at (lines.Strong p named on undecided) p (on-strong matter h before p named on undecided) other)

@@ -1,18 +1,16 @@
 -- What is told of a line by what is kept is its first fault, or that it has none.
 use Rattle.std.proofs.Common.{◌≡◌, inl, inr, ℕ, ◌+◌, ◌-◌, ◌<◌, ◌≤◌, Bool, true, false, List, [], ◌∷◌, ◌++◌, Option, Some, None, length, get_or, map, take}
-use Rattle.std.proofs.Common.{refl, sym, ap, subst, ◌∙◌, append_assoc, arith, length-append}
+use Rattle.std.proofs.Common.{◌↔◌, refl, sym, ap, subst, ◌∙◌, append_assoc, arith, length-append}
 use Rattle.std.specs.List.{All, Any}
 use Rattle.std.proofs.lemmas.Bool.{false≢true, cases_lt}
 use Rattle.std.proofs.Math.ListN.{drop_of_length-le}
 use Rattle.std.proofs.lemmas.List.{take_at, get_or_at, length-take}
 use Rattle.std.proofs.lemmas.List.Elements.{All-nil}
 use Rattle.dist_clause.specs.ClauseList.{clause_at}
-use Rattle.dist_clause.specs.Formula.{Literal, negation, IsModel, MakesTrue}
+use Rattle.dist_clause.specs.Formula.{Literal, negation, IsModel, value_of}
 use Rattle.dist_derive.specs.ClauseLog.{inputs_of}
 use Rattle.dist_derive.specs.Follows.{Follows}
 use Rattle.dist_derive.specs.New.{IsNew, EachIsNew}
-use Rattle.dist_repo.specs.PackageList.{PackageList}
-use Rattle.dist_repo.specs.Strong.{IsInstallation}
 use Rattle.dist_cert.specs.declared.faults.CertCause.{CertCause}
 use Rattle.dist_cert.specs.declared.faults.CertCause.TheVariants as causes
 use Rattle.dist_cert.specs.declared.records.CertKind.TheVariants as kinds
@@ -21,23 +19,24 @@ use Rattle.dist_cert.specs.declared.records.CertRecord.TheVariants as lines
 use Rattle.dist_cert.specs.declared.records.Header.{Header}
 use Rattle.dist_cert.specs.Form.{Word}
 use Rattle.dist_cert.specs.Groups.{clause_of, derived, numbered}
+use Rattle.dist_cert.specs.Subject.{Matter}
 use Rattle.dist_cert.specs.LineRules.{HasRecordFault}
 use Rattle.dist_check.specs.CheckedPrivate.{AreInputsOf}
-use Rattle.dist_subject.specs.Present.{matter_of, packages_of}
 use Rattle.dist_cert.specs.Rising.{is_among}
 use Rattle.dist_check_state.specs.Since.{AreNewFrom}
 use Rattle.dist_check_state.specs.Future.{StandsForFuture}
 use Rattle.dist_check_state.specs.State.{QuestionView, StateView, names_above, is_above, TellsQuestion, TellsDerived, TellsRefuted, TellsInstallation}
 use Rattle.dist_check.specs.AtPrivate.{IsQuestionOf, IsAt}
 use Rattle.dist_check.proofs.Above.{none-above, some-above, words-above}
-use Rattle.dist_check.proofs.MemberLemmas.{model-installed, installed-model}
+use Rattle.dist_subject.specs.MemberLaws.{model-alike, value-among}
+use Rattle.dist_subject.specs.Present.{truth_of}
 use Rattle.dist_check.proofs.Profile.{rank, may_have, IsFaultless, HasFirst, faultless-from, first-from}
 use Rattle.dist_cert.specs.GroupLaws.{one-open}
 
 -- the first fault of a record, or none
-abbrev pub IsVerdict : PackageList → List (List Literal) → Header → List CertRecord → CertRecord → Option CertCause → Type 0
-IsVerdict r inputs h before step None = IsFaultless (matter_of r h.essential inputs) h before step
-IsVerdict r inputs h before step (Some cause) = HasFirst (matter_of r h.essential inputs) h before step cause
+abbrev pub IsVerdict : Matter → Header → List CertRecord → CertRecord → Option CertCause → Type 0
+IsVerdict matter h before step None = IsFaultless matter h before step
+IsVerdict matter h before step (Some cause) = HasFirst matter h before step cause
 
 -- ---- what is above the last
 
@@ -65,124 +64,124 @@ hints-some last clauses hints same some = subst (λ n. Any (λ m. n < m) hints) 
 
 -- ---- questions
 
-pub question-verdict : (r : PackageList) (inputs : List (List Literal)) (h : Header) (before : List CertRecord) (s : StateView) → h.kind ≡ kinds.Strong
-    → IsAt r inputs h before s → (literals : List Word) (found : Option CertCause)
-    → TellsQuestion s.log.variables literals found → IsVerdict r inputs h before (lines.Question literals) found
-question-verdict r inputs h before s strong at literals None told =
-    faultless-from (matter_of r h.essential inputs) h before (lines.Question literals) strong none
+pub question-verdict : (matter : Matter) (h : Header) (before : List CertRecord) (s : StateView) → h.kind ≡ kinds.Strong
+    → IsAt matter h before s → (literals : List Word) (found : Option CertCause)
+    → TellsQuestion s.log.variables literals found → IsVerdict matter h before (lines.Question literals) found
+question-verdict matter h before s strong at literals None told =
+    faultless-from matter h before (lines.Question literals) strong none
   where
     none : (cause : CertCause) → may_have (lines.Question literals) cause ≡ true
-        → ¬ HasRecordFault (matter_of r h.essential inputs) h before (lines.Question literals) cause
-    none causes.OutOfRange may fault = range-none s.log.variables (length r.packages) literals at.variables told fault
+        → ¬ HasRecordFault matter h before (lines.Question literals) cause
+    none causes.OutOfRange may fault = range-none s.log.variables (matter.variables) literals at.variables told fault
     none cause may fault = false≢true may
-question-verdict r inputs h before s strong at literals (Some causes.OutOfRange) told =
-    first-from (matter_of r h.essential inputs) h before (lines.Question literals) causes.OutOfRange strong
-    (range-some s.log.variables (length r.packages) literals at.variables told) none
+question-verdict matter h before s strong at literals (Some causes.OutOfRange) told =
+    first-from matter h before (lines.Question literals) causes.OutOfRange strong
+    (range-some s.log.variables (matter.variables) literals at.variables told) none
   where
     none : (cause : CertCause) → may_have (lines.Question literals) cause ≡ true → rank cause < 4
-        → ¬ HasRecordFault (matter_of r h.essential inputs) h before (lines.Question literals) cause
+        → ¬ HasRecordFault matter h before (lines.Question literals) cause
     none causes.OutOfRange may below fault = omega (arith, below)
     none cause may below fault = false≢true may
-question-verdict r inputs h before s strong at literals (Some cause) told = absurd told
+question-verdict matter h before s strong at literals (Some cause) told = absurd told
 
 -- ---- derived lines
 
-same-variables : (r : PackageList) (inputs : List (List Literal)) (h : Header) (before : List CertRecord) (s : StateView) → IsAt r inputs h before s
-    → s.log.variables ≡ length r.packages
-same-variables r inputs h before s at = at.variables
+same-variables : (matter : Matter) (h : Header) (before : List CertRecord) (s : StateView) → IsAt matter h before s
+    → s.log.variables ≡ matter.variables
+same-variables matter h before s at = at.variables
 
-same-length : (r : PackageList) (inputs : List (List Literal)) (h : Header) (before : List CertRecord) (s : StateView) → IsAt r inputs h before s
-    → length s.log.clauses ≡ length (numbered (matter_of r h.essential inputs) before)
-same-length r inputs h before s at = ap (λ (cs : List (List Literal)). length cs) at.clauses
+same-length : (matter : Matter) (h : Header) (before : List CertRecord) (s : StateView) → IsAt matter h before s
+    → length s.log.clauses ≡ length (numbered matter before)
+same-length matter h before s at = ap (λ (cs : List (List Literal)). length cs) at.clauses
 
-pub derived-verdict : (r : PackageList) (inputs : List (List Literal)) (h : Header) (before : List CertRecord) (s : StateView) → h.kind ≡ kinds.Strong
-    → IsAt r inputs h before s → (literals : List Word) (hints : List ℕ)
-    (found : Option CertCause) → TellsDerived s.log literals hints found → IsVerdict r inputs h before (lines.Derived literals hints) found
-derived-verdict r inputs h before s strong at literals hints None told =
-    faultless-from (matter_of r h.essential inputs) h before (lines.Derived literals hints) strong none
+pub derived-verdict : (matter : Matter) (h : Header) (before : List CertRecord) (s : StateView) → h.kind ≡ kinds.Strong
+    → IsAt matter h before s → (literals : List Word) (hints : List ℕ)
+    (found : Option CertCause) → TellsDerived s.log literals hints found → IsVerdict matter h before (lines.Derived literals hints) found
+derived-verdict matter h before s strong at literals hints None told =
+    faultless-from matter h before (lines.Derived literals hints) strong none
   where
     none : (cause : CertCause) → may_have (lines.Derived literals hints) cause ≡ true
-        → ¬ HasRecordFault (matter_of r h.essential inputs) h before (lines.Derived literals hints) cause
-    none causes.OutOfRange may fault = range-none s.log.variables (length r.packages) literals at.variables told.0 fault
-    none causes.UnknownLine may fault = hints-none (length s.log.clauses) (length (numbered (matter_of r h.essential inputs) before)) hints
-        (same-length r inputs h before s at) told.1 fault
+        → ¬ HasRecordFault matter h before (lines.Derived literals hints) cause
+    none causes.OutOfRange may fault = range-none s.log.variables (matter.variables) literals at.variables told.0 fault
+    none causes.UnknownLine may fault = hints-none (length s.log.clauses) (length (numbered matter before)) hints
+        (same-length matter h before s at) told.1 fault
     none causes.BadLine may fault = fault (subst (λ cs. Follows cs (clause_of literals) hints) at.clauses told.2)
     none cause may fault = false≢true may
-derived-verdict r inputs h before s strong at literals hints (Some causes.OutOfRange) told =
-    first-from (matter_of r h.essential inputs) h before (lines.Derived literals hints) causes.OutOfRange strong
-    (range-some s.log.variables (length r.packages) literals at.variables told) none
+derived-verdict matter h before s strong at literals hints (Some causes.OutOfRange) told =
+    first-from matter h before (lines.Derived literals hints) causes.OutOfRange strong
+    (range-some s.log.variables (matter.variables) literals at.variables told) none
   where
     none : (cause : CertCause) → may_have (lines.Derived literals hints) cause ≡ true → rank cause < 4
-        → ¬ HasRecordFault (matter_of r h.essential inputs) h before (lines.Derived literals hints) cause
+        → ¬ HasRecordFault matter h before (lines.Derived literals hints) cause
     none causes.OutOfRange may below fault = omega (arith, below)
     none causes.UnknownLine may below fault = omega (arith, below)
     none causes.BadLine may below fault = omega (arith, below)
     none cause may below fault = false≢true may
-derived-verdict r inputs h before s strong at literals hints (Some causes.UnknownLine) told =
-    first-from (matter_of r h.essential inputs) h before (lines.Derived literals hints) causes.UnknownLine strong
-    (hints-some (length s.log.clauses) (length (numbered (matter_of r h.essential inputs) before)) hints (same-length r inputs h before s at) told.1) none
+derived-verdict matter h before s strong at literals hints (Some causes.UnknownLine) told =
+    first-from matter h before (lines.Derived literals hints) causes.UnknownLine strong
+    (hints-some (length s.log.clauses) (length (numbered matter before)) hints (same-length matter h before s at) told.1) none
   where
     none : (cause : CertCause) → may_have (lines.Derived literals hints) cause ≡ true → rank cause < 6
-        → ¬ HasRecordFault (matter_of r h.essential inputs) h before (lines.Derived literals hints) cause
-    none causes.OutOfRange may below fault = range-none s.log.variables (length r.packages) literals at.variables told.0 fault
+        → ¬ HasRecordFault matter h before (lines.Derived literals hints) cause
+    none causes.OutOfRange may below fault = range-none s.log.variables (matter.variables) literals at.variables told.0 fault
     none causes.UnknownLine may below fault = omega (arith, below)
     none causes.BadLine may below fault = omega (arith, below)
     none cause may below fault = false≢true may
-derived-verdict r inputs h before s strong at literals hints (Some causes.BadLine) told =
-    first-from (matter_of r h.essential inputs) h before (lines.Derived literals hints) causes.BadLine strong
+derived-verdict matter h before s strong at literals hints (Some causes.BadLine) told =
+    first-from matter h before (lines.Derived literals hints) causes.BadLine strong
     (λ follows. told.2 (subst (λ cs. Follows cs (clause_of literals) hints) (sym at.clauses) follows)) none
   where
     none : (cause : CertCause) → may_have (lines.Derived literals hints) cause ≡ true → rank cause < 7
-        → ¬ HasRecordFault (matter_of r h.essential inputs) h before (lines.Derived literals hints) cause
-    none causes.OutOfRange may below fault = range-none s.log.variables (length r.packages) literals at.variables told.0 fault
-    none causes.UnknownLine may below fault = hints-none (length s.log.clauses) (length (numbered (matter_of r h.essential inputs) before)) hints
-        (same-length r inputs h before s at) told.1 fault
+        → ¬ HasRecordFault matter h before (lines.Derived literals hints) cause
+    none causes.OutOfRange may below fault = range-none s.log.variables (matter.variables) literals at.variables told.0 fault
+    none causes.UnknownLine may below fault = hints-none (length s.log.clauses) (length (numbered matter before)) hints
+        (same-length matter h before s at) told.1 fault
     none causes.BadLine may below fault = omega (arith, below)
     none cause may below fault = false≢true may
-derived-verdict r inputs h before s strong at literals hints (Some cause) told = absurd told
+derived-verdict matter h before s strong at literals hints (Some cause) told = absurd told
 
 -- ---- refuted questions
 
 -- what is told of the question that is open
-pub refuted-verdict : (r : PackageList) (inputs : List (List Literal)) (h : Header) (before : List CertRecord) (s : StateView) → h.kind ≡ kinds.Strong
-    → IsAt r inputs h before s → (question : Option QuestionView)
-    → IsQuestionOf inputs before question → (hints : List ℕ) (found : Option CertCause) → TellsRefuted s.log question hints found
-    → IsVerdict r inputs h before (lines.Refuted hints) found
-refuted-verdict r inputs h before s strong at None q hints found told =
-    subst (IsVerdict r inputs h before (lines.Refuted hints)) (sym told)
-    (first-from (matter_of r h.essential inputs) h before (lines.Refuted hints) causes.OutOfOrder strong q none)
+pub refuted-verdict : (matter : Matter) (h : Header) (before : List CertRecord) (s : StateView) → h.kind ≡ kinds.Strong
+    → IsAt matter h before s → (question : Option QuestionView)
+    → IsQuestionOf matter.inputs before question → (hints : List ℕ) (found : Option CertCause) → TellsRefuted s.log question hints found
+    → IsVerdict matter h before (lines.Refuted hints) found
+refuted-verdict matter h before s strong at None q hints found told =
+    subst (IsVerdict matter h before (lines.Refuted hints)) (sym told)
+    (first-from matter h before (lines.Refuted hints) causes.OutOfOrder strong q none)
   where
     none : (cause : CertCause) → may_have (lines.Refuted hints) cause ≡ true → rank cause < 5
-        → ¬ HasRecordFault (matter_of r h.essential inputs) h before (lines.Refuted hints) cause
+        → ¬ HasRecordFault matter h before (lines.Refuted hints) cause
     none causes.OutOfOrder may below fault = omega (arith, below)
     none causes.UnknownLine may below fault = omega (arith, below)
     none causes.BadLine may below fault = omega (arith, below)
     none cause may below fault = false≢true may
-refuted-verdict r inputs h before s strong at (Some question) q hints None told =
-    faultless-from (matter_of r h.essential inputs) h before (lines.Refuted hints) strong none
+refuted-verdict matter h before s strong at (Some question) q hints None told =
+    faultless-from matter h before (lines.Refuted hints) strong none
   where
     none : (cause : CertCause) → may_have (lines.Refuted hints) cause ≡ true
-        → ¬ HasRecordFault (matter_of r h.essential inputs) h before (lines.Refuted hints) cause
+        → ¬ HasRecordFault matter h before (lines.Refuted hints) cause
     none causes.OutOfOrder may fault = fault (q.0, question.assumptions, q.1, q.2)
-    none causes.UnknownLine may fault = hints-none (length s.log.clauses) (length (numbered (matter_of r h.essential inputs) before)) hints
-        (same-length r inputs h before s at) told.0 fault
+    none causes.UnknownLine may fault = hints-none (length s.log.clauses) (length (numbered matter before)) hints
+        (same-length matter h before s at) told.0 fault
     none causes.BadLine may fault =
         let one = one-open before fault.0 q.0 fault.1 question.assumptions fault.2 q.1 fault.3 q.2 in
-        fault.4 (subst (λ asked. Follows (numbered (matter_of r h.essential inputs) before) (map negation (clause_of asked)) hints) (sym one.1)
+        fault.4 (subst (λ asked. Follows (numbered matter before) (map negation (clause_of asked)) hints) (sym one.1)
         (subst (λ cs. Follows cs (map negation (clause_of question.assumptions)) hints) at.clauses told.1))
     none cause may fault = false≢true may
-refuted-verdict r inputs h before s strong at (Some question) q hints (Some causes.UnknownLine) told =
-    first-from (matter_of r h.essential inputs) h before (lines.Refuted hints) causes.UnknownLine strong
-    (hints-some (length s.log.clauses) (length (numbered (matter_of r h.essential inputs) before)) hints (same-length r inputs h before s at) told) none
+refuted-verdict matter h before s strong at (Some question) q hints (Some causes.UnknownLine) told =
+    first-from matter h before (lines.Refuted hints) causes.UnknownLine strong
+    (hints-some (length s.log.clauses) (length (numbered matter before)) hints (same-length matter h before s at) told) none
   where
     none : (cause : CertCause) → may_have (lines.Refuted hints) cause ≡ true → rank cause < 6
-        → ¬ HasRecordFault (matter_of r h.essential inputs) h before (lines.Refuted hints) cause
+        → ¬ HasRecordFault matter h before (lines.Refuted hints) cause
     none causes.OutOfOrder may below fault = fault (q.0, question.assumptions, q.1, q.2)
     none causes.UnknownLine may below fault = omega (arith, below)
     none causes.BadLine may below fault = omega (arith, below)
     none cause may below fault = false≢true may
-refuted-verdict r inputs h before s strong at (Some question) q hints (Some causes.BadLine) told =
-    first-from (matter_of r h.essential inputs) h before (lines.Refuted hints) causes.BadLine strong (
+refuted-verdict matter h before s strong at (Some question) q hints (Some causes.BadLine) told =
+    first-from matter h before (lines.Refuted hints) causes.BadLine strong (
       q.0,
       question.assumptions,
       q.1,
@@ -192,80 +191,89 @@ refuted-verdict r inputs h before s strong at (Some question) q hints (Some caus
     ) none
   where
     none : (cause : CertCause) → may_have (lines.Refuted hints) cause ≡ true → rank cause < 7
-        → ¬ HasRecordFault (matter_of r h.essential inputs) h before (lines.Refuted hints) cause
+        → ¬ HasRecordFault matter h before (lines.Refuted hints) cause
     none causes.OutOfOrder may below fault = fault (q.0, question.assumptions, q.1, q.2)
-    none causes.UnknownLine may below fault = hints-none (length s.log.clauses) (length (numbered (matter_of r h.essential inputs) before)) hints
-        (same-length r inputs h before s at) told.0 fault
+    none causes.UnknownLine may below fault = hints-none (length s.log.clauses) (length (numbered matter before)) hints
+        (same-length matter h before s at) told.0 fault
     none causes.BadLine may below fault = omega (arith, below)
     none cause may below fault = false≢true may
-refuted-verdict r inputs h before s strong at (Some question) q hints (Some cause) told = absurd told
+refuted-verdict matter h before s strong at (Some question) q hints (Some cause) told = absurd told
 
 -- ---- installations
 
-inputs-are : (r : PackageList) (inputs : List (List Literal)) (h : Header) (before : List CertRecord) (s : StateView) → IsAt r inputs h before s
-    → inputs_of s.log ≡ inputs
-inputs-are r inputs h before s at =
-    ap (λ (n : ℕ). take n s.log.clauses) at.inputs_are ∙ ap (λ (cs : List (List Literal)). take (length inputs) cs) at.clauses
-    ∙ take_at inputs (derived before) (length inputs) refl
+inputs-are : (matter : Matter) (h : Header) (before : List CertRecord) (s : StateView) → IsAt matter h before s
+    → inputs_of s.log ≡ matter.inputs
+inputs-are matter h before s at =
+    ap (λ (n : ℕ). take n s.log.clauses) at.inputs_are ∙ ap (λ (cs : List (List Literal)). take (length matter.inputs) cs) at.clauses
+    ∙ take_at matter.inputs (derived before) (length matter.inputs) refl
+
+-- truth values and members of a list make the same clauses true
+values-from : (matter : Matter) → AreInputsOf matter → (variables : List ℕ) → IsModel (is_among variables) matter.inputs
+    → IsModel (value_of (truth_of matter.variables variables)) matter.inputs
+values-from matter mean variables model =
+    model-alike (is_among variables) (value_of (truth_of matter.variables variables)) matter.variables
+    (λ v from upto. sym (value-among matter.variables variables v from upto)) matter.inputs mean.over model
+
+values-to : (matter : Matter) → AreInputsOf matter → (variables : List ℕ) → IsModel (value_of (truth_of matter.variables variables)) matter.inputs
+    → IsModel (is_among variables) matter.inputs
+values-to matter mean variables model =
+    model-alike (value_of (truth_of matter.variables variables)) (is_among variables) matter.variables (value-among matter.variables variables)
+    matter.inputs mean.over model
 
 -- a model is a healthy installation
-healthy-from : (r : PackageList) (inputs : List (List Literal)) (h : Header) (before : List CertRecord) (s : StateView) → IsAt r inputs h before s
-    → AreInputsOf r h.essential inputs → (variables : List ℕ)
-    → IsModel (is_among variables) (inputs_of s.log) → IsInstallation h.essential r (packages_of r.packages variables)
-healthy-from r inputs h before s at mean variables model =
-    model-installed r h.essential inputs variables mean.over mean.models (subst (IsModel (is_among variables)) (inputs-are r inputs h before s at) model)
+healthy-from : (matter : Matter) (h : Header) (before : List CertRecord) (s : StateView) → IsAt matter h before s
+    → AreInputsOf matter → (variables : List ℕ) → IsModel (is_among variables) (inputs_of s.log) → matter.IsHealthy variables
+healthy-from matter h before s at mean variables model =
+    ((mean.models.exactly variables).1
+    (values-from matter mean variables (subst (IsModel (is_among variables)) (inputs-are matter h before s at) model))).1
 
-model-from : (r : PackageList) (inputs : List (List Literal)) (h : Header) (before : List CertRecord) (s : StateView) → IsAt r inputs h before s
-    → AreInputsOf r h.essential inputs → (variables : List ℕ)
-    → IsInstallation h.essential r (packages_of r.packages variables) → IsModel (is_among variables) (inputs_of s.log)
-model-from r inputs h before s at mean variables healthy =
-    subst (IsModel (is_among variables)) (sym (inputs-are r inputs h before s at))
-    (installed-model r h.essential inputs variables mean.ordered mean.over mean.models healthy)
+model-from : (matter : Matter) (h : Header) (before : List CertRecord) (s : StateView) → IsAt matter h before s
+    → AreInputsOf matter → (variables : List ℕ) → matter.IsFuture variables → matter.IsHealthy variables
+    → IsModel (is_among variables) (inputs_of s.log)
+model-from matter h before s at mean variables future healthy =
+    subst (IsModel (is_among variables)) (sym (inputs-are matter h before s at))
+    (values-to matter mean variables ((mean.models.exactly variables).0 (future, healthy)))
 
--- no clause says what a future is
-no-future : (r : PackageList) (inputs : List (List Literal)) (h : Header) (before : List CertRecord) (s : StateView) → IsAt r inputs h before s
-    → (value : ℕ → Bool) → StandsForFuture s.future value (inputs_of s.log)
-no-future r inputs h before s at value = (
-  subst (λ n. IsModel value (take n (inputs_of s.log))) (sym at.no_front) (All-nil (MakesTrue value)),
-  subst (IsModel value) (sym (drop_of_length-le (inputs_of s.log) few)) (All-nil (MakesTrue value)),
-)
-  where
-    few : length (inputs_of s.log) ≤ s.future.behind
-    few = omega (arith, length-take s.log.inputs s.log.clauses, at.inputs_are, at.no_back)
+-- what is a future, by the clauses that are kept
+future-is : (matter : Matter) (h : Header) (before : List CertRecord) (s : StateView) → IsAt matter h before s → (variables : List ℕ)
+    → matter.IsFuture variables ↔ StandsForFuture s.future (is_among variables) (inputs_of s.log)
+future-is matter h before s at variables =
+    subst (λ clauses. matter.IsFuture variables ↔ StandsForFuture s.future (is_among variables) clauses) (sym (inputs-are matter h before s at))
+    (at.future variables)
 
-pub installation-verdict : (r : PackageList) (inputs : List (List Literal)) (h : Header) (before : List CertRecord) (s : StateView) → h.kind ≡ kinds.Strong
-    → IsAt r inputs h before s → AreInputsOf r h.essential inputs
+pub installation-verdict : (matter : Matter) (h : Header) (before : List CertRecord) (s : StateView) → h.kind ≡ kinds.Strong
+    → IsAt matter h before s → AreInputsOf matter
     → (variables : List ℕ) (found : Option CertCause) → TellsInstallation s.log s.future variables found
-    → IsVerdict r inputs h before (lines.Installation variables) found
-installation-verdict r inputs h before s strong at mean variables None told =
-    faultless-from (matter_of r h.essential inputs) h before (lines.Installation variables) strong none
+    → IsVerdict matter h before (lines.Installation variables) found
+installation-verdict matter h before s strong at mean variables None told =
+    faultless-from matter h before (lines.Installation variables) strong none
   where
     none : (cause : CertCause) → may_have (lines.Installation variables) cause ≡ true
-        → ¬ HasRecordFault (matter_of r h.essential inputs) h before (lines.Installation variables) cause
-    none causes.OutOfRange may fault = hints-none s.log.variables (length r.packages) variables at.variables told.0 fault
-    none causes.NotAnInstallation may fault = fault (healthy-from r inputs h before s at mean variables told.1)
+        → ¬ HasRecordFault matter h before (lines.Installation variables) cause
+    none causes.OutOfRange may fault = hints-none s.log.variables (matter.variables) variables at.variables told.0 fault
+    none causes.NotAnInstallation may fault = fault (healthy-from matter h before s at mean variables told.1)
     none cause may fault = false≢true may
-installation-verdict r inputs h before s strong at mean variables (Some causes.OutOfRange) told =
-    first-from (matter_of r h.essential inputs) h before (lines.Installation variables) causes.OutOfRange strong
-    (hints-some s.log.variables (length r.packages) variables at.variables told) none
+installation-verdict matter h before s strong at mean variables (Some causes.OutOfRange) told =
+    first-from matter h before (lines.Installation variables) causes.OutOfRange strong
+    (hints-some s.log.variables (matter.variables) variables at.variables told) none
   where
     none : (cause : CertCause) → may_have (lines.Installation variables) cause ≡ true → rank cause < 4
-        → ¬ HasRecordFault (matter_of r h.essential inputs) h before (lines.Installation variables) cause
+        → ¬ HasRecordFault matter h before (lines.Installation variables) cause
     none causes.OutOfRange may below fault = omega (arith, below)
     none causes.NotAnInstallation may below fault = omega (arith, below)
     none cause may below fault = false≢true may
-installation-verdict r inputs h before s strong at mean variables (Some causes.NotAFuture) told =
-    absurd (told.1 (no-future r inputs h before s at (is_among variables)))
-installation-verdict r inputs h before s strong at mean variables (Some causes.NotAnInstallation) told =
-    first-from (matter_of r h.essential inputs) h before (lines.Installation variables) causes.NotAnInstallation strong
-    (λ healthy. told.2 (model-from r inputs h before s at mean variables healthy)) none
+installation-verdict matter h before s strong at mean variables (Some causes.NotAFuture) told =
+    absurd (told.1 ((future-is matter h before s at variables).0 (at.today strong variables)))
+installation-verdict matter h before s strong at mean variables (Some causes.NotAnInstallation) told =
+    first-from matter h before (lines.Installation variables) causes.NotAnInstallation strong
+    (λ healthy. told.2 (model-from matter h before s at mean variables (at.today strong variables) healthy)) none
   where
     none : (cause : CertCause) → may_have (lines.Installation variables) cause ≡ true → rank cause < 9
-        → ¬ HasRecordFault (matter_of r h.essential inputs) h before (lines.Installation variables) cause
-    none causes.OutOfRange may below fault = hints-none s.log.variables (length r.packages) variables at.variables told.0 fault
+        → ¬ HasRecordFault matter h before (lines.Installation variables) cause
+    none causes.OutOfRange may below fault = hints-none s.log.variables (matter.variables) variables at.variables told.0 fault
     none causes.NotAnInstallation may below fault = omega (arith, below)
     none cause may below fault = false≢true may
-installation-verdict r inputs h before s strong at mean variables (Some cause) told = absurd told
+installation-verdict matter h before s strong at mean variables (Some cause) told = absurd told
 
 -- ---- lines that were new
 

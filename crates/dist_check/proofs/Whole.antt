@@ -1,7 +1,7 @@
 -- The claims of records without faults, as a whole.
 use Rattle.std.proofs.Common.{◌≡◌, ◌⊎◌, inl, inr, ℕ, zero, suc, ◌+◌, ◌<◌, ◌≤◌, Bool, List, [], ◌∷◌, ◌++◌, length, Some, refl, sym, ap, subst, ◌∙◌, append_assoc}
 use Rattle.std.proofs.Common.{arith, slice_get, length-append}
-use Rattle.std.specs.List.{flat_map}
+use Rattle.std.specs.List.{Contains, flat_map}
 use Rattle.std.proofs.lemmas.List.{append-nil}
 use Rattle.std.proofs.lemmas.Grind.{flat_map-append}
 use Rattle.dist_clause.specs.Formula.{Literal}
@@ -11,6 +11,8 @@ use Rattle.dist_repo.specs.PackageList.{PackageList}
 use Rattle.dist_now.specs.PresentClauses.{ArePresentClauses}
 use Rattle.dist_now.specs.PresentLaws.{AreModelsInstallations}
 use Rattle.dist_cert.specs.declared.faults.CertCause.TheVariants as causes
+use Rattle.dist_cert.specs.declared.records.CertKind.{CertKind}
+use Rattle.dist_cert.specs.declared.records.CertKind.TheVariants as kinds
 use Rattle.dist_cert.specs.declared.records.CertRecord.{CertRecord}
 use Rattle.dist_cert.specs.declared.records.CertRecord.TheVariants as lines
 use Rattle.dist_cert.specs.declared.records.Claim.{Claim}
@@ -19,7 +21,9 @@ use Rattle.dist_cert.specs.declared.records.Header.{Header}
 use Rattle.dist_cert.specs.Groups.{claimed, claim_count}
 use Rattle.dist_cert.specs.Accepted.{from_zero, pairs_from_zero, claim_in, claims_in}
 use Rattle.dist_cert.specs.ClearFormsLaws.{FormsAreClear}
-use Rattle.dist_subject.specs.Present.{subject_of, IsAccepted}
+use Rattle.dist_subject.specs.Basis.{Basis, IsAccepted, IsBasisOf, Later, Today, matter_of, subject_of}
+use Rattle.dist_subject.specs.Installed.{AreModelsHealthy}
+use Rattle.dist_check.specs.CheckedPrivate.{AreRight, HaveForms}
 use Rattle.dist_check.specs.Means.{Means}
 use Rattle.dist_check.proofs.Told.{stable, less-told}
 use Rattle.dist_check.proofs.Records.{right-records, fitting, strong-told, has-end}
@@ -178,20 +182,36 @@ abbrev pub ModelsAreInstallations : Type 0
 ModelsAreInstallations = (r : PackageList) (essential : Bool) (clauses : List (List Literal)) → IsInOrder r.packages → ArePresentClauses r essential clauses
     → AreModelsInstallations r essential clauses
 
+-- the law of dist_subject
+abbrev pub ModelsAreHealthy : Type 0
+ModelsAreHealthy = (r : PackageList) (kind : CertKind) (essential : Bool) (basis : Basis) → IsInOrder r.packages → IsBasisOf r kind essential basis
+    → AreModelsHealthy (matter_of r essential basis)
+
+-- the same of what certificates of kind strong are judged by
+pub basis-means : WhatFollows → ModelsAreInstallations → (r : PackageList) (h : Header) (steps : List CertRecord) → IsInOrder r.packages
+    → (basis : Basis) → IsBasisOf r kinds.Strong h.essential basis → AreRight (matter_of r h.essential basis) h steps → HaveForms steps
+    → h.kind ≡ kinds.Strong → Contains steps lines.End → Means h.essential r (claims_in steps)
+basis-means follows models r h steps ordered (Today inputs) is right forms strong ended = records-mean r inputs h steps (record {
+  sound = sound-rule follows;
+  ordered = ordered;
+  models = models r h.essential inputs ordered is;
+  right = right;
+  forms = forms;
+  strong = strong;
+  ended = ended;
+})
+basis-means follows models r h steps ordered (Later space inputs) is right forms strong ended = absurd is
+
 pub accepted-mean : FormsAreClear → WhatFollows → ModelsAreInstallations → (r : PackageList) (limits : Limits) (text : List ℕ) (h : Header) (made : List Claim)
     → IsInOrder r.packages → IsAccepted r limits text h made
     → Means h.essential r made
 accepted-mean clear follows models r limits text h made ordered accepted =
-    let inputs = accepted.0 in
+    let bases = accepted.0 in
     let steps = accepted.2.0 in
     let whole = accepted.2.1 in
-    let subject = subject_of r inputs in
-    subst (Means h.essential r) (sym accepted.2.2) (records-mean r (inputs h.essential) h steps (record {
-      sound = sound-rule follows;
-      ordered = ordered;
-      models = models r h.essential (inputs h.essential) ordered (accepted.1 h.essential);
-      right = right-records clear subject limits text h steps whole;
-      forms = whole.faultless.reads.records;
-      strong = stable (strong-told h.kind) (λ none. fitting clear subject limits text h steps whole (λ fits. none fits.taken));
-      ended = has-end subject limits text h steps whole;
-    }))
+    let subject = subject_of r bases in
+    subst (Means h.essential r) (sym accepted.2.2)
+    (basis-means follows models r h steps ordered (bases h.kind h.essential) (accepted.1 h.kind h.essential)
+    (right-records clear subject limits text h steps whole) whole.faultless.reads.records
+    (stable (strong-told h.kind) (λ none. fitting clear subject limits text h steps whole (λ fits. none fits.taken)))
+    (has-end subject limits text h steps whole))

@@ -14,7 +14,7 @@ use Rattle.dist_cert.specs.declared.records.Header.{Header}
 use Rattle.dist_cert.specs.Form.{header_text, HasHeaderForm}
 use Rattle.dist_check.specs.Checking.{TextAnswers}
 use Rattle.dist_check.specs.Means.{Means}
-use Rattle.dist_subject.specs.Present.{IsAccepted, IsRefused}
+use Rattle.dist_subject.specs.Basis.{IsAccepted, IsRefused}
 use Rattle.dist_check.specs.Start.{HasNumbers}
 use Rattle.dist_check.specs.declared.verdict.Verdict.{Verdict}
 use Rattle.dist_check.specs.declared.verdict.Verdict.TheVariants.{Accepted, Refused}

@@ -2,7 +2,7 @@
 use Rattle.std.proofs.Common.{◌≡◌, ℕ, ◌+◌, ◌↔◌, true, List, [], ◌∷◌, ◌++◌, Option, Some, None, length}
 use Rattle.std.specs.List.{All, Any, Contains}
 use Rattle.dist_clause.specs.Formula.{Literal}
-use Rattle.dist_repo.specs.PackageList.{PackageList}
+use Rattle.dist_cert.specs.declared.records.CertKind.TheVariants.{Strong}
 use Rattle.dist_cert.specs.declared.records.CertRecord.{CertRecord}
 use Rattle.dist_cert.specs.declared.records.Header.{Header}
 use Rattle.dist_cert.specs.Form.{Word}
@@ -11,6 +11,9 @@ use Rattle.dist_cert.specs.Groups.{IsUndecidedIn}
 use Rattle.dist_cert.specs.ClaimRules.{yes, no}
 use Rattle.dist_cert.specs.Accepted.{claims_in}
 use Rattle.dist_cert.specs.Rising.{is_among}
+use Rattle.dist_cert.specs.Subject.{Matter}
+use Rattle.dist_check_state.specs.Future.{StandsForFuture}
+use Rattle.dist_check_state.specs.declared.future.FutureClauses.{FutureClauses}
 use Rattle.dist_check_group.specs.Window.{latest}
 use Rattle.dist_check_group.specs.Closed.{ClosedView}
 use Rattle.dist_check_group.specs.Group.{GroupView}
@@ -38,19 +41,24 @@ pub record IsGroupOf (lines : List CertRecord) (p : ℕ) (kept : GroupView) : Ty
   pub undecided : AreClosed (IsUndecidedIn lines) p kept.undecided
   pub common : IsCommonOf (installations lines) p kept.common
 
+-- the sets of variables that stand for a future are those that make the clauses true that say what a future is
+abbrev pub AreFuturesBy : Matter → FutureClauses → Type 0
+AreFuturesBy matter future = (members : List ℕ)
+    → matter.IsFuture members ↔ StandsForFuture future (is_among members) matter.inputs
+
 -- What is kept is what these lines hold.
-pub record IsAt (r : PackageList) (inputs : List (List Literal)) (h : Header) (before : List CertRecord)
-    (s : StateView) : Type 0 where
+pub record IsAt (matter : Matter) (h : Header) (before : List CertRecord) (s : StateView) : Type 0 where
   pub limit : s.limit ≡ h.limit
-  pub packages : s.packages ≡ length r.packages
-  pub clauses : s.log.clauses ≡ inputs ++ derived before
-  pub inputs_are : s.log.inputs ≡ length inputs
-  pub variables : s.log.variables ≡ length r.packages
-  pub no_front : s.future.upto ≡ 0
-  pub no_back : s.future.behind ≡ length inputs
+  pub packages : s.packages ≡ matter.packages
+  pub clauses : s.log.clauses ≡ matter.inputs ++ derived before
+  pub inputs_are : s.log.inputs ≡ length matter.inputs
+  pub variables : s.log.variables ≡ matter.variables
+  pub future : AreFuturesBy matter s.future
+  pub today : h.kind ≡ Strong → (members : List ℕ) → matter.IsFuture members
+  pub same : h.kind ≡ Strong → matter.variables ≡ matter.packages
   pub kept : s.window.kept ≡ latest (installations before)
   pub count : s.window.count ≡ length (installations before)
-  pub question : IsQuestionOf inputs before s.question
+  pub question : IsQuestionOf matter.inputs before s.question
   pub next : s.next ≡ claim_count before + 1
   pub group_is : IsGroupOf (group before) s.next s.group
   pub claims : s.claims ≡ claims_in before

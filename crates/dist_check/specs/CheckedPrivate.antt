@@ -3,10 +3,8 @@ use Rattle.std.specs.Prelude.{◌≡◌, ℕ, ◌+◌, ◌≤◌, Bool, List, �
 use Rattle.std.specs.List.{list_any}
 use Rattle.dist_outside.specs.declared.limits.Limits.{Limits}
 use Rattle.dist_clause.specs.ClauseList.{literal_count}
-use Rattle.dist_clause.specs.Formula.{Literal, IsClauseOver}
+use Rattle.dist_clause.specs.Formula.{IsClauseOver}
 use Rattle.dist_derive.specs.ClauseLog.{IsWithinLineLimits}
-use Rattle.dist_now.specs.PresentLaws.{AreModelsInstallations}
-use Rattle.dist_repo.specs.Order.{IsInOrder}
 use Rattle.dist_repo.specs.PackageList.{PackageList}
 use Rattle.dist_cert.specs.declared.faults.CertCause.{CertCause}
 use Rattle.dist_cert.specs.declared.records.CertKind.TheVariants as kinds
@@ -16,9 +14,10 @@ use Rattle.dist_cert.specs.Form.{record_text, HasForm, is_end}
 use Rattle.dist_cert.specs.LineRules.{HasRecordFault}
 use Rattle.dist_cert.specs.Reading.{ReaderView}
 use Rattle.dist_cert.specs.Refusal.{certificate_text, AreFaultless}
-use Rattle.dist_cert.specs.Subject.{Matter}
+use Rattle.dist_cert.specs.Subject.{Matter, Subject}
 use Rattle.dist_check.specs.AtPrivate.{IsAt}
-use Rattle.dist_subject.specs.Present.{AreInputs, matter_of, subject_of}
+use Rattle.dist_subject.specs.Basis.{AreBases, Bases, matter_for, subject_of}
+use Rattle.dist_subject.specs.Installed.{AreModelsHealthy}
 use Rattle.dist_check_state.specs.State.{StateView}
 
 -- no record has a fault behind those before it
@@ -32,32 +31,30 @@ HaveForms steps = All (λ step. HasForm (record_text step) step) steps
 
 -- The lines that were read are those of the text, where it is told, and have no fault. Where it is not told, they have
 -- none whatever is behind them.
-abbrev pub TextAt : PackageList → (Bool → List (List Literal)) → Limits → Header → List CertRecord → Option (List ℕ)
-    → Option (List ℕ) → Type 0
-TextAt r inputs limits h before None left = (rest : List ℕ)
-    → AreFaultless (subject_of r inputs) limits (certificate_text h before ++ rest) h before rest
-TextAt r inputs limits h before (Some text) left = (rest : List ℕ) × (left ≡ Some rest)
-    × AreFaultless (subject_of r inputs) limits text h before rest
+abbrev pub TextAt : Subject → Limits → Header → List CertRecord → Option (List ℕ) → Option (List ℕ) → Type 0
+TextAt subject limits h before None left = (rest : List ℕ)
+    → AreFaultless subject limits (certificate_text h before ++ rest) h before rest
+TextAt subject limits h before (Some text) left = (rest : List ℕ) × (left ≡ Some rest)
+    × AreFaultless subject limits text h before rest
 
--- The input clauses are over the packages, which are in order, and their models are the healthy installations.
-pub record AreInputsOf (r : PackageList) (essential : Bool) (inputs : List (List Literal)) : Type 0 where
-  pub ordered : IsInOrder r.packages
-  pub over : All (IsClauseOver (length r.packages)) inputs
-  pub models : AreModelsInstallations r essential inputs
+-- The input clauses are over the variables, and their models stand for the healthy installations of futures.
+pub record AreInputsOf (matter : Matter) : Type 0 where
+  pub over : All (IsClauseOver matter.variables) matter.inputs
+  pub models : AreModelsHealthy matter
 
 -- What is kept is what the lines that were read hold, the reader stands behind them, and they are those of the text.
 pub record IsChecked (r : PackageList) (limits : Limits) (told : Option (List ℕ)) (h : Header) (reader : ReaderView)
     (left : Option (List ℕ)) (s : StateView) : Type 0 where
-  pub inputs : Bool → List (List Literal)
-  pub are_inputs : AreInputs r inputs
-  pub inputs_mean : AreInputsOf r h.essential (inputs h.essential)
+  pub bases : Bases
+  pub are_bases : AreBases r bases
+  pub inputs_mean : AreInputsOf (matter_for r bases h)
   pub before : List CertRecord
-  pub at : IsAt r (inputs h.essential) h before s
-  pub right : AreRight (matter_of r h.essential (inputs h.essential)) h before
+  pub at : IsAt (matter_for r bases h) h before s
+  pub right : AreRight (matter_for r bases h) h before
   pub forms : HaveForms before
   pub strong : h.kind ≡ kinds.Strong
-  pub clauses : length (inputs h.essential) ≤ limits.clauses
-  pub literals : literal_count (inputs h.essential) ≤ limits.literals
+  pub clauses : length (matter_for r bases h).inputs ≤ limits.clauses
+  pub literals : literal_count (matter_for r bases h).inputs ≤ limits.literals
   pub line_limit : s.log.line_limit ≡ limits.lines
   pub line_literal_limit : s.log.line_literal_limit ≡ limits.line_literals
   pub within : IsWithinLineLimits s.log
@@ -65,4 +62,4 @@ pub record IsChecked (r : PackageList) (limits : Limits) (told : Option (List �
   pub line_count : reader.lines ≡ length before + 1
   pub given : reader.given ≡ length (certificate_text h before)
   pub ended : reader.ended ≡ list_any is_end before
-  pub text : TextAt r inputs limits h before told left
+  pub text : TextAt (subject_of r bases) limits h before told left

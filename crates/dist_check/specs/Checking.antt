@@ -26,41 +26,41 @@ use Rattle.dist_cert.specs.Refusal.{BeginsWith, HasFirstFault, HasLineFault, in_
 use Rattle.dist_cert.specs.Refusal.{AreFaultless}
 use Rattle.dist_check.specs.Limited.{AreInputsWithin}
 use Rattle.dist_subject.specs.Completed.{KeepsNumbers, IsCompleted}
-use Rattle.dist_subject.specs.Present.{AreInputs, subject_of}
+use Rattle.dist_subject.specs.Basis.{AreBases, Bases, matter_for, subject_of}
 
 -- The text begins with the lines of this header and these records, which have no fault and keep the numbers.
-pub record IsReached (r : PackageList) (inputs : Bool → List (List Literal)) (limits : Limits) (text : List ℕ)
+pub record IsReached (r : PackageList) (bases : Bases) (limits : Limits) (text : List ℕ)
     (h : Header) (before : List CertRecord) (rest : List ℕ) : Type 0 where
-  pub are_inputs : AreInputs r inputs
-  pub faultless : AreFaultless (subject_of r inputs) limits text h before rest
-  pub numbers : KeepsNumbers limits (inputs h.essential) h before
+  pub are_bases : AreBases r bases
+  pub faultless : AreFaultless (subject_of r bases) limits text h before rest
+  pub numbers : KeepsNumbers limits (matter_for r bases h).inputs h before
 
 -- ---- the answers
 
 -- where the text begins with a first line of kind strong, its clauses keep both numbers
-abbrev pub HasInputsWithin : (Bool → List (List Literal)) → Limits → List ℕ → Type 0
-HasInputsWithin inputs limits text = (h : Header) (line more : List ℕ) → BeginsWith text line more
-    → HasHeaderForm line h → h.kind ≡ kinds.Strong → AreInputsWithin limits (inputs h.essential)
+abbrev pub HasInputsWithin : PackageList → Bases → Limits → List ℕ → Type 0
+HasInputsWithin r bases limits text = (h : Header) (line more : List ℕ) → BeginsWith text line more
+    → HasHeaderForm line h → h.kind ≡ kinds.Strong → AreInputsWithin limits (matter_for r bases h).inputs
 
 -- The first line has this first fault, and does not pass the number of bytes before. Where it is bad, the clauses do
 -- not pass a number before.
 pub record StopsFirst (r : PackageList) (limits : Limits) (text : List ℕ) (cause : CertCause) : Type 0 where
-  pub inputs : Bool → List (List Literal)
-  pub are_inputs : AreInputs r inputs
+  pub bases : Bases
+  pub are_bases : AreBases r bases
   pub bytes : ¬ PassesWhole limits 0 text
-  pub first : IsFirstOf in_order (HasFirstFault (subject_of r inputs) limits text) cause
-  pub within : cause ≡ BadHeader → HasInputsWithin inputs limits text
+  pub first : IsFirstOf in_order (HasFirstFault (subject_of r bases) limits text) cause
+  pub within : cause ≡ BadHeader → HasInputsWithin r bases limits text
 
 -- The line behind some lines that are reached has this first fault, and does not pass the number of bytes before.
 pub record StopsLater (r : PackageList) (limits : Limits) (text : List ℕ) (fault : CertFault) : Type 0 where
-  pub inputs : Bool → List (List Literal)
+  pub bases : Bases
   pub h : Header
   pub before : List CertRecord
   pub rest : List ℕ
-  pub reached : IsReached r inputs limits text h before rest
+  pub reached : IsReached r bases limits text h before rest
   pub bytes : ¬ PassesWhole limits (length (certificate_text h before)) rest
   pub line : fault.line ≡ length before + 2
-  pub first : IsFirstOf in_order (HasLineFault (subject_of r inputs) limits h before rest) fault.cause
+  pub first : IsFirstOf in_order (HasLineFault (subject_of r bases) limits h before rest) fault.cause
 
 -- The text has a first line of kind strong, of which the clauses pass a number.
 pub record HasLargeInputs (limits : Limits) (text : List ℕ) (Passes : Bool → Type 0) : Type 0 where
@@ -76,11 +76,11 @@ pub record HasLargeInputs (limits : Limits) (text : List ℕ) (Passes : Bool →
 -- A derived line without a fault stands behind some lines that are reached, and with it they pass a number.
 pub record StopsAtDerived (r : PackageList) (limits : Limits) (text : List ℕ)
     (Passes : List (List Literal) → List Literal → Type 0) : Type 0 where
-  pub inputs : Bool → List (List Literal)
+  pub bases : Bases
   pub h : Header
   pub before : List CertRecord
   pub rest : List ℕ
-  pub reached : IsReached r inputs limits text h before rest
+  pub reached : IsReached r bases limits text h before rest
   pub keeps : KeepsLimits limits (length (certificate_text h before)) rest
   pub literals : List Word
   pub hints : List ℕ
@@ -88,16 +88,16 @@ pub record StopsAtDerived (r : PackageList) (limits : Limits) (text : List ℕ)
   pub more : List ℕ
   pub begins : BeginsWith rest line more
   pub form : HasForm line (Derived literals hints)
-  pub none : (cause : CertCause) → ¬ HasLineFault (subject_of r inputs) limits h before rest cause
+  pub none : (cause : CertCause) → ¬ HasLineFault (subject_of r bases) limits h before rest cause
   pub passes : Passes (derived before) (clause_of literals)
 
 -- The byte that passes the number of bytes is one of the line behind some lines that are reached, or of the first line.
 pub record StopsAtByte (r : PackageList) (limits : Limits) (text : List ℕ) : Type 0 where
-  pub inputs : Bool → List (List Literal)
+  pub bases : Bases
   pub h : Header
   pub before : List CertRecord
   pub rest : List ℕ
-  pub reached : IsReached r inputs limits text h before rest
+  pub reached : IsReached r bases limits text h before rest
   pub passes : PassesWhole limits (length (certificate_text h before)) rest
 
 -- When each answer is given. A fault of the desk and want of memory may come in place of any.

@@ -15,9 +15,10 @@ use crate::start::start;
 use dist_cert::{Claims, Header, ReadCertError, Reader, forms_are_clear};
 use dist_check_state::{State, Tools, take_line};
 use dist_derive::lines_keep_models;
-use dist_now::{models_are_installations, present_clauses_are_one, present_clauses_are_there};
+use dist_now::models_are_installations;
 use dist_outside::{Desk, Limits};
 use dist_repo::Repository;
+use dist_subject::{bases_are_one, models_are_healthy};
 use std::alloc::Global;
 
 /// What was read of an accepted certificate.
@@ -82,9 +83,8 @@ pub(crate) fn check_text<D: Desk>(
     ensures only_reads { OnlyReads (D.view desk.old) (D.view desk.new) }
 {
     forms_are_clear();
-    models_are_installations();
-    present_clauses_are_there();
-    present_clauses_are_one();
+    bases_are_one();
+    models_are_healthy();
     let _in_order = repo.len();
     let mut reader = Reader::new(alloc, limits);
     let header = reader.header(desk)?;

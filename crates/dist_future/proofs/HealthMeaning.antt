@@ -41,8 +41,8 @@ module _ (laws : ClassLaws) (s : SpaceView) (space : IsSpace s) (values : List B
   healthy-stands healthy =
       let met = met-from-health s values space healthy in
       record {
-        is_future = future-is laws s space (holds_under s values) (examples_of s) space.frame.examples met;
-        healthy = healthy-is laws s space (holds_under s values) (examples_of s) space.frame.examples met;
+        is_future = future-is laws s space (holds_under s values) (examples_of s) space.frame.examples met.future;
+        healthy = healthy-is laws s space (holds_under s values) (examples_of s) space.frame.examples met.future met;
       }
 
   -- ---- what is installed

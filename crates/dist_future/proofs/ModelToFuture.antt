@@ -35,7 +35,7 @@ use Rattle.dist_future.specs.Stands.{new_version}
 use Rattle.dist_space.specs.declared.meaning.Meaning.{Meaning}
 use Rattle.dist_space.specs.declared.meaning.Meaning.TheVariants.{Now, Present, At, New, Kept, Fresh}
 use Rattle.dist_future.proofs.ClassMatch.{ClassLaws, fresh-at, fresh-new, from-fresh, from-kept, from-new, to-fresh, to-new}
-use Rattle.dist_future.proofs.DemandLemmas.{AreMet}
+use Rattle.dist_future.proofs.DemandLemmas.{AreFutureMet, AreMet}
 use Rattle.dist_future.proofs.FutureToModel.{conflict-back, option-cases}
 use Rattle.dist_space.specs.UsableLaws.{usable-is}
 use Rattle.dist_future.proofs.Parts.{first-none, first-some, flag-at, flag-is, if-some, if-true, kept-carried, length-flags, made, made-of, made-pairs}
@@ -69,7 +69,7 @@ abbrev pub AreVersions : SpaceView → (ℕ → ℕ → List ℕ) → Type 0
 AreVersions s version = (c k : ℕ) → k < length (cluster_classes s c) → IsVersion (version c k) × IsOfClassAt (cluster_classes s c) k (version c k)
 
 module _ (laws : ClassLaws) (s : SpaceView) (space : IsSpace s) (holds : Meaning → Bool) (version : ℕ → ℕ → List ℕ) (versions : AreVersions s version)
-    (met : AreMet s (λ m. holds m ≡ true)) where
+    (futures : AreFutureMet s (λ m. holds m ≡ true)) where
   abbrev future : List Package
   future = future_of s holds version
 
@@ -92,9 +92,9 @@ module _ (laws : ClassLaws) (s : SpaceView) (space : IsSpace s) (holds : Meaning
         let l = some.0 in
         let first = chosen-short c l some.1 in
         let same : l ≡ k = elim (cases_lt l k) [
-          | inl less ↦ absurd (met.future.one_class c l k less short first.1 at)
+          | inl less ↦ absurd (futures.one_class c l k less short first.1 at)
           | inr more ↦ elim (cases_lt k l) [
-            | inl less ↦ absurd (met.future.one_class c k l less first.0 at first.1)
+            | inl less ↦ absurd (futures.one_class c k l less first.0 at first.1)
             | inr also ↦ omega (arith, more, also)
           ]
         ] in
@@ -223,9 +223,9 @@ module _ (laws : ClassLaws) (s : SpaceView) (space : IsSpace s) (holds : Meaning
       let also : holds (Fresh x l) ≡ true = subst (λ (z : ℕ). holds (Fresh z l) ≡ true) (sym one) b.holds_is in
       let short : l < length (fresh_classes s x) = subst (λ (z : ℕ). IsMeaning s (Fresh z l)) (sym one) second in
       elim (cases_lt k l) [
-        | inl less ↦ met.future.one_fresh x k l less short a.holds_is also
+        | inl less ↦ futures.one_fresh x k l less short a.holds_is also
         | inr more ↦ elim (cases_lt l k) [
-          | inl less ↦ met.future.one_fresh x l k less first also a.holds_is
+          | inl less ↦ futures.one_fresh x l k less first also a.holds_is
           | inr equal ↦ let k_is : k ≡ l = omega (arith, more, equal) in apart (ap (λ (z : ℕ). Fresh z k) one ∙ ap (λ (z : ℕ). Fresh y z) k_is)
         ]
       ]
@@ -396,11 +396,11 @@ module _ (laws : ClassLaws) (s : SpaceView) (space : IsSpace s) (holds : Meaning
   old-stays : (r : ℕ) → r < length s.repository.packages → holds (Present r) ≡ true → class_chosen s holds (slice_index s.cluster_of r) ≡ None
   old-stays r within true_is = elim (option-cases (class_chosen s holds (slice_index s.cluster_of r))) [
     | inl none ↦ none
-    | inr some ↦ let at = chosen-short (slice_index s.cluster_of r) some.0 some.1 in absurd (met.future.gone r some.0 (within, at.0) true_is at.1)
+    | inr some ↦ let at = chosen-short (slice_index s.cluster_of r) some.0 some.1 in absurd (futures.gone r some.0 (within, at.0) true_is at.1)
   ]
 
   new-moves : (r k : ℕ) → IsMeaning s (New r k) → holds (New r k) ≡ true → class_chosen s holds (slice_index s.cluster_of r) ≡ Some k
-  new-moves r k is_meaning true_is = chosen-is (slice_index s.cluster_of r) k is_meaning.1 (met.future.moved r k is_meaning true_is)
+  new-moves r k is_meaning true_is = chosen-is (slice_index s.cluster_of r) k is_meaning.1 (futures.moved r k is_meaning true_is)
 
   member-in-future : (n : Package) → Contains (installation_of s holds version) n → Contains (future_of s holds version) n
   member-in-future n there = let g = member-given n there in at g.meaning g.is_meaning g.given
@@ -420,7 +420,7 @@ module _ (laws : ClassLaws) (s : SpaceView) (space : IsSpace s) (holds : Meaning
   old-new-apart : (r o k : ℕ) (p n : Package) → IsMeaning s (New o k) → IsOld r p → IsNew o k n → p.name ≢ n.name
   old-new-apart r o k p n is_meaning a b same =
       let one : r ≡ o = names-apart s.repository.packages r o p b.q space.frame.flat a.is b.is (same ∙ ap (λ (x : Package). x.name) b.same) in
-      met.future.gone o k is_meaning (subst (λ (x : ℕ). holds (Present x) ≡ true) one a.holds_is) (met.future.moved o k is_meaning b.holds_is)
+      futures.gone o k is_meaning (subst (λ (x : ℕ). holds (Present x) ≡ true) one a.holds_is) (futures.moved o k is_meaning b.holds_is)
 
   new-new-apart : (r k o l : ℕ) (p n : Package) → IsMeaning s (New r k) → IsMeaning s (New o l) → New r k ≢ New o l → IsNew r k p → IsNew o l n
       → p.name ≢ n.name
@@ -501,7 +501,7 @@ module _ (laws : ClassLaws) (s : SpaceView) (space : IsSpace s) (holds : Meaning
       let within = kept-within r k j is_meaning in
       let q = element-at s.repository.packages r within.0 in
       any-contained (Matches s.repository.architecture atom) (installation_of s holds version) (new_version s holds version r k q.element)
-      (new-member r k q.element q.is within (met.future.carried r k j is_meaning true_is))
+      (new-member r k q.element q.is within (futures.carried r k j is_meaning true_is))
       (kept-matches r k j q.element atom of q.is is_meaning true_is matched)
   member-for (Fresh x k) is_meaning true_is atom of matched =
       let name = here-at (λ (n : List ℕ). (n ≡ atom.name) × MeetsBound atom (example_at (fresh_classes s x) k)) s.names x matched.1 in
@@ -511,149 +511,6 @@ module _ (laws : ClassLaws) (s : SpaceView) (space : IsSpace s) (holds : Meaning
       (from-fresh s x k name.element (fresh-at laws s space.frame x k name.element name.is is_meaning) atom of
       (fresh_package name.element (example_at (fresh_classes s x) k)) (fresh-new name.element (example_at (fresh_classes s x) k) example.0) example.1
       matched)
-
-  item-met : (r place : ℕ) (p : Package) (item : List Atom) → slice_get s.repository.packages r ≡ Some p → slice_get p.depends place ≡ Some item
-      → holds (Present r) ≡ true → IsMet s.repository.architecture (installation_of s holds version) item
-  item-met r place p item is is_item true_is =
-      let some = met.met r place p item is is_item true_is in
-      let at = found-at (λ atom. IsMatched s atom some.meaning) item some.has in
-      let dependency : IsDependencyAtom s.repository.packages at.element =
-      any-at (λ (q : Package). Any (λ i. Contains i at.element) q.depends) s.repository.packages r p is
-      (any-at (λ i. Contains i at.element) p.depends place item is_item (contains-at item at.place at.element at.is)) in
-      any-at (λ atom. Any (Matches s.repository.architecture atom) (installation_of s holds version)) item at.place at.element at.is
-      (member-for some.meaning some.is_meaning some.holds at.element (record { usable = at.holds.0; there = inl dependency }) at.holds)
-
-  all-met : All (λ p. All (IsMet s.repository.architecture (installation_of s holds version)) p.depends) (installation_of s holds version)
-  all-met = all-contained (λ p. All (IsMet s.repository.architecture (installation_of s holds version)) p.depends) (installation_of s holds version)
-      (λ n there. let g = member-given n there in at n g.meaning g.given)
-    where
-      at : (n : Package) (m : Meaning) → Installed n m → All (IsMet s.repository.architecture (installation_of s holds version)) n.depends
-      at n _ (installed_old r o) =
-          all-contained (IsMet s.repository.architecture (installation_of s holds version)) n.depends
-          (λ item there. let place = place-of n.depends item there in item-met r place.place n item o.is place.is o.holds_is)
-      at n _ (installed_new r k w) =
-          subst (λ (x : Package). All (IsMet s.repository.architecture (installation_of s holds version)) x.depends) (sym w.same)
-          (All-nil (IsMet s.repository.architecture (installation_of s holds version)))
-      at n _ (installed_fresh x k f) =
-          subst (λ (x : Package). All (IsMet s.repository.architecture (installation_of s holds version)) x.depends) (sym f.same)
-          (All-nil (IsMet s.repository.architecture (installation_of s holds version)))
-
-  -- ---- conflicts
-
-  other-name : (o : ℕ) (q : Package) (name : List ℕ) → slice_get s.repository.packages o ≡ Some q → q.name ≢ name
-      → IsSomeAnd (option_map (λ (x : Package). x.name) (slice_get s.repository.packages o)) (λ n. n ≢ name)
-  other-name o q name is other =
-      let Differs : Option Package → Type 0 = λ x. IsSomeAnd (option_map (λ (y : Package). y.name) x) (λ n. n ≢ name) in
-      subst Differs (sym is) other
-
-  abbrev Rejects : Package → Package → Type 0
-  Rejects p n = Any (λ atom. Matches s.repository.architecture atom n) p.conflicts
-
-  old-rejects-old : (r o : ℕ) (p n : Package) → IsOld r p → IsOld o n → p.name ≢ n.name → ¬ Rejects p n
-  old-rejects-old r o p n a b names any =
-      let conflict : AreInConflict s.repository.architecture p n = record { different = λ same. names same.0; matched = inl any } in
-      elim (cases_lt r o) [
-        | inl less ↦ met.apart r p (Present o) a.is (slice_get_within s.repository.packages o n b.is)
-            (less, at-has (AreInConflict s.repository.architecture p) s.repository.packages o n b.is conflict) a.holds_is b.holds_is
-        | inr more ↦ elim (cases_lt o r) [
-          | inl less ↦
-              met.apart o n (Present r) b.is (slice_get_within s.repository.packages r p a.is)
-              (less, at-has (AreInConflict s.repository.architecture n) s.repository.packages r p a.is (conflict-back s.repository.architecture p n conflict))
-              b.holds_is a.holds_is
-          | inr also ↦
-              let one : r ≡ o = omega (arith, more, also) in
-              let here : slice_get s.repository.packages o ≡ Some p = ap (λ (k : ℕ). slice_get s.repository.packages k) (sym one) ∙ a.is in
-              let there = b.is in
-              let same : p ≡ n = cc in names (ap (λ (x : Package). x.name) same)
-        ]
-      ]
-
-  old-rejects-new : (r o k : ℕ) (p n : Package) → IsOld r p → IsNew o k n → IsMeaning s (New o k) → p.name ≢ n.name → ¬ Rejects p n
-  old-rejects-new r o k p n a b is_meaning names any =
-      let at = found-at (λ atom. Matches s.repository.architecture atom n) p.conflicts any in
-      let of = conflict-atom s r p at.place at.element a.is at.is at.holds.usable in
-      let other : b.q.name ≢ p.name = λ same. names (sym same ∙ sym (ap (λ (x : Package). x.name) b.same)) in
-      let matches : Matches s.repository.architecture at.element (new_version s holds version o k b.q) =
-      subst (λ (x : Package). Matches s.repository.architecture at.element x) b.same at.holds in
-      elim (to-new s o k b.q (member-of-class laws s space o k b.q b.is is_meaning.1) at.element of (new_version s holds version o k b.q) (kept_of o k b.q)
-      (new-of o k b.q is_meaning.1) (class-of-new o k b.q is_meaning.1) matches) [
-        | inl matched ↦
-            met.apart r p (New o k) a.is is_meaning (
-              other-name o b.q p.name b.is other,
-              any-at (λ atom. IsMatched s atom (New o k)) p.conflicts at.place at.element at.is matched,
-            ) a.holds_is b.holds_is
-        | inr kept ↦
-            let j = kept.0 in
-            met.apart r p (Kept o k j) a.is kept.1.1 (
-              other-name o b.q p.name b.is other,
-              any-at (λ atom. IsMatched s atom (Kept o k j)) p.conflicts at.place at.element at.is kept.1.2,
-            ) a.holds_is
-            (flag-at s.repository.architecture (λ i. holds (Kept o k i)) b.q.provides j kept.1.0)
-      ]
-
-  old-rejects-fresh : (r x k : ℕ) (p n : Package) → IsOld r p → IsFreshPackage x k n → IsMeaning s (Fresh x k) → p.name ≢ n.name → ¬ Rejects p n
-  old-rejects-fresh r x k p n a f is_meaning names any =
-      let at = found-at (λ atom. Matches s.repository.architecture atom n) p.conflicts any in
-      let of = conflict-atom s r p at.place at.element a.is at.is at.holds.usable in
-      let example = space.frame.name_examples x k is_meaning in
-      let matches : Matches s.repository.architecture at.element (fresh_package f.name (example_at (fresh_classes s x) k)) =
-      subst (λ (y : Package). Matches s.repository.architecture at.element y) f.same at.holds in
-      let matched = to-fresh s x k f.name (fresh-at laws s space.frame x k f.name f.is is_meaning) at.element of
-      (fresh_package f.name (example_at (fresh_classes s x) k)) (fresh-new f.name (example_at (fresh_classes s x) k) example.0) example.1 matches in
-      let other : f.name ≢ p.name = λ same. names (sym same ∙ sym (ap (λ (y : Package). y.name) f.same)) in
-      met.apart r p (Fresh x k) a.is is_meaning (
-        at-has (λ (n : List ℕ). n ≢ p.name) s.names x f.name f.is other,
-        any-at (λ atom. IsMatched s atom (Fresh x k)) p.conflicts at.place at.element at.is matched,
-      ) a.holds_is f.holds_is
-
-  nothing-rejected : (p n : Package) → p.conflicts ≡ [] → ¬ Rejects p n
-  nothing-rejected p n none any = let there = subst (λ (xs : List Atom). Any (λ atom. Matches s.repository.architecture atom n) xs) none any in
-      omega (arith, there.2)
-
-  never-rejects : (p n : Package) (a b : Meaning) → Installed p a → Installed n b → IsMeaning s b → p.name ≢ n.name → ¬ Rejects p n
-  never-rejects p n _ _ (installed_old r u) (installed_old o v) is_meaning names = old-rejects-old r o p n u v names
-  never-rejects p n _ _ (installed_old r u) (installed_new o k v) is_meaning names = old-rejects-new r o k p n u v is_meaning names
-  never-rejects p n _ _ (installed_old r u) (installed_fresh x k f) is_meaning names = old-rejects-fresh r x k p n u f is_meaning names
-  never-rejects p n _ b (installed_new r k u) other is_meaning names = nothing-rejected p n (ap (λ (x : Package). x.conflicts) u.same)
-  never-rejects p n _ b (installed_fresh x k f) other is_meaning names = nothing-rejected p n (ap (λ (x : Package). x.conflicts) f.same)
-
-  no-conflict : (p n : Package) → Contains (installation_of s holds version) p → Contains (installation_of s holds version) n → p.name ≢ n.name
-      → ¬ AreInConflict s.repository.architecture p n
-  no-conflict p n first second names conflict =
-      let a = member-given p first in
-      let b = member-given n second in
-      elim conflict.matched [
-        | inl any ↦ never-rejects p n a.meaning b.meaning a.given b.given b.is_meaning names any
-        | inr any ↦ never-rejects n p b.meaning a.meaning b.given a.given a.is_meaning (λ same. names (sym same)) any
-      ]
-
-  -- ---- required names
-
-  bears : (name : List ℕ) (m : Meaning) → IsMeaning s m → holds m ≡ true → IsBearer s name m
-      → Any (λ (p : Package). p.name ≡ name) (installation_of s holds version)
-  bears name Now is_meaning true_is bearer = absurd bearer
-  bears name (At c k) is_meaning true_is bearer = absurd bearer
-  bears name (Kept r k j) is_meaning true_is bearer = absurd bearer
-  bears name (Fresh x k) is_meaning true_is bearer = absurd bearer
-  bears name (Present r) is_meaning true_is bearer =
-      let q = here-at (λ (p : Package). p.name ≡ name) s.repository.packages r bearer in
-      any-contained (λ (p : Package). p.name ≡ name) (installation_of s holds version) q.element (old-member r q.element q.is true_is) q.holds
-  bears name (New r k) is_meaning true_is bearer =
-      let q = here-at (λ (p : Package). p.name ≡ name) s.repository.packages r bearer in
-      any-contained (λ (p : Package). p.name ≡ name) (installation_of s holds version) (new_version s holds version r k q.element)
-      (new-member r k q.element q.is is_meaning true_is) q.holds
-
-  pub healthy-is : IsInstallationOf s.essential s.repository (future_of s holds version) (installation_of s holds version)
-  healthy-is = record {
-    chosen = all-contained (Contains (future_of s holds version)) (installation_of s holds version) member-in-future;
-    one_of_a_name = members-flat;
-    met = all-met;
-    no_conflict = pairs-more (λ (p q : Package). p.name ≢ q.name) (λ p q. ¬ AreInConflict s.repository.architecture p q) (installation_of s holds version)
-        no-conflict members-flat;
-    has_required = all-contained (λ name. Any (λ (p : Package). p.name ≡ name) (installation_of s holds version))
-        (required_names s.essential s.repository.packages)
-        (λ name there. let some = met.required name there in bears name some.meaning some.is_meaning some.holds some.has);
-  }
 
   -- ---- a cluster at a version
 
@@ -670,20 +527,166 @@ module _ (laws : ClassLaws) (s : SpaceView) (space : IsSpace s) (holds : Meaning
       (new_version s holds version place.place k p) there
       (refl, subst (λ (x : ℕ). version_cmp (version x k) (version c k) ≡ Equal) (sym same) (equal-itself (version c k)))
 
-  -- ---- the archive of today
+  -- ---- what needs all demands
 
-  pub today-is : holds Now ≡ true → IsInstallation s.essential s.repository (installation_of s holds version)
-  today-is now = record {
-    chosen = all-contained (Contains s.repository.packages) (installation_of s holds version)
-        (λ n there. let g = member-given n there in at n g.meaning g.is_meaning g.given);
-    one_of_a_name = healthy-is.one_of_a_name;
-    met = healthy-is.met;
-    no_conflict = healthy-is.no_conflict;
-    has_required = healthy-is.has_required;
-  }
-    where
-      at : (n : Package) (m : Meaning) → IsMeaning s m → Installed n m → Contains s.repository.packages n
-      at n _ is_meaning (installed_old r o) = contains-at s.repository.packages r n o.is
-      at n _ is_meaning (installed_new r k w) =
-          absurd (met.future.stays (slice_index s.cluster_of r) k is_meaning.1 now (met.future.moved r k is_meaning w.holds_is))
-      at n _ is_meaning (installed_fresh x k f) = absurd (met.future.absent x k is_meaning now f.holds_is)
+  module _ (met : AreMet s (λ m. holds m ≡ true)) where
+    item-met : (r place : ℕ) (p : Package) (item : List Atom) → slice_get s.repository.packages r ≡ Some p → slice_get p.depends place ≡ Some item
+        → holds (Present r) ≡ true → IsMet s.repository.architecture (installation_of s holds version) item
+    item-met r place p item is is_item true_is =
+        let some = met.met r place p item is is_item true_is in
+        let at = found-at (λ atom. IsMatched s atom some.meaning) item some.has in
+        let dependency : IsDependencyAtom s.repository.packages at.element =
+        any-at (λ (q : Package). Any (λ i. Contains i at.element) q.depends) s.repository.packages r p is
+        (any-at (λ i. Contains i at.element) p.depends place item is_item (contains-at item at.place at.element at.is)) in
+        any-at (λ atom. Any (Matches s.repository.architecture atom) (installation_of s holds version)) item at.place at.element at.is
+        (member-for some.meaning some.is_meaning some.holds at.element (record { usable = at.holds.0; there = inl dependency }) at.holds)
+
+    all-met : All (λ p. All (IsMet s.repository.architecture (installation_of s holds version)) p.depends) (installation_of s holds version)
+    all-met = all-contained (λ p. All (IsMet s.repository.architecture (installation_of s holds version)) p.depends) (installation_of s holds version)
+        (λ n there. let g = member-given n there in at n g.meaning g.given)
+      where
+        at : (n : Package) (m : Meaning) → Installed n m → All (IsMet s.repository.architecture (installation_of s holds version)) n.depends
+        at n _ (installed_old r o) =
+            all-contained (IsMet s.repository.architecture (installation_of s holds version)) n.depends
+            (λ item there. let place = place-of n.depends item there in item-met r place.place n item o.is place.is o.holds_is)
+        at n _ (installed_new r k w) =
+            subst (λ (x : Package). All (IsMet s.repository.architecture (installation_of s holds version)) x.depends) (sym w.same)
+            (All-nil (IsMet s.repository.architecture (installation_of s holds version)))
+        at n _ (installed_fresh x k f) =
+            subst (λ (x : Package). All (IsMet s.repository.architecture (installation_of s holds version)) x.depends) (sym f.same)
+            (All-nil (IsMet s.repository.architecture (installation_of s holds version)))
+
+    -- ---- conflicts
+
+    other-name : (o : ℕ) (q : Package) (name : List ℕ) → slice_get s.repository.packages o ≡ Some q → q.name ≢ name
+        → IsSomeAnd (option_map (λ (x : Package). x.name) (slice_get s.repository.packages o)) (λ n. n ≢ name)
+    other-name o q name is other =
+        let Differs : Option Package → Type 0 = λ x. IsSomeAnd (option_map (λ (y : Package). y.name) x) (λ n. n ≢ name) in
+        subst Differs (sym is) other
+
+    abbrev Rejects : Package → Package → Type 0
+    Rejects p n = Any (λ atom. Matches s.repository.architecture atom n) p.conflicts
+
+    old-rejects-old : (r o : ℕ) (p n : Package) → IsOld r p → IsOld o n → p.name ≢ n.name → ¬ Rejects p n
+    old-rejects-old r o p n a b names any =
+        let conflict : AreInConflict s.repository.architecture p n = record { different = λ same. names same.0; matched = inl any } in
+        elim (cases_lt r o) [
+          | inl less ↦ met.apart r p (Present o) a.is (slice_get_within s.repository.packages o n b.is)
+              (less, at-has (AreInConflict s.repository.architecture p) s.repository.packages o n b.is conflict) a.holds_is b.holds_is
+          | inr more ↦ elim (cases_lt o r) [
+            | inl less ↦
+                met.apart o n (Present r) b.is (slice_get_within s.repository.packages r p a.is)
+                (less, at-has (AreInConflict s.repository.architecture n) s.repository.packages r p a.is (conflict-back s.repository.architecture p n conflict))
+                b.holds_is a.holds_is
+            | inr also ↦
+                let one : r ≡ o = omega (arith, more, also) in
+                let here : slice_get s.repository.packages o ≡ Some p = ap (λ (k : ℕ). slice_get s.repository.packages k) (sym one) ∙ a.is in
+                let there = b.is in
+                let same : p ≡ n = cc in names (ap (λ (x : Package). x.name) same)
+          ]
+        ]
+
+    old-rejects-new : (r o k : ℕ) (p n : Package) → IsOld r p → IsNew o k n → IsMeaning s (New o k) → p.name ≢ n.name → ¬ Rejects p n
+    old-rejects-new r o k p n a b is_meaning names any =
+        let at = found-at (λ atom. Matches s.repository.architecture atom n) p.conflicts any in
+        let of = conflict-atom s r p at.place at.element a.is at.is at.holds.usable in
+        let other : b.q.name ≢ p.name = λ same. names (sym same ∙ sym (ap (λ (x : Package). x.name) b.same)) in
+        let matches : Matches s.repository.architecture at.element (new_version s holds version o k b.q) =
+        subst (λ (x : Package). Matches s.repository.architecture at.element x) b.same at.holds in
+        elim (to-new s o k b.q (member-of-class laws s space o k b.q b.is is_meaning.1) at.element of (new_version s holds version o k b.q) (kept_of o k b.q)
+        (new-of o k b.q is_meaning.1) (class-of-new o k b.q is_meaning.1) matches) [
+          | inl matched ↦
+              met.apart r p (New o k) a.is is_meaning (
+                other-name o b.q p.name b.is other,
+                any-at (λ atom. IsMatched s atom (New o k)) p.conflicts at.place at.element at.is matched,
+              ) a.holds_is b.holds_is
+          | inr kept ↦
+              let j = kept.0 in
+              met.apart r p (Kept o k j) a.is kept.1.1 (
+                other-name o b.q p.name b.is other,
+                any-at (λ atom. IsMatched s atom (Kept o k j)) p.conflicts at.place at.element at.is kept.1.2,
+              ) a.holds_is
+              (flag-at s.repository.architecture (λ i. holds (Kept o k i)) b.q.provides j kept.1.0)
+        ]
+
+    old-rejects-fresh : (r x k : ℕ) (p n : Package) → IsOld r p → IsFreshPackage x k n → IsMeaning s (Fresh x k) → p.name ≢ n.name → ¬ Rejects p n
+    old-rejects-fresh r x k p n a f is_meaning names any =
+        let at = found-at (λ atom. Matches s.repository.architecture atom n) p.conflicts any in
+        let of = conflict-atom s r p at.place at.element a.is at.is at.holds.usable in
+        let example = space.frame.name_examples x k is_meaning in
+        let matches : Matches s.repository.architecture at.element (fresh_package f.name (example_at (fresh_classes s x) k)) =
+        subst (λ (y : Package). Matches s.repository.architecture at.element y) f.same at.holds in
+        let matched = to-fresh s x k f.name (fresh-at laws s space.frame x k f.name f.is is_meaning) at.element of
+        (fresh_package f.name (example_at (fresh_classes s x) k)) (fresh-new f.name (example_at (fresh_classes s x) k) example.0) example.1 matches in
+        let other : f.name ≢ p.name = λ same. names (sym same ∙ sym (ap (λ (y : Package). y.name) f.same)) in
+        met.apart r p (Fresh x k) a.is is_meaning (
+          at-has (λ (n : List ℕ). n ≢ p.name) s.names x f.name f.is other,
+          any-at (λ atom. IsMatched s atom (Fresh x k)) p.conflicts at.place at.element at.is matched,
+        ) a.holds_is f.holds_is
+
+    nothing-rejected : (p n : Package) → p.conflicts ≡ [] → ¬ Rejects p n
+    nothing-rejected p n none any = let there = subst (λ (xs : List Atom). Any (λ atom. Matches s.repository.architecture atom n) xs) none any in
+        omega (arith, there.2)
+
+    never-rejects : (p n : Package) (a b : Meaning) → Installed p a → Installed n b → IsMeaning s b → p.name ≢ n.name → ¬ Rejects p n
+    never-rejects p n _ _ (installed_old r u) (installed_old o v) is_meaning names = old-rejects-old r o p n u v names
+    never-rejects p n _ _ (installed_old r u) (installed_new o k v) is_meaning names = old-rejects-new r o k p n u v is_meaning names
+    never-rejects p n _ _ (installed_old r u) (installed_fresh x k f) is_meaning names = old-rejects-fresh r x k p n u f is_meaning names
+    never-rejects p n _ b (installed_new r k u) other is_meaning names = nothing-rejected p n (ap (λ (x : Package). x.conflicts) u.same)
+    never-rejects p n _ b (installed_fresh x k f) other is_meaning names = nothing-rejected p n (ap (λ (x : Package). x.conflicts) f.same)
+
+    no-conflict : (p n : Package) → Contains (installation_of s holds version) p → Contains (installation_of s holds version) n → p.name ≢ n.name
+        → ¬ AreInConflict s.repository.architecture p n
+    no-conflict p n first second names conflict =
+        let a = member-given p first in
+        let b = member-given n second in
+        elim conflict.matched [
+          | inl any ↦ never-rejects p n a.meaning b.meaning a.given b.given b.is_meaning names any
+          | inr any ↦ never-rejects n p b.meaning a.meaning b.given a.given a.is_meaning (λ same. names (sym same)) any
+        ]
+
+    -- ---- required names
+
+    bears : (name : List ℕ) (m : Meaning) → IsMeaning s m → holds m ≡ true → IsBearer s name m
+        → Any (λ (p : Package). p.name ≡ name) (installation_of s holds version)
+    bears name Now is_meaning true_is bearer = absurd bearer
+    bears name (At c k) is_meaning true_is bearer = absurd bearer
+    bears name (Kept r k j) is_meaning true_is bearer = absurd bearer
+    bears name (Fresh x k) is_meaning true_is bearer = absurd bearer
+    bears name (Present r) is_meaning true_is bearer =
+        let q = here-at (λ (p : Package). p.name ≡ name) s.repository.packages r bearer in
+        any-contained (λ (p : Package). p.name ≡ name) (installation_of s holds version) q.element (old-member r q.element q.is true_is) q.holds
+    bears name (New r k) is_meaning true_is bearer =
+        let q = here-at (λ (p : Package). p.name ≡ name) s.repository.packages r bearer in
+        any-contained (λ (p : Package). p.name ≡ name) (installation_of s holds version) (new_version s holds version r k q.element)
+        (new-member r k q.element q.is is_meaning true_is) q.holds
+
+    pub healthy-is : IsInstallationOf s.essential s.repository (future_of s holds version) (installation_of s holds version)
+    healthy-is = record {
+      chosen = all-contained (Contains (future_of s holds version)) (installation_of s holds version) member-in-future;
+      one_of_a_name = members-flat;
+      met = all-met;
+      no_conflict = pairs-more (λ (p q : Package). p.name ≢ q.name) (λ p q. ¬ AreInConflict s.repository.architecture p q) (installation_of s holds version)
+          no-conflict members-flat;
+      has_required = all-contained (λ name. Any (λ (p : Package). p.name ≡ name) (installation_of s holds version))
+          (required_names s.essential s.repository.packages)
+          (λ name there. let some = met.required name there in bears name some.meaning some.is_meaning some.holds some.has);
+    }
+
+    -- ---- the archive of today
+
+    pub today-is : holds Now ≡ true → IsInstallation s.essential s.repository (installation_of s holds version)
+    today-is now = record {
+      chosen = all-contained (Contains s.repository.packages) (installation_of s holds version)
+          (λ n there. let g = member-given n there in at n g.meaning g.is_meaning g.given);
+      one_of_a_name = healthy-is.one_of_a_name;
+      met = healthy-is.met;
+      no_conflict = healthy-is.no_conflict;
+      has_required = healthy-is.has_required;
+    }
+      where
+        at : (n : Package) (m : Meaning) → IsMeaning s m → Installed n m → Contains s.repository.packages n
+        at n _ is_meaning (installed_old r o) = contains-at s.repository.packages r n o.is
+        at n _ is_meaning (installed_new r k w) =
+            absurd (futures.stays (slice_index s.cluster_of r) k is_meaning.1 now (futures.moved r k is_meaning w.holds_is))
+        at n _ is_meaning (installed_fresh x k f) = absurd (futures.absent x k is_meaning now f.holds_is)

@@ -199,11 +199,11 @@ module _ (laws : ClassLaws) (s : SpaceView) (space : IsSpace s) where
         let present : holds (Present n) ≡ true = All-head (IsTrueMeaning s has.values) (Present n) [] has.true_meanings in
         record {
           future = future_of s holds example_version;
-          is_future = future-is laws s space holds example_version space.frame.examples met;
+          is_future = future-is laws s space holds example_version space.frame.examples met.future;
           installable = record {
             members = installation_of s holds example_version;
-            healthy = healthy-is laws s space holds example_version space.frame.examples met;
-            holds = old-member laws s space holds example_version space.frame.examples met n p is present;
+            healthy = healthy-is laws s space holds example_version space.frame.examples met.future met;
+            holds = old-member laws s space holds example_version space.frame.examples met.future n p is present;
           };
         }
 
@@ -217,8 +217,8 @@ module _ (laws : ClassLaws) (s : SpaceView) (space : IsSpace s) where
         (All-tail (IsTrueMeaning s has.values) Now (Present n ∷ []) has.true_meanings) in
         record {
           members = installation_of s holds example_version;
-          healthy = today-is laws s space holds example_version space.frame.examples met now;
-          holds = old-member laws s space holds example_version space.frame.examples met n p is present;
+          healthy = today-is laws s space holds example_version space.frame.examples met.future met now;
+          holds = old-member laws s space holds example_version space.frame.examples met.future n p is present;
         }
 
     -- the version that is asked for at one class, and examples at the others
@@ -272,13 +272,13 @@ module _ (laws : ClassLaws) (s : SpaceView) (space : IsSpace s) where
           let short = within-from (λ x. IsOfClass x version) (cluster_classes s c) k class in
           record {
             future = future_of s holds version_for;
-            is_future = future-is laws s space holds version_for versions met;
+            is_future = future-is laws s space holds version_for versions met.future;
             holds = subst (λ (v : List ℕ). HoldsCluster s.repository (future_of s holds version_for) q v) version-asked
-                (holds-cluster laws s space holds version_for versions met c k m q (placed-in s space.frame c m is_in) is_q short at);
+                (holds-cluster laws s space holds version_for versions met.future c k m q (placed-in s space.frame c m is_in) is_q short at);
             installable = record {
               members = installation_of s holds version_for;
-              healthy = healthy-is laws s space holds version_for versions met;
-              holds = old-member laws s space holds version_for versions met n p is present;
+              healthy = healthy-is laws s space holds version_for versions met.future met;
+              holds = old-member laws s space holds version_for versions met.future n p is present;
             };
           }
 
@@ -294,6 +294,6 @@ module _ (laws : ClassLaws) (s : SpaceView) (space : IsSpace s) where
     stands-for-future values model =
         let met = met-from-model s values clauses are model in
         record {
-          is_future = future-is laws s space (holds_under s values) (examples_of s) space.frame.examples met;
-          healthy = healthy-is laws s space (holds_under s values) (examples_of s) space.frame.examples met;
+          is_future = future-is laws s space (holds_under s values) (examples_of s) space.frame.examples met.future;
+          healthy = healthy-is laws s space (holds_under s values) (examples_of s) space.frame.examples met.future met;
         }

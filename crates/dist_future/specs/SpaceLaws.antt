@@ -40,8 +40,14 @@ holds_under s values m = value_of values (variable_of s m)
 abbrev pub examples_of : SpaceView → ℕ → ℕ → List ℕ
 examples_of s c k = example_at (cluster_classes s c) k
 
+-- the future that an assignment stands for, and the installation in it: new versions of a class are at its example
+abbrev pub future_under : SpaceView → List Bool → List Package
+future_under s values = future_of s (holds_under s values) (examples_of s)
+
+abbrev pub installation_under : SpaceView → List Bool → List Package
+installation_under s values = installation_of s (holds_under s values) (examples_of s)
+
 -- The future and the installation that an assignment stands for are one, and a healthy installation in it.
 pub record StandsForFuture (s : SpaceView) (values : List Bool) : Type 0 where
-  pub is_future : IsFuture s.repository (future_of s (holds_under s values) (examples_of s))
-  pub healthy : IsInstallationOf s.essential s.repository (future_of s (holds_under s values) (examples_of s))
-      (installation_of s (holds_under s values) (examples_of s))
+  pub is_future : IsFuture s.repository (future_under s values)
+  pub healthy : IsInstallationOf s.essential s.repository (future_under s values) (installation_under s values)

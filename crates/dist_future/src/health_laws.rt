@@ -2,12 +2,13 @@
 ghost use Rattle.std.specs.Prelude.{◌≡◌, ◌↔◌, Bool, List};
 ghost use Rattle.dist_clause.specs.Formula.{IsModel, Literal, value_of};
 ghost use Rattle.dist_base.specs.Least.{IsNoPair};
+ghost use Rattle.dist_future.specs.Future.{IsFuture};
 ghost use Rattle.dist_future.specs.FutureClauses.{MeetsFuture};
 ghost use Rattle.dist_future.specs.FutureHealth.{AreNoFuture, IsFutureHealth};
 ghost use Rattle.dist_future.specs.HealthLaws.{IsHealthyIn, StandsForHealthy};
 ghost use Rattle.dist_space.specs.Space.{IsSpace, SpaceView};
 ghost use Rattle.dist_space_clauses.specs.SpaceClauses.{AreSpaceClauses};
-ghost use Rattle.dist_future.specs.SpaceLaws.{StandsForFuture};
+ghost use Rattle.dist_future.specs.SpaceLaws.{StandsForFuture, future_under};
 ghost use Rattle.dist_future.specs.declared.health_kind.FutureHealth.{FutureHealth};
 
 use dist_classes::{new_names_match_alike, new_versions_match_alike, versions_are_in_one_class};
@@ -36,7 +37,12 @@ pub fn healthy_stand_for_futures()
 }
 
 /// An assignment stands for a future exactly where it makes each clause of the demands of futures true: those of the groups 1,
-/// 2, 3 and 6.
+/// 2, 3 and 6. The packages that it then stands for are a future.
 pub fn futures_meet_their_clauses()
-    ensures { (s : SpaceView) (values : List Bool) → IsNoPair (AreNoFuture s values) ↔ MeetsFuture s values }
-{}
+    ensures exactly { (s : SpaceView) (values : List Bool) → IsNoPair (AreNoFuture s values) ↔ MeetsFuture s values }
+    ensures future { (s : SpaceView) (values : List Bool) → IsSpace s → MeetsFuture s values → IsFuture s.repository (future_under s values) }
+{
+    versions_are_in_one_class();
+    new_versions_match_alike();
+    new_names_match_alike();
+}

@@ -1,17 +1,20 @@
 -- Pairs of numbers of packages of which one rejects the other.
 use Rattle.std.proofs.Common.{◌≡◌, ◌↔◌, ℕ, ◌<◌, ◌≤◌, List, [], ◌∷◌, ◌++◌, length, get_or, sym, ap, subst, ◌∙◌, arith, inl, inr, Some, slice_get}
-use Rattle.std.specs.Prelude.{Contains, IsSomeAnd}
+use Rattle.std.specs.Prelude.{Any, Contains, IsSomeAnd}
 use Rattle.std.proofs.lemmas.Bool.{cases_lt}
 use Rattle.std.proofs.lemmas.List.{get_or_default}
 use Rattle.std.proofs.lemmas.Option.{slice_get-get_or}
-use Rattle.dist_base.specs.ListLaws.{any-at, at-has, at-more, element-is, has-at, some-element, within-from}
+use Rattle.dist_base.specs.ListLaws.{any-at, at-has, at-more, element-is, found-at, has-at, here-at, some-element, within-from}
 use Rattle.dist_relation.specs.declared.atom.Atom.{Atom}
 use Rattle.dist_repo.specs.Match.{IsUsable, Matches}
+use Rattle.dist_repo.specs.Offers.{AreMatched}
 use Rattle.dist_repo.specs.PackageList.{PackageList, IsPackageAnd}
 use Rattle.dist_repo.specs.Providers.{AreProviders}
+use Rattle.dist_repo.specs.declared.offers.Offer.{Offer}
 use Rattle.dist_repo.specs.declared.package.Package.{Package}
-use Rattle.dist_now.specs.GatheringPrivate.{Adds, IsPairIn, IsPairOf, IsPairWithin, IsPairWith, IsRejectingPair, Rejects}
+use Rattle.dist_now.specs.GatheringPrivate.{Adds, IsPairFor, IsPairIn, IsPairOf, IsPairWithin, IsPairWith, IsRejectingPair, Rejects}
 use Rattle.dist_now.proofs.AddsLemmas.{UpTo, AddsUpTo, adds-exact, adds-nothing, adds-one, adds-same}
+use Rattle.dist_now.proofs.MatchedLemmas.{matched-at}
 use Rattle.dist_now.proofs.MemberLemmas.{matched-provides}
 
 -- ---- the pairs of a package and those that an atom matches
@@ -35,23 +38,26 @@ never-itself n pair is = elim is.are [
   | inr h ↦ let less = is.rising in omega (arith, h.0, h.1)
 ]
 
-pub pair-added : (r : PackageList) (start end number other : ℕ) (P : Package → Type 0) (pairs : List (ℕ × ℕ)) (pair : ℕ × ℕ)
-    → IsPairOf number other pair → IsPairIn start end pair → IsPackageAnd r.packages other P
-    → Adds pairs (pairs ++ pair ∷ []) (IsPairWithin r start end number other P)
-pair-added r start end number other P pairs pair is_pair is_in here =
-    adds-one pairs pair (IsPairWithin r start end number other P) (record { is_pair = is_pair; is_in = is_in; has = here })
-    (λ x at. one-pair number other pair x is_pair at.is_pair)
+pub pair-added : (start end number other : ℕ) (pairs : List (ℕ × ℕ)) (pair : ℕ × ℕ) → IsPairOf number other pair → IsPairIn start end pair
+    → Adds pairs (pairs ++ pair ∷ []) (IsPairFor start end number other)
+pair-added start end number other pairs pair is_pair is_in =
+    adds-one pairs pair (IsPairFor start end number other) (is_pair, is_in) (λ x at. one-pair number other pair x is_pair at.0)
 
-pub pair-itself : (r : PackageList) (start end number other : ℕ) (P : Package → Type 0) (pairs : List (ℕ × ℕ)) → other ≡ number
-    → Adds pairs pairs (IsPairWithin r start end number other P)
-pair-itself r start end number other P pairs same =
-    adds-nothing pairs (IsPairWithin r start end number other P) (λ x at. never-itself number x (subst (λ (k : ℕ). IsPairOf number k x) same at.is_pair))
+pub pair-itself : (start end number other : ℕ) (pairs : List (ℕ × ℕ)) → other ≡ number → Adds pairs pairs (IsPairFor start end number other)
+pair-itself start end number other pairs same =
+    adds-nothing pairs (IsPairFor start end number other) (λ x at. never-itself number x (subst (λ (k : ℕ). IsPairOf number k x) same at.0))
 
-pub pair-not-in : (r : PackageList) (start end number other : ℕ) (P : Package → Type 0) (pairs : List (ℕ × ℕ)) (pair : ℕ × ℕ) → IsPairOf number other pair
-    → ¬ IsPairIn start end pair → Adds pairs pairs (IsPairWithin r start end number other P)
-pair-not-in r start end number other P pairs pair is_pair outside =
-    adds-nothing pairs (IsPairWithin r start end number other P)
-    (λ x at. outside (subst (IsPairIn start end) (sym (one-pair number other pair x is_pair at.is_pair)) at.is_in))
+pub pair-not-in : (start end number other : ℕ) (pairs : List (ℕ × ℕ)) (pair : ℕ × ℕ) → IsPairOf number other pair → ¬ IsPairIn start end pair
+    → Adds pairs pairs (IsPairFor start end number other)
+pair-not-in start end number other pairs pair is_pair outside =
+    adds-nothing pairs (IsPairFor start end number other)
+    (λ x at. outside (subst (IsPairIn start end) (sym (one-pair number other pair x is_pair at.0)) at.1))
+
+pub pair-matched : (r : PackageList) (start end number other : ℕ) (P : Package → Type 0) (old new : List (ℕ × ℕ)) → IsPackageAnd r.packages other P
+    → Adds old new (IsPairFor start end number other) → Adds old new (IsPairWithin r start end number other P)
+pair-matched r start end number other P old new here adds =
+    adds-same old new (IsPairFor start end number other) (IsPairWithin r start end number other P)
+    (λ x at. record { is_pair = at.0; is_in = at.1; has = here }) (λ x at. (at.is_pair, at.is_in)) adds
 
 pub pair-not : (r : PackageList) (start end number other : ℕ) (P : Package → Type 0) (pairs : List (ℕ × ℕ)) → ¬ IsPackageAnd r.packages other P
     → Adds pairs pairs (IsPairWithin r start end number other P)
@@ -116,6 +122,54 @@ pairs-none r start end number atom pairs none =
     adds-nothing pairs (IsWith r start end number P)
     (λ x both. let with = both.1 in
     none (has-at P r.packages with.other _ (element-is P r.packages with.other with.has) with.has).usable)
+
+-- ---- the pairs of a package and those of some offers
+
+-- the pair with the offer at a place
+abbrev pub IsOfferPairAt : (start end number : ℕ) (offers : List Offer) → ℕ → ℕ × ℕ → Type 0
+IsOfferPairAt start end number offers i pair = IsSomeAnd (slice_get offers i) (λ offer. IsPairFor start end number offer.number pair)
+
+-- the pair with one of them
+abbrev pub IsOfferPair : (start end number : ℕ) (offers : List Offer) → ℕ × ℕ → Type 0
+IsOfferPair start end number offers pair = Any (λ offer. IsPairFor start end number offer.number pair) offers
+
+pub offer-pair : (start end number : ℕ) (offers : List Offer) (i : ℕ) (offer : Offer) (old new : List (ℕ × ℕ)) → slice_get offers i ≡ Some offer
+    → Adds old new (IsPairFor start end number offer.number) → Adds old new (IsOfferPairAt start end number offers i)
+offer-pair start end number offers i offer old new is adds =
+    adds-same old new (IsPairFor start end number offer.number) (IsOfferPairAt start end number offers i)
+    (λ x here. at-has (λ (o : Offer). IsPairFor start end number o.number x) offers i offer is here)
+    (λ x here. has-at (λ (o : Offer). IsPairFor start end number o.number x) offers i offer is here) adds
+
+pub offer-pairs-all : (start end number : ℕ) (offers : List Offer) (count : ℕ) (old new : List (ℕ × ℕ)) → length offers ≤ count
+    → AddsUpTo old new (IsOfferPairAt start end number offers) count → Adds old new (IsOfferPair start end number offers)
+offer-pairs-all start end number offers count old new past adds =
+    adds-same old new (UpTo (IsOfferPairAt start end number offers) count) (IsOfferPair start end number offers)
+    (λ x up.
+    let At : Offer → Type 0 = λ o. IsPairFor start end number o.number x in
+    let at = here-at At offers up.0 up.2 in
+    any-at At offers up.0 at.element at.is at.holds)
+    (λ x any.
+    let At : Offer → Type 0 = λ o. IsPairFor start end number o.number x in
+    let at = found-at At offers any in
+    let there = at-has At offers at.place at.element at.is at.holds in
+    (at.place, omega (arith, within-from At offers at.place there, past), there))
+    adds
+
+pub offered-pairs : (r : PackageList) (start end number : ℕ) (atom : Atom) (offers : List Offer) (old new : List (ℕ × ℕ)) → AreMatched r atom offers
+    → Adds old new (IsOfferPair start end number offers) → Adds old new (IsWith r start end number (Matches r.architecture atom))
+offered-pairs r start end number atom offers old new are adds =
+    adds-same old new (IsOfferPair start end number offers) (IsWith r start end number (Matches r.architecture atom))
+    (λ x any.
+    let at = found-at (λ (o : Offer). IsPairFor start end number o.number x) offers any in (
+      at.holds.1,
+      record { other = at.element.number; is_pair = at.holds.0; has = matched-at r atom offers are at.place at.element at.is },
+    ))
+    (λ x both.
+    let with = both.1 in
+    let at = found-at (λ (o : Offer). o.number ≡ with.other) offers ((are with.other).1 with.has) in
+    any-at (λ (o : Offer). IsPairFor start end number o.number x) offers at.place at.element at.is
+    (subst (λ (k : ℕ). IsPairOf number k x) (sym at.holds) with.is_pair, both.0))
+    adds
 
 -- ---- the pairs of a package and those that it rejects
 

@@ -1,26 +1,26 @@
 -- The least member that the conflict atoms of another one match.
-use Rattle.std.proofs.Common.{◌≡◌, ◌⊎◌, ℕ, ◌+◌, ◌<◌, ◌≤◌, Bool, true, List, length, get_or, Some, None, Option, refl, sym, ap, ◌∙◌, subst, arith, inl, inr}
+use Rattle.std.proofs.Common.{◌≡◌, ◌⊎◌, ℕ, ◌+◌, ◌≤◌, Bool, true, List, length, get_or, Some, None, Option, refl, sym, ap, ◌∙◌, subst, arith, inl, inr}
 use Rattle.std.proofs.Common.{slice_get}
 use Rattle.std.specs.Prelude.{Contains, IsSomeAnd}
 use Rattle.std.proofs.lemmas.Bool.{cases_lt}
 use Rattle.std.proofs.lemmas.List.{get_or_default}
 use Rattle.std.proofs.lemmas.List.Kept.{AllPairs-from_increasing}
 use Rattle.dist_base.specs.Least.{IsLeast, IsLeastIfAny}
-use Rattle.dist_base.specs.ListLaws.{at-has, at-weaker, element-is, has-at, some-element}
+use Rattle.dist_base.specs.ListLaws.{at-has, at-weaker, element-is, found-at, has-at, some-element, within-from}
 use Rattle.dist_relation.specs.declared.atom.Atom.{Atom}
 use Rattle.dist_repo.specs.Match.{Matches}
+use Rattle.dist_repo.specs.Offers.{AreMatched}
 use Rattle.dist_repo.specs.PackageList.{PackageList}
 use Rattle.dist_repo.specs.Providers.{AreProviders, IsProvider}
+use Rattle.dist_repo.specs.declared.offers.Offer.{Offer}
 use Rattle.dist_repo.specs.declared.package.Package.{Package}
-use Rattle.dist_now.specs.RejectedPrivate.{IsRejected, IsRejectedBy}
+use Rattle.dist_now.specs.RejectedPrivate.{IsNoneRejected, IsOtherMember, IsRejected, IsRejectedBy}
+use Rattle.dist_now.proofs.AddsLemmas.{UpTo}
+use Rattle.dist_now.proofs.MatchedLemmas.{IsNumberAt, matched-at}
 use Rattle.dist_now.proofs.MemberLemmas.{matched-provides}
 use Rattle.std.proofs.lemmas.Option.{slice_get_within}
 
 -- ---- one atom
-
--- no provider so far is rejected
-abbrev pub IsNoneRejected : PackageList → List Bool → ℕ → Atom → List ℕ → ℕ → Type 0
-IsNoneRejected r flags number atom providers count = (k : ℕ) → k < count → ¬ IsRejectedBy r flags number atom (get_or providers k 0)
 
 -- a member that the atom matches is among the providers of its name
 provider-place : (r : PackageList) (flags : List Bool) (number : ℕ) (atom : Atom) (providers : List ℕ) → AreProviders r atom.name providers → (n : ℕ)
@@ -57,70 +57,55 @@ least-rejected r flags number atom providers index are none here = record {
       ];
 }
 
--- ---- the atoms of one package, as far as they were gone through
+-- ---- the least so far
 
-abbrev pub IsRejectedBefore : PackageList → List Bool → ℕ → List Atom → ℕ → ℕ → Type 0
-IsRejectedBefore r flags number atoms count k = (place : ℕ) × (place < count) × IsSomeAnd (slice_get atoms place) (λ atom. IsRejectedBy r flags number atom k)
-
-before-split : (r : PackageList) (flags : List Bool) (number : ℕ) (atoms : List Atom) (count : ℕ) (atom : Atom) → slice_get atoms count ≡ Some atom → (k : ℕ)
-    → IsRejectedBefore r flags number atoms (count + 1) k → IsRejectedBefore r flags number atoms count k ⊎ IsRejectedBy r flags number atom k
-before-split r flags number atoms count atom is k before =
-    elim (cases_lt before.0 count) [
-      | inl h ↦ inl (before.0, h, before.2)
-      | inr h ↦ let same : before.0 ≡ count = omega (arith, before.1) in
-          let By : Atom → Type 0 = λ a. IsRejectedBy r flags number a k in
-          inr (has-at By atoms before.0 atom (ap (λ (i : ℕ). slice_get atoms i) same ∙ is) before.2)
+up-split : (P : ℕ → ℕ → Type 0) (count n : ℕ) → UpTo P (count + 1) n → UpTo P count n ⊎ P count n
+up-split P count n up =
+    elim (cases_lt up.0 count) [
+      | inl h ↦ inl (up.0, h, up.2)
+      | inr h ↦ let same : up.0 ≡ count = omega (arith, up.1) in inr (subst (λ (i : ℕ). P i n) same up.2)
     ]
 
-before-wider : (r : PackageList) (flags : List Bool) (number : ℕ) (atoms : List Atom) (count k : ℕ) → IsRejectedBefore r flags number atoms count k
-    → IsRejectedBefore r flags number atoms (count + 1) k
-before-wider r flags number atoms count k before = (before.0, omega (arith, before.1), before.2)
+up-wider : (P : ℕ → ℕ → Type 0) (count n : ℕ) → UpTo P count n → UpTo P (count + 1) n
+up-wider P count n up = (up.0, omega (arith, up.1), up.2)
 
-before-here : (r : PackageList) (flags : List Bool) (number : ℕ) (atoms : List Atom) (count : ℕ) (atom : Atom) (k : ℕ) → slice_get atoms count ≡ Some atom
-    → IsRejectedBy r flags number atom k
-    → IsRejectedBefore r flags number atoms (count + 1) k
-before-here r flags number atoms count atom k is rejected =
-    let By : Atom → Type 0 = λ a. IsRejectedBy r flags number a k in (count, omega arith, at-has By atoms count atom is rejected)
+up-here : (P : ℕ → ℕ → Type 0) (count n : ℕ) → P count n → UpTo P (count + 1) n
+up-here P count n here = (count, omega arith, here)
 
-pub before-none : (r : PackageList) (flags : List Bool) (number : ℕ) (atoms : List Atom) (count : ℕ) (atom : Atom) (least : Option ℕ)
-    → slice_get atoms count ≡ Some atom
-    → IsLeastIfAny (IsRejectedBefore r flags number atoms count) least → ((n : ℕ) → ¬ IsRejectedBy r flags number atom n)
-    → IsLeastIfAny (IsRejectedBefore r flags number atoms (count + 1)) least
-before-none r flags number atoms count atom None is none here =
-    λ n before. elim (before-split r flags number atoms count atom is n before) [
+pub least-none : (P : ℕ → ℕ → Type 0) (count : ℕ) (least : Option ℕ) → IsLeastIfAny (UpTo P count) least → ((n : ℕ) → ¬ P count n)
+    → IsLeastIfAny (UpTo P (count + 1)) least
+least-none P count None none here =
+    λ n up. elim (up-split P count n up) [
       | inl h ↦ none n h
       | inr h ↦ here n h
     ]
-before-none r flags number atoms count atom (Some m) is least here = record {
-  holds = before-wider r flags number atoms count m least.holds;
-  least = λ n before. elim (before-split r flags number atoms count atom is n before) [
+least-none P count (Some m) least here = record {
+  holds = up-wider P count m least.holds;
+  least = λ n up. elim (up-split P count n up) [
     | inl h ↦ least.least n h
     | inr h ↦ absurd (here n h)
   ];
 }
 
-pub before-some : (r : PackageList) (flags : List Bool) (number : ℕ) (atoms : List Atom) (count : ℕ) (atom : Atom) (least : Option ℕ) (other lesser : ℕ)
-    → slice_get atoms count ≡ Some atom
-    → IsLeastIfAny (IsRejectedBefore r flags number atoms count) least → IsLeast (IsRejectedBy r flags number atom) other
+pub least-some : (P : ℕ → ℕ → Type 0) (count : ℕ) (least : Option ℕ) (other lesser : ℕ) → IsLeastIfAny (UpTo P count) least → IsLeast (P count) other
     → (least ≡ Some lesser) ⊎ (lesser ≡ other) → lesser ≤ other → ((n : ℕ) → least ≡ Some n → lesser ≤ n)
-    → IsLeast (IsRejectedBefore r flags number atoms (count + 1)) lesser
-before-some r flags number atoms count atom None other lesser is none here one at_most_other at_most_least = record {
+    → IsLeast (UpTo P (count + 1)) lesser
+least-some P count None other lesser none here one at_most_other at_most_least = record {
   holds = elim one [
     | inl h ↦ cc
-    | inr h ↦ let Of : ℕ → Type 0 = λ k. IsRejectedBefore r flags number atoms (count + 1) k in
-        subst Of (sym h) (before-here r flags number atoms count atom other is here.holds)
+    | inr h ↦ subst (UpTo P (count + 1)) (sym h) (up-here P count other here.holds)
   ];
-  least = λ n before. elim (before-split r flags number atoms count atom is n before) [
+  least = λ n up. elim (up-split P count n up) [
     | inl h ↦ absurd (none n h)
     | inr h ↦ omega (arith, at_most_other, here.least n h)
   ];
 }
-before-some r flags number atoms count atom (Some m) other lesser is least here one at_most_other at_most_least = record {
-  holds = let Of : ℕ → Type 0 = λ k. IsRejectedBefore r flags number atoms (count + 1) k in elim one [
-    | inl h ↦ let same : m ≡ lesser = cc in subst Of same (before-wider r flags number atoms count m least.holds)
-    | inr h ↦ subst Of (sym h) (before-here r flags number atoms count atom other is here.holds)
+least-some P count (Some m) other lesser least here one at_most_other at_most_least = record {
+  holds = elim one [
+    | inl h ↦ let same : m ≡ lesser = cc in subst (UpTo P (count + 1)) same (up-wider P count m least.holds)
+    | inr h ↦ subst (UpTo P (count + 1)) (sym h) (up-here P count other here.holds)
   ];
-  least = λ n before. elim (before-split r flags number atoms count atom is n before) [
+  least = λ n up. elim (up-split P count n up) [
     | inl h ↦ omega (arith, at_most_least m refl, least.least n h)
     | inr h ↦ omega (arith, at_most_other, here.least n h)
   ];
@@ -129,6 +114,69 @@ before-some r flags number atoms count atom (Some m) other lesser is least here 
 least-same : (P Q : ℕ → Type 0) → ((n : ℕ) → P n → Q n) → ((n : ℕ) → Q n → P n) → (found : Option ℕ) → IsLeastIfAny P found → IsLeastIfAny Q found
 least-same P Q to from None none = λ n holds. none n (from n holds)
 least-same P Q to from (Some m) least = record { holds = to m least.holds; least = λ n holds. least.least n (from n holds) }
+
+-- ---- the offers that an atom matches, as far as they were gone through
+
+-- the offer at a place is of another member that the atom matches
+abbrev pub IsOfferedAt : PackageList → List Bool → ℕ → Atom → List Offer → ℕ → ℕ → Type 0
+IsOfferedAt r flags number atom offers i n = IsNumberAt offers i n × IsRejectedBy r flags number atom n
+
+module _ (r : PackageList) (flags : List Bool) (number : ℕ) (atom : Atom) (offers : List Offer) where
+  pub offered-not : (i : ℕ) (offer : Offer) → slice_get offers i ≡ Some offer → ¬ IsOtherMember flags number offer.number
+      → (n : ℕ) → ¬ IsOfferedAt r flags number atom offers i n
+  offered-not i offer is none n at =
+      let same : offer.number ≡ n = has-at (λ (o : Offer). o.number ≡ n) offers i offer is at.0 in
+      none (subst (IsOtherMember flags number) (sym same) (at.1.0, at.1.1.member))
+
+  pub offered-one : AreMatched r atom offers → (i : ℕ) (offer : Offer) → slice_get offers i ≡ Some offer → IsOtherMember flags number offer.number
+      → IsLeast (IsOfferedAt r flags number atom offers i) offer.number
+  offered-one are i offer is other = record {
+    holds = (
+      at-has (λ (o : Offer). o.number ≡ offer.number) offers i offer is refl,
+      (other.0, record { member = other.1; has = matched-at r atom offers are i offer is }),
+    );
+    least = λ n at. let same : offer.number ≡ n = has-at (λ (o : Offer). o.number ≡ n) offers i offer is at.0 in omega (arith, same);
+  }
+
+  pub offered-all : AreMatched r atom offers → (count : ℕ) (found : Option ℕ) → length offers ≤ count
+      → IsLeastIfAny (UpTo (IsOfferedAt r flags number atom offers) count) found → IsLeastIfAny (IsRejectedBy r flags number atom) found
+  offered-all are count found past least =
+      least-same (UpTo (IsOfferedAt r flags number atom offers) count) (IsRejectedBy r flags number atom)
+      (λ n up. up.2.1)
+      (λ n rejected.
+      let At : Offer → Type 0 = λ o. o.number ≡ n in
+      let at = found-at At offers ((are n).1 rejected.1.has) in
+      let there = at-has At offers at.place at.element at.is at.holds in
+      (at.place, omega (arith, within-from At offers at.place there, past), (there, rejected)))
+      found least
+
+-- ---- the atoms of one package, as far as they were gone through
+
+-- the atom at a place matches another member
+abbrev pub IsRejectedAt : PackageList → List Bool → ℕ → List Atom → ℕ → ℕ → Type 0
+IsRejectedAt r flags number atoms place k = IsSomeAnd (slice_get atoms place) (λ atom. IsRejectedBy r flags number atom k)
+
+abbrev pub IsRejectedBefore : PackageList → List Bool → ℕ → List Atom → ℕ → ℕ → Type 0
+IsRejectedBefore r flags number atoms = UpTo (IsRejectedAt r flags number atoms)
+
+pub before-none : (r : PackageList) (flags : List Bool) (number : ℕ) (atoms : List Atom) (count : ℕ) (atom : Atom) (least : Option ℕ)
+    → slice_get atoms count ≡ Some atom
+    → IsLeastIfAny (IsRejectedBefore r flags number atoms count) least → ((n : ℕ) → ¬ IsRejectedBy r flags number atom n)
+    → IsLeastIfAny (IsRejectedBefore r flags number atoms (count + 1)) least
+before-none r flags number atoms count atom least is before here =
+    least-none (IsRejectedAt r flags number atoms) count least before
+    (λ n at. here n (has-at (λ (a : Atom). IsRejectedBy r flags number a n) atoms count atom is at))
+
+pub before-some : (r : PackageList) (flags : List Bool) (number : ℕ) (atoms : List Atom) (count : ℕ) (atom : Atom) (least : Option ℕ) (other lesser : ℕ)
+    → slice_get atoms count ≡ Some atom
+    → IsLeastIfAny (IsRejectedBefore r flags number atoms count) least → IsLeast (IsRejectedBy r flags number atom) other
+    → (least ≡ Some lesser) ⊎ (lesser ≡ other) → lesser ≤ other → ((n : ℕ) → least ≡ Some n → lesser ≤ n)
+    → IsLeast (IsRejectedBefore r flags number atoms (count + 1)) lesser
+before-some r flags number atoms count atom least other lesser is before here one at_most_other at_most_least =
+    least-some (IsRejectedAt r flags number atoms) count least other lesser before (record {
+      holds = at-has (λ (a : Atom). IsRejectedBy r flags number a other) atoms count atom is here.holds;
+      least = λ n at. here.least n (has-at (λ (a : Atom). IsRejectedBy r flags number a n) atoms count atom is at);
+    }) one at_most_other at_most_least
 
 -- all atoms of a member were gone through
 pub rejected-all : (r : PackageList) (flags : List Bool) (number : ℕ) (p : Package) (count : ℕ) (found : Option ℕ) → slice_get r.packages number ≡ Some p

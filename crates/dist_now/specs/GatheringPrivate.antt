@@ -35,6 +35,10 @@ pub record IsPairWith (r : PackageList) (n : ℕ) (P : Package → Type 0) (pair
 abbrev pub IsPairIn : (start end : ℕ) → ℕ × ℕ → Type 0
 IsPairIn start end pair = (start ≤ pair.0) × (pair.0 < end)
 
+-- such a pair of two numbers
+abbrev pub IsPairFor : (start end number other : ℕ) → ℕ × ℕ → Type 0
+IsPairFor start end number other pair = IsPairOf number other pair × IsPairIn start end pair
+
 -- such a pair of a package and another one that has a property
 pub record IsPairWithin (r : PackageList) (start end number other : ℕ) (P : Package → Type 0) (pair : ℕ × ℕ) : Type 0
   where

@@ -1,34 +1,39 @@
-//! The least two members in conflict, found by the providers of the names in conflict atoms.
-ghost use Rattle.std.specs.Prelude.{◌≡◌, ◌⊎◌, ◌<◌, ◌≤◌, ℕ, Some, true, length, slice_get};
-ghost use Rattle.dist_base.specs.Least.{IsLeastIfAny, IsLeastPairIfAny, IsLesserPair};
+//! The least two members in conflict, found by what conflict atoms match.
+ghost use Rattle.std.specs.Prelude.{◌≡◌, ◌⊎◌, ◌↔◌, ◌<◌, ◌≤◌, ℕ, IsTrue, MatchOption, Some, true, length, slice_get};
+ghost use Rattle.dist_base.specs.Least.{IsLeast, IsLeastIfAny, IsLeastPairIfAny, IsLesserPair};
+ghost use Rattle.dist_repo.specs.Offers.{AreMatched};
 ghost use Rattle.dist_repo.specs.Providers.{AreProviders};
 ghost use Rattle.dist_now.specs.Fit.{IsOneEach};
 ghost use Rattle.dist_now.specs.Health.{AreConflicting};
-ghost use Rattle.dist_now.specs.RejectedPrivate.{IsRejectedBy, IsRejected};
+ghost use Rattle.dist_now.specs.RejectedPrivate.{IsNoneRejected, IsOtherMember, IsRejectedBy, IsRejected};
 
 use crate::members::is_member;
 use dist_clause::Assignment;
 use dist_relation::Atom;
-use dist_repo::{Package, Repository};
+use dist_repo::{Offer, Package, Repository};
 
-/// The least other member that an atom of a package matches.
-fn rejected_by(
+/// The least other member that an atom matches, if it is among so many of the first providers of its name.
+fn rejected_provider(
     repo: &Repository,
     members: &Assignment,
     number: u32,
     atom: &Atom,
     providers: &[u32],
+    count: usize,
 ) -> Option<u32>
     requires one_each { IsOneEach repo.now members.now }
     requires providers { AreProviders repo.now atom.now.name providers.now }
-    ensures { IsLeastIfAny (IsRejectedBy repo.now members.now number atom.now) result }
+    requires count { count ≤ length providers.now }
+    ensures { MatchOption result (IsNoneRejected repo.now members.now number atom.now providers.now count)
+        (IsLeast (IsRejectedBy repo.now members.now number atom.now)) }
 {
-    for other in providers {
-        if *other != number
-            && is_member(repo, members, *other)
-            && repo.matches(atom, repo.package(*other))
+    for place in 0..count {
+        let other = providers[place];
+        if other != number
+            && is_member(repo, members, other)
+            && repo.matches(atom, repo.package(other))
         {
-            return Some(*other);
+            return Some(other);
         }
     }
     None
@@ -46,6 +51,55 @@ fn lesser(least: Option<u32>, other: u32) -> u32
     }
 }
 
+/// Whether the package of a number is a member, and another one than a package.
+fn is_other_member(repo: &Repository, members: &Assignment, number: u32, other: u32) -> bool
+    requires one_each { IsOneEach repo.now members.now }
+    requires other { other < length repo.now.packages }
+    ensures { IsTrue result ↔ IsOtherMember members.now number other }
+{
+    other != number && is_member(repo, members, other)
+}
+
+/// The least other member that an atom matches, by the offers that it matches.
+fn rejected_offer(
+    repo: &Repository,
+    members: &Assignment,
+    number: u32,
+    atom: &Atom,
+    offers: &[Offer],
+) -> Option<u32>
+    requires one_each { IsOneEach repo.now members.now }
+    requires matched { AreMatched repo.now atom.now offers.now }
+    ensures { IsLeastIfAny (IsRejectedBy repo.now members.now number atom.now) result }
+{
+    let mut least = None;
+    for offer in offers {
+        if is_other_member(repo, members, number, offer.number) {
+            least = Some(lesser(least, offer.number));
+        }
+    }
+    least
+}
+
+/// The least other member that an atom matches. No more providers of its name are tried than it matches offers: they rise, so
+/// the first one that is found is the least, and where none is, the offers are gone through.
+fn rejected_by(repo: &Repository, members: &Assignment, number: u32, atom: &Atom) -> Option<u32>
+    requires { IsOneEach repo.now members.now }
+    ensures { IsLeastIfAny (IsRejectedBy repo.now members.now number atom.now) result }
+{
+    let providers = repo.providers(atom.name.bytes());
+    let offers = repo.matched(atom);
+    let total = providers.len();
+    let count = total.min(offers.len());
+    if let Some(other) = rejected_provider(repo, members, number, atom, providers, count) {
+        return Some(other);
+    }
+    if count == total {
+        return None;
+    }
+    rejected_offer(repo, members, number, atom, offers)
+}
+
 /// The least other member that a conflict atom of a member matches.
 fn rejected(repo: &Repository, members: &Assignment, number: u32, package: &Package) -> Option<u32>
     requires one_each { IsOneEach repo.now members.now }
@@ -56,8 +110,7 @@ fn rejected(repo: &Repository, members: &Assignment, number: u32, package: &Pack
     let mut least = None;
     for place in 0..package.conflicts.len() {
         let atom = package.conflicts.get(place);
-        let providers = repo.conflict_providers(number, place);
-        if let Some(other) = rejected_by(repo, members, number, atom, providers) {
+        if let Some(other) = rejected_by(repo, members, number, atom) {
             least = Some(lesser(least, other));
         }
     }

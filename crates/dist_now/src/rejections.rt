@@ -1,17 +1,17 @@
 //! Which packages reject one another: pairs of numbers, the lesser one first, of packages of which a conflict atom of one
 //! matches the other. They are looked for at some lesser numbers at a time, so that no file asks for much more memory
 //! than the clauses themselves may take.
-ghost use Rattle.std.specs.Prelude.{◌≡◌, ◌≢◌, ◌<◌, ◌≤◌, ◌+◌, ◌↔◌, ◌⊎◌, ℕ, false, Contains, IfOk, IfSome, IsTrue, None, OnOk, Some, length, slice_get, slice_index_or};
+ghost use Rattle.std.specs.Prelude.{◌≡◌, ◌≢◌, ◌<◌, ◌≤◌, ◌+◌, ◌↔◌, ◌⊎◌, ℕ, false, Any, Contains, IfOk, IfSome, IsTrue, None, OnOk, Some, length, slice_get, slice_index_or};
 ghost use Rattle.std.specs.List.Sorted.{IsNonDecreasingBy};
 ghost use Rattle.dist_repo.specs.Match.{IsUsable, Matches};
 ghost use Rattle.dist_repo.specs.PackageList.{IsPackageAnd};
-ghost use Rattle.dist_repo.specs.Providers.{AreProviders, IsProvider};
-ghost use Rattle.dist_now.specs.GatheringPrivate.{Adds, AreSplitAt, IsPairIn, IsPairOf, IsPairWithin, IsPairWith, IsRejectingPair, Rejects};
+ghost use Rattle.dist_repo.specs.Providers.{IsProvider};
+ghost use Rattle.dist_now.specs.GatheringPrivate.{Adds, AreSplitAt, IsPairFor, IsPairIn, IsPairOf, IsPairWithin, IsPairWith, IsRejectingPair, Rejects};
 
 use crate::asked::AskedAtoms;
 use crate::numbers::{matches_provider, place_from};
 use dist_relation::Atom;
-use dist_repo::{Package, Repository};
+use dist_repo::{Offer, Package, Repository};
 use std::alloc::{AllocError, Global};
 
 /// How many pairs are kept at a time, unless they all have one lesser number.
@@ -60,6 +60,26 @@ fn pair_of(first: u32, second: u32) -> (u32, u32)
     }
 }
 
+/// Adds the pair of a package and another one, if it is looked for.
+fn add_pair(
+    number: u32,
+    other: u32,
+    span: Span,
+    pairs: &mut Vec<(u32, u32)>,
+) -> Result<(), AllocError>
+    ensures { OnOk result (Adds pairs.old.items pairs.new.items (IsPairFor span.start span.end number other)) }
+{
+    if other == number {
+        return Ok(());
+    }
+    let pair = pair_of(number, other);
+    if !span.has(pair) {
+        return Ok(());
+    }
+    pairs.push(pair)?;
+    Ok(())
+}
+
 /// Adds the pair of a package and another one, if an atom matches that and the pair is looked for.
 fn add_match(
     repo: &Repository,
@@ -73,32 +93,42 @@ fn add_match(
     requires provider { IsPackageAnd repo.now.packages other (IsProvider repo.now.architecture atom.now.name) }
     ensures { OnOk result (Adds pairs.old.items pairs.new.items (IsPairWithin repo.now span.start span.end number other (Matches repo.now.architecture atom.now))) }
 {
-    if other == number {
+    if !matches_provider(repo, atom, other) {
         return Ok(());
     }
-    let pair = pair_of(number, other);
-    if !span.has(pair) || !matches_provider(repo, atom, other) {
-        return Ok(());
+    add_pair(number, other, span, pairs)
+}
+
+/// Adds the pairs of a package and those of some offers.
+fn add_offered(
+    number: u32,
+    offers: &[Offer],
+    span: Span,
+    pairs: &mut Vec<(u32, u32)>,
+) -> Result<(), AllocError>
+    ensures { OnOk result (Adds pairs.old.items pairs.new.items (λ pair. Any (λ offer. IsPairFor span.start span.end number offer.number pair) offers.now)) }
+{
+    for offer in offers {
+        add_pair(number, offer.number, span, pairs)?;
     }
-    pairs.push(pair)?;
     Ok(())
 }
 
-/// Adds the pairs of a package and the others that an atom matches.
+/// Adds the pairs of a package and the others that an atom matches: by the offers that it matches, or by the providers of its
+/// name in the span, whichever are fewer.
 fn add_matched(
     repo: &Repository,
     number: u32,
     atom: &Atom,
-    providers: &[u32],
     span: Span,
     pairs: &mut Vec<(u32, u32)>,
 ) -> Result<(), AllocError>
-    requires { AreProviders repo.now atom.now.name providers.now }
     ensures { OnOk result (Adds pairs.old.items pairs.new.items (λ pair. IsPairIn span.start span.end pair × IsPairWith repo.now number (Matches repo.now.architecture atom.now) pair)) }
 {
     if !repo.usable(&atom.qualifier) {
         return Ok(());
     }
+    let providers = repo.providers(atom.name.bytes());
     // Of the providers before these, and behind them, no pair has a first number of the span.
     let from = place_from(providers, span.start);
     let to = if number < span.end {
@@ -106,6 +136,10 @@ fn add_matched(
     } else {
         place_from(providers, span.end)
     };
+    let offers = repo.matched(atom);
+    if offers.len() < to.saturating_sub(from) {
+        return add_offered(number, offers, span, pairs);
+    }
     for place in from..to {
         add_match(repo, number, atom, providers[place], span, pairs)?;
     }
@@ -129,8 +163,7 @@ fn add_rejected(
         let atom = package.conflicts.get(place);
         let is_repeated = asked.note(atom, package.conflicts.len())?;
         if !is_repeated {
-            let providers = repo.conflict_providers(number, place);
-            add_matched(repo, number, atom, providers, span, pairs)?;
+            add_matched(repo, number, atom, span, pairs)?;
         }
         if pairs.len() > ROOM && span.is_wide() {
             return Ok(false);

@@ -34,12 +34,12 @@ less-is Equal is = cc
 less-is Greater is = cc
 
 module _ {K : Type 0} (R : K → K → Ordering) (total : IsTotalOrder R) where
-  less-lower : (o : Ordering) (x y w : K) → R x y ≡ o → is_lt (R y x) ≡ false → is_lt (R y w) ≡ true → is_lt (R x w) ≡ true
+  pub less-lower : (o : Ordering) (x y w : K) → R x y ≡ o → is_lt (R y x) ≡ false → is_lt (R y w) ≡ true → is_lt (R x w) ≡ true
   less-lower Less x y w is up before = ap is_lt (total.trans x y w is (less-is (R y w) before))
   less-lower Equal x y w is up before = ap is_lt (total.congr x y w is) ∙ before
   less-lower Greater x y w is up before = absurd (false≢true (sym up ∙ ap is_lt (total.antisymm y x ∙ ap ordering_reverse is)))
 
-  up_to-lower : (o : Ordering) (x y w : K) → R y w ≡ o → is_lt (R y x) ≡ false → is_le o ≡ true → is_le (R x w) ≡ true
+  pub up_to-lower : (o : Ordering) (x y w : K) → R y w ≡ o → is_lt (R y x) ≡ false → is_le o ≡ true → is_le (R x w) ≡ true
   up_to-lower Less x y w is up before =
       ap is_le (less-is (R x w) (less-lower (R x y) x y w refl up (ap is_lt is)))
   up_to-lower Equal x y w is up before = ap is_le (sym (alike_right total y w x is)) ∙ not-behind (R x y) x y refl up

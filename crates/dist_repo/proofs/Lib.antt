@@ -5,6 +5,8 @@ pub mod NameSearch
 pub mod OrderLemmas
 pub mod OfferLemmas
 pub mod EdgeLemmas
+pub mod SpanLemmas
+pub mod OwnLemmas
 pub mod IndexLemmas
 pub mod TallyLemmas
 pub mod NotedLemmas

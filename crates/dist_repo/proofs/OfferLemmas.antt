@@ -1,21 +1,22 @@
 -- What packages offer of a name, and who provides it.
-use Rattle.std.proofs.Common.{◌≡◌, ◌↔◌, ◌⊎◌, ℕ, ◌+◌, ◌<◌, ◌≤◌, false, List, [], length, get_or, take, Some, None, Option, refl, sym, ap, subst, ◌∙◌}
-use Rattle.std.proofs.Common.{arith, eqb, inl, inr, is_lt, nat_cmp, slice_get}
-use Rattle.std.specs.Prelude.{Any, Contains, map}
+use Rattle.std.proofs.Common.{◌≡◌, ◌↔◌, ◌⊎◌, ℕ, ◌<◌, ◌≤◌, List, [], length, take, Some, None, Option, refl, sym, ap, subst, ◌∙◌}
+use Rattle.std.proofs.Common.{arith, eqb, inl, inr, nat_cmp, slice_get}
+use Rattle.std.specs.Prelude.{Any, Contains, IsSomeAnd, map}
 use Rattle.std.specs.List.{dedup}
 use Rattle.std.specs.Option.{option_and_then}
-use Rattle.std.proofs.lemmas.Bool.Decides.{nat_tests}
 use Rattle.std.proofs.lemmas.List.{get_or-map, length-map, take_all}
 use Rattle.std.proofs.lemmas.List.Kept.{Contains-dedup_nat, Contains-from_dedup}
 use Rattle.std.proofs.lemmas.Map.Keys.{IsStrictlyIncreasing-dedup}
 use Rattle.std.proofs.lemmas.List.Sorted.{Contains-permutation, IsPermutation-sym}
 use Rattle.std.proofs.lemmas.Option.{get_or_from_slice_get, slice_get_past, slice_get_within}
-use Rattle.std.specs.List.Sorted.{IsNonDecreasingBy, IsPermutation, IsSorted, IsStrictlyIncreasing}
+use Rattle.std.specs.List.Sorted.{IsPermutation, IsSorted, IsStrictlyIncreasing}
 use Rattle.dist_base.specs.ListLaws.{any-at, any-contained, at-has, at-more, element-at, found-at, here-at}
 use Rattle.dist_relation.specs.declared.atom.Atom.{Atom}
 use Rattle.dist_relation.specs.declared.atom.Provide.{Provide}
 use Rattle.dist_repo.specs.Match.{IsUsable, Matches, MatchesByEntry, MatchesByName}
-use Rattle.dist_repo.specs.Offers.{version_in, version_of, AreInVersionOrder, AreMatched, AreOffers, IsOffer, IsOfferAt, IsOrderOf, Meets}
+use Rattle.dist_repo.specs.Offers.{version_in, version_of, AreInVersionOrder, AreMatched, AreOffers, IsEntryOffer, IsOffer, IsOfferAt, IsOrderOf}
+use Rattle.dist_repo.specs.Offers.{IsOwnOffer, Meets}
+use Rattle.dist_repo.specs.OwnPrivate.{AreNumbersNamed}
 use Rattle.dist_repo.specs.PackageList.{PackageList, IsPackageAnd}
 use Rattle.dist_repo.specs.Providers.{AreProviders, IsEntryOf, IsProvider}
 use Rattle.dist_repo.specs.TallyPrivate.{AreNumbersOf}
@@ -60,19 +61,64 @@ providers-iff r name offers exact n = (
       ((exact offer).1 (at-has (λ p. IsOfferAt r.architecture name p some.place) r.packages n at.element at.is some.is)) refl,
 )
 
--- a name that nobody provides is not offered
-pub offers-none : (r : PackageList) (name : List ℕ) → AreProviders r name [] → AreOffers r name []
-offers-none r name none = record {
-  exact = λ offer. (
-    (λ there. absurd (omega (arith, there.1))),
-    λ is.
-        let Of : Package → Type 0 = λ p. IsOfferAt r.architecture name p offer.place in
-        let there = (none.exact offer.number).1 (at-more Of (IsProvider r.architecture name) (λ p at. offer-provides r.architecture name p offer.place at)
-        r.packages offer.number is) in
-        absurd (omega (arith, there.1)),
-  );
-  in_order = λ k d low short. absurd (omega arith);
-}
+-- an offer is by an entry, or by the package's own name
+pub either-offer : (r : PackageList) (name : List ℕ) (offer : Offer)
+    → (IsEntryOffer r.architecture r.packages name offer ⊎ IsOwnOffer r.packages name offer) ↔ IsOffer r name offer
+either-offer r name offer = (
+  (λ either. elim either [
+    | inl entry ↦ at-more Entry Both (λ p at. inr at) r.packages offer.number entry
+    | inr own ↦ at-more Own Both (λ p at. inl at) r.packages offer.number own
+  ]),
+  λ is.
+      let at = here-at Both r.packages offer.number is in
+      elim at.holds [
+        | inl own ↦ inr (at-has Own r.packages offer.number at.element at.is own)
+        | inr entry ↦ inl (at-has Entry r.packages offer.number at.element at.is entry)
+      ],
+)
+  where
+    Entry : Package → Type 0
+    Entry = λ p. IsSomeAnd (slice_get p.provides offer.place) (IsEntryOf r.architecture name)
+
+    Own : Package → Type 0
+    Own = λ p. (offer.place ≡ length p.provides) × (p.name ≡ name)
+
+    Both : Package → Type 0
+    Both = λ p. IsOfferAt r.architecture name p offer.place
+
+-- a name that no entry has
+module _ (r : PackageList) (name : List ℕ) (none : (offer : Offer) → ¬ IsEntryOffer r.architecture r.packages name offer) where
+  pub offers-own : (offers : List Offer) → ((offer : Offer) → Contains offers offer ↔ IsOwnOffer r.packages name offer)
+      → AreInVersionOrder r.packages offers → AreOffers r name offers
+  offers-own offers exact in_order = record {
+    exact = λ offer. (
+      (λ there. (either-offer r name offer).0 (inr ((exact offer).0 there))),
+      λ is. elim ((either-offer r name offer).1 is) [
+        | inl entry ↦ absurd (none offer entry)
+        | inr own ↦ (exact offer).1 own
+      ],
+    );
+    in_order = in_order;
+  }
+
+  pub providers-own : (numbers : List ℕ) → AreNumbersNamed r.packages name numbers → AreProviders r name numbers
+  providers-own numbers are = record {
+    rising = are.rising;
+    exact = λ k. (
+      (λ there. at-more (λ (p : Package). p.name ≡ name) (IsProvider r.architecture name) (λ p same. inl same) r.packages k ((are.exact k).0 there)),
+      λ here.
+          let at = here-at (IsProvider r.architecture name) r.packages k here in
+          elim at.holds [
+            | inl same ↦ (are.exact k).1 (at-has (λ (p : Package). p.name ≡ name) r.packages k at.element at.is same)
+            | inr any ↦
+                let entry = found-at (IsEntryOf r.architecture name) at.element.provides any in
+                let offer : Offer = record { number = k; place = entry.place } in
+                absurd (none offer (at-has (λ (p : Package). IsSomeAnd (slice_get p.provides entry.place) (IsEntryOf r.architecture name)) r.packages k
+                at.element at.is
+                (at-has (IsEntryOf r.architecture name) at.element.provides entry.place entry.element entry.is entry.holds)))
+          ],
+    );
+  }
 
 -- ---- the packages of offers
 
@@ -81,17 +127,6 @@ number_of = λ offer. offer.number
 
 some-offer : Offer
 some-offer = record { number = 0; place = 0 }
-
-level : (a b : ℕ) → a ≤ b → is_lt (nat_cmp b a) ≡ false
-level a b up = grind (arith, nat_tests)
-
-numbers-rise : (offers : List Offer) → IsNonDecreasingBy (λ offer. offer.number) offers → IsSorted nat_cmp (map number_of offers)
-numbers-rise offers rising k d low short =
-    let counted = length-map offers number_of in
-    let first = get_or-map number_of offers k some-offer d (omega (arith, short, counted)) in
-    let second = get_or-map number_of offers (k + 1) some-offer d (omega (arith, short, counted)) in
-    let up = rising k (k + 1) some-offer (omega arith) (omega (arith, short, counted)) in
-    level (get_or (map number_of offers) k d) (get_or (map number_of offers) (k + 1) d) (omega (arith, first, second, up))
 
 numbers-iff : (offers : List Offer) (n : ℕ) → Contains (map number_of offers) n ↔ Any (λ offer. offer.number ≡ n) offers
 numbers-iff offers n = (
@@ -111,24 +146,26 @@ numbers-iff offers n = (
       ),
 )
 
-pub numbers-from : (offers : List Offer) (count : ℕ) (numbers once : List ℕ) → length offers ≤ count → IsNonDecreasingBy (λ offer. offer.number) offers
-    → numbers ≡ map number_of (take count offers) → once ≡ dedup eqb numbers → AreNumbersOf once offers
-numbers-from offers count numbers once past rising are is =
-    let all : once ≡ dedup eqb (map number_of offers) = is ∙ ap (λ (list : List ℕ). dedup eqb list) (are ∙ ap (λ (list : List Offer). map number_of list)
-    (take_all count offers past)) in
+pub numbers-from : (offers : List Offer) (count : ℕ) (numbers sorted once : List ℕ) → length offers ≤ count
+    → numbers ≡ map number_of (take count offers) → IsPermutation numbers sorted → IsSorted nat_cmp sorted → once ≡ dedup eqb sorted
+    → AreNumbersOf once offers
+numbers-from offers count numbers sorted once past are permuted rising is =
+    let all : numbers ≡ map number_of offers = are ∙ ap (λ (list : List Offer). map number_of list) (take_all count offers past) in
     let Rising : List ℕ → Type 0 = IsStrictlyIncreasing in
     record {
-      rising = subst Rising (sym all) (IsStrictlyIncreasing-dedup (map number_of offers) (numbers-rise offers rising));
+      rising = subst Rising (sym is) (IsStrictlyIncreasing-dedup sorted rising);
       exact = λ n.
           let In : List ℕ → Type 0 = λ list. Contains list n in (
-            (λ there. (numbers-iff offers n).0 (Contains-from_dedup eqb (map number_of offers) n (subst In all there))),
-            λ any. subst In (sym all) (Contains-dedup_nat (map number_of offers) n ((numbers-iff offers n).1 any)),
+            (λ there. (numbers-iff offers n).0 (subst In all
+                (Contains-permutation sorted numbers n (IsPermutation-sym numbers sorted permuted) (Contains-from_dedup eqb sorted n (subst In is there))))),
+            λ any. subst In (sym is) (Contains-dedup_nat sorted n
+                (Contains-permutation numbers sorted n permuted (subst In (sym all) ((numbers-iff offers n).1 any)))),
           );
     }
 
 -- ---- the offers that an atom matches
 
-version-is : (packages : List Package) (offer : Offer) (p : Package) → slice_get packages offer.number ≡ Some p
+pub version-is : (packages : List Package) (offer : Offer) (p : Package) → slice_get packages offer.number ≡ Some p
     → version_of packages offer ≡ version_in p (slice_get p.provides offer.place)
 version-is packages offer p is = ap (option_and_then (λ (x : Package). version_in x (slice_get x.provides offer.place))) is
 
@@ -197,13 +234,6 @@ matched-from r atom offers result usable are iff n = (
         subst Of (sym (version-is r.packages offer at.element at.is)) some.is.1,
       )) refl,
 )
-
--- a name that nobody provides
-pub matched-none : (r : PackageList) (atom : Atom) → IsUsable r.architecture atom.qualifier → AreProviders r atom.name [] → AreMatched r atom []
-matched-none r atom usable none = matched-from r atom [] [] usable (offers-none r atom.name none) (λ offer. (
-  (λ there. absurd (omega (arith, there.1))),
-  λ both. both.0,
-))
 
 -- an atom that is not usable
 pub matched-never : (r : PackageList) (atom : Atom) → ¬ IsUsable r.architecture atom.qualifier → AreMatched r atom []

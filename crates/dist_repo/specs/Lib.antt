@@ -9,6 +9,8 @@ pub mod PackageList
 pub mod Providers
 pub mod Offers
 pub mod EdgesPrivate
+pub mod SpansPrivate
+pub mod OwnPrivate
 pub mod Strong
 pub mod Size
 pub mod TotalLaws

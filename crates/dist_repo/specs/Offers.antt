@@ -32,6 +32,16 @@ IsOfferAt architecture name p place = ((place ≡ length p.provides) × (p.name 
 abbrev pub IsOffer : PackageList → List ℕ → Offer → Type 0
 IsOffer r name offer = IsPackageAnd r.packages offer.number (λ p. IsOfferAt r.architecture name p offer.place)
 
+-- one by the package's own name
+abbrev pub IsOwnOffer : List Package → List ℕ → Offer → Type 0
+IsOwnOffer packages name offer = IsPackageAnd packages offer.number
+    (λ p. (offer.place ≡ length p.provides) × (p.name ≡ name))
+
+-- and one by an entry
+abbrev pub IsEntryOffer : Option (List ℕ) → List Package → List ℕ → Offer → Type 0
+IsEntryOffer architecture packages name offer = IsPackageAnd packages offer.number
+    (λ p. IsSomeAnd (slice_get p.provides offer.place) (IsEntryOf architecture name))
+
 -- the version of an entry, or that of its package
 abbrev pub version_in : Package → Option Provide → Option (List ℕ)
 version_in p None = Some p.version

@@ -5,8 +5,7 @@ use Rattle.std.specs.Cmp.Lexicographic.{slice_cmp}
 use Rattle.std.specs.List.Sorted.{IsStrictlyIncreasing}
 use Rattle.std.specs.Map.{lookup}
 use Rattle.std.specs.Ordering.{nat_cmp}
-use Rattle.dist_repo.specs.Offers.{IsOfferAt}
-use Rattle.dist_repo.specs.PackageList.{IsPackageAnd}
+use Rattle.dist_repo.specs.Offers.{AreInVersionOrder, IsEntryOffer, IsOwnOffer}
 use Rattle.dist_repo.specs.declared.offers.Offer.{Offer}
 use Rattle.dist_repo.specs.declared.package.Package.{Package}
 
@@ -23,11 +22,16 @@ NotesEach old new P number = (q : List ℕ) (offer : Offer) → Contains (offers
 abbrev pub Notes : (old new : List (List ℕ × List Offer)) (name : List ℕ) (number place : ℕ) → Type 0
 Notes old new name number place = NotesEach old new (λ q k. (q ≡ name) × (k ≡ place)) number
 
--- beside each name are exactly the offers of it
+-- beside each name are exactly the offers of it by entries
 abbrev pub IsTallyOf : (architecture : Option (List ℕ)) (packages : List Package) (tally : List (List ℕ × List Offer))
     → Type 0
 IsTallyOf architecture packages tally = (q : List ℕ) (offer : Offer) → Contains (offers_at tally q) offer
-    ↔ IsPackageAnd packages offer.number (λ p. IsOfferAt architecture q p offer.place)
+    ↔ IsEntryOffer architecture packages q offer
+
+-- beside a name are its offers by entries: with those by the packages' own names, in the order of versions
+pub record IsRowOf (packages : List Package) (row : List Offer) (entry : List ℕ × List Offer) : Type 0 where
+  pub same : (offer : Offer) → Contains row offer ↔ (Contains entry.1 offer ⊎ IsOwnOffer packages entry.0 offer)
+  pub in_order : AreInVersionOrder packages row
 
 -- the numbers are those of the packages of some offers, rising
 pub record AreNumbersOf (numbers : List ℕ) (offers : List Offer) : Type 0 where

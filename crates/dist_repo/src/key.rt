@@ -1,6 +1,9 @@
 //! Packages as keys of an ordered map, and in order: by the bytes of their names, and then by version.
 ghost use Rattle.std.specs.Prelude.{◌≡◌, IfOk, IfErr};
+ghost use Rattle.std.specs.Cmp.Lexicographic.{slice_cmp};
+ghost use Rattle.std.specs.Ordering.{nat_cmp};
 ghost use Rattle.dist_repo.specs.Order.{key_cmp};
+ghost use Rattle.dist_repo.specs.Prefix.{IsPrefixOf};
 
 use crate::package::Package;
 use crate::prefix::prefix_of;
@@ -62,6 +65,18 @@ impl Key {
         ensures { result.now ≡ self.now.name }
     {
         self.package.name.bytes()
+    }
+
+    /// Compares the package's name with another one, of which the prefix is given.
+    pub(crate) fn compare_name(&self, prefix: u128, name: &[u8]) -> Ordering
+        requires { IsPrefixOf prefix name.now }
+        ensures { result ≡ slice_cmp nat_cmp self.now.name name.now }
+    {
+        let by_prefix = self.prefix.cmp(&prefix);
+        if by_prefix.is_ne() {
+            return by_prefix;
+        }
+        self.name().cmp(name)
     }
 
     /// The key of a copy of the package.

@@ -13,10 +13,12 @@ mod matching;
 mod name_key;
 mod names;
 mod offers;
+mod own;
 mod package;
 mod prefix;
 mod repository;
 mod size;
+mod spans;
 mod tally;
 
 pub use builder::{AddError, Added, Builder};

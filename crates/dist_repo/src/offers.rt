@@ -1,7 +1,6 @@
 //! What packages offer of a name: each its own name, and its usable entries of Provides. In the order of their versions those
 //! that meet a bound stand together.
-ghost use Rattle.std.specs.Prelude.{◌≡◌, OnOk, slice_get};
-ghost use Rattle.std.specs.List.Sorted.{IsNonDecreasingBy};
+ghost use Rattle.std.specs.Prelude.{◌≡◌, ◌++◌, OnOk, slice_get};
 ghost use Rattle.std.specs.Option.{option_cmp, option_copied};
 ghost use Rattle.dist_version.specs.Order.{version_cmp};
 ghost use Rattle.dist_repo.specs.Offers.{version_in, version_of, IsOrderOf};
@@ -53,29 +52,31 @@ fn compare_offers(packages: &[Key], first: Offer, second: Offer) -> Ordering
     }
 }
 
-/// Writes offers in the order of their versions.
+/// Writes offers of two lists in the order of their versions.
 pub(crate) fn write_order(
     packages: &[Key],
     offers: &[Offer],
+    others: &[Offer],
     ordered: &mut Vec<Offer>,
 ) -> Result<(), AllocError>
-    ensures { OnOk result (IsOrderOf packages.now ordered.new.items offers.now) }
+    ensures { OnOk result (IsOrderOf packages.now ordered.new.items (offers.now ++ others.now)) }
 {
     ordered.clear();
     ordered.extend_from_slice(offers)?;
+    ordered.extend_from_slice(others)?;
     ordered.sort_unstable_by(|first, second| compare_offers(packages, *first, *second));
     Ok(())
 }
 
-/// Writes the packages of offers, each once, where the offers rise by their packages.
+/// Writes the packages of offers, rising, each once.
 pub(crate) fn write_numbers(offers: &[Offer], numbers: &mut Vec<u32>) -> Result<(), AllocError>
-    requires { IsNonDecreasingBy (λ offer. offer.number) offers.now }
     ensures { OnOk result (AreNumbersOf numbers.new.items offers.now) }
 {
     numbers.clear();
     for offer in offers {
         numbers.push(offer.number)?;
     }
+    numbers.sort_unstable();
     numbers.dedup();
     Ok(())
 }

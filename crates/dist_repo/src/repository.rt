@@ -5,7 +5,7 @@ ghost use Rattle.dist_relation.specs.declared.atom.Atom.{Atom};
 ghost use Rattle.dist_repo.specs.Conflict.{AreInConflict};
 ghost use Rattle.dist_repo.specs.LatestPrivate.{is_last_of_name, last_of_names};
 ghost use Rattle.dist_repo.specs.Match.{IsUsable, Matches};
-ghost use Rattle.dist_repo.specs.Offers.{AreMatched};
+ghost use Rattle.dist_repo.specs.Offers.{AreMatched, AreOffers};
 ghost use Rattle.dist_repo.specs.Order.{key_cmp, IsFlat, IsInOrder, IsLatestOf};
 ghost use Rattle.dist_repo.specs.PackageList.{IsAlternativeAt, IsConflictAt};
 ghost use Rattle.dist_repo.specs.Providers.{AreProviders, IsPackageAt};
@@ -16,6 +16,7 @@ use crate::key::{Key, compare};
 use crate::matching;
 use crate::names::{NameIndex, place_of};
 use crate::offers::Offer;
+use crate::own::{Own, numbers_named, offers_named, own_of};
 use crate::package::Package;
 use crate::size::has_few_relations;
 use crate::tally::tally_of;
@@ -31,7 +32,9 @@ use std::marker::Model;
 pub struct Repository {
     architecture: Option<Name>,
     packages: Vec<Key>,
-    /// The names that packages have or provide, the numbers of the providers of each, and what they offer.
+    /// What packages offer of their own names.
+    own: Own,
+    /// The names that entries of Provides have, the numbers of the providers of each, and what they offer.
     index: NameIndex,
 }
 
@@ -43,7 +46,7 @@ impl Model for Repository {
 
     ghost view = { λ r. record { architecture = r.architecture; packages = r.packages.items } };
 
-    ghost invariant = { λ r. IsRepository (record { architecture = r.architecture; packages = r.packages.items }) r.index.names r.index.numbers r.index.offers };
+    ghost invariant = { λ r. IsRepository (record { architecture = r.architecture; packages = r.packages.items }) r.own.numbers.items r.own.offers.items r.index.names r.index.numbers r.index.offers };
 }
 
 impl Repository {
@@ -57,10 +60,12 @@ impl Repository {
         requires few { length packages.items < 2 ^ 32 }
         ensures { IfOk result (λ r. r ≡ record { architecture = architecture; packages = packages.items }) }
     {
-        let index = tally_of(alloc, &architecture, &packages)?.flattened(&packages)?;
+        let own = own_of(alloc, &packages)?;
+        let index = tally_of(alloc, &architecture, &packages)?.flattened(&packages, &own.offers)?;
         Ok(Repository {
             architecture,
             packages,
+            own,
             index,
         })
     }
@@ -107,7 +112,7 @@ impl Repository {
     {
         match place_of(&self.index.names, name) {
             Some(place) => self.index.numbers.get(place),
-            None => &[],
+            None => numbers_named(&self.packages, &self.own.numbers, name),
         }
     }
 
@@ -142,6 +147,16 @@ impl Repository {
         matching::matches(&self.architecture, atom, package)
     }
 
+    /// What packages offer of a name, in the order of versions.
+    fn offers(&self, name: &[u8]) -> &[Offer]
+        ensures { AreOffers self.now name.now result.now }
+    {
+        match place_of(&self.index.names, name) {
+            Some(place) => self.index.offers.get(place),
+            None => offers_named(&self.packages, &self.own.offers, name),
+        }
+    }
+
     /// What packages offer of the name of an atom and it matches: the packages are those that it matches.
     pub fn matched(&self, atom: &Atom) -> &[Offer]
         ensures { AreMatched self.now atom.now result.now }
@@ -149,10 +164,7 @@ impl Repository {
         if !self.usable(&atom.qualifier) {
             return &[];
         }
-        match place_of(&self.index.names, atom.name.bytes()) {
-            Some(place) => meeting(&self.packages, self.index.offers.get(place), &atom.bound),
-            None => &[],
-        }
+        meeting(&self.packages, self.offers(atom.name.bytes()), &atom.bound)
     }
 
     /// Whether two packages are in conflict.

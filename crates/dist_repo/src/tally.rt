@@ -1,19 +1,21 @@
-//! Who offers a name, while the packages are gone through: for each name the offers so far.
-ghost use Rattle.std.specs.Prelude.{◌≡◌, ◌≤◌, ◌<◌, ◌^◌, ◌++◌, ◌∷◌, ℕ, List, [], Contains, length, IfOk, OnOk};
+//! Who offers a name by an entry of Provides, while the packages are gone through: for each name the offers so far.
+ghost use Rattle.std.specs.Prelude.{◌≡◌, ◌<◌, ◌^◌, ◌++◌, ◌∷◌, ℕ, [], IfOk, OnOk, IsSomeAnd, length, slice_get};
 ghost use Rattle.std.specs.Cmp.Lexicographic.{slice_cmp};
 ghost use Rattle.std.specs.List.{AllZip};
-ghost use Rattle.std.specs.List.Sorted.{IsNonDecreasingBy, IsStrictlySortedBy};
-ghost use Rattle.std.specs.Map.{keys_of, values_of};
+ghost use Rattle.std.specs.List.Sorted.{IsStrictlySortedBy};
+ghost use Rattle.std.specs.Map.{keys_of};
 ghost use Rattle.std.specs.Ordering.{nat_cmp};
-ghost use Rattle.dist_repo.specs.Offers.{IsOfferAt, IsOrderOf};
-ghost use Rattle.dist_repo.specs.TallyPrivate.{offers_at, AreNumbersOf, IsTallyOf, Notes, NotesEach};
-ghost use Rattle.dist_repo.specs.declared.offers.Offer.{Offer};
+ghost use Rattle.dist_repo.specs.Order.{IsInOrder};
+ghost use Rattle.dist_repo.specs.OwnPrivate.{AreOwn};
+ghost use Rattle.dist_repo.specs.Providers.{IsEntryOf};
+ghost use Rattle.dist_repo.specs.TallyPrivate.{AreNumbersOf, IsRowOf, IsTallyOf, Notes, NotesEach};
 
 use crate::key::Key;
 use crate::matching::is_usable;
 use crate::name_key::NameKey;
 use crate::names::NameIndex;
 use crate::offers::{Offer, write_numbers, write_order};
+use crate::own::offers_named;
 use crate::package::Package;
 use dist_base::Flat;
 use dist_relation::Name;
@@ -22,23 +24,26 @@ use std::alloc::{AllocError, Global};
 use std::collections::BTreeMap;
 use std::marker::Model;
 
-/// Offers that rise by their packages.
+/// For each name the offers so far. Most names have few, which take no memory of their own.
+#[derive(Drop)]
+pub(crate) struct Tally<'a> {
+    alloc: Global,
+    offers: BTreeMap<NameKey<'a>, Offers>,
+}
+
+/// Some offers.
 #[derive(Drop)]
 struct Offers {
-    /// Most names have few offers, which take no memory of their own.
     offers: SmallVec<Offer, 2>,
 }
 
 impl Model for Offers {
     ghost use Rattle.std.specs.Prelude.{List};
-    ghost use Rattle.std.specs.List.Sorted.{IsNonDecreasingBy};
     ghost use Rattle.dist_repo.specs.declared.offers.Offer.{Offer};
 
     ghost Value = { List Offer };
 
     ghost view = { λ list. list.offers.items };
-
-    ghost invariant = { λ list. IsNonDecreasingBy (λ offer. offer.number) list.offers.items };
 }
 
 impl Offers {
@@ -51,27 +56,17 @@ impl Offers {
     }
 
     fn as_slice(&self) -> &[Offer]
-        ensures value { result.now ≡ self.now }
-        ensures rising { IsNonDecreasingBy (λ offer. offer.number) self.now }
+        ensures { result.now ≡ self.now }
     {
         self.offers.as_slice()
     }
 
-    /// Adds an offer of a package that none of the others exceeds.
     fn add(&mut self, offer: Offer) -> Result<(), AllocError>
-        requires { (other : Offer) → Contains self.old other → other.number ≤ offer.number }
         ensures { OnOk result (self.new ≡ self.old ++ offer ∷ []) }
     {
         self.offers.push(offer)?;
         Ok(())
     }
-}
-
-/// For each name the offers so far.
-#[derive(Drop)]
-pub(crate) struct Tally<'a> {
-    alloc: Global,
-    offers: BTreeMap<NameKey<'a>, Offers>,
 }
 
 impl<'a> Model for Tally<'a> {
@@ -95,7 +90,6 @@ impl<'a> Tally<'a> {
 
     /// Notes that the package of a number offers a name at a place. A place past 4,294,967,295 is want of memory too.
     fn note(&mut self, name: &'a Name, number: u32, place: usize) -> Result<(), AllocError>
-        requires { (offer : Offer) → Contains (offers_at self.old name.now) offer → offer.number ≤ number }
         ensures { OnOk result (Notes self.old self.new name.now number place) }
     {
         if place > u32::MAX as usize {
@@ -110,17 +104,16 @@ impl<'a> Tally<'a> {
         self.offers.entry(key)?.or_insert(none).add(offer)
     }
 
-    /// Notes what the package of a number offers.
+    /// Notes what the package of a number offers by its entries.
     pub(crate) fn note_package(
         &mut self,
         architecture: &Option<Name>,
         package: &'a Package,
         number: u32,
     ) -> Result<(), AllocError>
-        requires { (q : List ℕ) (offer : Offer) → Contains (offers_at self.old q) offer → offer.number ≤ number }
-        ensures { OnOk result (NotesEach self.old self.new (λ q place. IsOfferAt architecture.now q «package».now place) number) }
+        ensures { OnOk result (NotesEach self.old self.new
+            (λ q place. IsSomeAnd (slice_get «package».now.provides place) (IsEntryOf architecture.now q)) number) }
     {
-        self.note(&package.name, number, package.provides.len())?;
         for place in 0..package.provides.len() {
             let entry = package.provides.get(place);
             if is_usable(architecture, &entry.qualifier) {
@@ -130,12 +123,14 @@ impl<'a> Tally<'a> {
         Ok(())
     }
 
-    /// The names, and beside each its providers and their offers, laid flat.
-    pub(crate) fn flattened(&self, packages: &[Key]) -> Result<NameIndex, AllocError>
+    /// The names, and beside each its providers and their offers, the packages' own among them, laid flat.
+    pub(crate) fn flattened(&self, packages: &[Key], own: &[Offer]) -> Result<NameIndex, AllocError>
+        requires in_order { IsInOrder packages.now }
+        requires own { AreOwn packages.now (length packages.now) own.now }
         ensures names { IfOk result (λ index. index.names ≡ keys_of self.now) }
         ensures in_order { IfOk result (λ index. IsStrictlySortedBy (slice_cmp nat_cmp) index.names) }
-        ensures numbers { IfOk result (λ index. AllZip AreNumbersOf index.numbers (values_of self.now)) }
-        ensures offers { IfOk result (λ index. AllZip (IsOrderOf packages.now) index.offers (values_of self.now)) }
+        ensures numbers { IfOk result (λ index. AllZip AreNumbersOf index.numbers index.offers) }
+        ensures offers { IfOk result (λ index. AllZip (IsRowOf packages.now) index.offers self.now) }
     {
         let mut names = Flat::new(self.alloc);
         let mut numbers = Flat::new(self.alloc);
@@ -143,9 +138,11 @@ impl<'a> Tally<'a> {
         let mut some_numbers = Vec::new(self.alloc);
         let mut some_offers = Vec::new(self.alloc);
         for (key, list) in self.offers.iter() {
-            write_numbers(list.as_slice(), &mut some_numbers)?;
-            write_order(packages, list.as_slice(), &mut some_offers)?;
-            names.push(key.name().bytes())?;
+            let name = key.name().bytes();
+            let named = offers_named(packages, own, name);
+            write_order(packages, list.as_slice(), named, &mut some_offers)?;
+            write_numbers(&some_offers, &mut some_numbers)?;
+            names.push(name)?;
             numbers.push(&some_numbers)?;
             offers.push(&some_offers)?;
         }
@@ -157,7 +154,7 @@ impl<'a> Tally<'a> {
     }
 }
 
-/// Who offers which name, for all packages of a list.
+/// Who offers which name by entries, for all packages of a list.
 pub(crate) fn tally_of<'a>(
     alloc: Global,
     architecture: &Option<Name>,

@@ -7,8 +7,9 @@ use Rattle.dist_cert.specs.Rising.{is_among}
 use Rattle.dist_cert.specs.declared.records.Claim.{Claim}
 use Rattle.dist_repo.specs.declared.package.Package.{Package}
 use Rattle.dist_report.specs.Lines.{key_line, listed}
-use Rattle.dist_report.specs.StrongReport.{entry_lines, has_some, impact_at, strong_at, with_impact}
-use Rattle.dist_report.proofs.PickedLemmas.{lines-same-within, picked-same, picked-within}
+use Rattle.dist_report.specs.ClaimParts.{has_some, strong_on}
+use Rattle.dist_report.specs.StrongReport.{entry_lines, impact_at, with_impact}
+use Rattle.dist_report.proofs.PickedLemmas.{claimed-within, lines-same-within, picked-same, picked-within}
 
 module _ (made : List Claim) (n : ℕ) (lists : List (List ℕ)) (long : length made ≡ n) (each : (q : ℕ) → q < n → get_or lists q [] ≡ impact_at made q) where
   pub turned-within : length lists ≡ n → All (λ list. All (λ p. p < n) list) lists
@@ -16,7 +17,7 @@ module _ (made : List Claim) (n : ℕ) (lists : List (List ℕ)) (long : length 
       let Lower : List ℕ → Type 0 = λ list. All (λ p. p < n) list in
       let End : ℕ → Type 0 = λ end. All (λ p. p < end) (impact_at made k) in
       let is = each k (omega (arith, short, same)) in
-      subst Lower (sym (get_or_default lists k d [] short ∙ is)) (subst End long (picked-within (λ p. is_among (strong_at made p) k) (length made)))
+      subst Lower (sym (get_or_default lists k d [] short ∙ is)) (subst End long (claimed-within (λ claim. is_among (strong_on claim) k) made))
 
   pub with-within : All (λ q. q < n) (with_impact made)
   with-within =

@@ -8,3 +8,8 @@ pub mod TurnedLemmas
 pub mod ImpactLemmas
 pub mod OneText
 pub mod SomeText
+pub mod KeptLemmas
+pub mod RowLemmas
+pub mod PlaceLemmas
+pub mod ReportLaws
+pub mod BrokenLemmas

@@ -27,10 +27,16 @@ joined-two old p s a b first second = second ∙ ap (λ (t : List ℕ). t ++ s) 
 pub joined-three : (old p s t a b c : List ℕ) → a ≡ old ++ p → b ≡ a ++ s → c ≡ b ++ t → c ≡ old ++ (p ++ (s ++ t))
 joined-three old p s t a b c first second third = joined-two old p (s ++ t) a c first (joined-two a s t b c second third)
 
-pub joined-class : (old p s t e a b c d : List ℕ) → a ≡ old ++ p → b ≡ a ++ s → c ≡ b ++ t → d ≡ c ++ e → d ≡ old ++ ((p ++ (s ++ t)) ++ e)
-joined-class old p s t e a b c d first second third fourth = joined-two old (p ++ (s ++ t)) e c d (joined-three old p s t a b c first second third) fourth
+pub joined-four : (old p s t u a b c d : List ℕ) → a ≡ old ++ p → b ≡ a ++ s → c ≡ b ++ t → d ≡ c ++ u → d ≡ old ++ (p ++ (s ++ (t ++ u)))
+joined-four old p s t u a b c d first second third fourth =
+    joined-two old p (s ++ (t ++ u)) a d first (joined-three a s t u b c d second third fourth)
+
+pub joined-class : (old p s t u v a b c d e : List ℕ) → a ≡ old ++ p → b ≡ a ++ s → c ≡ b ++ t → d ≡ c ++ u → e ≡ d ++ v
+    → e ≡ old ++ ((p ++ (s ++ (t ++ u))) ++ v)
+joined-class old p s t u v a b c d e first second third fourth fifth =
+    joined-two old (p ++ (s ++ (t ++ u))) v d e (joined-four old p s t u a b c d first second third fourth) fifth
 
 pub joined-five : (old p s t u v a b c d e : List ℕ) → a ≡ old ++ p → b ≡ a ++ s → c ≡ b ++ t → d ≡ c ++ u → e ≡ d ++ v
     → e ≡ old ++ (p ++ (s ++ (t ++ (u ++ v))))
 joined-five old p s t u v a b c d e first second third fourth fifth =
-    joined-two old p (s ++ (t ++ (u ++ v))) a e first (joined-two a s (t ++ (u ++ v)) b e second (joined-three b t u v c d e third fourth fifth))
+    joined-two old p (s ++ (t ++ (u ++ v))) a e first (joined-four a s t u v b c d e second third fourth fifth)

@@ -11,7 +11,7 @@ use Rattle.dist_classes.specs.ClassList.{classes_above, classes_of_all}
 use Rattle.dist_classes.specs.Cuts.{AreCuts, IsClusterCut, IsNameCut}
 use Rattle.dist_classes.specs.NewNames.{AreNewNames}
 use Rattle.dist_classes.specs.declared.class_value.Class.{Class}
-use Rattle.dist_report.specs.ClassesReport.{IsClassesText, ToldCluster, ToldName, classes_lines}
+use Rattle.dist_report.specs.ClassesReport.{AreToldClusters, IsClassesText, ToldCluster, ToldName, classes_lines}
 
 same-cluster : (x y : ToldCluster) → x.members ≡ y.members → x.top ≡ y.top → x.classes ≡ y.classes → x ≡ y
 same-cluster x y members top classes =
@@ -47,9 +47,7 @@ names_of names = map (λ (n : ToldName). n.name) names
 module _ (one_partition : (members : List Member) (a b : List (List ℕ)) → IsPartition members a → IsPartition members b → a ≡ b)
     (one_top : (members : List Member) (cluster a b : List ℕ) → IsTop members cluster a → IsTop members cluster b → a ≡ b)
     (one_cuts : (r : PackageList) (members top : List ℕ) (a b : List (List ℕ)) → AreCuts (IsClusterCut r members top) a → AreCuts (IsClusterCut r members top) b
-    → a ≡ b)
-    (one_name_cuts : (r : PackageList) (name : List ℕ) (a b : List (List ℕ)) → AreCuts (IsNameCut r name) a → AreCuts (IsNameCut r name) b → a ≡ b)
-    (one_names : (r : PackageList) (names others : List (List ℕ)) → AreNewNames r names → AreNewNames r others → names ≡ others) where
+    → a ≡ b) where
   one-members : (r : PackageList) (a b : ClusterList) → AreClustersOf r a → AreClustersOf r b → a.members ≡ b.members
   one-members r a b first second = one_partition (map member_of r.packages) a.members b.members first.partition second.partition
 
@@ -70,10 +68,6 @@ module _ (one_partition : (members : List Member) (a b : List (List ℕ)) → Is
   one-classes r members top a b first second =
       first.are ∙ ap (classes_above top) (one_cuts r members top first.cuts second.cuts first.are_cuts second.are_cuts) ∙ sym second.are
 
-  one-name_classes : (r : PackageList) (name : List ℕ) (a b : List Class) → AreClassesOfName r name a → AreClassesOfName r name b → a ≡ b
-  one-name_classes r name a b first second = first.are ∙ ap classes_of_all (one_name_cuts r name first.cuts second.cuts first.are_cuts second.are_cuts)
-      ∙ sym second.are
-
   same-clusters : (r : PackageList) (xs ys : List ToldCluster) → members_of xs ≡ members_of ys → tops_of xs ≡ tops_of ys →
       All (λ c. AreClassesOf r c.members c.top c.classes) xs → All (λ c. AreClassesOf r c.members c.top c.classes) ys → xs ≡ ys
   same-clusters r [] [] members tops first second = refl
@@ -92,6 +86,19 @@ module _ (one_partition : (members : List Member) (a b : List (List ℕ)) → Is
       (rest-of Of x xs first) (rest-of Of y ys second) in
       ap (λ (list : List ToldCluster). x ∷ list) rest ∙ ap (λ (head : ToldCluster). head ∷ ys) own
 
+  pub one-clusters : (r : PackageList) (a b : List ToldCluster) → AreToldClusters r a → AreToldClusters r b → a ≡ b
+  one-clusters r a b first second =
+      let left : ClusterList = record { members = members_of a; tops = tops_of a } in
+      let right : ClusterList = record { members = members_of b; tops = tops_of b } in
+      same-clusters r a b (one-members r left right first.are second.are) (one-tops r left right first.are second.are) first.classes second.classes
+
+module _ (one_clusters : (r : PackageList) (a b : List ToldCluster) → AreToldClusters r a → AreToldClusters r b → a ≡ b)
+    (one_name_cuts : (r : PackageList) (name : List ℕ) (a b : List (List ℕ)) → AreCuts (IsNameCut r name) a → AreCuts (IsNameCut r name) b → a ≡ b)
+    (one_names : (r : PackageList) (names others : List (List ℕ)) → AreNewNames r names → AreNewNames r others → names ≡ others) where
+  one-name_classes : (r : PackageList) (name : List ℕ) (a b : List Class) → AreClassesOfName r name a → AreClassesOfName r name b → a ≡ b
+  one-name_classes r name a b first second = first.are ∙ ap classes_of_all (one_name_cuts r name first.cuts second.cuts first.are_cuts second.are_cuts)
+      ∙ sym second.are
+
   same-names : (r : PackageList) (xs ys : List ToldName) → names_of xs ≡ names_of ys → All (λ n. AreClassesOfName r n.name n.classes) xs
       → All (λ n. AreClassesOfName r n.name n.classes) ys → xs ≡ ys
   same-names r [] [] names first second = refl
@@ -108,11 +115,7 @@ module _ (one_partition : (members : List Member) (a b : List (List ℕ)) → Is
 
   pub one-text : (r : PackageList) (text other : List ℕ) → IsClassesText r text → IsClassesText r other → text ≡ other
   one-text r text other a b =
-      let left : ClusterList = record { members = members_of a.clusters; tops = tops_of a.clusters } in
-      let right : ClusterList = record { members = members_of b.clusters; tops = tops_of b.clusters } in
-      let members = one-members r left right a.are_clusters.are b.are_clusters.are in
-      let tops = one-tops r left right a.are_clusters.are b.are_clusters.are in
-      let clusters = same-clusters r a.clusters b.clusters members tops a.are_clusters.classes b.are_clusters.classes in
+      let clusters = one_clusters r a.clusters b.clusters a.are_clusters b.are_clusters in
       let names = same-names r a.names b.names (one_names r (names_of a.names) (names_of b.names) a.are_names.are b.are_names.are) a.are_names.classes
       b.are_names.classes in
       a.is ∙ ap (λ (list : List ToldCluster). classes_lines r.packages list a.names) clusters

@@ -1,5 +1,5 @@
 -- The numbers that a test picks, one after another.
-use Rattle.std.proofs.Common.{◌≡◌, ℕ, zero, suc, ◌+◌, ◌<◌, Bool, true, false, cond, List, [], ◌∷◌, ◌++◌, append-nil, length, get_or, refl, sym, ap, subst, ◌∙◌}
+use Rattle.std.proofs.Common.{◌≡◌, ℕ, zero, suc, ◌+◌, ◌<◌, Bool, true, false, cond, List, [], ◌∷◌, ◌++◌, append-nil, length, get_or, refl, sym, ap, ◌∙◌}
 use Rattle.std.proofs.Common.{arith, slice_get}
 use Rattle.std.specs.Prelude.{All, filter}
 use Rattle.std.specs.List.{flat_map, range_with_len}
@@ -7,13 +7,13 @@ use Rattle.std.proofs.lemmas.List.Elements.{All-filter, filter-append}
 use Rattle.std.proofs.lemmas.List.FromFn.{get_or-range_with_len, length-range_with_len}
 use Rattle.std.specs.Option.{option_map_or}
 use Rattle.dist_cert.specs.declared.records.Claim.{Claim}
-use Rattle.dist_report.specs.StrongReport.{packages_with}
+use Rattle.dist_report.specs.ClaimParts.{packages_with}
 
 range-last : (a n j : ℕ) → a + n ≡ j → range_with_len a (suc n) ≡ range_with_len a n ++ j ∷ []
 range-last a zero j e = let same : a ≡ j = omega arith in ap (λ (k : ℕ). k ∷ []) same
 range-last a (suc n) j e = ap (λ (l : List ℕ). a ∷ l) (range-last (a + 1) n j (omega arith))
 
-range-more : (n : ℕ) → range_with_len 0 (n + 1) ≡ range_with_len 0 n ++ n ∷ []
+pub range-more : (n : ℕ) → range_with_len 0 (n + 1) ≡ range_with_len 0 n ++ n ∷ []
 range-more n = let next : n + 1 ≡ suc n = omega arith in ap (range_with_len 0) next ∙ range-last 0 n n (omega arith)
 
 filter-at : (test : ℕ → Bool) (n : ℕ) (b : Bool) → test n ≡ b → filter test (n ∷ []) ≡ cond b (n ∷ []) []

@@ -15,9 +15,9 @@ use Rattle.dist_classes.specs.Atoms.{AreBoundsVersions}
 use Rattle.dist_classes.specs.ClassList.{HasExample}
 use Rattle.dist_classes.specs.NewNames.{AreNewNames}
 use Rattle.dist_classes.specs.declared.class_value.Class.{Class}
-use Rattle.dist_report.specs.ClassesReport.{IsClassesText, ToldCluster, ToldName, classes_lines}
+use Rattle.dist_report.specs.ClassesReport.{AreToldClusters, IsClassesText, ToldCluster, ToldName, classes_lines}
 
-abbrev AreVersions : List Package → Type 0
+abbrev pub AreVersions : List Package → Type 0
 AreVersions packages = All (λ p. IsVersion p.version) packages
 
 version-at : (packages : List Package) → AreVersions packages → (n : ℕ) (o : Option Package) (v : List ℕ) → slice_get packages n ≡ o
@@ -42,21 +42,11 @@ record Told (r : PackageList) (members tops : List (List ℕ)) : Type 0 where
   classes : All (λ c. AreClassesOf r c.members c.top c.classes) clusters
   examples : All (λ c. All HasExample c.classes) clusters
 
-record ToldNames (r : PackageList) (names : List (List ℕ)) : Type 0 where
-  told : List ToldName
-  same : map (λ (n : ToldName). n.name) told ≡ names
-  classes : All (λ n. AreClassesOfName r n.name n.classes) told
-  examples : All (λ n. All HasExample n.classes) told
-
 module _ (some_partition : (members : List Member) → (clusters : List (List ℕ)) × IsPartition members clusters)
     (some_tops : (members : List Member) (clusters : List (List ℕ)) → IsPartition members clusters → (tops : List (List ℕ))
     × AreTops members (record { members = clusters; tops = tops }))
     (some_classes : (r : PackageList) (members top : List ℕ) → (classes : List Class) × AreClassesOf r members top classes)
-    (some_name_classes : (r : PackageList) (name : List ℕ) → (classes : List Class) × AreClassesOfName r name classes)
-    (some_names : (r : PackageList) → (names : List (List ℕ)) × AreNewNames r names)
     (none_empty : (r : PackageList) (members top : List ℕ) (classes : List Class) → AreBoundsVersions r → IsVersion top → AreClassesOf r members top classes
-    → All HasExample classes)
-    (none_empty_of_name : (r : PackageList) (name : List ℕ) (classes : List Class) → AreBoundsVersions r → AreClassesOfName r name classes
     → All HasExample classes) where
   tell : (r : PackageList) → AreBoundsVersions r → (members tops : List (List ℕ)) → length tops ≡ length members
       → ((k : ℕ) → k < length tops → IsVersion (get_or tops k [])) → Told r members tops
@@ -82,6 +72,35 @@ module _ (some_partition : (members : List Member) → (clusters : List (List �
             rest.examples;
       }
 
+  pub some-clusters : (r : PackageList) → AreBoundsVersions r → AreVersions r.packages → (clusters : List ToldCluster) × AreToldClusters r clusters
+  some-clusters r bounds versions =
+      let keys : List Member = map member_of r.packages in
+      let partition = some_partition keys in
+      let tops = some_tops keys partition.0 partition.1 in
+      let told = tell r bounds partition.0 tops.0 tops.1.aligned
+      (λ k short. top-version r.packages versions (get_or partition.0 k []) (get_or tops.0 k []) (tops.1.each k (omega (arith, tops.1.aligned)))) in
+      let Members : List (List ℕ) → Type 0 = λ list. AreClustersOf r (record { members = list; tops = tops.0 }) in
+      let Tops : List (List ℕ) → Type 0 = λ list. AreClustersOf r (record { members = map (λ (c : ToldCluster). c.members) told.clusters; tops = list }) in
+      let are : AreClustersOf r (record { members = partition.0; tops = tops.0 }) = record { partition = partition.1; tops = tops.1 } in (
+        told.clusters,
+        record {
+          are = subst Tops (sym told.same_tops) (subst Members (sym told.same_members) are);
+          classes = told.classes;
+          examples = told.examples;
+        },
+      )
+
+record ToldNames (r : PackageList) (names : List (List ℕ)) : Type 0 where
+  told : List ToldName
+  same : map (λ (n : ToldName). n.name) told ≡ names
+  classes : All (λ n. AreClassesOfName r n.name n.classes) told
+  examples : All (λ n. All HasExample n.classes) told
+
+module _ (some_clusters : (r : PackageList) → AreBoundsVersions r → AreVersions r.packages → (clusters : List ToldCluster) × AreToldClusters r clusters)
+    (some_name_classes : (r : PackageList) (name : List ℕ) → (classes : List Class) × AreClassesOfName r name classes)
+    (some_names : (r : PackageList) → (names : List (List ℕ)) × AreNewNames r names)
+    (none_empty_of_name : (r : PackageList) (name : List ℕ) (classes : List Class) → AreBoundsVersions r → AreClassesOfName r name classes
+    → All HasExample classes) where
   tell-names : (r : PackageList) → AreBoundsVersions r → (names : List (List ℕ)) → ToldNames r names
   tell-names r bounds [] = record {
     told = [];
@@ -102,25 +121,14 @@ module _ (some_partition : (members : List Member) → (clusters : List (List �
 
   pub some-text : (r : PackageList) → AreBoundsVersions r → AreVersions r.packages → (text : List ℕ) × IsClassesText r text
   some-text r bounds versions =
-      let keys : List Member = map member_of r.packages in
-      let partition = some_partition keys in
-      let tops = some_tops keys partition.0 partition.1 in
-      let told = tell r bounds partition.0 tops.0 tops.1.aligned
-      (λ k short. top-version r.packages versions (get_or partition.0 k []) (get_or tops.0 k []) (tops.1.each k (omega (arith, tops.1.aligned)))) in
+      let told = some_clusters r bounds versions in
       let names = some_names r in
-      let told_names = tell-names r bounds names.0 in
-      let Members : List (List ℕ) → Type 0 = λ list. AreClustersOf r (record { members = list; tops = tops.0 }) in
-      let Tops : List (List ℕ) → Type 0 = λ list. AreClustersOf r (record { members = map (λ (c : ToldCluster). c.members) told.clusters; tops = list }) in
-      let are : AreClustersOf r (record { members = partition.0; tops = tops.0 }) = record { partition = partition.1; tops = tops.1 } in (
-        classes_lines r.packages told.clusters told_names.told,
+      let told_names = tell-names r bounds names.0 in (
+        classes_lines r.packages told.0 told_names.told,
         record {
-          clusters = told.clusters;
+          clusters = told.0;
           names = told_names.told;
-          are_clusters = record {
-            are = subst Tops (sym told.same_tops) (subst Members (sym told.same_members) are);
-            classes = told.classes;
-            examples = told.examples;
-          };
+          are_clusters = told.1;
           are_names = record { are = subst (AreNewNames r) (sym told_names.same) names.1; classes = told_names.classes; examples = told_names.examples };
           is = refl;
         },

@@ -14,7 +14,7 @@ use Rattle.dist_classes.specs.Answers.{AreClassesOf, AreClassesOfName, AreCluste
 use Rattle.dist_classes.specs.ClassList.{HasExample}
 use Rattle.dist_classes.specs.NewNames.{AreNewNames}
 use Rattle.dist_classes.specs.declared.class_value.Class.{Class}
-use Rattle.dist_report.specs.ClassesReport.{ToldCluster, ToldName, cluster_lines, name_lines}
+use Rattle.dist_report.specs.ClassesReport.{AreToldClusters, ToldCluster, ToldName, cluster_lines, name_lines}
 use Rattle.dist_report.specs.Lines.{key_line}
 use Rattle.dist_report.specs.WrittenPrivate.{TellsClusters, TellsNames}
 
@@ -63,24 +63,24 @@ some-members r clusters are c members is =
     let Has : List ℕ → Type 0 = λ list. 0 < length list in
     subst Has same (are.partition.some c [] inside)
 
--- ---- clusters that are told so far
+-- ---- clusters that are told so far, of which something holds
 
-pub record AreToldSoFar (r : PackageList) (clusters : ClusterList) (k : ℕ) (before now : List ℕ) : Type 0 where
+pub record AreToldSoFar (r : PackageList) (clusters : ClusterList) (k : ℕ) (Holds : List ToldCluster → Type 0) : Type 0 where
   pub told : List ToldCluster
   pub members : map (λ t. t.members) told ≡ take k clusters.members
   pub tops : map (λ t. t.top) told ≡ take k clusters.tops
   pub classes : All (λ t. AreClassesOf r t.members t.top t.classes) told
   pub examples : All (λ t. All HasExample t.classes) told
-  pub text : now ≡ before ++ flat_map (cluster_lines r.packages) told
+  pub holds : Holds told
 
-pub told-none : (r : PackageList) (clusters : ClusterList) (before : List ℕ) → AreToldSoFar r clusters 0 before before
-told-none r clusters before = record {
+pub told-none : (r : PackageList) (clusters : ClusterList) (Holds : List ToldCluster → Type 0) → Holds [] → AreToldSoFar r clusters 0 Holds
+told-none r clusters Holds holds = record {
   told = [];
   members = refl;
   tops = refl;
   classes = All-nil (λ (t : ToldCluster). AreClassesOf r t.members t.top t.classes);
   examples = All-nil (λ (t : ToldCluster). All HasExample t.classes);
-  text = sym (append-nil before);
+  holds = holds;
 }
 
 map-push : (f : ToldCluster → List ℕ) (told : List ToldCluster) (t : ToldCluster) (whole : List (List ℕ)) (k : ℕ) → k < length whole → map f told ≡ take k whole
@@ -89,36 +89,66 @@ map-push : (f : ToldCluster → List ℕ) (told : List ToldCluster) (t : ToldClu
 map-push f told t whole k short so_far here =
     map-append f told (t ∷ []) ∙ ap (λ list. list ++ f t ∷ []) so_far ∙ ap (λ (x : List ℕ). take k whole ++ x ∷ []) here ∙ sym (take_more whole k [] short)
 
-pub told-more : (r : PackageList) (clusters : ClusterList) (k : ℕ) (before now after : List ℕ) (classes : List Class) → k < length clusters.members
-    → length clusters.tops ≡ length clusters.members →
-    AreToldSoFar r clusters k before now → AreClassesOf r (get_or clusters.members k []) (get_or clusters.tops k []) classes → All HasExample classes →
-    after ≡ now ++ cluster_lines r.packages (record { members = get_or clusters.members k []; top = get_or clusters.tops k []; classes = classes }) →
-    AreToldSoFar r clusters (k + 1) before after
-told-more r clusters k before now after classes short aligned so_far are examples text =
-    let t : ToldCluster = record { members = get_or clusters.members k []; top = get_or clusters.tops k []; classes = classes } in
+-- the cluster of a number with these classes
+abbrev pub told-at : ClusterList → ℕ → List Class → ToldCluster
+told-at clusters k classes = record { members = get_or clusters.members k []; top = get_or clusters.tops k []; classes = classes }
+
+pub told-more : (r : PackageList) (clusters : ClusterList) (k : ℕ) (classes : List Class) (Holds Later : List ToldCluster → Type 0)
+    → k < length clusters.members → length clusters.tops ≡ length clusters.members → AreToldSoFar r clusters k Holds
+    → AreClassesOf r (get_or clusters.members k []) (get_or clusters.tops k []) classes → All HasExample classes
+    → ((told : List ToldCluster) → Holds told → Later (told ++ told-at clusters k classes ∷ []))
+    → AreToldSoFar r clusters (k + 1) Later
+told-more r clusters k classes Holds Later short aligned so_far are examples later =
+    let t = told-at clusters k classes in
     record {
       told = so_far.told ++ t ∷ [];
       members = map-push (λ (c : ToldCluster). c.members) so_far.told t clusters.members k short so_far.members refl;
       tops = map-push (λ (c : ToldCluster). c.top) so_far.told t clusters.tops k (omega arith) so_far.tops refl;
       classes = All-push (λ (c : ToldCluster). AreClassesOf r c.members c.top c.classes) so_far.told t so_far.classes are;
       examples = All-push (λ (c : ToldCluster). All HasExample c.classes) so_far.told t so_far.examples examples;
-      text = text ∙ ap (λ (w : List ℕ). w ++ cluster_lines r.packages t) so_far.text ∙ flat_map_more (cluster_lines r.packages) before so_far.told t;
+      holds = later so_far.told so_far.holds;
     }
 
-pub told-all : (r : PackageList) (clusters : ClusterList) (k : ℕ) (old now : List ℕ) → length clusters.members ≤ k → AreClustersOf r clusters →
-    AreToldSoFar r clusters k (old ++ key_line (codes "clusters:") (length clusters.members == 0)) now → TellsClusters r old now
-told-all r clusters k old now past are so_far =
+-- all of them
+pub record AreAllTold (r : PackageList) (clusters : ClusterList) (told : List ToldCluster) : Type 0 where
+  pub are : AreToldClusters r told
+  pub members : map (λ t. t.members) told ≡ clusters.members
+
+pub told-all : (r : PackageList) (clusters : ClusterList) (k : ℕ) (Holds : List ToldCluster → Type 0) → length clusters.members ≤ k → AreClustersOf r clusters
+    → (so_far : AreToldSoFar r clusters k Holds) → AreAllTold r clusters so_far.told
+told-all r clusters k Holds past are so_far =
     let members : clusters.members ≡ map (λ (c : ToldCluster). c.members) so_far.told = sym (so_far.members ∙ take-past clusters.members k past) in
     let aligned = are.tops.aligned in
     let tops : clusters.tops ≡ map (λ (c : ToldCluster). c.top) so_far.told = sym (so_far.tops ∙ take-past clusters.tops k (omega arith)) in
     let Members : List (List ℕ) → Type 0 = λ list. AreClustersOf r (record { members = list; tops = clusters.tops }) in
     let Tops : List (List ℕ) → Type 0 = λ list. AreClustersOf r (record { members = map (λ (c : ToldCluster). c.members) so_far.told; tops = list }) in
-    let count : length clusters.members ≡ length so_far.told = ap length members ∙ length-map so_far.told (λ (c : ToldCluster). c.members) in
+    record {
+      are = record { are = subst Tops tops (subst Members members are); classes = so_far.classes; examples = so_far.examples };
+      members = sym members;
+    }
+
+-- ---- the lines of clusters
+
+-- the text ends with the lines of the clusters
+abbrev pub EndsWithLines : PackageList → (before now : List ℕ) → List ToldCluster → Type 0
+EndsWithLines r before now told = now ≡ before ++ flat_map (cluster_lines r.packages) told
+
+pub lines-told : (r : PackageList) (before now after : List ℕ) (t : ToldCluster) → after ≡ now ++ cluster_lines r.packages t → (told : List ToldCluster)
+    → EndsWithLines r before now told → EndsWithLines r before after (told ++ t ∷ [])
+lines-told r before now after t text told so_far =
+    text ∙ ap (λ (w : List ℕ). w ++ cluster_lines r.packages t) so_far ∙ flat_map_more (cluster_lines r.packages) before told t
+
+pub lines-all-told : (r : PackageList) (clusters : ClusterList) (k : ℕ) (old now : List ℕ) → length clusters.members ≤ k → AreClustersOf r clusters
+    → AreToldSoFar r clusters k (EndsWithLines r (old ++ key_line (codes "clusters:") (length clusters.members == 0)) now) → TellsClusters r old now
+lines-all-told r clusters k old now past are so_far =
+    let before = old ++ key_line (codes "clusters:") (length clusters.members == 0) in
+    let all = told-all r clusters k (EndsWithLines r before now) past are so_far in
+    let count : length clusters.members ≡ length so_far.told = sym (ap length all.members) ∙ length-map so_far.told (λ (c : ToldCluster). c.members) in
     let lines = flat_map (cluster_lines r.packages) so_far.told in
     record {
       clusters = so_far.told;
-      are = record { are = subst Tops tops (subst Members members are); classes = so_far.classes; examples = so_far.examples };
-      text = so_far.text ∙ append_assoc old (key_line (codes "clusters:") (length clusters.members == 0)) lines
+      are = all.are;
+      text = so_far.holds ∙ append_assoc old (key_line (codes "clusters:") (length clusters.members == 0)) lines
           ∙ ap (λ n. old ++ (key_line (codes "clusters:") (n == 0) ++ lines)) count;
     }
 

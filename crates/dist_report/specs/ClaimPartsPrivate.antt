@@ -1,23 +1,34 @@
--- What the parts of the report of strong dependencies take of a claim. No public clause cites it.
-use Rattle.std.specs.Prelude.{◌==◌, ◌-◌, ℕ, Bool, false, List, [], ◌∷◌, ◌++◌, length, slice_get, if◌then◌else◌}
+-- What the parts of the reports of claims take of a claim. No public clause cites it.
+use Rattle.std.specs.Prelude.{◌==◌, ◌-◌, ℕ, Bool, false, List, [], ◌∷◌, ◌++◌, codes, length, slice_get, if◌then◌else◌}
 use Rattle.std.specs.Option.{option_map_or}
 use Rattle.dist_cert.specs.declared.records.Claim.{Claim}
-use Rattle.dist_report.specs.StrongReport.{has_some, is_uninstallable, is_unknown, strong_on, undecided_on}
-use Rattle.dist_report.specs.declared.claim_parts.Dependence.{Dependence}
-use Rattle.dist_report.specs.declared.claim_parts.Dependence.TheVariants.{Strong, Undecided}
+use Rattle.dist_report.specs.ClaimParts.{challenged_by, has_some, is_outdated, is_uninstallable, is_unknown, strong_on}
+use Rattle.dist_report.specs.ClaimParts.{undecided_by, undecided_on}
+use Rattle.dist_report.specs.declared.claim_parts.Listing.{Listing}
+use Rattle.dist_report.specs.declared.claim_parts.Listing.TheVariants.{Claimed, Undecided}
 use Rattle.dist_report.specs.declared.claim_parts.Part.{Part}
-use Rattle.dist_report.specs.declared.claim_parts.Part.TheVariants.{NotInstallable, NotKnown, With}
+use Rattle.dist_report.specs.declared.claim_parts.Part.TheVariants.{NotInstallable, OutOfDate, NotKnown, With}
 
-abbrev pub list_of : Dependence → Claim → List ℕ
-list_of Strong = strong_on
+abbrev pub list_of : Listing → Claim → List ℕ
+list_of Claimed = strong_on
 list_of Undecided = undecided_on
+
+abbrev pub pairs_of : Listing → Claim → List (ℕ × ℕ)
+pairs_of Claimed = challenged_by
+pairs_of Undecided = undecided_by
+
+-- the key of the classes that break packages
+abbrev pub key_of : Listing → List ℕ
+key_of Claimed = codes "challenged:"
+key_of Undecided = codes "undecided_classes:"
 
 abbrev pub is_part : Part → Claim → Bool
 is_part NotInstallable claim = is_uninstallable claim
+is_part OutOfDate claim = is_outdated claim
 is_part NotKnown claim = is_unknown claim
 is_part (With kind) claim = has_some (list_of kind claim)
 
-abbrev pub list_at : Dependence → List Claim → ℕ → List ℕ
+abbrev pub list_at : Listing → List Claim → ℕ → List ℕ
 list_at kind made p = option_map_or (list_of kind) (slice_get made p) []
 
 -- whether the list's last number is this one

@@ -36,10 +36,13 @@ pub record AreToldNames (r : PackageList) (names : List ToldName) : Type 0 where
 
 -- ---- the text
 
--- a class, and an example of its versions
+-- a class, and an example of its versions, each behind what stands before it in its line
+abbrev pub class_and_example : (before_class before_example : List ℕ) → Class → List ℕ
+class_and_example before_class before_example class = string_line before_class (class_text class)
+    ++ string_line before_example (example_text class)
+
 abbrev pub class_lines : Class → List ℕ
-class_lines class = string_line (codes "      - class: ") (class_text class)
-    ++ string_line (codes "        example: ") (example_text class)
+class_lines class = class_and_example (codes "      - class: ") (codes "        example: ") class
 
 -- a cluster goes by its least member; what follows are the name of its source and its greatest version
 abbrev pub head_lines : List Package → (least : ℕ) → (top : List ℕ) → List ℕ

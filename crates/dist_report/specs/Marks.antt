@@ -2,7 +2,7 @@
 use Rattle.std.specs.Prelude.{◌==◌, ◌||◌, Bool, not, length}
 use Rattle.dist_cert.specs.declared.records.Claim.{Claim}
 use Rattle.dist_cert.specs.declared.records.Claim.TheVariants.{Challenged}
-use Rattle.dist_report.specs.StrongReport.{has_some, is_unknown, undecided_on}
+use Rattle.dist_report.specs.ClaimParts.{has_some, is_unknown, undecided_on}
 
 -- Something is left undecided: all that is asked of the package, or an entry of the claim's second list.
 abbrev pub has_mark : Claim → Bool

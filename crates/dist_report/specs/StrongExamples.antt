@@ -5,7 +5,8 @@ use Rattle.dist_cert.specs.declared.records.Claim.TheVariants.{Uninstallable, Un
 use Rattle.dist_repo.specs.declared.package.Package.{Package}
 use Rattle.dist_report.specs.StrongReport.{strong_lines}
 
-abbrev named : List ℕ → Package
+-- a package of version 1
+abbrev pub named : List ℕ → Package
 named name = record {
   name = name;
   version = codes "1";

@@ -3,7 +3,7 @@ ghost use Rattle.std.specs.Prelude.{◌≡◌, ◌++◌, ◌<◌, [], All, IfOk,
 ghost use Rattle.dist_classes.specs.Answers.{AreClustersOf};
 ghost use Rattle.dist_classes.specs.ClassList.{HasExample, HasVersions};
 ghost use Rattle.dist_classes.specs.NewNames.{AreNewNames};
-ghost use Rattle.dist_report.specs.ClassesReport.{IsClassesText, class_lines, head_lines, first_lines};
+ghost use Rattle.dist_report.specs.ClassesReport.{IsClassesText, class_and_example, class_lines, head_lines, first_lines};
 ghost use Rattle.dist_report.specs.Lines.{listed};
 ghost use Rattle.dist_report.specs.WrittenPrivate.{TellsCluster, TellsClusters, TellsName, TellsNames};
 
@@ -19,17 +19,24 @@ use dist_version::Version;
 use itoa::Buffer;
 use std::alloc::{AllocError, Global};
 
-/// Adds a class and its example.
-fn write_class(alloc: Global, out: &mut Vec<u8>, class: &Class) -> Result<(), AllocError>
+/// Adds a class and its example, each behind what stands before it in its line.
+pub(crate) fn write_class(
+    alloc: Global,
+    out: &mut Vec<u8>,
+    before_class: &[u8],
+    before_example: &[u8],
+    class: &Class,
+) -> Result<(), AllocError>
     requires { HasVersions class.now }
-    ensures text { OnOk result (out.new.items ≡ out.old.items ++ class_lines class.now) }
+    ensures text { OnOk result (out.new.items ≡ out.old.items ++ class_and_example before_class.now before_example.now class.now) }
     ensures there { HasExample class.now }
 {
     class_has_example(class);
-    out.extend_from_slice(b"      - class: \"")?;
+    out.extend_from_slice(before_class)?;
+    out.push(b'"')?;
     print_class(class, out)?;
     out.extend_from_slice(b"\"\n")?;
-    write_string(out, b"        example: ", example(alloc, class)?.text())?;
+    write_string(out, before_example, example(alloc, class)?.text())?;
     Ok(())
 }
 
@@ -40,7 +47,8 @@ fn write_classes(alloc: Global, out: &mut Vec<u8>, classes: &Classes) -> Result<
 {
     write_key(out, b"    classes:", classes.len() == 0)?;
     for place in 0..classes.len() {
-        write_class(alloc, out, classes.get(place))?;
+        let class = classes.get(place);
+        write_class(alloc, out, b"      - class: ", b"        example: ", class)?;
     }
     Ok(())
 }

@@ -3,9 +3,10 @@ ghost use Rattle.std.specs.Prelude.{◌≡◌, ◌<◌, ◌^◌, ℕ, [], All, I
 ghost use Rattle.std.specs.List.{range_with_len};
 ghost use Rattle.dist_cert.specs.Rising.{is_among};
 ghost use Rattle.dist_report.specs.ClaimPartsPrivate.{ended_by, ends_with, noted};
-ghost use Rattle.dist_report.specs.StrongReport.{has_some, impact_at};
+ghost use Rattle.dist_report.specs.ClaimParts.{has_some};
+ghost use Rattle.dist_report.specs.StrongReport.{impact_at};
 
-use crate::claim_parts::{Dependence, claim_list};
+use crate::claim_parts::{Listing, claim_list};
 use dist_cert::{Claims, Numbers};
 use std::alloc::{AllocError, Global};
 
@@ -30,7 +31,7 @@ fn note(lists: &mut Vec<Numbers>, on: u32, number: u32) -> Result<(), AllocError
 }
 
 /// Puts a package into the lists of those on which it depends. So far they have lower packages alone.
-fn note_all(lists: &mut Vec<Numbers>, number: u32, on: &[u32]) -> Result<(), AllocError>
+pub(crate) fn note_all(lists: &mut Vec<Numbers>, number: u32, on: &[u32]) -> Result<(), AllocError>
     requires { All (λ list. All (λ p. p < number) list) lists.old.items }
     ensures length { OnOk result (length lists.new.items ≡ length lists.old.items) }
     ensures each { OnOk result ((q : ℕ) → q < length lists.old.items → slice_index_or lists.new.items q [] ≡ noted number (is_among on.now q) (slice_index_or lists.old.items q [])) }
@@ -42,7 +43,7 @@ fn note_all(lists: &mut Vec<Numbers>, number: u32, on: &[u32]) -> Result<(), All
 }
 
 /// Lists without numbers, so many.
-fn no_numbers(alloc: Global, count: usize) -> Result<Vec<Numbers>, AllocError>
+pub(crate) fn no_numbers(alloc: Global, count: usize) -> Result<Vec<Numbers>, AllocError>
     ensures { IfOk result (λ lists. lists.items ≡ replicate count []) }
 {
     let mut lists = Vec::new(alloc);
@@ -60,7 +61,7 @@ pub(crate) fn turned(alloc: Global, claims: &Claims) -> Result<Vec<Numbers>, All
 {
     let mut lists = no_numbers(alloc, claims.len())?;
     for number in 0..claims.len() {
-        let on = claim_list(claims.get(number), Dependence::Strong);
+        let on = claim_list(claims.get(number), Listing::Claimed);
         note_all(&mut lists, number as u32, on)?;
     }
     Ok(lists)

@@ -1,17 +1,16 @@
 //! The report of strong dependencies. The text is one vector, and each of its lists one walk over the packages.
 ghost use Rattle.std.specs.Prelude.{◌≡◌, ◌++◌, ◌<◌, ◌^◌, [], All, IfOk, OnOk, length, slice_index_or, codes};
+ghost use Rattle.dist_report.specs.ClaimParts.{packages_with};
 ghost use Rattle.dist_report.specs.ClaimPartsPrivate.{is_part, list_at};
 ghost use Rattle.dist_report.specs.declared.claim_parts.Part.TheVariants.{With};
 ghost use Rattle.dist_report.specs.Lines.{listed};
-ghost use Rattle.dist_report.specs.PackageText.{package_line};
-ghost use Rattle.dist_report.specs.StrongReport.{packages_with, entry_lines, impact_at, strong_lines, strong_opening, with_impact};
+ghost use Rattle.dist_report.specs.StrongReport.{entry_lines, impact_at, strong_lines, with_impact};
 
-use crate::claim_parts::{Dependence, Part, claim_list, told};
+use crate::claim_parts::{Listing, Part, claim_list, opened, told, write_part};
 use crate::impact::{numbers_at, turned, with_some};
 use crate::lines::{write_key, write_numbered, write_packages};
-use dist_cert::{Claims, Header, Numbers};
+use dist_cert::{Claims, Numbers};
 use dist_repo::Repository;
-use itoa::Buffer;
 use std::alloc::{AllocError, Global};
 
 /// Adds a package and the packages of its list.
@@ -29,30 +28,13 @@ fn write_entry(
     Ok(())
 }
 
-/// Adds the packages that a part tells.
-fn write_part(
-    alloc: Global,
-    out: &mut Vec<u8>,
-    repo: &Repository,
-    claims: &Claims,
-    key: &[u8],
-    part: Part,
-) -> Result<(), AllocError>
-    requires { length claims.now < 2 ^ 32 }
-    ensures { OnOk result (out.new.items ≡ out.old.items ++ listed key.now (package_line (codes "  - ") repo.now.packages) (packages_with (is_part part) claims.now)) }
-{
-    let numbers = told(alloc, claims, part)?;
-    write_packages(out, repo, key, b"  - ", &numbers)?;
-    Ok(())
-}
-
 /// Adds packages, each with its list of one kind.
 fn write_lists(
     out: &mut Vec<u8>,
     repo: &Repository,
     claims: &Claims,
     key: &[u8],
-    kind: Dependence,
+    kind: Listing,
     numbers: &[u32],
 ) -> Result<(), AllocError>
     requires within { All (λ p. p < length claims.now) numbers.now }
@@ -73,7 +55,7 @@ fn write_dependences(
     repo: &Repository,
     claims: &Claims,
     key: &[u8],
-    kind: Dependence,
+    kind: Listing,
 ) -> Result<(), AllocError>
     requires { length claims.now < 2 ^ 32 }
     ensures { OnOk result (out.new.items ≡ out.old.items ++ listed key.now (λ p. entry_lines repo.now.packages (codes "    on:") p (list_at kind claims.now p)) (packages_with (is_part (With kind)) claims.now)) }
@@ -117,36 +99,17 @@ fn write_impact(
     Ok(())
 }
 
-/// The lines before the first list.
-fn opened(alloc: Global, repo: &Repository, limit: u32) -> Result<Vec<u8>, AllocError>
-    ensures { IfOk result (λ out. out.items ≡ strong_opening repo.now.packages limit) }
-{
-    let mut out = Vec::from_slice(alloc, b"report: \"strong\"\nlimit: ")?;
-    let mut buffer = Buffer::new();
-    out.extend_from_slice(buffer.format(limit).as_bytes())?;
-    out.extend_from_slice(b"\npackages: ")?;
-    out.extend_from_slice(buffer.format(repo.len()).as_bytes())?;
-    out.push(b'\n')?;
-    Ok(out)
-}
-
-/// The report of what an accepted certificate claims of the packages of a repository. Of the first line it tells the limit.
-/// Claims of other kinds have no report yet: of them nothing is listed.
-///
-/// Its time and memory are linear in the packages and the listed pairs.
-pub fn text(
+/// The report of claims of strong dependencies.
+pub(crate) fn strong_text(
     alloc: Global,
     repo: &Repository,
-    header: &Header,
+    limit: u32,
     claims: &Claims,
 ) -> Result<Vec<u8>, AllocError>
-    ensures { IfOk result (λ text. text.items ≡ strong_lines repo.now.packages header.now.limit claims.now) }
+    requires { length claims.now < 2 ^ 32 }
+    ensures { IfOk result (λ text. text.items ≡ strong_lines repo.now.packages limit claims.now) }
 {
-    if claims.len() > u32::MAX as usize {
-        // No memory has numbers for so many packages.
-        return Err(AllocError);
-    }
-    let mut out = opened(alloc, repo, header.limit)?;
+    let mut out = opened(alloc, repo, b"strong", limit)?;
     write_part(
         alloc,
         &mut out,
@@ -155,14 +118,7 @@ pub fn text(
         b"uninstallable:",
         Part::NotInstallable,
     )?;
-    write_dependences(
-        alloc,
-        &mut out,
-        repo,
-        claims,
-        b"strong:",
-        Dependence::Strong,
-    )?;
+    write_dependences(alloc, &mut out, repo, claims, b"strong:", Listing::Claimed)?;
     write_impact(alloc, &mut out, repo, claims)?;
     write_part(alloc, &mut out, repo, claims, b"undecided:", Part::NotKnown)?;
     write_dependences(
@@ -171,7 +127,7 @@ pub fn text(
         repo,
         claims,
         b"undecided_pairs:",
-        Dependence::Undecided,
+        Listing::Undecided,
     )?;
     Ok(out)
 }

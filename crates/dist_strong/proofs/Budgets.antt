@@ -1,5 +1,6 @@
 -- What stops a sweep is below its budget.
-use Rattle.std.proofs.Common.{◌≡◌, ⊎_elim, ℕ, ◌+◌, ◌*◌, ◌≤◌, Bool, List, [], ◌∷◌, ◌++◌, length, refl, subst, arith, length-append, mul-add, mul-one, mul_comm}
+use Rattle.std.proofs.Common.{◌≡◌, ◌∙◌, ⊎_elim, sym, ℕ, ◌+◌, ◌*◌, ◌≤◌, Bool, List, [], ◌∷◌, ◌++◌, length, refl, subst, arith, length-append, mul-add, mul-one}
+use Rattle.std.proofs.Common.{mul_comm}
 use Rattle.std.proofs.Common.{mul-le-mul_left}
 use Rattle.std.specs.List.{All}
 use Rattle.std.proofs.lemmas.List.Sums.{sum_by-le}
@@ -19,7 +20,7 @@ use Rattle.dist_cert.specs.Part.{Passes}
 use Rattle.dist_cert.specs.Refusal.{lines_text, certificate_text}
 use Rattle.dist_cert.specs.Subject.{Matter}
 use Rattle.dist_cert.specs.Writing.{ended}
-use Rattle.dist_subject.specs.Present.{matter_of, subject_of}
+use Rattle.dist_subject.specs.Basis.{Basis, Today, Later, IsBasisOf, matter_of, subject_of}
 use Rattle.dist_strong.specs.Budget.{question_budget, line_budget, literal_budget, record_budget, certificate_budget, IsBelowBudget}
 use Rattle.dist_sweep.specs.Sweep.{IsFull}
 use Rattle.dist_strong.proofs.BudgetCounts.{asked, answers, ends, few-derived, few-answers, few-ends, few-claims, all-sorts}
@@ -87,12 +88,20 @@ below limits matter h steps Certificate same strong kept first passes = let few 
 below limits matter h steps what same strong kept first passes = absurd passes
 
 pub budgets-are-enough : FormsAreClear → (r : PackageList) (essential : Bool) (limit : ℕ) (limits : Limits) (what : What) (text : List ℕ)
-    → IsFull r essential limit limits what text
+    → IsFull r kinds.Strong essential limit limits what text
     → IsBelowBudget limits (length r.packages) limit what
-budgets-are-enough clear r essential limit limits what text full =
-    let stopped = full.2 in
-    let inputs = full.0 in
-    let h = (stopped.next.longer.reads.header) in
-    below limits (matter_of r essential (inputs essential)) _ stopped.next.steps what refl refl
-    (part-kept clear (subject_of r inputs) limits _ (text ++ ended stopped.line) stopped.next.steps stopped.next.longer)
-    (header-width _ (length r.packages) stopped.next.longer.reads.header) stopped.passes
+budgets-are-enough clear r essential limit limits what text (bases, are, stopped) =
+    let n = length r.packages in
+    let basis = bases kinds.Strong essential in
+    let matter = matter_of r essential basis in
+    let sizes = strong-sizes r essential basis (are kinds.Strong essential) in
+    subst (λ packages. IsBelowBudget limits packages limit what) sizes.0
+    (below limits matter _ stopped.next.steps what (sizes.1 ∙ sym sizes.0) refl
+    (part-kept clear (subject_of r bases) limits _ (text ++ ended stopped.line) stopped.next.steps stopped.next.longer)
+    (header-width _ matter.packages stopped.next.longer.reads.header) stopped.passes)
+  where
+    -- the packages are the variables
+    strong-sizes : (r : PackageList) (essential : Bool) (basis : Basis) → IsBasisOf r kinds.Strong essential basis
+        → ((matter_of r essential basis).packages ≡ length r.packages) × ((matter_of r essential basis).variables ≡ length r.packages)
+    strong-sizes r essential (Today inputs) is = (refl, refl)
+    strong-sizes r essential (Later space inputs) is = absurd is

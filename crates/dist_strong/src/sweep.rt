@@ -17,10 +17,10 @@ ghost use Rattle.dist_sweep.specs.Sweep.{SweepAnswers};
 use crate::claimant::StrongClaimant;
 use dist_cert::{CertKind, Claims, Header};
 use dist_clause::{ClauseSet, PushError};
-use dist_now::{clauses_of, present_clauses_are_one};
+use dist_now::clauses_of;
 use dist_outside::{Desk, Limits, What, WorkError};
 use dist_repo::Repository;
-use dist_subject::{inputs_are_one, models_are_healthy};
+use dist_subject::{bases_are_one, models_are_healthy};
 use dist_sweep::{Asker, write_file};
 use std::alloc::Global;
 
@@ -85,12 +85,11 @@ pub fn strong<D: Desk>(
     requires from_one { 1 ≤ limit }
     requires upto { limit ≤ MAX_LIMIT }
     requires limits { AreStated limits.now }
-    ensures answers { SweepAnswers repo.now essential limit limits.now name.now (D.view desk.old) (D.view desk.new) result }
+    ensures answers { SweepAnswers repo.now Strong essential limit limits.now name.now (D.view desk.old) (D.view desk.new) result }
     ensures too_many_clauses { IsExactly NoMemory result (TooLarge what.Clauses) (PassesClauses repo.now essential limits.now.clauses limits.now.literals) }
     ensures too_many_literals { IsExactly NoMemory result (TooLarge what.Literals) (PassesLiterals repo.now essential limits.now.clauses limits.now.literals) }
 {
-    inputs_are_one();
-    present_clauses_are_one();
+    bases_are_one();
     models_are_healthy();
     let inputs = inputs_of(alloc, repo, essential, limits)?;
     let header = header_of(repo, essential, limit, inputs.len());

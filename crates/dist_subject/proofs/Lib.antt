@@ -1,2 +1,4 @@
 mod Truth
-mod Later
+mod Bases
+mod Standing
+mod PairsOfSpace

@@ -25,12 +25,3 @@ truth-same values variables are =
         ∙ both-flags (is_among variables (k + 1)) (get_or values ((k + 1) - 1) false) (λ yes. here.0 (from-any (k + 1) variables yes))
         (λ yes. any-from (k + 1) variables (here.1 yes))
         ∙ ap (λ n. get_or values n false) place
-
-pub healthy-model : (r : PackageList) (essential : Bool) (clauses : List (List Literal)) (values : List Bool) (variables : List ℕ)
-    → length values ≡ length r.packages
-    → AreModelsInstallations r essential clauses → IsModel (value_of values) clauses → AreTrueOf values variables
-    → IsInstallation essential r (packages_of r.packages variables)
-healthy-model r essential clauses values variables size models model are =
-    subst (λ flags. IsInstallation essential r (members_of r.packages flags))
-    (sym (ap (λ n. truth_of n variables) (sym size) ∙ truth-same values variables are))
-    (models.healthy values (record { one_each = size; model = model }))

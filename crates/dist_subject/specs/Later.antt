@@ -1,15 +1,12 @@
--- What a certificate of kind outdated or challenged speaks of: the newest version of each name, by the space of their
--- futures.
-use Rattle.std.specs.Prelude.{◌≡◌, ℕ, ◌+◌, ◌-◌, Bool, List, [], length, map, slice_index_or}
+-- What a certificate of kind outdated or challenged speaks of: the futures of the packages, by their space.
+use Rattle.std.specs.Prelude.{ℕ, ◌+◌, ◌-◌, Bool, List, [], length, map, slice_index_or}
 use Rattle.std.specs.List.{range_with_len}
 use Rattle.dist_clause.specs.Formula.{Literal}
-use Rattle.dist_repo.specs.declared.package.Package.{Package}
 use Rattle.dist_space.specs.Space.{SpaceView, cluster_classes, variable_of}
 use Rattle.dist_space.specs.declared.meaning.Meaning.TheVariants.{Present, At, New}
 use Rattle.dist_future.specs.FutureClauses.{MeetsFuture}
 use Rattle.dist_future.specs.Outdated.{IsInstallationOf}
-use Rattle.dist_future.specs.SpaceLaws.{examples_of, holds_under}
-use Rattle.dist_future.specs.Stands.{future_of, installation_of}
+use Rattle.dist_future.specs.SpaceLaws.{future_under, installation_under}
 use Rattle.dist_cert.specs.Subject.{Cluster, Matter}
 use Rattle.dist_subject.specs.Present.{truth_of}
 
@@ -19,13 +16,6 @@ cluster_of s cluster = record {
   members = map (λ m. m + 1) (slice_index_or s.clusters.members cluster []);
   classes = length (cluster_classes s cluster);
 }
-
--- the future that an assignment stands for, and the installation in it: new versions of a class are at its example
-abbrev pub future_at : SpaceView → List Bool → List Package
-future_at s values = future_of s (holds_under s values) (examples_of s)
-
-abbrev pub installation_at : SpaceView → List Bool → List Package
-installation_at s values = installation_of s (holds_under s values) (examples_of s)
 
 -- The variables are those of the space. A set of variables stands for a future where it meets the clauses that say what
 -- a future is, and is healthy where the installation that it stands for is a healthy one of that future.
@@ -40,5 +30,6 @@ later_matter s inputs = record {
   at = λ cluster class. variable_of s (At (cluster - 1) (class - 1));
   IsFuture = λ members. MeetsFuture s (truth_of (length s.meanings) members);
   IsHealthy = λ members. IsInstallationOf s.essential s.repository
-      (future_at s (truth_of (length s.meanings) members)) (installation_at s (truth_of (length s.meanings) members));
+      (future_under s (truth_of (length s.meanings) members)) (installation_under s (truth_of
+      (length s.meanings) members));
 }

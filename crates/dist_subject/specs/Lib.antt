@@ -1,8 +1,11 @@
 pub mod Present
 pub mod Later
+pub mod Basis
 pub mod PresentExamples
+pub mod LaterExamples
 pub mod Claims
 pub mod Installed
 pub mod Limited
 pub mod Completed
 pub mod TruthLaws
+pub mod MemberLaws

@@ -1,9 +1,9 @@
-//! What certificates speak of: the packages of a repository and the clauses of the present, or the newest version of each name
-//! and the space of their futures. The writer of certificates, their checker and the reports cite these definitions.
+//! What certificates are judged by: the packages as they are and the clauses of the present, or the futures of the packages and
+//! the clauses of their space. The writer of certificates, their checker and the reports cite these definitions.
 #![tactic(auto)]
 
-mod later_laws;
 mod laws;
+mod pair_laws;
 
-pub use later_laws::later_models_are_healthy;
-pub use laws::{inputs_are_one, models_are_healthy};
+pub use laws::{bases_are_one, futures_are_of_the_packages, models_are_healthy};
+pub use pair_laws::pairs_are_of_the_space;

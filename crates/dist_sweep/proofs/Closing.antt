@@ -32,7 +32,6 @@ use Rattle.dist_cert.specs.PartByRecordsLaws.{IsLine}
 use Rattle.dist_cert.specs.Refusal.{lines_text}
 use Rattle.dist_cert.specs.Writing.{WriterView}
 use Rattle.dist_subject.specs.Installed.{AreTrueOf}
-use Rattle.dist_subject.specs.Present.{matter_of}
 use Rattle.dist_sweep.specs.Asking.{IsLogAt, IsDerived, MayDerive, work_of}
 use Rattle.dist_sweep.specs.Script.{Setting, IsWriter, KeepsLines, Stops, PutAll, PutAllStops, matter_in}
 use Rattle.dist_sweep.specs.Words.{IsAnswerOver, closing_line, derived_lines, words_of, true_variables}

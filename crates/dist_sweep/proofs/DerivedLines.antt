@@ -12,7 +12,6 @@ use Rattle.dist_derive.specs.Follows.{Follows}
 use Rattle.dist_derive.specs.New.{EachIsNew, IsNew}
 use Rattle.dist_solver.specs.Derived.{DerivedLine}
 use Rattle.dist_solver.specs.Evidence.{EachIsEvidence, IsShort}
-use Rattle.dist_cert.specs.declared.records.CertKind.TheVariants as kinds
 use Rattle.dist_cert.specs.declared.records.CertRecord.{CertRecord}
 use Rattle.dist_cert.specs.declared.records.CertRecord.TheVariants.{Derived}
 use Rattle.dist_cert.specs.Form.{Word, is_end}

@@ -1,15 +1,16 @@
 -- What a sweep leaves in its file, by its answer.
 use Rattle.std.proofs.Common.{⊎_elim, inl, inr, ℕ, ◌≤◌, Bool, List, [], ◌∷◌, ◌++◌, ◌∙◌, Ok, Err, refl, ap, sym, subst, append-nil, arith}
-use Rattle.dist_clause.specs.Formula.{Literal}
 use Rattle.dist_outside.specs.Counts.{Rose}
 use Rattle.dist_outside.specs.DeskView.{Closed, DeskView, FileGrew, Holds, NotCreated, WriteCounts}
 use Rattle.dist_outside.specs.Files.{Idle, IsNotWriting, Mode, Writing, where_told}
 use Rattle.dist_outside.specs.Reading.{DeskWriteCause}
 use Rattle.dist_outside.specs.declared.limits.Limits.{Limits}
-use Rattle.dist_outside.specs.declared.trouble.What.TheVariants.{Clauses, Literals}
+use Rattle.dist_outside.specs.declared.trouble.What.TheVariants.{Variables, Clauses, Literals}
 use Rattle.dist_outside.specs.declared.trouble.WorkError.{WorkError}
 use Rattle.dist_outside.specs.declared.trouble.WorkError.TheVariants.{ReadFault, WriteFault, TooLarge, NoMemory}
 use Rattle.dist_repo.specs.PackageList.{PackageList}
+use Rattle.dist_subject.specs.Basis.{Bases}
+use Rattle.dist_cert.specs.declared.records.CertKind.{CertKind}
 use Rattle.dist_cert.specs.declared.records.CertRecord.TheVariants.{End}
 use Rattle.dist_cert.specs.declared.records.Claim.{Claim}
 use Rattle.dist_cert.specs.declared.records.Header.{Header}
@@ -41,9 +42,10 @@ holds : (name text : List ℕ) (old mid late new : DeskView) → IsDone name old
 holds name text old mid late new done grew = done.closing name text (Writing (where_told old.files name)) old late new
     (done.more name [] text old mid late done.created grew) done.closed
 
-leaves : (r : PackageList) (essential : Bool) (limit : ℕ) (limits : Limits) (name text : List ℕ) (old new : DeskView) → Holds name text Idle old new
-    → IsCutSweep r essential limit limits text → LeavesPart r essential limit limits name old new
-leaves r essential limit limits name text old new there cut = record {
+leaves : (r : PackageList) (kind : CertKind) (essential : Bool) (limit : ℕ) (limits : Limits) (name text : List ℕ) (old new : DeskView)
+    → Holds name text Idle old new
+    → IsCutSweep r kind essential limit limits text → LeavesPart r kind essential limit limits name old new
+leaves r kind essential limit limits name text old new there cut = record {
   files = inr (text, cut, there.files);
   not_writing = subst IsNotWriting (sym there.mode_is) tt;
   counts = there.counts;
@@ -61,128 +63,132 @@ rose-within name text old mid late new done grew rose =
 
 -- ---- a refusal while lines are written
 
-stopped-first : (r : PackageList) (essential : Bool) (limit : ℕ) (limits : Limits) (inputs : Bool → List (List Literal)) (name : List ℕ)
-    (old mid late new : DeskView) (error : WorkError) → IsSet r essential limit limits inputs
-    → IsDone name old mid late new → StopsFirst (setting_of r essential limit limits inputs) mid late error
-    → SweepAnswers r essential limit limits name old new (Err error)
-stopped-first r essential limit limits inputs name old mid late new WriteFault is done stops = (
+stopped-first : (r : PackageList) (kind : CertKind) (essential : Bool) (limit : ℕ) (limits : Limits) (bases : Bases) (name : List ℕ)
+    (old mid late new : DeskView) (error : WorkError) → IsSet r kind essential limit limits bases
+    → IsDone name old mid late new → StopsFirst (setting_of r kind essential limit limits bases) mid late error
+    → SweepAnswers r kind essential limit limits name old new (Err error)
+stopped-first r kind essential limit limits bases name old mid late new WriteFault is done stops = (
   rose-within name stops.cut old mid late new done stops.grew stops.by,
-  leaves r essential limit limits name stops.cut old new (holds name stops.cut old mid late new done stops.grew)
-      (cut-first r essential limit limits inputs is stops.cut stops.is_front),
+  leaves r kind essential limit limits name stops.cut old new (holds name stops.cut old mid late new done stops.grew)
+      (cut-first r kind essential limit limits bases is stops.cut stops.is_front),
 )
-stopped-first r essential limit limits inputs name old mid late new NoMemory is done stops =
-    leaves r essential limit limits name stops.cut old new (holds name stops.cut old mid late new done stops.grew)
-    (cut-first r essential limit limits inputs is stops.cut stops.is_front)
-stopped-first r essential limit limits inputs name old mid late new ReadFault is done stops = stops.by
-stopped-first r essential limit limits inputs name old mid late new (TooLarge Clauses) is done stops = absurd stops.by.1
-stopped-first r essential limit limits inputs name old mid late new (TooLarge Literals) is done stops = absurd stops.by.1
-stopped-first r essential limit limits inputs name old mid late new (TooLarge what) is done stops = (
+stopped-first r kind essential limit limits bases name old mid late new NoMemory is done stops =
+    leaves r kind essential limit limits name stops.cut old new (holds name stops.cut old mid late new done stops.grew)
+    (cut-first r kind essential limit limits bases is stops.cut stops.is_front)
+stopped-first r kind essential limit limits bases name old mid late new ReadFault is done stops = stops.by
+stopped-first r kind essential limit limits bases name old mid late new (TooLarge Variables) is done stops = absurd stops.by.1
+stopped-first r kind essential limit limits bases name old mid late new (TooLarge Clauses) is done stops = absurd stops.by.1
+stopped-first r kind essential limit limits bases name old mid late new (TooLarge Literals) is done stops = absurd stops.by.1
+stopped-first r kind essential limit limits bases name old mid late new (TooLarge what) is done stops = (
   [],
   holds name [] old mid late new done (subst (λ (text : List ℕ). FileGrew text mid late) stops.by.0 stops.grew),
-  first-full r essential limit limits inputs is what stops.by.1,
+  first-full r kind essential limit limits bases is what stops.by.1,
 )
 
-stopped-later : (r : PackageList) (essential : Bool) (limit : ℕ) (limits : Limits) (inputs : Bool → List (List Literal)) (name : List ℕ)
-    (old mid late new : DeskView) (error : WorkError) → IsSet r essential limit limits inputs
-    → IsDone name old mid late new → StopsLater (setting_of r essential limit limits inputs) mid late error
-    → SweepAnswers r essential limit limits name old new (Err error)
-stopped-later r essential limit limits inputs name old mid late new WriteFault is done stops =
-    let text : List ℕ = certificate_text (setting_of r essential limit limits inputs).header stops.lines ++ stops.cut in (
+stopped-later : (r : PackageList) (kind : CertKind) (essential : Bool) (limit : ℕ) (limits : Limits) (bases : Bases) (name : List ℕ)
+    (old mid late new : DeskView) (error : WorkError) → IsSet r kind essential limit limits bases
+    → IsDone name old mid late new → StopsLater (setting_of r kind essential limit limits bases) mid late error
+    → SweepAnswers r kind essential limit limits name old new (Err error)
+stopped-later r kind essential limit limits bases name old mid late new WriteFault is done stops =
+    let text : List ℕ = certificate_text (setting_of r kind essential limit limits bases).header stops.lines ++ stops.cut in (
       rose-within name text old mid late new done stops.grew stops.by,
-      leaves r essential limit limits name text old new (holds name text old mid late new done stops.grew)
-          (cut-behind r essential limit limits inputs is stops.lines stops.cut stops.written stops.cut_off),
+      leaves r kind essential limit limits name text old new (holds name text old mid late new done stops.grew)
+          (cut-behind r kind essential limit limits bases is stops.lines stops.cut stops.written stops.cut_off),
     )
-stopped-later r essential limit limits inputs name old mid late new NoMemory is done stops =
-    let text : List ℕ = certificate_text (setting_of r essential limit limits inputs).header stops.lines ++ stops.cut in
-    leaves r essential limit limits name text old new (holds name text old mid late new done stops.grew)
-    (cut-behind r essential limit limits inputs is stops.lines stops.cut stops.written stops.cut_off)
-stopped-later r essential limit limits inputs name old mid late new ReadFault is done stops = stops.by
-stopped-later r essential limit limits inputs name old mid late new (TooLarge Clauses) is done stops = absurd stops.by.1.2
-stopped-later r essential limit limits inputs name old mid late new (TooLarge Literals) is done stops = absurd stops.by.1.2
-stopped-later r essential limit limits inputs name old mid late new (TooLarge what) is done stops =
-    let g = setting_of r essential limit limits inputs in (
+stopped-later r kind essential limit limits bases name old mid late new NoMemory is done stops =
+    let text : List ℕ = certificate_text (setting_of r kind essential limit limits bases).header stops.lines ++ stops.cut in
+    leaves r kind essential limit limits name text old new (holds name text old mid late new done stops.grew)
+    (cut-behind r kind essential limit limits bases is stops.lines stops.cut stops.written stops.cut_off)
+stopped-later r kind essential limit limits bases name old mid late new ReadFault is done stops = stops.by
+stopped-later r kind essential limit limits bases name old mid late new (TooLarge Variables) is done stops = absurd stops.by.1.2
+stopped-later r kind essential limit limits bases name old mid late new (TooLarge Clauses) is done stops = absurd stops.by.1.2
+stopped-later r kind essential limit limits bases name old mid late new (TooLarge Literals) is done stops = absurd stops.by.1.2
+stopped-later r kind essential limit limits bases name old mid late new (TooLarge what) is done stops =
+    let g = setting_of r kind essential limit limits bases in (
       certificate_text g.header stops.lines,
       holds name (certificate_text g.header stops.lines) old mid late new done
           (subst (λ (text : List ℕ). FileGrew text mid late) (ap (λ (cut : List ℕ). certificate_text g.header stops.lines ++ cut) stops.by.0
           ∙ append-nil (certificate_text g.header stops.lines)) stops.grew),
-      full r essential limit limits inputs is stops.lines what stops.written stops.by.1,
+      full r kind essential limit limits bases is stops.lines what stops.written stops.by.1,
     )
 
-set-of : {C : Type 0} (Keeps : Keeping C) → FormsAreClear → (r : PackageList) (essential : Bool) (limit : ℕ) (limits : Limits) (header : Header)
-    (a : AskerView) (c : C) → (may : MayBegin Keeps r essential limit limits header a c) → IsSet r essential limit limits may.inputs
-set-of Keeps clear r essential limit limits header a c may = record { clear = clear; are_inputs = may.are_inputs; header = may.header_of }
+set-of : {C : Type 0} (Keeps : Keeping C) → FormsAreClear → (r : PackageList) (kind : CertKind) (essential : Bool) (limit : ℕ) (limits : Limits)
+    (header : Header)
+    (a : AskerView) (c : C) → (may : MayBegin Keeps r kind essential limit limits header a c) → IsSet r kind essential limit limits may.bases
+set-of Keeps clear r kind essential limit limits header a c may = record { clear = clear; are_bases = may.are_bases; header = may.header_of }
 
 pub file-stopped : {C : Type 0} (Keeps : Keeping C) → FormsAreClear → (name : List ℕ) (old mid late new : DeskView) (header : Header) (a : AskerView)
     (c : C) (error : WorkError)
     → IsDone name old mid late new → SweepStops Keeps header mid late a (new_window a.log.variables) c error
     → FileAnswers Keeps header a c name old new (Err error)
-file-stopped Keeps clear name old mid late new header a c error done stops r essential limit limits may =
-    let is = set-of Keeps clear r essential limit limits header a c may in
-    ⊎_elim (λ first. stopped-first r essential limit limits may.inputs name old mid late new error is done first)
-    (λ later. stopped-later r essential limit limits may.inputs name old mid late new error is done later)
-    (stops (setting_of r essential limit limits may.inputs) may.begins)
+file-stopped Keeps clear name old mid late new header a c error done stops r kind essential limit limits may =
+    let is = set-of Keeps clear r kind essential limit limits header a c may in
+    ⊎_elim (λ first. stopped-first r kind essential limit limits may.bases name old mid late new error is done first)
+    (λ later. stopped-later r kind essential limit limits may.bases name old mid late new error is done later)
+    (stops (setting_of r kind essential limit limits may.bases) may.begins)
 
 -- ---- the other answers
 
-not-made : (r : PackageList) (essential : Bool) (limit : ℕ) (limits : Limits) (inputs : Bool → List (List Literal)) (name : List ℕ) (old new : DeskView)
-    → IsSet r essential limit limits inputs → NotCreated name old new
-    → LeavesPart r essential limit limits name old new
-not-made r essential limit limits inputs name old new is refused = record {
-  files = ⊎_elim inl (λ empty. inr ([], cut-nothing r essential limit limits inputs is, empty)) refused.as_before_or_empty;
+not-made : (r : PackageList) (kind : CertKind) (essential : Bool) (limit : ℕ) (limits : Limits) (bases : Bases) (name : List ℕ) (old new : DeskView)
+    → IsSet r kind essential limit limits bases → NotCreated name old new
+    → LeavesPart r kind essential limit limits name old new
+not-made r kind essential limit limits bases name old new is refused = record {
+  files = ⊎_elim inl (λ empty. inr ([], cut-nothing r kind essential limit limits bases is, empty)) refused.as_before_or_empty;
   not_writing = subst IsNotWriting (sym refused.idle) tt;
   counts = refused.counts;
 }
 
-caused : (r : PackageList) (essential : Bool) (limit : ℕ) (limits : Limits) (name : List ℕ) (old late new : DeskView) (error : WorkError)
+caused : (r : PackageList) (kind : CertKind) (essential : Bool) (limit : ℕ) (limits : Limits) (name : List ℕ) (old late new : DeskView) (error : WorkError)
     → old.write_faults ≤ late.write_faults → DeskWriteCause error late new
-    → LeavesPart r essential limit limits name old new → late.write_faults ≤ new.write_faults → SweepAnswers r essential limit limits name old new
+    → LeavesPart r kind essential limit limits name old new → late.write_faults ≤ new.write_faults → SweepAnswers r kind essential limit limits name old new
     (Err error)
-caused r essential limit limits name old late new WriteFault before cause left after =
+caused r kind essential limit limits name old late new WriteFault before cause left after =
     (rose-later old.write_faults late.write_faults new.write_faults before after cause, left)
-caused r essential limit limits name old late new NoMemory before cause left after = left
-caused r essential limit limits name old late new error before cause left after = absurd cause
+caused r kind essential limit limits name old late new NoMemory before cause left after = left
+caused r kind essential limit limits name old late new error before cause left after = absurd cause
 
 pub file-refused : {C : Type 0} (Keeps : Keeping C) → FormsAreClear → (name : List ℕ) (old new : DeskView) (header : Header) (a : AskerView) (c : C)
     (error : WorkError)
     → NotCreated name old new → DeskWriteCause error old new
     → FileAnswers Keeps header a c name old new (Err error)
-file-refused Keeps clear name old new header a c error refused cause r essential limit limits may =
-    caused r essential limit limits name old old new error (omega arith) cause
-    (not-made r essential limit limits may.inputs name old new (set-of Keeps clear r essential limit limits header a c may) refused)
+file-refused Keeps clear name old new header a c error refused cause r kind essential limit limits may =
+    caused r kind essential limit limits name old old new error (omega arith) cause
+    (not-made r kind essential limit limits may.bases name old new (set-of Keeps clear r kind essential limit limits header a c may) refused)
     refused.counts.write_faults_stand
 
 pub file-closed : {C : Type 0} (Keeps : Keeping C) → FormsAreClear → (name : List ℕ) (old mid late new : DeskView) (header : Header) (a : AskerView) (c : C)
     (made : List Claim)
     (error : WorkError) → IsDone name old mid late new → SweepMore Keeps header mid late a (new_window a.log.variables) c made
     → DeskWriteCause error late new → FileAnswers Keeps header a c name old new (Err error)
-file-closed Keeps clear name old mid late new header a c made error done more cause r essential limit limits may =
-    let g = setting_of r essential limit limits may.inputs in
+file-closed Keeps clear name old mid late new header a c made error done more cause r kind essential limit limits may =
+    let g = setting_of r kind essential limit limits may.bases in
     let all = more g may.begins in
     let text : List ℕ = certificate_text g.header (all.lines ++ End ∷ []) in
     let there = holds name text old mid late new done all.grew in
-    let cut = cut-behind r essential limit limits may.inputs (set-of Keeps clear r essential limit limits header a c may) (all.lines ++ End ∷ [])
+    let cut = cut-behind r kind essential limit limits may.bases (set-of Keeps clear r kind essential limit limits header a c may) (all.lines ++ End ∷ [])
     [] all.written
     (inl refl) in
-    caused r essential limit limits name old late new error (omega (arith, done.created.counts.write_faults_stand, all.grew.counts.write_faults_stand))
+    caused r kind essential limit limits name old late new error (omega (arith, done.created.counts.write_faults_stand, all.grew.counts.write_faults_stand))
     cause
-    (leaves r essential limit limits name text old new there (subst (λ (bytes : List ℕ). IsCutSweep r essential limit limits bytes) (append-nil text) cut))
+    (leaves r kind essential limit limits name text old new there (subst (λ (bytes : List ℕ). IsCutSweep r kind essential limit limits bytes)
+    (append-nil text) cut))
     done.closed.counts.write_faults_stand
 
 pub file-whole : {C : Type 0} (Keeps : Keeping C) → FormsAreClear → (name : List ℕ) (old mid late new : DeskView) (header : Header) (a : AskerView) (c : C)
     (made : List Claim)
     → IsDone name old mid late new → SweepMore Keeps header mid late a (new_window a.log.variables) c made
     → FileAnswers Keeps header a c name old new (Ok made)
-file-whole Keeps clear name old mid late new header a c made done more r essential limit limits may =
-    let g = setting_of r essential limit limits may.inputs in
+file-whole Keeps clear name old mid late new header a c made done more r kind essential limit limits may =
+    let g = setting_of r kind essential limit limits may.bases in
     let all = more g may.begins in
     let text : List ℕ = certificate_text g.header (all.lines ++ End ∷ []) in (
       text,
       holds name text old mid late new done all.grew,
-      subst (λ (cs : List Claim). IsSweep r essential limit limits cs text) all.claims
-          (whole r essential limit limits may.inputs (set-of Keeps clear r essential limit limits header a c may) may.kept all.lines all.written),
+      subst (λ (cs : List Claim). IsSweep r kind essential limit limits cs text) all.claims
+          (whole r kind essential limit limits may.bases (set-of Keeps clear r kind essential limit limits header a c may) may.kept all.lines all.written),
     )
 
 -- want of memory before the file was made
 pub file-unmade : {C : Type 0} (Keeps : Keeping C) → (name : List ℕ) (old : DeskView) (header : Header) (a : AskerView) (c : C) → IsNotWriting old.mode
     → WriteCounts old old → FileAnswers Keeps header a c name old old (Err NoMemory)
-file-unmade Keeps name old header a c idle counts r essential limit limits may = record { files = inl refl; not_writing = idle; counts = counts }
+file-unmade Keeps name old header a c idle counts r kind essential limit limits may = record { files = inl refl; not_writing = idle; counts = counts }

@@ -37,17 +37,19 @@ pub record IsClaimed (g : Setting) (before : List CertRecord) (old new : DeskVie
 abbrev pub Keeping : Type 0 → Type 1
 Keeping C = Setting → List CertRecord → C → Type 0
 
+-- Where the claim on package p may come next, it was written, with the lines that it needs.
 abbrev pub ClaimMore : {C : Type 0} → Keeping C → ℕ → DeskView → DeskView → AskerView → AskerView → WindowView
     → WindowView → C → C → Claim → Type 0
 ClaimMore Keeps p old new a b w v c d claim = (g : Setting) (before : List CertRecord) → MayClaim g before a w p
     → Keeps g before c → IsClaimed g before old new b v (λ lines. Keeps g lines d) claim
 
+-- or the writing stops there
 abbrev pub ClaimStops : {C : Type 0} → Keeping C → ℕ → DeskView → DeskView → AskerView → WindowView → C → WorkError
     → Type 0
 ClaimStops Keeps p old new a w c error = (g : Setting) (before : List CertRecord) → MayClaim g before a w p
     → Keeps g before c → Stops g before old new error
 
--- what the calls of a sweep are given, apart from the lines
+-- What the calls of a sweep are given, apart from the lines.
 pub record Suits (a : AskerView) (w : WindowView) (p : ℕ) : Type 0 where
   pub limit : 1 ≤ a.limit
   pub variables : a.log.variables ≡ w.variables

@@ -2,7 +2,6 @@
 use Rattle.std.specs.Prelude.{◌≡◌, ◌⊎◌, ℕ, ◌<◌, ◌≤◌, List, [], ◌∷◌, ◌++◌, All, length}
 use Rattle.dist_base.specs.Front.{IsFrontOf}
 use Rattle.dist_clause.specs.ClauseList.{literal_count}
-use Rattle.dist_clause.specs.Formula.{Literal}
 use Rattle.dist_outside.specs.Counts.{Rose}
 use Rattle.dist_outside.specs.DeskView.{DeskView, FileGrew}
 use Rattle.dist_outside.specs.declared.limits.Limits.{Limits}
@@ -18,17 +17,19 @@ use Rattle.dist_cert.specs.PartByRecordsLaws.{IsLine, IsShortLine}
 use Rattle.dist_cert.specs.Refusal.{lines_text, certificate_text}
 use Rattle.dist_cert.specs.Subject.{Matter}
 use Rattle.dist_cert.specs.Writing.{WriterView, ended}
-use Rattle.dist_subject.specs.Present.{matter_of}
+use Rattle.dist_subject.specs.Basis.{Basis, matter_of}
 
--- What a certificate is written for: a repository with its input clauses at the mode of the first line, and the limits.
+-- What a certificate is written for: packages, what the certificates of its kind and mode are judged by, its first
+-- line,
+-- and the limits.
 pub record Setting : Type 0 where
   pub repo : PackageList
-  pub inputs : List (List Literal)
+  pub basis : Basis
   pub header : Header
   pub limits : Limits
 
 abbrev pub matter_in : Setting → Matter
-matter_in g = matter_of g.repo g.header.essential g.inputs
+matter_in g = matter_of g.repo g.header.essential g.basis
 
 -- each line may come next, behind those before it
 abbrev pub AllNext : Setting → List CertRecord → List CertRecord → Type 0

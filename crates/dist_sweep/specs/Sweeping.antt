@@ -9,6 +9,7 @@ use Rattle.dist_outside.specs.declared.limits.Limits.{Limits}
 use Rattle.dist_outside.specs.declared.trouble.WorkError.{WorkError}
 use Rattle.dist_outside.specs.declared.trouble.WorkError.TheVariants.{WriteFault, TooLarge, NoMemory}
 use Rattle.dist_repo.specs.PackageList.{PackageList}
+use Rattle.dist_cert.specs.declared.records.CertKind.{CertKind}
 use Rattle.dist_cert.specs.declared.records.CertRecord.{CertRecord}
 use Rattle.dist_cert.specs.declared.records.CertRecord.TheVariants.{End}
 use Rattle.dist_cert.specs.declared.records.Claim.{Claim}
@@ -20,7 +21,7 @@ use Rattle.dist_cert.specs.Part.{Passes}
 use Rattle.dist_cert.specs.PartByRecordsLaws.{IsHeaderOf}
 use Rattle.dist_cert.specs.Refusal.{lines_text, certificate_text}
 use Rattle.dist_cert.specs.Writing.{WriterView, ended}
-use Rattle.dist_subject.specs.Present.{AreInputs, subject_of}
+use Rattle.dist_subject.specs.Basis.{AreBases, Bases, matter_of, subject_of}
 use Rattle.dist_sweep.specs.Asking.{AskerView, IsLogAt}
 use Rattle.dist_sweep.specs.Claiming.{Keeping, IsSwept}
 use Rattle.dist_sweep.specs.Script.{Setting, AreWritten, IsCutOff, IsWriter, Stops, StopsBy, matter_in}
@@ -51,6 +52,7 @@ pub record StopsFirst (g : Setting) (old new : DeskView) (error : WorkError) : T
   pub is_front : IsFrontOf (ended (header_text g.header)) cut
   pub by : FirstStopsBy g cut old new error
 
+-- or the writing stops in the first line
 abbrev pub HeaderStops : WriterView → Header → DeskView → DeskView → WorkError → Type 0
 HeaderStops w header old new error = (g : Setting) → header ≡ g.header → w ≡ new_writer g.limits
     → StopsFirst g old new error
@@ -74,11 +76,13 @@ pub record AreClaimed (g : Setting) (old new : DeskView) (a : AskerView) (w : Wi
   pub counted : claim_count lines ≡ length made
   pub claims : claims_in lines ≡ made
 
+-- Where nothing is claimed yet, the lines of all claims were written.
 abbrev pub ClaimsMore : {C : Type 0} → Keeping C → ℕ → DeskView → DeskView → AskerView → AskerView → WindowView
     → WindowView → C → C → List Claim → Type 0
 ClaimsMore Keeps packages old new a b w v c d made = (g : Setting) → StartsClaims Keeps g packages a w c
     → AreClaimed g old new b v (λ lines. Keeps g lines d) made
 
+-- or the writing stops at one of them
 abbrev pub ClaimsStop : {C : Type 0} → Keeping C → ℕ → DeskView → DeskView → AskerView → WindowView → C → WorkError
     → Type 0
 ClaimsStop Keeps packages old new a w c error = (g : Setting) → StartsClaims Keeps g packages a w c
@@ -112,10 +116,12 @@ pub record StopsLater (g : Setting) (old new : DeskView) (error : WorkError) : T
   pub cut_off : (cut ≡ []) ⊎ IsCutOff g lines cut
   pub by : StopsBy g lines cut old new error
 
+-- Where nothing was written, all lines were, from the first to the end.
 abbrev pub SweepMore : {C : Type 0} → Keeping C → Header → DeskView → DeskView → AskerView → WindowView → C
     → List Claim → Type 0
 SweepMore Keeps header old new a w c made = (g : Setting) → Begins Keeps g header a w c → IsWhole g old new made
 
+-- or the writing stops, in the first line or behind it
 abbrev pub SweepStops : {C : Type 0} → Keeping C → Header → DeskView → DeskView → AskerView → WindowView → C
     → WorkError → Type 0
 SweepStops Keeps header old new a w c error = (g : Setting) → Begins Keeps g header a w c → StopsFirst g old new error
@@ -123,15 +129,14 @@ SweepStops Keeps header old new a w c error = (g : Setting) → Begins Keeps g h
 
 -- ---- the file
 
--- the repository with its input clauses, the first line of its certificate, and the limits
-abbrev pub setting_of : PackageList → Bool → ℕ → Limits → (Bool → List (List Literal)) → Setting
-setting_of r essential limit limits inputs =
-    record {
-      repo = r;
-      inputs = inputs essential;
-      header = header_of r essential limit (inputs essential);
-      limits = limits;
-    }
+-- the packages, what certificates on them are judged by, the first line of theirs, and the limits
+abbrev pub setting_of : PackageList → CertKind → Bool → ℕ → Limits → Bases → Setting
+setting_of r kind essential limit limits bases = record {
+  repo = r;
+  basis = bases kind essential;
+  header = header_of kind essential limit (matter_of r essential (bases kind essential));
+  limits = limits;
+}
 
 -- the input clauses keep the limits of their number and of that of their literals
 pub record KeepsInputs (limits : Limits) (inputs : List (List Literal)) : Type 0 where
@@ -142,17 +147,20 @@ pub record KeepsInputs (limits : Limits) (inputs : List (List Literal)) : Type 0
 abbrev pub new_window : ℕ → WindowView
 new_window variables = record { kept = []; count = 0; variables = variables }
 
--- A sweep may begin, with input clauses at both modes and a first line of a form.
-pub record MayBegin {C : Type 0} (Keeps : Keeping C) (r : PackageList) (essential : Bool) (limit : ℕ) (limits : Limits)
-    (header : Header) (a : AskerView) (c : C) : Type 0 where
-  pub inputs : Bool → List (List Literal)
-  pub are_inputs : AreInputs r inputs
-  pub kept : KeepsInputs limits (inputs essential)
-  pub header_of : IsHeaderOf (subject_of r inputs) (setting_of r essential limit limits inputs).header
-  pub begins : Begins Keeps (setting_of r essential limit limits inputs) header a (new_window a.log.variables) c
+-- A sweep may begin, with a first line of a form.
+pub record MayBegin {C : Type 0} (Keeps : Keeping C) (r : PackageList) (kind : CertKind) (essential : Bool) (limit : ℕ)
+    (limits : Limits) (header : Header) (a : AskerView) (c : C) : Type 0 where
+  pub bases : Bases
+  pub are_bases : AreBases r bases
+  pub kept : KeepsInputs limits (matter_of r essential (bases kind essential)).inputs
+  pub header_of : IsHeaderOf (subject_of r bases)
+      (setting_of r kind essential limit limits bases).header
+  pub begins : Begins Keeps (setting_of r kind essential limit limits bases) header a (new_window a.log.variables) c
 
+-- Where a sweep may begin, the answer is as it is to be, and so is what it leaves of the file.
 abbrev pub FileAnswers : {C : Type 0} → Keeping C → Header → AskerView → C → (name : List ℕ) → DeskView → DeskView
     → Result (List Claim) WorkError → Type 0
 FileAnswers Keeps header a c name old new result =
-    (r : PackageList) (essential : Bool) (limit : ℕ) (limits : Limits)
-    → MayBegin Keeps r essential limit limits header a c → SweepAnswers r essential limit limits name old new result
+    (r : PackageList) (kind : CertKind) (essential : Bool) (limit : ℕ) (limits : Limits)
+    → MayBegin Keeps r kind essential limit limits header a c
+    → SweepAnswers r kind essential limit limits name old new result

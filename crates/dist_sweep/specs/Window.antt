@@ -18,12 +18,12 @@ pub record WindowView : Type 0 where
 abbrev pub kept_at : WindowView → ℕ → List Bool
 kept_at w number = slice_index_or w.kept (number - (w.count - length w.kept + 1)) []
 
--- the numbers of the kept installations with a package
+-- the numbers of the kept installations with a variable
 abbrev pub numbers_of : WindowView → ℕ → List ℕ
 numbers_of w p = filter (λ number. value_of (kept_at w number) p)
     (range_with_len (w.count - length w.kept + 1) (length w.kept))
 
--- each kept installation with the first package has the second one
+-- each kept installation with the first variable has the second one
 abbrev pub HasEach : WindowView → ℕ → ℕ → Type 0
 HasEach w p q = All (λ v. value_of v p ≡ true → value_of v q ≡ true) w.kept
 

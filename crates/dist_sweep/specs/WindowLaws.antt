@@ -111,7 +111,7 @@ numbers-rising w p = AllPairs-filter (λ m n. m < n) (λ n. value_of (kept_at w 
     (w.count - length w.kept + 1) (length w.kept))
     (range-rises (w.count - length w.kept + 1) (length w.kept))
 
--- each named installation has what each kept one with the package has
+-- each named installation has what each kept one with the variable has
 pub each-named : (before : List CertRecord) (w : WindowView) (p q : ℕ) → IsWindowAt before w → 1 ≤ q → q ≤ w.variables
     → HasEach w p q
     → All (λ number. Contains (installation_at before number) q) (numbers_of w p)
@@ -149,7 +149,7 @@ named-each before w p q at from upto all k d within = λ holds.
     get-any (x ∷ xs) zero a b short = refl
     get-any (x ∷ xs) (suc i) a b short = get-any xs i a b (omega (arith, short))
 
--- the latest installation is named where it has the package
+-- the latest installation is named where it has the variable
 pub latest-named : (before : List CertRecord) (w : WindowView) (p : ℕ) → IsWindowAt before w → 1 ≤ p → p ≤ w.variables
     → 0 < length (installations before)
     → Contains (installation_at before (length (installations before))) p
@@ -171,7 +171,7 @@ latest-named before w p at from upto some there =
           p at inside from upto there;
     })
 
--- some kept installation has the package, so that it is named
+-- some kept installation has the variable, so that it is named
 pub some-numbers : (w : WindowView) (p : ℕ) → Any (λ values. value_of values p ≡ true) w.kept → 0 < length
     (numbers_of w p)
 some-numbers w p some =

@@ -63,17 +63,17 @@ impl Window {
         Ok(())
     }
 
-    /// Whether each installation with the first package has the second one.
-    pub fn each_has(&self, package: u32, other: u32) -> bool
-        requires from_one { 1 ≤ «package» }
-        requires upto { «package» ≤ self.now.variables }
+    /// Whether each installation with the first variable has the second one.
+    pub fn each_has(&self, variable: u32, other: u32) -> bool
+        requires from_one { 1 ≤ variable }
+        requires upto { variable ≤ self.now.variables }
         requires other_from_one { 1 ≤ other }
         requires other_upto { other ≤ self.now.variables }
-        ensures { IsTrue result ↔ All (λ v. value_of v «package» ≡ true → value_of v other ≡ true) self.now.kept }
+        ensures { IsTrue result ↔ All (λ v. value_of v variable ≡ true → value_of v other ≡ true) self.now.kept }
     {
         for place in 0..self.kept.len() {
             if let Some(values) = self.kept.get(place) {
-                if values.value(package) && !values.value(other) {
+                if values.value(variable) && !values.value(other) {
                     return false;
                 }
             }
@@ -81,32 +81,32 @@ impl Window {
         true
     }
 
-    /// The numbers of the installations with a package, rising.
-    pub fn numbers_with(&self, alloc: Global, package: u32) -> Result<Vec<u32>, AllocError>
-        requires from_one { 1 ≤ «package» }
-        requires upto { «package» ≤ self.now.variables }
-        ensures numbers { IfOk result (λ numbers. numbers.items ≡ numbers_of self.now «package») }
+    /// The numbers of the installations with a variable, rising.
+    pub fn numbers_with(&self, alloc: Global, variable: u32) -> Result<Vec<u32>, AllocError>
+        requires from_one { 1 ≤ variable }
+        requires upto { variable ≤ self.now.variables }
+        ensures numbers { IfOk result (λ numbers. numbers.items ≡ numbers_of self.now variable) }
         ensures small { self.now.count < 2 ^ 32 }
     {
         let mut numbers = Vec::new(alloc);
         let first = self.count - self.kept.len() as u32;
         for place in 0..self.kept.len() {
-            if self.has_at(place, package) {
+            if self.has_at(place, variable) {
                 numbers.push(first + place as u32 + 1)?;
             }
         }
         Ok(numbers)
     }
 
-    /// Whether the installation at a place, from 0, has a package.
-    fn has_at(&self, place: usize, package: u32) -> bool
+    /// Whether the installation at a place, from 0, has a variable.
+    fn has_at(&self, place: usize, variable: u32) -> bool
         requires place { place < length self.now.kept }
-        requires from_one { 1 ≤ «package» }
-        requires upto { «package» ≤ self.now.variables }
-        ensures { result ≡ value_of (slice_index_or self.now.kept place []) «package» }
+        requires from_one { 1 ≤ variable }
+        requires upto { variable ≤ self.now.variables }
+        ensures { result ≡ value_of (slice_index_or self.now.kept place []) variable }
     {
         match self.kept.get(place) {
-            Some(values) => values.value(package),
+            Some(values) => values.value(variable),
             None => false,
         }
     }

@@ -1,4 +1,5 @@
-//! The top call, tried on memory desks: tests alone, a file of rows for each command.
+//! The top call on memory desks, a file of rows for each command; and what it meets outside: desks and sinks in memory and of the
+//! system, the words of the command line, and lists kept flat. Tests alone.
 #![tactic(auto)]
 
 #[cfg(test)]
@@ -8,9 +9,15 @@ mod classes_reports;
 #[cfg(test)]
 mod classes_rows;
 #[cfg(test)]
+mod command_words;
+#[cfg(test)]
+mod desks;
+#[cfg(test)]
 mod each_call;
 #[cfg(test)]
 mod essential_rows;
+#[cfg(test)]
+mod flat_lists;
 #[cfg(test)]
 mod health_rows;
 #[cfg(test)]

@@ -160,7 +160,7 @@ pub(crate) fn carried_out(alloc: Global, row: &Row) -> Result<Ended, AllocError>
 }
 
 /// Whether a file that may be missing has these bytes, or is missing where none are given.
-fn is_held(held: Option<&[u8]>, wanted: Option<&str>) -> bool {
+pub(crate) fn is_held(held: Option<&[u8]>, wanted: Option<&str>) -> bool {
     match (held, wanted) {
         (Some(bytes), Some(text)) => bytes == text.as_bytes(),
         (None, None) => true,

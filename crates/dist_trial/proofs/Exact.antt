@@ -9,6 +9,7 @@ use Rattle.dist_outside.specs.declared.trouble.WorkError.{WorkError}
 use Rattle.dist_outside.specs.declared.trouble.WorkError.TheVariants.{ReadFault, WriteFault, TooLarge, NoMemory}
 use Rattle.dist_repo.specs.PackageList.{PackageList}
 use Rattle.dist_now.specs.PresentSet.{PassesClauses, PassesLiterals}
+use Rattle.dist_cert.specs.declared.records.CertKind.TheVariants as kinds
 use Rattle.dist_sweep.specs.Sweep.{IsFull}
 use Rattle.dist_generate.specs.Generator.{generated}
 use Rattle.dist_trial.specs.Trial.{ArchiveAnswers, IsTrial, OfArchive, SweptAnswers, TrialAnswers}
@@ -26,10 +27,10 @@ exact-iff : {X : Type 0} (result : Result X WorkError) (error : WorkError) (P Q 
 exact-iff result error P Q to from exact = λ free. ((λ is. to ((exact free).0 is)), λ q. (exact free).1 (from q))
 
 -- only four numbers are passed by a part
-not-full : (r : PackageList) (limits : Limits) (text : List ℕ) → IsFull r false DEFAULT_LIMIT limits Bytes text → ⊥
+not-full : (r : PackageList) (limits : Limits) (text : List ℕ) → IsFull r kinds.Strong false DEFAULT_LIMIT limits Bytes text → ⊥
 not-full r limits text full = full.2.passes
 
-not-full-stanzas : (r : PackageList) (limits : Limits) (text : List ℕ) → IsFull r false DEFAULT_LIMIT limits Stanzas text → ⊥
+not-full-stanzas : (r : PackageList) (limits : Limits) (text : List ℕ) → IsFull r kinds.Strong false DEFAULT_LIMIT limits Stanzas text → ⊥
 not-full-stanzas r limits text full = full.2.passes
 
 apart : (what other : What) → what ≢ other → TooLarge what ≢ TooLarge other
@@ -122,11 +123,11 @@ module _ (size seed : ℕ) (limits : Limits) where
     swept-answers (Err (TooLarge Literals)) a = with-it (λ r. PassesLiterals r false limits.clauses limits.literals) a
     swept-answers (Err (TooLarge Bytes)) a = absurd (not-full r limits a.0 a.1)
     swept-answers (Err (TooLarge Stanzas)) a = absurd (not-full-stanzas r limits a.0 a.1)
-    swept-answers (Err (TooLarge Variables)) a = with-it (λ r. (text : List ℕ) × IsFull r false DEFAULT_LIMIT limits Variables text) a
-    swept-answers (Err (TooLarge Lines)) a = with-it (λ r. (text : List ℕ) × IsFull r false DEFAULT_LIMIT limits Lines text) a
-    swept-answers (Err (TooLarge LineLiterals)) a = with-it (λ r. (text : List ℕ) × IsFull r false DEFAULT_LIMIT limits LineLiterals text) a
-    swept-answers (Err (TooLarge Certificate)) a = with-it (λ r. (text : List ℕ) × IsFull r false DEFAULT_LIMIT limits Certificate text) a
-    swept-answers (Err (TooLarge RecordLine)) a = with-it (λ r. (text : List ℕ) × IsFull r false DEFAULT_LIMIT limits RecordLine text) a
+    swept-answers (Err (TooLarge Variables)) a = with-it (λ r. (text : List ℕ) × IsFull r kinds.Strong false DEFAULT_LIMIT limits Variables text) a
+    swept-answers (Err (TooLarge Lines)) a = with-it (λ r. (text : List ℕ) × IsFull r kinds.Strong false DEFAULT_LIMIT limits Lines text) a
+    swept-answers (Err (TooLarge LineLiterals)) a = with-it (λ r. (text : List ℕ) × IsFull r kinds.Strong false DEFAULT_LIMIT limits LineLiterals text) a
+    swept-answers (Err (TooLarge Certificate)) a = with-it (λ r. (text : List ℕ) × IsFull r kinds.Strong false DEFAULT_LIMIT limits Certificate text) a
+    swept-answers (Err (TooLarge RecordLine)) a = with-it (λ r. (text : List ℕ) × IsFull r kinds.Strong false DEFAULT_LIMIT limits RecordLine text) a
     swept-answers (Err NoMemory) a = tt
     swept-answers (Err ReadFault) a = absurd a
     swept-answers (Err WriteFault) a = absurd a

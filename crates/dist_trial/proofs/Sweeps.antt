@@ -17,6 +17,8 @@ use Rattle.dist_repo.specs.PackageList.{PackageList}
 use Rattle.dist_cert.specs.declared.faults.CertFault.{CertFault}
 use Rattle.dist_cert.specs.declared.records.Claim.{Claim}
 use Rattle.dist_cert.specs.declared.records.Header.{Header}
+use Rattle.dist_cert.specs.declared.records.CertKind.TheVariants as kinds
+use Rattle.dist_subject.specs.Basis.{matter_of}
 use Rattle.dist_sweep.specs.Sweep.{SweepAnswers, header_of}
 use Rattle.dist_check.specs.Answers.{Answers, IsOfText, IsVerdict}
 use Rattle.dist_check.specs.Checking.{OfText}
@@ -59,7 +61,7 @@ exact-memory (TooLarge what) other P exact = exact-err (TooLarge what) other P e
 exact-memory NoMemory other P exact = exact-none other P
 
 pub sweep-stops : {X : Type 0} (Gives : X → Type 0) (r : PackageList) (limits : Limits) (name : List ℕ) (old new : DeskView) (error : WorkError)
-    → SweepAnswers r false DEFAULT_LIMIT limits name old new (Err error) → SweptAnswers Gives r limits (Err (in_memory error))
+    → SweepAnswers r kinds.Strong false DEFAULT_LIMIT limits name old new (Err error) → SweptAnswers Gives r limits (Err (in_memory error))
 sweep-stops Gives r limits name old new ReadFault stops = tt
 sweep-stops Gives r limits name old new WriteFault stops = tt
 sweep-stops Gives r limits name old new NoMemory stops = tt
@@ -67,7 +69,7 @@ sweep-stops Gives r limits name old new (TooLarge Clauses) stops = stops.1
 sweep-stops Gives r limits name old new (TooLarge Literals) stops = stops.1
 sweep-stops Gives r limits name old new (TooLarge Bytes) stops = (stops.0, stops.2)
 sweep-stops Gives r limits name old new (TooLarge Stanzas) stops = (stops.0, stops.2)
-sweep-stops Gives r limits name old new (TooLarge Variables) stops = (stops.0, stops.2)
+sweep-stops Gives r limits name old new (TooLarge Variables) stops = absurd stops.1
 sweep-stops Gives r limits name old new (TooLarge Lines) stops = (stops.0, stops.2)
 sweep-stops Gives r limits name old new (TooLarge LineLiterals) stops = (stops.0, stops.2)
 sweep-stops Gives r limits name old new (TooLarge Certificate) stops = (stops.0, stops.2)
@@ -112,16 +114,16 @@ OneVerdictLaw = (r : PackageList) (limits : Limits) (text : List ℕ) (verdict o
 
 -- What a sweep wrote to a desk that tells its files.
 abbrev pub IsWritten : PackageList → Limits → (name : List ℕ) → Files → (old new : DeskView) → List Claim → Type 0
-IsWritten r limits name files old new made = (old.files ≡ Some files) × SweepAnswers r false DEFAULT_LIMIT limits name old new (Ok made)
+IsWritten r limits name files old new made = (old.files ≡ Some files) × SweepAnswers r kinds.Strong false DEFAULT_LIMIT limits name old new (Ok made)
 
 verdict-same : RightLaw → OneVerdictLaw → (r : PackageList) (limits : Limits) (name : List ℕ) (files : Files) (old new : DeskView) (made : List Claim)
     (verdict : Verdict) → (w : IsWritten r limits name files old new made)
     → OfText (file_bytes new.files name) (λ text. Answers r limits text (Ok verdict))
-    → Accepted (header_of r false DEFAULT_LIMIT (w.1.2.0 false)) made ≡ verdict
+    → Accepted (header_of kinds.Strong false DEFAULT_LIMIT (matter_of r false (w.1.2.0 kinds.Strong false))) made ≡ verdict
 verdict-same right one r limits name files old new made verdict w of =
     let text : List ℕ = w.1.0 in
     let answers : Answers r limits text (Ok verdict) = of-file (λ t. Answers r limits t (Ok verdict)) files name text Idle old new w.0 w.1.1 of in
-    let first : Verdict = Accepted (header_of r false DEFAULT_LIMIT (w.1.2.0 false)) made in
+    let first : Verdict = Accepted (header_of kinds.Strong false DEFAULT_LIMIT (matter_of r false (w.1.2.0 kinds.Strong false))) made in
     one r limits text first verdict (right r limits text first w.1.2.2.0) (right r limits text verdict answers)
 
 same-claims : (h other : Header) (made claims : List Claim) → Accepted h made ≡ Accepted other claims → made ≡ claims
@@ -135,7 +137,7 @@ pub accepted : RightLaw → OneVerdictLaw → (r : PackageList) (limits : Limits
     → IsWritten r limits name files old new made → OfText (file_bytes new.files name) (λ text. Answers r limits text (Ok (Accepted h claims)))
     → AreSwept r limits claims
 accepted right one r limits name files old new made h claims w of =
-    let same = same-claims (header_of r false DEFAULT_LIMIT (w.1.2.0 false)) h made claims
+    let same = same-claims (header_of kinds.Strong false DEFAULT_LIMIT (matter_of r false (w.1.2.0 kinds.Strong false))) h made claims
     (verdict-same right one r limits name files old new made (Accepted h claims) w of) in
     subst (AreSwept r limits) same (w.1.0, w.1.2)
 
@@ -143,7 +145,8 @@ pub not-refused : RightLaw → OneVerdictLaw → (r : PackageList) (limits : Lim
     (fault : CertFault)
     → IsWritten r limits name files old new made → ¬ OfText (file_bytes new.files name) (λ text. Answers r limits text (Ok (Refused fault)))
 not-refused right one r limits name files old new made fault w of =
-    accepted≢refused (header_of r false DEFAULT_LIMIT (w.1.2.0 false)) made fault (verdict-same right one r limits name files old new made (Refused fault) w of)
+    accepted≢refused (header_of kinds.Strong false DEFAULT_LIMIT (matter_of r false (w.1.2.0 kinds.Strong false))) made fault
+    (verdict-same right one r limits name files old new made (Refused fault) w of)
 
 abbrev pub OneAnswerLaw : Type 0
 OneAnswerLaw = (r : PackageList) (limits : Limits) (text : List ℕ) (result other : Result Verdict WorkError) → IsInOrder r.packages
@@ -160,5 +163,5 @@ not-large one r limits name files old new made what ordered w of =
     let text : List ℕ = w.1.0 in
     let answers : Answers r limits text (Err (TooLarge what)) =
     of-file (λ t. Answers r limits t (Err (TooLarge what))) files name text Idle old new w.0 w.1.1 of in
-    let first : Verdict = Accepted (header_of r false DEFAULT_LIMIT (w.1.2.0 false)) made in
+    let first : Verdict = Accepted (header_of kinds.Strong false DEFAULT_LIMIT (matter_of r false (w.1.2.0 kinds.Strong false))) made in
     large≢verdict what first (one r limits text (Ok first) (Err (TooLarge what)) ordered w.1.2.2.0 answers tt tt)

@@ -1,7 +1,7 @@
 -- What is counted in claims. No public clause cites it.
 use Rattle.std.specs.Prelude.{ℕ, length, if◌then◌else◌}
 use Rattle.dist_cert.specs.declared.records.Claim.{Claim}
-use Rattle.dist_report.specs.StrongReport.{is_uninstallable, strong_on}
+use Rattle.dist_report.specs.ClaimParts.{is_uninstallable, strong_on}
 use Rattle.dist_trial.specs.Summary.{marks_of}
 use Rattle.dist_trial.specs.declared.summary.Figure.{Figure}
 use Rattle.dist_trial.specs.declared.summary.Figure.TheVariants.{Pairs, NotInstallable, Marks}

@@ -4,7 +4,7 @@ use Rattle.std.specs.Fmt.{digits}
 use Rattle.std.specs.List.{count_by}
 use Rattle.dist_cert.specs.declared.records.Claim.{Claim}
 use Rattle.dist_cert.specs.declared.records.Claim.TheVariants.{Unknown, Strong, Challenged}
-use Rattle.dist_report.specs.StrongReport.{is_uninstallable, strong_on}
+use Rattle.dist_report.specs.ClaimParts.{is_uninstallable, strong_on}
 
 -- ---- what is counted
 

@@ -10,6 +10,7 @@ use Rattle.dist_cert.specs.declared.records.Claim.{Claim}
 use Rattle.dist_repo.specs.PackageList.{PackageList}
 use Rattle.dist_package.specs.RepositoryOf.{IsRepositoryOf}
 use Rattle.dist_now.specs.PresentSet.{PassesClauses, PassesLiterals}
+use Rattle.dist_cert.specs.declared.records.CertKind.TheVariants as kinds
 use Rattle.dist_sweep.specs.Sweep.{IsFull, IsSweep}
 use Rattle.dist_report.specs.Marks.{has_mark}
 use Rattle.dist_generate.specs.Generator.{generated}
@@ -29,7 +30,7 @@ pub record OfArchive (size seed : ℕ) (limits : Limits) (P : PackageList → Ty
 pub record IsTrial (size : ℕ) (limits : Limits) (done : Trial) (r : PackageList) : Type 0 where
   pub made : List Claim
   pub text : List ℕ
-  pub is_sweep : IsSweep r false DEFAULT_LIMIT limits made text
+  pub is_sweep : IsSweep r kinds.Strong false DEFAULT_LIMIT limits made text
   pub summary : done.summary.items ≡ summary_text size made
   pub undecided : done.undecided ≡ list_any has_mark made
 
@@ -45,7 +46,7 @@ TrialAnswers size seed limits (Err (TooLarge Clauses)) =
 TrialAnswers size seed limits (Err (TooLarge Literals)) =
     OfArchive size seed limits (λ r. PassesLiterals r false limits.clauses limits.literals)
 TrialAnswers size seed limits (Err (TooLarge what)) =
-    OfArchive size seed limits (λ r. (text : List ℕ) × IsFull r false DEFAULT_LIMIT limits what text)
+    OfArchive size seed limits (λ r. (text : List ℕ) × IsFull r kinds.Strong false DEFAULT_LIMIT limits what text)
 TrialAnswers size seed limits (Err NoMemory) = Unit {0}
 TrialAnswers size seed limits (Err error) = ⊥
 
@@ -65,10 +66,11 @@ abbrev pub SweptAnswers : {X : Type 0} → (X → Type 0) → PackageList → Li
 SweptAnswers Gives r limits (Ok x) = Gives x
 SweptAnswers Gives r limits (Err (TooLarge Clauses)) = PassesClauses r false limits.clauses limits.literals
 SweptAnswers Gives r limits (Err (TooLarge Literals)) = PassesLiterals r false limits.clauses limits.literals
-SweptAnswers Gives r limits (Err (TooLarge what)) = (text : List ℕ) × IsFull r false DEFAULT_LIMIT limits what text
+SweptAnswers Gives r limits (Err (TooLarge what)) = (text : List ℕ)
+    × IsFull r kinds.Strong false DEFAULT_LIMIT limits what text
 SweptAnswers Gives r limits (Err NoMemory) = Unit {0}
 SweptAnswers Gives r limits (Err error) = ⊥
 
 -- the claims of a sweep that is accepted
 abbrev pub AreSwept : PackageList → Limits → List Claim → Type 0
-AreSwept r limits made = (text : List ℕ) × IsSweep r false DEFAULT_LIMIT limits made text
+AreSwept r limits made = (text : List ℕ) × IsSweep r kinds.Strong false DEFAULT_LIMIT limits made text

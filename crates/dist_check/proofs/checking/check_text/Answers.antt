@@ -25,7 +25,7 @@ returns-in_err-header-clause-text g c =
     (λ text. TextAnswers (λ (x : Checked). x.header) (λ (x : Checked). x.claims) c.args.repo.now c.args.limits.now text r)) c.from_residual.result
     c.in_err-header.field-0.0
     c.from_residual.ensures.1
-    (header-stops c.present_clauses_are_there.ensures c.args.repo.now c.len-in_order.ensures.in_order c.args.limits.now c.new-reader.result c.header.new.self
+    (header-stops c.bases_are_one.ensures.there c.args.repo.now c.len-in_order.ensures.in_order c.args.limits.now c.new-reader.result c.header.new.self
     told (text_left c.new-reader.result old) (text_left c.header.new.self new) old new
     c.new-reader.ensures (nothing-read c.args.limits.now c.new-reader.result old c.new-reader.ensures) (λ (x : Checked). x.header) (λ (x : Checked). x.claims)
     c.in_err-header.field-0.0 c.in_err-header.ensures.text c.in_err-header.ensures.cause)
@@ -39,7 +39,7 @@ returns-in_err-state-clause-text g c =
     (λ text. TextAnswers (λ (x : Checked). x.header) (λ (x : Checked). x.claims) c.args.repo.now c.args.limits.now text r))
     c.from_residual-in_err-state.result c.in_err-state.field-0.0
     c.from_residual-in_err-state.ensures.1
-    (start-stops c.forms_are_clear.ensures c.present_clauses_are_there.ensures c.present_clauses_are_one.ensures c.args.repo.now c.len-in_order.ensures.in_order
+    (start-stops c.forms_are_clear.ensures c.bases_are_one.ensures.there c.bases_are_one.ensures.one c.args.repo.now c.len-in_order.ensures.in_order
     c.args.limits.now c.new-reader.result told (text_left c.new-reader.result old)
     (text_left c.header.new.self new) c.in_ok-header.header c.new-reader.ensures (nothing-read c.args.limits.now c.new-reader.result old c.new-reader.ensures)
     (λ (x : Checked). x.header) (λ (x : Checked). x.claims) c.in_err-state.field-0.0
@@ -56,7 +56,7 @@ returns-in_err-tools-clause-text g c =
 
 pub take_lines-requires-clause-start : goal.take_lines-requires-clause-start
 take_lines-requires-clause-start g c =
-    starts-checked c.forms_are_clear.ensures c.present_clauses_are_there.ensures c.present_clauses_are_one.ensures c.models_are_installations.ensures
+    starts-checked c.forms_are_clear.ensures c.bases_are_one.ensures.there c.bases_are_one.ensures.one c.models_are_healthy.ensures
     c.args.repo.now c.len-in_order.ensures.in_order c.args.limits.now c.new-reader.result c.header.new.self None None None
     c.in_ok-header.header c.in_ok-state.state c.new-reader.ensures refl refl c.in_ok-header.ensures.some c.in_ok-header.ensures.gives c.in_ok-state.ensures
 
@@ -65,8 +65,8 @@ returns-in_err-take_lines-clause-text g c =
     let old : DeskView = g.D.Desk.view c.args.desk.now in
     let new : DeskView = g.D.Desk.view c.header.new.desk in
     let told : Option (List ℕ) = bytes_left old.files old.mode in
-    let checked = starts-checked c.forms_are_clear.ensures c.present_clauses_are_there.ensures c.present_clauses_are_one.ensures
-    c.models_are_installations.ensures c.args.repo.now c.len-in_order.ensures.in_order c.args.limits.now c.new-reader.result c.header.new.self told
+    let checked = starts-checked c.forms_are_clear.ensures c.bases_are_one.ensures.there c.bases_are_one.ensures.one
+    c.models_are_healthy.ensures c.args.repo.now c.len-in_order.ensures.in_order c.args.limits.now c.new-reader.result c.header.new.self told
     (text_left c.new-reader.result old) (text_left c.header.new.self new) c.in_ok-header.header c.in_ok-state.state c.new-reader.ensures
     (nothing-read c.args.limits.now c.new-reader.result old c.new-reader.ensures) c.in_ok-header.ensures.text
     c.in_ok-header.ensures.some c.in_ok-header.ensures.gives c.in_ok-state.ensures in
@@ -92,8 +92,8 @@ returns-clause-text g c =
     let old : DeskView = g.D.Desk.view c.args.desk.now in
     let new : DeskView = g.D.Desk.view c.header.new.desk in
     let told : Option (List ℕ) = bytes_left old.files old.mode in
-    let checked = starts-checked c.forms_are_clear.ensures c.present_clauses_are_there.ensures c.present_clauses_are_one.ensures
-    c.models_are_installations.ensures c.args.repo.now c.len-in_order.ensures.in_order c.args.limits.now c.new-reader.result c.header.new.self told
+    let checked = starts-checked c.forms_are_clear.ensures c.bases_are_one.ensures.there c.bases_are_one.ensures.one
+    c.models_are_healthy.ensures c.args.repo.now c.len-in_order.ensures.in_order c.args.limits.now c.new-reader.result c.header.new.self told
     (text_left c.new-reader.result old) (text_left c.header.new.self new) c.in_ok-header.header c.in_ok-state.state c.new-reader.ensures
     (nothing-read c.args.limits.now c.new-reader.result old c.new-reader.ensures) c.in_ok-header.ensures.text
     c.in_ok-header.ensures.some c.in_ok-header.ensures.gives c.in_ok-state.ensures in
@@ -135,7 +135,7 @@ returns-in_err-header-clause-some g c =
     let some = c.in_err-header.ensures.some in
     by-exit (Some_text c.args.repo.now c.args.limits.now) c.from_residual.result c.in_err-header.field-0.0 c.from_residual.ensures.1 (
       some.0,
-      header-stops c.present_clauses_are_there.ensures c.args.repo.now c.len-in_order.ensures.in_order c.args.limits.now c.new-reader.result
+      header-stops c.bases_are_one.ensures.there c.args.repo.now c.len-in_order.ensures.in_order c.args.limits.now c.new-reader.result
           c.header.new.self (Some some.0) (Some some.0) (Some some.0) (g.D.Desk.view c.args.desk.now) (g.D.Desk.view c.header.new.desk)
           c.new-reader.ensures refl (λ (x : Checked). x.header) (λ (x : Checked). x.claims) c.in_err-header.field-0.0 (some.0, refl, some.1)
           c.in_err-header.ensures.cause,
@@ -147,7 +147,7 @@ returns-in_err-state-clause-some g c =
     by-exit (Some_text c.args.repo.now c.args.limits.now) c.from_residual-in_err-state.result c.in_err-state.field-0.0
     c.from_residual-in_err-state.ensures.1 (
       text,
-      start-stops c.forms_are_clear.ensures c.present_clauses_are_there.ensures c.present_clauses_are_one.ensures c.args.repo.now
+      start-stops c.forms_are_clear.ensures c.bases_are_one.ensures.there c.bases_are_one.ensures.one c.args.repo.now
           c.len-in_order.ensures.in_order c.args.limits.now c.new-reader.result (Some text) (Some text) (Some []) c.in_ok-header.header
           c.new-reader.ensures refl
           (λ (x : Checked). x.header) (λ (x : Checked). x.claims) c.in_err-state.field-0.0 ([], refl, c.in_ok-header.ensures.some []) c.in_err-state.ensures,

@@ -5,4 +5,4 @@ pub returns-clause-right : goal.returns-clause-right
 returns-clause-right c = right
 
 pub returns-clause-one : goal.returns-clause-one
-returns-clause-one c = one c.forms_are_clear.ensures c.present_clauses_are_one.ensures
+returns-clause-one c = one c.forms_are_clear.ensures c.bases_are_one.ensures.one

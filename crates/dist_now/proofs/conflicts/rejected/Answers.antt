@@ -4,11 +4,6 @@ use Rattle.dist_now.proofs.RejectedLemmas.{IsRejectedBefore, before-none, before
 use Rattle.dist_now.proofs.conflicts.rejected.Goals.{in-Some, in_default}
 use Rattle.dist_now.proofs.conflicts.rejected.Goals as goal
 
-pub rejected_by-requires-clause-providers : goal.rejected_by-requires-clause-providers
-rejected_by-requires-clause-providers c =
-    c.conflict_providers-providers.ensures c.get-atom.result.now
-    (record { holder = c.args.package.now; is_holder = c.requires.number; is_atom = c.get-atom.ensures })
-
 pub loop-place-preserved : goal.loop-place-preserved
 loop-place-preserved c =
     let repo = c.args.repo.now in

@@ -1,23 +1,15 @@
-use Rattle.std.proofs.Common.{get_or, refl}
-use Rattle.dist_base.specs.ListLaws.{at-has}
-use Rattle.dist_repo.specs.Match.{Matches}
-use Rattle.dist_now.proofs.RejectedLemmas.{least-rejected, none-rejected}
+use Rattle.std.proofs.Common.{ℕ, List, arith, subst}
+use Rattle.dist_repo.specs.Providers.{AreProviders}
+use Rattle.dist_now.proofs.RejectedLemmas.{none-rejected}
 use Rattle.dist_now.proofs.conflicts.rejected_by.Goals as goal
 
-pub returns-then-matches : goal.returns-then-matches
-returns-then-matches c =
-    let other = get_or c.args.providers.now c.loop-other.other-index 0 in
-    least-rejected c.args.repo.now c.args.members.now c.args.number c.args.atom.now c.args.providers.now c.loop-other.other-index c.requires.providers
-    c.loop-other.invariant (
-      c.if-other-number.true,
-      record {
-        member = c.if-is_member.ensures.0 refl;
-        has = at-has (Matches c.args.repo.now.architecture c.args.atom.now) c.args.repo.now.packages other c.package.result.now c.package.ensures
-            (c.if-matches.ensures.0 refl);
-      },
-    )
+pub rejected_provider-requires-clause-providers : goal.rejected_provider-requires-clause-providers
+rejected_provider-requires-clause-providers c =
+    subst (λ (name : List ℕ). AreProviders c.args.repo.now name c.providers-providers.result.now) c.bytes.ensures.value c.providers-providers.ensures
 
-pub returns : goal.returns
-returns c =
-    none-rejected c.args.repo.now c.args.members.now c.args.number c.args.atom.now c.args.providers.now c.loop-other.other-index c.loop-other-test.false
-    c.requires.providers c.loop-other.invariant
+pub returns-then-count-total : goal.returns-then-count-total
+returns-then-count-total c =
+    let providers = c.providers-providers.result.now in
+    let are = subst (λ (name : List ℕ). AreProviders c.args.repo.now name providers) c.bytes.ensures.value c.providers-providers.ensures in
+    none-rejected c.args.repo.now c.args.members.now c.args.number c.args.atom.now providers c.min-count.result
+    (let h = c.if-count-total.true in omega (arith, h)) are c.in_default.ensures

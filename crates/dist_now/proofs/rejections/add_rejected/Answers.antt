@@ -5,10 +5,6 @@ use Rattle.dist_now.proofs.PairLemmas.{IsRejectedAt, rejected-all, rejected-at}
 use Rattle.dist_now.proofs.rejections.add_rejected.Goals.{else-not-is_repeated, then-not-is_repeated+in_ok-add_matched}
 use Rattle.dist_now.proofs.rejections.add_rejected.Goals as goal
 
-pub add_matched-requires : goal.add_matched-requires
-add_matched-requires c =
-    c.conflict_providers-providers.ensures c.get-atom.result.now (record { holder = c.args.package.now; is_holder = c.requires; is_atom = c.get-atom.ensures })
-
 pub loop-place-preserved : goal.loop-place-preserved
 loop-place-preserved c =
     let atoms = c.args.package.now.conflicts in

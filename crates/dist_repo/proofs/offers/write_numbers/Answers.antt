@@ -4,5 +4,5 @@ use Rattle.dist_repo.proofs.offers.write_numbers.Goals as goal
 
 pub returns : goal.returns
 returns c =
-    numbers-from c.args.offers.now c.loop-offer.offer-index c.loop-offer.numbers.items c.dedup.new.self.items c.loop-offer-test.false c.requires
-    c.loop-offer.invariant (dedup_is _ _ _ c.dedup.ensures.filtered)
+    numbers-from c.args.offers.now c.loop-offer.offer-index c.loop-offer.numbers.items _ c.dedup.new.self.items c.loop-offer-test.false
+    c.loop-offer.invariant c.sort_unstable.ensures.permutation c.sort_unstable.ensures.sorted (dedup_is _ _ _ c.dedup.ensures.filtered)

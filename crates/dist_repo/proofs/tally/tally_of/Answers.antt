@@ -1,10 +1,9 @@
 use Rattle.std.proofs.Common.{ℕ, List, arith, sym, subst, refl}
 use Rattle.std.proofs.lemmas.Option.{slice_get_read}
-use Rattle.dist_repo.specs.Offers.{IsOfferAt}
 use Rattle.dist_repo.specs.TallyPrivate.{NotesEach}
 use Rattle.dist_repo.specs.declared.offers.Offer.{Offer}
 use Rattle.dist_repo.specs.declared.package.Package.{Package}
-use Rattle.dist_repo.proofs.NotedLemmas.{IsTallyBelow, tally-none, tally-more, tally-all, below-bound}
+use Rattle.dist_repo.proofs.NotedLemmas.{IsEntryAt, IsTallyBelow, tally-none, tally-more, tally-all}
 use Rattle.dist_repo.proofs.tally.tally_of.Goals as goal
 
 pub loop-number-init : goal.loop-number-init
@@ -12,13 +11,10 @@ loop-number-init c =
     let Below : List (List ℕ × List Offer) → Type 0 = λ tally. IsTallyBelow c.args.architecture.now c.args.packages.now 0 tally in
     subst Below (sym c.new-tally.ensures) (tally-none c.args.architecture.now c.args.packages.now)
 
-pub note_package-requires : goal.note_package-requires
-note_package-requires c = below-bound c.args.architecture.now c.args.packages.now c.loop-number.number c.loop-number.tally c.loop-number.invariant
-
 pub loop-number-preserved : goal.loop-number-preserved
 loop-number-preserved c =
     let p : Package = c.index-packages-number.result in
-    let Noted : Package → Type 0 = λ x. NotesEach c.loop-number.tally c.note_package.new.self (λ q k. IsOfferAt c.args.architecture.now q x k)
+    let Noted : Package → Type 0 = λ x. NotesEach c.loop-number.tally c.note_package.new.self (IsEntryAt c.args.architecture.now x)
     c.loop-number.number in
     tally-more c.args.architecture.now c.args.packages.now c.loop-number.number p c.loop-number.tally c.note_package.new.self
     (slice_get_read c.args.packages.now _ c.loop-number.number p refl c.loop-number-test.true c.index-packages-number.is) c.loop-number.invariant

@@ -14,9 +14,10 @@ loop-place-preserved c =
     let classes = c.args.classes.now in
     let before = c.args.out.now.items ++ key_line (codes "    classes:") (length classes == 0) in
     record {
-      text = lines-more class_lines classes c.loop-place.place c.get.result.now before c.loop-place.out.items c.write_class.new.out.items c.get.ensures.value
+      text = lines-more class_lines classes c.loop-place.place c.get-class.result.now before c.loop-place.out.items c.write_class.new.out.items
+          c.get-class.ensures.value
           c.loop-place.invariant.text c.in_ok-write_class.ensures.text;
-      there = all-more HasExample classes c.loop-place.place c.get.result.now c.get.ensures.value c.loop-place.invariant.there
+      there = all-more HasExample classes c.loop-place.place c.get-class.result.now c.get-class.ensures.value c.loop-place.invariant.there
           c.in_ok-write_class.ensures.there;
     }
 

@@ -1,5 +1,5 @@
 use Rattle.std.proofs.Common.{◌≡◌, ℕ, Bool, [], get_or, sym, ap, ◌∙◌}
-use Rattle.dist_report.specs.StrongReport.{has_some}
+use Rattle.dist_report.specs.ClaimParts.{has_some}
 use Rattle.dist_report.proofs.PickedLemmas.{picked-none, picked-one}
 use Rattle.dist_report.proofs.impact.with_some.Goals as goal
 use Rattle.dist_report.proofs.impact.with_some.Goals.{then-has_numbers+in_ok-push, else-has_numbers}

@@ -1,6 +1,6 @@
 use Rattle.std.proofs.Common.{◌≡◌, [], filter, get_or}
 use Rattle.std.specs.List.{range_with_len}
-use Rattle.dist_report.specs.StrongReport.{has_some}
+use Rattle.dist_report.specs.ClaimParts.{has_some}
 use Rattle.dist_report.proofs.impact.with_some.Given as goal
 
 abbrev pub invariant-loop-number : goal.invariant-loop-number

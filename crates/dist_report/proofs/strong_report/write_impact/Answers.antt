@@ -2,8 +2,9 @@ use Rattle.std.proofs.Common.{◌≡◌, ◌<◌, ℕ, List, [], ◌++◌, codes
 use Rattle.std.specs.Prelude.{All, filter}
 use Rattle.std.specs.List.{range_with_len}
 use Rattle.dist_report.specs.Lines.{listed}
-use Rattle.dist_report.specs.StrongReport.{entry_lines, has_some, with_impact}
-use Rattle.dist_report.proofs.ImpactLemmas.{impact-lines, turned-within, with-is, with-within}
+use Rattle.dist_report.specs.ClaimParts.{has_some}
+use Rattle.dist_report.specs.StrongReport.{entry_lines, with_impact}
+use Rattle.dist_report.proofs.ImpactLemmas.{impact-lines, with-is, with-within}
 use Rattle.dist_report.proofs.strong_report.write_impact.Goals as goal
 
 pub with_some-requires : goal.with_some-requires

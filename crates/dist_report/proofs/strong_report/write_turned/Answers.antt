@@ -1,5 +1,5 @@
-use Rattle.std.proofs.Common.{◌≡◌, ◌<◌, ℕ, Bool, List, [], Some, ◌++◌, append_assoc, append-nil, codes, get_or, length, arith, sym, ap, subst, ◌∙◌, slice_get}
-use Rattle.std.specs.Prelude.{◌==◌, All}
+use Rattle.std.proofs.Common.{◌≡◌, ℕ, Bool, List, [], Some, ◌++◌, append_assoc, append-nil, codes, get_or, length, arith, sym, ap, ◌∙◌, slice_get}
+use Rattle.std.specs.Prelude.{◌==◌}
 use Rattle.std.specs.List.{flat_map}
 use Rattle.std.proofs.lemmas.Option.{slice_get-get_or}
 use Rattle.dist_report.specs.Lines.{key_line}

@@ -1,7 +1,7 @@
 use Rattle.std.proofs.Common.{◌≡◌, ◌∙◌, ℕ, ap, arith, length}
 use Rattle.dist_clause.specs.ClauseList.{ClauseList}
+use Rattle.dist_cert.specs.declared.records.CertKind.TheVariants.{Strong}
 use Rattle.dist_cert.specs.declared.records.Header.{Header}
-use Rattle.dist_sweep.specs.Sweep.{SweepAnswers}
 use Rattle.dist_strong.proofs.Begun.{StartsFrom, clauses-exact, first-header, literals-exact, may-begin}
 use Rattle.dist_strong.proofs.sweep.strong.Goals as goal
 
@@ -19,8 +19,8 @@ returns-clause-answers g c =
     } in
     let header_is : c.header_of-header.result ≡ first-header c.args.repo.now c.args.essential c.args.limit (length set.clauses)
     = c.header_of-header.ensures.value ∙ ap (λ (n : ℕ). first-header c.args.repo.now c.args.essential c.args.limit n) c.len.ensures.value in
-    c.write_file.ensures c.args.repo.now c.args.essential c.args.limit c.args.limits.now
-    (may-begin c.inputs_are_one.ensures.there c.present_clauses_are_one.ensures c.models_are_healthy.ensures c.args.repo.now c.args.essential c.args.limit
+    c.write_file.ensures c.args.repo.now Strong c.args.essential c.args.limit c.args.limits.now
+    (may-begin c.bases_are_one.ensures.there c.bases_are_one.ensures.one c.models_are_healthy.ensures c.args.repo.now c.args.essential c.args.limit
     c.args.limits.now set c.header_of-header.result c.in_ok-asker.asker _ starts header_is c.in_ok-asker.ensures)
 
 pub returns-clause-too_many_clauses : goal.returns-clause-too_many_clauses

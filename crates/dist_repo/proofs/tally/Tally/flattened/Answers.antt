@@ -1,13 +1,14 @@
-use Rattle.std.proofs.Common.{◌≡◌, ◌++◌, ◌∷◌, [], List, ℕ, nat_cmp, sym, ap, subst, ◌∙◌}
+use Rattle.std.proofs.Common.{◌≡◌, ◌↔◌, ◌++◌, ◌∷◌, [], List, ℕ, nat_cmp, sym, ap, subst, ◌∙◌}
+use Rattle.std.specs.Prelude.{Contains}
 use Rattle.std.specs.Cmp.Lexicographic.{slice_cmp}
 use Rattle.std.specs.List.{AllZip}
 use Rattle.std.specs.List.Sorted.{IsStrictlySortedBy}
-use Rattle.std.specs.Map.{keys_of, values_of}
+use Rattle.std.specs.Map.{keys_of}
 use Rattle.std.proofs.lemmas.List.{append-nil}
-use Rattle.dist_repo.specs.Offers.{IsOrderOf}
-use Rattle.dist_repo.specs.TallyPrivate.{AreNumbersOf}
+use Rattle.dist_repo.specs.Offers.{IsOrderOf, IsOwnOffer}
+use Rattle.dist_repo.specs.TallyPrivate.{AreNumbersOf, IsRowOf}
 use Rattle.dist_repo.specs.declared.offers.Offer.{Offer}
-use Rattle.dist_repo.proofs.FlatTally.{IsFlattened, flattened-none, flattened-more}
+use Rattle.dist_repo.proofs.FlatTally.{IsFlattened, flattened-more, flattened-none, row-from}
 use Rattle.dist_repo.proofs.tally.Tally.flattened.Goals as goal
 
 abbrev Entries : Type 0
@@ -35,22 +36,26 @@ loop-key-preserved c =
     let some_numbers = c.write_numbers.new.numbers.items in
     let some_offers = c.write_order.new.ordered.items in
     let names_is : c.push.new.self ≡ c.loop-key.names ++ name ∷ [] = c.in_ok-push.ensures.ok
-    ∙ ap (λ (x : List ℕ). c.loop-key.names ++ x ∷ []) (c.bytes.ensures.value ∙ c.name.ensures) in
+    ∙ ap (λ (x : List ℕ). c.loop-key.names ++ x ∷ []) (c.bytes-name.ensures.value ∙ c.name.ensures) in
     let numbers_is : c.push-in-loop-key.new.self ≡ c.loop-key.numbers ++ some_numbers ∷ [] = c.in_ok-push-2.ensures.ok
-    ∙ ap (λ (x : List ℕ). c.loop-key.numbers ++ x ∷ []) c.deref.ensures.value in
+    ∙ ap (λ (x : List ℕ). c.loop-key.numbers ++ x ∷ []) c.deref-in-loop-key.ensures.value in
     let offers_is : c.push-in-loop-key-2.new.self ≡ c.loop-key.offers ++ some_offers ∷ [] = c.in_ok-push-3.ensures.ok
-    ∙ ap (λ (x : List Offer). c.loop-key.offers ++ x ∷ []) c.deref-in-loop-key.ensures.value in
+    ∙ ap (λ (x : List Offer). c.loop-key.offers ++ x ∷ []) c.deref-in-loop-key-2.ensures.value in
     let Left : Entries → Type 0 = λ entries. IsFlattened packages tally entries c.loop-key.names c.loop-key.numbers c.loop-key.offers in
     let Names : List (List ℕ) → Type 0 = λ names. IsFlattened packages tally c.next.new.self names (c.loop-key.numbers ++ some_numbers ∷ [])
     (c.loop-key.offers ++ some_offers ∷ []) in
     let Numbers : List (List ℕ) → Type 0 = λ numbers. IsFlattened packages tally c.next.new.self c.push.new.self numbers
     (c.loop-key.offers ++ some_offers ∷ []) in
     let Offers : List (List Offer) → Type 0 = λ offers. IsFlattened packages tally c.next.new.self c.push.new.self c.push-in-loop-key.new.self offers in
+    let named = c.offers_named-named.result.now in
+    let Named : List ℕ → Type 0 = λ x. (offer : Offer) → Contains named offer ↔ IsOwnOffer packages x offer in
+    let own = subst Named (c.bytes-name.ensures.value ∙ c.name.ensures) c.offers_named-named.ensures.exact in
+    let Ordered : List Offer → Type 0 = λ xs. IsOrderOf packages some_offers (xs ++ named) in
     subst Offers (sym offers_is) (subst Numbers (sym numbers_is) (subst Names (sym names_is)
     (flattened-more packages tally c.next.new.self c.loop-key.names c.loop-key.numbers c.loop-key.offers name list some_numbers some_offers
     (subst Left c.in-Some.ensures.steps c.loop-key.invariant)
-    (subst (AreNumbersOf some_numbers) c.as_slice.ensures.value c.in_ok-write_numbers.ensures)
-    (subst (IsOrderOf packages some_offers) c.as_slice-in-loop-key.ensures.value c.in_ok-write_order.ensures))))
+    (subst (AreNumbersOf some_numbers) c.deref.ensures.value c.in_ok-write_numbers.ensures)
+    (row-from packages name list named some_offers own (subst Ordered c.as_slice.ensures c.in_ok-write_order.ensures)))))
 
 pub returns-clause-names : goal.returns-clause-names
 returns-clause-names c =
@@ -65,15 +70,11 @@ returns-clause-in_order c =
     subst Sorted (sym (names ∙ sym (ap (λ (entries : Entries). keys_of entries) c.self.view_is))) c.iter-key-items.ensures.ordered
 
 pub returns-clause-numbers : goal.returns-clause-numbers
-returns-clause-numbers c =
-    let gone = c.loop-key.invariant.gone in
-    let none = ap (λ (entries : Entries). gone ++ values_of entries) c.in-None.ensures.steps.0 in
-    let Of : List (List Offer) → Type 0 = λ lists. AllZip AreNumbersOf c.loop-key.numbers lists in
-    subst Of (sym (append-nil gone) ∙ sym none ∙ c.loop-key.invariant.offers_so_far) c.loop-key.invariant.numbers_are
+returns-clause-numbers c = c.loop-key.invariant.numbers_are
 
 pub returns-clause-offers : goal.returns-clause-offers
 returns-clause-offers c =
     let gone = c.loop-key.invariant.gone in
-    let none = ap (λ (entries : Entries). gone ++ values_of entries) c.in-None.ensures.steps.0 in
-    let Of : List (List Offer) → Type 0 = λ lists. AllZip (IsOrderOf c.args.packages.now) c.loop-key.offers lists in
-    subst Of (sym (append-nil gone) ∙ sym none ∙ c.loop-key.invariant.offers_so_far) c.loop-key.invariant.offers_are
+    let none = ap (λ (entries : Entries). gone ++ entries) c.in-None.ensures.steps.0 in
+    let Of : Entries → Type 0 = λ entries. AllZip (IsRowOf c.args.packages.now) c.loop-key.offers entries in
+    subst Of (sym (append-nil gone) ∙ sym none ∙ c.loop-key.invariant.so_far) c.loop-key.invariant.offers_are

@@ -1,16 +1,9 @@
-use Rattle.std.proofs.Common.{◌≡◌, ◌≤◌, ◌++◌, ◌∷◌, [], List, sym, subst, ap, ◌∙◌, rules}
-use Rattle.std.specs.Prelude.{Contains}
+use Rattle.std.proofs.Common.{◌≡◌, ◌++◌, ◌∷◌, [], List, ap, ◌∙◌, rules}
 use Rattle.std.proofs.lemmas.Result.{on_ok_weaker}
 use Rattle.dist_repo.specs.TallyPrivate.{offers_at}
 use Rattle.dist_repo.specs.declared.offers.Offer.{Offer}
 use Rattle.dist_repo.proofs.TallyLemmas.{notes-updated}
 use Rattle.dist_repo.proofs.tally.Tally.note.Goals as goal
-
-pub add-requires : goal.add-requires
-add-requires c =
-    let here : c.or_insert.result.now ≡ offers_at c.args.self.now c.args.name.now = search rules in
-    let Bounded : List Offer → Type 0 = λ list. (other : Offer) → Contains list other → other.number ≤ c.args.number in
-    subst Bounded (sym here) c.requires
 
 pub returns : goal.returns
 returns c =

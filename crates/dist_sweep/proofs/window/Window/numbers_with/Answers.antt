@@ -23,13 +23,13 @@ loop-place-preserved c =
     let number : (c.self.inside.count - c.len.result + place) + 1 ≡ first + place = omega (arith, counts, sizes, c.len.ensures.len) in
     elim c.if-has_at.branch [
       | then-has_at+in_ok-push x ↦
-          let e = filter-from (λ n. value_of (kept_at w n) c.args.«package») first place (first + place) true refl
-          (at-place w place (first + place) c.args.«package» true refl (sym c.has_at.ensures ∙ x.if-has_at.true)) in
+          let e = filter-from (λ n. value_of (kept_at w n) c.args.variable) first place (first + place) true refl
+          (at-place w place (first + place) c.args.variable true refl (sym c.has_at.ensures ∙ x.if-has_at.true)) in
           rw x.numbers-is (x.in_ok-push.ensures.items ∙ ap (λ (ns : List ℕ). ns ++ ((c.self.inside.count - c.len.result + place) + 1) ∷ [])
           c.loop-place.invariant
-          ∙ ap (λ (n : ℕ). filter (λ m. value_of (kept_at w m) c.args.«package») (range_with_len first place) ++ n ∷ []) number ∙ sym e)
+          ∙ ap (λ (n : ℕ). filter (λ m. value_of (kept_at w m) c.args.variable) (range_with_len first place) ++ n ∷ []) number ∙ sym e)
       | else-has_at x ↦
-          let e = filter-from (λ n. value_of (kept_at w n) c.args.«package») first place (first + place) false refl
-          (at-place w place (first + place) c.args.«package» false refl (sym c.has_at.ensures ∙ x.if-has_at.false)) in
-          rw x.numbers-is (c.loop-place.invariant ∙ sym (e ∙ append-nil (filter (λ n. value_of (kept_at w n) c.args.«package») (range_with_len first place))))
+          let e = filter-from (λ n. value_of (kept_at w n) c.args.variable) first place (first + place) false refl
+          (at-place w place (first + place) c.args.variable false refl (sym c.has_at.ensures ∙ x.if-has_at.false)) in
+          rw x.numbers-is (c.loop-place.invariant ∙ sym (e ∙ append-nil (filter (λ n. value_of (kept_at w n) c.args.variable) (range_with_len first place))))
     ]

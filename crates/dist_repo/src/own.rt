@@ -1,0 +1,60 @@
+//! What packages offer of their own names, in the order of packages. The offers of a name stand together, in the order of versions.
+ghost use Rattle.std.specs.Prelude.{◌≡◌, ◌↔◌, ◌<◌, ◌^◌, ℕ, Contains, IfOk, length};
+ghost use Rattle.dist_repo.specs.Offers.{AreInVersionOrder, IsOwnOffer};
+ghost use Rattle.dist_repo.specs.Order.{IsInOrder};
+ghost use Rattle.dist_repo.specs.OwnPrivate.{AreCounted, AreNumbersNamed, AreOwn};
+ghost use Rattle.dist_repo.specs.declared.offers.Offer.{Offer};
+
+use crate::key::Key;
+use crate::offers::Offer;
+use crate::spans::span_of;
+use std::alloc::{AllocError, Global};
+
+/// What each package offers of its own name, and its number.
+#[derive(Drop)]
+pub(crate) struct Own {
+    pub(crate) numbers: Vec<u32>,
+    pub(crate) offers: Vec<Offer>,
+}
+
+/// What the packages offer of their own names. A place past 4,294,967,295 is want of memory too.
+pub(crate) fn own_of(alloc: Global, packages: &[Key]) -> Result<Own, AllocError>
+    requires { length packages.now < 2 ^ 32 }
+    ensures numbers { IfOk result (λ own. AreCounted (length packages.now) own.numbers.items) }
+    ensures offers { IfOk result (λ own. AreOwn packages.now (length packages.now) own.offers.items) }
+{
+    let mut numbers = Vec::new(alloc);
+    let mut offers = Vec::new(alloc);
+    for (number, key) in packages.iter().enumerate() {
+        let place = key.package().provides.len();
+        if place > u32::MAX as usize {
+            return Err(AllocError);
+        }
+        let number = number as u32;
+        let place = place as u32;
+        numbers.push(number)?;
+        offers.push(Offer { number, place })?;
+    }
+    Ok(Own { numbers, offers })
+}
+
+/// The numbers of the packages of a name.
+pub(crate) fn numbers_named<'a>(packages: &[Key], numbers: &'a [u32], name: &[u8]) -> &'a [u32]
+    requires in_order { IsInOrder packages.now }
+    requires numbers { AreCounted (length packages.now) numbers.now }
+    ensures { AreNumbersNamed packages.now name.now result.now }
+{
+    let (start, end) = span_of(packages, name);
+    &numbers[start..end]
+}
+
+/// What the packages of a name offer of it by their own names.
+pub(crate) fn offers_named<'a>(packages: &[Key], offers: &'a [Offer], name: &[u8]) -> &'a [Offer]
+    requires in_order { IsInOrder packages.now }
+    requires offers { AreOwn packages.now (length packages.now) offers.now }
+    ensures exact { (offer : Offer) → Contains result.now offer ↔ IsOwnOffer packages.now name.now offer }
+    ensures in_order { AreInVersionOrder packages.now result.now }
+{
+    let (start, end) = span_of(packages, name);
+    &offers[start..end]
+}

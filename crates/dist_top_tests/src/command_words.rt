@@ -1,0 +1,88 @@
+//! The words of each command, and words that are of none.
+use crate::running::words_of;
+use dist_words::{Command, WordsError, command_of};
+use std::alloc::Global;
+use std::test::Fail;
+
+/// The options of `strong f g`, where these are the words of it.
+fn strong_options(alloc: Global, words: &[&str]) -> Result<Option<(u32, bool)>, Fail> {
+    let words = words_of(alloc, words)?;
+    match command_of(alloc, &words) {
+        Ok(Command::Strong(read)) if read.packages == "f" && read.cert == "g" => {
+            Ok(Some((read.limit, read.essential)))
+        }
+        _ => Ok(None),
+    }
+}
+
+#[test]
+fn options_are_read(rt: HostRuntime) -> Result<(), Fail> {
+    let alloc = rt.alloc();
+    let plain = strong_options(alloc, &["strong", "f", "g"])?;
+    assert_eq!(rt; plain, Some((10_000, false)));
+    let equals = strong_options(alloc, &["strong", "f", "g", "--limit=3"])?;
+    assert_eq!(rt; equals, Some((3, false)));
+    let before = strong_options(
+        alloc,
+        &[
+            "--essential",
+            "--limit",
+            "1000000",
+            "strong",
+            "f",
+            "--",
+            "g",
+        ],
+    )?;
+    assert_eq!(rt; before, Some((1_000_000, true)));
+    Ok(())
+}
+
+#[test]
+fn files_are_read(rt: HostRuntime) -> Result<(), Fail> {
+    let alloc = rt.alloc();
+    let words = words_of(alloc, &["health", "f", "g"])?;
+    assert!(rt;
+        matches!(command_of(alloc, &words), Ok(Command::Health(files)) if files.packages == "f" && files.list == "g")
+    );
+    let words = words_of(alloc, &["classes", "f"])?;
+    assert!(rt; matches!(command_of(alloc, &words), Ok(Command::Classes("f"))));
+    let words = words_of(alloc, &["check", "f", "g"])?;
+    assert!(rt;
+        matches!(command_of(alloc, &words), Ok(Command::Check(files)) if files.packages == "f" && files.cert == "g")
+    );
+    let words = words_of(alloc, &["try", "--seed", "0", "--size", "2"])?;
+    assert!(rt;
+        matches!(command_of(alloc, &words), Ok(Command::Try(sizes)) if sizes.size == 2 && sizes.seed == 0)
+    );
+    Ok(())
+}
+
+#[test]
+fn other_words_are_refused(rt: HostRuntime) -> Result<(), Fail> {
+    let alloc = rt.alloc();
+    let lists: [&[&str]; 17] = [
+        &[],
+        &["strong", "f"],
+        &["health", "f", "g", "--limit", "3"],
+        &["try", "--size", "3"],
+        &["classes", "f", "g"],
+        &["check", "f", "g", "--essential"],
+        &["check", "f", "g", "--limit=3"],
+        &["strong", "f", "g", "--size", "3"],
+        &["strong", "f", "g", "--seed", "3"],
+        &["strong", "f", "g", "--limit", "0"],
+        &["strong", "f", "g", "--limit", "1000001"],
+        &["strong", "f", "g", "--limit", "ten"],
+        &["strong", "f", "g", "--limit", "1", "--limit", "2"],
+        &["strong", "f", "g", "--lim", "3"],
+        &["strong", "f", "g", "h"],
+        &["strongly", "f", "g"],
+        &["--help"],
+    ];
+    for list in lists {
+        let words = words_of(alloc, list)?;
+        assert!(rt; matches!(command_of(alloc, &words), Err(WordsError::BadWords)));
+    }
+    Ok(())
+}
