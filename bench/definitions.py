@@ -166,8 +166,8 @@ HEAD = """# Definitions
 What the contracts speak of. This page is made by `bench/definitions.py --page` from the comments above the definitions.
 
 The first part has exactly the definitions that the contract of `run` reaches: {count} names. A reader who believes them, and the Rattle kit,
-need believe nothing of the code. The second part has the other words that contracts of public functions and types reach: those of single
-libraries, and of the questions about the future, which have no command yet.
+need believe nothing of the code. The second part has the other words that contracts of public functions and types reach, those of single
+libraries.
 
 # Part one: what must be believed
 """

@@ -195,11 +195,11 @@ check_comes_to laws files limits packages cert r ending read (inl (answer, judge
   λ other of_other judged'. one_judgement laws.texts.certificates files limits cert r answer other (in_order (Some files) limits packages r read) judged judged'
       (end_of_text (Some files) answer ending end) of_other,
 )
-check_comes_to laws files limits packages cert r ending read (inr (accepted, judged, (means, is))) = (
+check_comes_to laws files limits packages cert r ending read (inr (accepted, judged, reports)) = (
   Ok (verdict.Accepted accepted.0 accepted.1),
   tt,
   judged,
-  ap (λ (x : Ending). x.status) is,
+  ap (λ (x : Ending). x.status) reports.is,
   λ other of_other judged'. one_judgement laws.texts.certificates files limits cert r (Ok (verdict.Accepted accepted.0 accepted.1)) other
       (in_order (Some files) limits packages r read) judged judged' tt of_other,
 )

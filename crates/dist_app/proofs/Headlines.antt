@@ -70,17 +70,19 @@ module _ (limits : Limits) (packages cert : List ℕ) (result : Status) (desk de
   accepted_proves : (r : PackageList) (accepted : Header × List Claim) → PackagesStage desk.files limits packages (Goes r)
       → CertificateStage desk.files limits cert r (Goes accepted) → Reports desk.files r accepted ending
       → ProvesCheck limits packages cert result desk desk' out out'
-  accepted_proves r accepted goes judged (means, is) = record {
+  accepted_proves r accepted goes judged reports = record {
     repository = r;
     read = goes;
     header = accepted.0;
     made = accepted.1;
     present = judged.present;
     accepted = judged.answers;
-    files = files ∙ ap (λ (e : Ending). e.files) is;
-    means = means;
-    printed = subst (λ (e : Ending). Grew e.out out out') is printed;
-    status = status_is ∙ ap (λ (e : Ending). e.status) is;
+    files = files ∙ ap (λ (e : Ending). e.files) reports.is;
+    means = reports.means;
+    report = reports.text;
+    is_report = reports.is_report;
+    printed = subst (λ (e : Ending). Grew e.out out out') reports.is printed;
+    status = status_is ∙ ap (λ (e : Ending). e.status) reports.is;
   }
 
   pub check_proves : CheckStages desk.files limits packages cert (Reports desk.files) ending → ProvesCheck limits packages cert result desk desk' out out'

@@ -185,8 +185,8 @@ command_status (Strong packages cert essential limit) files limits ending (inr (
     subst (λ (e : Ending). IsOfFiles e.status) (sym stopped.is) tt
 command_status (Check packages cert) files limits ending (inl p) = refusal_status files ending (packages_refuses files limits packages ending p)
 command_status (Check packages cert) files limits ending (inr (r, goes, inl c)) = refusal_status files ending (certificate_refuses files limits cert r ending c)
-command_status (Check packages cert) files limits ending (inr (r, goes, inr (accepted, judged, (means, is)))) =
-    subst (λ (e : Ending). IsOfFiles e.status) (sym is) (claims_of_files accepted.1)
+command_status (Check packages cert) files limits ending (inr (r, goes, inr (accepted, judged, reports))) =
+    subst (λ (e : Ending). IsOfFiles e.status) (sym reports.is) (claims_of_files accepted.1)
 command_status (Try size seed) files limits ending (inl a) = refusal_status files ending (archive_refuses files limits size seed ending a)
 command_status (Try size seed) files limits ending (inr (r, goes, inl c)) = refusal_status files ending (clauses_refuse files limits false r ending c)
 command_status (Try size seed) files limits ending (inr (r, goes, inr (_, kept, inl tried))) =

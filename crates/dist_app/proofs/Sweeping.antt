@@ -38,17 +38,17 @@ use Rattle.dist_app.specs.declared.status.Status.{Status}
 -- the law of the checker
 abbrev pub ClaimsHold : Type 0
 ClaimsHold = (r : PackageList) (limits : Limits) (text : List ℕ) (h : Header) (made : List Claim) → IsInOrder r.packages → IsAccepted r limits text h made
-    → Means h.essential r made
+    → Means h.kind h.essential r made
 
 pub completed_means : ClaimsHold → (r : PackageList) (limits : Limits) (text : List ℕ) (h : Header) (made : List Claim) → IsInOrder r.packages
-    → IsCompleted r limits text h made → Means h.essential r made
+    → IsCompleted r limits text h made → Means h.kind h.essential r made
 completed_means hold r limits text h made in_order done =
-    hold r limits text h made in_order (done.bases, done.are_bases, (done.steps, done.accepted, done.claims))
+    hold r limits text h made in_order (done.basis, done.is_basis, (done.steps, done.accepted, done.claims))
 
 pub sweep_means : ClaimsHold → (r : PackageList) (essential : Bool) (limit : ℕ) (limits : Limits) (text : List ℕ) (made : List Claim) → IsInOrder r.packages
-    → IsSweep r kinds.Strong essential limit limits made text → Means essential r made
-sweep_means hold r essential limit limits text made in_order (bases, are, (done, part)) =
-    completed_means hold r limits text (header_of kinds.Strong essential limit (matter_of r essential (bases kinds.Strong essential))) made in_order done
+    → IsSweep r kinds.Strong essential limit limits made text → Means kinds.Strong essential r made
+sweep_means hold r essential limit limits text made in_order (basis, are, (done, part)) =
+    completed_means hold r limits text (header_of kinds.Strong essential limit (matter_of r basis)) made in_order done
 
 -- ---- a sweep
 

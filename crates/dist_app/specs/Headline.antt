@@ -15,7 +15,7 @@ use Rattle.dist_cert.specs.declared.records.Claim.{Claim}
 use Rattle.dist_cert.specs.declared.records.Header.{Header}
 use Rattle.dist_cert.specs.declared.records.CertKind.TheVariants as kinds
 use Rattle.dist_subject.specs.Completed.{IsCompleted}
-use Rattle.dist_subject.specs.Basis.{AreBases, Bases, matter_for, subject_of}
+use Rattle.dist_subject.specs.Basis.{Basis, matter_of}
 use Rattle.dist_sweep.specs.Sweep.{IsSweep}
 use Rattle.dist_check.specs.Answers.{AcceptedMeans}
 use Rattle.dist_check.specs.Checking.{OfText}
@@ -23,6 +23,7 @@ use Rattle.dist_check.specs.Means.{Means}
 use Rattle.dist_report.specs.StrongReport.{strong_lines}
 use Rattle.dist_words.specs.CommandLine.{Strong, Check}
 use Rattle.dist_words.specs.Table.{command_of}
+use Rattle.dist_app.specs.Check.{IsReportOf}
 use Rattle.dist_app.specs.Claims.{claims_status}
 use Rattle.dist_app.specs.PackagesStage.{PackagesStage}
 use Rattle.dist_app.specs.Stages.{Goes}
@@ -45,13 +46,13 @@ pub record ProvesStrong (limits : Limits) (packages cert : List ℕ) (essential 
   pub text : List ℕ
   pub certificate : IsSweep repository kinds.Strong essential limit limits made text
   pub files : desk'.files ≡ with_file desk.files cert text
-  pub means : Means essential repository made
+  pub means : Means kinds.Strong essential repository made
   pub printed : Grew (strong_lines repository.packages limit made) out out'
   pub status : result ≡ claims_status made
 
 -- PACKAGES has a repository, and the file CERT was accepted over it, whoever wrote it, with a first line and claims.
--- The line is of kind strong and has the repository's numbers, what is claimed is true at its mode, and the report was
--- printed. All files are as before.
+-- The line has the numbers of what certificates of its kind and mode are judged by, what is claimed is true at its kind
+-- and mode, and the report was printed. All files are as before.
 pub record ProvesCheck (limits : Limits) (packages cert : List ℕ) (result : Status) (desk desk' : DeskView)
     (out out' : SinkView) : Type 0 where
   pub repository : PackageList
@@ -62,7 +63,9 @@ pub record ProvesCheck (limits : Limits) (packages cert : List ℕ) (result : St
   pub accepted : OfText (file_bytes desk.files cert) (λ text. IsCompleted repository limits text header made)
   pub files : desk'.files ≡ desk.files
   pub means : AcceptedMeans repository header made
-  pub printed : Grew (strong_lines repository.packages header.limit made) out out'
+  pub report : List ℕ
+  pub is_report : IsReportOf repository header made report
+  pub printed : Grew report out out'
   pub status : result ≡ claims_status made
 
 -- the same of a run with these words
@@ -79,15 +82,15 @@ CheckIsProved words limits result desk desk' out out' = (packages cert : List �
 -- A question that an accepted text leaves undecided is hard: its limit is at most 3 to the power of the number of
 -- variables that it reaches.
 abbrev pub UndecidedAreHard : Limits → Type 0
-UndecidedAreHard limits = (r : PackageList) (bases : Bases) (text : List ℕ) (h : Header)
+UndecidedAreHard limits = (r : PackageList) (basis : Basis) (text : List ℕ) (h : Header)
     (steps : List CertRecord) (question : List Word) (cone : List ℕ)
-    → AreBases r bases → IsAcceptedAs (subject_of r bases) limits text h steps → IsUndecidedIn steps question
-    → ((v : ℕ) → Contains cone v ↔ InCone (matter_for r bases h).inputs (clause_of question) v)
+    → IsAcceptedAs (matter_of r basis) limits text h steps → IsUndecidedIn steps question
+    → ((v : ℕ) → Contains cone v ↔ InCone (matter_of r basis).inputs (clause_of question) v)
     → h.limit ≤ 3 ^ length cone
 
 -- What an accepted text leaves undecided was tried: each mark's question is closed in the text behind at least as many
 -- derived lines as the limit, each of which follows and was new.
 abbrev pub MarksAreTried : Limits → Type 0
-MarksAreTried limits = (r : PackageList) (bases : Bases) (text : List ℕ) (h : Header)
-    (steps : List CertRecord) → IsAcceptedAs (subject_of r bases) limits text h steps
-    → AreMarksTried (matter_for r bases h) h.kind h.limit steps
+MarksAreTried limits = (r : PackageList) (basis : Basis) (text : List ℕ) (h : Header)
+    (steps : List CertRecord) → IsAcceptedAs (matter_of r basis) limits text h steps
+    → AreMarksTried (matter_of r basis) h.kind h.limit steps

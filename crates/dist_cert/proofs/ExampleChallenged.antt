@@ -17,7 +17,7 @@ use Rattle.dist_cert.specs.ClaimRules.{yes, IsNamed, IsPairFor, IsPairBelow, Has
 use Rattle.dist_cert.specs.Refusal.{certificate_text}
 use Rattle.dist_cert.specs.Accepted.{Accepted}
 use Rattle.dist_cert.specs.ByRecordsLaws.{AreSound, IsSound, IsSoundHeader, accepted_by_records}
-use Rattle.dist_cert.specs.ChallengedExamples.{one_class, moves, needs, stays, space, archive_of_libx, header, fourteen_lines, by_two_classes}
+use Rattle.dist_cert.specs.ChallengedExamples.{one_class, moves, needs, stays, space, header, fourteen_lines, by_two_classes}
 use Rattle.dist_cert.specs.ChallengedExamples.{ChallengedIsAccepted}
 use Rattle.dist_cert.proofs.ExampleTests.{makes_true, has, lacks, ends-false, is-model}
 use Rattle.dist_cert.proofs.ExampleLines.{keeps_installation, keeps_hints, from-one, question-line, refuted-line, installation-line, end-line}
@@ -60,10 +60,10 @@ its-header : header_text header ≡ codes "distfuture-certificate 1 challenged p
 unfolding digits
 its-header = refl
 
-header-sound : (limits : Limits) → 56 ≤ limits.record_line → IsSoundHeader archive_of_libx limits header
+header-sound : (limits : Limits) → 56 ≤ limits.record_line → IsSoundHeader space limits header
 header-sound limits room = record {
   form = record { text = refl; rules = (lit≤ tt, lit≤ tt); numbers = (lit< tt, lit< tt, lit< tt) };
-  fits = record { taken = (refl, refl); packages = refl; variables = refl; clauses = refl };
+  fits = record { packages = refl; variables = refl; clauses = refl };
   short = subst (λ (bytes : List ℕ). length bytes < limits.record_line) (sym its-header) (omega (arith, room));
 }
 
@@ -245,5 +245,5 @@ lines-sound limits room =
     (p-sound limits room)
 
 pub challenged : ChallengedIsAccepted
-challenged limits room = subst (λ (text : List ℕ). Accepted archive_of_libx limits text header by_two_classes) its-text
-    (accepted_by_records clear archive_of_libx limits header records (header-sound limits room) (lines-sound limits room) (12, lit< tt, refl))
+challenged limits room = subst (λ (text : List ℕ). Accepted space limits text header by_two_classes) its-text
+    (accepted_by_records clear space limits header records (header-sound limits room) (lines-sound limits room) (12, lit< tt, refl))

@@ -7,7 +7,7 @@ use Rattle.dist_cert.specs.Form.{record_text, header_text}
 use Rattle.dist_cert.specs.Refusal.{certificate_text}
 use Rattle.dist_cert.specs.Accepted.{Accepted}
 use Rattle.dist_cert.specs.ByRecordsLaws.{IsSoundHeader, accepted_by_records}
-use Rattle.dist_cert.specs.EmptyExamples.{nothing, empty_archive, header, two_lines, EmptyIsAccepted}
+use Rattle.dist_cert.specs.EmptyExamples.{nothing, header, two_lines, EmptyIsAccepted}
 use Rattle.dist_cert.proofs.ExampleLines.{end-line}
 use Rattle.dist_cert.proofs.OneLine.{clear}
 
@@ -23,15 +23,15 @@ its-end : record_text End ≡ codes "e"
 unfolding digits
 its-end = refl
 
-header-sound : (limits : Limits) → 50 ≤ limits.record_line → IsSoundHeader empty_archive limits header
+header-sound : (limits : Limits) → 50 ≤ limits.record_line → IsSoundHeader nothing limits header
 header-sound limits room = record {
   form = record { text = refl; rules = (lit≤ tt, lit≤ tt); numbers = (lit< tt, lit< tt, lit< tt) };
-  fits = record { taken = (refl, refl); packages = refl; variables = refl; clauses = refl };
+  fits = record { packages = refl; variables = refl; clauses = refl };
   short = subst (λ (bytes : List ℕ). length bytes < limits.record_line) (sym its-header) (omega (arith, room));
 }
 
 pub empty : EmptyIsAccepted
-empty limits room = subst (λ (text : List ℕ). Accepted empty_archive limits text header []) its-text
-    (accepted_by_records clear empty_archive limits header (End ∷ []) (header-sound limits room)
+empty limits room = subst (λ (text : List ℕ). Accepted nothing limits text header []) its-text
+    (accepted_by_records clear nothing limits header (End ∷ []) (header-sound limits room)
     (end-line limits nothing header [] its-end (lit≤ tt) (omega (arith, room)) refl, tt)
     (0, lit< tt, refl))

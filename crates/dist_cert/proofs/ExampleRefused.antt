@@ -9,7 +9,7 @@ use Rattle.dist_cert.specs.Form.{IsSmall, record_text}
 use Rattle.dist_cert.specs.ClaimRules.{yes, no}
 use Rattle.dist_cert.specs.Refusal.{lines_text, certificate_text, Refusal}
 use Rattle.dist_cert.specs.ByRecordsLaws.{refused_by_record}
-use Rattle.dist_cert.specs.TenLinesExamples.{two, archive_of_two, header}
+use Rattle.dist_cert.specs.TenLinesExamples.{two, header}
 use Rattle.dist_cert.specs.LineExamples.{asking, asked, claim_on_a, on_b, claim_on_b}
 use Rattle.dist_cert.specs.RefusedExamples.{without_hint, without_claim, HintIsMissed, ClaimIsMissed}
 use Rattle.dist_cert.proofs.ExampleLines.{from-one, no-hints, ends-early}
@@ -25,8 +25,8 @@ unfolding digits behind
 text-without-hint = refl
 
 pub hint-missed : HintIsMissed
-hint-missed limits room = subst (λ (text : List ℕ). Refusal archive_of_two limits text (record { line = 5; cause = causes.BadLine })) text-without-hint
-    (refused_by_record clear archive_of_two limits header asking (Refuted []) behind causes.BadLine (header-sound limits room) (asking-sound limits room)
+hint-missed limits room = subst (λ (text : List ℕ). Refusal two limits text (record { line = 5; cause = causes.BadLine })) text-without-hint
+    (refused_by_record clear two limits header asking (Refuted []) behind causes.BadLine (header-sound limits room) (asking-sound limits room)
     (record { text = refl; rules = from-one [] refl; numbers = All-nil (λ word. IsSmall word.0) }) (omega (arith, room)) refl
     (no-hints two header asking (Question (yes 1 ∷ []) ∷ Installation (1 ∷ 2 ∷ []) ∷ []) (yes 1 ∷ no 2 ∷ []) [] asked))
 
@@ -35,7 +35,7 @@ unfolding digits
 text-without-claim = refl
 
 pub claim-missed : ClaimIsMissed
-claim-missed limits room = subst (λ (text : List ℕ). Refusal archive_of_two limits text (record { line = 9; cause = causes.Incomplete })) text-without-claim
-    (refused_by_record clear archive_of_two limits header on_b End [] causes.Incomplete (header-sound limits room) (on-b-sound limits room)
+claim-missed limits room = subst (λ (text : List ℕ). Refusal two limits text (record { line = 9; cause = causes.Incomplete })) text-without-claim
+    (refused_by_record clear two limits header on_b End [] causes.Incomplete (header-sound limits room) (on-b-sound limits room)
     (record { text = refl; rules = tt; numbers = All-nil (λ word. IsSmall word.0) }) (omega (arith, room)) refl
     (ends-early two header on_b (lit< tt)))

@@ -15,7 +15,7 @@ use Rattle.dist_cert.specs.ClaimRules.{yes, no, IsNamed, HoldsStrong, OmitsPacka
 use Rattle.dist_cert.specs.Refusal.{certificate_text}
 use Rattle.dist_cert.specs.Accepted.{Accepted}
 use Rattle.dist_cert.specs.ByRecordsLaws.{AreSound, IsSoundHeader, accepted_by_records}
-use Rattle.dist_cert.specs.TenLinesExamples.{two, archive_of_two, header, ten_lines, on_b_and_on_nothing, TenLinesAreAccepted}
+use Rattle.dist_cert.specs.TenLinesExamples.{two, header, ten_lines, on_b_and_on_nothing, TenLinesAreAccepted}
 use Rattle.dist_cert.specs.LineExamples.{asking, asked, on_a, claim_on_a, on_b, claim_on_b, all_lines}
 use Rattle.dist_cert.proofs.ExampleTests.{pairs-by, has, lacks, ends-false}
 use Rattle.dist_cert.proofs.ExampleLines.{from-one, question-line, refuted-line, installation-line, end-line, claims-strong, sound, sound-more}
@@ -29,10 +29,10 @@ its-header : header_text header ≡ codes "distfuture-certificate 1 strong plain
 unfolding digits
 its-header = refl
 
-pub header-sound : (limits : Limits) → 50 ≤ limits.record_line → IsSoundHeader archive_of_two limits header
+pub header-sound : (limits : Limits) → 50 ≤ limits.record_line → IsSoundHeader two limits header
 header-sound limits room = record {
   form = record { text = refl; rules = (lit≤ tt, lit≤ tt); numbers = (lit< tt, lit< tt, lit< tt) };
-  fits = record { taken = (refl, refl); packages = refl; variables = refl; clauses = refl };
+  fits = record { packages = refl; variables = refl; clauses = refl };
   short = subst (λ (bytes : List ℕ). length bytes < limits.record_line) (sym its-header) (omega (arith, room));
 }
 
@@ -131,6 +131,6 @@ ending-sound limits room = (
 )
 
 pub ten-lines : TenLinesAreAccepted
-ten-lines limits room = subst (λ (text : List ℕ). Accepted archive_of_two limits text header on_b_and_on_nothing) its-text
-    (accepted_by_records clear archive_of_two limits header all_lines (header-sound limits room)
+ten-lines limits room = subst (λ (text : List ℕ). Accepted two limits text header on_b_and_on_nothing) its-text
+    (accepted_by_records clear two limits header all_lines (header-sound limits room)
     (sound-more limits two header [] on_b (claim_on_b ∷ End ∷ []) (on-b-sound limits room) (ending-sound limits room)) (8, lit< tt, refl))

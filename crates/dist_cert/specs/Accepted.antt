@@ -8,7 +8,7 @@ use Rattle.dist_cert.specs.declared.records.CertRecord.TheVariants as lines
 use Rattle.dist_cert.specs.declared.records.Claim.{Claim}
 use Rattle.dist_cert.specs.declared.records.Claim.TheVariants as claims
 use Rattle.dist_cert.specs.declared.records.Header.{Header}
-use Rattle.dist_cert.specs.Subject.{Subject}
+use Rattle.dist_cert.specs.Subject.{Matter}
 use Rattle.dist_cert.specs.Refusal.{HasLineFault, AreFaultless}
 
 -- ---- what is claimed, with numbers from 0
@@ -37,12 +37,12 @@ claims_in steps = flat_map claim_in steps
 -- ---- acceptance
 
 -- The text is the lines of this header and these records. No line has a fault, and none is missing behind the last.
-pub record IsAcceptedAs (subject : Subject) (limits : Limits) (text : List ℕ) (h : Header)
+pub record IsAcceptedAs (matter : Matter) (limits : Limits) (text : List ℕ) (h : Header)
     (steps : List CertRecord) : Type 0 where
-  pub faultless : AreFaultless subject limits text h steps []
-  pub ends : (cause : CertCause) → ¬ HasLineFault subject limits h steps [] cause
+  pub faultless : AreFaultless matter limits text h steps []
+  pub ends : (cause : CertCause) → ¬ HasLineFault matter limits h steps [] cause
 
 -- The text is accepted with this header and these claims, one for each package in order.
-abbrev pub Accepted : Subject → Limits → List ℕ → Header → List Claim → Type 0
-Accepted subject limits text h made = (steps : List CertRecord) × IsAcceptedAs subject limits text h steps
+abbrev pub Accepted : Matter → Limits → List ℕ → Header → List Claim → Type 0
+Accepted matter limits text h made = (steps : List CertRecord) × IsAcceptedAs matter limits text h steps
     × (made ≡ claims_in steps)

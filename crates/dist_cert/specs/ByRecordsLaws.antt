@@ -15,7 +15,7 @@ use Rattle.dist_cert.specs.declared.records.CertRecord.{CertRecord}
 use Rattle.dist_cert.specs.declared.records.CertRecord.TheVariants.{End}
 use Rattle.dist_cert.specs.declared.records.Header.{Header}
 use Rattle.dist_cert.specs.Form.{record_text, HasForm, is_end, header_text, HasHeaderForm}
-use Rattle.dist_cert.specs.Subject.{Matter, Subject}
+use Rattle.dist_cert.specs.Subject.{Matter}
 use Rattle.dist_cert.specs.LineRules.{HasRecordFault}
 use Rattle.dist_cert.specs.Refusal.{IsOneLine, lines_text, certificate_text, Fits, IsBadStep, HasFirstFault}
 use Rattle.dist_cert.specs.Refusal.{HasLineFault, in_order, IsFirstOf, AreFaultless, Refusal}
@@ -49,29 +49,29 @@ same_step clear matter h before step more cause form bad =
     let one : step ≡ other = clear.one_record line step other (subst (λ l. HasForm l step) same.0 form) bad.4 in
     subst (λ s. HasRecordFault matter h before s cause) (sym one) bad.5
 
-pub line_to_record : FormsAreClear → (subject : Subject) (limits : Limits) (h : Header) (before : List CertRecord)
+pub line_to_record : FormsAreClear → (matter : Matter) (limits : Limits) (h : Header) (before : List CertRecord)
     (step : CertRecord) (more : List ℕ) → HasForm (record_text step) step
     → (¬ Contains before End) → length (record_text step) < limits.record_line → (cause : CertCause)
-    → HasLineFault subject limits h before (record_text step ++ line_feed ∷ more) cause
-    → HasRecordFault (subject.matter h.kind h.essential) h before step cause
-line_to_record clear subject limits h before step more form no_end short causes.LineTooLong f =
+    → HasLineFault matter limits h before (record_text step ++ line_feed ∷ more) cause
+    → HasRecordFault matter h before step cause
+line_to_record clear matter limits h before step more form no_end short causes.LineTooLong f =
     within limits.record_line (record_text step) more short f.1
-line_to_record clear subject limits h before step more form no_end short causes.Truncated f =
+line_to_record clear matter limits h before step more form no_end short causes.Truncated f =
     whole_line (record_text step) more f.0
-line_to_record clear subject limits h before step more form no_end short causes.BadRecord f = ⊎_elim no_end (λ none.
+line_to_record clear matter limits h before step more form no_end short causes.BadRecord f = ⊎_elim no_end (λ none.
     none step (subst (λ l. HasForm l step) (one_line (record_text step) f.0 more f.1 (clear.record_line step form)
     f.2.one_line f.2.ended).0 form)) f.3
-line_to_record clear subject limits h before step more form no_end short cause f =
-    same_step clear (subject.matter h.kind h.essential) h before step more cause form f
+line_to_record clear matter limits h before step more form no_end short cause f =
+    same_step clear matter h before step more cause form f
 
-pub record_to_line : FormsAreClear → (subject : Subject) (limits : Limits) (h : Header) (before : List CertRecord)
+pub record_to_line : FormsAreClear → (matter : Matter) (limits : Limits) (h : Header) (before : List CertRecord)
     (step : CertRecord) (more : List ℕ) → HasForm (record_text step) step
-    → (cause : CertCause) → HasRecordFault (subject.matter h.kind h.essential) h before step cause
-    → HasLineFault subject limits h before (record_text step ++ line_feed ∷ more) cause
-record_to_line clear subject limits h before step more form causes.LineTooLong f = absurd f
-record_to_line clear subject limits h before step more form causes.Truncated f = absurd f
-record_to_line clear subject limits h before step more form causes.BadRecord f = absurd f
-record_to_line clear subject limits h before step more form cause f =
+    → (cause : CertCause) → HasRecordFault matter h before step cause
+    → HasLineFault matter limits h before (record_text step ++ line_feed ∷ more) cause
+record_to_line clear matter limits h before step more form causes.LineTooLong f = absurd f
+record_to_line clear matter limits h before step more form causes.Truncated f = absurd f
+record_to_line clear matter limits h before step more form causes.BadRecord f = absurd f
+record_to_line clear matter limits h before step more form cause f =
     (record_text step, more, step, record { ended = refl; one_line = clear.record_line step form }, form, f)
 
 -- ---- lines of known records
@@ -138,40 +138,40 @@ forms_of limits matter h before (step ∷ steps) all =
     (forms_of limits matter h (before ++ step ∷ []) steps all.1)
 
 -- The first line has no fault.
-pub record IsSoundHeader (subject : Subject) (limits : Limits) (h : Header) : Type 0 where
+pub record IsSoundHeader (matter : Matter) (limits : Limits) (h : Header) : Type 0 where
   pub form : HasHeaderForm (header_text h) h
-  pub fits : Fits subject h
+  pub fits : Fits matter h
   pub short : length (header_text h) < limits.record_line
 
-first_sound : FormsAreClear → (subject : Subject) (limits : Limits) (h : Header) (more : List ℕ)
-    → IsSoundHeader subject limits h → (cause : CertCause)
-    → ¬ HasFirstFault subject limits (header_text h ++ line_feed ∷ more) cause
-first_sound clear subject limits h more sound causes.LineTooLong f =
+first_sound : FormsAreClear → (matter : Matter) (limits : Limits) (h : Header) (more : List ℕ)
+    → IsSoundHeader matter limits h → (cause : CertCause)
+    → ¬ HasFirstFault matter limits (header_text h ++ line_feed ∷ more) cause
+first_sound clear matter limits h more sound causes.LineTooLong f =
     within limits.record_line (header_text h) more sound.short f.1
-first_sound clear subject limits h more sound causes.Truncated f = whole_line (header_text h) more f
-first_sound clear subject limits h more sound causes.BadHeader f =
+first_sound clear matter limits h more sound causes.Truncated f = whole_line (header_text h) more f
+first_sound clear matter limits h more sound causes.BadHeader f =
     f.3 h (subst (λ l. HasHeaderForm l h) (one_line (header_text h) f.0 more f.1 (clear.header_line h sound.form)
     f.2.one_line f.2.ended).0 sound.form) sound.fits
-first_sound clear subject limits h more sound cause f = f
+first_sound clear matter limits h more sound cause f = f
 
-sound_lines : FormsAreClear → (subject : Subject) (limits : Limits) (h : Header) (before : List CertRecord)
-    (rest : List ℕ) → IsSoundHeader subject limits h
-    → AreSound limits (subject.matter h.kind h.essential) h [] before
-    → AreFaultless subject limits (certificate_text h before ++ rest) h before rest
-sound_lines clear subject limits h before rest sound all = record {
+sound_lines : FormsAreClear → (matter : Matter) (limits : Limits) (h : Header) (before : List CertRecord)
+    (rest : List ℕ) → IsSoundHeader matter limits h
+    → AreSound limits matter h [] before
+    → AreFaultless matter limits (certificate_text h before ++ rest) h before rest
+sound_lines clear matter limits h before rest sound all = record {
   reads = record {
     text_is = refl;
     header = sound.form;
-    records = forms_of limits (subject.matter h.kind h.essential) h [] before all;
+    records = forms_of limits matter h [] before all;
   };
-  first = λ cause f. first_sound clear subject limits h (lines_text before ++ rest) sound cause
-      (subst (λ text. HasFirstFault subject limits text cause)
+  first = λ cause f. first_sound clear matter limits h (lines_text before ++ rest) sound cause
+      (subst (λ text. HasFirstFault matter limits text cause)
       (append_assoc (header_text h) (line_feed ∷ lines_text before) rest) f);
   later = λ earlier step others e cause f.
-      let one = sound_at limits (subject.matter h.kind h.essential) h [] before earlier step others e all in
-      one.faultless cause (line_to_record clear subject limits h earlier step (lines_text others ++ rest) one.form
+      let one = sound_at limits matter h [] before earlier step others e all in
+      one.faultless cause (line_to_record clear matter limits h earlier step (lines_text others ++ rest) one.form
       (no_end_in earlier one.not_ended) one.short cause
-      (subst (λ bytes. HasLineFault subject limits h earlier bytes cause) (first_line_of step others rest) f));
+      (subst (λ bytes. HasLineFault matter limits h earlier bytes cause) (first_line_of step others rest) f));
 }
 
 pub map_first : (Has Have : CertCause → Type 0) → ((cause : CertCause) → Has cause → Have cause)
@@ -183,24 +183,24 @@ map_first Has Have to back (next ∷ later) cause h =
     (λ have. x.0 (back next have), map_first Has Have to back later cause x.1)) h
 
 -- The line of a record is refused with the record's first fault, behind lines without one.
-pub refused_by_record : FormsAreClear → (subject : Subject) (limits : Limits) (h : Header) (before : List CertRecord)
-    (step : CertRecord) (more : List ℕ) (cause : CertCause) → IsSoundHeader subject limits h
-    → AreSound limits (subject.matter h.kind h.essential) h [] before → HasForm (record_text step) step
+pub refused_by_record : FormsAreClear → (matter : Matter) (limits : Limits) (h : Header) (before : List CertRecord)
+    (step : CertRecord) (more : List ℕ) (cause : CertCause) → IsSoundHeader matter limits h
+    → AreSound limits matter h [] before → HasForm (record_text step) step
     → length (record_text step) < limits.record_line → list_any is_end before ≡ false
-    → IsFirstOf in_order (HasRecordFault (subject.matter h.kind h.essential) h before step) cause
-    → Refusal subject limits (certificate_text h before ++ (record_text step ++ line_feed ∷ more))
+    → IsFirstOf in_order (HasRecordFault matter h before step) cause
+    → Refusal matter limits (certificate_text h before ++ (record_text step ++ line_feed ∷ more))
     (record { line = length before + 2; cause = cause })
-refused_by_record clear subject limits h before step more cause sound all form short not_ended first = inr (
+refused_by_record clear matter limits h before step more cause sound all form short not_ended first = inr (
   h,
   before,
   record_text step ++ line_feed ∷ more,
   record {
-    faultless = sound_lines clear subject limits h before (record_text step ++ line_feed ∷ more) sound all;
+    faultless = sound_lines clear matter limits h before (record_text step ++ line_feed ∷ more) sound all;
     line = refl;
-    cause = map_first (HasRecordFault (subject.matter h.kind h.essential) h before step)
-        (HasLineFault subject limits h before (record_text step ++ line_feed ∷ more))
-        (record_to_line clear subject limits h before step more form)
-        (line_to_record clear subject limits h before step more form (no_end_in before not_ended) short) in_order
+    cause = map_first (HasRecordFault matter h before step)
+        (HasLineFault matter limits h before (record_text step ++ line_feed ∷ more))
+        (record_to_line clear matter limits h before step more form)
+        (line_to_record clear matter limits h before step more form (no_end_in before not_ended) short) in_order
         cause first;
   },
 )
@@ -208,23 +208,23 @@ refused_by_record clear subject limits h before step more cause sound all form s
 nothing_begins : (line more : List ℕ) → [] ≡ line ++ line_feed ∷ more → ⊥
 nothing_begins line more e = let n = ap length e in omega (arith, n, length-append line (line_feed ∷ more))
 
-end_sound : (subject : Subject) (limits : Limits) (h : Header) (steps : List CertRecord) → 0 < limits.record_line
-    → Contains steps End → (cause : CertCause) → ¬ HasLineFault subject limits h steps [] cause
-end_sound subject limits h steps some ended causes.LineTooLong f = omega (arith, some, f.0)
-end_sound subject limits h steps some ended causes.Truncated f = ⊎_elim (λ other. other refl) (λ none. none ended) f.1
-end_sound subject limits h steps some ended causes.BadRecord f = nothing_begins f.0 f.1 f.2.ended
-end_sound subject limits h steps some ended cause f = nothing_begins f.0 f.1 f.3.ended
+end_sound : (matter : Matter) (limits : Limits) (h : Header) (steps : List CertRecord) → 0 < limits.record_line
+    → Contains steps End → (cause : CertCause) → ¬ HasLineFault matter limits h steps [] cause
+end_sound matter limits h steps some ended causes.LineTooLong f = omega (arith, some, f.0)
+end_sound matter limits h steps some ended causes.Truncated f = ⊎_elim (λ other. other refl) (λ none. none ended) f.1
+end_sound matter limits h steps some ended causes.BadRecord f = nothing_begins f.0 f.1 f.2.ended
+end_sound matter limits h steps some ended cause f = nothing_begins f.0 f.1 f.3.ended
 
 -- The lines of records without faults, the last of which is the end, are accepted.
-pub accepted_by_records : FormsAreClear → (subject : Subject) (limits : Limits) (h : Header) (steps : List CertRecord)
-    → IsSoundHeader subject limits h
-    → AreSound limits (subject.matter h.kind h.essential) h [] steps → Contains steps End
-    → Accepted subject limits (certificate_text h steps ++ []) h (claims_in steps)
-accepted_by_records clear subject limits h steps sound all ended = (
+pub accepted_by_records : FormsAreClear → (matter : Matter) (limits : Limits) (h : Header) (steps : List CertRecord)
+    → IsSoundHeader matter limits h
+    → AreSound limits matter h [] steps → Contains steps End
+    → Accepted matter limits (certificate_text h steps ++ []) h (claims_in steps)
+accepted_by_records clear matter limits h steps sound all ended = (
   steps,
   record {
-    faultless = sound_lines clear subject limits h steps [] sound all;
-    ends = end_sound subject limits h steps (omega (arith, sound.short)) ended;
+    faultless = sound_lines clear matter limits h steps [] sound all;
+    ends = end_sound matter limits h steps (omega (arith, sound.short)) ended;
   },
   refl,
 )

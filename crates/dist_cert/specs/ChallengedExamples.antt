@@ -9,7 +9,7 @@ use Rattle.dist_cert.specs.declared.records.Claim.{Claim}
 use Rattle.dist_cert.specs.declared.records.Claim.TheVariants as claims
 use Rattle.dist_cert.specs.declared.records.Header.{Header}
 use Rattle.dist_cert.specs.Rising.{is_among}
-use Rattle.dist_cert.specs.Subject.{Matter, Subject}
+use Rattle.dist_cert.specs.Subject.{Matter}
 use Rattle.dist_cert.specs.Accepted.{Accepted}
 use Rattle.dist_cert.specs.TextExamples.{ended_lines}
 
@@ -60,13 +60,6 @@ space = record {
   IsHealthy = λ members. IsModel (is_among members) needs;
 }
 
--- kind challenged is taken, at mode plain
-abbrev pub archive_of_libx : Subject
-archive_of_libx = record {
-  IsTaken = λ kind essential. (kind ≡ kinds.Challenged) × (essential ≡ false);
-  matter = λ kind essential. space;
-}
-
 abbrev pub header : Header
 header = record {
   kind = kinds.Challenged;
@@ -106,4 +99,4 @@ by_two_classes = claims.Challenged [] [] ∷ claims.Challenged ((0, 1) ∷ (0, 2
 -- is so.
 abbrev pub ChallengedIsAccepted : Type 0
 ChallengedIsAccepted = (limits : Limits) → 56 ≤ limits.record_line
-    → Accepted archive_of_libx limits fourteen_lines header by_two_classes
+    → Accepted space limits fourteen_lines header by_two_classes

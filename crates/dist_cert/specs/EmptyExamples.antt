@@ -3,7 +3,7 @@ use Rattle.std.specs.Prelude.{◌≡◌, ℕ, ◌≤◌, false, List, [], ◌∷
 use Rattle.dist_outside.specs.declared.limits.Limits.{Limits}
 use Rattle.dist_cert.specs.declared.records.CertKind.TheVariants as kinds
 use Rattle.dist_cert.specs.declared.records.Header.{Header}
-use Rattle.dist_cert.specs.Subject.{Matter, Subject}
+use Rattle.dist_cert.specs.Subject.{Matter}
 use Rattle.dist_cert.specs.Accepted.{Accepted}
 use Rattle.dist_cert.specs.TextExamples.{ended_lines}
 
@@ -21,13 +21,6 @@ nothing = record {
   IsHealthy = λ members. Unit {0};
 }
 
--- kind strong is taken, at mode plain
-abbrev pub empty_archive : Subject
-empty_archive = record {
-  IsTaken = λ kind essential. (kind ≡ kinds.Strong) × (essential ≡ false);
-  matter = λ kind essential. nothing;
-}
-
 abbrev pub header : Header
 header = record { kind = kinds.Strong; limit = 10000; packages = 0; variables = 0; clauses = 0; essential = false }
 
@@ -38,4 +31,4 @@ two_lines = ended_lines (codes "distfuture-certificate 1 strong plain 10000 0 0 
 -- It is accepted and claims nothing, where a line may have as many bytes as its longest one. The law
 -- `examples_are_accepted` says that it is so.
 abbrev pub EmptyIsAccepted : Type 0
-EmptyIsAccepted = (limits : Limits) → 50 ≤ limits.record_line → Accepted empty_archive limits two_lines header []
+EmptyIsAccepted = (limits : Limits) → 50 ≤ limits.record_line → Accepted nothing limits two_lines header []

@@ -13,7 +13,7 @@ use Rattle.dist_cert.specs.declared.records.CertRecord.{CertRecord}
 use Rattle.dist_cert.specs.declared.records.Claim.{Claim}
 use Rattle.dist_cert.specs.declared.records.Header.{Header}
 use Rattle.dist_cert.specs.Form.{record_text, HasForm, header_text, HasHeaderForm}
-use Rattle.dist_cert.specs.Subject.{Subject}
+use Rattle.dist_cert.specs.Subject.{Matter}
 use Rattle.dist_cert.specs.Groups.{is_some_number}
 use Rattle.dist_cert.specs.Refusal.{IsOneLine, lines_text, certificate_text, Reads, HasFirstFault}
 use Rattle.dist_cert.specs.Refusal.{HasLineFault, in_order, IsFirstOf, AreFaultless, IsFirstRefused, IsLaterRefused}
@@ -127,14 +127,14 @@ same_lines clear text h other ones twos rest more r s =
 -- ---- the laws
 
 -- a line of faultless lines has no fault
-pub not_faulty : (subject : Subject) (limits : Limits) (text : List ℕ) (h other : Header) (few many : List CertRecord)
+pub not_faulty : (matter : Matter) (limits : Limits) (text : List ℕ) (h other : Header) (few many : List CertRecord)
     (rest more : List ℕ) (cause : CertCause)
-    → h ≡ other → AreFaultless subject limits text other many more → IsShorter few rest many more
-    → ¬ HasLineFault subject limits h few rest cause
-not_faulty subject limits text h other few many rest more cause same faultless shorter fault =
+    → h ≡ other → AreFaultless matter limits text other many more → IsShorter few rest many more
+    → ¬ HasLineFault matter limits h few rest cause
+not_faulty matter limits text h other few many rest more cause same faultless shorter fault =
     faultless.later few shorter.0 shorter.1 shorter.2 cause
-    (subst (λ bytes. HasLineFault subject limits other few bytes cause) shorter.3
-    (subst (λ k. HasLineFault subject limits k few rest cause) same fault))
+    (subst (λ bytes. HasLineFault matter limits other few bytes cause) shorter.3
+    (subst (λ k. HasLineFault matter limits k few rest cause) same fault))
 
 same_fault : (fault other : CertFault) → fault.line ≡ other.line → fault.cause ≡ other.cause → fault ≡ other
 same_fault fault other line cause = subst (λ n. fault ≡ record { line = n; cause = other.cause }) line
@@ -163,31 +163,31 @@ readings clear text h other ones twos rest more r s =
           (λ shorter. inr (inr shorter)) (one_is_front clear ones twos rest more r.records s.records same.1),
     )
 
-not_first_and_later : (subject : Subject) (limits : Limits) (text : List ℕ) (fault : CertFault) (h : Header)
+not_first_and_later : (matter : Matter) (limits : Limits) (text : List ℕ) (fault : CertFault) (h : Header)
     (before : List CertRecord) (rest : List ℕ)
-    → IsFirstRefused subject limits text fault → ¬ AreFaultless subject limits text h before rest
-not_first_and_later subject limits text fault h before rest first faultless =
-    faultless.first fault.cause (has_first (HasFirstFault subject limits text) in_order fault.cause first.cause)
+    → IsFirstRefused matter limits text fault → ¬ AreFaultless matter limits text h before rest
+not_first_and_later matter limits text fault h before rest first faultless =
+    faultless.first fault.cause (has_first (HasFirstFault matter limits text) in_order fault.cause first.cause)
 
-one_later : FormsAreClear → (subject : Subject) (limits : Limits) (text : List ℕ) (fault gault : CertFault)
+one_later : FormsAreClear → (matter : Matter) (limits : Limits) (text : List ℕ) (fault gault : CertFault)
     (h other : Header) (ones twos : List CertRecord) (rest more : List ℕ)
-    → IsLaterRefused subject limits text h ones rest fault → IsLaterRefused subject limits text other twos more gault
+    → IsLaterRefused matter limits text h ones rest fault → IsLaterRefused matter limits text other twos more gault
     → fault ≡ gault
-one_later clear subject limits text fault gault h other ones twos rest more x y =
+one_later clear matter limits text fault gault h other ones twos rest more x y =
     let read = readings clear text h other ones twos rest more x.faultless.reads y.faultless.reads in
     ⊎_elim
     (λ same.
-    let there : IsFirstOf in_order (HasLineFault subject limits other twos more) fault.cause
-    = subst (λ bytes. IsFirstOf in_order (HasLineFault subject limits other twos bytes) fault.cause) same.1
-    (subst (λ steps. IsFirstOf in_order (HasLineFault subject limits other steps rest) fault.cause) same.0
-    (subst (λ k. IsFirstOf in_order (HasLineFault subject limits k ones rest) fault.cause) read.0 x.cause)) in
+    let there : IsFirstOf in_order (HasLineFault matter limits other twos more) fault.cause
+    = subst (λ bytes. IsFirstOf in_order (HasLineFault matter limits other twos bytes) fault.cause) same.1
+    (subst (λ steps. IsFirstOf in_order (HasLineFault matter limits other steps rest) fault.cause) same.0
+    (subst (λ k. IsFirstOf in_order (HasLineFault matter limits k ones rest) fault.cause) read.0 x.cause)) in
     same_fault fault gault (x.line ∙ ap (λ steps. length steps + 2) same.0 ∙ sym y.line)
-    (one_first (HasLineFault subject limits other twos more) in_order fault.cause gault.cause there y.cause))
+    (one_first (HasLineFault matter limits other twos more) in_order fault.cause gault.cause there y.cause))
     (λ apart. ⊎_elim
-    (λ shorter. absurd (not_faulty subject limits text h other ones twos rest more fault.cause read.0 y.faultless
-    shorter (has_first (HasLineFault subject limits h ones rest) in_order fault.cause x.cause)))
-    (λ shorter. absurd (not_faulty subject limits text other h twos ones more rest gault.cause (sym read.0) x.faultless
-    shorter (has_first (HasLineFault subject limits other twos more) in_order gault.cause y.cause)))
+    (λ shorter. absurd (not_faulty matter limits text h other ones twos rest more fault.cause read.0 y.faultless
+    shorter (has_first (HasLineFault matter limits h ones rest) in_order fault.cause x.cause)))
+    (λ shorter. absurd (not_faulty matter limits text other h twos ones more rest gault.cause (sym read.0) x.faultless
+    shorter (has_first (HasLineFault matter limits other twos more) in_order gault.cause y.cause)))
     apart)
     read.1
 
@@ -196,50 +196,50 @@ pub nothing_more : (few many : List CertRecord) (more : List ℕ) → ¬ IsShort
 nothing_more few many more h = false≢true (ap is_some_number h.3)
 
 -- A text has one refusal at most.
-pub one_refusal : FormsAreClear → (subject : Subject) (limits : Limits) (text : List ℕ) (fault other : CertFault)
-    → Refusal subject limits text fault → Refusal subject limits text other → fault ≡ other
-one_refusal clear subject limits text fault gault r s = ⊎_elim
+pub one_refusal : FormsAreClear → (matter : Matter) (limits : Limits) (text : List ℕ) (fault other : CertFault)
+    → Refusal matter limits text fault → Refusal matter limits text other → fault ≡ other
+one_refusal clear matter limits text fault gault r s = ⊎_elim
     (λ x. ⊎_elim
     (λ y. same_fault fault gault (x.line ∙ sym y.line)
-    (one_first (HasFirstFault subject limits text) in_order fault.cause gault.cause x.cause y.cause))
-    (λ y. absurd (not_first_and_later subject limits text fault y.0 y.1 y.2 x y.3.faultless))
+    (one_first (HasFirstFault matter limits text) in_order fault.cause gault.cause x.cause y.cause))
+    (λ y. absurd (not_first_and_later matter limits text fault y.0 y.1 y.2 x y.3.faultless))
     s)
     (λ x. ⊎_elim
-    (λ y. absurd (not_first_and_later subject limits text gault x.0 x.1 x.2 y x.3.faultless))
-    (λ y. one_later clear subject limits text fault gault x.0 y.0 x.1 y.1 x.2 y.2 x.3 y.3)
+    (λ y. absurd (not_first_and_later matter limits text gault x.0 x.1 x.2 y x.3.faultless))
+    (λ y. one_later clear matter limits text fault gault x.0 y.0 x.1 y.1 x.2 y.2 x.3 y.3)
     s)
     r
 
 -- An accepted text has no refusal.
-pub never_both : FormsAreClear → (subject : Subject) (limits : Limits) (text : List ℕ) (h : Header) (made : List Claim)
+pub never_both : FormsAreClear → (matter : Matter) (limits : Limits) (text : List ℕ) (h : Header) (made : List Claim)
     (fault : CertFault)
-    → Accepted subject limits text h made → ¬ Refusal subject limits text fault
-never_both clear subject limits text h made fault accepted refusal =
+    → Accepted matter limits text h made → ¬ Refusal matter limits text fault
+never_both clear matter limits text h made fault accepted refusal =
     let steps = accepted.0 in
     let whole = accepted.1 in
     ⊎_elim
-    (λ x. not_first_and_later subject limits text fault h steps [] x whole.faultless)
+    (λ x. not_first_and_later matter limits text fault h steps [] x whole.faultless)
     (λ x.
     let read = readings clear text x.0 h x.1 steps x.2 [] x.3.faultless.reads whole.faultless.reads in
-    let faulty : HasLineFault subject limits x.0 x.1 x.2 fault.cause =
-    has_first (HasLineFault subject limits x.0 x.1 x.2) in_order fault.cause x.3.cause in
+    let faulty : HasLineFault matter limits x.0 x.1 x.2 fault.cause =
+    has_first (HasLineFault matter limits x.0 x.1 x.2) in_order fault.cause x.3.cause in
     ⊎_elim
     (λ same. whole.ends fault.cause
-    (subst (λ bytes. HasLineFault subject limits h steps bytes fault.cause) same.1
-    (subst (λ lines. HasLineFault subject limits h lines x.2 fault.cause) same.0
-    (subst (λ k. HasLineFault subject limits k x.1 x.2 fault.cause) read.0 faulty))))
+    (subst (λ bytes. HasLineFault matter limits h steps bytes fault.cause) same.1
+    (subst (λ lines. HasLineFault matter limits h lines x.2 fault.cause) same.0
+    (subst (λ k. HasLineFault matter limits k x.1 x.2 fault.cause) read.0 faulty))))
     (λ apart. ⊎_elim
-    (λ shorter. not_faulty subject limits text x.0 h x.1 steps x.2 [] fault.cause read.0 whole.faultless shorter faulty)
+    (λ shorter. not_faulty matter limits text x.0 h x.1 steps x.2 [] fault.cause read.0 whole.faultless shorter faulty)
     (λ shorter. nothing_more steps x.1 x.2 shorter)
     apart)
     read.1)
     refusal
 
 -- A text is accepted with one header and one list of claims at most.
-pub one_acceptance : FormsAreClear → (subject : Subject) (limits : Limits) (text : List ℕ) (h other : Header)
+pub one_acceptance : FormsAreClear → (matter : Matter) (limits : Limits) (text : List ℕ) (h other : Header)
     (made claims : List Claim)
-    → Accepted subject limits text h made → Accepted subject limits text other claims → (h ≡ other) × (made ≡ claims)
-one_acceptance clear subject limits text h other made claims x y =
+    → Accepted matter limits text h made → Accepted matter limits text other claims → (h ≡ other) × (made ≡ claims)
+one_acceptance clear matter limits text h other made claims x y =
     let read = readings clear text h other x.0 y.0 [] [] x.1.faultless.reads y.1.faultless.reads in (
       read.0,
       ⊎_elim

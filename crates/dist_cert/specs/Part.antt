@@ -16,7 +16,7 @@ use Rattle.dist_cert.specs.declared.records.CertRecord.TheVariants.{Question, De
 use Rattle.dist_cert.specs.declared.records.CertRecord.TheVariants.{Strong, Challenged}
 use Rattle.dist_cert.specs.declared.records.Header.{Header}
 use Rattle.dist_cert.specs.Form.{Word, record_text, header_text}
-use Rattle.dist_cert.specs.Subject.{Matter, Subject}
+use Rattle.dist_cert.specs.Subject.{Matter}
 use Rattle.dist_cert.specs.Groups.{clause_of, derived, numbered, installations, claim_count, group, IsOpen}
 use Rattle.dist_cert.specs.ClaimRules.{yes, no, claim_question, challenge_question, IsPairFor}
 use Rattle.dist_cert.specs.Refusal.{IsOneLine, lines_text, certificate_text, Reads, HasFirstFault, HasLineFault}
@@ -81,19 +81,19 @@ abbrev pub IsLastTooLong : CertCause → List CertRecord → Type 0
 IsLastTooLong cause later = (cause ≡ causes.LineTooLong) × (later ≡ [])
 
 -- The text is this header and these records. No line has a fault, but that the last one may be too long.
-pub record IsPartOf (subject : Subject) (limits : Limits) (h : Header) (text : List ℕ) (steps : List CertRecord) : Type
+pub record IsPartOf (matter : Matter) (limits : Limits) (h : Header) (text : List ℕ) (steps : List CertRecord) : Type
     0 where
   pub reads : Reads text h steps []
-  pub first : (cause : CertCause) → HasFirstFault subject limits text cause → IsLastTooLong cause steps
+  pub first : (cause : CertCause) → HasFirstFault matter limits text cause → IsLastTooLong cause steps
   pub later : (before : List CertRecord) (step : CertRecord) (after : List CertRecord) → steps ≡ before ++ step ∷ after
-      → (cause : CertCause) → HasLineFault subject limits h before (lines_text (step ∷ after)) cause
+      → (cause : CertCause) → HasLineFault matter limits h before (lines_text (step ∷ after)) cause
       → IsLastTooLong cause after
   pub next : (before : List CertRecord) (step : CertRecord) (after : List CertRecord) → steps ≡ before ++ step ∷ after
-      → IsNextLine (subject.matter h.kind h.essential) h before step
+      → IsNextLine matter h before step
 
 -- What may be written so far of a certificate with this header: nothing, or whole lines.
-abbrev pub IsPart : Subject → Limits → Header → List ℕ → Type 0
-IsPart subject limits h text = (text ≡ []) ⊎ ((steps : List CertRecord) × IsPartOf subject limits h text steps)
+abbrev pub IsPart : Matter → Limits → Header → List ℕ → Type 0
+IsPart matter limits h text = (text ≡ []) ⊎ ((steps : List CertRecord) × IsPartOf matter limits h text steps)
 
 -- ---- numbers that are passed, and lines that are cut off
 
@@ -107,23 +107,23 @@ Passes limits h steps Certificate = limits.certificate < length (certificate_tex
 Passes limits h steps what = ⊥
 
 -- One line more makes the text a longer part.
-pub record HasNextLine (subject : Subject) (limits : Limits) (h : Header) (text line : List ℕ) : Type 0 where
+pub record HasNextLine (matter : Matter) (limits : Limits) (h : Header) (text line : List ℕ) : Type 0 where
   pub one_line : IsOneLine line
   pub steps : List CertRecord
-  pub longer : IsPartOf subject limits h (text ++ ended line) steps
+  pub longer : IsPartOf matter limits h (text ++ ended line) steps
 
 -- The text is a part that does not pass a number, and with one line more it is one that does.
-pub record IsStoppedBy (subject : Subject) (limits : Limits) (h : Header) (text : List ℕ) (what : What) : Type 0 where
-  pub part : IsPart subject limits h text
-  pub kept : (steps : List CertRecord) → IsPartOf subject limits h text steps → ¬ Passes limits h steps what
+pub record IsStoppedBy (matter : Matter) (limits : Limits) (h : Header) (text : List ℕ) (what : What) : Type 0 where
+  pub part : IsPart matter limits h text
+  pub kept : (steps : List CertRecord) → IsPartOf matter limits h text steps → ¬ Passes limits h steps what
   pub line : List ℕ
-  pub next : HasNextLine subject limits h text line
+  pub next : HasNextLine matter limits h text line
   pub passes : Passes limits h next.steps what
 
 -- The text is a part, perhaps with a front of one line more behind it.
-pub record IsCutPart (subject : Subject) (limits : Limits) (h : Header) (text : List ℕ) : Type 0 where
+pub record IsCutPart (matter : Matter) (limits : Limits) (h : Header) (text : List ℕ) : Type 0 where
   pub whole : List ℕ
-  pub part : IsPart subject limits h whole
+  pub part : IsPart matter limits h whole
   pub cut : List ℕ
   pub is : text ≡ whole ++ cut
-  pub cut_off : (cut ≡ []) ⊎ ((line : List ℕ) × HasNextLine subject limits h whole line × IsFrontOf (ended line) cut)
+  pub cut_off : (cut ≡ []) ⊎ ((line : List ℕ) × HasNextLine matter limits h whole line × IsFrontOf (ended line) cut)

@@ -11,7 +11,7 @@ use Rattle.dist_cert.specs.declared.faults.CertCause.TheVariants as causes
 use Rattle.dist_cert.specs.declared.records.CertRecord.{CertRecord}
 use Rattle.dist_cert.specs.declared.records.Header.{Header}
 use Rattle.dist_cert.specs.Form.{record_text, HasForm, is_end, header_text, HasHeaderForm}
-use Rattle.dist_cert.specs.Subject.{Matter, Subject}
+use Rattle.dist_cert.specs.Subject.{Matter}
 use Rattle.dist_cert.specs.LineRules.{HasRecordFault}
 use Rattle.dist_cert.specs.Refusal.{lines_text, certificate_text, Fits, HasFirstFault, HasLineFault}
 use Rattle.dist_cert.specs.ClearFormsLaws.{FormsAreClear}
@@ -37,9 +37,9 @@ AreLines limits matter h before (step ∷ steps) = IsLine matter h before step �
     × AreLines limits matter h (before ++ step ∷ []) steps
 
 -- The first line has no fault, whatever its length.
-pub record IsHeaderOf (subject : Subject) (h : Header) : Type 0 where
+pub record IsHeaderOf (matter : Matter) (h : Header) : Type 0 where
   pub form : HasHeaderForm (header_text h) h
-  pub fits : Fits subject h
+  pub fits : Fits matter h
 
 line-at : (limits : Limits) (matter : Matter) (h : Header) (before earlier : List CertRecord) (step : CertRecord)
     (after : List CertRecord) → AreLines limits matter h before (earlier ++ step ∷ after)
@@ -57,87 +57,87 @@ all-formed limits matter h before (step ∷ steps) all =
     All-cons (λ s. HasForm (record_text s) s) step steps all.0.form
     (all-formed limits matter h (before ++ step ∷ []) steps all.2)
 
-too-long-alone : FormsAreClear → (subject : Subject) (limits : Limits) (h : Header) (before : List CertRecord)
-    (step : CertRecord) (more : List ℕ) → IsLine (subject.matter h.kind h.essential) h before step
-    → (cause : CertCause) → HasLineFault subject limits h before (record_text step ++ line_feed ∷ more) cause
+too-long-alone : FormsAreClear → (matter : Matter) (limits : Limits) (h : Header) (before : List CertRecord)
+    (step : CertRecord) (more : List ℕ) → IsLine matter h before step
+    → (cause : CertCause) → HasLineFault matter limits h before (record_text step ++ line_feed ∷ more) cause
     → cause ≡ causes.LineTooLong
-too-long-alone clear subject limits h before step more line causes.LineTooLong f = refl
-too-long-alone clear subject limits h before step more line causes.Truncated f =
+too-long-alone clear matter limits h before step more line causes.LineTooLong f = refl
+too-long-alone clear matter limits h before step more line causes.Truncated f =
     absurd (whole_line (record_text step) more f.0)
-too-long-alone clear subject limits h before step more line causes.BadRecord f =
+too-long-alone clear matter limits h before step more line causes.BadRecord f =
     absurd (⊎_elim (no_end_in before line.not_ended)
     (λ none. none step (subst (λ l. HasForm l step)
     (one_line (record_text step) f.0 more f.1 (clear.record_line step line.form) f.2.one_line f.2.ended).0
     line.form)) f.3)
-too-long-alone clear subject limits h before step more line cause f =
-    absurd (line.faultless cause (same_step clear (subject.matter h.kind h.essential) h before step more cause line.form
+too-long-alone clear matter limits h before step more line cause f =
+    absurd (line.faultless cause (same_step clear matter h before step more cause line.form
     f))
 
-first-alone : FormsAreClear → (subject : Subject) (limits : Limits) (h : Header) (more : List ℕ) → IsHeaderOf subject h
-    → (cause : CertCause) → HasFirstFault subject limits (header_text h ++ line_feed ∷ more) cause
+first-alone : FormsAreClear → (matter : Matter) (limits : Limits) (h : Header) (more : List ℕ) → IsHeaderOf matter h
+    → (cause : CertCause) → HasFirstFault matter limits (header_text h ++ line_feed ∷ more) cause
     → cause ≡ causes.LineTooLong
-first-alone clear subject limits h more header causes.LineTooLong f = refl
-first-alone clear subject limits h more header causes.Truncated f = absurd (whole_line (header_text h) more f)
-first-alone clear subject limits h more header causes.BadHeader f =
+first-alone clear matter limits h more header causes.LineTooLong f = refl
+first-alone clear matter limits h more header causes.Truncated f = absurd (whole_line (header_text h) more f)
+first-alone clear matter limits h more header causes.BadHeader f =
     absurd (f.3 h (subst (λ l. HasHeaderForm l h)
     (one_line (header_text h) f.0 more f.1 (clear.header_line h header.form) f.2.one_line f.2.ended).0 header.form)
     header.fits)
-first-alone clear subject limits h more header cause f = absurd f
+first-alone clear matter limits h more header cause f = absurd f
 
 -- what is short and has something behind it is not too long
 last-alone : {X : Type 0} (later : List X) (IsLong : Type 0) → (later ≢ [] → ¬ IsLong) → IsLong → later ≡ []
 last-alone [] IsLong short long = refl
 last-alone (x ∷ later) IsLong short long = absurd (short (λ e. cc) long)
 
-first-last : FormsAreClear → (subject : Subject) (limits : Limits) (h : Header) (steps : List CertRecord)
-    → IsHeaderOf subject h → (steps ≢ [] → length (header_text h) < limits.record_line)
-    → (cause : CertCause) → HasFirstFault subject limits (header_text h ++ line_feed ∷ lines_text steps) cause
+first-last : FormsAreClear → (matter : Matter) (limits : Limits) (h : Header) (steps : List CertRecord)
+    → IsHeaderOf matter h → (steps ≢ [] → length (header_text h) < limits.record_line)
+    → (cause : CertCause) → HasFirstFault matter limits (header_text h ++ line_feed ∷ lines_text steps) cause
     → IsLastTooLong cause steps
-first-last clear subject limits h steps header short cause f =
-    let alone = first-alone clear subject limits h (lines_text steps) header cause f in (
+first-last clear matter limits h steps header short cause f =
+    let alone = first-alone clear matter limits h (lines_text steps) header cause f in (
       alone,
-      last-alone steps (HasFirstFault subject limits (header_text h ++ line_feed ∷ lines_text steps) causes.LineTooLong)
+      last-alone steps (HasFirstFault matter limits (header_text h ++ line_feed ∷ lines_text steps) causes.LineTooLong)
           (λ some long. within limits.record_line (header_text h) (lines_text steps) (short some) long.1)
-          (subst (λ c. HasFirstFault subject limits (header_text h ++ line_feed ∷ lines_text steps) c) alone f),
+          (subst (λ c. HasFirstFault matter limits (header_text h ++ line_feed ∷ lines_text steps) c) alone f),
     )
 
-later-last : FormsAreClear → (subject : Subject) (limits : Limits) (h : Header) (before : List CertRecord)
-    (step : CertRecord) (after : List CertRecord) → IsLine (subject.matter h.kind h.essential) h before step
+later-last : FormsAreClear → (matter : Matter) (limits : Limits) (h : Header) (before : List CertRecord)
+    (step : CertRecord) (after : List CertRecord) → IsLine matter h before step
     → (after ≢ [] → IsShortLine limits step) → (cause : CertCause)
-    → HasLineFault subject limits h before (lines_text (step ∷ after)) cause → IsLastTooLong cause after
-later-last clear subject limits h before step after line short cause f =
+    → HasLineFault matter limits h before (lines_text (step ∷ after)) cause → IsLastTooLong cause after
+later-last clear matter limits h before step after line short cause f =
     let bytes : lines_text (step ∷ after) ≡ record_text step ++ line_feed ∷ lines_text after =
     append_assoc (record_text step) (line_feed ∷ []) (lines_text after) in
-    let here = subst (λ b. HasLineFault subject limits h before b cause) bytes f in
-    let alone = too-long-alone clear subject limits h before step (lines_text after) line cause here in (
+    let here = subst (λ b. HasLineFault matter limits h before b cause) bytes f in
+    let alone = too-long-alone clear matter limits h before step (lines_text after) line cause here in (
       alone,
-      last-alone after (HasLineFault subject limits h before (record_text step ++ line_feed ∷ lines_text after)
+      last-alone after (HasLineFault matter limits h before (record_text step ++ line_feed ∷ lines_text after)
           causes.LineTooLong)
           (λ some long. within limits.record_line (record_text step) (lines_text after) (short some) long.1)
-          (subst (λ c. HasLineFault subject limits h before (record_text step ++ line_feed ∷ lines_text after) c) alone
+          (subst (λ c. HasLineFault matter limits h before (record_text step ++ line_feed ∷ lines_text after) c) alone
           here),
     )
 
 -- The lines of records without faults, each of which a part may have next, are a part.
-pub part_by_records : FormsAreClear → (subject : Subject) (limits : Limits) (h : Header) (steps : List CertRecord)
-    → IsHeaderOf subject h
+pub part_by_records : FormsAreClear → (matter : Matter) (limits : Limits) (h : Header) (steps : List CertRecord)
+    → IsHeaderOf matter h
     → (steps ≢ [] → length (header_text h) < limits.record_line)
-    → AreLines limits (subject.matter h.kind h.essential) h [] steps
-    → IsPartOf subject limits h (certificate_text h steps) steps
-part_by_records clear subject limits h steps header short all = record {
+    → AreLines limits matter h [] steps
+    → IsPartOf matter limits h (certificate_text h steps) steps
+part_by_records clear matter limits h steps header short all = record {
   reads = record {
     text_is = sym (append-nil (certificate_text h steps));
     header = header.form;
-    records = all-formed limits (subject.matter h.kind h.essential) h [] steps all;
+    records = all-formed limits matter h [] steps all;
   };
-  first = first-last clear subject limits h steps header short;
+  first = first-last clear matter limits h steps header short;
   later = λ before step after is cause f.
-      let at = line-at limits (subject.matter h.kind h.essential) h [] before step after
-      (subst (λ (s : List CertRecord). AreLines limits (subject.matter h.kind h.essential) h [] s) is all) in
-      later-last clear subject limits h before step after at.0 at.1 cause f;
+      let at = line-at limits matter h [] before step after
+      (subst (λ (s : List CertRecord). AreLines limits matter h [] s) is all) in
+      later-last clear matter limits h before step after at.0 at.1 cause f;
   next = λ before step after is.
-      (line-at limits (subject.matter h.kind h.essential) h [] before step after
-      (subst (λ (s : List CertRecord). AreLines limits (subject.matter h.kind h.essential) h [] s) is all)).0.next;
+      (line-at limits matter h [] before step after
+      (subst (λ (s : List CertRecord). AreLines limits matter h [] s) is all)).0.next;
 }
 
 -- Where all of them are short, they are what an accepted text needs.

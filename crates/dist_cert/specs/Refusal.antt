@@ -10,7 +10,7 @@ use Rattle.dist_cert.specs.declared.records.CertRecord.{CertRecord}
 use Rattle.dist_cert.specs.declared.records.CertRecord.TheVariants.{End}
 use Rattle.dist_cert.specs.declared.records.Header.{Header}
 use Rattle.dist_cert.specs.Form.{record_text, HasForm, header_text, HasHeaderForm}
-use Rattle.dist_cert.specs.Subject.{Matter, Subject}
+use Rattle.dist_cert.specs.Subject.{Matter}
 use Rattle.dist_cert.specs.LineRules.{HasRecordFault}
 
 -- ---- lines of a text
@@ -45,24 +45,23 @@ IsTooLong limits rest = (limits.record_line ≤ length rest) × IsOneLine (take 
 
 -- ---- the first line
 
--- the header's kind and mode are taken, and its numbers are those of what it speaks of
-pub record Fits (subject : Subject) (h : Header) : Type 0 where
-  pub taken : subject.IsTaken h.kind h.essential
-  pub packages : h.packages ≡ (subject.matter h.kind h.essential).packages
-  pub variables : h.variables ≡ (subject.matter h.kind h.essential).variables
-  pub clauses : h.clauses ≡ length (subject.matter h.kind h.essential).inputs
+-- the header's numbers are those of what it speaks of
+pub record Fits (matter : Matter) (h : Header) : Type 0 where
+  pub packages : h.packages ≡ matter.packages
+  pub variables : h.variables ≡ matter.variables
+  pub clauses : h.clauses ≡ length matter.inputs
 
 -- the first line has a line feed, and is no header that fits
-abbrev pub IsBadHeader : Subject → List ℕ → Type 0
-IsBadHeader subject text = (line more : List ℕ) × BeginsWith text line more
-    × ((h : Header) → HasHeaderForm line h → ¬ Fits subject h)
+abbrev pub IsBadHeader : Matter → List ℕ → Type 0
+IsBadHeader matter text = (line more : List ℕ) × BeginsWith text line more
+    × ((h : Header) → HasHeaderForm line h → ¬ Fits matter h)
 
 -- the first line of the text has a fault of this cause
-abbrev pub HasFirstFault : Subject → Limits → List ℕ → CertCause → Type 0
-HasFirstFault subject limits text causes.LineTooLong = IsTooLong limits text
-HasFirstFault subject limits text causes.Truncated = IsOneLine text
-HasFirstFault subject limits text causes.BadHeader = IsBadHeader subject text
-HasFirstFault subject limits text cause = ⊥
+abbrev pub HasFirstFault : Matter → Limits → List ℕ → CertCause → Type 0
+HasFirstFault matter limits text causes.LineTooLong = IsTooLong limits text
+HasFirstFault matter limits text causes.Truncated = IsOneLine text
+HasFirstFault matter limits text causes.BadHeader = IsBadHeader matter text
+HasFirstFault matter limits text cause = ⊥
 
 -- ---- later lines
 
@@ -82,11 +81,11 @@ IsBadStep matter h before rest cause = (line more : List ℕ) × (step : CertRec
 
 -- The line with which `rest` begins has a fault of this cause, where it stands behind a header and the records
 -- `before`.
-abbrev pub HasLineFault : Subject → Limits → Header → List CertRecord → List ℕ → CertCause → Type 0
-HasLineFault subject limits h before rest causes.LineTooLong = IsTooLong limits rest
-HasLineFault subject limits h before rest causes.Truncated = IsCut before rest
-HasLineFault subject limits h before rest causes.BadRecord = IsBadRecord before rest
-HasLineFault subject limits h before rest cause = IsBadStep (subject.matter h.kind h.essential) h before rest cause
+abbrev pub HasLineFault : Matter → Limits → Header → List CertRecord → List ℕ → CertCause → Type 0
+HasLineFault matter limits h before rest causes.LineTooLong = IsTooLong limits rest
+HasLineFault matter limits h before rest causes.Truncated = IsCut before rest
+HasLineFault matter limits h before rest causes.BadRecord = IsBadRecord before rest
+HasLineFault matter limits h before rest cause = IsBadStep matter h before rest cause
 
 -- ---- the first fault
 
@@ -104,28 +103,28 @@ IsFirstOf [] Has cause = ⊥
 IsFirstOf (next ∷ later) Has cause = (Has next × (cause ≡ next)) ⊎ ((¬ Has next) × IsFirstOf later Has cause)
 
 -- The lines of the header and the records `before`, behind which `rest` stands, have no fault.
-pub record AreFaultless (subject : Subject) (limits : Limits) (text : List ℕ) (h : Header) (before : List CertRecord)
+pub record AreFaultless (matter : Matter) (limits : Limits) (text : List ℕ) (h : Header) (before : List CertRecord)
     (rest : List ℕ) : Type 0 where
   pub reads : Reads text h before rest
-  pub first : (cause : CertCause) → ¬ HasFirstFault subject limits text cause
+  pub first : (cause : CertCause) → ¬ HasFirstFault matter limits text cause
   pub later : (earlier : List CertRecord) (step : CertRecord) (others : List CertRecord)
       → before ≡ earlier ++ step ∷ others
-      → (cause : CertCause) → ¬ HasLineFault subject limits h earlier (lines_text (step ∷ others) ++ rest) cause
+      → (cause : CertCause) → ¬ HasLineFault matter limits h earlier (lines_text (step ∷ others) ++ rest) cause
 
 -- the first line is the faulty one
-pub record IsFirstRefused (subject : Subject) (limits : Limits) (text : List ℕ) (fault : CertFault) : Type 0 where
+pub record IsFirstRefused (matter : Matter) (limits : Limits) (text : List ℕ) (fault : CertFault) : Type 0 where
   pub line : fault.line ≡ 1
-  pub cause : IsFirstOf in_order (HasFirstFault subject limits text) fault.cause
+  pub cause : IsFirstOf in_order (HasFirstFault matter limits text) fault.cause
 
 -- the line behind a faultless header and faultless records is the faulty one
-pub record IsLaterRefused (subject : Subject) (limits : Limits) (text : List ℕ) (h : Header) (before : List CertRecord)
+pub record IsLaterRefused (matter : Matter) (limits : Limits) (text : List ℕ) (h : Header) (before : List CertRecord)
     (rest : List ℕ) (fault : CertFault) : Type 0 where
-  pub faultless : AreFaultless subject limits text h before rest
+  pub faultless : AreFaultless matter limits text h before rest
   pub line : fault.line ≡ length before + 2
-  pub cause : IsFirstOf in_order (HasLineFault subject limits h before rest) fault.cause
+  pub cause : IsFirstOf in_order (HasLineFault matter limits h before rest) fault.cause
 
 -- The refusal of a text: its first faulty line, numbered from 1, and the first cause of that line in the order.
-abbrev pub Refusal : Subject → Limits → List ℕ → CertFault → Type 0
-Refusal subject limits text fault = IsFirstRefused subject limits text fault
+abbrev pub Refusal : Matter → Limits → List ℕ → CertFault → Type 0
+Refusal matter limits text fault = IsFirstRefused matter limits text fault
     ⊎ ((h : Header) × (before : List CertRecord) × (rest : List ℕ)
-    × IsLaterRefused subject limits text h before rest fault)
+    × IsLaterRefused matter limits text h before rest fault)

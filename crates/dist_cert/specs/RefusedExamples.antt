@@ -4,7 +4,7 @@ use Rattle.dist_outside.specs.declared.limits.Limits.{Limits}
 use Rattle.dist_cert.specs.declared.faults.CertCause.TheVariants as causes
 use Rattle.dist_cert.specs.Refusal.{Refusal}
 use Rattle.dist_cert.specs.TextExamples.{ended_lines}
-use Rattle.dist_cert.specs.TenLinesExamples.{archive_of_two}
+use Rattle.dist_cert.specs.TenLinesExamples.{two}
 
 -- line 5 has no hint
 abbrev pub without_hint : List ℕ
@@ -41,8 +41,8 @@ without_claim = ended_lines (
 -- a line may have as many bytes as the longest one. The law `edits_are_refused` says that it is so.
 abbrev pub HintIsMissed : Type 0
 HintIsMissed = (limits : Limits) → 50 ≤ limits.record_line
-    → Refusal archive_of_two limits without_hint (record { line = 5; cause = causes.BadLine })
+    → Refusal two limits without_hint (record { line = 5; cause = causes.BadLine })
 
 abbrev pub ClaimIsMissed : Type 0
 ClaimIsMissed = (limits : Limits) → 50 ≤ limits.record_line
-    → Refusal archive_of_two limits without_claim (record { line = 9; cause = causes.Incomplete })
+    → Refusal two limits without_claim (record { line = 9; cause = causes.Incomplete })

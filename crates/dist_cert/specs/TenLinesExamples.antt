@@ -7,7 +7,7 @@ use Rattle.dist_cert.specs.declared.records.CertKind.TheVariants as kinds
 use Rattle.dist_cert.specs.declared.records.Claim.{Claim}
 use Rattle.dist_cert.specs.declared.records.Claim.TheVariants as claims
 use Rattle.dist_cert.specs.declared.records.Header.{Header}
-use Rattle.dist_cert.specs.Subject.{Matter, Subject}
+use Rattle.dist_cert.specs.Subject.{Matter}
 use Rattle.dist_cert.specs.Accepted.{Accepted}
 use Rattle.dist_cert.specs.TextExamples.{ended_lines}
 
@@ -23,13 +23,6 @@ two = record {
   at = λ cluster class. 0;
   IsFuture = λ members. Unit {0};
   IsHealthy = λ members. Contains members 1 → Contains members 2;
-}
-
--- kind strong is taken, at mode plain
-abbrev pub archive_of_two : Subject
-archive_of_two = record {
-  IsTaken = λ kind essential. (kind ≡ kinds.Strong) × (essential ≡ false);
-  matter = λ kind essential. two;
 }
 
 abbrev pub header : Header
@@ -59,4 +52,4 @@ on_b_and_on_nothing = claims.Strong (1 ∷ []) [] ∷ claims.Strong [] [] ∷ []
 -- is so.
 abbrev pub TenLinesAreAccepted : Type 0
 TenLinesAreAccepted = (limits : Limits) → 50 ≤ limits.record_line
-    → Accepted archive_of_two limits ten_lines header on_b_and_on_nothing
+    → Accepted two limits ten_lines header on_b_and_on_nothing

@@ -7,7 +7,7 @@ use std::process::Abort;
 
 /// A claim of constant lists.
 #[derive(Clone, Copy)]
-enum Said {
+pub(crate) enum Said {
     Uninstallable,
     Unknown,
     Strong(&'static [u32], &'static [u32]),

@@ -1,17 +1,22 @@
 //! A claim on strong dependencies, and what is kept for it.
 ghost use Rattle.std.specs.Prelude.{◌+◌, ◌<◌, ◌≤◌, OnOk};
 
+use dist_base::Flat;
 use dist_cert::CertCause::{Incomplete, WrongClaim};
-use dist_cert::{CertCause, Items};
-use dist_check_group::{Group, StrongClaim, Window, is_rising, judge_rules};
+use dist_cert::{CertCause, CertKind, Items};
+use dist_check_group::{
+    ChallengeClaim, Group, Layout, StrongClaim, Window, is_rising, judge_challenge, judge_rules,
+};
 use std::alloc::{AllocError, Global};
 use std::test::Fail;
 
-/// Adds an installation to a group of the first package, and to the latest ones.
+/// Adds an installation to a group of the package of a variable, and to the latest ones.
 fn install(
     alloc: Global,
+    layout: &Layout,
     window: &mut Window,
     group: &mut Group,
+    variable: u32,
     members: &[u32],
 ) -> Result<(), AllocError>
     requires { window.old.count < 100 }
@@ -20,7 +25,7 @@ fn install(
     if !is_rising(members) {
         return Ok(());
     }
-    group.add_installation(alloc, 1, members)?;
+    group.add_installation(alloc, layout, variable, members)?;
     window.add(Items::from_vec(members.to_vec(alloc)?))
 }
 
@@ -32,13 +37,14 @@ fn judged(
     on: &[u32],
     undecided: &[u32],
 ) -> Result<Option<CertCause>, AllocError> {
+    let layout = Layout::present(alloc);
     let mut window = Window::new(alloc);
     let mut group = Group::new(alloc);
-    install(alloc, &mut window, &mut group, &[1, 2, 3])?;
+    install(alloc, &layout, &mut window, &mut group, 1, &[1, 2, 3])?;
     group.clear();
-    install(alloc, &mut window, &mut group, &[1, 2])?;
-    group.add_refuted(1, &[(1, true), (2, false)])?;
-    group.add_undecided(1, &[(1, true), (3, false)])?;
+    install(alloc, &layout, &mut window, &mut group, 1, &[1, 2])?;
+    group.add_refuted(CertKind::Strong, 1, &[(1, true), (2, false)])?;
+    group.add_undecided(CertKind::Strong, 1, &[(1, true), (3, false)])?;
     let claim = StrongClaim {
         package: 1,
         named,
@@ -61,7 +67,50 @@ fn claims_are_judged(rt: HostRuntime) -> Result<(), Fail> {
 #[test]
 fn questions_of_the_package_are_kept(rt: HostRuntime) -> Result<(), Fail> {
     let mut group = Group::new(rt.alloc());
-    group.add_refuted(1, &[(1, true)])?;
+    group.add_refuted(CertKind::Strong, 1, &[(1, true)])?;
     assert!(rt; group.is_refuted() && !group.is_undecided());
+    Ok(())
+}
+
+/// Of two packages, each a cluster of its own with one class: variables 2 and 3 are the packages as they are, 4 and 5 put the
+/// clusters at their classes, and 6 and 7 are the new packages.
+fn two_clusters(alloc: Global) -> Result<Layout, AllocError> {
+    let clusters = vec![in alloc; 0u32, 0, 1, 2, 0, 0, 1, 2]?;
+    let mut classes = Flat::new(alloc);
+    classes.push(&[4])?;
+    classes.push(&[5])?;
+    Ok(Layout::new(CertKind::Challenged, clusters, classes))
+}
+
+/// What is said of a claim on challenges of the first package, where the second cluster's class was refuted.
+fn challenged(
+    alloc: Global,
+    named: &[u32],
+    by: &[(u32, u32)],
+) -> Result<Option<CertCause>, AllocError> {
+    let layout = two_clusters(alloc)?;
+    let mut window = Window::new(alloc);
+    let mut group = Group::new(alloc);
+    install(alloc, &layout, &mut window, &mut group, 2, &[2, 5])?;
+    group.clear();
+    install(alloc, &layout, &mut window, &mut group, 2, &[1, 2, 3])?;
+    group.add_refuted(CertKind::Challenged, 2, &[(2, true), (5, true)])?;
+    let claim = ChallengeClaim {
+        variable: 2,
+        named,
+        by,
+        undecided: &[],
+    };
+    judge_challenge(alloc, &layout, &window, &group, &claim)
+}
+
+#[test]
+fn claims_on_challenges_are_judged(rt: HostRuntime) -> Result<(), Fail> {
+    let alloc = rt.alloc();
+    assert_eq!(rt; challenged(alloc, &[2, 2], &[(2, 1)])?, None);
+    assert_eq!(rt; challenged(alloc, &[2], &[])?, Some(Incomplete));
+    assert_eq!(rt; challenged(alloc, &[1], &[])?, None);
+    assert_eq!(rt; challenged(alloc, &[2], &[(1, 1)])?, Some(WrongClaim));
+    assert_eq!(rt; challenged(alloc, &[3], &[(2, 1)])?, Some(WrongClaim));
     Ok(())
 }

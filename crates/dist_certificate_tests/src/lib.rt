@@ -15,6 +15,10 @@ mod derived_lines;
 #[cfg(test)]
 mod faults;
 #[cfg(test)]
+mod future_certificates;
+#[cfg(test)]
+mod future_faults;
+#[cfg(test)]
 mod limits;
 #[cfg(test)]
 mod line_faults;

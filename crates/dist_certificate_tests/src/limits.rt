@@ -9,7 +9,7 @@ use std::process::Abort;
 /// A line of the certificate of a and b, or one that it hasn't, what takes its place, and a number that the text passes.
 type Passed = (u64, &'static str, What, u32);
 
-const PASSED: [Passed; 5] = [
+const PASSED: [Passed; 8] = [
     (99, "", What::Certificate, 102),
     // The clauses are counted before the numbers of the first line are looked at.
     (
@@ -23,6 +23,25 @@ const PASSED: [Passed; 5] = [
         "distfuture-certificate 1 strong plain 10000 3 3 1\n",
         What::Literals,
         1,
+    ),
+    // Kinds on futures count the variables and the clauses of their space, 7 of each.
+    (
+        1,
+        "distfuture-certificate 1 outdated plain 10000 3 3 1\n",
+        What::Variables,
+        6,
+    ),
+    (
+        1,
+        "distfuture-certificate 1 challenged plain 10000 3 3 1\n",
+        What::Clauses,
+        6,
+    ),
+    (
+        1,
+        "distfuture-certificate 1 outdated essential 10000 3 3 1\n",
+        What::Literals,
+        14,
     ),
     (3, "d -1 2 0 1\n", What::Lines, 0),
     (3, "d -1 2 0 1\n", What::LineLiterals, 1),

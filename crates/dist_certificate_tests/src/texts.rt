@@ -103,14 +103,20 @@ pub(crate) fn at(line: u64, cause: CertCause) -> Option<CertFault> {
     Some(CertFault { line, cause })
 }
 
-/// The certificate of a and b with the lines from one on up to another one replaced by a text.
-pub(crate) fn edited(alloc: Global, first: u64, last: u64, with: &str) -> Option<Vec<u8>> {
+/// A certificate with the lines from one on up to another one replaced by a text.
+pub(crate) fn edited_in(
+    alloc: Global,
+    certificate: &str,
+    first: u64,
+    last: u64,
+    with: &str,
+) -> Option<Vec<u8>> {
     let mut text = Vec::new(alloc);
     if first == 1 {
         text.extend_from_slice(with.as_bytes()).ok()?;
     }
     let mut line = 1u64;
-    for byte in TEN.as_bytes() {
+    for byte in certificate.as_bytes() {
         if line < first || last < line {
             text.push(*byte).ok()?;
         }
@@ -124,12 +130,18 @@ pub(crate) fn edited(alloc: Global, first: u64, last: u64, with: &str) -> Option
     Some(text)
 }
 
+/// The certificate of a and b with the lines from one on up to another one replaced by a text.
+pub(crate) fn edited(alloc: Global, first: u64, last: u64, with: &str) -> Option<Vec<u8>> {
+    edited_in(alloc, TEN, first, last, with)
+}
+
 /// The stated limits but for one, which is at most this.
 pub(crate) fn limited(what: What, number: u32) -> Limits
     ensures { AreStated result }
 {
     let mut limits = Limits::stated();
     match what {
+        What::Variables => limits.variables = number.min(limits.variables),
         What::Clauses => limits.clauses = number.min(limits.clauses),
         What::Literals => limits.literals = number.min(limits.literals),
         What::Lines => limits.lines = number.min(limits.lines),

@@ -9,14 +9,11 @@ use Rattle.std.proofs.lemmas.List.Elements.{All-nil, All-push, All-take}
 use Rattle.dist_base.specs.Ascii.{line_feed}
 use Rattle.dist_outside.specs.declared.limits.Limits.{Limits}
 use Rattle.dist_clause.specs.Formula.{Literal}
-use Rattle.dist_repo.specs.Order.{IsInOrder}
 use Rattle.dist_repo.specs.PackageList.{PackageList}
-use Rattle.dist_now.specs.PresentClauses.{ArePresentClauses}
 use Rattle.dist_cert.specs.declared.faults.CertCause.{CertCause}
 use Rattle.dist_cert.specs.declared.faults.CertCause.TheVariants as causes
 use Rattle.dist_cert.specs.declared.faults.CertFault.{CertFault}
 use Rattle.dist_cert.specs.declared.records.CertKind.{CertKind}
-use Rattle.dist_cert.specs.declared.records.CertKind.TheVariants as kinds
 use Rattle.dist_cert.specs.declared.records.CertRecord.{CertRecord}
 use Rattle.dist_cert.specs.declared.records.CertRecord.TheVariants.{Derived, End}
 use Rattle.dist_cert.specs.declared.records.Header.{Header}
@@ -31,9 +28,8 @@ use Rattle.dist_cert.specs.Refusal.{IsOneLine, BeginsWith, lines_text, certifica
 use Rattle.dist_cert.specs.Refusal.{IsFirstOf, AreFaultless}
 use Rattle.dist_cert.specs.Subject.{Matter}
 use Rattle.dist_cert.specs.SomeVerdictLaws.{split_push, grown}
-use Rattle.dist_check.specs.Checking.{IsReached, HasInputsWithin, StopsFirst, StopsLater, StopsAtDerived, HasLargeInputs}
-use Rattle.dist_subject.specs.Basis.{AreBases, Basis, Bases, IsBasisOf, Later, Today, matter_for, matter_of, subject_of}
-use Rattle.dist_check.specs.Limited.{AreInputsWithin}
+use Rattle.dist_check.specs.Checking.{IsReached, HasInputsWithin, StopsFirst, StopsLater, StopsAtDerived}
+use Rattle.dist_subject.specs.Basis.{Basis, IsBasisOf, IsJudgedBy, Today, matter_of}
 use Rattle.dist_check.specs.Start.{IsUnfit}
 use Rattle.dist_cert.specs.ListLaws.{contains-cases, contains-later}
 use Rattle.dist_check.proofs.Profile.{IsFaultless, HasFirst}
@@ -41,27 +37,9 @@ use Rattle.dist_check.specs.CheckedPrivate.{AreRight, HaveForms}
 
 -- ---- what certificates are judged by
 
-abbrev pub BasesAreThere : Type 0
-BasesAreThere = (r : PackageList) → IsInOrder r.packages → (bases : Bases) × AreBases r bases
-
 abbrev pub BasesAreOne : Type 0
 BasesAreOne = (r : PackageList) (kind : CertKind) (essential : Bool) (basis other : Basis) → IsBasisOf r kind essential basis
     → IsBasisOf r kind essential other → other ≡ basis
-
--- of kind strong they are the clauses of the present
-pub record IsToday (r : PackageList) (essential : Bool) (basis : Basis) : Type 0 where
-  pub inputs : List (List Literal)
-  pub is : basis ≡ Today inputs
-  pub are : ArePresentClauses r essential inputs
-
-pub today-of : (r : PackageList) (essential : Bool) (basis : Basis) → IsBasisOf r kinds.Strong essential basis → IsToday r essential basis
-today-of r essential (Today inputs) is = record { inputs = inputs; is = refl; are = is }
-today-of r essential (Later space inputs) is = absurd is
-
-pub inputs-are-present : (r : PackageList) (essential : Bool) (basis : Basis) → IsBasisOf r kinds.Strong essential basis
-    → ArePresentClauses r essential (matter_of r essential basis).inputs
-inputs-are-present r essential (Today inputs) is = is
-inputs-are-present r essential (Later space inputs) is = absurd is
 
 -- ---- the first line
 
@@ -72,100 +50,77 @@ begins-whole text line more begins one = whole_line line more (subst IsOneLine b
 same-begin : (text a b more other : List ℕ) → BeginsWith text a more → BeginsWith text b other → (a ≡ b) × (more ≡ other)
 same-begin text a b more other x y = one_line a b more other x.one_line y.one_line (sym x.ended ∙ y.ended)
 
-pub header-refused : (there : BasesAreThere) (r : PackageList) (ordered : IsInOrder r.packages) (limits : Limits) (reader : ReaderView)
-    → reader.limits ≡ limits → reader.given ≡ 0 → (text : List ℕ) (cause : CertCause)
-    → HeaderFault reader text cause → StopsFirst r limits text cause
-header-refused there r ordered limits reader same none text cause fault =
+-- nothing is judged by, where no first line is
+no-basis : Basis
+no-basis = Today false []
+
+pub header-refused : (r : PackageList) (limits : Limits) (reader : ReaderView) → reader.limits ≡ limits → reader.given ≡ 0 → (text : List ℕ)
+    (cause : CertCause) → HeaderFault reader text cause → StopsFirst r limits text cause
+header-refused r limits reader same none text cause fault =
     by cause (subst (λ l. HeaderFault (record reader { limits = l; given = 0 }) text cause) same
     (subst (λ n. HeaderFault (record reader { given = n }) text cause) none fault))
   where
-    bases : Bases
-    bases = (there r ordered).0
-
-    other : (c : CertCause) → (c ≡ causes.BadHeader → ⊥) → c ≡ causes.BadHeader → HasInputsWithin r bases limits text
+    other : (c : CertCause) → (c ≡ causes.BadHeader → ⊥) → c ≡ causes.BadHeader → HasInputsWithin r no-basis limits text
     other c never is = absurd (never is)
 
     by : (c : CertCause) → HeaderFault (record reader { limits = limits; given = 0 }) text c → StopsFirst r limits text c
     by causes.LineTooLong f = record {
-      bases = bases;
-      are_bases = (there r ordered).1;
+      basis = no-basis;
+      judged = λ h line more begins form short. absurd (short f.1);
       bytes = f.0;
       first = inl (f.1, refl);
       within = other causes.LineTooLong (λ e. cc);
     }
     by causes.Truncated f = record {
-      bases = bases;
-      are_bases = (there r ordered).1;
+      basis = no-basis;
+      judged = λ h line more begins form short. absurd (begins-whole text line more begins f.1);
       bytes = f.0.whole;
       first = inr (f.0.line, inl (f.1, refl));
       within = other causes.Truncated (λ e. cc);
     }
     by causes.BadHeader f = record {
-      bases = bases;
-      are_bases = (there r ordered).1;
+      basis = no-basis;
+      judged = λ h line more begins form short. absurd (never h line more begins form);
       bytes = f.0.whole;
       first = inr (f.0.line, inr (begins-whole text f.1.0 f.1.1 f.1.2, inl ((f.1.0, f.1.1, f.1.2, λ h form. absurd (f.1.3 h form)), refl)));
-      within = λ is h line more begins form strong.
-          absurd (f.1.3 h (subst (λ l. HasHeaderForm l h) (same-begin text line f.1.0 more f.1.1 begins f.1.2).0 form));
+      within = λ is h line more begins form. absurd (never h line more begins form);
     }
+      where
+        never : (h : Header) (line more : List ℕ) → BeginsWith text line more → ¬ HasHeaderForm line h
+        never h line more begins form = f.1.3 h (subst (λ l. HasHeaderForm l h) (same-begin text line f.1.0 more f.1.1 begins f.1.2).0 form)
     by c f = absurd f
 
--- a first line of another kind, or with wrong numbers
-pub header-unfit : FormsAreClear → (there : BasesAreThere) → BasesAreOne
-    → (r : PackageList) (ordered : IsInOrder r.packages) (limits : Limits) (text line more : List ℕ) (h : Header) → KeepsLimits limits 0 text
-    → BeginsWith text line more
-    → HasHeaderForm line h → IsUnfit r limits h → StopsFirst r limits text causes.BadHeader
-header-unfit clear there one r ordered limits text line more h keeps begins form unfit = record {
-  bases = (there r ordered).0;
-  are_bases = (there r ordered).1;
+-- the first line of a text is one
+pub one-header : FormsAreClear → (text : List ℕ) (h other : Header) (line more next rest : List ℕ) → BeginsWith text line more → HasHeaderForm line h
+    → BeginsWith text next rest → HasHeaderForm next other → other ≡ h
+one-header clear text h other line more next rest begins form also shape =
+    clear.one_header line other h (subst (λ l. HasHeaderForm l other) (same-begin text next line rest more also begins).0 shape) form
+
+-- a text with this first line is judged by what its kind and mode are
+pub judged-by : FormsAreClear → (r : PackageList) (limits : Limits) (text line more : List ℕ) (h : Header) (basis : Basis) → BeginsWith text line more
+    → HasHeaderForm line h → IsBasisOf r h.kind h.essential basis → IsJudgedBy r limits text basis
+judged-by clear r limits text line more h basis begins form is k next rest also shape short =
+    subst (λ g. IsBasisOf r g.kind g.essential basis) (sym (one-header clear text h k line more next rest begins form also shape)) is
+
+-- a first line with wrong numbers
+pub header-unfit : FormsAreClear → (r : PackageList) (limits : Limits) (text line more : List ℕ) (h : Header) → KeepsLimits limits 0 text
+    → BeginsWith text line more → HasHeaderForm line h → IsUnfit r limits h → StopsFirst r limits text causes.BadHeader
+header-unfit clear r limits text line more h keeps begins form unfit = record {
+  basis = unfit.basis;
+  judged = judged-by clear r limits text line more h unfit.basis begins form unfit.is_basis;
   bytes = keeps.whole;
   first = inr (keeps.line, inr (begins-whole text line more begins, inl ((line, more, begins, never), refl)));
-  within = λ is k other rest other_begins kform strong.
-      let same : k ≡ h = clear.one_header line k h (subst (λ l. HasHeaderForm l k) (same-begin text other line rest more other_begins begins).0 kform) form in
-      subst (λ g. AreInputsWithin limits (matter_for r (there r ordered).0 g).inputs) (sym same) (kept (ap (λ (g : Header). g.kind) (sym same) ∙ strong));
+  within = λ is k next rest also shape. unfit.within;
 }
   where
-    bases : Bases
-    bases = (there r ordered).0
-
-    basis : IsBasisOf r kinds.Strong h.essential (bases h.kind h.essential)
-    basis = (there r ordered).1 h.kind h.essential
-
-    -- the clauses of the present are those that are judged by
-    same-inputs : (clauses : List (List Literal)) → ArePresentClauses r h.essential clauses → (matter_for r bases h).inputs ≡ clauses
-    same-inputs clauses are =
-        ap (λ (x : Basis). (matter_of r h.essential x).inputs) (one r kinds.Strong h.essential (Today clauses) (bases h.kind h.essential) are basis)
-
-    kept : h.kind ≡ kinds.Strong → AreInputsWithin limits (matter_for r bases h).inputs
-    kept strong = ⊎_elim (λ other. absurd (other strong))
-        (λ wrong. subst (AreInputsWithin limits) (sym (same-inputs wrong.0 wrong.1)) wrong.2)
-        unfit
-
-    never : (k : Header) → HasHeaderForm line k → ¬ Fits (subject_of r bases) k
-    never k kform fits =
-        let same : k ≡ h = clear.one_header line k h kform form in
-        let fits_h : Fits (subject_of r bases) h = subst (Fits (subject_of r bases)) same fits in
-        ⊎_elim (λ other. other fits_h.taken)
-        (λ wrong.
-        let today = today-of r h.essential (bases h.kind h.essential) basis in
-        wrong.3 (record {
-          packages = fits_h.packages ∙ ap (λ (x : Basis). (matter_of r h.essential x).packages) today.is;
-          variables = fits_h.variables ∙ ap (λ (x : Basis). (matter_of r h.essential x).variables) today.is;
-          clause_count = fits_h.clauses ∙ ap (λ (cs : List (List Literal)). length cs) (same-inputs wrong.0 wrong.1);
-        }))
-        unfit
-
-pub large-inputs : (r : PackageList) (limits : Limits) (text line more : List ℕ) (h : Header) → KeepsLimits limits 0 text → BeginsWith text line more
-    → HasHeaderForm line h → h.kind ≡ kinds.Strong → (Passes : Bool → Type 0) → Passes h.essential
-    → HasLargeInputs limits text Passes
-large-inputs r limits text line more h keeps begins form strong Passes passes =
-    record { keeps = keeps; h = h; line = line; more = more; begins = begins; form = form; strong = strong; passes = passes }
+    never : (k : Header) → HasHeaderForm line k → ¬ Fits (matter_of r unfit.basis) k
+    never k shape fits = unfit.wrong (subst (Fits (matter_of r unfit.basis)) (clear.one_header line k h shape form) fits)
 
 -- the header of a text, behind which nothing was read
-pub starts-faultless : FormsAreClear → (r : PackageList) (bases : Bases) (limits : Limits) (text line more : List ℕ) (h : Header)
+pub starts-faultless : FormsAreClear → (r : PackageList) (basis : Basis) (limits : Limits) (text line more : List ℕ) (h : Header)
     → KeepsLimits limits 0 text → BeginsWith text line more → HasHeaderForm line h
-    → Fits (subject_of r bases) h → AreFaultless (subject_of r bases) limits text h [] more
-starts-faultless clear r bases limits text line more h keeps begins form fits = record {
+    → Fits (matter_of r basis) h → AreFaultless (matter_of r basis) limits text h [] more
+starts-faultless clear r basis limits text line more h keeps begins form fits = record {
   reads = record {
     text_is = begins.ended ∙ ap (λ (l : List ℕ). l ++ line_feed ∷ more) form.text ∙ sym (append_assoc (header_text h) (line_feed ∷ []) more);
     header = subst (λ l. HasHeaderForm l h) form.text form;
@@ -175,7 +130,7 @@ starts-faultless clear r bases limits text line more h keeps begins form fits = 
   later = λ earlier step others e. absurd (not_among earlier step others e);
 }
   where
-    first : (cause : CertCause) → ¬ HasFirstFault (subject_of r bases) limits text cause
+    first : (cause : CertCause) → ¬ HasFirstFault (matter_of r basis) limits text cause
     first causes.LineTooLong f = keeps.line f
     first causes.Truncated f = begins-whole text line more begins f
     first causes.BadHeader f = f.3 h (subst (λ l. HasHeaderForm l h) (same-begin text line f.0 more f.1 begins f.2).0 form) fits
@@ -217,23 +172,23 @@ ended-push (s ∷ steps) step none =
 -- ---- a later line
 
 -- the line behind lines that are reached has a fault of form, cut or length
-pub record-refused : FormsAreClear → (r : PackageList) (bases : Bases) (limits : Limits) (text : List ℕ) (h : Header)
-    (before : List CertRecord) (rest : List ℕ) (reader : ReaderView) → IsReached r bases limits text h before rest
+pub record-refused : FormsAreClear → (r : PackageList) (basis : Basis) (limits : Limits) (text : List ℕ) (h : Header)
+    (before : List CertRecord) (rest : List ℕ) (reader : ReaderView) → IsReached r basis limits text h before rest
     → reader.limits ≡ limits → reader.given ≡ length (certificate_text h before) → reader.ended ≡ list_any is_end before → (fault : CertFault)
     → fault.line ≡ length before + 2 → RecordFault reader rest fault.cause → StopsLater r limits text fault
-record-refused clear r bases limits text h before rest reader reached same given ended fault line bad =
+record-refused clear r basis limits text h before rest reader reached same given ended fault line bad =
     by fault.cause refl (subst (λ l. RecordFault (record reader { limits = l; given = length (certificate_text h before); ended = list_any is_end before }) rest
     fault.cause) same
     (subst (λ n. RecordFault (record reader { given = n; ended = list_any is_end before }) rest fault.cause) given
     (subst (λ e. RecordFault (record reader { ended = e }) rest fault.cause) ended bad)))
   where
     Has : CertCause → Type 0
-    Has = HasLineFault (subject_of r bases) limits h before rest
+    Has = HasLineFault (matter_of r basis) limits h before rest
 
     stops : (c : CertCause) → fault.cause ≡ c → ¬ PassesWhole limits (length (certificate_text h before)) rest → IsFirstOf in_order Has c
         → StopsLater r limits text fault
     stops c is bytes first = record {
-      bases = bases;
+      basis = basis;
       h = h;
       before = before;
       rest = rest;
@@ -296,75 +251,75 @@ short-line limits line more one keeps = elim (cases_lt (length line) limits.reco
 ]
 
 -- A line with the form of a record, behind lines that are reached.
-pub record IsLineNext (r : PackageList) (bases : Bases) (limits : Limits) (text : List ℕ) (h : Header) (before : List CertRecord)
+pub record IsLineNext (r : PackageList) (basis : Basis) (limits : Limits) (text : List ℕ) (h : Header) (before : List CertRecord)
     (rest line more : List ℕ) (step : CertRecord) : Type 0 where
-  pub reached : IsReached r bases limits text h before rest
+  pub reached : IsReached r basis limits text h before rest
   pub keeps : KeepsLimits limits (length (certificate_text h before)) rest
   pub begins : BeginsWith rest line more
   pub form : HasForm line step
   pub open_still : ¬ Contains before End
 
-to-record : FormsAreClear → (r : PackageList) (bases : Bases) (limits : Limits) (text : List ℕ) (h : Header) (before : List CertRecord)
+to-record : FormsAreClear → (r : PackageList) (basis : Basis) (limits : Limits) (text : List ℕ) (h : Header) (before : List CertRecord)
     (rest line more : List ℕ) (step : CertRecord)
-    → IsLineNext r bases limits text h before rest line more step → (cause : CertCause) → HasLineFault (subject_of r bases) limits h before rest cause
-    → HasRecordFault (matter_for r bases h) h before step cause
-to-record clear r bases limits text h before rest line more step x cause fault =
+    → IsLineNext r basis limits text h before rest line more step → (cause : CertCause) → HasLineFault (matter_of r basis) limits h before rest cause
+    → HasRecordFault (matter_of r basis) h before step cause
+to-record clear r basis limits text h before rest line more step x cause fault =
     let form : HasForm (record_text step) step = subst (λ l. HasForm l step) x.form.text x.form in
     let is : rest ≡ record_text step ++ line_feed ∷ more = x.begins.ended ∙ ap (λ (l : List ℕ). l ++ line_feed ∷ more) x.form.text in
     let keeps : ¬ IsTooLong limits (record_text step ++ line_feed ∷ more) = subst (λ bytes. ¬ IsTooLong limits bytes) is x.keeps.line in
-    line_to_record clear (subject_of r bases) limits h before step more form x.open_still
+    line_to_record clear (matter_of r basis) limits h before step more form x.open_still
     (short-line limits (record_text step) more (clear.record_line step form) keeps) cause
-    (subst (λ bytes. HasLineFault (subject_of r bases) limits h before bytes cause) is fault)
+    (subst (λ bytes. HasLineFault (matter_of r basis) limits h before bytes cause) is fault)
 
-from-record : FormsAreClear → (r : PackageList) (bases : Bases) (limits : Limits) (text : List ℕ) (h : Header) (before : List CertRecord)
+from-record : FormsAreClear → (r : PackageList) (basis : Basis) (limits : Limits) (text : List ℕ) (h : Header) (before : List CertRecord)
     (rest line more : List ℕ) (step : CertRecord)
-    → IsLineNext r bases limits text h before rest line more step → (cause : CertCause)
-    → HasRecordFault (matter_for r bases h) h before step cause → HasLineFault (subject_of r bases) limits h before rest cause
-from-record clear r bases limits text h before rest line more step x cause fault =
+    → IsLineNext r basis limits text h before rest line more step → (cause : CertCause)
+    → HasRecordFault (matter_of r basis) h before step cause → HasLineFault (matter_of r basis) limits h before rest cause
+from-record clear r basis limits text h before rest line more step x cause fault =
     let form : HasForm (record_text step) step = subst (λ l. HasForm l step) x.form.text x.form in
     let is : record_text step ++ line_feed ∷ more ≡ rest = sym (x.begins.ended ∙ ap (λ (l : List ℕ). l ++ line_feed ∷ more) x.form.text) in
-    subst (λ bytes. HasLineFault (subject_of r bases) limits h before bytes cause) is
-    (record_to_line clear (subject_of r bases) limits h before step more form cause fault)
+    subst (λ bytes. HasLineFault (matter_of r basis) limits h before bytes cause) is
+    (record_to_line clear (matter_of r basis) limits h before step more form cause fault)
 
-pub step-refused : FormsAreClear → (r : PackageList) (bases : Bases) (limits : Limits) (text : List ℕ) (h : Header)
+pub step-refused : FormsAreClear → (r : PackageList) (basis : Basis) (limits : Limits) (text : List ℕ) (h : Header)
     (before : List CertRecord) (rest line more : List ℕ) (step : CertRecord)
-    → IsLineNext r bases limits text h before rest line more step → (fault : CertFault) → fault.line ≡ length before + 2
-    → HasFirst (matter_for r bases h) h before step fault.cause → StopsLater r limits text fault
-step-refused clear r bases limits text h before rest line more step x fault number first = record {
-  bases = bases;
+    → IsLineNext r basis limits text h before rest line more step → (fault : CertFault) → fault.line ≡ length before + 2
+    → HasFirst (matter_of r basis) h before step fault.cause → StopsLater r limits text fault
+step-refused clear r basis limits text h before rest line more step x fault number first = record {
+  basis = basis;
   h = h;
   before = before;
   rest = rest;
   reached = x.reached;
   bytes = x.keeps.whole;
   line = number;
-  first = map_first (HasRecordFault (matter_for r bases h) h before step) (HasLineFault (subject_of r bases) limits h before rest)
-      (from-record clear r bases limits text h before rest line more step x) (to-record clear r bases limits text h before rest line more step x) in_order
+  first = map_first (HasRecordFault (matter_of r basis) h before step) (HasLineFault (matter_of r basis) limits h before rest)
+      (from-record clear r basis limits text h before rest line more step x) (to-record clear r basis limits text h before rest line more step x) in_order
       fault.cause first;
 }
 
-pub step-none : FormsAreClear → (r : PackageList) (bases : Bases) (limits : Limits) (text : List ℕ) (h : Header)
+pub step-none : FormsAreClear → (r : PackageList) (basis : Basis) (limits : Limits) (text : List ℕ) (h : Header)
     (before : List CertRecord) (rest line more : List ℕ) (step : CertRecord)
-    → IsLineNext r bases limits text h before rest line more step → IsFaultless (matter_for r bases h) h before step
-    → (cause : CertCause) → ¬ HasLineFault (subject_of r bases) limits h before rest cause
-step-none clear r bases limits text h before rest line more step x faultless cause fault =
-    faultless cause (to-record clear r bases limits text h before rest line more step x cause fault)
+    → IsLineNext r basis limits text h before rest line more step → IsFaultless (matter_of r basis) h before step
+    → (cause : CertCause) → ¬ HasLineFault (matter_of r basis) limits h before rest cause
+step-none clear r basis limits text h before rest line more step x faultless cause fault =
+    faultless cause (to-record clear r basis limits text h before rest line more step x cause fault)
 
-pub step-reached : FormsAreClear → (r : PackageList) (bases : Bases) (limits : Limits) (text : List ℕ) (h : Header)
+pub step-reached : FormsAreClear → (r : PackageList) (basis : Basis) (limits : Limits) (text : List ℕ) (h : Header)
     (before : List CertRecord) (rest line more : List ℕ) (step : CertRecord)
-    → IsLineNext r bases limits text h before rest line more step → IsFaultless (matter_for r bases h) h before step
-    → AreFaultless (subject_of r bases) limits text h (before ++ step ∷ []) more
-step-reached clear r bases limits text h before rest line more step x faultless =
-    grown (subject_of r bases) limits text h before rest line more step x.reached.faultless
-    (step-none clear r bases limits text h before rest line more step x faultless) x.begins x.form
+    → IsLineNext r basis limits text h before rest line more step → IsFaultless (matter_of r basis) h before step
+    → AreFaultless (matter_of r basis) limits text h (before ++ step ∷ []) more
+step-reached clear r basis limits text h before rest line more step x faultless =
+    grown (matter_of r basis) limits text h before rest line more step x.reached.faultless
+    (step-none clear r basis limits text h before rest line more step x faultless) x.begins x.form
 
-pub stops-derived : FormsAreClear → (r : PackageList) (bases : Bases) (limits : Limits) (text : List ℕ) (h : Header)
+pub stops-derived : FormsAreClear → (r : PackageList) (basis : Basis) (limits : Limits) (text : List ℕ) (h : Header)
     (before : List CertRecord) (rest line more : List ℕ) (literals : List Word) (hints : List ℕ)
-    → IsLineNext r bases limits text h before rest line more (Derived literals hints)
-    → IsFaultless (matter_for r bases h) h before (Derived literals hints) → (Passes : List (List Literal) → List Literal → Type 0)
+    → IsLineNext r basis limits text h before rest line more (Derived literals hints)
+    → IsFaultless (matter_of r basis) h before (Derived literals hints) → (Passes : List (List Literal) → List Literal → Type 0)
     → Passes (derived before) (clause_of literals) → StopsAtDerived r limits text Passes
-stops-derived clear r bases limits text h before rest line more literals hints x faultless Passes passes = record {
-  bases = bases;
+stops-derived clear r basis limits text h before rest line more literals hints x faultless Passes passes = record {
+  basis = basis;
   h = h;
   before = before;
   rest = rest;
@@ -376,7 +331,7 @@ stops-derived clear r bases limits text h before rest line more literals hints x
   more = more;
   begins = x.begins;
   form = x.form;
-  none = step-none clear r bases limits text h before rest line more (Derived literals hints) x faultless;
+  none = step-none clear r basis limits text h before rest line more (Derived literals hints) x faultless;
   passes = passes;
 }
 
@@ -385,13 +340,13 @@ stops-derived clear r bases limits text h before rest line more literals hints x
 nothing-begins : (line more : List ℕ) → [] ≡ line ++ line_feed ∷ more → ⊥
 nothing-begins line more e = let n = ap length e in omega (arith, n, length-append line (line_feed ∷ more))
 
-pub end-none : (r : PackageList) (bases : Bases) (limits : Limits) (h : Header) (before : List CertRecord) → ¬ IsTooLong limits []
+pub end-none : (r : PackageList) (basis : Basis) (limits : Limits) (h : Header) (before : List CertRecord) → ¬ IsTooLong limits []
     → Contains before End → (cause : CertCause)
-    → ¬ HasLineFault (subject_of r bases) limits h before [] cause
-end-none r bases limits h before keeps ended causes.LineTooLong f = keeps f
-end-none r bases limits h before keeps ended causes.Truncated f = ⊎_elim (λ some. some refl) (λ none. none ended) f.1
-end-none r bases limits h before keeps ended causes.BadRecord f = nothing-begins f.0 f.1 f.2.ended
-end-none r bases limits h before keeps ended cause f = nothing-begins f.0 f.1 f.3.ended
+    → ¬ HasLineFault (matter_of r basis) limits h before [] cause
+end-none r basis limits h before keeps ended causes.LineTooLong f = keeps f
+end-none r basis limits h before keeps ended causes.Truncated f = ⊎_elim (λ some. some refl) (λ none. none ended) f.1
+end-none r basis limits h before keeps ended causes.BadRecord f = nothing-begins f.0 f.1 f.2.ended
+end-none r basis limits h before keeps ended cause f = nothing-begins f.0 f.1 f.3.ended
 
 -- ---- records that were right
 

@@ -8,6 +8,7 @@ use Rattle.dist_base.specs.Ascii.{line_feed}
 use Rattle.dist_outside.specs.Counts.{Rose}
 use Rattle.dist_outside.specs.DeskView.{DeskView, OnlyReads}
 use Rattle.dist_outside.specs.declared.limits.Limits.{Limits}
+use Rattle.dist_outside.specs.declared.trouble.What.{What}
 use Rattle.dist_outside.specs.declared.trouble.What.TheVariants.{Bytes, Stanzas, Variables, Clauses, Literals, Lines, LineLiterals, Certificate, RecordLine}
 use Rattle.dist_outside.specs.declared.trouble.WorkError.{WorkError}
 use Rattle.dist_outside.specs.declared.trouble.WorkError.TheVariants.{ReadFault, WriteFault, TooLarge, NoMemory}
@@ -17,9 +18,9 @@ use Rattle.dist_clause.specs.Formula.{Literal, IsClauseOver, IsModel, MakesTrue}
 use Rattle.dist_derive.specs.ClauseLog.{lines_of}
 use Rattle.dist_repo.specs.Order.{IsInOrder}
 use Rattle.dist_repo.specs.PackageList.{PackageList}
-use Rattle.dist_now.specs.PresentSet.{PassesClauses, PassesLiterals}
 use Rattle.dist_cert.specs.declared.faults.ReadCertError.{ReadCertError}
 use Rattle.dist_cert.specs.declared.faults.ReadCertError.TheVariants.{Bad, Work}
+use Rattle.dist_cert.specs.declared.records.CertKind.{CertKind}
 use Rattle.dist_cert.specs.declared.records.CertKind.TheVariants as kinds
 use Rattle.dist_cert.specs.declared.records.CertRecord.{CertRecord}
 use Rattle.dist_cert.specs.declared.records.CertRecord.TheVariants as lines
@@ -33,15 +34,15 @@ use Rattle.dist_cert.specs.Reading.{HeaderOfSome, RecordAnswers, RecordCause, Re
 use Rattle.dist_cert.specs.Refusal.{certificate_text, Fits, AreFaultless}
 use Rattle.dist_cert.specs.Rising.{is_among}
 use Rattle.dist_cert.specs.Subject.{Matter}
-use Rattle.dist_check.specs.Checking.{StopsAtDerived, StopsFirst, TextAnswers, TextCause, OfText}
-use Rattle.dist_subject.specs.Basis.{AreBases, Basis, Bases, IsBasisOf, Today, matter_for, matter_of, subject_of}
+use Rattle.dist_check.specs.Checking.{HasLargeInputs, StopsAtDerived, StopsFirst, TextAnswers, TextCause, OfText}
+use Rattle.dist_subject.specs.Basis.{Basis, matter_of}
+use Rattle.dist_subject.specs.Limited.{PassesFirst, PassesLater, PassesPresent}
 use Rattle.dist_check_state.specs.Since.{IsAppendCause}
 use Rattle.dist_check.specs.Start.{IsStart, StartAnswers}
 use Rattle.dist_check_state.specs.State.{StateView, Tells, Becomes, StopsAt, LineStops, TakesLine}
-use Rattle.dist_check.proofs.CheckLemmas.{BasesAreThere, BasesAreOne, IsToday, today-of, header-refused, header-unfit, large-inputs, starts-faultless}
+use Rattle.dist_check.proofs.CheckLemmas.{header-refused, header-unfit, starts-faultless}
 use Rattle.dist_check.proofs.CheckLemmas.{from-ended, ended-push, IsLineNext, step-refused, step-reached, stops-derived, right-push, right-none, forms-push}
 use Rattle.dist_check.proofs.CheckLemmas.{text-push}
-use Rattle.dist_check.specs.AtPrivate.{AreFuturesBy}
 use Rattle.dist_check.specs.CheckedPrivate.{TextAt, IsChecked}
 use Rattle.dist_check.proofs.CheckState.{lines-are, numbers-of}
 use Rattle.dist_check.proofs.Next.{told-verdict, becomes-at, starts-at}
@@ -55,16 +56,14 @@ use Rattle.std.proofs.lemmas.List.Elements.{All-nil}
 pub at-bytes : (r : PackageList) (limits : Limits) (h : Header) (reader : ReaderView) (s : StateView) (x : IsChecked r limits None h reader None s)
     (rest : List ℕ) → IsChecked r limits (Some (certificate_text h x.before ++ rest)) h reader (Some rest) s
 at-bytes r limits h reader s x rest = record {
-  bases = x.bases;
-  are_bases = x.are_bases;
+  basis = x.basis;
+  is_basis = x.is_basis;
   inputs_mean = x.inputs_mean;
   before = x.before;
   at = x.at;
   right = x.right;
   forms = x.forms;
-  strong = x.strong;
-  clauses = x.clauses;
-  literals = x.literals;
+  kept = x.kept;
   line_limit = x.line_limit;
   line_literal_limit = x.line_literal_limit;
   within = x.within;
@@ -80,10 +79,10 @@ at-bytes r limits h reader s x rest = record {
 -- the line that is next, where the text is told
 line-next : (r : PackageList) (limits : Limits) (told : Option (List ℕ)) (h : Header) (reader : ReaderView) (left : Option (List ℕ)) (s : StateView)
     (x : IsChecked r limits told h reader left s) → reader.given ≤ reader.limits.certificate
-    → (text rest more : List ℕ) → AreFaultless (subject_of r x.bases) limits text h x.before rest
-    → (step : CertRecord) (next : IsRecordNext reader rest more step) → IsLineNext r x.bases limits text h x.before rest next.line more step
+    → (text rest more : List ℕ) → AreFaultless (matter_of r x.basis) limits text h x.before rest
+    → (step : CertRecord) (next : IsRecordNext reader rest more step) → IsLineNext r x.basis limits text h x.before rest next.line more step
 line-next r limits told h reader left s x bytes text rest more faultless step next = record {
-  reached = record { are_bases = x.are_bases; faultless = faultless; numbers = numbers-of r limits told h reader left s x bytes };
+  reached = record { is_basis = x.is_basis; faultless = faultless; numbers = numbers-of r limits told h reader left s x bytes };
   keeps = subst (λ n. KeepsLimits limits n rest) x.given (subst (λ l. KeepsLimits l reader.given rest) x.limits_are next.limits);
   begins = next.begins;
   form = next.form;
@@ -93,13 +92,13 @@ line-next r limits told h reader left s x bytes text rest more faultless step ne
 -- the line of a derived clause that passes a number
 derived-stops : FormsAreClear → (r : PackageList) (limits : Limits) (told : Option (List ℕ)) (h : Header) (reader : ReaderView) (left : Option (List ℕ))
     (s : StateView) (x : IsChecked r limits told h reader left s) → (text rest more line : List ℕ)
-    (step : CertRecord) → IsLineNext r x.bases limits text h x.before rest line more step
-    → IsFaultless (matter_for r x.bases h) h x.before step → (error : WorkError) → error ≢ NoMemory → StopsAt s step error
+    (step : CertRecord) → IsLineNext r x.basis limits text h x.before rest line more step
+    → IsFaultless (matter_of r x.basis) h x.before step → (error : WorkError) → error ≢ NoMemory → StopsAt s step error
     → (Passes : List (List Literal) → List Literal → Type 0)
     → ((literals : List Word) → IsAppendCause s.log (clause_of literals) error → Passes (derived x.before) (clause_of literals))
     → StopsAtDerived r limits text Passes
 derived-stops clear r limits told h reader left s x text rest more line (lines.Derived literals hints) next faultless error not_memory stops Passes passes =
-    stops-derived clear r x.bases limits text h x.before rest line more literals hints next faultless Passes (passes literals stops)
+    stops-derived clear r x.basis limits text h x.before rest line more literals hints next faultless Passes (passes literals stops)
 derived-stops clear r limits told h reader left s x text rest more line step next faultless error not_memory stops Passes passes = absurd (not_memory stops)
 
 -- no other number is passed
@@ -119,19 +118,19 @@ pub line-stops : FormsAreClear → (r : PackageList) (limits : Limits) (told : O
     → OfText told (λ text. TextAnswers header claims r limits text (Err error))
 line-stops clear r limits told h reader next left after s old new x bytes step answers because line number {X} header claims error stops = by told x.text
   where
-    faultless-line : Tells s step None → IsFaultless (matter_for r x.bases h) h x.before step
-    faultless-line none = told-verdict (matter_for r x.bases h) h x.before s x.strong x.at x.right x.forms x.inputs_mean step because.0.rules None none
+    faultless-line : Tells s step None → IsFaultless (matter_of r x.basis) h x.before step
+    faultless-line none = told-verdict (matter_of r x.basis) h x.before s x.at x.right x.forms x.inputs_mean step because.0.rules None none
 
     clauses-are : lines_of s.log ≡ derived x.before
     clauses-are = lines-are r limits told h reader left s x
 
-    at : (text rest more : List ℕ) → AreFaultless (subject_of r x.bases) limits text h x.before rest → IsRecordNext reader rest more step → (e : ReadCertError)
+    at : (text rest more : List ℕ) → AreFaultless (matter_of r x.basis) limits text h x.before rest → IsRecordNext reader rest more step → (e : ReadCertError)
         → LineStops s step line e → TextAnswers header claims r limits text (Err e)
     at text rest more faultless after_it (Bad fault) stop =
         let one = line-next r limits told h reader left s x bytes text rest more faultless step after_it in
-        let first = told-verdict (matter_for r x.bases h) h x.before s x.strong x.at x.right x.forms x.inputs_mean step because.0.rules (Some fault.cause)
+        let first = told-verdict (matter_of r x.basis) h x.before s x.at x.right x.forms x.inputs_mean step because.0.rules (Some fault.cause)
         stop.1 in
-        inr (step-refused clear r x.bases limits text h x.before rest after_it.line more step one fault (omega (arith, stop.0, number, x.line_count)) first)
+        inr (step-refused clear r x.basis limits text h x.before rest after_it.line more step one fault (omega (arith, stop.0, number, x.line_count)) first)
     at text rest more faultless after_it (Work NoMemory) stop = tt
     at text rest more faultless after_it (Work (TooLarge Lines)) stop =
         derived-stops clear r limits told h reader left s x text rest more after_it.line step
@@ -151,25 +150,25 @@ line-stops clear r limits told h reader next left after s old new x bytes step a
     at text rest more faultless after_it (Work WriteFault) stop = no-other s step WriteFault stop.1 (λ e. cc) (λ e. cc) (λ e. cc)
     at text rest more faultless after_it (Work (TooLarge Bytes)) stop = no-other s step (TooLarge Bytes) stop.1 (λ e. cc) (λ e. cc) (λ e. cc)
     at text rest more faultless after_it (Work (TooLarge Stanzas)) stop = no-other s step (TooLarge Stanzas) stop.1 (λ e. cc) (λ e. cc) (λ e. cc)
-    at text rest more faultless after_it (Work (TooLarge Variables)) stop = no-other s step (TooLarge Variables) stop.1 (λ e. cc) (λ e. cc) (λ e. cc)
+    at text rest more faultless after_it (Work (TooLarge Variables)) stop = absurd (no-other s step (TooLarge Variables) stop.1 (λ e. cc) (λ e. cc) (λ e. cc))
     at text rest more faultless after_it (Work (TooLarge Clauses)) stop = absurd (no-other s step (TooLarge Clauses) stop.1 (λ e. cc) (λ e. cc) (λ e. cc))
     at text rest more faultless after_it (Work (TooLarge Literals)) stop = absurd (no-other s step (TooLarge Literals) stop.1 (λ e. cc) (λ e. cc) (λ e. cc))
     at text rest more faultless after_it (Work (TooLarge Certificate)) stop =
         absurd (no-other s step (TooLarge Certificate) stop.1 (λ e. cc) (λ e. cc) (λ e. cc))
     at text rest more faultless after_it (Work (TooLarge RecordLine)) stop = no-other s step (TooLarge RecordLine) stop.1 (λ e. cc) (λ e. cc) (λ e. cc)
 
-    by : (t : Option (List ℕ)) → TextAt (subject_of r x.bases) limits h x.before t left → OfText t (λ text. TextAnswers header claims r limits text (Err error))
+    by : (t : Option (List ℕ)) → TextAt (matter_of r x.basis) limits h x.before t left → OfText t (λ text. TextAnswers header claims r limits text (Err error))
     by None here = tt
     by (Some text) here =
         let answer = subst (λ l. WhereTold l after (λ rest more. RecordAnswers reader rest more (Ok (Some step)))) here.1 answers in
         at text here.0 answer.0 here.2 answer.2 error stops
 
 -- a text without a fault is that of its lines, with the rest behind them
-from-text : (r : PackageList) (bases : Bases) (limits : Limits) (text : List ℕ) (h : Header) (before : List CertRecord) (rest : List ℕ)
-    → AreFaultless (subject_of r bases) limits text h before rest
-    → AreFaultless (subject_of r bases) limits (certificate_text h before ++ rest) h before rest
-from-text r bases limits text h before rest faultless =
-    subst (λ bytes. AreFaultless (subject_of r bases) limits bytes h before rest) faultless.reads.text_is faultless
+from-text : (r : PackageList) (basis : Basis) (limits : Limits) (text : List ℕ) (h : Header) (before : List CertRecord) (rest : List ℕ)
+    → AreFaultless (matter_of r basis) limits text h before rest
+    → AreFaultless (matter_of r basis) limits (certificate_text h before ++ rest) h before rest
+from-text r basis limits text h before rest faultless =
+    subst (λ bytes. AreFaultless (matter_of r basis) limits bytes h before rest) faultless.reads.text_is faultless
 
 -- ---- a line that is taken
 
@@ -181,16 +180,14 @@ pub next-checked : FormsAreClear → (r : PackageList) (limits : Limits) (told :
     → t.log.line_limit ≡ s.log.line_limit → t.log.line_literal_limit ≡ s.log.line_literal_limit
     → IsChecked r limits told h next after t
 next-checked clear r limits told h reader next left after s t old new x bytes step answers because some gives takes line_limit line_literal_limit = record {
-  bases = x.bases;
-  are_bases = x.are_bases;
+  basis = x.basis;
+  is_basis = x.is_basis;
   inputs_mean = x.inputs_mean;
   before = x.before ++ step ∷ [];
-  at = becomes-at (matter_for r x.bases h) h x.before s t x.at step takes.none takes.becomes;
-  right = right-push (matter_for r x.bases h) h x.before step x.right faultless;
+  at = becomes-at (matter_of r x.basis) h x.before s t x.at step takes.none takes.becomes;
+  right = right-push (matter_of r x.basis) h x.before step x.right faultless;
   forms = forms-push x.before step x.forms because.0;
-  strong = x.strong;
-  clauses = x.clauses;
-  literals = x.literals;
+  kept = x.kept;
   line_limit = line_limit ∙ x.line_limit;
   line_literal_limit = line_literal_limit ∙ x.line_literal_limit;
   within = takes.within;
@@ -201,21 +198,21 @@ next-checked clear r limits told h reader next left after s t old new x bytes st
   text = by told x.text;
 }
   where
-    faultless : IsFaultless (matter_for r x.bases h) h x.before step
-    faultless = told-verdict (matter_for r x.bases h) h x.before s x.strong x.at x.right x.forms x.inputs_mean step because.0.rules None takes.none
+    faultless : IsFaultless (matter_of r x.basis) h x.before step
+    faultless = told-verdict (matter_of r x.basis) h x.before s x.at x.right x.forms x.inputs_mean step because.0.rules None takes.none
 
-    by : (o : Option (List ℕ)) → TextAt (subject_of r x.bases) limits h x.before o left → TextAt (subject_of r x.bases) limits h (x.before ++ step ∷ []) o after
+    by : (o : Option (List ℕ)) → TextAt (matter_of r x.basis) limits h x.before o left → TextAt (matter_of r x.basis) limits h (x.before ++ step ∷ []) o after
     by None here = λ more.
         let rest : List ℕ = record_text step ++ line_feed ∷ more in
         let text : List ℕ = certificate_text h x.before ++ rest in
         let next_is = some more in
         let one = line-next r limits told h reader left s x bytes text rest more (here rest) step next_is in
-        from-text r x.bases limits text h (x.before ++ step ∷ []) more
-        (step-reached clear r x.bases limits text h x.before rest next_is.line more step one faultless)
+        from-text r x.basis limits text h (x.before ++ step ∷ []) more
+        (step-reached clear r x.basis limits text h x.before rest next_is.line more step one faultless)
     by (Some text) here =
         let answer = subst (λ l. WhereTold l after (λ rest more. RecordAnswers reader rest more (Ok (Some step)))) here.1 answers in
         let one = line-next r limits told h reader left s x bytes text here.0 answer.0 here.2 step answer.2 in
-        (answer.0, answer.1, step-reached clear r x.bases limits text h x.before here.0 answer.2.line answer.0 step one faultless)
+        (answer.0, answer.1, step-reached clear r x.basis limits text h x.before here.0 answer.2.line answer.0 step one faultless)
 
 -- a line that is taken leaves the limits of derived lines
 pub limits-stay : (s t : StateView) (step : CertRecord) → Tells s step None → Becomes s step t → (t.log.line_limit ≡ s.log.line_limit)
@@ -224,13 +221,15 @@ limits-stay s t (lines.Question literals) told is = (ap (λ (v : StateView). v.l
 limits-stay s t (lines.Derived literals hints) told is = (ap (λ (v : StateView). v.log.line_limit) is, ap (λ (v : StateView). v.log.line_literal_limit) is)
 limits-stay s t (lines.Refuted hints) told is = (ap (λ (v : StateView). v.log.line_limit) is.rest, ap (λ (v : StateView). v.log.line_literal_limit) is.rest)
 limits-stay s t lines.Undecided told is = (ap (λ (v : StateView). v.log.line_limit) is.rest, ap (λ (v : StateView). v.log.line_literal_limit) is.rest)
-limits-stay s t (lines.Installation variables) told is = (ap (λ (v : StateView). v.log.line_limit) is, ap (λ (v : StateView). v.log.line_literal_limit) is)
+limits-stay s t (lines.Installation variables) told is =
+    (ap (λ (v : StateView). v.log.line_limit) is.rest, ap (λ (v : StateView). v.log.line_literal_limit) is.rest)
 limits-stay s t (lines.NotInstallable p) told is = (ap (λ (v : StateView). v.log.line_limit) is, ap (λ (v : StateView). v.log.line_literal_limit) is)
 limits-stay s t (lines.Unknown p) told is = (ap (λ (v : StateView). v.log.line_limit) is, ap (λ (v : StateView). v.log.line_literal_limit) is)
 limits-stay s t (lines.Strong p named on undecided) told is = (ap (λ (v : StateView). v.log.line_limit) is, ap (λ (v : StateView). v.log.line_literal_limit) is)
-limits-stay s t (lines.Outdated p) told is = absurd (false≢true told.1)
-limits-stay s t (lines.Alive p i) told is = absurd (false≢true told.1)
-limits-stay s t (lines.Challenged p named by undecided) told is = absurd (false≢true told.1)
+limits-stay s t (lines.Outdated p) told is = (ap (λ (v : StateView). v.log.line_limit) is, ap (λ (v : StateView). v.log.line_literal_limit) is)
+limits-stay s t (lines.Alive p i) told is = (ap (λ (v : StateView). v.log.line_limit) is, ap (λ (v : StateView). v.log.line_literal_limit) is)
+limits-stay s t (lines.Challenged p named by undecided) told is =
+    (ap (λ (v : StateView). v.log.line_limit) is, ap (λ (v : StateView). v.log.line_literal_limit) is)
 limits-stay s t lines.End told is = (ap (λ (v : StateView). v.log.line_limit) is, ap (λ (v : StateView). v.log.line_literal_limit) is)
 
 -- the variables stay
@@ -239,13 +238,13 @@ variables-stay s t (lines.Question literals) told is = ap (λ (v : StateView). v
 variables-stay s t (lines.Derived literals hints) told is = ap (λ (v : StateView). v.log.variables) is
 variables-stay s t (lines.Refuted hints) told is = ap (λ (v : StateView). v.log.variables) is.rest
 variables-stay s t lines.Undecided told is = ap (λ (v : StateView). v.log.variables) is.rest
-variables-stay s t (lines.Installation variables) told is = ap (λ (v : StateView). v.log.variables) is
+variables-stay s t (lines.Installation variables) told is = ap (λ (v : StateView). v.log.variables) is.rest
 variables-stay s t (lines.NotInstallable p) told is = ap (λ (v : StateView). v.log.variables) is
 variables-stay s t (lines.Unknown p) told is = ap (λ (v : StateView). v.log.variables) is
 variables-stay s t (lines.Strong p named on undecided) told is = ap (λ (v : StateView). v.log.variables) is
-variables-stay s t (lines.Outdated p) told is = absurd (false≢true told.1)
-variables-stay s t (lines.Alive p i) told is = absurd (false≢true told.1)
-variables-stay s t (lines.Challenged p named by undecided) told is = absurd (false≢true told.1)
+variables-stay s t (lines.Outdated p) told is = ap (λ (v : StateView). v.log.variables) is
+variables-stay s t (lines.Alive p i) told is = ap (λ (v : StateView). v.log.variables) is
+variables-stay s t (lines.Challenged p named by undecided) told is = ap (λ (v : StateView). v.log.variables) is
 variables-stay s t lines.End told is = ap (λ (v : StateView). v.log.variables) is
 
 -- ---- the first line
@@ -254,12 +253,12 @@ variables-stay s t lines.End told is = ap (λ (v : StateView). v.log.variables) 
 abbrev pub new_reader : Limits → ReaderView
 new_reader limits = record { limits = limits; held = []; given = 0; lines = 0; ended = false }
 
-pub header-stops : BasesAreThere → (r : PackageList) → IsInOrder r.packages
-    → (limits : Limits) (reader next : ReaderView) (told left after : Option (List ℕ)) (old new : DeskView) → reader ≡ new_reader limits → left ≡ told
+pub header-stops : (r : PackageList) (limits : Limits) (reader next : ReaderView) (told left after : Option (List ℕ)) (old new : DeskView)
+    → reader ≡ new_reader limits → left ≡ told
     → {X : Type 0} (header : X → Header) (claims : X → List Claim) (error : ReadCertError)
     → WhereTold left after (λ rest more. HeaderAnswers reader rest more (Err error)) → HeaderCause reader next old new (Err error)
     → OfText told (λ text. TextAnswers header claims r limits text (Err error))
-header-stops there r ordered limits reader next told left after old new is same {X} header claims error answers cause = by told same
+header-stops r limits reader next told left after old new is same {X} header claims error answers cause = by told same
   where
     whole : (text : List ℕ) → PassesWhole reader.limits reader.given text → PassesWhole limits 0 text
     whole text passes = subst (λ v. PassesWhole v.limits v.given text) is passes
@@ -268,7 +267,7 @@ header-stops there r ordered limits reader next told left after old new is same 
         → TextAnswers header claims r limits text (Err e)
     at text more (Bad fault) answer because = inl (
       omega (arith, because.0, ap (λ (v : ReaderView). v.lines) is),
-      header-refused there r ordered limits reader (ap (λ (v : ReaderView). v.limits) is) (ap (λ (v : ReaderView). v.given) is) text fault.cause answer.0,
+      header-refused r limits reader (ap (λ (v : ReaderView). v.limits) is) (ap (λ (v : ReaderView). v.given) is) text fault.cause answer.0,
     )
     at text more (Work ReadFault) answer because = tt
     at text more (Work NoMemory) answer because = tt
@@ -281,27 +280,59 @@ header-stops there r ordered limits reader next told left after old new is same 
     by (Some text) e = let answer = subst (λ l. WhereTold l after (λ rest more. HeaderAnswers reader rest more (Err error))) e answers in
         at text answer.0 error answer.2 cause
 
-pub start-stops : FormsAreClear → BasesAreThere → BasesAreOne → (r : PackageList) → IsInOrder r.packages
-    → (limits : Limits) (reader : ReaderView) (told left after : Option (List ℕ)) (h : Header) → reader ≡ new_reader limits → left ≡ told
+-- no other number than these is passed first
+no-present : (r : PackageList) (essential : Bool) (limits : Limits) (what : What) → what ≢ Variables → what ≢ Clauses → what ≢ Literals
+    → ¬ PassesPresent r essential limits what
+no-present r essential limits Clauses one two three passes = two refl
+no-present r essential limits Literals one two three passes = three refl
+no-present r essential limits what one two three passes = passes
+
+no-later : (r : PackageList) (essential : Bool) (limits : Limits) (what : What) → what ≢ Variables → what ≢ Clauses → what ≢ Literals
+    → ¬ PassesLater r essential limits what
+no-later r essential limits Variables one two three passes = one refl
+no-later r essential limits Clauses one two three passes = two refl
+no-later r essential limits Literals one two three passes = three refl
+no-later r essential limits what one two three passes = passes
+
+pub no-first : (r : PackageList) (kind : CertKind) (essential : Bool) (limits : Limits) (what : What) → what ≢ Variables → what ≢ Clauses → what ≢ Literals
+    → ¬ PassesFirst r kind essential limits what
+no-first r kinds.Strong = no-present r
+no-first r kinds.Outdated = no-later r
+no-first r kinds.Challenged = no-later r
+
+pub start-stops : FormsAreClear → (r : PackageList) (limits : Limits) (reader : ReaderView) (told left after : Option (List ℕ)) (h : Header)
+    → reader ≡ new_reader limits → left ≡ told
     → {X : Type 0} (header : X → Header) (claims : X → List Claim) (error : ReadCertError)
     → WhereTold left after (λ rest more. HeaderAnswers reader rest more (Ok h)) → StartAnswers r limits h (Err error)
     → OfText told (λ text. TextAnswers header claims r limits text (Err error))
-start-stops clear there one r ordered limits reader told left after h is same {X} header claims error answers stops = by told same
+start-stops clear r limits reader told left after h is same {X} header claims error answers stops = by told same
   where
     keeps : (text more : List ℕ) → IsHeaderNext reader text more h → KeepsLimits limits 0 text
     keeps text more next = subst (λ v. KeepsLimits v.limits v.given text) is next.limits
+
+    large : (text more : List ℕ) (next : IsHeaderNext reader text more h) (what : What) → PassesFirst r h.kind h.essential limits what
+        → HasLargeInputs r limits text what
+    large text more next what passes =
+        record { keeps = keeps text more next; h = h; line = next.line; more = more; begins = next.begins; form = next.form; passes = passes }
+
+    other : (what : What) → PassesFirst r h.kind h.essential limits what → what ≢ Variables → what ≢ Clauses → what ≢ Literals → ⊥
+    other what passes one two three = no-first r h.kind h.essential limits what one two three passes
 
     at : (text more : List ℕ) → IsHeaderNext reader text more h → (e : ReadCertError) → StartAnswers r limits h (Err e)
         → TextAnswers header claims r limits text (Err e)
     at text more next (Bad fault) stop = inl (
       stop.0,
-      subst (StopsFirst r limits text) (sym stop.1) (header-unfit clear there one r ordered limits text next.line more h (keeps text more next) next.begins
-          next.form stop.2),
+      subst (StopsFirst r limits text) (sym stop.1) (header-unfit clear r limits text next.line more h (keeps text more next) next.begins next.form stop.2),
     )
-    at text more next (Work (TooLarge Clauses)) stop = large-inputs r limits text next.line more h (keeps text more next) next.begins next.form stop.0
-        (λ essential. PassesClauses r essential limits.clauses limits.literals) stop.1
-    at text more next (Work (TooLarge Literals)) stop = large-inputs r limits text next.line more h (keeps text more next) next.begins next.form stop.0
-        (λ essential. PassesLiterals r essential limits.clauses limits.literals) stop.1
+    at text more next (Work (TooLarge Variables)) stop = large text more next Variables stop
+    at text more next (Work (TooLarge Clauses)) stop = large text more next Clauses stop
+    at text more next (Work (TooLarge Literals)) stop = large text more next Literals stop
+    at text more next (Work (TooLarge Bytes)) stop = absurd (other Bytes stop (λ e. cc) (λ e. cc) (λ e. cc))
+    at text more next (Work (TooLarge Stanzas)) stop = absurd (other Stanzas stop (λ e. cc) (λ e. cc) (λ e. cc))
+    at text more next (Work (TooLarge Lines)) stop = absurd (other Lines stop (λ e. cc) (λ e. cc) (λ e. cc))
+    at text more next (Work (TooLarge LineLiterals)) stop = absurd (other LineLiterals stop (λ e. cc) (λ e. cc) (λ e. cc))
+    at text more next (Work (TooLarge RecordLine)) stop = absurd (other RecordLine stop (λ e. cc) (λ e. cc) (λ e. cc))
+    at text more next (Work (TooLarge Certificate)) stop = absurd (other Certificate stop (λ e. cc) (λ e. cc) (λ e. cc))
     at text more next (Work NoMemory) stop = tt
     at text more next (Work error) stop = absurd stop
 
@@ -310,28 +341,23 @@ start-stops clear there one r ordered limits reader told left after h is same {X
     by (Some text) e = let answer = subst (λ l. WhereTold l after (λ rest more. HeaderAnswers reader rest more (Ok h))) e answers in
         at text answer.0 answer.2 error stops
 
-pub starts-checked : FormsAreClear → (there : BasesAreThere) → BasesAreOne → ModelsAreHealthy → (r : PackageList) → IsInOrder r.packages
+pub starts-checked : FormsAreClear → ModelsAreHealthy → (r : PackageList) → IsInOrder r.packages
     → (limits : Limits) (reader next : ReaderView) (told left after : Option (List ℕ)) (h : Header) (s : StateView)
     → reader ≡ new_reader limits → left ≡ told → WhereTold left after (λ rest more. HeaderAnswers reader rest more (Ok h)) → HeaderOfSome reader (Ok h)
     → GivesHeader reader next (Ok h) → IsStart r limits h s → IsChecked r limits told h next after s
-starts-checked clear there one models r ordered limits reader next told left after h s is same answers some gives start = record {
-  bases = bases;
-  are_bases = are;
+starts-checked clear models r ordered limits reader next told left after h s is same answers some gives start = record {
+  basis = start.basis;
+  is_basis = start.is_basis;
   inputs_mean = record {
-    over = subst (λ cs. All (IsClauseOver (matter_for r bases h).variables) cs) (sym clauses)
-        (subst (λ n. All (IsClauseOver n) s.log.clauses) (start.variables ∙ sym variables) start.within.over_variables);
-    models = models r kinds.Strong h.essential (bases h.kind h.essential) ordered basis;
+    over = subst (λ cs. All (IsClauseOver matter.variables) cs) start.clauses
+        (subst (λ n. All (IsClauseOver n) s.log.clauses) start.variables start.within.over_variables);
+    models = models r h.kind h.essential start.basis ordered start.is_basis;
   };
   before = [];
-  at = starts-at (matter_for r bases h) h s start.limit (start.packages ∙ sym packages) (sym clauses) (start.inputs ∙ sym size) (start.variables
-      ∙ sym variables) futures
-      (λ strong members. today-future today.inputs (bases h.kind h.essential) today.is members) (λ strong. variables ∙ sym packages)
-      start.window start.question start.next start.group_is start.claims;
-  right = right-none (matter_for r bases h) h;
+  at = starts-at r limits h s start;
+  right = right-none matter h;
   forms = All-nil (λ step. HasForm (record_text step) step);
-  strong = start.strong;
-  clauses = omega (arith, start.clauses_kept, size);
-  literals = omega (arith, start.literals_kept, ap literal_count clauses);
+  kept = start.kept;
   line_limit = start.line_limit;
   line_literal_limit = start.line_literal_limit;
   within = start.within;
@@ -342,59 +368,15 @@ starts-checked clear there one models r ordered limits reader next told left aft
   text = by told same;
 }
   where
-    bases : Bases
-    bases = (there r ordered).0
+    matter : Matter
+    matter = matter_of r start.basis
 
-    are : AreBases r bases
-    are = (there r ordered).1
+    at : (text more : List ℕ) → IsHeaderNext reader text more h → AreFaultless matter limits text h [] more
+    at text more next_is = starts-faultless clear r start.basis limits text next_is.line more h
+        (subst (λ v. KeepsLimits v.limits v.given text) is next_is.limits) next_is.begins next_is.form start.fits
 
-    basis : IsBasisOf r kinds.Strong h.essential (bases h.kind h.essential)
-    basis = are h.kind h.essential
-
-    today : IsToday r h.essential (bases h.kind h.essential)
-    today = today-of r h.essential (bases h.kind h.essential) basis
-
-    packages : (matter_for r bases h).packages ≡ length r.packages
-    packages = ap (λ (x : Basis). (matter_of r h.essential x).packages) today.is
-
-    variables : (matter_for r bases h).variables ≡ length r.packages
-    variables = ap (λ (x : Basis). (matter_of r h.essential x).variables) today.is
-
-    clauses : (matter_for r bases h).inputs ≡ s.log.clauses
-    clauses = ap (λ (x : Basis). (matter_of r h.essential x).inputs)
-        (one r kinds.Strong h.essential (Today s.log.clauses) (bases h.kind h.essential) start.are_clauses basis)
-
-    size : length (matter_for r bases h).inputs ≡ length s.log.clauses
-    size = ap (λ (cs : List (List Literal)). length cs) clauses
-
-    today-future : (inputs : List (List Literal)) (x : Basis) → x ≡ Today inputs → (members : List ℕ) → (matter_of r h.essential x).IsFuture members
-    today-future inputs x is members = subst (λ y. (matter_of r h.essential y).IsFuture members) (sym is) tt
-
-    -- no clause says what a future is
-    futures : AreFuturesBy (matter_for r bases h) s.future
-    futures members = (
-      (λ future. (
-        subst (λ n. IsModel (is_among members) (take n (matter_for r bases h).inputs)) (sym start.no_front) (All-nil (MakesTrue (is_among members))),
-        subst (IsModel (is_among members)) (sym (drop_of_length-le (matter_for r bases h).inputs (omega (arith, start.no_back, size))))
-            (All-nil (MakesTrue (is_among members))),
-      )),
-      λ met. today-future today.inputs (bases h.kind h.essential) today.is members,
-    )
-
-    fits : Fits (subject_of r bases) h
-    fits = record {
-      taken = start.strong;
-      packages = start.numbers.packages ∙ sym packages;
-      variables = start.numbers.variables ∙ sym variables;
-      clauses = start.numbers.clause_count ∙ sym size;
-    }
-
-    at : (text more : List ℕ) → IsHeaderNext reader text more h → AreFaultless (subject_of r bases) limits text h [] more
-    at text more next_is = starts-faultless clear r bases limits text next_is.line more h
-        (subst (λ v. KeepsLimits v.limits v.given text) is next_is.limits) next_is.begins next_is.form fits
-
-    by : (t : Option (List ℕ)) → left ≡ t → TextAt (subject_of r bases) limits h [] t after
-    by None e = λ more. from-text r bases limits (header_text h ++ line_feed ∷ more) h [] more
+    by : (t : Option (List ℕ)) → left ≡ t → TextAt matter limits h [] t after
+    by None e = λ more. from-text r start.basis limits (header_text h ++ line_feed ∷ more) h [] more
         (at (header_text h ++ line_feed ∷ more) more (some more))
     by (Some text) e =
         let answer = subst (λ l. WhereTold l after (λ rest more. HeaderAnswers reader rest more (Ok h))) e answers in
@@ -434,8 +416,15 @@ pub start-cause : (r : PackageList) (limits : Limits) (h : Header) (old new : De
     → TextCause old new error
 start-cause r limits h old new (Bad fault) stops = tt
 start-cause r limits h old new (Work NoMemory) stops = tt
+start-cause r limits h old new (Work (TooLarge Variables)) stops = tt
 start-cause r limits h old new (Work (TooLarge Clauses)) stops = tt
 start-cause r limits h old new (Work (TooLarge Literals)) stops = tt
+start-cause r limits h old new (Work (TooLarge Lines)) stops = tt
+start-cause r limits h old new (Work (TooLarge LineLiterals)) stops = tt
+start-cause r limits h old new (Work (TooLarge Certificate)) stops = tt
+start-cause r limits h old new (Work (TooLarge Bytes)) stops = no-first r h.kind h.essential limits Bytes (λ e. cc) (λ e. cc) (λ e. cc) stops
+start-cause r limits h old new (Work (TooLarge Stanzas)) stops = no-first r h.kind h.essential limits Stanzas (λ e. cc) (λ e. cc) (λ e. cc) stops
+start-cause r limits h old new (Work (TooLarge RecordLine)) stops = no-first r h.kind h.essential limits RecordLine (λ e. cc) (λ e. cc) (λ e. cc) stops
 start-cause r limits h old new (Work error) stops = absurd stops
 
 pub line-cause : (s : StateView) (step : CertRecord) (line : ℕ) (old new : DeskView) (error : ReadCertError) → LineStops s step line error
@@ -446,6 +435,7 @@ line-cause s step line old new (Work (TooLarge Lines)) stops = tt
 line-cause s step line old new (Work (TooLarge LineLiterals)) stops = tt
 line-cause s step line old new (Work ReadFault) stops = absurd (no-other s step ReadFault stops.1 (λ e. cc) (λ e. cc) (λ e. cc))
 line-cause s step line old new (Work WriteFault) stops = no-other s step WriteFault stops.1 (λ e. cc) (λ e. cc) (λ e. cc)
+line-cause s step line old new (Work (TooLarge Variables)) stops = tt
 line-cause s step line old new (Work (TooLarge what)) stops = absurd (no-other s step (TooLarge what) stops.1 (λ e. cc) (λ e. cc) (λ e. cc))
 
 -- what the exit of a `?` returns

@@ -3,7 +3,7 @@ use Rattle.std.proofs.Common.{◌≡◌, ℕ, List, [], Option, Some, None, Ok, 
 use Rattle.dist_outside.specs.DeskView.{DeskView, OnlyReads}
 use Rattle.dist_outside.specs.Reading.{bytes_left}
 use Rattle.dist_outside.specs.declared.limits.Limits.{Limits}
-use Rattle.dist_outside.specs.declared.trouble.What.TheVariants.{Clauses, Literals, Lines, LineLiterals, Certificate}
+use Rattle.dist_outside.specs.declared.trouble.What.TheVariants.{Variables, Clauses, Literals, Lines, LineLiterals, Certificate}
 use Rattle.dist_outside.specs.declared.trouble.WorkError.TheVariants.{ReadFault, WriteFault, TooLarge, NoMemory}
 use Rattle.dist_repo.specs.PackageList.{PackageList}
 use Rattle.dist_cert.specs.declared.faults.ReadCertError.{ReadCertError}
@@ -12,7 +12,13 @@ use Rattle.dist_cert.specs.declared.records.Claim.{Claim}
 use Rattle.dist_cert.specs.declared.records.Header.{Header}
 use Rattle.dist_cert.specs.Reading.{ReaderView, in_front, text_left}
 use Rattle.dist_check.specs.Checking.{TextAnswers, TextCause, OfText}
+use Rattle.dist_subject.specs.Basis.{IsAccepted}
 use Rattle.dist_subject.specs.Completed.{IsCompleted}
+use Rattle.dist_check.specs.Answers.{AcceptedMeans}
+use Rattle.dist_check.specs.Means.{Means}
+use Rattle.dist_check.specs.Start.{IsStart}
+use Rattle.dist_check_state.specs.State.{StateView}
+use Rattle.dist_repo.specs.Order.{IsInOrder}
 use Rattle.dist_check.proofs.CheckSteps.{new_reader, rose-from}
 
 -- nothing is held before the first line
@@ -33,6 +39,7 @@ stops-alike header claims to_header to_claims r limits (Some text) (Bad fault) s
 stops-alike header claims to_header to_claims r limits (Some text) (Work ReadFault) stops = tt
 stops-alike header claims to_header to_claims r limits (Some text) (Work NoMemory) stops = tt
 stops-alike header claims to_header to_claims r limits (Some text) (Work WriteFault) stops = stops
+stops-alike header claims to_header to_claims r limits (Some text) (Work (TooLarge Variables)) stops = stops
 stops-alike header claims to_header to_claims r limits (Some text) (Work (TooLarge Clauses)) stops = stops
 stops-alike header claims to_header to_claims r limits (Some text) (Work (TooLarge Literals)) stops = stops
 stops-alike header claims to_header to_claims r limits (Some text) (Work (TooLarge Lines)) stops = stops
@@ -63,3 +70,15 @@ later-cause entry old new (Work ReadFault) first second cause =
 later-cause entry old new (Work WriteFault) first second cause = cause
 later-cause entry old new (Work NoMemory) first second cause = tt
 later-cause entry old new (Work (TooLarge what)) first second cause = cause
+
+-- what an accepted text proves, by the law of accepted texts
+pub accepted-means : ((r : PackageList) (limits : Limits) (text : List ℕ) (h : Header) (made : List Claim) → IsInOrder r.packages
+    → IsAccepted r limits text h made → Means h.kind h.essential r made) → (r : PackageList) (limits : Limits) (text : List ℕ) (h : Header)
+    (made : List Claim) (s : StateView) → IsInOrder r.packages → IsStart r limits h s → IsCompleted r limits text h made → AcceptedMeans r h made
+accepted-means hold r limits text h made s ordered start done = record {
+  form = done.accepted.faultless.reads.header;
+  basis = start.basis;
+  is_basis = start.is_basis;
+  fits = start.fits;
+  means = hold r limits text h made ordered (done.basis, done.is_basis, (done.steps, done.accepted, done.claims));
+}

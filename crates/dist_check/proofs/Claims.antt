@@ -27,13 +27,14 @@ use Rattle.dist_cert.specs.ClaimRules.{yes, no, IsNamed, IsInEach, HoldsStrong, 
 use Rattle.dist_cert.specs.Accepted.{from_zero, claim_in}
 use Rattle.dist_subject.specs.Present.{present_matter, packages_of}
 use Rattle.dist_subject.specs.Claims.{NamesOthers}
-use Rattle.dist_check.specs.Means.{Says}
+use Rattle.dist_check.specs.Means.{SaysStrong}
 use Rattle.dist_check.proofs.Told.{IsTold, stable, most-told, less-told, bool-told, number-told}
 use Rattle.dist_check.proofs.Places.{contains-map, image-of}
 use Rattle.dist_check.specs.CheckedPrivate.{AreRight, HaveForms}
 use Rattle.dist_check.proofs.LineLemmas.{IsSoundRule, refuted-true}
 use Rattle.dist_check.proofs.GroupLemmas.{group-behind, installation-healthy, recent-there}
 use Rattle.dist_subject.specs.MemberLaws.{member-from, member-at, package-there, variable-there}
+use Rattle.dist_check.proofs.Counts.{next-number}
 use Rattle.dist_check.proofs.MemberLemmas.{packages-told}
 
 -- Records without faults over a repository, and the laws that tell what they mean.
@@ -116,7 +117,7 @@ always-there r inputs h steps x before step after k j p q is twice at_k at_j mem
 
 -- ---- the rules of a strong claim, one by one
 
-named-told : (before : List CertRecord) (p number : ℕ) → IsTold (IsNamed before p number)
+pub named-told : (before : List CertRecord) (p number : ℕ) → IsTold (IsNamed before p number)
 named-told before p number = elim (most-told 1 number) [
   | inr low ↦ inr (λ h. low h.0.0)
   | inl first ↦ elim (most-told number (length (installations before))) [
@@ -200,7 +201,7 @@ strong-says : (r : PackageList) (inputs : List (List Literal)) (h : Header) (ste
     → (before after : List CertRecord) (k : ℕ) (p : Package) (named on undecided : List ℕ)
     → steps ≡ before ++ lines.Strong (k + 1) named on undecided ∷ after → slice_get r.packages k ≡ Some p → KeepsRules (lines.Strong (k + 1) named on undecided)
     → ¬ (¬ HoldsStrong (present_matter r h.essential inputs) before (k + 1) named on undecided)
-    → Says h.essential r k p (claims.Strong (from_zero on) (from_zero undecided))
+    → SaysStrong h.essential r k p (claims.Strong (from_zero on) (from_zero undecided))
 strong-says r inputs h steps x before after k p named on undecided is at rules twice = (there, record { listed = listed; unlisted = unlisted })
   where
     step : CertRecord
@@ -247,16 +248,6 @@ strong-names before k h r inputs named on undecided rules twice =
 
 -- ---- any claim
 
-pub next-number : (count packages p : ℕ) → ¬ Any (λ q. (q ≢ count + 1) ⊎ (packages < q)) (p ∷ []) → (p ≡ count + 1) × (p ≤ packages)
-next-number count packages p none =
-    let Wrong : ℕ → Type 0 = λ q. (q ≢ count + 1) ⊎ (packages < q) in (
-      stable (cases_eq p (count + 1)) (λ other. none (any-head Wrong p [] (inl other))),
-      stable (most-told p packages) (λ high. none (any-head Wrong p [] (inr (omega (arith, not-most p packages high))))),
-    )
-  where
-    not-most : (a b : ℕ) → ¬ (a ≤ b) → b < a
-    not-most a b high = stable (less-told b a) (λ none. high (omega arith))
-
 holds-twice : (r : PackageList) (inputs : List (List Literal)) (h : Header) (steps : List CertRecord) → AreProven r inputs h steps
     → (before : List CertRecord) (step : CertRecord) (after : List CertRecord)
     → steps ≡ before ++ step ∷ after → is_claim step ≡ true → ¬ (¬ HoldsClaim (present_matter r h.essential inputs) kinds.Strong before step)
@@ -271,7 +262,7 @@ holds-twice r inputs h steps x before step after is claim none =
 pub record IsClaimAt (r : PackageList) (h : Header) (number : ℕ) (claim : Claim) : Type 0 where
   pub within : number < length r.packages
   pub names : NamesOthers (length r.packages) number claim
-  pub says : (p : Package) → slice_get r.packages number ≡ Some p → Says h.essential r number p claim
+  pub says : (p : Package) → slice_get r.packages number ≡ Some p → SaysStrong h.essential r number p claim
 
 pub claim-says : (r : PackageList) (inputs : List (List Literal)) (h : Header) (steps : List CertRecord) → AreProven r inputs h steps
     → (before : List CertRecord) (step : CertRecord) (after : List CertRecord) (claim : Claim)

@@ -1,144 +1,133 @@
 -- A text has one answer.
-use Rattle.std.proofs.Common.{◌≡◌, ◌⊎◌, ⊎_elim, inl, inr, ℕ, Bool, List, [], Ok, Err, refl, sym, subst}
+use Rattle.std.proofs.Common.{◌≡◌, ◌⊎◌, ⊎_elim, inl, inr, ℕ, List, [], Ok, Err, refl, sym, subst}
 use Rattle.dist_outside.specs.declared.limits.Limits.{Limits}
-use Rattle.dist_outside.specs.declared.trouble.What.TheVariants.{Clauses, Literals, Lines, LineLiterals, Certificate}
+use Rattle.dist_outside.specs.declared.trouble.What.TheVariants.{Variables, Clauses, Literals, Lines, LineLiterals, Certificate}
 use Rattle.dist_outside.specs.declared.trouble.WorkError.TheVariants.{ReadFault, NoMemory, TooLarge}
-use Rattle.dist_clause.specs.Formula.{Literal}
 use Rattle.dist_repo.specs.PackageList.{PackageList}
 use Rattle.dist_cert.specs.declared.records.CertRecord.{CertRecord}
 use Rattle.dist_cert.specs.declared.records.Header.{Header}
-use Rattle.dist_cert.specs.ClearFormsLaws.{FormsAreClear}
 use Rattle.dist_check.specs.Answers.{Answers, IsOfText}
+use Rattle.dist_check.specs.Checking.{IsReached}
 use Rattle.dist_check.specs.declared.verdict.Verdict.TheVariants.{Accepted, Refused}
-use Rattle.dist_subject.specs.Basis.{AreBases, Bases, matter_for, subject_of}
-use Rattle.dist_check.proofs.CheckLemmas.{BasesAreOne}
-use Rattle.dist_check.proofs.FirstStops.{FirstReason, ClausesGoOn, known, one-first-stop, first-alone}
-use Rattle.dist_check.proofs.OneVerdict.{same-bases}
-use Rattle.dist_check.proofs.Stops.{Answer, Reason, IsAtPoint, one-later}
+use Rattle.dist_subject.specs.Basis.{Basis, matter_of}
+use Rattle.dist_check.proofs.FirstStops.{AreKnown, FirstReason, one-first-stop, first-alone}
+use Rattle.dist_check.proofs.Judged.{is-judged, reads-header, same-judged}
+use Rattle.dist_check.proofs.Stops.{Answer, Reason, one-later}
 
--- behind some records
-abbrev StopsBehind : PackageList → Bases → Limits → List ℕ → Answer → Type 0
-StopsBehind r bases limits text one = (h : Header) × (before : List CertRecord) × (rest : List ℕ)
-    × IsAtPoint (subject_of r bases) limits text h before rest
-    × Reason (subject_of r bases) limits h before rest one
+-- Where a text is read up to behind some records, and there stops with an answer.
+record StopsBehind (r : PackageList) (limits : Limits) (text : List ℕ) (one : Answer) : Type 0 where
+  basis : Basis
+  h : Header
+  before : List CertRecord
+  rest : List ℕ
+  reached : IsReached r basis limits text h before rest
+  reason : Reason (matter_of r basis) limits h before rest one
 
-abbrev StopsAt : PackageList → Bases → Limits → List ℕ → Answer → Type 0
-StopsAt r bases limits text one = FirstReason r bases limits text one ⊎ StopsBehind r bases limits text one
-
--- the input clauses that an answer speaks of, and where it stops
+-- where an answer stops
 abbrev Stop : PackageList → Limits → List ℕ → Answer → Type 0
-Stop r limits text one = (bases : Bases) × AreBases r bases × StopsAt r bases limits text one
+Stop r limits text one = FirstReason r limits text one ⊎ StopsBehind r limits text one
 
-stop-of : (r : PackageList) (bases : Bases) (limits : Limits) (text : List ℕ) (one : Answer) → AreBases r bases
-    → Answers r limits text one → IsOfText one → Stop r limits text one
-stop-of r bases limits text (Ok (Accepted h made)) are x of = (
-  x.bases,
-  x.are_bases,
-  inr (
-    h,
-    x.steps,
-    [],
-    record { faultless = x.accepted.faultless; numbers = x.numbers },
-    record { header = refl; claims = x.claims; nothing = refl; ends = x.accepted.ends },
-  ),
-)
-stop-of r bases limits text (Ok (Refused fault)) are x of = ⊎_elim
-    (λ first. (first.1.bases, first.1.are_bases, inl (record { line = first.0; bytes = first.1.bytes; first = first.1.first; within = first.1.within })))
-    (λ later. (
-      later.bases,
-      later.reached.are_bases,
-      inr (
-        later.h,
-        later.before,
-        later.rest,
-        record { faultless = later.reached.faultless; numbers = later.reached.numbers },
-        record { bytes = later.bytes; line = later.line; first = later.first },
-      ),
-    ))
+stop-of : (r : PackageList) (limits : Limits) (text : List ℕ) (one : Answer) → Answers r limits text one → IsOfText one → Stop r limits text one
+stop-of r limits text (Ok (Accepted h made)) x of = inr (record {
+  basis = x.basis;
+  h = h;
+  before = x.steps;
+  rest = [];
+  reached = record { is_basis = x.is_basis; faultless = x.accepted.faultless; numbers = x.numbers };
+  reason = record { header = refl; claims = x.claims; nothing = refl; ends = x.accepted.ends };
+})
+stop-of r limits text (Ok (Refused fault)) x of = ⊎_elim
+    (λ first. inl (record {
+      basis = first.1.basis;
+      judged = first.1.judged;
+      line = first.0;
+      bytes = first.1.bytes;
+      first = first.1.first;
+      within = first.1.within;
+    }))
+    (λ later. inr (record {
+      basis = later.basis;
+      h = later.h;
+      before = later.before;
+      rest = later.rest;
+      reached = later.reached;
+      reason = record { bytes = later.bytes; line = later.line; first = later.first };
+    }))
     x
-stop-of r bases limits text (Err (TooLarge Clauses)) are x of = (bases, are, inl x)
-stop-of r bases limits text (Err (TooLarge Literals)) are x of = (bases, are, inl x)
-stop-of r bases limits text (Err (TooLarge Lines)) are x of = (
-  x.bases,
-  x.reached.are_bases,
-  inr (
-    x.h,
-    x.before,
-    x.rest,
-    record { faultless = x.reached.faultless; numbers = x.reached.numbers },
-    record {
-      keeps = x.keeps;
-      literals = x.literals;
-      hints = x.hints;
-      line = x.line;
-      more = x.more;
-      begins = x.begins;
-      form = x.form;
-      none = x.none;
-      passes = x.passes;
-    },
-  ),
-)
-stop-of r bases limits text (Err (TooLarge LineLiterals)) are x of = (
-  x.bases,
-  x.reached.are_bases,
-  inr (
-    x.h,
-    x.before,
-    x.rest,
-    record { faultless = x.reached.faultless; numbers = x.reached.numbers },
-    record {
-      keeps = x.keeps;
-      literals = x.literals;
-      hints = x.hints;
-      line = x.line;
-      more = x.more;
-      begins = x.begins;
-      form = x.form;
-      none = x.none;
-      passes = x.passes;
-    },
-  ),
-)
-stop-of r bases limits text (Err (TooLarge Certificate)) are x of = ⊎_elim
-    (λ first. (bases, are, inl first))
-    (λ later. (
-      later.bases,
-      later.reached.are_bases,
-      inr (
-        later.h,
-        later.before,
-        later.rest,
-        record { faultless = later.reached.faultless; numbers = later.reached.numbers },
-        later.passes,
-      ),
-    ))
+stop-of r limits text (Err (TooLarge Variables)) x of = inl x
+stop-of r limits text (Err (TooLarge Clauses)) x of = inl x
+stop-of r limits text (Err (TooLarge Literals)) x of = inl x
+stop-of r limits text (Err (TooLarge Lines)) x of = inr (record {
+  basis = x.basis;
+  h = x.h;
+  before = x.before;
+  rest = x.rest;
+  reached = x.reached;
+  reason = record {
+    keeps = x.keeps;
+    literals = x.literals;
+    hints = x.hints;
+    line = x.line;
+    more = x.more;
+    begins = x.begins;
+    form = x.form;
+    none = x.none;
+    passes = x.passes;
+  };
+})
+stop-of r limits text (Err (TooLarge LineLiterals)) x of = inr (record {
+  basis = x.basis;
+  h = x.h;
+  before = x.before;
+  rest = x.rest;
+  reached = x.reached;
+  reason = record {
+    keeps = x.keeps;
+    literals = x.literals;
+    hints = x.hints;
+    line = x.line;
+    more = x.more;
+    begins = x.begins;
+    form = x.form;
+    none = x.none;
+    passes = x.passes;
+  };
+})
+stop-of r limits text (Err (TooLarge Certificate)) x of = ⊎_elim inl
+    (λ later. inr (record {
+      basis = later.basis;
+      h = later.h;
+      before = later.before;
+      rest = later.rest;
+      reached = later.reached;
+      reason = later.passes;
+    }))
     x
-stop-of r bases limits text (Err ReadFault) are x of = absurd of
-stop-of r bases limits text (Err NoMemory) are x of = absurd of
-stop-of r bases limits text (Err (TooLarge what)) are x of = absurd x
-stop-of r bases limits text (Err error) are x of = absurd x
+stop-of r limits text (Err ReadFault) x of = absurd of
+stop-of r limits text (Err NoMemory) x of = absurd of
+stop-of r limits text (Err (TooLarge what)) x of = absurd x
+stop-of r limits text (Err error) x of = absurd x
 
-one-stop : FormsAreClear → ClausesGoOn → (r : PackageList) (bases : Bases) (limits : Limits) (text : List ℕ) (one other : Answer)
-    → AreBases r bases
-    → StopsAt r bases limits text one → StopsAt r bases limits text other → one ≡ other
-one-stop clear on r bases limits text one other are x y =
-    let told = known on r bases limits are in
-    ⊎_elim
-    (λ a. ⊎_elim
-    (λ b. one-first-stop clear r bases limits text told one other a b)
-    (λ b. absurd (first-alone clear r bases limits text b.0 b.1 b.2 told one a b.3))
-    y)
-    (λ a. ⊎_elim
-    (λ b. absurd (first-alone clear r bases limits text a.0 a.1 a.2 told other b a.3))
-    (λ b. one-later clear (subject_of r bases) limits text a.0 b.0 a.1 b.1 a.2 b.2 one other a.3 b.3 a.4 b.4)
-    y)
-    x
+both-behind : (r : PackageList) (limits : Limits) (text : List ℕ) (one other : Answer) → AreKnown r limits → StopsBehind r limits text one
+    → StopsBehind r limits text other → one ≡ other
+both-behind r limits text one other known a b =
+    let judged = is-judged known.clear r a.basis limits text a.h a.before a.rest a.reached.faultless a.reached.is_basis in
+    let also = is-judged known.clear r b.basis limits text b.h b.before b.rest b.reached.faultless b.reached.is_basis in
+    let header = reads-header known.clear r a.basis limits text a.h a.before a.rest a.reached.faultless in
+    let same : b.basis ≡ a.basis = same-judged known.same r limits text a.basis b.basis header judged also in
+    one-later known.clear r a.basis limits text a.h b.h a.before b.before a.rest b.rest one other a.reached
+    (subst (λ x. IsReached r x limits text b.h b.before b.rest) same b.reached) a.reason
+    (subst (λ x. Reason (matter_of r x) limits b.h b.before b.rest other) same b.reason)
 
-pub one-answer : FormsAreClear → BasesAreOne → ClausesGoOn
-    → (r : PackageList) (bases : Bases) (limits : Limits) (text : List ℕ) (one other : Answer) → AreBases r bases
+pub one-answer : (r : PackageList) (limits : Limits) (text : List ℕ) (one other : Answer) → AreKnown r limits
     → Answers r limits text one → Answers r limits text other → IsOfText one → IsOfText other → other ≡ one
-one-answer clear same on r bases limits text one other are x y of of_other =
-    let a = stop-of r bases limits text one are x of in
-    let b = stop-of r bases limits text other are y of_other in
-    sym (one-stop clear on r a.0 limits text one other a.1 a.2 (subst (λ i. StopsAt r i limits text other) (sym (same-bases same r a.0 b.0 a.1 b.1)) b.2))
+one-answer r limits text one other known x y of of_other = sym (⊎_elim
+    (λ a. ⊎_elim
+    (λ b. one-first-stop r limits text known one other a b)
+    (λ b. absurd (first-alone r b.basis limits text b.h b.before b.rest known one a b.reached))
+    (stop-of r limits text other y of_other))
+    (λ a. ⊎_elim
+    (λ b. absurd (first-alone r a.basis limits text a.h a.before a.rest known other b a.reached))
+    (λ b. both-behind r limits text one other known a b)
+    (stop-of r limits text other y of_other))
+    (stop-of r limits text one x of))

@@ -4,6 +4,7 @@ use Rattle.std.specs.List.{Any}
 use Rattle.std.proofs.lemmas.Bool.{true≢false, false≢true, cases_Bool}
 use Rattle.dist_cert.specs.declared.faults.CertCause.{CertCause}
 use Rattle.dist_cert.specs.declared.faults.CertCause.TheVariants as causes
+use Rattle.dist_cert.specs.declared.records.CertKind.{CertKind}
 use Rattle.dist_cert.specs.declared.records.CertKind.TheVariants as kinds
 use Rattle.dist_cert.specs.declared.records.CertRecord.{CertRecord}
 use Rattle.dist_cert.specs.declared.records.CertRecord.TheVariants as lines
@@ -234,7 +235,7 @@ first-of Has causes.Incomplete has none = inr (
   ),
 )
 
--- the causes that a record may have for kind strong
+-- the causes that a record may have
 abbrev pub may_have : CertRecord → CertCause → Bool
 may_have (lines.Question literals) causes.OutOfRange = true
 may_have (lines.Derived literals hints) causes.OutOfRange = true
@@ -244,6 +245,7 @@ may_have (lines.Refuted hints) causes.OutOfOrder = true
 may_have (lines.Refuted hints) causes.UnknownLine = true
 may_have (lines.Refuted hints) causes.BadLine = true
 may_have (lines.Installation variables) causes.OutOfRange = true
+may_have (lines.Installation variables) causes.NotAFuture = true
 may_have (lines.Installation variables) causes.NotAnInstallation = true
 may_have lines.Undecided causes.OutOfOrder = true
 may_have lines.Undecided causes.LimitNotReached = true
@@ -291,9 +293,11 @@ bad-none matter before (lines.Derived literals hints) e f = true≢false e
 bad-none matter before (lines.Refuted hints) e f = true≢false e
 bad-none matter before step e f = f
 
-future-none : (matter : Matter) (step : CertRecord) → ¬ IsNoFuture matter kinds.Strong step
-future-none matter (lines.Installation variables) f = f
-future-none matter step f = f
+future-none : (matter : Matter) (kind : CertKind) (step : CertRecord) → may_have step causes.NotAFuture ≡ false → ¬ IsNoFuture matter kind step
+future-none matter kind (lines.Installation variables) e f = true≢false e
+future-none matter kinds.Strong step e f = f
+future-none matter kinds.Outdated step e f = f
+future-none matter kinds.Challenged step e f = f
 
 installation-none : (matter : Matter) (step : CertRecord) → may_have step causes.NotAnInstallation ≡ false → ¬ IsNoInstallation matter step
 installation-none matter (lines.Installation variables) e f = true≢false e
@@ -307,15 +311,15 @@ old-none : (matter : Matter) (before : List CertRecord) (step : CertRecord) → 
 old-none matter before lines.Undecided e f = true≢false e
 old-none matter before step e f = f
 
-wrong-none : (matter : Matter) (before : List CertRecord) (step : CertRecord) → may_have step causes.WrongClaim ≡ false
-    → ¬ IsWrongClaim matter kinds.Strong before step
-wrong-none matter before (lines.Question literals) e f = false≢true f.0
-wrong-none matter before (lines.Derived literals hints) e f = false≢true f.0
-wrong-none matter before (lines.Refuted hints) e f = false≢true f.0
-wrong-none matter before (lines.Installation variables) e f = false≢true f.0
-wrong-none matter before lines.Undecided e f = false≢true f.0
-wrong-none matter before lines.End e f = false≢true f.0
-wrong-none matter before step e f = true≢false e
+wrong-none : (matter : Matter) (kind : CertKind) (before : List CertRecord) (step : CertRecord) → may_have step causes.WrongClaim ≡ false
+    → ¬ IsWrongClaim matter kind before step
+wrong-none matter kind before (lines.Question literals) e f = false≢true f.0
+wrong-none matter kind before (lines.Derived literals hints) e f = false≢true f.0
+wrong-none matter kind before (lines.Refuted hints) e f = false≢true f.0
+wrong-none matter kind before (lines.Installation variables) e f = false≢true f.0
+wrong-none matter kind before lines.Undecided e f = false≢true f.0
+wrong-none matter kind before lines.End e f = false≢true f.0
+wrong-none matter kind before step e f = true≢false e
 
 incomplete-none : (matter : Matter) (before : List CertRecord) (step : CertRecord) → may_have step causes.Incomplete ≡ false → ¬ IsIncomplete matter before step
 incomplete-none matter before (lines.Strong p named on undecided) e f = true≢false e
@@ -323,19 +327,19 @@ incomplete-none matter before (lines.Challenged p named by undecided) e f = true
 incomplete-none matter before lines.End e f = true≢false e
 incomplete-none matter before step e f = f
 
-none-else : (matter : Matter) (h : Header) (before : List CertRecord) (step : CertRecord) → h.kind ≡ kinds.Strong → (cause : CertCause)
+none-else : (matter : Matter) (h : Header) (before : List CertRecord) (step : CertRecord) (cause : CertCause)
     → may_have step cause ≡ false → ¬ HasRecordFault matter h before step cause
-none-else matter h before step strong causes.OutOfRange e f = range-none matter step e f
-none-else matter h before step strong causes.OutOfOrder e f = order-none matter before step e f
-none-else matter h before step strong causes.UnknownLine e f = unknown-none matter before step e f
-none-else matter h before step strong causes.BadLine e f = bad-none matter before step e f
-none-else matter h before step strong causes.NotAFuture e f = future-none matter step (subst (λ kind. IsNoFuture matter kind step) strong f)
-none-else matter h before step strong causes.NotAnInstallation e f = installation-none matter step e f
-none-else matter h before step strong causes.LimitNotReached e f = early-none h before step e f
-none-else matter h before step strong causes.NotNew e f = old-none matter before step e f
-none-else matter h before step strong causes.WrongClaim e f = wrong-none matter before step e (subst (λ kind. IsWrongClaim matter kind before step) strong f)
-none-else matter h before step strong causes.Incomplete e f = incomplete-none matter before step e f
-none-else matter h before step strong cause e f = f
+none-else matter h before step causes.OutOfRange e f = range-none matter step e f
+none-else matter h before step causes.OutOfOrder e f = order-none matter before step e f
+none-else matter h before step causes.UnknownLine e f = unknown-none matter before step e f
+none-else matter h before step causes.BadLine e f = bad-none matter before step e f
+none-else matter h before step causes.NotAFuture e f = future-none matter h.kind step e f
+none-else matter h before step causes.NotAnInstallation e f = installation-none matter step e f
+none-else matter h before step causes.LimitNotReached e f = early-none h before step e f
+none-else matter h before step causes.NotNew e f = old-none matter before step e f
+none-else matter h before step causes.WrongClaim e f = wrong-none matter h.kind before step e f
+none-else matter h before step causes.Incomplete e f = incomplete-none matter before step e f
+none-else matter h before step cause e f = f
 
 -- ---- verdicts
 
@@ -345,19 +349,19 @@ IsFaultless matter h before step = (cause : CertCause) → ¬ HasRecordFault mat
 abbrev pub HasFirst : Matter → Header → List CertRecord → CertRecord → CertCause → Type 0
 HasFirst matter h before step cause = IsFirstOf in_order (HasRecordFault matter h before step) cause
 
-pub faultless-from : (matter : Matter) (h : Header) (before : List CertRecord) (step : CertRecord) → h.kind ≡ kinds.Strong
+pub faultless-from : (matter : Matter) (h : Header) (before : List CertRecord) (step : CertRecord)
     → ((cause : CertCause) → may_have step cause ≡ true → ¬ HasRecordFault matter h before step cause) → IsFaultless matter h before step
-faultless-from matter h before step strong none cause fault = elim (cases_Bool (may_have step cause)) [
+faultless-from matter h before step none cause fault = elim (cases_Bool (may_have step cause)) [
   | inl may ↦ none cause may fault
-  | inr never ↦ none-else matter h before step strong cause never fault
+  | inr never ↦ none-else matter h before step cause never fault
 ]
 
-pub first-from : (matter : Matter) (h : Header) (before : List CertRecord) (step : CertRecord) (cause : CertCause) → h.kind ≡ kinds.Strong
+pub first-from : (matter : Matter) (h : Header) (before : List CertRecord) (step : CertRecord) (cause : CertCause)
     → HasRecordFault matter h before step cause
     → ((earlier : CertCause) → may_have step earlier ≡ true → rank earlier < rank cause → ¬ HasRecordFault matter h before step earlier)
     → HasFirst matter h before step cause
-first-from matter h before step cause strong has none = first-of (HasRecordFault matter h before step) cause has
+first-from matter h before step cause has none = first-of (HasRecordFault matter h before step) cause has
     (λ earlier below fault. elim (cases_Bool (may_have step earlier)) [
       | inl may ↦ none earlier may below fault
-      | inr never ↦ none-else matter h before step strong earlier never fault
+      | inr never ↦ none-else matter h before step earlier never fault
     ])

@@ -11,7 +11,7 @@ use Rattle.dist_cert.specs.declared.records.CertRecord.{CertRecord}
 use Rattle.dist_cert.specs.declared.records.CertRecord.TheVariants.{End}
 use Rattle.dist_cert.specs.declared.records.Header.{Header}
 use Rattle.dist_cert.specs.Form.{record_text, HasForm, header_text}
-use Rattle.dist_cert.specs.Subject.{Subject}
+use Rattle.dist_cert.specs.Subject.{Matter}
 use Rattle.dist_cert.specs.LineRules.{HasRecordFault}
 use Rattle.dist_cert.specs.Refusal.{lines_text, Fits, HasLineFault}
 use Rattle.dist_cert.specs.Accepted.{IsAcceptedAs}
@@ -21,49 +21,32 @@ use Rattle.dist_cert.specs.GroupLaws.{all-at}
 use Rattle.dist_check.specs.CheckedPrivate.{AreRight}
 use Rattle.dist_check.proofs.Told.{IsTold, stable, contains-told}
 
-to-line : FormsAreClear → (subject : Subject) (limits : Limits) (h : Header) (before : List CertRecord) (step : CertRecord) (more : List ℕ)
+to-line : FormsAreClear → (matter : Matter) (limits : Limits) (h : Header) (before : List CertRecord) (step : CertRecord) (more : List ℕ)
     → HasForm (record_text step) step
-    → (cause : CertCause) → HasRecordFault (subject.matter h.kind h.essential) h before step cause
-    → HasLineFault subject limits h before (record_text step ++ line_feed ∷ more) cause
-to-line clear subject limits h before step more form causes.LineTooLong f = absurd f
-to-line clear subject limits h before step more form causes.Truncated f = absurd f
-to-line clear subject limits h before step more form causes.BadRecord f = absurd f
-to-line clear subject limits h before step more form cause f =
+    → (cause : CertCause) → HasRecordFault matter h before step cause
+    → HasLineFault matter limits h before (record_text step ++ line_feed ∷ more) cause
+to-line clear matter limits h before step more form causes.LineTooLong f = absurd f
+to-line clear matter limits h before step more form causes.Truncated f = absurd f
+to-line clear matter limits h before step more form causes.BadRecord f = absurd f
+to-line clear matter limits h before step more form cause f =
     (record_text step, more, step, record { ended = refl; one_line = clear.record_line step form }, form, f)
 
-pub right-records : FormsAreClear → (subject : Subject) (limits : Limits) (text : List ℕ) (h : Header) (steps : List CertRecord)
-    → IsAcceptedAs subject limits text h steps
-    → AreRight (subject.matter h.kind h.essential) h steps
-right-records clear subject limits text h steps whole before step after is cause fault =
+pub right-records : FormsAreClear → (matter : Matter) (limits : Limits) (text : List ℕ) (h : Header) (steps : List CertRecord)
+    → IsAcceptedAs matter limits text h steps
+    → AreRight matter h steps
+right-records clear matter limits text h steps whole before step after is cause fault =
     let form = all-at (λ s. HasForm (record_text s) s) steps before step after is whole.faultless.reads.records in
     whole.faultless.later before step after is cause
-    (subst (λ bytes. HasLineFault subject limits h before bytes cause) (sym (first_line_of step after []))
-    (to-line clear subject limits h before step (lines_text after ++ []) form cause fault))
-
-pub fitting : FormsAreClear → (subject : Subject) (limits : Limits) (text : List ℕ) (h : Header) (steps : List CertRecord)
-    → IsAcceptedAs subject limits text h steps
-    → ¬ (¬ Fits subject h)
-fitting clear subject limits text h steps whole none =
-    let reads = whole.faultless.reads in
-    whole.faultless.first causes.BadHeader (
-      header_text h,
-      lines_text steps ++ [],
-      record { ended = reads.text_is ∙ append_assoc (header_text h) (line_feed ∷ lines_text steps) []; one_line = clear.header_line h reads.header },
-      λ other form fits. none (subst (λ k. Fits subject k) (sym (clear.one_header (header_text h) h other reads.header form)) fits),
-    )
-
-pub strong-told : (kind : CertKind) → IsTold (kind ≡ kinds.Strong)
-strong-told kinds.Strong = inl refl
-strong-told kinds.Outdated = inr (λ e. cc)
-strong-told kinds.Challenged = inr (λ e. cc)
+    (subst (λ bytes. HasLineFault matter limits h before bytes cause) (sym (first_line_of step after []))
+    (to-line clear matter limits h before step (lines_text after ++ []) form cause fault))
 
 end-told : (step : CertRecord) → IsTold (step ≡ End)
 end-told End = inl refl
 end-told step = inr (λ e. cc)
 
-pub has-end : (subject : Subject) (limits : Limits) (text : List ℕ) (h : Header) (steps : List CertRecord) → IsAcceptedAs subject limits text h steps
+pub has-end : (matter : Matter) (limits : Limits) (text : List ℕ) (h : Header) (steps : List CertRecord) → IsAcceptedAs matter limits text h steps
     → Contains steps End
-has-end subject limits text h steps whole =
+has-end matter limits text h steps whole =
     stable (contains-told steps End end-told) (λ none. whole.ends causes.Truncated ((λ k d within. absurd (omega_none k within)), inr none))
   where
     omega_none : (k : ℕ) → k < 0 → ⊥

@@ -1,6 +1,6 @@
 -- What is kept, with one line more.
 use Rattle.std.proofs.Common.{◌≡◌, ◌≢◌, ◌⊎◌, inl, inr, ℕ, zero, suc, ◌+◌, ◌-◌, ◌<◌, ◌↔◌, ◌==◌, Bool, true, false, List, [], ◌∷◌, ◌++◌, Option, Some, None}
-use Rattle.std.proofs.Common.{length, drop, filter, get_or, refl, sym, ap, subst, ◌∙◌, arith, length-append, if◌then◌else◌}
+use Rattle.std.proofs.Common.{◌||◌, length, drop, filter, get_or, refl, sym, ap, subst, ◌∙◌, arith, length-append, if◌then◌else◌}
 use Rattle.std.specs.List.{All, Any, Contains}
 use Rattle.std.proofs.lemmas.Bool.{true≢false, false≢true, and_parts, and_from, or_cases, or_left, or_right, eqb-true, eq-eqb}
 use Rattle.std.proofs.lemmas.List.{append-nil, drop-append-le, drop-drop, length-drop, get_or_append_left, get_or_at}
@@ -16,10 +16,16 @@ use Rattle.dist_cert.specs.Groups.{derived_in, derived, installed_in, installati
 use Rattle.dist_cert.specs.ClaimRules.{yes, no}
 use Rattle.dist_cert.specs.Rising.{is_among}
 use Rattle.dist_check_group.specs.Window.{latest}
-use Rattle.dist_check_group.specs.Closed.{ClosedView, asks_alone, asks_without, Closes}
-use Rattle.dist_check_group.specs.Group.{GroupView, narrowed, common_with}
-use Rattle.dist_check_state.specs.State.{QuestionView, empty_group}
-use Rattle.dist_check.specs.AtPrivate.{IsQuestionOf, AreClosed, IsCommonOf, IsGroupOf}
+use Rattle.dist_cert.specs.declared.records.CertKind.{CertKind}
+use Rattle.dist_cert.specs.declared.records.CertKind.TheVariants as kinds
+use Rattle.dist_check_group.specs.Closed.{ClosedView, asks_alone, asks_own, asks_together, asks_without, none_closed, Closes}
+use Rattle.dist_check_group.specs.Common.{narrowed, common_with}
+use Rattle.dist_check_group.specs.Group.{GroupView, Grows, empty_group}
+use Rattle.dist_check_group.specs.Layout.{LayoutView}
+use Rattle.dist_check_state.specs.State.{Notes, QuestionView}
+use Rattle.dist_check.specs.AtPrivate.{IsQuestionOf, AreClosed, IsCommonOf, IsGathered, IsGroupOf, own_question}
+use Rattle.dist_check.specs.CoverPrivate.{IsCoverOf}
+use Rattle.dist_check.proofs.CoverSteps.{cover-first, cover-push}
 use Rattle.dist_cert.specs.ListLaws.{any-from, contains-cases, contains-later, from-any}
 use Rattle.dist_cert.specs.GroupLaws.{IsOpening, IsAsked, one-open, still-open, none-still, closed-push, closed-more, closed-here, none-closed, group-push}
 use Rattle.dist_cert.specs.GroupLaws.{group-claim, asked-in-group}
@@ -175,37 +181,79 @@ without-is p ((v, false) ∷ (w, true) ∷ x ∷ ws) q = (
   λ e. absurd (let n = ap (λ (xs : List Word). length xs) e in omega (arith, n)),
 )
 
+together-is : (p : ℕ) (question : List Word) (q : ℕ) → (asks_together p question q ≡ true) ↔ (question ≡ yes p ∷ yes q ∷ [])
+unfolding word-number word-sign
+together-is p [] q = ((λ e. absurd (false≢true e)), λ e. absurd (let n = ap (λ (ws : List Word). length ws) e in omega (arith, n)))
+together-is p ((v, true) ∷ []) q = ((λ e. absurd (false≢true e)), λ e. absurd (let n = ap (λ (ws : List Word). length ws) e in omega (arith, n)))
+together-is p ((v, false) ∷ []) q = ((λ e. absurd (false≢true e)), λ e. absurd (let n = ap (λ (ws : List Word). length ws) e in omega (arith, n)))
+together-is p ((v, true) ∷ (w, true) ∷ []) q = (
+  (λ e.
+      let parts = and_parts (v == p) (q == w) e in
+      ap (λ (n : ℕ). yes n ∷ (w, true) ∷ []) (eqb-true v p parts.0) ∙ ap (λ (n : ℕ). yes p ∷ yes n ∷ []) (sym (eqb-true q w parts.1))),
+  λ e. and_from (v == p) (q == w) (eq-eqb v p (ap (word-number 0) e)) (eq-eqb q w (sym (ap (word-number 1) e))),
+)
+together-is p ((v, false) ∷ (w, true) ∷ []) q = ((λ e. absurd (false≢true e)), λ e. absurd (false≢true (ap (word-sign 0) e)))
+together-is p ((v, true) ∷ (w, false) ∷ []) q = ((λ e. absurd (false≢true e)), λ e. absurd (false≢true (ap (word-sign 1) e)))
+together-is p ((v, false) ∷ (w, false) ∷ []) q = ((λ e. absurd (false≢true e)), λ e. absurd (false≢true (ap (word-sign 0) e)))
+together-is p ((v, true) ∷ (w, true) ∷ x ∷ ws) q = (
+  (λ e. absurd (false≢true e)),
+  λ e. absurd (let n = ap (λ (xs : List Word). length xs) e in omega (arith, n)),
+)
+together-is p ((v, true) ∷ (w, false) ∷ x ∷ ws) q = (
+  (λ e. absurd (false≢true e)),
+  λ e. absurd (let n = ap (λ (xs : List Word). length xs) e in omega (arith, n)),
+)
+together-is p ((v, false) ∷ (w, true) ∷ x ∷ ws) q = (
+  (λ e. absurd (false≢true e)),
+  λ e. absurd (let n = ap (λ (xs : List Word). length xs) e in omega (arith, n)),
+)
+together-is p ((v, false) ∷ (w, false) ∷ x ∷ ws) q = (
+  (λ e. absurd (false≢true e)),
+  λ e. absurd (let n = ap (λ (xs : List Word). length xs) e in omega (arith, n)),
+)
+
+own-is : (kind : CertKind) (p : ℕ) (question : List Word) → (asks_own kind p question ≡ true) ↔ (question ≡ own_question kind p)
+own-is kinds.Strong p question = alone-is p question
+own-is kinds.Outdated p question = alone-is p question
+own-is kinds.Challenged p question = together-is 1 question p
+
+-- a test of what was asked last or before
+either-closed : (asks before : Bool) (asked question : List Word) (Old New : List Word → Type 0) (now : Bool)
+    → now ≡ (asks || before) → ((asks ≡ true) ↔ (asked ≡ question)) → ((before ≡ true) ↔ Old question)
+    → (New question ↔ ((asked ≡ question) ⊎ Old question)) → (now ≡ true) ↔ New question
+either-closed asks before asked question Old New now is tests held more = (
+  (λ e. more.1 (elim (or_cases asks before (sym is ∙ e)) [
+    | inl here ↦ inl (tests.0 here)
+    | inr earlier ↦ inr (held.0 earlier)
+  ])),
+  λ closed. is ∙ elim (more.0 closed) [
+    | inl here ↦ or_left asks before (tests.1 here)
+    | inr earlier ↦ or_right asks before (held.1 earlier)
+  ],
+)
+
 -- one question more
-more-closed : (Old New : List Word → Type 0) (p : ℕ) (asked : List Word) (old new : ClosedView)
-    → ((question : List Word) → New question ↔ ((asked ≡ question) ⊎ Old question)) → Closes p asked old new → AreClosed Old p old → AreClosed New p new
-more-closed Old New p asked old new more closes are = record {
-  alone = (
-    (λ e. (more (yes p ∷ [])).1 (elim (or_cases (asks_alone p asked) old.alone (sym closes.alone ∙ e)) [
-      | inl here ↦ inl ((alone-is p asked).0 here)
-      | inr earlier ↦ inr (are.alone.0 earlier)
-    ])),
-    λ closed. closes.alone ∙ elim ((more (yes p ∷ [])).0 closed) [
-      | inl here ↦ or_left (asks_alone p asked) old.alone ((alone-is p asked).1 here)
-      | inr earlier ↦ or_right (asks_alone p asked) old.alone (are.alone.1 earlier)
-    ],
-  );
-  without = λ q. (
-    (λ e. (more (yes p ∷ no q ∷ [])).1 (elim (or_cases (asks_without p asked q) (is_among old.without q) (sym (closes.without q) ∙ e)) [
-      | inl here ↦ inl ((without-is p asked q).0 here)
-      | inr earlier ↦ inr ((are.without q).0 earlier)
-    ])),
-    λ closed. closes.without q ∙ elim ((more (yes p ∷ no q ∷ [])).0 closed) [
-      | inl here ↦ or_left (asks_without p asked q) (is_among old.without q) ((without-is p asked q).1 here)
-      | inr earlier ↦ or_right (asks_without p asked q) (is_among old.without q) ((are.without q).1 earlier)
-    ],
-  );
+more-closed : (Old New : List Word → Type 0) (kind : CertKind) (p : ℕ) (asked : List Word) (old new : ClosedView)
+    → ((question : List Word) → New question ↔ ((asked ≡ question) ⊎ Old question)) → Closes kind p asked old new → AreClosed Old kind p old
+    → AreClosed New kind p new
+more-closed Old New kind p asked old new more closes are = record {
+  alone = either-closed (asks_own kind p asked) old.alone asked (own_question kind p) Old New new.alone closes.alone (own-is kind p asked) are.alone
+      (more (own_question kind p));
+  without = λ q. either-closed (asks_without p asked q) (is_among old.without q) asked (yes p ∷ no q ∷ []) Old New (is_among new.without q)
+      (closes.without q) (without-is p asked q) (are.without q) (more (yes p ∷ no q ∷ []));
+  together = λ q. either-closed (asks_together p asked q) (is_among old.together q) asked (yes p ∷ yes q ∷ []) Old New (is_among new.together q)
+      (closes.together q) (together-is p asked q) (are.together q) (more (yes p ∷ yes q ∷ []));
 }
 
-same-closed : (Old New : List Word → Type 0) (p : ℕ) (closed : ClosedView) → ((question : List Word) → Old question ↔ New question) → AreClosed Old p closed
-    → AreClosed New p closed
-same-closed Old New p closed same are = record {
-  alone = ((λ e. (same (yes p ∷ [])).0 (are.alone.0 e)), λ h. are.alone.1 ((same (yes p ∷ [])).1 h));
-  without = λ q. ((λ e. (same (yes p ∷ no q ∷ [])).0 ((are.without q).0 e)), λ h. (are.without q).1 ((same (yes p ∷ no q ∷ [])).1 h));
+both-ways : {A B C : Type 0} → A ↔ B → (B ↔ C) → A ↔ C
+both-ways first second = ((λ a. second.0 (first.0 a)), λ c. first.1 (second.1 c))
+
+same-closed : (Old New : List Word → Type 0) (kind : CertKind) (p : ℕ) (closed : ClosedView) → ((question : List Word) → Old question ↔ New question)
+    → AreClosed Old kind p closed → AreClosed New kind p closed
+same-closed Old New kind p closed same are = record {
+  alone = both-ways are.alone (same (own_question kind p));
+  without = λ q. both-ways (are.without q) (same (yes p ∷ no q ∷ []));
+  together = λ q. both-ways (are.together q) (same (yes p ∷ yes q ∷ []));
 }
 
 -- ---- what installations have in common
@@ -286,81 +334,119 @@ common-push all p members common is = by (is_among members p) refl common is
 
 -- ---- groups
 
-pub group-first : (p : ℕ) → IsGroupOf [] p empty_group
-group-first p = record {
-  refuted = record {
-    alone = ((λ e. absurd (false≢true e)), λ h. absurd (none-closed (yes p ∷ []) (lines.Refuted h.0) h.1));
-    without = λ q. ((λ e. absurd (false≢true e)), λ h. absurd (none-closed (yes p ∷ no q ∷ []) (lines.Refuted h.0) h.1));
-  };
-  undecided = record {
-    alone = ((λ e. absurd (false≢true e)), λ h. absurd (none-closed (yes p ∷ []) lines.Undecided h));
-    without = λ q. ((λ e. absurd (false≢true e)), λ h. absurd (none-closed (yes p ∷ no q ∷ []) lines.Undecided h));
-  };
-  common = All-nil (λ m. ¬ Contains m p);
+closed-first : (Is : List Word → Type 0) (kind : CertKind) (p : ℕ) → ((question : List Word) → ¬ Is question) → AreClosed Is kind p none_closed
+closed-first Is kind p none = record {
+  alone = ((λ e. absurd (false≢true e)), λ h. absurd (none (own_question kind p) h));
+  without = λ q. ((λ e. absurd (false≢true e)), λ h. absurd (none (yes p ∷ no q ∷ []) h));
+  together = λ q. ((λ e. absurd (false≢true e)), λ h. absurd (none (yes p ∷ yes q ∷ []) h));
+}
+
+gathered-first : (kind : CertKind) (layout : LayoutView) (p : ℕ) → IsGathered kind layout [] p empty_group
+gathered-first kinds.Strong layout p = All-nil (λ m. ¬ Contains m p)
+gathered-first kinds.Outdated layout p = tt
+gathered-first kinds.Challenged layout p = cover-first layout p
+
+pub group-first : (layout : LayoutView) (p : ℕ) → IsGroupOf layout [] p empty_group
+group-first layout p = record {
+  refuted = closed-first (IsRefutedIn []) layout.kind p (λ question h. none-closed question (lines.Refuted h.0) h.1);
+  undecided = closed-first (IsUndecidedIn []) layout.kind p (λ question h. none-closed question lines.Undecided h);
+  gathered = gathered-first layout.kind layout p;
 }
 
 -- a line that closes nothing and installs nothing
-pub group-same : (before : List CertRecord) (step : CertRecord) (p : ℕ) (kept : GroupView) → is_claim step ≡ false → installed_in step ≡ []
-    → ((hints : List ℕ) → step ≢ lines.Refuted hints) → step ≢ lines.Undecided
-    → IsGroupOf (group before) p kept → IsGroupOf (group (before ++ step ∷ [])) p kept
-group-same before step p kept no_claim none never_refuted never_undecided is =
-    subst (λ ls. IsGroupOf ls p kept) (sym (group-push before step no_claim)) (record {
-      refuted = same-closed (IsRefutedIn (group before)) (IsRefutedIn (group before ++ step ∷ [])) p kept.refuted
+pub group-same : (layout : LayoutView) (before : List CertRecord) (step : CertRecord) (p : ℕ) (kept : GroupView) → is_claim step ≡ false
+    → installed_in step ≡ [] → ((hints : List ℕ) → step ≢ lines.Refuted hints) → step ≢ lines.Undecided
+    → IsGroupOf layout (group before) p kept → IsGroupOf layout (group (before ++ step ∷ [])) p kept
+group-same layout before step p kept no_claim none never_refuted never_undecided is =
+    subst (λ ls. IsGroupOf layout ls p kept) (sym (group-push before step no_claim)) (record {
+      refuted = same-closed (IsRefutedIn (group before)) (IsRefutedIn (group before ++ step ∷ [])) layout.kind p kept.refuted
           (λ question. refuted-same (group before) step question never_refuted) is.refuted;
-      undecided = same-closed (IsUndecidedIn (group before)) (IsUndecidedIn (group before ++ step ∷ [])) p kept.undecided
+      undecided = same-closed (IsUndecidedIn (group before)) (IsUndecidedIn (group before ++ step ∷ [])) layout.kind p kept.undecided
           (λ question. undecided-same (group before) step question never_undecided) is.undecided;
-      common = subst (λ ms. IsCommonOf ms p kept.common) (installed-same (group before) step none) is.common;
+      gathered = subst (λ ms. IsGathered layout.kind layout ms p kept) (installed-same (group before) step none) is.gathered;
     })
 
-pub group-installed : (before : List CertRecord) (variables : List ℕ) (p : ℕ) (kept : GroupView) → IsGroupOf (group before) p kept
-    → IsGroupOf (group (before ++ lines.Installation variables ∷ [])) p (record kept { common = common_with p variables kept.common })
-group-installed before variables p kept is =
+-- ---- one installation more
+
+grown-kept : (kind : CertKind) (layout : LayoutView) (p : ℕ) (members : List ℕ) (old new : GroupView) → Grows kind layout p members old new
+    → (new.refuted ≡ old.refuted) × (new.undecided ≡ old.undecided)
+grown-kept kinds.Strong layout p members old new grows = (ap (λ (g : GroupView). g.refuted) grows, ap (λ (g : GroupView). g.undecided) grows)
+grown-kept kinds.Outdated layout p members old new grows = (ap (λ (g : GroupView). g.refuted) grows, ap (λ (g : GroupView). g.undecided) grows)
+grown-kept kinds.Challenged layout p members old new grows =
+    (ap (λ (g : GroupView). g.refuted) grows.0, ap (λ (g : GroupView). g.undecided) grows.0)
+
+grown-gathers : (kind : CertKind) (layout : LayoutView) (all : List (List ℕ)) (p : ℕ) (members : List ℕ) (old new : GroupView)
+    → Grows kind layout p members old new → IsGathered kind layout all p old → IsGathered kind layout (all ++ members ∷ []) p new
+grown-gathers kinds.Strong layout all p members old new grows is =
+    subst (IsCommonOf (all ++ members ∷ []) p) (sym (ap (λ (g : GroupView). g.common) grows)) (common-push all p members old.common is)
+grown-gathers kinds.Outdated layout all p members old new grows is = tt
+grown-gathers kinds.Challenged layout all p members old new grows is = cover-push layout all p members old.cover new.cover is grows.1
+
+pub group-installed : (layout : LayoutView) (before : List CertRecord) (variables : List ℕ) (p : ℕ) (old new : GroupView)
+    → Grows layout.kind layout p variables old new → IsGroupOf layout (group before) p old
+    → IsGroupOf layout (group (before ++ lines.Installation variables ∷ [])) p new
+group-installed layout before variables p old new grows is =
     let step = lines.Installation variables in
-    subst (λ ls. IsGroupOf ls p (record kept { common = common_with p variables kept.common })) (sym (group-push before step refl)) (record {
-      refuted = same-closed (IsRefutedIn (group before)) (IsRefutedIn (group before ++ step ∷ [])) p kept.refuted
-          (λ question. refuted-same (group before) step question (λ hints e. cc)) is.refuted;
-      undecided = same-closed (IsUndecidedIn (group before)) (IsUndecidedIn (group before ++ step ∷ [])) p kept.undecided
-          (λ question. undecided-same (group before) step question (λ e. cc)) is.undecided;
-      common = subst (λ ms. IsCommonOf ms p (common_with p variables kept.common)) (sym (installed-push (group before) step))
-          (common-push (installations (group before)) p variables kept.common is.common);
+    let kept = grown-kept layout.kind layout p variables old new grows in
+    subst (λ ls. IsGroupOf layout ls p new) (sym (group-push before step refl)) (record {
+      refuted = subst (AreClosed (IsRefutedIn (group before ++ step ∷ [])) layout.kind p) (sym kept.0)
+          (same-closed (IsRefutedIn (group before)) (IsRefutedIn (group before ++ step ∷ [])) layout.kind p old.refuted
+          (λ question. refuted-same (group before) step question (λ hints e. cc)) is.refuted);
+      undecided = subst (AreClosed (IsUndecidedIn (group before ++ step ∷ [])) layout.kind p) (sym kept.1)
+          (same-closed (IsUndecidedIn (group before)) (IsUndecidedIn (group before ++ step ∷ [])) layout.kind p old.undecided
+          (λ question. undecided-same (group before) step question (λ e. cc)) is.undecided);
+      gathered = subst (λ ms. IsGathered layout.kind layout ms p new) (sym (installed-push (group before) step))
+          (grown-gathers layout.kind layout (installations (group before)) p variables old new grows is.gathered);
     })
 
--- the question that is open is asked in the group
+-- ---- the question that is open is asked in the group
+
 asked-there : (before earlier : List CertRecord) (question : List Word) (since : List CertRecord) → IsOpen before earlier question since
     → IsAsked (group before) question
 asked-there before earlier question since x =
     let in_group = asked-in-group earlier question since x.left_open in
     (in_group.0, since, record { ends = ap group x.ends ∙ in_group.1; left_open = x.left_open })
 
-pub group-refuted : (before earlier : List CertRecord) (asked : List Word) (since : List CertRecord) (hints : List ℕ) (p : ℕ) (old new : GroupView)
-    → IsOpen before earlier asked since → Closes p asked old.refuted new.refuted
-    → new.undecided ≡ old.undecided → new.common ≡ old.common → IsGroupOf (group before) p old → IsGroupOf (group (before ++ lines.Refuted hints ∷ [])) p new
-group-refuted before earlier asked since hints p old new x closes undecided common is =
+-- what is gathered goes by the installations alone
+gathered-like : (kind : CertKind) (layout : LayoutView) (all : List (List ℕ)) (p : ℕ) (old new : GroupView) → new.common ≡ old.common
+    → new.cover ≡ old.cover → IsGathered kind layout all p old → IsGathered kind layout all p new
+gathered-like kinds.Strong layout all p old new common cover is = subst (IsCommonOf all p) (sym common) is
+gathered-like kinds.Outdated layout all p old new common cover is = tt
+gathered-like kinds.Challenged layout all p old new common cover is = subst (IsCoverOf layout all p) (sym cover) is
+
+pub group-refuted : (layout : LayoutView) (before earlier : List CertRecord) (asked : List Word) (since : List CertRecord) (hints : List ℕ) (p : ℕ)
+    (old new : GroupView) → IsOpen before earlier asked since → Notes true layout.kind p asked old new → IsGroupOf layout (group before) p old
+    → IsGroupOf layout (group (before ++ lines.Refuted hints ∷ [])) p new
+group-refuted layout before earlier asked since hints p old new x notes is =
     let step = lines.Refuted hints in
-    subst (λ ls. IsGroupOf ls p new) (sym (group-push before step refl)) (record {
-      refuted = more-closed (IsRefutedIn (group before)) (IsRefutedIn (group before ++ step ∷ [])) p asked old.refuted new.refuted
-          (refuted-more (group before) hints asked (asked-there before earlier asked since x)) closes is.refuted;
-      undecided = subst (AreClosed (IsUndecidedIn (group before ++ step ∷ [])) p) (sym undecided)
-          (same-closed (IsUndecidedIn (group before)) (IsUndecidedIn (group before ++ step ∷ [])) p old.undecided
+    subst (λ ls. IsGroupOf layout ls p new) (sym (group-push before step refl)) (record {
+      refuted = more-closed (IsRefutedIn (group before)) (IsRefutedIn (group before ++ step ∷ [])) layout.kind p asked old.refuted new.refuted
+          (refuted-more (group before) hints asked (asked-there before earlier asked since x)) notes.1 is.refuted;
+      undecided = subst (AreClosed (IsUndecidedIn (group before ++ step ∷ [])) layout.kind p) (sym (ap (λ (g : GroupView). g.undecided) notes.0))
+          (same-closed (IsUndecidedIn (group before)) (IsUndecidedIn (group before ++ step ∷ [])) layout.kind p old.undecided
           (λ question. undecided-same (group before) step question (λ e. cc)) is.undecided);
-      common = subst (IsCommonOf (installations (group before ++ step ∷ [])) p) (sym common)
-          (subst (λ ms. IsCommonOf ms p old.common) (installed-same (group before) step refl) is.common);
+      gathered = gathered-like layout.kind layout (installations (group before ++ step ∷ [])) p old new (ap (λ (g : GroupView). g.common) notes.0)
+          (ap (λ (g : GroupView). g.cover) notes.0)
+          (subst (λ ms. IsGathered layout.kind layout ms p old) (installed-same (group before) step refl) is.gathered);
     })
 
-pub group-undecided : (before earlier : List CertRecord) (asked : List Word) (since : List CertRecord) (p : ℕ) (old new : GroupView)
-    → IsOpen before earlier asked since → Closes p asked old.undecided new.undecided
-    → new.refuted ≡ old.refuted → new.common ≡ old.common → IsGroupOf (group before) p old → IsGroupOf (group (before ++ lines.Undecided ∷ [])) p new
-group-undecided before earlier asked since p old new x closes refuted common is =
+pub group-undecided : (layout : LayoutView) (before earlier : List CertRecord) (asked : List Word) (since : List CertRecord) (p : ℕ)
+    (old new : GroupView) → IsOpen before earlier asked since → Notes false layout.kind p asked old new → IsGroupOf layout (group before) p old
+    → IsGroupOf layout (group (before ++ lines.Undecided ∷ [])) p new
+group-undecided layout before earlier asked since p old new x notes is =
     let step = lines.Undecided in
-    subst (λ ls. IsGroupOf ls p new) (sym (group-push before step refl)) (record {
-      undecided = more-closed (IsUndecidedIn (group before)) (IsUndecidedIn (group before ++ step ∷ [])) p asked old.undecided new.undecided
-          (undecided-more (group before) asked (asked-there before earlier asked since x)) closes is.undecided;
-      refuted = subst (AreClosed (IsRefutedIn (group before ++ step ∷ [])) p) (sym refuted)
-          (same-closed (IsRefutedIn (group before)) (IsRefutedIn (group before ++ step ∷ [])) p old.refuted
+    subst (λ ls. IsGroupOf layout ls p new) (sym (group-push before step refl)) (record {
+      undecided = more-closed (IsUndecidedIn (group before)) (IsUndecidedIn (group before ++ step ∷ [])) layout.kind p asked old.undecided new.undecided
+          (undecided-more (group before) asked (asked-there before earlier asked since x)) notes.1 is.undecided;
+      refuted = subst (AreClosed (IsRefutedIn (group before ++ step ∷ [])) layout.kind p) (sym (ap (λ (g : GroupView). g.refuted) notes.0))
+          (same-closed (IsRefutedIn (group before)) (IsRefutedIn (group before ++ step ∷ [])) layout.kind p old.refuted
           (λ question. refuted-same (group before) step question (λ hints e. cc)) is.refuted);
-      common = subst (IsCommonOf (installations (group before ++ step ∷ [])) p) (sym common)
-          (subst (λ ms. IsCommonOf ms p old.common) (installed-same (group before) step refl) is.common);
+      gathered = gathered-like layout.kind layout (installations (group before ++ step ∷ [])) p old new (ap (λ (g : GroupView). g.common) notes.0)
+          (ap (λ (g : GroupView). g.cover) notes.0)
+          (subst (λ ms. IsGathered layout.kind layout ms p old) (installed-same (group before) step refl) is.gathered);
     })
 
-pub group-after_claim : (before : List CertRecord) (step : CertRecord) (p : ℕ) → is_claim step ≡ true → IsGroupOf (group (before ++ step ∷ [])) p empty_group
-group-after_claim before step p claim = subst (λ ls. IsGroupOf ls p empty_group) (sym (group-claim before step claim)) (group-first p)
+pub group-after_claim : (layout : LayoutView) (before : List CertRecord) (step : CertRecord) (p : ℕ) → is_claim step ≡ true
+    → IsGroupOf layout (group (before ++ step ∷ [])) p empty_group
+group-after_claim layout before step p claim =
+    subst (λ ls. IsGroupOf layout ls p empty_group) (sym (group-claim before step claim)) (group-first layout p)

@@ -26,8 +26,10 @@ use Rattle.dist_cert.specs.GroupLaws.{all-at}
 use Rattle.dist_cert.specs.OneVerdictLaws.{has_first, one_first, one_line, first_line_of, not_faulty, nothing_more, readings, IsShorter}
 use Rattle.dist_cert.specs.Reading.{PassesWhole, KeepsLimits}
 use Rattle.dist_cert.specs.Refusal.{IsOneLine, BeginsWith, lines_text, certificate_text, HasLineFault, in_order, IsFirstOf, AreFaultless}
-use Rattle.dist_cert.specs.Subject.{Subject}
-use Rattle.dist_subject.specs.Completed.{KeepsNumbers}
+use Rattle.dist_cert.specs.Subject.{Matter}
+use Rattle.dist_repo.specs.PackageList.{PackageList}
+use Rattle.dist_subject.specs.Basis.{Basis, matter_of}
+use Rattle.dist_check.specs.Checking.{IsReached}
 use Rattle.dist_check.specs.declared.verdict.Verdict.{Verdict}
 use Rattle.dist_check.specs.declared.verdict.Verdict.TheVariants.{Accepted, Refused}
 
@@ -36,7 +38,7 @@ abbrev pub Answer : Type 0
 Answer = Result Verdict WorkError
 
 -- The line behind these records is a derived line without a fault, and with it a number is passed.
-pub record IsPassing (subject : Subject) (limits : Limits) (h : Header) (before : List CertRecord) (rest : List ℕ)
+pub record IsPassing (matter : Matter) (limits : Limits) (h : Header) (before : List CertRecord) (rest : List ℕ)
     (Passes : List (List Literal) → List Literal → Type 0) : Type 0 where
   pub keeps : KeepsLimits limits (length (certificate_text h before)) rest
   pub literals : List Word
@@ -45,38 +47,32 @@ pub record IsPassing (subject : Subject) (limits : Limits) (h : Header) (before 
   pub more : List ℕ
   pub begins : BeginsWith rest line more
   pub form : HasForm line (Derived literals hints)
-  pub none : (cause : CertCause) → ¬ HasLineFault subject limits h before rest cause
+  pub none : (cause : CertCause) → ¬ HasLineFault matter limits h before rest cause
   pub passes : Passes (derived before) (clause_of literals)
 
 -- The line behind these records has this fault first.
-pub record IsFaulty (subject : Subject) (limits : Limits) (h : Header) (before : List CertRecord) (rest : List ℕ) (fault : CertFault) : Type 0 where
+pub record IsFaulty (matter : Matter) (limits : Limits) (h : Header) (before : List CertRecord) (rest : List ℕ) (fault : CertFault) : Type 0 where
   pub bytes : ¬ PassesWhole limits (length (certificate_text h before)) rest
   pub line : fault.line ≡ length before + 2
-  pub first : IsFirstOf in_order (HasLineFault subject limits h before rest) fault.cause
+  pub first : IsFirstOf in_order (HasLineFault matter limits h before rest) fault.cause
 
 -- These records are all, and no line is missing behind them.
-pub record IsDone (subject : Subject) (limits : Limits) (h : Header) (before : List CertRecord) (rest : List ℕ) (told : Header) (made : List Claim) : Type 0
+pub record IsDone (matter : Matter) (limits : Limits) (h : Header) (before : List CertRecord) (rest : List ℕ) (told : Header) (made : List Claim) : Type 0
   where
     pub header : told ≡ h
     pub claims : made ≡ claims_in before
     pub nothing : rest ≡ []
-    pub ends : (cause : CertCause) → ¬ HasLineFault subject limits h before [] cause
+    pub ends : (cause : CertCause) → ¬ HasLineFault matter limits h before [] cause
 
 -- why a check stops behind these records with an answer
-abbrev pub Reason : Subject → Limits → Header → List CertRecord → List ℕ → Answer → Type 0
-Reason subject limits h before rest (Ok (Accepted told made)) = IsDone subject limits h before rest told made
-Reason subject limits h before rest (Ok (Refused fault)) = IsFaulty subject limits h before rest fault
-Reason subject limits h before rest (Err (TooLarge Lines)) = IsPassing subject limits h before rest (λ lines clause. length lines ≡ limits.lines)
-Reason subject limits h before rest (Err (TooLarge LineLiterals)) =
-    IsPassing subject limits h before rest (λ lines clause. (length lines < limits.lines) × (limits.line_literals < literal_count lines + length clause))
-Reason subject limits h before rest (Err (TooLarge Certificate)) = PassesWhole limits (length (certificate_text h before)) rest
-Reason subject limits h before rest other = ⊥
-
--- The text is read up to behind these records, which have no fault and keep the numbers.
-pub record IsAtPoint (subject : Subject) (limits : Limits) (text : List ℕ) (h : Header) (before : List CertRecord)
-    (rest : List ℕ) : Type 0 where
-  pub faultless : AreFaultless subject limits text h before rest
-  pub numbers : KeepsNumbers limits (subject.matter h.kind h.essential).inputs h before
+abbrev pub Reason : Matter → Limits → Header → List CertRecord → List ℕ → Answer → Type 0
+Reason matter limits h before rest (Ok (Accepted told made)) = IsDone matter limits h before rest told made
+Reason matter limits h before rest (Ok (Refused fault)) = IsFaulty matter limits h before rest fault
+Reason matter limits h before rest (Err (TooLarge Lines)) = IsPassing matter limits h before rest (λ lines clause. length lines ≡ limits.lines)
+Reason matter limits h before rest (Err (TooLarge LineLiterals)) =
+    IsPassing matter limits h before rest (λ lines clause. (length lines < limits.lines) × (limits.line_literals < literal_count lines + length clause))
+Reason matter limits h before rest (Err (TooLarge Certificate)) = PassesWhole limits (length (certificate_text h before)) rest
+Reason matter limits h before rest other = ⊥
 
 -- ---- two reasons at one place
 
@@ -86,80 +82,80 @@ same-fault fault other line cause = subst (λ n. fault ≡ record { line = n; ca
 pub nothing-begins : (line more rest : List ℕ) → rest ≡ [] → BeginsWith rest line more → ⊥
 nothing-begins line more rest none begins = let n = ap length (sym none ∙ begins.ended) in omega (arith, n, length-append line (line_feed ∷ more))
 
-done-not-faulty : (subject : Subject) (limits : Limits) (h : Header) (before : List CertRecord) (rest : List ℕ) (told : Header) (made : List Claim)
+done-not-faulty : (matter : Matter) (limits : Limits) (h : Header) (before : List CertRecord) (rest : List ℕ) (told : Header) (made : List Claim)
     (fault : CertFault)
-    → IsDone subject limits h before rest told made → IsFaulty subject limits h before rest fault → ⊥
-done-not-faulty subject limits h before rest told made fault done faulty =
-    done.ends fault.cause (subst (λ bytes. HasLineFault subject limits h before bytes fault.cause) done.nothing
-    (has_first (HasLineFault subject limits h before rest) in_order fault.cause faulty.first))
+    → IsDone matter limits h before rest told made → IsFaulty matter limits h before rest fault → ⊥
+done-not-faulty matter limits h before rest told made fault done faulty =
+    done.ends fault.cause (subst (λ bytes. HasLineFault matter limits h before bytes fault.cause) done.nothing
+    (has_first (HasLineFault matter limits h before rest) in_order fault.cause faulty.first))
 
-passing-not-faulty : (subject : Subject) (limits : Limits) (h : Header) (before : List CertRecord) (rest : List ℕ)
+passing-not-faulty : (matter : Matter) (limits : Limits) (h : Header) (before : List CertRecord) (rest : List ℕ)
     (Passes : List (List Literal) → List Literal → Type 0) (fault : CertFault)
-    → IsPassing subject limits h before rest Passes → IsFaulty subject limits h before rest fault → ⊥
-passing-not-faulty subject limits h before rest Passes fault passing faulty =
-    passing.none fault.cause (has_first (HasLineFault subject limits h before rest) in_order fault.cause faulty.first)
+    → IsPassing matter limits h before rest Passes → IsFaulty matter limits h before rest fault → ⊥
+passing-not-faulty matter limits h before rest Passes fault passing faulty =
+    passing.none fault.cause (has_first (HasLineFault matter limits h before rest) in_order fault.cause faulty.first)
 
 done-keeps : (limits : Limits) (n : ℕ) (rest : List ℕ) → n ≤ limits.certificate → rest ≡ [] → ¬ PassesWhole limits n rest
 done-keeps limits n rest within none passes = let long = ap length none in omega (arith, within, long, passes.passed)
 
-lines-not-literals : (subject : Subject) (limits : Limits) (h : Header) (before : List CertRecord) (rest : List ℕ)
-    → IsPassing subject limits h before rest (λ lines clause. length lines ≡ limits.lines)
-    → IsPassing subject limits h before rest (λ lines clause. (length lines < limits.lines) × (limits.line_literals < literal_count lines + length clause)) → ⊥
-lines-not-literals subject limits h before rest lines literals = omega (arith, lines.passes, literals.passes.0)
+lines-not-literals : (matter : Matter) (limits : Limits) (h : Header) (before : List CertRecord) (rest : List ℕ)
+    → IsPassing matter limits h before rest (λ lines clause. length lines ≡ limits.lines)
+    → IsPassing matter limits h before rest (λ lines clause. (length lines < limits.lines) × (limits.line_literals < literal_count lines + length clause)) → ⊥
+lines-not-literals matter limits h before rest lines literals = omega (arith, lines.passes, literals.passes.0)
 
-pub same-reason : (subject : Subject) (limits : Limits) (h : Header) (before : List CertRecord) (rest : List ℕ) (one other : Answer)
+pub same-reason : (matter : Matter) (limits : Limits) (h : Header) (before : List CertRecord) (rest : List ℕ) (one other : Answer)
     → length (certificate_text h before) ≤ limits.certificate
-    → Reason subject limits h before rest one → Reason subject limits h before rest other → one ≡ other
-same-reason subject limits h before rest (Ok (Accepted g made)) (Ok (Accepted k claims)) kept x y =
+    → Reason matter limits h before rest one → Reason matter limits h before rest other → one ≡ other
+same-reason matter limits h before rest (Ok (Accepted g made)) (Ok (Accepted k claims)) kept x y =
     ap (λ n. Ok (Accepted n made)) (x.header ∙ sym y.header) ∙ ap (λ n. Ok (Accepted k n)) (x.claims ∙ sym y.claims)
-same-reason subject limits h before rest (Ok (Accepted g made)) (Ok (Refused fault)) kept x y =
-    absurd (done-not-faulty subject limits h before rest g made fault x y)
-same-reason subject limits h before rest (Ok (Accepted g made)) (Err (TooLarge Lines)) kept x y = absurd (nothing-begins y.line y.more rest x.nothing y.begins)
-same-reason subject limits h before rest (Ok (Accepted g made)) (Err (TooLarge LineLiterals)) kept x y =
+same-reason matter limits h before rest (Ok (Accepted g made)) (Ok (Refused fault)) kept x y =
+    absurd (done-not-faulty matter limits h before rest g made fault x y)
+same-reason matter limits h before rest (Ok (Accepted g made)) (Err (TooLarge Lines)) kept x y = absurd (nothing-begins y.line y.more rest x.nothing y.begins)
+same-reason matter limits h before rest (Ok (Accepted g made)) (Err (TooLarge LineLiterals)) kept x y =
     absurd (nothing-begins y.line y.more rest x.nothing y.begins)
-same-reason subject limits h before rest (Ok (Accepted g made)) (Err (TooLarge Certificate)) kept x y =
+same-reason matter limits h before rest (Ok (Accepted g made)) (Err (TooLarge Certificate)) kept x y =
     absurd (done-keeps limits (length (certificate_text h before)) rest kept x.nothing y)
-same-reason subject limits h before rest (Ok (Refused fault)) (Ok (Accepted g made)) kept x y =
-    absurd (done-not-faulty subject limits h before rest g made fault y x)
-same-reason subject limits h before rest (Ok (Refused fault)) (Ok (Refused other)) kept x y =
+same-reason matter limits h before rest (Ok (Refused fault)) (Ok (Accepted g made)) kept x y =
+    absurd (done-not-faulty matter limits h before rest g made fault y x)
+same-reason matter limits h before rest (Ok (Refused fault)) (Ok (Refused other)) kept x y =
     ap (λ f. Ok (Refused f)) (same-fault fault other (x.line ∙ sym y.line)
-    (one_first (HasLineFault subject limits h before rest) in_order fault.cause other.cause x.first y.first))
-same-reason subject limits h before rest (Ok (Refused fault)) (Err (TooLarge Lines)) kept x y =
-    absurd (passing-not-faulty subject limits h before rest _ fault y x)
-same-reason subject limits h before rest (Ok (Refused fault)) (Err (TooLarge LineLiterals)) kept x y =
-    absurd (passing-not-faulty subject limits h before rest _ fault y x)
-same-reason subject limits h before rest (Ok (Refused fault)) (Err (TooLarge Certificate)) kept x y = absurd (x.bytes y)
-same-reason subject limits h before rest (Err (TooLarge Lines)) (Ok (Accepted g made)) kept x y = absurd (nothing-begins x.line x.more rest y.nothing x.begins)
-same-reason subject limits h before rest (Err (TooLarge Lines)) (Ok (Refused fault)) kept x y =
-    absurd (passing-not-faulty subject limits h before rest _ fault x y)
-same-reason subject limits h before rest (Err (TooLarge Lines)) (Err (TooLarge Lines)) kept x y = refl
-same-reason subject limits h before rest (Err (TooLarge Lines)) (Err (TooLarge LineLiterals)) kept x y =
-    absurd (lines-not-literals subject limits h before rest x y)
-same-reason subject limits h before rest (Err (TooLarge Lines)) (Err (TooLarge Certificate)) kept x y = absurd (x.keeps.whole y)
-same-reason subject limits h before rest (Err (TooLarge LineLiterals)) (Ok (Accepted g made)) kept x y =
+    (one_first (HasLineFault matter limits h before rest) in_order fault.cause other.cause x.first y.first))
+same-reason matter limits h before rest (Ok (Refused fault)) (Err (TooLarge Lines)) kept x y =
+    absurd (passing-not-faulty matter limits h before rest _ fault y x)
+same-reason matter limits h before rest (Ok (Refused fault)) (Err (TooLarge LineLiterals)) kept x y =
+    absurd (passing-not-faulty matter limits h before rest _ fault y x)
+same-reason matter limits h before rest (Ok (Refused fault)) (Err (TooLarge Certificate)) kept x y = absurd (x.bytes y)
+same-reason matter limits h before rest (Err (TooLarge Lines)) (Ok (Accepted g made)) kept x y = absurd (nothing-begins x.line x.more rest y.nothing x.begins)
+same-reason matter limits h before rest (Err (TooLarge Lines)) (Ok (Refused fault)) kept x y =
+    absurd (passing-not-faulty matter limits h before rest _ fault x y)
+same-reason matter limits h before rest (Err (TooLarge Lines)) (Err (TooLarge Lines)) kept x y = refl
+same-reason matter limits h before rest (Err (TooLarge Lines)) (Err (TooLarge LineLiterals)) kept x y =
+    absurd (lines-not-literals matter limits h before rest x y)
+same-reason matter limits h before rest (Err (TooLarge Lines)) (Err (TooLarge Certificate)) kept x y = absurd (x.keeps.whole y)
+same-reason matter limits h before rest (Err (TooLarge LineLiterals)) (Ok (Accepted g made)) kept x y =
     absurd (nothing-begins x.line x.more rest y.nothing x.begins)
-same-reason subject limits h before rest (Err (TooLarge LineLiterals)) (Ok (Refused fault)) kept x y =
-    absurd (passing-not-faulty subject limits h before rest _ fault x y)
-same-reason subject limits h before rest (Err (TooLarge LineLiterals)) (Err (TooLarge Lines)) kept x y =
-    absurd (lines-not-literals subject limits h before rest y x)
-same-reason subject limits h before rest (Err (TooLarge LineLiterals)) (Err (TooLarge LineLiterals)) kept x y = refl
-same-reason subject limits h before rest (Err (TooLarge LineLiterals)) (Err (TooLarge Certificate)) kept x y = absurd (x.keeps.whole y)
-same-reason subject limits h before rest (Err (TooLarge Certificate)) (Ok (Accepted g made)) kept x y =
+same-reason matter limits h before rest (Err (TooLarge LineLiterals)) (Ok (Refused fault)) kept x y =
+    absurd (passing-not-faulty matter limits h before rest _ fault x y)
+same-reason matter limits h before rest (Err (TooLarge LineLiterals)) (Err (TooLarge Lines)) kept x y =
+    absurd (lines-not-literals matter limits h before rest y x)
+same-reason matter limits h before rest (Err (TooLarge LineLiterals)) (Err (TooLarge LineLiterals)) kept x y = refl
+same-reason matter limits h before rest (Err (TooLarge LineLiterals)) (Err (TooLarge Certificate)) kept x y = absurd (x.keeps.whole y)
+same-reason matter limits h before rest (Err (TooLarge Certificate)) (Ok (Accepted g made)) kept x y =
     absurd (done-keeps limits (length (certificate_text h before)) rest kept y.nothing x)
-same-reason subject limits h before rest (Err (TooLarge Certificate)) (Ok (Refused fault)) kept x y = absurd (y.bytes x)
-same-reason subject limits h before rest (Err (TooLarge Certificate)) (Err (TooLarge Lines)) kept x y = absurd (y.keeps.whole x)
-same-reason subject limits h before rest (Err (TooLarge Certificate)) (Err (TooLarge LineLiterals)) kept x y = absurd (y.keeps.whole x)
-same-reason subject limits h before rest (Err (TooLarge Certificate)) (Err (TooLarge Certificate)) kept x y = refl
-same-reason subject limits h before rest (Err ReadFault) other kept x y = absurd x
-same-reason subject limits h before rest (Err WriteFault) other kept x y = absurd x
-same-reason subject limits h before rest (Err NoMemory) other kept x y = absurd x
-same-reason subject limits h before rest (Err (TooLarge Bytes)) other kept x y = absurd x
-same-reason subject limits h before rest (Err (TooLarge Stanzas)) other kept x y = absurd x
-same-reason subject limits h before rest (Err (TooLarge Variables)) other kept x y = absurd x
-same-reason subject limits h before rest (Err (TooLarge Clauses)) other kept x y = absurd x
-same-reason subject limits h before rest (Err (TooLarge Literals)) other kept x y = absurd x
-same-reason subject limits h before rest (Err (TooLarge RecordLine)) other kept x y = absurd x
-same-reason subject limits h before rest one other kept x y = absurd y
+same-reason matter limits h before rest (Err (TooLarge Certificate)) (Ok (Refused fault)) kept x y = absurd (y.bytes x)
+same-reason matter limits h before rest (Err (TooLarge Certificate)) (Err (TooLarge Lines)) kept x y = absurd (y.keeps.whole x)
+same-reason matter limits h before rest (Err (TooLarge Certificate)) (Err (TooLarge LineLiterals)) kept x y = absurd (y.keeps.whole x)
+same-reason matter limits h before rest (Err (TooLarge Certificate)) (Err (TooLarge Certificate)) kept x y = refl
+same-reason matter limits h before rest (Err ReadFault) other kept x y = absurd x
+same-reason matter limits h before rest (Err WriteFault) other kept x y = absurd x
+same-reason matter limits h before rest (Err NoMemory) other kept x y = absurd x
+same-reason matter limits h before rest (Err (TooLarge Bytes)) other kept x y = absurd x
+same-reason matter limits h before rest (Err (TooLarge Stanzas)) other kept x y = absurd x
+same-reason matter limits h before rest (Err (TooLarge Variables)) other kept x y = absurd x
+same-reason matter limits h before rest (Err (TooLarge Clauses)) other kept x y = absurd x
+same-reason matter limits h before rest (Err (TooLarge Literals)) other kept x y = absurd x
+same-reason matter limits h before rest (Err (TooLarge RecordLine)) other kept x y = absurd x
+same-reason matter limits h before rest one other kept x y = absurd y
 
 -- ---- a reason before another place
 
@@ -218,46 +214,46 @@ longer-bytes h few later many step is =
       length-append (record_text step) (line_feed ∷ []),
     )
 
-pub not-before : FormsAreClear → (subject : Subject) (limits : Limits) (text : List ℕ) (h other : Header)
+pub not-before : FormsAreClear → (r : PackageList) (basis : Basis) (limits : Limits) (text : List ℕ) (h other : Header)
     (few many : List CertRecord) (rest more : List ℕ) (one : Answer) → h ≡ other
-    → IsAtPoint subject limits text other many more → IsShorter few rest many more → Reason subject limits h few rest one → ⊥
-not-before clear subject limits text h other few many rest more (Ok (Accepted g made)) same point shorter x =
+    → IsReached r basis limits text other many more → IsShorter few rest many more → Reason (matter_of r basis) limits h few rest one → ⊥
+not-before clear r basis limits text h other few many rest more (Ok (Accepted g made)) same point shorter x =
     nothing_more few many more (subst (λ bytes. IsShorter few bytes many more) x.nothing shorter)
-not-before clear subject limits text h other few many rest more (Ok (Refused fault)) same point shorter x =
-    not_faulty subject limits text h other few many rest more fault.cause same point.faultless shorter
-    (has_first (HasLineFault subject limits h few rest) in_order fault.cause x.first)
-not-before clear subject limits text h other few many rest more (Err (TooLarge Lines)) same point shorter x =
+not-before clear r basis limits text h other few many rest more (Ok (Refused fault)) same point shorter x =
+    not_faulty (matter_of r basis) limits text h other few many rest more fault.cause same point.faultless shorter
+    (has_first (HasLineFault (matter_of r basis) limits h few rest) in_order fault.cause x.first)
+not-before clear r basis limits text h other few many rest more (Err (TooLarge Lines)) same point shorter x =
     let form = step-form few shorter.1 many shorter.0 shorter.2 point.faultless.reads.records in
     let is = same-step clear few shorter.1 shorter.0 rest more x.line x.more x.literals x.hints shorter.3 form x.begins x.form in
     passed-lines limits (derived few) (derived shorter.1) (derived many) (clause_of x.literals)
     (derived-more few shorter.1 many shorter.0 x.literals x.hints shorter.2 is) point.numbers.derived_lines x.passes
-not-before clear subject limits text h other few many rest more (Err (TooLarge LineLiterals)) same point shorter x =
+not-before clear r basis limits text h other few many rest more (Err (TooLarge LineLiterals)) same point shorter x =
     let form = step-form few shorter.1 many shorter.0 shorter.2 point.faultless.reads.records in
     let is = same-step clear few shorter.1 shorter.0 rest more x.line x.more x.literals x.hints shorter.3 form x.begins x.form in
     passed-literals limits (derived few) (derived shorter.1) (derived many) (clause_of x.literals)
     (derived-more few shorter.1 many shorter.0 x.literals x.hints shorter.2 is) point.numbers.line_literals x.passes.1
-not-before clear subject limits text h other few many rest more (Err (TooLarge Certificate)) same point shorter x =
+not-before clear r basis limits text h other few many rest more (Err (TooLarge Certificate)) same point shorter x =
     let long = longer-bytes other few shorter.1 many shorter.0 shorter.2 in
     let n : length (certificate_text h few) ≡ length (certificate_text other few) = ap (λ (k : Header). length (certificate_text k few)) same in
     passed-bytes limits (length (certificate_text h few)) (record_text shorter.0) (lines_text shorter.1 ++ more) rest
     (shorter.3 ∙ first_line_of shorter.0 shorter.1 more) (omega (arith, long, n, point.numbers.bytes)) x
-not-before clear subject limits text h other few many rest more one same point shorter x = x
+not-before clear r basis limits text h other few many rest more one same point shorter x = x
 
 -- ---- two places
 
-pub one-later : FormsAreClear → (subject : Subject) (limits : Limits) (text : List ℕ) (h other : Header)
+pub one-later : FormsAreClear → (r : PackageList) (basis : Basis) (limits : Limits) (text : List ℕ) (h other : Header)
     (ones twos : List CertRecord) (rest more : List ℕ) (one two : Answer)
-    → IsAtPoint subject limits text h ones rest → IsAtPoint subject limits text other twos more → Reason subject limits h ones rest one
-    → Reason subject limits other twos more two → one ≡ two
-one-later clear subject limits text h other ones twos rest more one two x y a b =
+    → IsReached r basis limits text h ones rest → IsReached r basis limits text other twos more → Reason (matter_of r basis) limits h ones rest one
+    → Reason (matter_of r basis) limits other twos more two → one ≡ two
+one-later clear r basis limits text h other ones twos rest more one two x y a b =
     let read = readings clear text h other ones twos rest more x.faultless.reads y.faultless.reads in
     ⊎_elim
-    (λ same. same-reason subject limits other twos more one two y.numbers.bytes
-    (subst (λ bytes. Reason subject limits other twos bytes one) same.1
-    (subst (λ steps. Reason subject limits other steps rest one) same.0
-    (subst (λ k. Reason subject limits k ones rest one) read.0 a))) b)
+    (λ same. same-reason (matter_of r basis) limits other twos more one two y.numbers.bytes
+    (subst (λ bytes. Reason (matter_of r basis) limits other twos bytes one) same.1
+    (subst (λ steps. Reason (matter_of r basis) limits other steps rest one) same.0
+    (subst (λ k. Reason (matter_of r basis) limits k ones rest one) read.0 a))) b)
     (λ apart. ⊎_elim
-    (λ shorter. absurd (not-before clear subject limits text h other ones twos rest more one read.0 y shorter a))
-    (λ shorter. absurd (not-before clear subject limits text other h twos ones more rest two (sym read.0) x shorter b))
+    (λ shorter. absurd (not-before clear r basis limits text h other ones twos rest more one read.0 y shorter a))
+    (λ shorter. absurd (not-before clear r basis limits text other h twos ones more rest two (sym read.0) x shorter b))
     apart)
     read.1

@@ -12,6 +12,7 @@ use Rattle.dist_clause.specs.Formula.{Literal}
 use Rattle.dist_cert.specs.declared.TheConstants.{REACH}
 use Rattle.dist_cert.specs.declared.faults.CertCause.{CertCause}
 use Rattle.dist_cert.specs.declared.faults.CertCause.TheVariants as causes
+use Rattle.dist_cert.specs.declared.records.CertKind.{CertKind}
 use Rattle.dist_cert.specs.declared.records.CertKind.TheVariants as kinds
 use Rattle.dist_cert.specs.declared.records.CertRecord.{CertRecord}
 use Rattle.dist_cert.specs.declared.records.CertRecord.TheVariants as lines
@@ -20,99 +21,21 @@ use Rattle.dist_cert.specs.Form.{AreFromOne, record_text, HasForm, KeepsRules}
 use Rattle.dist_cert.specs.Groups.{installations, installation_at, IsRecent, group, IsRefutedIn, IsUndecidedIn}
 use Rattle.dist_cert.specs.GroupLaws.{all-at}
 use Rattle.dist_cert.specs.Subject.{Matter}
-use Rattle.dist_cert.specs.ClaimRules.{yes, no, IsNamed, IsInEach, HoldsStrong, OmitsPackage}
+use Rattle.dist_cert.specs.ClaimRules.{yes, no, IsNamed, IsInEach, HoldsClaim, HoldsStrong, OmitsPackage}
 use Rattle.dist_cert.specs.Rising.{is_among}
 use Rattle.dist_check_group.specs.Window.{kept_at, has_member}
 use Rattle.dist_check_group.specs.Group.{candidates, in_each, is_always, PassesStrong, TellsRules, omits_package}
-use Rattle.dist_check_state.specs.State.{StateView, is_next, TellsStrong}
-use Rattle.dist_check.specs.AtPrivate.{IsCommonOf, IsAt}
-use Rattle.dist_check.proofs.ClosingVerdicts.{on-strong, number-verdict, wrong-verdict, right-verdict, incomplete-verdict}
+use Rattle.dist_check_group.specs.Layout.{present}
+use Rattle.dist_check_state.specs.State.{StateView, is_next, is_strong, TellsListed}
+use Rattle.dist_check.specs.AtPrivate.{IsCommonOf, IsGathered, IsAt}
+use Rattle.dist_check.proofs.ClosingVerdicts.{on-strong, listed-verdict, next-is, wrong-verdict, right-verdict, incomplete-verdict}
+use Rattle.dist_check.proofs.WindowLemmas.{kept-recent, member-tests}
 use Rattle.dist_check.proofs.GroupLemmas.{line-of, recent-there}
 use Rattle.dist_check.specs.CheckedPrivate.{AreRight, HaveForms}
 use Rattle.dist_cert.specs.ListLaws.{any-from, from-any}
 use Rattle.dist_check.proofs.TestLemmas.{Tests, all-tested, any-tested, none-tested, among-tests, other-tests}
 use Rattle.dist_check.proofs.Told.{IsTold, stable, most-told, less-told}
 use Rattle.dist_check.proofs.Verdicts.{IsVerdict}
-
--- ---- installations by their numbers
-
-recent-told : (before : List CertRecord) (number : ℕ) → IsTold (IsRecent before number)
-recent-told before number = elim (most-told 1 number) [
-  | inr low ↦ inr (λ h. low h.0)
-  | inl first ↦ elim (most-told number (length (installations before))) [
-    | inr high ↦ inr (λ h. high h.1)
-    | inl last ↦ elim (less-told (length (installations before)) (number + REACH)) [
-      | inr old ↦ inr (λ h. old h.2)
-      | inl late ↦ inl (first, last, late)
-    ]
-  ]
-]
-
--- how many installations are kept no longer
-forgotten-is : (matter : Matter) (h : Header) (before : List CertRecord) (s : StateView) → IsAt matter h before s
-    → s.window.count - length s.window.kept ≡ length (installations before) - REACH
-forgotten-is matter h before s at =
-    let size : length s.window.kept ≡ length (installations before) - (length (installations before) - REACH)
-    = ap (λ (xs : List (List ℕ)). length xs) at.kept ∙ length-drop (length (installations before) - REACH) (installations before) in
-    omega (arith, size, at.count)
-
-if-false : {X : Type 0} (b : Bool) (x y : X) → b ≡ false → (if b then x else y) ≡ y
-if-false true x y e = absurd (true≢false e)
-if-false false x y e = refl
-
-if-true : {X : Type 0} (b : Bool) (x y : X) → b ≡ true → (if b then x else y) ≡ x
-if-true true x y e = refl
-if-true false x y e = absurd (false≢true e)
-
-kept-recent : (matter : Matter) (h : Header) (before : List CertRecord) (s : StateView) → IsAt matter h before s → (number : ℕ)
-    → IsRecent before number
-    → kept_at s.window number ≡ Some (installation_at before number)
-kept-recent matter h before s at number recent =
-    let all = installations before in
-    let forgotten : ℕ = s.window.count - length s.window.kept in
-    let is : forgotten ≡ length all - REACH = forgotten-is matter h before s at in
-    let size : length s.window.kept ≡ length all - (length all - REACH) = ap (λ (xs : List (List ℕ)). length xs) at.kept
-    ∙ length-drop (length all - REACH) all in
-    let place : ℕ = number - forgotten - 1 in
-    let within : place < length s.window.kept = omega (arith, is, size, recent.0, recent.1, recent.2) in
-    let later : nat_le number forgotten ≡ false = lt-leb number forgotten (omega (arith, is, recent.2, recent.0)) in
-    if-false (nat_le number forgotten) None (slice_get s.window.kept place) later
-    ∙ slice_get-get_or s.window.kept place [] within
-    ∙ ap (λ (m : List ℕ). Some m) (ap (λ (xs : List (List ℕ)). get_or xs place []) at.kept ∙ get_or-drop (length all - REACH) all place []
-    ∙ ap (λ (k : ℕ). get_or all k []) (let e : length all - REACH + place ≡ number - 1 = omega (arith, is, recent.0, recent.2) in e))
-
-kept-old : (matter : Matter) (h : Header) (before : List CertRecord) (s : StateView) → IsAt matter h before s → (number : ℕ)
-    → 1 ≤ number → ¬ IsRecent before number
-    → kept_at s.window number ≡ None
-kept-old matter h before s at number from old =
-    let all = installations before in
-    let forgotten : ℕ = s.window.count - length s.window.kept in
-    let is : forgotten ≡ length all - REACH = forgotten-is matter h before s at in
-    let size : length s.window.kept ≡ length all - (length all - REACH) = ap (λ (xs : List (List ℕ)). length xs) at.kept
-    ∙ length-drop (length all - REACH) all in
-    elim (cases_lt forgotten number) [
-      | inr early ↦ if-true (nat_le number forgotten) None (slice_get s.window.kept (number - forgotten - 1)) (le-leb number forgotten early)
-      | inl late ↦
-          if-false (nat_le number forgotten) None (slice_get s.window.kept (number - forgotten - 1)) (lt-leb number forgotten late)
-          ∙ slice_get_past s.window.kept (number - forgotten - 1) (elim (cases_lt (length all) number) [
-            | inl high ↦ omega (arith, is, size, high, late)
-            | inr low ↦ absurd (old (from, low, omega (arith, is, late)))
-          ])
-    ]
-
--- a member of a recent installation
-pub member-tests : (matter : Matter) (h : Header) (before : List CertRecord) (s : StateView) → IsAt matter h before s
-    → (named : List ℕ) → AreFromOne named → (q : ℕ)
-    → Tests (λ number. has_member (kept_at s.window number) q) (IsNamed before q) named
-member-tests matter h before s at named from_one q number there = elim (recent-told before number) [
-  | inl recent ↦
-      let is = ap (λ (kept : Option (List ℕ)). has_member kept q) (kept-recent matter h before s at number recent) in
-      ((λ e. (recent, from-any q (installation_at before number) (sym is ∙ e))), λ h. is ∙ any-from q (installation_at before number) h.1)
-  | inr old ↦
-      let is = ap (λ (kept : Option (List ℕ)). has_member kept q)
-      (kept-old matter h before s at number (All-contains (λ n. 1 ≤ n) named number from_one there) old) in
-      ((λ e. absurd (false≢true (sym is ∙ e))), λ h. absurd (old h.0))
-]
 
 -- the package is in each named installation
 abbrev pub InNamed : List CertRecord → List ℕ → ℕ → Type 0
@@ -172,25 +95,35 @@ record IsClaimed (matter : Matter) (h : Header) (before : List CertRecord) (s : 
     right : AreRight matter h before
     forms : HaveForms before
     next : s.next ≡ p
+    strong : s.layout.kind ≡ kinds.Strong
     from_one : AreFromOne named
     some : 0 < length named
     same : matter.variables ≡ matter.packages
 
+-- its package is its variable
+variable-is : (matter : Matter) (h : Header) (before : List CertRecord) (s : StateView) (p : ℕ) (named : List ℕ)
+    → IsClaimed matter h before s p named → present s.layout.kind s.next ≡ p
+variable-is matter h before s p named x = ap (λ (k : CertKind). present k s.next) x.strong ∙ x.next
+
 common-of : (matter : Matter) (h : Header) (before : List CertRecord) (s : StateView) (p : ℕ) (named : List ℕ)
     → IsClaimed matter h before s p named → IsCommonOf (installations (group before)) p s.group.common
-common-of matter h before s p named x = subst (λ n. IsCommonOf (installations (group before)) n s.group.common) x.next x.at.group_is.common
+common-of matter h before s p named x =
+    subst (λ n. IsCommonOf (installations (group before)) n s.group.common) x.next
+    (subst (λ k. IsGathered k s.layout (installations (group before)) (present k s.next) s.group) x.strong x.at.group_is.gathered)
 
 refuted-tests : (matter : Matter) (h : Header) (before : List CertRecord) (s : StateView) (p : ℕ) (named : List ℕ)
     → IsClaimed matter h before s p named → (numbers : List ℕ)
     → Tests (is_among s.group.refuted.without) (λ q. IsRefutedIn (group before) (yes p ∷ no q ∷ [])) numbers
 refuted-tests matter h before s p named x numbers q there =
-    subst (λ n. (is_among s.group.refuted.without q ≡ true) ↔ IsRefutedIn (group before) (yes n ∷ no q ∷ [])) x.next (x.at.group_is.refuted.without q)
+    subst (λ n. (is_among s.group.refuted.without q ≡ true) ↔ IsRefutedIn (group before) (yes n ∷ no q ∷ []))
+    (variable-is matter h before s p named x) (x.at.group_is.refuted.without q)
 
 undecided-tests : (matter : Matter) (h : Header) (before : List CertRecord) (s : StateView) (p : ℕ) (named : List ℕ)
     → IsClaimed matter h before s p named → (numbers : List ℕ)
     → Tests (is_among s.group.undecided.without) (λ q. IsUndecidedIn (group before) (yes p ∷ no q ∷ [])) numbers
 undecided-tests matter h before s p named x numbers q there =
-    subst (λ n. (is_among s.group.undecided.without q ≡ true) ↔ IsUndecidedIn (group before) (yes n ∷ no q ∷ [])) x.next (x.at.group_is.undecided.without q)
+    subst (λ n. (is_among s.group.undecided.without q ≡ true) ↔ IsUndecidedIn (group before) (yes n ∷ no q ∷ []))
+    (variable-is matter h before s p named x) (x.at.group_is.undecided.without q)
 
 names-tested : (matter : Matter) (h : Header) (before : List CertRecord) (s : StateView) (p : ℕ) (named : List ℕ)
     → IsClaimed matter h before s p named
@@ -356,44 +289,64 @@ omits-from matter h before s p named on undecided x names =
 
 -- ---- the verdict
 
-pub strong-verdict : (matter : Matter) (h : Header) (before : List CertRecord) (s : StateView) → h.kind ≡ kinds.Strong
+-- a claim of another kind does not hold
+strong-fails : (matter : Matter) (kind : CertKind) (before : List CertRecord) (p : ℕ) (named on undecided : List ℕ) → is_strong kind ≡ false
+    → ¬ HoldsClaim matter kind before (lines.Strong p named on undecided)
+strong-fails matter kinds.Strong before p named on undecided other holds = true≢false other
+strong-fails matter kinds.Outdated before p named on undecided other holds = holds
+strong-fails matter kinds.Challenged before p named on undecided other holds = holds
+
+strong-is : (kind : CertKind) → is_strong kind ≡ true → kind ≡ kinds.Strong
+strong-is kinds.Strong is = refl
+strong-is kinds.Outdated is = absurd (false≢true is)
+strong-is kinds.Challenged is = absurd (false≢true is)
+
+pub strong-verdict : (matter : Matter) (h : Header) (before : List CertRecord) (s : StateView)
     → IsAt matter h before s → AreRight matter h before → HaveForms before
     → (p : ℕ) (named on undecided : List ℕ) → KeepsRules (lines.Strong p named on undecided) → (found : Option CertCause)
-    → TellsStrong (is_next s.next s.packages p) s.window s.group s.packages p named on undecided found
+    → TellsListed (is_next s.next s.packages p) (is_strong s.layout.kind) (λ f. TellsRules s.window s.group s.packages p named on undecided f) found
     → IsVerdict matter h before (lines.Strong p named on undecided) found
-strong-verdict matter h before s strong at right forms p named on undecided rules found told = by (is_next s.next s.packages p) refl told
+strong-verdict matter h before s at right forms p named on undecided rules found told =
+    listed-verdict matter h before s at step p (on-strong matter h before p named on undecided) (is_strong s.layout.kind)
+    (λ f. TellsRules s.window s.group s.packages p named on undecided f)
+    (λ other. strong-fails matter h.kind before p named on undecided (ap is_strong (sym at.kind) ∙ other)) ruled found told
   where
-    claimed : is_next s.next s.packages p ≡ true → IsClaimed matter h before s p named
-    claimed next = record {
+    step : CertRecord
+    step = lines.Strong p named on undecided
+
+    of-kind : is_strong s.layout.kind ≡ true → h.kind ≡ kinds.Strong
+    of-kind kind = sym at.kind ∙ strong-is s.layout.kind kind
+
+    claimed : is_next s.next s.packages p ≡ true → is_strong s.layout.kind ≡ true → IsClaimed matter h before s p named
+    claimed next kind = record {
       at = at;
       right = right;
       forms = forms;
-      next = sym (eqb-true p s.next (and_parts (p == s.next) (nat_le p s.packages) next).0);
+      next = next-is s.next s.packages p next;
+      strong = strong-is s.layout.kind kind;
       from_one = rules.2;
       some = rules.1;
-      same = at.same strong;
+      same = at.same (of-kind kind);
     }
 
-    ruled : is_next s.next s.packages p ≡ true → (f : Option CertCause) → TellsRules s.window s.group s.packages p named on undecided f
-        → IsVerdict matter h before (lines.Strong p named on undecided) f
-    ruled next None t =
-        let x = claimed next in
-        let holds = holds-from matter h before s p named on undecided x t.0 in
-        right-verdict matter h before s strong at (lines.Strong p named on undecided) p (on-strong matter h before p named on undecided) next holds
-        (λ omits. false≢true (sym t.1 ∙ (omits-from matter h before s p named on undecided x holds.names).1 omits))
-    ruled next (Some causes.WrongClaim) t =
-        wrong-verdict matter h before s strong at (lines.Strong p named on undecided) p (on-strong matter h before p named on undecided) next
-        (λ holds. t (passes-from matter h before s p named on undecided (claimed next) holds))
-    ruled next (Some causes.Incomplete) t =
-        let x = claimed next in
-        let holds = holds-from matter h before s p named on undecided x t.0 in
-        incomplete-verdict matter h before s strong at (lines.Strong p named on undecided) p (on-strong matter h before p named on undecided) next holds
-        ((omits-from matter h before s p named on undecided x holds.names).0 t.1)
-    ruled next (Some cause) t = absurd t
+    -- by the kind of the first line
+    held : is_strong s.layout.kind ≡ true → HoldsStrong matter before p named on undecided → HoldsClaim matter h.kind before step
+    held kind holds = subst (λ k. HoldsClaim matter k before step) (sym (of-kind kind)) holds
 
-    by : (b : Bool) → is_next s.next s.packages p ≡ b → TellsStrong b s.window s.group s.packages p named on undecided found
-        → IsVerdict matter h before (lines.Strong p named on undecided) found
-    by true next t = ruled next found t
-    by false other t =
-        subst (IsVerdict matter h before (lines.Strong p named on undecided)) (sym t)
-        (number-verdict matter h before s strong at (lines.Strong p named on undecided) p (on-strong matter h before p named on undecided) other)
+    ruled : is_next s.next s.packages p ≡ true → is_strong s.layout.kind ≡ true → (f : Option CertCause)
+        → TellsRules s.window s.group s.packages p named on undecided f → IsVerdict matter h before step f
+    ruled next kind None t =
+        let x = claimed next kind in
+        let holds = holds-from matter h before s p named on undecided x t.0 in
+        right-verdict matter h before s at step p (on-strong matter h before p named on undecided) next (held kind holds)
+        (λ omits. false≢true (sym t.1 ∙ (omits-from matter h before s p named on undecided x holds.names).1 omits))
+    ruled next kind (Some causes.WrongClaim) t =
+        wrong-verdict matter h before s at step p (on-strong matter h before p named on undecided) next
+        (λ holds. t (passes-from matter h before s p named on undecided (claimed next kind)
+        (subst (λ k. HoldsClaim matter k before step) (of-kind kind) holds)))
+    ruled next kind (Some causes.Incomplete) t =
+        let x = claimed next kind in
+        let holds = holds-from matter h before s p named on undecided x t.0 in
+        incomplete-verdict matter h before s at step p (on-strong matter h before p named on undecided) next (held kind holds)
+        ((omits-from matter h before s p named on undecided x holds.names).0 t.1)
+    ruled next kind (Some cause) t = absurd t

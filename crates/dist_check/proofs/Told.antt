@@ -13,6 +13,9 @@ pub stable : {P : Type 0} → IsTold P → ¬ (¬ P) → P
 stable (inl p) twice = p
 stable (inr never) twice = absurd (twice never)
 
+pub either-way : (P : Type 0) → ¬ ¬ IsTold P
+either-way P never = never (inr (λ p. never (inl p)))
+
 pub less-told : (a b : ℕ) → IsTold (a < b)
 less-told a b = ⊎_elim (λ less. inl less) (λ past. inr (λ less. omega arith)) (cases_lt a b)
 

@@ -24,8 +24,8 @@ use Rattle.dist_check.proofs.Told.{stable, less-told}
 use Rattle.dist_check.proofs.TriedTold.{ends-told, undecided-in-told, closed-front}
 use Rattle.dist_check.proofs.Places.{image-of}
 use Rattle.dist_check.proofs.GroupLemmas.{group-behind}
-use Rattle.dist_check.proofs.Claims.{up, next-number}
-use Rattle.dist_check.proofs.Whole.{find-claim}
+use Rattle.dist_check.proofs.Claims.{up}
+use Rattle.dist_check.proofs.Counts.{find-claim, next-number}
 
 -- a question that is closed as undecided was tried
 pub tried : (matter : Matter) (h : Header) (steps : List CertRecord) → AreRight matter h steps → (question : List Word) → IsUndecidedIn steps question
@@ -77,7 +77,7 @@ tried matter h steps right question closed = record {
 
 -- ---- the questions of a claim's marks
 
-up-pair : (pairs : List (ℕ × ℕ)) (pair : ℕ × ℕ) → ArePairs pairs → Contains (pairs_from_zero pairs) pair → Contains pairs (pair.0 + 1, pair.1 + 1)
+pub up-pair : (pairs : List (ℕ × ℕ)) (pair : ℕ × ℕ) → ArePairs pairs → Contains (pairs_from_zero pairs) pair → Contains pairs (pair.0 + 1, pair.1 + 1)
 up-pair pairs pair from_one there =
     let image = image-of (λ (x : ℕ × ℕ). (x.0 - 1, x.1 - 1)) pairs pair there in
     let low = All-contains (λ (x : ℕ × ℕ). (1 ≤ x.0) × (1 ≤ x.1)) pairs image.of from_one image.there in

@@ -13,6 +13,7 @@ use Rattle.dist_derive.specs.Follows.{Follows}
 use Rattle.dist_derive.specs.New.{IsNew, EachIsNew}
 use Rattle.dist_cert.specs.declared.faults.CertCause.{CertCause}
 use Rattle.dist_cert.specs.declared.faults.CertCause.TheVariants as causes
+use Rattle.dist_cert.specs.declared.records.CertKind.{CertKind}
 use Rattle.dist_cert.specs.declared.records.CertKind.TheVariants as kinds
 use Rattle.dist_cert.specs.declared.records.CertRecord.{CertRecord}
 use Rattle.dist_cert.specs.declared.records.CertRecord.TheVariants as lines
@@ -20,7 +21,7 @@ use Rattle.dist_cert.specs.declared.records.Header.{Header}
 use Rattle.dist_cert.specs.Form.{Word}
 use Rattle.dist_cert.specs.Groups.{clause_of, derived, numbered}
 use Rattle.dist_cert.specs.Subject.{Matter}
-use Rattle.dist_cert.specs.LineRules.{HasRecordFault}
+use Rattle.dist_cert.specs.LineRules.{HasRecordFault, IsNoFuture}
 use Rattle.dist_check.specs.CheckedPrivate.{AreInputsOf}
 use Rattle.dist_cert.specs.Rising.{is_among}
 use Rattle.dist_check_state.specs.Since.{AreNewFrom}
@@ -64,25 +65,25 @@ hints-some last clauses hints same some = subst (λ n. Any (λ m. n < m) hints) 
 
 -- ---- questions
 
-pub question-verdict : (matter : Matter) (h : Header) (before : List CertRecord) (s : StateView) → h.kind ≡ kinds.Strong
+pub question-verdict : (matter : Matter) (h : Header) (before : List CertRecord) (s : StateView)
     → IsAt matter h before s → (literals : List Word) (found : Option CertCause)
     → TellsQuestion s.log.variables literals found → IsVerdict matter h before (lines.Question literals) found
-question-verdict matter h before s strong at literals None told =
-    faultless-from matter h before (lines.Question literals) strong none
+question-verdict matter h before s at literals None told =
+    faultless-from matter h before (lines.Question literals) none
   where
     none : (cause : CertCause) → may_have (lines.Question literals) cause ≡ true
         → ¬ HasRecordFault matter h before (lines.Question literals) cause
     none causes.OutOfRange may fault = range-none s.log.variables (matter.variables) literals at.variables told fault
     none cause may fault = false≢true may
-question-verdict matter h before s strong at literals (Some causes.OutOfRange) told =
-    first-from matter h before (lines.Question literals) causes.OutOfRange strong
+question-verdict matter h before s at literals (Some causes.OutOfRange) told =
+    first-from matter h before (lines.Question literals) causes.OutOfRange
     (range-some s.log.variables (matter.variables) literals at.variables told) none
   where
     none : (cause : CertCause) → may_have (lines.Question literals) cause ≡ true → rank cause < 4
         → ¬ HasRecordFault matter h before (lines.Question literals) cause
     none causes.OutOfRange may below fault = omega (arith, below)
     none cause may below fault = false≢true may
-question-verdict matter h before s strong at literals (Some cause) told = absurd told
+question-verdict matter h before s at literals (Some cause) told = absurd told
 
 -- ---- derived lines
 
@@ -94,11 +95,11 @@ same-length : (matter : Matter) (h : Header) (before : List CertRecord) (s : Sta
     → length s.log.clauses ≡ length (numbered matter before)
 same-length matter h before s at = ap (λ (cs : List (List Literal)). length cs) at.clauses
 
-pub derived-verdict : (matter : Matter) (h : Header) (before : List CertRecord) (s : StateView) → h.kind ≡ kinds.Strong
+pub derived-verdict : (matter : Matter) (h : Header) (before : List CertRecord) (s : StateView)
     → IsAt matter h before s → (literals : List Word) (hints : List ℕ)
     (found : Option CertCause) → TellsDerived s.log literals hints found → IsVerdict matter h before (lines.Derived literals hints) found
-derived-verdict matter h before s strong at literals hints None told =
-    faultless-from matter h before (lines.Derived literals hints) strong none
+derived-verdict matter h before s at literals hints None told =
+    faultless-from matter h before (lines.Derived literals hints) none
   where
     none : (cause : CertCause) → may_have (lines.Derived literals hints) cause ≡ true
         → ¬ HasRecordFault matter h before (lines.Derived literals hints) cause
@@ -107,8 +108,8 @@ derived-verdict matter h before s strong at literals hints None told =
         (same-length matter h before s at) told.1 fault
     none causes.BadLine may fault = fault (subst (λ cs. Follows cs (clause_of literals) hints) at.clauses told.2)
     none cause may fault = false≢true may
-derived-verdict matter h before s strong at literals hints (Some causes.OutOfRange) told =
-    first-from matter h before (lines.Derived literals hints) causes.OutOfRange strong
+derived-verdict matter h before s at literals hints (Some causes.OutOfRange) told =
+    first-from matter h before (lines.Derived literals hints) causes.OutOfRange
     (range-some s.log.variables (matter.variables) literals at.variables told) none
   where
     none : (cause : CertCause) → may_have (lines.Derived literals hints) cause ≡ true → rank cause < 4
@@ -117,8 +118,8 @@ derived-verdict matter h before s strong at literals hints (Some causes.OutOfRan
     none causes.UnknownLine may below fault = omega (arith, below)
     none causes.BadLine may below fault = omega (arith, below)
     none cause may below fault = false≢true may
-derived-verdict matter h before s strong at literals hints (Some causes.UnknownLine) told =
-    first-from matter h before (lines.Derived literals hints) causes.UnknownLine strong
+derived-verdict matter h before s at literals hints (Some causes.UnknownLine) told =
+    first-from matter h before (lines.Derived literals hints) causes.UnknownLine
     (hints-some (length s.log.clauses) (length (numbered matter before)) hints (same-length matter h before s at) told.1) none
   where
     none : (cause : CertCause) → may_have (lines.Derived literals hints) cause ≡ true → rank cause < 6
@@ -127,8 +128,8 @@ derived-verdict matter h before s strong at literals hints (Some causes.UnknownL
     none causes.UnknownLine may below fault = omega (arith, below)
     none causes.BadLine may below fault = omega (arith, below)
     none cause may below fault = false≢true may
-derived-verdict matter h before s strong at literals hints (Some causes.BadLine) told =
-    first-from matter h before (lines.Derived literals hints) causes.BadLine strong
+derived-verdict matter h before s at literals hints (Some causes.BadLine) told =
+    first-from matter h before (lines.Derived literals hints) causes.BadLine
     (λ follows. told.2 (subst (λ cs. Follows cs (clause_of literals) hints) (sym at.clauses) follows)) none
   where
     none : (cause : CertCause) → may_have (lines.Derived literals hints) cause ≡ true → rank cause < 7
@@ -138,18 +139,18 @@ derived-verdict matter h before s strong at literals hints (Some causes.BadLine)
         (same-length matter h before s at) told.1 fault
     none causes.BadLine may below fault = omega (arith, below)
     none cause may below fault = false≢true may
-derived-verdict matter h before s strong at literals hints (Some cause) told = absurd told
+derived-verdict matter h before s at literals hints (Some cause) told = absurd told
 
 -- ---- refuted questions
 
 -- what is told of the question that is open
-pub refuted-verdict : (matter : Matter) (h : Header) (before : List CertRecord) (s : StateView) → h.kind ≡ kinds.Strong
+pub refuted-verdict : (matter : Matter) (h : Header) (before : List CertRecord) (s : StateView)
     → IsAt matter h before s → (question : Option QuestionView)
     → IsQuestionOf matter.inputs before question → (hints : List ℕ) (found : Option CertCause) → TellsRefuted s.log question hints found
     → IsVerdict matter h before (lines.Refuted hints) found
-refuted-verdict matter h before s strong at None q hints found told =
+refuted-verdict matter h before s at None q hints found told =
     subst (IsVerdict matter h before (lines.Refuted hints)) (sym told)
-    (first-from matter h before (lines.Refuted hints) causes.OutOfOrder strong q none)
+    (first-from matter h before (lines.Refuted hints) causes.OutOfOrder q none)
   where
     none : (cause : CertCause) → may_have (lines.Refuted hints) cause ≡ true → rank cause < 5
         → ¬ HasRecordFault matter h before (lines.Refuted hints) cause
@@ -157,8 +158,8 @@ refuted-verdict matter h before s strong at None q hints found told =
     none causes.UnknownLine may below fault = omega (arith, below)
     none causes.BadLine may below fault = omega (arith, below)
     none cause may below fault = false≢true may
-refuted-verdict matter h before s strong at (Some question) q hints None told =
-    faultless-from matter h before (lines.Refuted hints) strong none
+refuted-verdict matter h before s at (Some question) q hints None told =
+    faultless-from matter h before (lines.Refuted hints) none
   where
     none : (cause : CertCause) → may_have (lines.Refuted hints) cause ≡ true
         → ¬ HasRecordFault matter h before (lines.Refuted hints) cause
@@ -170,8 +171,8 @@ refuted-verdict matter h before s strong at (Some question) q hints None told =
         fault.4 (subst (λ asked. Follows (numbered matter before) (map negation (clause_of asked)) hints) (sym one.1)
         (subst (λ cs. Follows cs (map negation (clause_of question.assumptions)) hints) at.clauses told.1))
     none cause may fault = false≢true may
-refuted-verdict matter h before s strong at (Some question) q hints (Some causes.UnknownLine) told =
-    first-from matter h before (lines.Refuted hints) causes.UnknownLine strong
+refuted-verdict matter h before s at (Some question) q hints (Some causes.UnknownLine) told =
+    first-from matter h before (lines.Refuted hints) causes.UnknownLine
     (hints-some (length s.log.clauses) (length (numbered matter before)) hints (same-length matter h before s at) told) none
   where
     none : (cause : CertCause) → may_have (lines.Refuted hints) cause ≡ true → rank cause < 6
@@ -180,8 +181,8 @@ refuted-verdict matter h before s strong at (Some question) q hints (Some causes
     none causes.UnknownLine may below fault = omega (arith, below)
     none causes.BadLine may below fault = omega (arith, below)
     none cause may below fault = false≢true may
-refuted-verdict matter h before s strong at (Some question) q hints (Some causes.BadLine) told =
-    first-from matter h before (lines.Refuted hints) causes.BadLine strong (
+refuted-verdict matter h before s at (Some question) q hints (Some causes.BadLine) told =
+    first-from matter h before (lines.Refuted hints) causes.BadLine (
       q.0,
       question.assumptions,
       q.1,
@@ -197,7 +198,7 @@ refuted-verdict matter h before s strong at (Some question) q hints (Some causes
         (same-length matter h before s at) told.0 fault
     none causes.BadLine may below fault = omega (arith, below)
     none cause may below fault = false≢true may
-refuted-verdict matter h before s strong at (Some question) q hints (Some cause) told = absurd told
+refuted-verdict matter h before s at (Some question) q hints (Some cause) told = absurd told
 
 -- ---- installations
 
@@ -227,6 +228,13 @@ healthy-from matter h before s at mean variables model =
     ((mean.models.exactly variables).1
     (values-from matter mean variables (subst (IsModel (is_among variables)) (inputs-are matter h before s at) model))).1
 
+-- and of a future
+future-from : (matter : Matter) (h : Header) (before : List CertRecord) (s : StateView) → IsAt matter h before s
+    → AreInputsOf matter → (variables : List ℕ) → IsModel (is_among variables) (inputs_of s.log) → matter.IsFuture variables
+future-from matter h before s at mean variables model =
+    ((mean.models.exactly variables).1
+    (values-from matter mean variables (subst (IsModel (is_among variables)) (inputs-are matter h before s at) model))).0
+
 model-from : (matter : Matter) (h : Header) (before : List CertRecord) (s : StateView) → IsAt matter h before s
     → AreInputsOf matter → (variables : List ℕ) → matter.IsFuture variables → matter.IsHealthy variables
     → IsModel (is_among variables) (inputs_of s.log)
@@ -241,39 +249,66 @@ future-is matter h before s at variables =
     subst (λ clauses. matter.IsFuture variables ↔ StandsForFuture s.future (is_among variables) clauses) (sym (inputs-are matter h before s at))
     (at.future variables)
 
-pub installation-verdict : (matter : Matter) (h : Header) (before : List CertRecord) (s : StateView) → h.kind ≡ kinds.Strong
+-- for kind strong each set stands for a future
+future-fault : (matter : Matter) (kind : CertKind) (variables : List ℕ) → (kind ≡ kinds.Strong → matter.IsFuture variables) → ¬ matter.IsFuture variables
+    → IsNoFuture matter kind (lines.Installation variables)
+future-fault matter kinds.Strong variables today none = none (today refl)
+future-fault matter kinds.Outdated variables today none = none
+future-fault matter kinds.Challenged variables today none = none
+
+no-future-fault : (matter : Matter) (kind : CertKind) (variables : List ℕ) → matter.IsFuture variables
+    → ¬ IsNoFuture matter kind (lines.Installation variables)
+no-future-fault matter kinds.Strong variables future fault = fault
+no-future-fault matter kinds.Outdated variables future fault = fault future
+no-future-fault matter kinds.Challenged variables future fault = fault future
+
+pub installation-verdict : (matter : Matter) (h : Header) (before : List CertRecord) (s : StateView)
     → IsAt matter h before s → AreInputsOf matter
     → (variables : List ℕ) (found : Option CertCause) → TellsInstallation s.log s.future variables found
     → IsVerdict matter h before (lines.Installation variables) found
-installation-verdict matter h before s strong at mean variables None told =
-    faultless-from matter h before (lines.Installation variables) strong none
+installation-verdict matter h before s at mean variables None told =
+    faultless-from matter h before (lines.Installation variables) none
   where
     none : (cause : CertCause) → may_have (lines.Installation variables) cause ≡ true
         → ¬ HasRecordFault matter h before (lines.Installation variables) cause
     none causes.OutOfRange may fault = hints-none s.log.variables (matter.variables) variables at.variables told.0 fault
+    none causes.NotAFuture may fault = no-future-fault matter h.kind variables (future-from matter h before s at mean variables told.1) fault
     none causes.NotAnInstallation may fault = fault (healthy-from matter h before s at mean variables told.1)
     none cause may fault = false≢true may
-installation-verdict matter h before s strong at mean variables (Some causes.OutOfRange) told =
-    first-from matter h before (lines.Installation variables) causes.OutOfRange strong
+installation-verdict matter h before s at mean variables (Some causes.OutOfRange) told =
+    first-from matter h before (lines.Installation variables) causes.OutOfRange
     (hints-some s.log.variables (matter.variables) variables at.variables told) none
   where
     none : (cause : CertCause) → may_have (lines.Installation variables) cause ≡ true → rank cause < 4
         → ¬ HasRecordFault matter h before (lines.Installation variables) cause
     none causes.OutOfRange may below fault = omega (arith, below)
+    none causes.NotAFuture may below fault = omega (arith, below)
     none causes.NotAnInstallation may below fault = omega (arith, below)
     none cause may below fault = false≢true may
-installation-verdict matter h before s strong at mean variables (Some causes.NotAFuture) told =
-    absurd (told.1 ((future-is matter h before s at variables).0 (at.today strong variables)))
-installation-verdict matter h before s strong at mean variables (Some causes.NotAnInstallation) told =
-    first-from matter h before (lines.Installation variables) causes.NotAnInstallation strong
-    (λ healthy. told.2 (model-from matter h before s at mean variables (at.today strong variables) healthy)) none
+installation-verdict matter h before s at mean variables (Some causes.NotAFuture) told =
+    first-from matter h before (lines.Installation variables) causes.NotAFuture
+    (future-fault matter h.kind variables (λ strong. at.today strong variables) (λ future. told.1 ((future-is matter h before s at variables).0 future))) none
   where
+    none : (cause : CertCause) → may_have (lines.Installation variables) cause ≡ true → rank cause < 8
+        → ¬ HasRecordFault matter h before (lines.Installation variables) cause
+    none causes.OutOfRange may below fault = hints-none s.log.variables (matter.variables) variables at.variables told.0 fault
+    none causes.NotAFuture may below fault = omega (arith, below)
+    none causes.NotAnInstallation may below fault = omega (arith, below)
+    none cause may below fault = false≢true may
+installation-verdict matter h before s at mean variables (Some causes.NotAnInstallation) told =
+    first-from matter h before (lines.Installation variables) causes.NotAnInstallation
+    (λ healthy. told.2 (model-from matter h before s at mean variables future healthy)) none
+  where
+    future : matter.IsFuture variables
+    future = (future-is matter h before s at variables).1 told.1
+
     none : (cause : CertCause) → may_have (lines.Installation variables) cause ≡ true → rank cause < 9
         → ¬ HasRecordFault matter h before (lines.Installation variables) cause
     none causes.OutOfRange may below fault = hints-none s.log.variables (matter.variables) variables at.variables told.0 fault
+    none causes.NotAFuture may below fault = no-future-fault matter h.kind variables future fault
     none causes.NotAnInstallation may below fault = omega (arith, below)
     none cause may below fault = false≢true may
-installation-verdict matter h before s strong at mean variables (Some cause) told = absurd told
+installation-verdict matter h before s at mean variables (Some cause) told = absurd told
 
 -- ---- lines that were new
 

@@ -1,21 +1,19 @@
 -- What a verdict on a text is right about.
-use Rattle.std.specs.Prelude.{◌≡◌, ℕ, List, Result, Ok, Err}
+use Rattle.std.specs.Prelude.{◌≢◌, ℕ, List, Result, Ok, Err}
 use Rattle.dist_outside.specs.declared.limits.Limits.{Limits}
 use Rattle.dist_outside.specs.declared.trouble.WorkError.{WorkError}
 use Rattle.dist_outside.specs.declared.trouble.WorkError.TheVariants.{ReadFault, NoMemory}
-use Rattle.dist_clause.specs.Formula.{Literal}
 use Rattle.dist_repo.specs.PackageList.{PackageList}
-use Rattle.dist_now.specs.PresentClauses.{ArePresentClauses}
 use Rattle.dist_cert.specs.declared.faults.ReadCertError.{ReadCertError}
 use Rattle.dist_cert.specs.declared.faults.ReadCertError.TheVariants.{Bad, Work}
-use Rattle.dist_cert.specs.declared.records.CertKind.TheVariants as kinds
+use Rattle.dist_cert.specs.declared.records.CertKind.TheVariants.{Strong}
 use Rattle.dist_cert.specs.declared.records.Claim.{Claim}
 use Rattle.dist_cert.specs.declared.records.Header.{Header}
 use Rattle.dist_cert.specs.Form.{header_text, HasHeaderForm}
 use Rattle.dist_check.specs.Checking.{TextAnswers}
 use Rattle.dist_check.specs.Means.{Means}
-use Rattle.dist_subject.specs.Basis.{IsAccepted, IsRefused}
-use Rattle.dist_check.specs.Start.{HasNumbers}
+use Rattle.dist_cert.specs.Refusal.{BeginsWith, Fits}
+use Rattle.dist_subject.specs.Basis.{Basis, IsAccepted, IsBasisOf, IsRefused, matter_of}
 use Rattle.dist_check.specs.declared.verdict.Verdict.{Verdict}
 use Rattle.dist_check.specs.declared.verdict.Verdict.TheVariants.{Accepted, Refused}
 
@@ -30,14 +28,14 @@ abbrev pub Answers : PackageList → Limits → List ℕ → Result Verdict Work
 Answers r limits text result = TextAnswers (λ (x : Header × List Claim). x.0) (λ (x : Header × List Claim). x.1) r
     limits text (as_read result)
 
--- What is accepted has a first line of kind strong, of its form and with the numbers of the repository, and is true.
+-- What is accepted has a first line of its form, with the numbers of what certificates of its kind and mode are judged
+-- by, and is true.
 pub record AcceptedMeans (r : PackageList) (h : Header) (made : List Claim) : Type 0 where
-  pub strong : h.kind ≡ kinds.Strong
   pub form : HasHeaderForm (header_text h) h
-  pub clauses : List (List Literal)
-  pub are_clauses : ArePresentClauses r h.essential clauses
-  pub numbers : HasNumbers r clauses h
-  pub means : Means h.essential r made
+  pub basis : Basis
+  pub is_basis : IsBasisOf r h.kind h.essential basis
+  pub fits : Fits (matter_of r basis) h
+  pub means : Means h.kind h.essential r made
 
 -- what a verdict says whatever the desk tells
 abbrev pub VerdictMeans : PackageList → Verdict → Type 0
@@ -61,3 +59,8 @@ abbrev pub IsOfText : Result Verdict WorkError → Type 0
 IsOfText (Err ReadFault) = ⊥
 IsOfText (Err NoMemory) = ⊥
 IsOfText result = Unit {0}
+
+-- the text has a first line of kind outdated or challenged
+abbrev pub AsksOfFutures : List ℕ → Type 0
+AsksOfFutures text = (h : Header) × (line more : List ℕ) × BeginsWith text line more × HasHeaderForm line h
+    × (h.kind ≢ Strong)

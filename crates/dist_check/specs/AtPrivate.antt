@@ -2,7 +2,8 @@
 use Rattle.std.proofs.Common.{◌≡◌, ℕ, ◌+◌, ◌↔◌, true, List, [], ◌∷◌, ◌++◌, Option, Some, None, length}
 use Rattle.std.specs.List.{All, Any, Contains}
 use Rattle.dist_clause.specs.Formula.{Literal}
-use Rattle.dist_cert.specs.declared.records.CertKind.TheVariants.{Strong}
+use Rattle.dist_cert.specs.declared.records.CertKind.{CertKind}
+use Rattle.dist_cert.specs.declared.records.CertKind.TheVariants as kinds
 use Rattle.dist_cert.specs.declared.records.CertRecord.{CertRecord}
 use Rattle.dist_cert.specs.declared.records.Header.{Header}
 use Rattle.dist_cert.specs.Form.{Word}
@@ -17,6 +18,9 @@ use Rattle.dist_check_state.specs.declared.future.FutureClauses.{FutureClauses}
 use Rattle.dist_check_group.specs.Window.{latest}
 use Rattle.dist_check_group.specs.Closed.{ClosedView}
 use Rattle.dist_check_group.specs.Group.{GroupView}
+use Rattle.dist_check_group.specs.Layout.{LayoutView, present}
+use Rattle.dist_check.specs.CoverPrivate.{IsCoverOf}
+use Rattle.dist_check.specs.LaysOut.{LaysOut}
 use Rattle.dist_check_state.specs.State.{QuestionView, StateView}
 
 -- the open question, with the clauses before its line
@@ -25,21 +29,33 @@ IsQuestionOf inputs before None = ¬ HasOpenQuestion before
 IsQuestionOf inputs before (Some q) = (earlier since : List CertRecord) × IsOpen before earlier q.assumptions since
     × (q.last ≡ length (inputs ++ derived earlier))
 
+-- the own question of a claim, by the kind and the variable of its package
+abbrev pub own_question : CertKind → ℕ → List Word
+own_question kinds.Challenged v = yes 1 ∷ yes v ∷ []
+own_question kind v = yes v ∷ []
+
 -- which questions of a group were closed in one way
-pub record AreClosed (IsClosed : List Word → Type 0) (p : ℕ) (closed : ClosedView) : Type 0 where
-  pub alone : (closed.alone ≡ true) ↔ IsClosed (yes p ∷ [])
-  pub without : (q : ℕ) → (is_among closed.without q ≡ true) ↔ IsClosed (yes p ∷ no q ∷ [])
+pub record AreClosed (IsClosed : List Word → Type 0) (kind : CertKind) (v : ℕ) (closed : ClosedView) : Type 0 where
+  pub alone : (closed.alone ≡ true) ↔ IsClosed (own_question kind v)
+  pub without : (q : ℕ) → (is_among closed.without q ≡ true) ↔ IsClosed (yes v ∷ no q ∷ [])
+  pub together : (q : ℕ) → (is_among closed.together q ≡ true) ↔ IsClosed (yes v ∷ yes q ∷ [])
 
--- what the members with a package have in common
+-- what the members with a variable have in common
 abbrev pub IsCommonOf : List (List ℕ) → ℕ → Option (List ℕ) → Type 0
-IsCommonOf members p None = All (λ m. ¬ Contains m p) members
-IsCommonOf members p (Some common) = Any (λ m. Contains m p) members
-    × ((q : ℕ) → Contains common q ↔ All (λ m. Contains m p → Contains m q) members)
+IsCommonOf members v None = All (λ m. ¬ Contains m v) members
+IsCommonOf members v (Some common) = Any (λ m. Contains m v) members
+    × ((q : ℕ) → Contains common q ↔ All (λ m. Contains m v → Contains m q) members)
 
-pub record IsGroupOf (lines : List CertRecord) (p : ℕ) (kept : GroupView) : Type 0 where
-  pub refuted : AreClosed (IsRefutedIn lines) p kept.refuted
-  pub undecided : AreClosed (IsUndecidedIn lines) p kept.undecided
-  pub common : IsCommonOf (installations lines) p kept.common
+-- what is kept of a group's installations, by the kind
+abbrev pub IsGathered : CertKind → LayoutView → List (List ℕ) → ℕ → GroupView → Type 0
+IsGathered kinds.Strong layout members v kept = IsCommonOf members v kept.common
+IsGathered kinds.Outdated layout members v kept = Unit {0}
+IsGathered kinds.Challenged layout members v kept = IsCoverOf layout members v kept.cover
+
+pub record IsGroupOf (layout : LayoutView) (lines : List CertRecord) (v : ℕ) (kept : GroupView) : Type 0 where
+  pub refuted : AreClosed (IsRefutedIn lines) layout.kind v kept.refuted
+  pub undecided : AreClosed (IsUndecidedIn lines) layout.kind v kept.undecided
+  pub gathered : IsGathered layout.kind layout (installations lines) v kept
 
 -- the sets of variables that stand for a future are those that make the clauses true that say what a future is
 abbrev pub AreFuturesBy : Matter → FutureClauses → Type 0
@@ -54,11 +70,13 @@ pub record IsAt (matter : Matter) (h : Header) (before : List CertRecord) (s : S
   pub inputs_are : s.log.inputs ≡ length matter.inputs
   pub variables : s.log.variables ≡ matter.variables
   pub future : AreFuturesBy matter s.future
-  pub today : h.kind ≡ Strong → (members : List ℕ) → matter.IsFuture members
-  pub same : h.kind ≡ Strong → matter.variables ≡ matter.packages
+  pub kind : s.layout.kind ≡ h.kind
+  pub layout : LaysOut matter s.layout
+  pub today : h.kind ≡ kinds.Strong → (members : List ℕ) → matter.IsFuture members
+  pub same : h.kind ≡ kinds.Strong → matter.variables ≡ matter.packages
   pub kept : s.window.kept ≡ latest (installations before)
   pub count : s.window.count ≡ length (installations before)
   pub question : IsQuestionOf matter.inputs before s.question
   pub next : s.next ≡ claim_count before + 1
-  pub group_is : IsGroupOf (group before) s.next s.group
+  pub group_is : IsGroupOf s.layout (group before) (present s.layout.kind s.next) s.group
   pub claims : s.claims ≡ claims_in before

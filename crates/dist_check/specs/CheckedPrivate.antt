@@ -14,9 +14,10 @@ use Rattle.dist_cert.specs.Form.{record_text, HasForm, is_end}
 use Rattle.dist_cert.specs.LineRules.{HasRecordFault}
 use Rattle.dist_cert.specs.Reading.{ReaderView}
 use Rattle.dist_cert.specs.Refusal.{certificate_text, AreFaultless}
-use Rattle.dist_cert.specs.Subject.{Matter, Subject}
+use Rattle.dist_cert.specs.Subject.{Matter}
 use Rattle.dist_check.specs.AtPrivate.{IsAt}
-use Rattle.dist_subject.specs.Basis.{AreBases, Bases, matter_for, subject_of}
+use Rattle.dist_subject.specs.Basis.{Basis, IsBasisOf, matter_of}
+use Rattle.dist_subject.specs.Limited.{AreInputsWithin}
 use Rattle.dist_subject.specs.Installed.{AreModelsHealthy}
 use Rattle.dist_check_state.specs.State.{StateView}
 
@@ -31,11 +32,11 @@ HaveForms steps = All (λ step. HasForm (record_text step) step) steps
 
 -- The lines that were read are those of the text, where it is told, and have no fault. Where it is not told, they have
 -- none whatever is behind them.
-abbrev pub TextAt : Subject → Limits → Header → List CertRecord → Option (List ℕ) → Option (List ℕ) → Type 0
-TextAt subject limits h before None left = (rest : List ℕ)
-    → AreFaultless subject limits (certificate_text h before ++ rest) h before rest
-TextAt subject limits h before (Some text) left = (rest : List ℕ) × (left ≡ Some rest)
-    × AreFaultless subject limits text h before rest
+abbrev pub TextAt : Matter → Limits → Header → List CertRecord → Option (List ℕ) → Option (List ℕ) → Type 0
+TextAt matter limits h before None left = (rest : List ℕ)
+    → AreFaultless matter limits (certificate_text h before ++ rest) h before rest
+TextAt matter limits h before (Some text) left = (rest : List ℕ) × (left ≡ Some rest)
+    × AreFaultless matter limits text h before rest
 
 -- The input clauses are over the variables, and their models stand for the healthy installations of futures.
 pub record AreInputsOf (matter : Matter) : Type 0 where
@@ -45,16 +46,14 @@ pub record AreInputsOf (matter : Matter) : Type 0 where
 -- What is kept is what the lines that were read hold, the reader stands behind them, and they are those of the text.
 pub record IsChecked (r : PackageList) (limits : Limits) (told : Option (List ℕ)) (h : Header) (reader : ReaderView)
     (left : Option (List ℕ)) (s : StateView) : Type 0 where
-  pub bases : Bases
-  pub are_bases : AreBases r bases
-  pub inputs_mean : AreInputsOf (matter_for r bases h)
+  pub basis : Basis
+  pub is_basis : IsBasisOf r h.kind h.essential basis
+  pub inputs_mean : AreInputsOf (matter_of r basis)
   pub before : List CertRecord
-  pub at : IsAt (matter_for r bases h) h before s
-  pub right : AreRight (matter_for r bases h) h before
+  pub at : IsAt (matter_of r basis) h before s
+  pub right : AreRight (matter_of r basis) h before
   pub forms : HaveForms before
-  pub strong : h.kind ≡ kinds.Strong
-  pub clauses : length (matter_for r bases h).inputs ≤ limits.clauses
-  pub literals : literal_count (matter_for r bases h).inputs ≤ limits.literals
+  pub kept : AreInputsWithin limits r basis
   pub line_limit : s.log.line_limit ≡ limits.lines
   pub line_literal_limit : s.log.line_literal_limit ≡ limits.line_literals
   pub within : IsWithinLineLimits s.log
@@ -62,4 +61,4 @@ pub record IsChecked (r : PackageList) (limits : Limits) (told : Option (List �
   pub line_count : reader.lines ≡ length before + 1
   pub given : reader.given ≡ length (certificate_text h before)
   pub ended : reader.ended ≡ list_any is_end before
-  pub text : TextAt (subject_of r bases) limits h before told left
+  pub text : TextAt (matter_of r basis) limits h before told left

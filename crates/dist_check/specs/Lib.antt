@@ -1,7 +1,10 @@
-pub mod Limited
-pub mod Start
-pub mod Checking
+pub mod LaysOut
+pub mod LayoutPrivate
+pub mod CoverPrivate
 pub mod AtPrivate
+pub mod Start
+pub mod StartPrivate
+pub mod Checking
 pub mod CheckedPrivate
 pub mod Answers
 pub mod Means

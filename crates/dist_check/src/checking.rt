@@ -1,5 +1,5 @@
 //! One pass over the lines of a certificate.
-ghost use Rattle.std.specs.Prelude.{◌≡◌, List, None, Option, ℕ, IfErr, IfOk, OnOk};
+ghost use Rattle.std.specs.Prelude.{◌≡◌, List, None, Option, ℕ, IfErr, IfOk};
 ghost use Rattle.dist_outside.specs.DeskView.{OnlyReads};
 ghost use Rattle.dist_outside.specs.Files.{IsReading};
 ghost use Rattle.dist_outside.specs.Reading.{bytes_left};
@@ -9,16 +9,14 @@ ghost use Rattle.dist_check.specs.Answers.{AcceptedMeans};
 ghost use Rattle.dist_check.specs.CheckedPrivate.{IsChecked};
 ghost use Rattle.dist_check.specs.Checking.{LargeCause, OfText, TextAnswers, TextCause};
 ghost use Rattle.dist_subject.specs.Limited.{AreStated};
-ghost use Rattle.dist_check.specs.Means.{Means};
 
+use crate::laws::accepted_claims_hold;
 use crate::start::start;
 use dist_cert::{Claims, Header, ReadCertError, Reader, forms_are_clear};
 use dist_check_state::{State, Tools, take_line};
-use dist_derive::lines_keep_models;
-use dist_now::models_are_installations;
 use dist_outside::{Desk, Limits};
 use dist_repo::Repository;
-use dist_subject::{bases_are_one, models_are_healthy};
+use dist_subject::models_are_healthy;
 use std::alloc::Global;
 
 /// What was read of an accepted certificate.
@@ -45,15 +43,11 @@ fn take_lines<D: Desk>(
     ensures text { (told : Option (List ℕ)) → IsChecked repo.now limits.now told header.now reader.old (text_left reader.old (D.view desk.old)) state.old
         → OfText told (λ text. TextAnswers (λ _. header.now) (λ _. state.new.claims) repo.now limits.now text result) }
     ensures some { (text : List ℕ) × TextAnswers (λ _. header.now) (λ _. state.new.claims) repo.now limits.now text result }
-    ensures means { OnOk result (Means header.now.essential repo.now state.new.claims) }
     ensures cause { IfErr result (TextCause (D.view desk.old) (D.view desk.new)) }
     ensures large { IfErr result (LargeCause repo.now limits.now) }
     ensures only_reads { OnlyReads (D.view desk.old) (D.view desk.new) }
 {
     forms_are_clear();
-    lines_keep_models();
-    models_are_installations();
-    let _in_order = repo.len();
     'lines: loop {
         let _within = reader.lines();
         let Some(step) = reader.next(desk)? else {
@@ -83,13 +77,13 @@ pub(crate) fn check_text<D: Desk>(
     ensures only_reads { OnlyReads (D.view desk.old) (D.view desk.new) }
 {
     forms_are_clear();
-    bases_are_one();
     models_are_healthy();
+    accepted_claims_hold();
     let _in_order = repo.len();
     let mut reader = Reader::new(alloc, limits);
     let header = reader.header(desk)?;
     let mut state = start(alloc, repo, &header, limits)?;
-    let mut tools = Tools::new(alloc, repo.len())?;
+    let mut tools = Tools::new(alloc, header.variables)?;
     take_lines(
         alloc,
         repo,

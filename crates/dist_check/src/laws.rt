@@ -14,31 +14,40 @@ ghost use Rattle.dist_cert.specs.Form.{Word};
 ghost use Rattle.dist_cert.specs.Tried.{AreMarksTried};
 ghost use Rattle.dist_cert.specs.Groups.{clause_of, IsUndecidedIn};
 ghost use Rattle.dist_check.specs.declared.verdict.Verdict.{Verdict};
-ghost use Rattle.dist_check.specs.Answers.{Answers, IsOfText, IsVerdict};
-ghost use Rattle.dist_subject.specs.Basis.{AreBases, Bases, IsAccepted, IsRefused, matter_for, subject_of};
+ghost use Rattle.dist_check.specs.Answers.{Answers, AsksOfFutures, IsOfText, IsVerdict};
+ghost use Rattle.dist_subject.specs.Basis.{Basis, HaveVersions, IsAccepted, IsRefused, matter_of};
 ghost use Rattle.dist_check.specs.Means.{Means};
 
 use dist_cert::forms_are_clear;
 use dist_derive::{lines_keep_models, new_lines_are_few};
-use dist_now::{models_are_installations, present_clauses_go_on};
-use dist_subject::bases_are_one;
+use dist_future::{models_stand_for_futures, models_tell_of_packages};
+use dist_now::models_are_installations;
+use dist_space::packages_come_first;
+use dist_subject::{
+    bases_are_one, first_numbers_are_one, models_are_healthy, pairs_are_of_the_space,
+};
 
 /// The claims of an accepted text hold, whoever wrote it.
 pub fn accepted_claims_hold()
     ensures { (r : PackageList) (limits : Limits) (text : List ℕ) (h : Header) (made : List Claim) → IsInOrder r.packages
-        → IsAccepted r limits text h made → Means h.essential r made }
+        → IsAccepted r limits text h made → Means h.kind h.essential r made }
 {
     forms_are_clear();
     lines_keep_models();
     models_are_installations();
+    models_are_healthy();
+    packages_come_first();
+    models_stand_for_futures();
+    models_tell_of_packages();
+    pairs_are_of_the_space();
 }
 
 /// A question that an accepted text closes as undecided is hard: the limit is at most 3 to the power of the number of
 /// variables in its cone, which is given by its list.
 pub fn undecided_questions_are_hard()
-    ensures { (r : PackageList) (bases : Bases) (limits : Limits) (text : List ℕ) (h : Header) (steps : List CertRecord)
-        (question : List Word) (cone : List ℕ) → AreBases r bases → IsAcceptedAs (subject_of r bases) limits text h steps
-        → IsUndecidedIn steps question → ((v : ℕ) → Contains cone v ↔ InCone (matter_for r bases h).inputs (clause_of question) v)
+    ensures { (r : PackageList) (basis : Basis) (limits : Limits) (text : List ℕ) (h : Header) (steps : List CertRecord)
+        (question : List Word) (cone : List ℕ) → IsAcceptedAs (matter_of r basis) limits text h steps
+        → IsUndecidedIn steps question → ((v : ℕ) → Contains cone v ↔ InCone (matter_of r basis).inputs (clause_of question) v)
         → h.limit ≤ 3 ^ length cone }
 {
     forms_are_clear();
@@ -48,8 +57,8 @@ pub fn undecided_questions_are_hard()
 /// Each mark of an accepted text was worked for: its question is closed as undecided in the text, behind at least as many
 /// derived lines as the limit, each of which follows by its hints and was new.
 pub fn marks_are_tried()
-    ensures { (r : PackageList) (bases : Bases) (limits : Limits) (text : List ℕ) (h : Header) (steps : List CertRecord)
-        → IsAcceptedAs (subject_of r bases) limits text h steps → AreMarksTried (matter_for r bases h) h.kind h.limit steps }
+    ensures { (r : PackageList) (basis : Basis) (limits : Limits) (text : List ℕ) (h : Header) (steps : List CertRecord)
+        → IsAcceptedAs (matter_of r basis) limits text h steps → AreMarksTried (matter_of r basis) h.kind h.limit steps }
 {
     forms_are_clear();
 }
@@ -65,11 +74,13 @@ pub fn texts_have_one_verdict()
     bases_are_one();
 }
 
-/// No text is neither accepted nor refused.
+/// No text is neither accepted nor refused. One that asks of futures is judged by newest packages that have versions, as those
+/// of a repository that was read do.
 pub fn each_text_has_a_verdict()
-    ensures { (r : PackageList) (limits : Limits) (text : List ℕ) → IsInOrder r.packages
+    ensures { (r : PackageList) (limits : Limits) (text : List ℕ) → IsInOrder r.packages → (AsksOfFutures text → HaveVersions r)
         → ((h : Header) (made : List Claim) → ¬ IsAccepted r limits text h made) → ¬ ((fault : CertFault) → ¬ IsRefused r limits text fault) }
 {
+    forms_are_clear();
     bases_are_one();
 }
 
@@ -81,5 +92,5 @@ pub fn texts_have_one_answer()
 {
     forms_are_clear();
     bases_are_one();
-    present_clauses_go_on();
+    first_numbers_are_one();
 }

@@ -7,6 +7,7 @@
 mod checking;
 mod file;
 mod laws;
+mod layout;
 mod start;
 mod verdict;
 

@@ -1,3 +1,5 @@
 mod RisingLemmas
 mod SetLemmas
 mod RuleLemmas
+mod CoverLemmas
+mod ChallengeLemmas

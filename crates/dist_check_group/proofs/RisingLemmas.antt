@@ -10,7 +10,7 @@ use Rattle.std.proofs.lemmas.List.{get_or_default}
 use Rattle.std.proofs.lemmas.List.Kept.{AllPairs-from_increasing}
 use Rattle.std.proofs.lemmas.List.Sorted.{searched}
 use Rattle.dist_cert.specs.Rising.{AreRising, is_among}
-use Rattle.dist_cert.specs.ListLaws.{any-from, from-any}
+use Rattle.dist_cert.specs.ListLaws.{any-from, both-flags, from-any}
 
 -- rising numbers do not fall
 not-falling : (numbers : List ℕ) → AreRising numbers → (i j : ℕ) → i ≤ j → j < length numbers → get_or numbers i 0 ≤ get_or numbers j 0
@@ -46,6 +46,11 @@ pub never-rising : (numbers : List ℕ) (place : ℕ) → 1 ≤ place → place 
 never-rising numbers place from within falls rising = let less = rising (place - 1) place 0 (omega arith) within in omega arith
 
 -- ---- tests
+
+-- the same numbers, as a test
+pub same-among : (xs ys : List ℕ) (q : ℕ) → Contains xs q ↔ Contains ys q → is_among xs q ≡ is_among ys q
+same-among xs ys q same = both-flags (is_among xs q) (is_among ys q) (λ e. any-from q ys (same.0 (from-any q xs e)))
+    (λ e. any-from q xs (same.1 (from-any q ys e)))
 
 pub same-answer : (b : Bool) (numbers : List ℕ) (number : ℕ) → IsTrue b ↔ Contains numbers number → b ≡ is_among numbers number
 same-answer true numbers number iff = sym (any-from number numbers (iff.0 refl))

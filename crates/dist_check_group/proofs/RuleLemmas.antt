@@ -45,14 +45,14 @@ filter-twice f g (x ∷ xs) = at (f x) (filter-twice f g xs)
     at true rest = ap (λ (ys : List ℕ). if g x then x ∷ ys else ys) rest
     at false rest = rest
 
-filter-ext : (f g : ℕ → Bool) (xs : List ℕ) → ((q : ℕ) → f q ≡ g q) → filter f xs ≡ filter g xs
+pub filter-ext : (f g : ℕ → Bool) (xs : List ℕ) → ((q : ℕ) → f q ≡ g q) → filter f xs ≡ filter g xs
 filter-ext f g xs same = ap (λ (h : ℕ → Bool). filter h xs) (fun_ext same)
 
 and-none : (a b : Bool) → b ≡ false → (a && b) ≡ b
 and-none true b e = refl
 and-none false b e = sym e
 
-among-filter : (f : ℕ → Bool) (xs : List ℕ) (q : ℕ) → is_among (filter f xs) q ≡ (is_among xs q && f q)
+pub among-filter : (f : ℕ → Bool) (xs : List ℕ) (q : ℕ) → is_among (filter f xs) q ≡ (is_among xs q && f q)
 among-filter f [] q = refl
 among-filter f (x ∷ xs) q = at (f x) refl (q == x) refl (among-filter f xs q)
   where
@@ -63,7 +63,7 @@ among-filter f (x ∷ xs) q = at (f x) refl (q == x) refl (among-filter f xs q)
     at false is true same rest = rest ∙ and-none (is_among xs q) (f q) (ap f (eqb-true q x same) ∙ is)
     at false is false same rest = rest
 
-any-filter : (t f : ℕ → Bool) (xs : List ℕ) → list_any t (filter f xs) ≡ list_any (λ q. t q && f q) xs
+pub any-filter : (t f : ℕ → Bool) (xs : List ℕ) → list_any t (filter f xs) ≡ list_any (λ q. t q && f q) xs
 any-filter t f [] = refl
 any-filter t f (x ∷ xs) = at (f x) (any-filter t f xs)
   where
@@ -99,14 +99,17 @@ same-all f xs ys same =
 
 -- ---- what is in all installations that are named
 
-pub kept-more : (w : WindowView) (named xs kept : List ℕ) (i : ℕ) → i < length named → kept ≡ filter (in_each w (take i named)) xs
-    → filter (has_member (kept_at w (get_or named i 0))) kept ≡ filter (in_each w (take (i + 1) named)) xs
-kept-more w named xs kept i within is =
-    ap (λ (ys : List ℕ). filter (has_member (kept_at w (get_or named i 0))) ys) is
-    ∙ filter-twice (in_each w (take i named)) (has_member (kept_at w (get_or named i 0))) xs
-    ∙ filter-ext (λ q. in_each w (take i named) q && has_member (kept_at w (get_or named i 0)) q) (in_each w (take (i + 1) named)) xs
-    (λ q. sym (ap (λ (ns : List ℕ). in_each w ns q) (take_more named i 0 within)
-    ∙ all-push (λ number. has_member (kept_at w number) q) (take i named) (get_or named i 0)))
+-- one more that is named, whose test the kept ones pass
+pub kept-more : (test : ℕ → ℕ → Bool) (named xs kept : List ℕ) (i : ℕ) → i < length named
+    → kept ≡ filter (λ q. list_all (λ number. test number q) (take i named)) xs
+    → filter (test (get_or named i 0)) kept ≡ filter (λ q. list_all (λ number. test number q) (take (i + 1) named)) xs
+kept-more test named xs kept i within is =
+    let upto : ℕ → ℕ → Bool = λ n q. list_all (λ number. test number q) (take n named) in
+    ap (λ (ys : List ℕ). filter (test (get_or named i 0)) ys) is
+    ∙ filter-twice (upto i) (test (get_or named i 0)) xs
+    ∙ filter-ext (λ q. upto i q && test (get_or named i 0) q) (upto (i + 1)) xs
+    (λ q. sym (ap (λ (ns : List ℕ). list_all (λ number. test number q) ns) (take_more named i 0 within)
+    ∙ all-push (λ number. test number q) (take i named) (get_or named i 0)))
 
 pub named-once : (w : WindowView) (named sorted xs : List ℕ) → ((q : ℕ) → Contains sorted q ↔ Contains named q)
     → filter (in_each w sorted) xs ≡ filter (in_each w named) xs

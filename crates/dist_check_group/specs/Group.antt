@@ -1,28 +1,43 @@
--- What is kept of a group, and the tests of a strong claim.
+-- What is kept of a group, and the tests of a claim on strong dependencies.
 use Rattle.std.specs.Prelude.{◌≡◌, ◌==◌, ◌&&◌, ℕ, Bool, true, false, List, [], ◌∷◌, Option, Some, None, filter, not}
-use Rattle.std.specs.Prelude.{nat_le, unwrap_or, if◌then◌else◌}
+use Rattle.std.specs.Prelude.{nat_le, unwrap_or}
 use Rattle.std.specs.List.{list_all, list_any}
 use Rattle.dist_cert.specs.declared.faults.CertCause.{CertCause}
 use Rattle.dist_cert.specs.declared.faults.CertCause.TheVariants.{WrongClaim, Incomplete}
+use Rattle.dist_cert.specs.declared.records.CertKind.{CertKind}
+use Rattle.dist_cert.specs.declared.records.CertKind.TheVariants as kinds
 use Rattle.dist_cert.specs.Rising.{AreRising, is_among}
 use Rattle.dist_check_group.specs.Window.{WindowView, kept_at, has_member}
-use Rattle.dist_check_group.specs.Closed.{ClosedView}
+use Rattle.dist_check_group.specs.Closed.{ClosedView, none_closed}
+use Rattle.dist_check_group.specs.Layout.{LayoutView}
+use Rattle.dist_check_group.specs.Common.{common_with}
+use Rattle.dist_check_group.specs.Cover.{CoverView, Gathers}
 
--- The questions of a group that were refuted, those that were closed as undecided, and the packages that are in all of
--- its installations that have the claim's package, if there are any.
+-- The questions of a group that were refuted, and those that were closed as undecided. Of kind strong the packages that
+-- are in all of its installations that have the claim's package, if there are any; of kind challenged what these use
+-- and hold.
 pub record GroupView : Type 0 where
   pub refuted : ClosedView
   pub undecided : ClosedView
   pub common : Option (List ℕ)
+  pub cover : CoverView
 
--- the packages that are in the members too
-abbrev pub narrowed : Option (List ℕ) → List ℕ → List ℕ
-narrowed None members = members
-narrowed (Some common) members = filter (is_among members) common
+-- nothing is kept
+abbrev pub empty_group : GroupView
+empty_group = record {
+  refuted = none_closed;
+  undecided = none_closed;
+  common = None;
+  cover = record { used = None; held = [] };
+}
 
--- what is common with one more installation, which counts where it has the package
-abbrev pub common_with : ℕ → List ℕ → Option (List ℕ) → Option (List ℕ)
-common_with p members common = if is_among members p then Some (narrowed common members) else common
+-- what is kept with one more installation, by the kind
+abbrev pub Grows : CertKind → LayoutView → ℕ → List ℕ → GroupView → GroupView → Type 0
+Grows kinds.Strong layout variable members old new =
+    new ≡ record old { common = common_with variable members old.common }
+Grows kinds.Outdated layout variable members old new = new ≡ old
+Grows kinds.Challenged layout variable members old new = (new ≡ record old { cover = new.cover })
+    × Gathers layout variable members old.cover new.cover
 
 -- the package is in all installations that are named
 abbrev pub in_each : WindowView → List ℕ → ℕ → Bool

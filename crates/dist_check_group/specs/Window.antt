@@ -1,6 +1,6 @@
 -- What is kept of the installations before a line.
-use Rattle.std.specs.Prelude.{ℕ, ◌-◌, Bool, false, List, Option, Some, None, length, drop, nat_le, slice_get}
-use Rattle.std.specs.Prelude.{if◌then◌else◌}
+use Rattle.std.specs.Prelude.{ℕ, ◌-◌, Bool, false, List, [], Option, Some, None, length, drop, nat_le, slice_get}
+use Rattle.std.specs.Prelude.{unwrap_or, if◌then◌else◌}
 use Rattle.dist_cert.specs.declared.TheConstants.{REACH}
 use Rattle.dist_cert.specs.Rising.{is_among}
 
@@ -22,3 +22,7 @@ kept_at w number = if nat_le number (w.count - length w.kept) then None else sli
 abbrev pub has_member : Option (List ℕ) → ℕ → Bool
 has_member None q = false
 has_member (Some members) q = is_among members q
+
+-- the members of the installation of a number, and none where it is not kept
+abbrev pub members_at : WindowView → ℕ → List ℕ
+members_at w number = unwrap_or (kept_at w number) []

@@ -1,22 +1,27 @@
 //! What is kept of the group of a claim.
-ghost use Rattle.std.specs.Prelude.{◌≡◌, [], false, None, IfOk, IfSome, OnOk};
+ghost use Rattle.std.specs.Prelude.{◌≡◌, IfSome, OnOk};
 ghost use Rattle.std.specs.Option.{ForSome, option_copied};
-ghost use Rattle.dist_check_group.specs.Closed.{ClosedView, Closes};
-ghost use Rattle.dist_check_group.specs.Group.{GroupView, common_with, narrowed};
+ghost use Rattle.dist_check_group.specs.Closed.{Closes};
+ghost use Rattle.dist_check_group.specs.Common.{common_with};
+ghost use Rattle.dist_check_group.specs.Group.{GroupView, Grows, empty_group};
 ghost use Rattle.dist_cert.specs.Rising.{AreRising};
 
 use crate::closed::Closed;
-use crate::numbers::{has, keep_common};
-use dist_cert::{Items, Numbers};
+use crate::cover::Cover;
+use crate::layout::Layout;
+use crate::numbers::{has, narrow};
+use dist_cert::{CertKind, Numbers};
 use std::alloc::{AllocError, Global};
 use std::marker::Model;
 
-/// The closed questions of a group, and what its installations have in common.
+/// The closed questions of a group, and of its installations what a claim of the kind asks: what is common to them, or
+/// what they use and hold.
 #[derive(Debug, Drop)]
 pub struct Group {
     pub(crate) refuted: Closed,
     pub(crate) undecided: Closed,
     common: Option<Numbers>,
+    cover: Cover,
 }
 
 impl Model for Group {
@@ -26,7 +31,7 @@ impl Model for Group {
 
     ghost Value = { GroupView };
 
-    ghost view = { λ g. record { refuted = g.refuted; undecided = g.undecided; common = g.common } };
+    ghost view = { λ g. record { refuted = g.refuted; undecided = g.undecided; common = g.common; cover = g.cover } };
 
     ghost invariant = { λ g. ForSome g.common AreRising };
 }
@@ -34,56 +39,75 @@ impl Model for Group {
 impl Group {
     /// An empty group.
     pub fn new(alloc: Global) -> Group
-        ensures { result ≡ record {
-          refuted = record { alone = false; without = [] };
-          undecided = record { alone = false; without = [] };
-          common = None;
-        } }
+        ensures { result ≡ empty_group }
     {
         Group {
             refuted: Closed::new(alloc),
             undecided: Closed::new(alloc),
             common: None,
+            cover: Cover::new(alloc),
         }
     }
 
-    /// Adds an installation, which counts where it has the package.
+    /// Adds an installation, which counts where it has the variable of the claim's package.
     pub fn add_installation(
         &mut self,
         alloc: Global,
-        package: u32,
+        layout: &Layout,
+        variable: u32,
         members: &[u32],
     ) -> Result<(), AllocError>
         requires { AreRising members.now }
-        ensures { OnOk result (self.new ≡ record self.old { common = common_with «package» members.now self.old.common }) }
+        ensures { OnOk result (Grows layout.now.kind layout.now variable members.now self.old self.new) }
     {
-        if has(members, package) {
+        match layout.kind() {
+            CertKind::Strong => self.narrow_common(alloc, variable, members),
+            CertKind::Outdated => Ok(()),
+            CertKind::Challenged => self.cover.add(alloc, layout, variable, members),
+        }
+    }
+
+    /// Narrows what is common by an installation, which counts where it has the variable.
+    fn narrow_common(
+        &mut self,
+        alloc: Global,
+        variable: u32,
+        members: &[u32],
+    ) -> Result<(), AllocError>
+        requires { AreRising members.now }
+        ensures { OnOk result (self.new ≡ record self.old { common = common_with variable members.now self.old.common }) }
+    {
+        if has(members, variable) {
             let common = self.common.take();
             self.common = Some(narrow(alloc, common, members)?);
         }
         Ok(())
     }
 
-    /// Adds a question that was refuted.
-    pub fn add_refuted(&mut self, package: u32, question: &[(u32, bool)]) -> Result<(), AllocError>
-        ensures closes { OnOk result (Closes «package» question.now self.old.refuted self.new.refuted) }
-        ensures undecided { OnOk result (self.new.undecided ≡ self.old.undecided) }
-        ensures common { OnOk result (self.new.common ≡ self.old.common) }
-    {
-        self.refuted.add(package, question)
-    }
-
-    /// Adds a question that was closed as undecided.
-    pub fn add_undecided(
+    /// Adds a question that was refuted, where a claim on the package of the variable may name it.
+    pub fn add_refuted(
         &mut self,
-        package: u32,
+        kind: CertKind,
+        variable: u32,
         question: &[(u32, bool)],
     ) -> Result<(), AllocError>
-        ensures closes { OnOk result (Closes «package» question.now self.old.undecided self.new.undecided) }
-        ensures refuted { OnOk result (self.new.refuted ≡ self.old.refuted) }
-        ensures common { OnOk result (self.new.common ≡ self.old.common) }
+        ensures closes { OnOk result (Closes kind variable question.now self.old.refuted self.new.refuted) }
+        ensures rest { OnOk result (self.new ≡ record self.old { refuted = self.new.refuted }) }
     {
-        self.undecided.add(package, question)
+        self.refuted.add(kind, variable, question)
+    }
+
+    /// Adds a question that was closed as undecided, where a claim on the package of the variable may name it.
+    pub fn add_undecided(
+        &mut self,
+        kind: CertKind,
+        variable: u32,
+        question: &[(u32, bool)],
+    ) -> Result<(), AllocError>
+        ensures closes { OnOk result (Closes kind variable question.now self.old.undecided self.new.undecided) }
+        ensures rest { OnOk result (self.new ≡ record self.old { undecided = self.new.undecided }) }
+    {
+        self.undecided.add(kind, variable, question)
     }
 
     /// The packages that are in all installations that count, if there are any.
@@ -97,14 +121,29 @@ impl Group {
         }
     }
 
-    /// Whether the question of the package alone was refuted.
+    /// The clusters that all installations that count use, if there are any.
+    pub(crate) fn used(&self) -> Option<&[u32]>
+        ensures value { option_copied result ≡ self.now.cover.used }
+        ensures rising { IfSome result (λ clusters. AreRising clusters.now) }
+    {
+        self.cover.used()
+    }
+
+    /// What one of the installations that count holds besides packages, in no order.
+    pub(crate) fn held(&self) -> &[u32]
+        ensures { result.now ≡ self.now.cover.held }
+    {
+        self.cover.held()
+    }
+
+    /// Whether the claim's own question was refuted.
     pub fn is_refuted(&self) -> bool
         ensures { result ≡ self.now.refuted.alone }
     {
         self.refuted.has_alone()
     }
 
-    /// Whether the question of the package alone was closed as undecided.
+    /// Whether the claim's own question was closed as undecided.
     pub fn is_undecided(&self) -> bool
         ensures { result ≡ self.now.undecided.alone }
     {
@@ -113,31 +152,11 @@ impl Group {
 
     /// Forgets all.
     pub fn clear(&mut self)
-        ensures { self.new ≡ record {
-          refuted = record { alone = false; without = [] };
-          undecided = record { alone = false; without = [] };
-          common = None;
-        } }
+        ensures { self.new ≡ empty_group }
     {
         self.refuted.clear();
         self.undecided.clear();
         self.common = None;
-    }
-}
-
-/// The numbers that are common, and in the members too.
-fn narrow(alloc: Global, common: Option<Numbers>, members: &[u32]) -> Result<Numbers, AllocError>
-    requires members { AreRising members.now }
-    requires common { ForSome common AreRising }
-    ensures value { IfOk result (λ kept. kept ≡ narrowed common members.now) }
-    ensures rising { IfOk result AreRising }
-{
-    match common {
-        None => Ok(Items::from_vec(members.to_vec(alloc)?)),
-        Some(common) => {
-            let mut kept = common.into_vec();
-            keep_common(&mut kept, members);
-            Ok(Items::from_vec(kept))
-        }
+        self.cover.clear();
     }
 }

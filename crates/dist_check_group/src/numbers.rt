@@ -1,7 +1,15 @@
 //! Rising lists of numbers, as lines name them.
-ghost use Rattle.std.specs.Prelude.{◌≡◌, ◌==◌, ◌↔◌, ◌&&◌, IsTrue, filter, nat_le, not};
+ghost use Rattle.std.specs.Prelude.{◌≡◌, ◌==◌, ◌↔◌, ◌&&◌, ℕ, IfOk, IsTrue, filter, nat_le, not};
 ghost use Rattle.std.specs.List.{list_all, list_any};
+ghost use Rattle.std.specs.Option.{ForSome};
 ghost use Rattle.dist_cert.specs.Rising.{AreRising, is_among};
+ghost use Rattle.dist_check_group.specs.Common.{narrowed};
+
+use dist_cert::{Items, Numbers};
+use std::alloc::{AllocError, Global};
+
+/// So many numbers are kept before repeated ones among them are looked for.
+const MANY: usize = 1 << 16;
 
 /// Whether each number is below the next one.
 pub fn is_rising(numbers: &[u32]) -> bool
@@ -54,4 +62,46 @@ pub(crate) fn are_others(numbers: &[u32], number: u32, last: u32) -> bool
     numbers
         .iter()
         .all(|other| *other != number && *other <= last)
+}
+
+/// Puts numbers in their order, each once.
+pub(crate) fn put_in_order(numbers: &mut Vec<u32>)
+    ensures rising { AreRising numbers.new.items }
+    ensures same { (q : ℕ) → is_among numbers.new.items q ≡ is_among numbers.old.items q }
+{
+    numbers.sort_unstable();
+    numbers.dedup();
+}
+
+/// Puts numbers in order, each once, where they are more than a limit, so that numbers that come again and again take no
+/// more memory than they would once. Answers the next limit.
+pub(crate) fn thin(numbers: &mut Vec<u32>, limit: usize) -> usize
+    ensures { (q : ℕ) → is_among numbers.new.items q ≡ is_among numbers.old.items q }
+{
+    if numbers.len() <= limit {
+        return limit;
+    }
+    put_in_order(numbers);
+    numbers.len().saturating_mul(2).max(MANY)
+}
+
+/// The numbers that are common, and among the others too.
+pub(crate) fn narrow(
+    alloc: Global,
+    common: Option<Numbers>,
+    others: &[u32],
+) -> Result<Numbers, AllocError>
+    requires others { AreRising others.now }
+    requires common { ForSome common AreRising }
+    ensures value { IfOk result (λ kept. kept ≡ narrowed common others.now) }
+    ensures rising { IfOk result AreRising }
+{
+    match common {
+        None => Ok(Items::from_vec(others.to_vec(alloc)?)),
+        Some(common) => {
+            let mut kept = common.into_vec();
+            keep_common(&mut kept, others);
+            Ok(Items::from_vec(kept))
+        }
+    }
 }

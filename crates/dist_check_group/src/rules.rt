@@ -20,11 +20,11 @@ pub struct StrongClaim<'a> {
     pub undecided: &'a [u32],
 }
 
-/// Whether a package is in all installations that are named.
-fn is_in_each(window: &Window, named: &[u32], package: u32) -> bool
-    ensures { result ≡ in_each window.now named.now «package» }
+/// Whether a variable is in all installations that are named.
+pub(crate) fn is_in_each(window: &Window, named: &[u32], variable: u32) -> bool
+    ensures { result ≡ in_each window.now named.now variable }
 {
-    named.iter().all(|number| window.has(*number, package))
+    named.iter().all(|number| window.has(*number, variable))
 }
 
 /// The members of one of the claim's installations, narrowed by those of the group.
@@ -42,7 +42,7 @@ fn candidates<'a>(window: &'a Window, group: &'a Group, named: &[u32]) -> &'a [u
 }
 
 /// Numbers in their order, each once.
-fn each_once(alloc: Global, numbers: &[u32]) -> Result<Vec<u32>, AllocError>
+pub(crate) fn each_once(alloc: Global, numbers: &[u32]) -> Result<Vec<u32>, AllocError>
     ensures { IfOk result (λ sorted. (q : ℕ) → Contains sorted.items q ↔ Contains numbers.now q) }
 {
     let mut sorted = numbers.to_vec(alloc)?;

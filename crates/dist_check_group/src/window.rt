@@ -2,7 +2,7 @@
 ghost use Rattle.std.specs.Prelude.{◌≡◌, ◌+◌, ◌<◌, ◌≤◌, ◌^◌, [], ◌∷◌, ◌++◌, IfSome, OnOk, length};
 ghost use Rattle.std.specs.Option.{option_copied};
 ghost use Rattle.dist_cert.specs.Rising.{AreRising};
-ghost use Rattle.dist_check_group.specs.Window.{WindowView, has_member, kept_at, latest};
+ghost use Rattle.dist_check_group.specs.Window.{WindowView, has_member, kept_at, latest, members_at};
 
 use crate::numbers::has;
 use dist_cert::{Numbers, REACH};
@@ -67,12 +67,23 @@ impl Window {
         Some(members.as_slice())
     }
 
-    /// Whether the installation of a number is one of the latest and has the package.
-    pub(crate) fn has(&self, number: u32, package: u32) -> bool
-        ensures { result ≡ has_member (kept_at self.now number) «package» }
+    /// The same, and no members where it is not.
+    pub(crate) fn members(&self, number: u32) -> &[u32]
+        ensures value { result.now ≡ members_at self.now number }
+        ensures rising { AreRising result.now }
     {
         match self.get(number) {
-            Some(members) => has(members, package),
+            Some(members) => members,
+            None => &[],
+        }
+    }
+
+    /// Whether the installation of a number is one of the latest and has the variable.
+    pub fn has(&self, number: u32, variable: u32) -> bool
+        ensures { result ≡ has_member (kept_at self.now number) variable }
+    {
+        match self.get(number) {
+            Some(members) => has(members, variable),
             None => false,
         }
     }

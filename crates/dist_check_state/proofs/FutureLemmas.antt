@@ -1,6 +1,7 @@
 -- The clauses that say what a future is, by their numbers.
-use Rattle.std.proofs.Common.{◌≡◌, ℕ, ◌+◌, ◌-◌, ◌<◌, ◌≤◌, Bool, List, [], length, get_or, take, drop, min, sym, ap, subst, ◌∙◌, arith}
-use Rattle.std.proofs.lemmas.List.{get_or-take, get_or-drop, length-take, length-drop, length-take-le}
+use Rattle.std.proofs.Common.{◌≡◌, inl, inr, ℕ, ◌+◌, ◌-◌, ◌<◌, ◌≤◌, Bool, List, [], length, get_or, take, drop, min, sym, ap, subst, ◌∙◌, arith}
+use Rattle.std.proofs.lemmas.Bool.{cases_lt}
+use Rattle.std.proofs.lemmas.List.{get_or-take, get_or-drop, length-take, length-drop, length-take-le, take-take, take_all}
 use Rattle.dist_clause.specs.ClauseList.{clause_at}
 use Rattle.dist_clause.specs.Formula.{Literal, MakesTrue, IsModel}
 use Rattle.dist_check_state.specs.declared.future.FutureClauses.{FutureClauses}
@@ -54,12 +55,33 @@ model-back value clauses n behind within model number past upto =
     ∙ front-clause clauses n number (omega (arith, past)) upto)
     (model (number - behind - 1) [] (omega (arith, past, upto, size, whole)))
 
+-- a front of a front
+take-both : (m n : ℕ) (clauses : List (List Literal)) → n ≤ length clauses → take m (take n clauses) ≡ take (min m n) clauses
+take-both m n clauses within = elim (cases_lt n m) [
+  | inl less ↦
+      let size = length-take-le n clauses within in
+      let short : length (take n clauses) ≤ m = omega (arith, size, less) in
+      let same : n ≡ min m n = omega (arith, less) in
+      take_all m (take n clauses) short ∙ ap (λ (k : ℕ). take k clauses) same
+  | inr upto ↦
+      let same : m ≡ min m n = omega (arith, upto) in
+      take-take m n clauses upto ∙ ap (λ (k : ℕ). take k clauses) same
+]
+
 pub future-from : (value : ℕ → Bool) (clauses : List (List Literal)) (n : ℕ) (which : FutureClauses) → n ≤ length clauses
-    → AreTrueIn value clauses 0 (min which.upto n) → AreTrueIn value clauses which.behind n → StandsForFuture which value (take n clauses)
-future-from value clauses n which within front back =
-    (front-model value clauses n which.upto within front, back-model value clauses n which.behind within back)
+    → AreTrueIn value clauses 0 (min which.upto n) → AreTrueIn value clauses which.behind (min which.last n)
+    → StandsForFuture which value (take n clauses)
+future-from value clauses n which within front back = (
+  front-model value clauses n which.upto within front,
+  subst (λ (cs : List (List Literal)). IsModel value (drop which.behind cs)) (sym (take-both which.last n clauses within))
+      (back-model value clauses (min which.last n) which.behind (omega (arith, within)) back),
+)
 
 pub from-future : (value : ℕ → Bool) (clauses : List (List Literal)) (n : ℕ) (which : FutureClauses) → n ≤ length clauses
-    → StandsForFuture which value (take n clauses) → AreTrueIn value clauses 0 (min which.upto n) × AreTrueIn value clauses which.behind n
-from-future value clauses n which within stands =
-    (model-front value clauses n which.upto within stands.0, model-back value clauses n which.behind within stands.1)
+    → StandsForFuture which value (take n clauses)
+    → AreTrueIn value clauses 0 (min which.upto n) × AreTrueIn value clauses which.behind (min which.last n)
+from-future value clauses n which within stands = (
+  model-front value clauses n which.upto within stands.0,
+  model-back value clauses (min which.last n) which.behind (omega (arith, within))
+      (subst (λ (cs : List (List Literal)). IsModel value (drop which.behind cs)) (take-both which.last n clauses within) stands.1),
+)

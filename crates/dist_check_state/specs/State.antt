@@ -1,6 +1,6 @@
 -- What a checker keeps of the lines before a line, and what it tells of the next one.
 use Rattle.std.specs.Prelude.{◌≡◌, ◌==◌, ◌&&◌, ℕ, ◌+◌, ◌<◌, ◌≤◌, Bool, true, false, List, [], ◌∷◌, ◌++◌, Option, Some}
-use Rattle.std.specs.Prelude.{None, MatchOption, MatchBool, length, map, nat_le, nat_lt}
+use Rattle.std.specs.Prelude.{None, MatchOption, length, map, nat_le, nat_lt, not}
 use Rattle.std.specs.List.{list_any}
 use Rattle.dist_outside.specs.declared.trouble.WorkError.{WorkError}
 use Rattle.dist_outside.specs.declared.trouble.WorkError.TheVariants.{NoMemory}
@@ -13,6 +13,8 @@ use Rattle.dist_cert.specs.declared.faults.CertCause.TheVariants.{NotAFuture, No
 use Rattle.dist_cert.specs.declared.faults.CertCause.TheVariants.{NotNew, WrongClaim, Incomplete}
 use Rattle.dist_cert.specs.declared.faults.ReadCertError.{ReadCertError}
 use Rattle.dist_cert.specs.declared.faults.ReadCertError.TheVariants.{Bad, Work}
+use Rattle.dist_cert.specs.declared.records.CertKind.{CertKind}
+use Rattle.dist_cert.specs.declared.records.CertKind.TheVariants as kinds
 use Rattle.dist_cert.specs.declared.records.CertRecord.{CertRecord}
 use Rattle.dist_cert.specs.declared.records.CertRecord.TheVariants as lines
 use Rattle.dist_cert.specs.declared.records.Claim.{Claim}
@@ -20,9 +22,11 @@ use Rattle.dist_cert.specs.Form.{Word}
 use Rattle.dist_cert.specs.Groups.{clause_of}
 use Rattle.dist_cert.specs.Accepted.{claim_in}
 use Rattle.dist_cert.specs.Rising.{is_among}
-use Rattle.dist_check_group.specs.Window.{WindowView, latest}
+use Rattle.dist_check_group.specs.Layout.{LayoutView, present}
+use Rattle.dist_check_group.specs.Window.{WindowView, has_member, kept_at, latest}
 use Rattle.dist_check_group.specs.Closed.{Closes}
-use Rattle.dist_check_group.specs.Group.{GroupView, common_with, TellsRules}
+use Rattle.dist_check_group.specs.Group.{GroupView, Grows, TellsRules, empty_group}
+use Rattle.dist_check_group.specs.Challenge.{TellsChallenge}
 use Rattle.dist_check_state.specs.Since.{AreNewFrom, IsAppendCause}
 use Rattle.dist_check_state.specs.Future.{StandsForFuture}
 use Rattle.dist_check_state.specs.declared.future.FutureClauses.{FutureClauses}
@@ -32,11 +36,12 @@ pub record QuestionView : Type 0 where
   pub assumptions : List Word
   pub last : ℕ
 
--- The limit of the first line, the number of packages, the clauses and which of them say what a future is, the
--- installations and the group, the open question, the package of the next claim, and the claims.
+-- The limit of the first line, the number of packages, what the variables stand for, the clauses and which of them say
+-- what a future is, the installations and the group, the open question, the package of the next claim, and the claims.
 pub record StateView : Type 0 where
   pub limit : ℕ
   pub packages : ℕ
+  pub layout : LayoutView
   pub log : ClauseLog
   pub future : FutureClauses
   pub window : WindowView
@@ -110,10 +115,38 @@ TellsClaim next holds (Some OutOfOrder) = next ≡ false
 TellsClaim next holds (Some WrongClaim) = (next ≡ true) × (holds ≡ false)
 TellsClaim next holds (Some cause) = ⊥
 
--- a claim on strong dependencies, which is on the next package or is not
-abbrev pub TellsStrong : Bool → WindowView → GroupView → ℕ → ℕ → List ℕ → List ℕ → List ℕ → Option CertCause → Type 0
-TellsStrong true w group packages p named on undecided found = TellsRules w group packages p named on undecided found
-TellsStrong false w group packages p named on undecided found = found ≡ Some OutOfOrder
+-- A claim with lists, which is on the next package or is not, and of the certificate's kind or not: then by its rules.
+abbrev pub TellsListed : Bool → Bool → (Option CertCause → Type 0) → Option CertCause → Type 0
+TellsListed true true Rules found = Rules found
+TellsListed true false Rules found = found ≡ Some WrongClaim
+TellsListed false kind Rules found = found ≡ Some OutOfOrder
+
+-- ---- which claims hold, by the kind
+
+abbrev pub is_strong : CertKind → Bool
+is_strong kinds.Strong = true
+is_strong kind = false
+
+abbrev pub is_outdated : CertKind → Bool
+is_outdated kinds.Outdated = true
+is_outdated kind = false
+
+abbrev pub is_challenged : CertKind → Bool
+is_challenged kinds.Challenged = true
+is_challenged kind = false
+
+-- that the package is not installable: its own question was refuted, and is one of installability
+abbrev pub holds_uninstallable : StateView → Bool
+holds_uninstallable s = not (is_outdated s.layout.kind) && s.group.refuted.alone
+
+-- that the package is outdated
+abbrev pub holds_outdated : StateView → Bool
+holds_outdated s = is_outdated s.layout.kind && s.group.refuted.alone
+
+-- that the package is not outdated, by the installation of a number
+abbrev pub holds_alive : StateView → ℕ → ℕ → Bool
+holds_alive s p number =
+    is_outdated s.layout.kind && has_member (kept_at s.window number) (present s.layout.kind p)
 
 abbrev pub TellsEnd : ℕ → ℕ → Option CertCause → Type 0
 TellsEnd next packages None = packages < next
@@ -127,13 +160,15 @@ Tells s (lines.Derived literals hints) = TellsDerived s.log literals hints
 Tells s (lines.Refuted hints) = TellsRefuted s.log s.question hints
 Tells s (lines.Installation variables) = TellsInstallation s.log s.future variables
 Tells s lines.Undecided = TellsUndecided s.log s.limit s.question
-Tells s (lines.NotInstallable p) = TellsClaim (is_next s.next s.packages p) s.group.refuted.alone
+Tells s (lines.NotInstallable p) = TellsClaim (is_next s.next s.packages p) (holds_uninstallable s)
 Tells s (lines.Unknown p) = TellsClaim (is_next s.next s.packages p) s.group.undecided.alone
-Tells s (lines.Strong p named on undecided) =
-    TellsStrong (is_next s.next s.packages p) s.window s.group s.packages p named on undecided
-Tells s (lines.Outdated p) = TellsClaim (is_next s.next s.packages p) false
-Tells s (lines.Alive p installation) = TellsClaim (is_next s.next s.packages p) false
-Tells s (lines.Challenged p named by undecided) = TellsClaim (is_next s.next s.packages p) false
+Tells s (lines.Outdated p) = TellsClaim (is_next s.next s.packages p) (holds_outdated s)
+Tells s (lines.Alive p number) = TellsClaim (is_next s.next s.packages p) (holds_alive s p number)
+Tells s (lines.Strong p named on undecided) = TellsListed (is_next s.next s.packages p) (is_strong s.layout.kind)
+    (λ found. TellsRules s.window s.group s.packages p named on undecided found)
+Tells s (lines.Challenged p named by undecided) =
+    TellsListed (is_next s.next s.packages p) (is_challenged s.layout.kind)
+    (λ found. TellsChallenge s.layout s.window s.group (present s.layout.kind p) named by undecided found)
 Tells s lines.End = TellsEnd s.next s.packages
 
 -- ---- what a line without a fault makes of it
@@ -145,22 +180,31 @@ Allows s (lines.Derived literals hints) = names_above s.log.variables literals �
 Allows s (lines.NotInstallable p) = is_next s.next s.packages p ≡ true
 Allows s (lines.Unknown p) = is_next s.next s.packages p ≡ true
 Allows s (lines.Strong p named on undecided) = is_next s.next s.packages p ≡ true
+Allows s (lines.Outdated p) = is_next s.next s.packages p ≡ true
+Allows s (lines.Alive p number) = is_next s.next s.packages p ≡ true
+Allows s (lines.Challenged p named by undecided) = is_next s.next s.packages p ≡ true
 Allows s step = Unit {0}
 
-abbrev pub empty_group : GroupView
-empty_group = record {
-  refuted = record { alone = false; without = [] };
-  undecided = record { alone = false; without = [] };
-  common = None;
-}
+-- a question is noted as refuted, or as undecided
+abbrev pub Notes : Bool → CertKind → ℕ → List Word → GroupView → GroupView → Type 0
+Notes true kind variable question old new = (new ≡ record old { refuted = new.refuted })
+    × Closes kind variable question old.refuted new.refuted
+Notes false kind variable question old new = (new ≡ record old { undecided = new.undecided })
+    × Closes kind variable question old.undecided new.undecided
 
 -- the open question is closed, and its answer is noted in the group
 pub record Answers (s t : StateView) (refuted : Bool) : Type 0 where
   pub rest : t ≡ record s { question = None; group = t.group }
-  pub common : t.group.common ≡ s.group.common
-  pub noted : MatchOption s.question (t.group ≡ s.group) (λ q. MatchBool refuted
-      (Closes s.next q.assumptions s.group.refuted t.group.refuted × (t.group.undecided ≡ s.group.undecided))
-      (Closes s.next q.assumptions s.group.undecided t.group.undecided × (t.group.refuted ≡ s.group.refuted)))
+  pub noted : MatchOption s.question (t.group ≡ s.group)
+      (λ q. Notes refuted s.layout.kind (present s.layout.kind s.next) q.assumptions s.group t.group)
+
+-- an installation is the latest one, and adds to the group
+pub record Installs (s : StateView) (variables : List ℕ) (t : StateView) : Type 0 where
+  pub rest : t ≡ record s {
+    window = record { kept = latest (s.window.kept ++ variables ∷ []); count = s.window.count + 1 };
+    group = t.group;
+  }
+  pub grows : Grows s.layout.kind s.layout (present s.layout.kind s.next) variables s.group t.group
 
 -- a claim ends the group
 abbrev pub after_claim : StateView → List Claim → StateView
@@ -174,17 +218,9 @@ Becomes s (lines.Derived literals hints) t =
     t ≡ record s { log = record s.log { clauses = s.log.clauses ++ clause_of literals ∷ [] } }
 Becomes s (lines.Refuted hints) t = Answers s t true
 Becomes s lines.Undecided t = Answers s t false
-Becomes s (lines.Installation variables) t = t ≡ record s {
-  window = record { kept = latest (s.window.kept ++ variables ∷ []); count = s.window.count + 1 };
-  group = record s.group { common = common_with s.next variables s.group.common };
-}
-Becomes s (lines.NotInstallable p) t = t ≡ after_claim s (claim_in (lines.NotInstallable p))
-Becomes s (lines.Unknown p) t = t ≡ after_claim s (claim_in (lines.Unknown p))
-Becomes s (lines.Strong p named on undecided) t = t ≡ after_claim s (claim_in (lines.Strong p named on undecided))
-Becomes s (lines.Outdated p) t = Unit {0}
-Becomes s (lines.Alive p installation) t = Unit {0}
-Becomes s (lines.Challenged p named by undecided) t = Unit {0}
+Becomes s (lines.Installation variables) t = Installs s variables t
 Becomes s lines.End t = t ≡ record s { question = None }
+Becomes s step t = t ≡ after_claim s (claim_in step)
 
 -- why a line without a fault was not taken
 abbrev pub StopsAt : StateView → CertRecord → WorkError → Type 0

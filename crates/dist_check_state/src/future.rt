@@ -8,11 +8,12 @@ ghost use Rattle.dist_cert.specs.Rising.{AreRising, is_among};
 use crate::denials::makes_true;
 use dist_derive::Log;
 
-/// Which input clauses say what a future is: those up to one number, and those behind another.
+/// Which input clauses say what a future is: those up to one number, and those behind another up to a last.
 #[derive(Clone, Copy, Debug, PartialEq, Eq)]
 pub struct FutureClauses {
     pub upto: u32,
     pub behind: u32,
+    pub last: u32,
 }
 
 /// Whether the clauses behind one number, up to another, are true, where the listed variables are.
@@ -39,11 +40,12 @@ impl FutureClauses {
         requires rising { AreRising variables.now }
         ensures { IsTrue result ↔ StandsForFuture self (is_among variables.now) (inputs_of log.now) }
     {
-        let last = log.inputs();
-        let front = self.upto.min(last);
+        let inputs = log.inputs();
+        let front = self.upto.min(inputs);
         if !are_true(log, 0, front, variables) {
             return false;
         }
+        let last = self.last.min(inputs);
         are_true(log, self.behind, last, variables)
     }
 }

@@ -6,7 +6,7 @@ ghost use Rattle.dist_cert.specs.Form.{AreLiterals};
 ghost use Rattle.dist_cert.specs.Rising.{AreRising};
 ghost use Rattle.dist_check_state.specs.Denials.{AreDenialsOf};
 ghost use Rattle.dist_check_state.specs.Since.{AreLiteralsOver};
-ghost use Rattle.dist_check_state.specs.State.{TellsClaim, TellsDerived, TellsEnd, TellsInstallation, TellsQuestion, TellsRefuted, TellsStrong, TellsUndecided, is_next};
+ghost use Rattle.dist_check_state.specs.State.{TellsClaim, TellsDerived, TellsEnd, TellsInstallation, TellsQuestion, TellsRefuted, TellsUndecided, is_next};
 
 use crate::above::{is_any_above, is_any_variable_above};
 use crate::denials::Denials;
@@ -14,9 +14,8 @@ use crate::future::FutureClauses;
 use crate::question::Question;
 use crate::tools::Tools;
 use dist_cert::CertCause;
-use dist_check_group::{Group, StrongClaim, Window, judge_rules};
 use dist_derive::Log;
-use std::alloc::{AllocError, Global};
+use std::alloc::AllocError;
 
 /// Of the line of a question.
 pub(crate) fn judge_question(log: &Log, literals: &[(u32, bool)]) -> Option<CertCause>
@@ -174,24 +173,6 @@ pub(crate) fn judge_claim(next: bool, holds: bool) -> Option<CertCause>
         return Some(CertCause::WrongClaim);
     }
     None
-}
-
-/// Of a claim on strong dependencies.
-pub(crate) fn judge_strong(
-    alloc: Global,
-    next: bool,
-    window: &Window,
-    group: &Group,
-    packages: u32,
-    claim: &StrongClaim<'_>,
-) -> Result<Option<CertCause>, AllocError>
-    ensures { IfOk result
-        (TellsStrong next window.now group.now packages claim.now.package claim.now.named.now claim.now.on.now claim.now.undecided.now) }
-{
-    if !next {
-        return Ok(Some(CertCause::OutOfOrder));
-    }
-    judge_rules(alloc, window, group, packages, claim)
 }
 
 /// Of the line of the end.

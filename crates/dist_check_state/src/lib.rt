@@ -9,6 +9,7 @@ mod denials;
 mod from_zero;
 mod future;
 mod judging;
+mod kinds;
 mod lines;
 mod literals;
 mod newness;

@@ -1,24 +1,30 @@
 //! What is kept of the lines before a line: what is told of the next one, and what it makes of it.
-ghost use Rattle.std.specs.Prelude.{◌≡◌, ◌+◌, ◌<◌, ◌≤◌, ◌^◌, [], ◌∷◌, ◌++◌, None, Some, IfErr, IfOk, OnOk, length};
+ghost use Rattle.std.specs.Prelude.{◌≡◌, ◌&&◌, ◌+◌, ◌<◌, ◌≤◌, ◌^◌, [], ◌∷◌, ◌++◌, None, Some, IfErr, IfOk, OnOk, length};
 ghost use Rattle.dist_derive.specs.ClauseLog.{IsWithinLineLimits};
 ghost use Rattle.dist_cert.specs.Groups.{clause_of};
-ghost use Rattle.dist_cert.specs.declared.records.CertRecord.TheVariants.{Installation};
 ghost use Rattle.dist_cert.specs.Form.{KeepsRules};
 ghost use Rattle.dist_cert.specs.Rising.{AreRising};
 ghost use Rattle.dist_check_state.specs.Since.{AreLiteralsOver, IsAppendCause};
-ghost use Rattle.dist_check_state.specs.State.{Allows, Answers, Becomes, StopsAt, Tells, TellsClaim, after_claim, empty_group, is_next};
+ghost use Rattle.dist_check_group.specs.Layout.{present};
+ghost use Rattle.dist_check_group.specs.Window.{has_member, kept_at};
+ghost use Rattle.dist_check_group.specs.Group.{TellsRules, empty_group};
+ghost use Rattle.dist_check_group.specs.Challenge.{TellsChallenge};
+ghost use Rattle.dist_check_state.specs.State.{Allows, Answers, Becomes, Installs, StopsAt, Tells, TellsClaim, TellsListed, after_claim, holds_alive, holds_outdated, holds_uninstallable, is_challenged, is_next, is_outdated, is_strong};
 
 use crate::denials::Denials;
-use crate::from_zero::from_zero;
+use crate::from_zero::{from_zero, pairs_from_zero};
 use crate::future::FutureClauses;
 use crate::judging::{
     is_next, judge_claim, judge_derived, judge_end, judge_installation, judge_question,
-    judge_refuted, judge_strong, judge_undecided,
+    judge_refuted, judge_undecided,
 };
+use crate::kinds::{is_challenged, is_outdated, is_strong, present};
 use crate::question::Question;
 use crate::tools::Tools;
 use dist_cert::{CertCause, CertRecord, Claim, Claims, Literals, Numbers};
-use dist_check_group::{Group, StrongClaim, Window};
+use dist_check_group::{
+    ChallengeClaim, Group, Layout, StrongClaim, Window, judge_challenge, judge_rules,
+};
 use dist_derive::Log;
 use dist_outside::WorkError;
 use std::alloc::{AllocError, Global};
@@ -29,6 +35,7 @@ use std::marker::Model;
 pub struct State {
     limit: u32,
     packages: u32,
+    layout: Layout,
     log: Log,
     /// Of the log's input clauses.
     denials: Denials,
@@ -42,7 +49,7 @@ pub struct State {
 }
 
 impl Model for State {
-    ghost use Rattle.std.specs.Prelude.{◌≡◌, ◌≤◌, length};
+    ghost use Rattle.std.specs.Prelude.{◌≡◌, ◌+◌, ◌≤◌, length};
     ghost use Rattle.std.specs.Option.{ForSome};
     ghost use Rattle.dist_derive.specs.ClauseLog.{inputs_of};
     ghost use Rattle.dist_check_state.specs.Denials.{AreDenialsOf};
@@ -54,6 +61,7 @@ impl Model for State {
     ghost view = { λ s. record {
       limit = s.limit;
       packages = s.packages;
+      layout = s.layout;
       log = s.log;
       future = s.future;
       window = s.window;
@@ -63,7 +71,7 @@ impl Model for State {
       claims = s.claims;
     } };
 
-    ghost invariant = { λ s. (s.packages ≤ s.log.variables) × AreDenialsOf (inputs_of s.log) s.denials × ForSome s.question (λ q. AreLiteralsOver s.log.variables q.assumptions) × ForSome s.question (λ q. q.last ≤ length s.log.clauses) };
+    ghost invariant = { λ s. (s.packages ≤ s.log.variables) × (s.next ≤ s.packages + 1) × AreDenialsOf (inputs_of s.log) s.denials × ForSome s.question (λ q. AreLiteralsOver s.log.variables q.assumptions) × ForSome s.question (λ q. q.last ≤ length s.log.clauses) };
 }
 
 impl State {
@@ -72,6 +80,7 @@ impl State {
         alloc: Global,
         limit: u32,
         packages: u32,
+        layout: Layout,
         future: FutureClauses,
         log: Log,
     ) -> Result<State, AllocError>
@@ -80,6 +89,7 @@ impl State {
         ensures value { IfOk result (λ s. s ≡ record {
           limit = limit;
           packages = packages;
+          layout = layout;
           log = log;
           future = future;
           window = record { kept = []; count = 0 };
@@ -94,6 +104,7 @@ impl State {
         Ok(State {
             limit,
             packages,
+            layout,
             log,
             denials,
             future,
@@ -149,17 +160,13 @@ impl State {
                 judge_undecided(&self.log, tools, self.limit, &self.question)
             }
             CertRecord::NotInstallable(package) => {
-                Ok(self.judge_claim(*package, self.group.is_refuted()))
+                Ok(self.judge_claim(*package, self.holds_uninstallable()))
             }
             CertRecord::Unknown(package) => {
                 Ok(self.judge_claim(*package, self.group.is_undecided()))
             }
-            CertRecord::Strong(package, named, on, undecided) => judge_strong(
+            CertRecord::Strong(package, named, on, undecided) => self.judge_strong(
                 alloc,
-                is_next(self.next, self.packages, *package),
-                &self.window,
-                &self.group,
-                self.packages,
                 &StrongClaim {
                     package: *package,
                     named: named.as_slice(),
@@ -167,11 +174,25 @@ impl State {
                     undecided: undecided.as_slice(),
                 },
             ),
-            CertRecord::Outdated(package) => Ok(self.judge_claim(*package, false)),
-            CertRecord::Alive(package, _) => Ok(self.judge_claim(*package, false)),
-            CertRecord::Challenged(package, _, _, _) => Ok(self.judge_claim(*package, false)),
+            CertRecord::Outdated(package) => Ok(self.judge_claim(*package, self.holds_outdated())),
+            CertRecord::Alive(package, number) => Ok(self.judge_alive(*package, *number)),
+            CertRecord::Challenged(package, named, by, undecided) => self.judge_challenged(
+                alloc,
+                *package,
+                named.as_slice(),
+                by.as_slice(),
+                undecided.as_slice(),
+            ),
             CertRecord::End => Ok(judge_end(self.next, self.packages)),
         }
+    }
+
+    /// The variable of the package of the next claim.
+    fn next_variable(&self) -> u32
+        ensures { result ≡ present self.now.layout.kind self.now.next }
+    {
+        let _stated = self.log.variables();
+        present(self.layout.kind(), self.next)
     }
 
     /// Of a claim on a package, which holds or does not.
@@ -179,6 +200,82 @@ impl State {
         ensures { TellsClaim (is_next self.now.next self.now.packages «package») holds result }
     {
         judge_claim(is_next(self.next, self.packages, package), holds)
+    }
+
+    /// Whether a claim that the package is not installable holds.
+    fn holds_uninstallable(&self) -> bool
+        ensures { result ≡ holds_uninstallable self.now }
+    {
+        !is_outdated(self.layout.kind()) && self.group.is_refuted()
+    }
+
+    /// Whether a claim that the package is outdated holds.
+    fn holds_outdated(&self) -> bool
+        ensures { result ≡ holds_outdated self.now }
+    {
+        is_outdated(self.layout.kind()) && self.group.is_refuted()
+    }
+
+    /// Whether the installation of a number has a variable, and claims are of kind outdated.
+    fn holds_alive(&self, variable: u32, number: u32) -> bool
+        ensures { result ≡ (is_outdated self.now.layout.kind && has_member (kept_at self.now.window number) variable) }
+    {
+        is_outdated(self.layout.kind()) && self.window.has(number, variable)
+    }
+
+    /// Of a claim that a package is not outdated.
+    fn judge_alive(&self, package: u32, number: u32) -> Option<CertCause>
+        ensures { TellsClaim (is_next self.now.next self.now.packages «package») (holds_alive self.now «package» number) result }
+    {
+        if !is_next(self.next, self.packages, package) {
+            return Some(CertCause::OutOfOrder);
+        }
+        judge_claim(true, self.holds_alive(self.next_variable(), number))
+    }
+
+    /// Of a claim on strong dependencies.
+    fn judge_strong(
+        &self,
+        alloc: Global,
+        claim: &StrongClaim<'_>,
+    ) -> Result<Option<CertCause>, AllocError>
+        ensures { IfOk result (TellsListed (is_next self.now.next self.now.packages claim.now.package) (is_strong self.now.layout.kind)
+            (TellsRules self.now.window self.now.group self.now.packages claim.now.package claim.now.named.now claim.now.on.now claim.now.undecided.now)) }
+    {
+        if !is_next(self.next, self.packages, claim.package) {
+            return Ok(Some(CertCause::OutOfOrder));
+        }
+        if !is_strong(self.layout.kind()) {
+            return Ok(Some(CertCause::WrongClaim));
+        }
+        judge_rules(alloc, &self.window, &self.group, self.packages, claim)
+    }
+
+    /// Of a claim on challenges.
+    fn judge_challenged(
+        &self,
+        alloc: Global,
+        package: u32,
+        named: &[u32],
+        by: &[(u32, u32)],
+        undecided: &[(u32, u32)],
+    ) -> Result<Option<CertCause>, AllocError>
+        ensures { IfOk result (TellsListed (is_next self.now.next self.now.packages «package») (is_challenged self.now.layout.kind)
+            (TellsChallenge self.now.layout self.now.window self.now.group (present self.now.layout.kind «package») named.now by.now undecided.now)) }
+    {
+        if !is_next(self.next, self.packages, package) {
+            return Ok(Some(CertCause::OutOfOrder));
+        }
+        if !is_challenged(self.layout.kind()) {
+            return Ok(Some(CertCause::WrongClaim));
+        }
+        let claim = ChallengeClaim {
+            variable: self.next_variable(),
+            named,
+            by,
+            undecided,
+        };
+        judge_challenge(alloc, &self.layout, &self.window, &self.group, &claim)
     }
 
     /// Takes a line that has no fault.
@@ -209,9 +306,12 @@ impl State {
             CertRecord::Strong(_, _, on, undecided) => {
                 Ok(self.claim(Claim::Strong(from_zero(on), from_zero(undecided)))?)
             }
-            CertRecord::Outdated(_)
-            | CertRecord::Alive(_, _)
-            | CertRecord::Challenged(_, _, _, _) => Ok(()),
+            CertRecord::Outdated(_) => Ok(self.claim(Claim::Outdated)?),
+            CertRecord::Alive(_, _) => Ok(self.claim(Claim::Alive)?),
+            CertRecord::Challenged(_, _, by, undecided) => Ok(self.claim(Claim::Challenged(
+                pairs_from_zero(by),
+                pairs_from_zero(undecided),
+            ))?),
             CertRecord::End => {
                 self.question = None;
                 Ok(())
@@ -242,13 +342,17 @@ impl State {
     fn close(&mut self, refuted: bool) -> Result<(), AllocError>
         ensures { OnOk result (Answers self.old self.new refuted) }
     {
+        let kind = self.layout.kind();
+        let variable = self.next_variable();
         let Some(question) = self.question.take() else {
             return Ok(());
         };
         if refuted {
-            self.group.add_refuted(self.next, question.assumptions())
+            self.group
+                .add_refuted(kind, variable, question.assumptions())
         } else {
-            self.group.add_undecided(self.next, question.assumptions())
+            self.group
+                .add_undecided(kind, variable, question.assumptions())
         }
     }
 
@@ -256,10 +360,11 @@ impl State {
     fn add_installation(&mut self, alloc: Global, variables: Numbers) -> Result<(), AllocError>
         requires rising { AreRising variables }
         requires count { self.old.window.count + 1 < 2 ^ 64 }
-        ensures { OnOk result (Becomes self.old (Installation variables) self.new) }
+        ensures { OnOk result (Installs self.old variables self.new) }
     {
+        let variable = self.next_variable();
         self.group
-            .add_installation(alloc, self.next, variables.as_slice())?;
+            .add_installation(alloc, &self.layout, variable, variables.as_slice())?;
         self.window.add(variables)
     }
 

@@ -1,6 +1,7 @@
 pub mod ClassMatch
 pub mod ConflictPairs
 pub mod DemandLemmas
+pub mod EndLemmas
 pub mod FoundLemmas
 pub mod FutureToModel
 pub mod FutureValues

@@ -68,7 +68,8 @@ pub record IsUnmetAt (s : SpaceView) (values : List Bool) (variable place : ℕ)
   pub installed : Holds s values (Present number)
   pub unmet : IsItemAnd s number place (λ p item. ¬ SomeHolds s values (IsMetBy s item))
 
--- The variable of such a package, and the greater one of what holds and is in conflict with it.
+-- The variable of a package that is installed as it is today, and the greater variable of something else that holds and
+-- is in conflict with it: another such package, a new version, a kept entry, or a package of a new name.
 pub record AreConflicting (s : SpaceView) (values : List Bool) (first second : ℕ) : Type 0 where
   pub number : ℕ
   pub other : Meaning

@@ -13,3 +13,4 @@ pub use Rattle.dist_space.specs.SpaceOf
 pub use Rattle.dist_space_clauses.specs.SpaceClauses
 pub use Rattle.dist_space_clauses.specs.SpaceSet
 pub use Rattle.dist_space_clauses.specs.ClauseLaws
+pub use Rattle.dist_space_clauses.specs.Ends

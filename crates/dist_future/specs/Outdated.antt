@@ -1,5 +1,9 @@
--- Outdated packages, and versions that challenge packages (after Abate, Di Cosmo, Treinen and Zacchiroli, "Learning
--- from the future of component repositories", 2012), at mode essential or plain, for a flat repository.
+-- Outdated packages, and versions that challenge packages, for a flat repository at mode essential or plain. The terms
+-- are those of Abate, Di Cosmo, Treinen and Zacchiroli, "Learning from the future of component repositories" (2012).
+-- A package is outdated (`IsOutdated`) if it can be installed in no future: whatever becomes of others, it has to be
+-- changed itself. A later version of a source cluster challenges a package (`Challenges`) that can be installed today
+-- and in no future that has the cluster at that version: the upgrade breaks it, whatever else is done. That other
+-- clusters may move too in such a future is this project's own reading.
 use Rattle.std.specs.Prelude.{◌≡◌, ℕ, Bool, List, Any, Contains}
 use Rattle.std.specs.declared.cmp.Ordering.TheVariants.{Equal}
 use Rattle.dist_version.specs.Order.{version_cmp}

@@ -38,11 +38,12 @@ fresh_package name version = record {
   essential = false;
 }
 
--- the first number below a limit at which a test gives true
+-- the first of two numbers that is there
 abbrev pub or_else : Option ℕ → Option ℕ → Option ℕ
 or_else None other = other
 or_else (Some k) other = Some k
 
+-- the first number below a limit at which a test gives true
 abbrev pub first_true : (ℕ → Bool) → ℕ → Option ℕ
 first_true test zero = None
 first_true test (suc n) = or_else (first_true test n) (if test n then Some n else None)
@@ -62,6 +63,7 @@ abbrev pub new_version : SpaceView → (Meaning → Bool) → (version : ℕ →
 new_version s holds version r k p = new_package p (version (slice_index s.cluster_of r) k)
     (flags_from s.repository.architecture (λ j. holds (Kept r k j)) p.provides)
 
+-- what becomes of a package where its cluster is at no class, and where it is at one
 abbrev pub moved_package : SpaceView → (Meaning → Bool) → (version : ℕ → ℕ → List ℕ) → ℕ → Package → Option ℕ → Package
 moved_package s holds version r p None = p
 moved_package s holds version r p (Some k) = new_version s holds version r k p

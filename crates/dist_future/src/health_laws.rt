@@ -3,11 +3,13 @@ ghost use Rattle.std.specs.Prelude.{◌≡◌, ◌↔◌, Bool, List};
 ghost use Rattle.dist_clause.specs.Formula.{IsModel, Literal, value_of};
 ghost use Rattle.dist_base.specs.Least.{IsNoPair};
 ghost use Rattle.dist_future.specs.Future.{IsFuture};
-ghost use Rattle.dist_future.specs.FutureClauses.{MeetsFuture};
+ghost use Rattle.dist_future.specs.FutureClauses.{AreTrueAround, MeetsFuture};
 ghost use Rattle.dist_future.specs.FutureHealth.{AreNoFuture, IsFutureHealth};
 ghost use Rattle.dist_future.specs.HealthLaws.{IsHealthyIn, StandsForHealthy};
 ghost use Rattle.dist_space.specs.Space.{IsSpace, SpaceView};
+ghost use Rattle.dist_space_clauses.specs.Ends.{AreEndsOf};
 ghost use Rattle.dist_space_clauses.specs.SpaceClauses.{AreSpaceClauses};
+ghost use Rattle.dist_space_clauses.specs.declared.ends.FutureEnds.{FutureEnds};
 ghost use Rattle.dist_future.specs.SpaceLaws.{StandsForFuture, future_under};
 ghost use Rattle.dist_future.specs.declared.health_kind.FutureHealth.{FutureHealth};
 
@@ -46,3 +48,10 @@ pub fn futures_meet_their_clauses()
     new_versions_match_alike();
     new_names_match_alike();
 }
+
+/// In the list of a space's clauses those that say what a future is stand in two parts: the front, up to the end of group 3, and
+/// the clauses of the archive of today, from the end of group 5 to that of group 6.
+pub fn future_clauses_are_two_parts()
+    ensures { (s : SpaceView) (clauses : List (List Literal)) (ends : FutureEnds) (values : List Bool) → AreSpaceClauses s clauses
+        → AreEndsOf s clauses ends → MeetsFuture s values ↔ AreTrueAround (value_of values) ends clauses }
+{}

@@ -14,13 +14,14 @@ mod pair_laws;
 
 pub use dist_space::{Meaning, Space, SpaceError, space_of, spaces_are_one, spaces_are_there};
 pub use dist_space_clauses::{
-    clauses_of, one_limit_is_passed, space_clauses_are_one, space_clauses_are_there,
-    space_clauses_go_on,
+    FutureEnds, clauses_of, clauses_with_ends, one_limit_is_passed, space_clauses_are_one,
+    space_clauses_are_there, space_clauses_go_on,
 };
 pub use health::health_in;
 pub use health_kind::FutureHealth;
 pub use health_laws::{
-    futures_meet_their_clauses, healthy_are_models, healthy_stand_for_futures, one_future_health,
+    future_clauses_are_two_parts, futures_meet_their_clauses, healthy_are_models,
+    healthy_stand_for_futures, one_future_health,
 };
 pub use laws::{each_model_is_a_future, models_stand_for_futures};
 pub use pair_laws::{

@@ -4,8 +4,8 @@ use crate::spaces::{ESSENTIAL, LIBRARY, MOVING, NEW_NAME, ONE_SOURCE, VIRTUAL, s
 use dist_base::{MAX_CLAUSES, MAX_LITERALS};
 use dist_clause::PushError;
 use dist_future::{
-    Space, clauses_of, one_limit_is_passed, space_clauses_are_one, space_clauses_are_there,
-    space_clauses_go_on,
+    Space, clauses_of, clauses_with_ends, one_limit_is_passed, space_clauses_are_one,
+    space_clauses_are_there, space_clauses_go_on,
 };
 use std::alloc::Global;
 use std::process::Abort;
@@ -208,6 +208,43 @@ fn an_essential_name_has_no_clause_at_mode_plain(rt: HostRuntime) {
 #[test]
 fn the_clauses_of_small_spaces(rt: HostRuntime) {
     hold_clauses(&rt, &CLAUSES);
+}
+
+/// What a row shows, stanzas, a mode, how many clauses stand in groups 1 to 3, 1 to 5 and 1 to 6, and how many there are.
+type Ends = (&'static str, &'static str, bool, (u32, u32, u32, u32));
+
+const ENDS: [Ends; 7] = [
+    ("a future of nothing", "", true, (0, 0, 0, 0)),
+    ("items alone", LIBRARY, false, (11, 12, 16, 16)),
+    ("items of two members", ONE_SOURCE, false, (17, 19, 23, 23)),
+    ("an item and conflicts", VIRTUAL, false, (5, 8, 10, 10)),
+    ("a new name", NEW_NAME, false, (5, 6, 10, 10)),
+    ("an essential name", ESSENTIAL, true, (11, 13, 17, 18)),
+    (
+        "no essential name at mode plain",
+        ESSENTIAL,
+        false,
+        (11, 13, 17, 17),
+    ),
+];
+
+/// Where the groups of a space's clauses end, and how many clauses there are.
+fn ends_of(alloc: Global, stanzas: &str, essential: bool) -> Option<(u32, u32, u32, u32)> {
+    let space = small_space(alloc, stanzas, essential)?;
+    let (set, ends) = clauses_with_ends(alloc, &space, MAX_CLAUSES, MAX_LITERALS).ok()?;
+    Some((ends.early, ends.today, ends.after, set.len()))
+}
+
+fn hold_ends(rt: &(impl Abort + AllocGlobal), rows: &[Ends]) {
+    for (shows, stanzas, essential, ends) in rows {
+        let found = ends_of(rt.alloc(), stanzas, *essential);
+        assert_eq!(rt; found, Some(*ends), "{shows}");
+    }
+}
+
+#[test]
+fn the_ends_of_groups(rt: HostRuntime) {
+    hold_ends(&rt, &ENDS);
 }
 
 const LIMITS: [Limits; 5] = [

@@ -4,9 +4,9 @@ use crate::spaces::{ESSENTIAL, LIBRARY, MOVING, NEW_NAME, ONE_SOURCE, VIRTUAL, s
 use dist_future::Meaning::{self, At, Fresh, Now, Present};
 use dist_future::{
     FutureHealth, clusters_and_classes_are_numbered, covered_pairs_have_models,
-    each_model_is_a_future, futures_meet_their_clauses, healthy_are_models,
-    healthy_stand_for_futures, models_stand_for_futures, models_tell_of_packages,
-    one_future_health,
+    each_model_is_a_future, future_clauses_are_two_parts, futures_meet_their_clauses,
+    healthy_are_models, healthy_stand_for_futures, models_stand_for_futures,
+    models_tell_of_packages, one_future_health,
 };
 use std::alloc::Global;
 use std::process::Abort;
@@ -255,6 +255,7 @@ fn the_laws_hold() {
     clusters_and_classes_are_numbered();
     covered_pairs_have_models();
     each_model_is_a_future();
+    future_clauses_are_two_parts();
     futures_meet_their_clauses();
     healthy_are_models();
     healthy_stand_for_futures();

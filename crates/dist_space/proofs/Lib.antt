@@ -1,6 +1,7 @@
 pub mod EntryLemmas
 pub mod ExampleLemmas
 pub mod ExtendLemmas
+pub mod FirstVariables
 pub mod FrameLemmas
 pub mod NewNames
 pub mod NumberingLemmas

@@ -4,10 +4,12 @@ use Rattle.std.specs.Prelude.{ℕ, Bool, true, false, ◌||◌, List, Option, No
 use Rattle.dist_relation.specs.declared.atom.Qualifier.{Qualifier}
 use Rattle.dist_relation.specs.declared.atom.Qualifier.TheVariants.{Plain, Named}
 
+-- whether a name is that of the file's architecture, where it has one
 abbrev pub is_architecture : Option (List ℕ) → List ℕ → Bool
 is_architecture None name = false
 is_architecture (Some architecture) name = bytes_eq architecture name
 
+-- whether an entry with a qualifier is usable in a file of an architecture
 abbrev pub is_usable : Option (List ℕ) → Qualifier → Bool
 is_usable architecture Plain = true
 is_usable architecture (Named name) = bytes_eq name (codes "any")

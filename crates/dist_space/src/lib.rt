@@ -22,4 +22,4 @@ pub use bounds::{matches_moved, meets_bound};
 pub use errors::SpaceError;
 pub use meaning::Meaning;
 pub use space::{Space, space_of};
-pub use space_laws::{spaces_are_one, spaces_are_there};
+pub use space_laws::{packages_come_first, spaces_are_one, spaces_are_there};

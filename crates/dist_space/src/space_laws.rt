@@ -1,11 +1,12 @@
 //! Laws of spaces, apart from the work. The functions do nothing.
-ghost use Rattle.std.specs.Prelude.{◌≡◌, All, Bool};
+ghost use Rattle.std.specs.Prelude.{◌≡◌, ◌+◌, ◌<◌, ℕ, All, Bool, length};
 ghost use Rattle.dist_version.specs.Spelling.{IsVersion};
 ghost use Rattle.dist_repo.specs.Order.{IsFlat};
 ghost use Rattle.dist_repo.specs.PackageList.{PackageList};
 ghost use Rattle.dist_classes.specs.Atoms.{AreBoundsVersions};
-ghost use Rattle.dist_space.specs.Space.{SpaceView};
+ghost use Rattle.dist_space.specs.Space.{IsSpace, SpaceView, variable_of};
 ghost use Rattle.dist_space.specs.SpaceOf.{IsSpaceOf};
+ghost use Rattle.dist_space.specs.declared.meaning.Meaning.TheVariants.{Now, Present};
 
 use dist_classes::{classes_are_there, cuts_are_one, new_names_are_one, no_class_is_empty};
 use dist_cluster::{partitions_are_one, tops_are_one};
@@ -32,3 +33,9 @@ pub fn spaces_are_one()
     cuts_are_one();
     new_names_are_one();
 }
+
+/// The first variable says that the archive is today's, and the packages as they are follow in their order.
+pub fn packages_come_first()
+    ensures now { (s : SpaceView) → IsSpace s → variable_of s Now ≡ 1 }
+    ensures packages { (s : SpaceView) (number : ℕ) → IsSpace s → number < length s.repository.packages → variable_of s (Present number) ≡ number + 2 }
+{}

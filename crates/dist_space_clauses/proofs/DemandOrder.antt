@@ -21,13 +21,11 @@ use Rattle.dist_space.specs.declared.meaning.Meaning.TheVariants.{Present}
 use Rattle.dist_space_clauses.specs.SpaceClauses.{Demand, OneClass, Gone, Moved, Carried, OneFresh, Item, Apart, StaysNow, AbsentNow, Required}
 use Rattle.dist_space_clauses.specs.SpaceClauses.{IsBearer, IsClauseFor, IsDemand, IsItemAnd, group_of, leading, no, rank_of, second_of, space_demands, yes}
 use Rattle.dist_space_clauses.specs.SpaceSet.{PassesClauses, PassesLiterals}
+use Rattle.dist_space_clauses.specs.EndLaws.{ranks-asymmetric}
 use Rattle.dist_space_clauses.proofs.Fronts.{leading-is, rank-one}
 use Rattle.dist_space_clauses.proofs.NameFronts.{same_names}
 
 -- ---- the order of demands
-
-ranks-asymmetric : (a b : List ℕ) → slice_cmp nat_cmp a b ≡ Less → ¬ (slice_cmp nat_cmp b a ≡ Less)
-ranks-asymmetric a b less more = let turned = nat_list_cmp_total.antisymm a b in cc
 
 first-number : (a b : List ℕ) → a ≡ b → get_or a 0 0 ≡ get_or b 0 0
 first-number a b equal = ap (λ (xs : List ℕ). get_or xs 0 0) equal

@@ -12,4 +12,5 @@ pub mod PairClauses
 pub mod RejectingLemmas
 pub mod SomeSpaceClauses
 pub mod SortedNames
+pub mod ThreeEnds
 pub mod VariableLists

@@ -134,6 +134,18 @@ group-cases (Apart n other) = inl (omega arith)
 group-cases (StaysNow c k) = inl (omega arith)
 group-cases (AbsentNow x k) = inl (omega arith)
 
+-- at mode plain no name is required
+pub plain-end : (s : SpaceView) (limits set : ClauseList) → s.essential ≡ false → IsGroupsFront s 7 limits set → IsWholeSet s limits set
+plain-end s limits set plain of =
+    made.set-shift (space_demands s) (λ d. IsDemand s d × (group_of d < 7)) (IsDemand s) limits.clause_limit limits.literal_limit set (λ d h. h.0)
+    (λ d demand. elim (group-cases d) [
+      | inl less ↦ (demand, less)
+      | inr named ↦
+          let there : Contains (required_names false s.repository.packages) named.0 =
+          subst (λ (b : Bool). Contains (required_names b s.repository.packages) named.0) plain (subst (IsDemand s) named.1 demand) in
+          absurd (omega (arith, there.1))
+    ]) of
+
 abbrev pub NamedBefore : SpaceView → ℕ → Demand → Type 0
 NamedBefore s number d = IsDemand s d × IsNamedSoFar s number d
 

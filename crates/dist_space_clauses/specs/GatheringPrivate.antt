@@ -1,5 +1,5 @@
 -- What is gathered on the way to the clauses of a space. No public clause cites it.
-use Rattle.std.specs.Prelude.{◌≡◌, ◌⊎◌, ◌↔◌, ℕ, ◌<◌, true, List, [], ◌∷◌, Some, Contains, slice_get}
+use Rattle.std.specs.Prelude.{◌≡◌, ◌⊎◌, ◌↔◌, ℕ, ◌<◌, true, List, [], ◌∷◌, Some, Contains, length, slice_get}
 use Rattle.std.specs.Cmp.Lexicographic.{slice_cmp}
 use Rattle.std.specs.List.Sorted.{IsStrictlyIncreasing}
 use Rattle.std.specs.Ordering.{nat_cmp}
@@ -14,8 +14,10 @@ use Rattle.dist_space.specs.declared.meaning.Meaning.{Meaning}
 use Rattle.dist_space.specs.declared.meaning.Meaning.TheVariants.{Now, Present, At, New, Kept, Fresh}
 use Rattle.dist_space.specs.Space.{IsMeaning, SpaceView, variable_of}
 use Rattle.dist_space_clauses.specs.SpaceClauses.{Demand, OneClass, Gone, Moved, Carried, OneFresh, Item, Apart}
-use Rattle.dist_space_clauses.specs.SpaceClauses.{StaysNow, AbsentNow, Required, IsDemand, group_of, rank_of}
+use Rattle.dist_space_clauses.specs.SpaceClauses.{StaysNow, AbsentNow, Required, AreClausesOf, IsDemand, group_of}
+use Rattle.dist_space_clauses.specs.SpaceClauses.{rank_of}
 use Rattle.dist_space_clauses.specs.SpaceSet.{IsCause, IsSetOf}
+use Rattle.dist_space_clauses.specs.declared.ends.FutureEnds.{FutureEnds}
 
 -- a demand whose rank is below a group, a variable and a number
 abbrev pub IsBelow : SpaceView → (group variable second : ℕ) → Demand → Type 0
@@ -41,6 +43,18 @@ IsGroupsFront s group limits set = IsSetOf s (λ d. IsDemand s d × (group_of d 
 -- the same with all clauses
 abbrev pub IsWholeSet : SpaceView → (limits set : ClauseList) → Type 0
 IsWholeSet s limits set = IsSetOf s (IsDemand s) limits.clause_limit limits.literal_limit set
+
+-- so many are the clauses of the groups before one
+pub record HasCount (s : SpaceView) (group count : ℕ) : Type 0 where
+  pub front : List (List Literal)
+  pub are : AreClausesOf s (λ d. IsDemand s d × (group_of d < group)) front
+  pub count_is : length front ≡ count
+
+-- the three ends, by how many clauses stand before the next group
+pub record HaveCounts (s : SpaceView) (ends : FutureEnds) : Type 0 where
+  pub early : HasCount s 4 ends.early
+  pub today : HasCount s 6 ends.today
+  pub after : HasCount s 7 ends.after
 
 -- an essential package of the name has a lesser number
 abbrev pub IsNamedBelow : SpaceView → ℕ → List ℕ → Type 0

@@ -6,4 +6,6 @@ pub mod GroupsPrivate
 pub mod Rejecting
 pub mod DecidedLaws
 pub mod ItemLaws
+pub mod Ends
+pub mod EndLaws
 pub use Rattle.dist_space.specs.Space

@@ -4,12 +4,14 @@ ghost use Rattle.dist_base.specs.declared.TheConstants.{MAX_CLAUSES, MAX_LITERAL
 ghost use Rattle.dist_base.specs.Answers.{IsExactly};
 ghost use Rattle.dist_clause.specs.ClauseList.{IsWithinLimits};
 ghost use Rattle.dist_clause.specs.declared.clause_set.PushError.TheVariants.{TooManyClauses, TooManyLiterals, NoMemory};
-ghost use Rattle.dist_space_clauses.specs.GatheringPrivate.{IsCauseAt, IsGroupsFront};
+ghost use Rattle.dist_space_clauses.specs.Ends.{AreEndsOf};
+ghost use Rattle.dist_space_clauses.specs.GatheringPrivate.{HaveCounts, IsCauseAt, IsGroupsFront, IsWholeSet};
 ghost use Rattle.dist_space_clauses.specs.Rejecting.{AreRejecting};
 ghost use Rattle.dist_space_clauses.specs.SpaceClauses.{IsDemand};
 ghost use Rattle.dist_space_clauses.specs.SpaceSet.{IsCause, IsSetOf, PassesClauses, PassesLiterals};
 
 use crate::clause_text::Scratch;
+use crate::ends::FutureEnds;
 use crate::essential::push_names;
 use crate::groups::{Group, push_group};
 use crate::rejecting::{Rejecting, rejecting_of};
@@ -18,7 +20,7 @@ use dist_clause::{ClauseSet, PushError};
 use dist_space::Space;
 use std::alloc::{AllocError, Global};
 
-/// Adds the clauses that say what a future is.
+/// Adds the clauses that say what a future is, but for those of the archive of today.
 fn push_future<'a>(
     space: &'a Space,
     rejecting: &Rejecting<'a>,
@@ -35,7 +37,7 @@ fn push_future<'a>(
     push_group(space, Group::Names, rejecting, scratch, set)
 }
 
-/// Adds the clauses that say what a healthy installation is, but for essential names, and then those of the archive of today.
+/// Adds the clauses that say what a healthy installation is, but for essential names.
 fn push_healthy<'a>(
     space: &'a Space,
     rejecting: &Rejecting<'a>,
@@ -44,56 +46,109 @@ fn push_healthy<'a>(
 ) -> Result<(), PushError>
     requires rejecting { AreRejecting space.now.repository rejecting.now }
     requires front { IsGroupsFront space.now 4 set.old set.old }
-    ensures ok { OnOk result (IsGroupsFront space.now 7 set.old set.new) }
+    ensures ok { OnOk result (IsGroupsFront space.now 6 set.old set.new) }
     ensures err { IfErr result (IsCauseAt space.now set.old) }
 {
     push_group(space, Group::Items, rejecting, scratch, set)?;
-    push_group(space, Group::Conflicts, rejecting, scratch, set)?;
-    push_group(space, Group::Today, rejecting, scratch, set)
+    push_group(space, Group::Conflicts, rejecting, scratch, set)
 }
 
-/// Adds the clauses of mode plain.
-fn push_plain(
+/// Adds the clauses of mode plain, and tells where their groups end.
+fn push_plain<'a>(
+    space: &'a Space,
+    rejecting: &Rejecting<'a>,
+    scratch: &mut Scratch,
+    set: &mut ClauseSet,
+) -> Result<FutureEnds, PushError>
+    requires rejecting { AreRejecting space.now.repository rejecting.now }
+    requires front { IsGroupsFront space.now 1 set.old set.old }
+    ensures ok { OnOk result (IsGroupsFront space.now 7 set.old set.new) }
+    ensures ends { IfOk result (HaveCounts space.now) }
+    ensures err { IfErr result (IsCauseAt space.now set.old) }
+{
+    push_future(space, rejecting, scratch, set)?;
+    let early = set.len();
+    push_healthy(space, rejecting, scratch, set)?;
+    let today = set.len();
+    push_group(space, Group::Today, rejecting, scratch, set)?;
+    let after = set.len();
+    Ok(FutureEnds {
+        early,
+        today,
+        after,
+    })
+}
+
+/// Adds the clauses of mode plain, for which it finds who rejects which name.
+fn push_found(
     alloc: Global,
     space: &Space,
     scratch: &mut Scratch,
     set: &mut ClauseSet,
-) -> Result<(), PushError>
+) -> Result<FutureEnds, PushError>
     requires front { IsGroupsFront space.now 1 set.old set.old }
     ensures ok { OnOk result (IsGroupsFront space.now 7 set.old set.new) }
+    ensures ends { IfOk result (HaveCounts space.now) }
     ensures err { IfErr result (IsCauseAt space.now set.old) }
 {
     match rejecting_of(alloc, space.repo()) {
-        Ok(rejecting) => {
-            push_future(space, &rejecting, scratch, set)?;
-            push_healthy(space, &rejecting, scratch, set)
-        }
+        Ok(rejecting) => push_plain(space, &rejecting, scratch, set),
         Err(AllocError) => Err(PushError::NoMemory),
     }
 }
 
-/// The clauses of a space, or the limit that they pass first.
+/// Adds the clauses of essential names, if the space is at mode essential.
+fn push_required(space: &Space, scratch: &mut Scratch, set: &mut ClauseSet) -> Result<(), PushError>
+    requires front { IsGroupsFront space.now 7 set.old set.old }
+    ensures ok { OnOk result (IsWholeSet space.now set.old set.new) }
+    ensures err { IfErr result (IsCauseAt space.now set.old) }
+{
+    if space.essential() {
+        return push_names(space, scratch, set);
+    }
+    Ok(())
+}
+
+/// The clauses of a space with the ends of their groups, or the limit that they pass first.
 fn made_clauses(
     alloc: Global,
     space: &Space,
     clauses: u32,
     literals: u32,
-) -> Result<ClauseSet, PushError>
+) -> Result<(ClauseSet, FutureEnds), PushError>
     requires clauses { clauses ≤ MAX_CLAUSES }
     requires literals { literals ≤ MAX_LITERALS }
-    ensures ok { IfOk result (IsSetOf space.now (IsDemand space.now) clauses literals) }
-    ensures within { IfOk result IsWithinLimits }
+    ensures ok { IfOk result (λ made. IsSetOf space.now (IsDemand space.now) clauses literals made.0) }
+    ensures ends { IfOk result (λ made. AreEndsOf space.now made.0.clauses made.1) }
+    ensures within { IfOk result (λ made. IsWithinLimits made.0) }
     ensures err { IfErr result (IsCause space.now clauses literals) }
 {
     let mut set = ClauseSet::new(alloc, space.variables(), clauses, literals);
     let mut scratch = Scratch::new(alloc);
-    push_plain(alloc, space, &mut scratch, &mut set)?;
-    if space.essential() {
-        push_names(space, &mut scratch, &mut set)?;
-    }
+    let ends = push_found(alloc, space, &mut scratch, &mut set)?;
+    push_required(space, &mut scratch, &mut set)?;
     // What this call tells is that the set is within its limits.
     let _count = set.len();
-    Ok(set)
+    Ok((set, ends))
+}
+
+/// The clauses of a space, as `clauses_of` makes them, and where the groups end that say what a future is.
+pub fn clauses_with_ends(
+    alloc: Global,
+    space: &Space,
+    clauses: u32,
+    literals: u32,
+) -> Result<(ClauseSet, FutureEnds), PushError>
+    requires clauses { clauses ≤ MAX_CLAUSES }
+    requires literals { literals ≤ MAX_LITERALS }
+    ensures ok { IfOk result (λ made. IsSetOf space.now (IsDemand space.now) clauses literals made.0) }
+    ensures ends { IfOk result (λ made. AreEndsOf space.now made.0.clauses made.1) }
+    ensures too_many_clauses { IsExactly NoMemory result TooManyClauses (PassesClauses space.now clauses literals) }
+    ensures too_many_literals { IsExactly NoMemory result TooManyLiterals (PassesLiterals space.now clauses literals) }
+{
+    // What this call tells is that it is a space.
+    let _variables = space.variables();
+    made_clauses(alloc, space, clauses, literals)
 }
 
 /// The clauses of a space, with a limit on their number and one on the number of their literals.
@@ -111,5 +166,6 @@ pub fn clauses_of(
 {
     // What this call tells is that it is a space.
     let _variables = space.variables();
-    made_clauses(alloc, space, clauses, literals)
+    let (set, _ends) = made_clauses(alloc, space, clauses, literals)?;
+    Ok(set)
 }

@@ -10,6 +10,7 @@ mod clause_laws;
 mod clause_text;
 mod clauses;
 mod conflicts;
+mod ends;
 mod essential;
 mod groups;
 mod items;
@@ -20,4 +21,5 @@ mod rejecting;
 pub use clause_laws::{
     one_limit_is_passed, space_clauses_are_one, space_clauses_are_there, space_clauses_go_on,
 };
-pub use clauses::clauses_of;
+pub use clauses::{clauses_of, clauses_with_ends};
+pub use ends::FutureEnds;

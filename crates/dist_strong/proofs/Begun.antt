@@ -19,7 +19,7 @@ use Rattle.dist_cert.specs.declared.records.Claim.{Claim}
 use Rattle.dist_cert.specs.declared.records.Header.{Header}
 use Rattle.dist_cert.specs.Form.{HasHeaderForm, header_text}
 use Rattle.dist_cert.specs.PartByRecordsLaws.{IsHeaderOf}
-use Rattle.dist_subject.specs.Basis.{AreBases, Basis, Bases, Today, IsBasisOf, matter_of, subject_of}
+use Rattle.dist_subject.specs.Basis.{Basis, Today, IsBasisOf, matter_of}
 use Rattle.dist_sweep.specs.Asking.{AskerView}
 use Rattle.dist_sweep.specs.Sweep.{SweepAnswers, header_of}
 use Rattle.dist_sweep.specs.Sweeping.{Begins, MayBegin, new_writer, setting_of, new_window}
@@ -29,18 +29,11 @@ use Rattle.dist_subject.specs.Installed.{AreModelsHealthy}
 use Rattle.dist_cert.specs.declared.records.CertKind.{CertKind}
 use Rattle.dist_cert.specs.declared.records.CertKind.TheVariants as kinds
 
--- ---- the laws of dist_subject
-
-abbrev pub ThereLaw : Type 0
-ThereLaw = (r : PackageList) → IsInOrder r.packages → (bases : Bases) × AreBases r bases
-
-abbrev pub OneLaw : Type 0
-OneLaw = (r : PackageList) (kind : CertKind) (essential : Bool) (basis other : Basis) → IsBasisOf r kind essential basis
-    → IsBasisOf r kind essential other → other ≡ basis
+-- ---- the law of dist_subject
 
 abbrev pub HealthyLaw : Type 0
 HealthyLaw = (r : PackageList) (kind : CertKind) (essential : Bool) (basis : Basis) → IsInOrder r.packages → IsBasisOf r kind essential basis
-    → AreModelsHealthy (matter_of r essential basis)
+    → AreModelsHealthy (matter_of r basis)
 
 -- ---- the start
 
@@ -76,68 +69,57 @@ pub record StartsFrom (r : PackageList) (essential : Bool) (limit : ℕ) (limits
   pub within : IsWithinLimits set
   pub stated : length set.clauses ≤ MAX_CLAUSES
 
-begins : {C : Type 0} → HealthyLaw → (r : PackageList) (essential : Bool) (limit : ℕ) (limits : Limits) (set : ClauseList) (bases : Bases) (c : C)
-    → StartsFrom r essential limit limits set → AreBases r bases → bases kinds.Strong essential ≡ Today set.clauses
-    → Begins keeps-strong (setting_of r kinds.Strong essential limit limits bases) (first-header r essential limit (length set.clauses))
-    (first-asker set limit limits) (new_window set.variables) c
-begins healthy r essential limit limits set bases c starts are same =
-    let basis = bases kinds.Strong essential in
-    let inputs : (matter_of r essential basis).inputs ≡ set.clauses = ap (λ (x : Basis). (matter_of r essential x).inputs) same in
-    let packages : (matter_of r essential basis).packages ≡ length r.packages = ap (λ (x : Basis). (matter_of r essential x).packages) same in
-    let variables : (matter_of r essential basis).variables ≡ length r.packages = ap (λ (x : Basis). (matter_of r essential x).variables) same in record {
-      packages = refl;
-      keeps = record { kind = refl; same = variables ∙ sym packages };
-      header_is = sym (ap (λ (x : Basis). header_of kinds.Strong essential limit (matter_of r essential x)) same);
-      log = record {
-        limit_is = refl;
-        stand = (healthy r kinds.Strong essential basis starts.ordered (are kinds.Strong essential)).stand;
-        clauses = sym inputs ∙ sym (append-nil (matter_of r essential basis).inputs);
-        inputs = sym (ap length inputs);
-        variables = starts.set_of.variables ∙ sym variables;
-        line_limit = refl;
-        line_literal_limit = refl;
-        not_ended = refl;
-      };
-      writer = refl;
-      window = record { kept = refl; count = refl; sizes = All-nil (λ values. length values ≡ set.variables) };
-    }
+begins : {C : Type 0} → HealthyLaw → (r : PackageList) (essential : Bool) (limit : ℕ) (limits : Limits) (set : ClauseList) (c : C)
+    → StartsFrom r essential limit limits set
+    → Begins keeps-strong (setting_of r kinds.Strong essential limit limits (Today essential set.clauses))
+    (first-header r essential limit (length set.clauses)) (first-asker set limit limits) (new_window set.variables) c
+begins healthy r essential limit limits set c starts = record {
+  packages = refl;
+  keeps = record { kind = refl; same = refl };
+  header_is = refl;
+  log = record {
+    limit_is = refl;
+    stand = (healthy r kinds.Strong essential (Today essential set.clauses) starts.ordered (refl, starts.set_of.clauses)).stand;
+    clauses = sym (append-nil set.clauses);
+    inputs = refl;
+    variables = starts.set_of.variables;
+    line_limit = refl;
+    line_literal_limit = refl;
+    not_ended = refl;
+  };
+  writer = refl;
+  window = record { kept = refl; count = refl; sizes = All-nil (λ values. length values ≡ set.variables) };
+}
 
-header-of : (r : PackageList) (essential : Bool) (limit : ℕ) (limits : Limits) (set : ClauseList) (bases : Bases)
-    → StartsFrom r essential limit limits set → bases kinds.Strong essential ≡ Today set.clauses
-    → IsHeaderOf (subject_of r bases) (setting_of r kinds.Strong essential limit limits bases).header
-header-of r essential limit limits set bases starts same =
+header-of : (r : PackageList) (essential : Bool) (limit : ℕ) (limits : Limits) (set : ClauseList) → StartsFrom r essential limit limits set
+    → IsHeaderOf (matter_of r (Today essential set.clauses))
+    (setting_of r kinds.Strong essential limit limits (Today essential set.clauses)).header
+header-of r essential limit limits set starts =
     let few : length r.packages < 2 ^ 32 = omega (arith, starts.packages) in
     let count : length set.clauses < 2 ^ 32 = omega (arith, starts.stated) in
-    let IsForm : Basis → Type 0 = λ x. HasHeaderForm (header_text (header_of kinds.Strong essential limit (matter_of r essential x)))
-    (header_of kinds.Strong essential limit (matter_of r essential x)) in
     record {
-      form = subst IsForm (sym same) (record { text = refl; rules = (starts.from_one, starts.upto); numbers = (few, few, count) });
-      fits = record { taken = refl; packages = refl; variables = refl; clauses = refl };
+      form = record { text = refl; rules = (starts.from_one, starts.upto); numbers = (few, few, count) };
+      fits = record { packages = refl; variables = refl; clauses = refl };
     }
 
-pub may-begin : {C : Type 0} → ThereLaw → OneLaw → HealthyLaw → (r : PackageList) (essential : Bool) (limit : ℕ) (limits : Limits) (set : ClauseList)
+pub may-begin : {C : Type 0} → HealthyLaw → (r : PackageList) (essential : Bool) (limit : ℕ) (limits : Limits) (set : ClauseList)
     (header : Header) (a : AskerView) (c : C) → StartsFrom r essential limit limits set
     → header ≡ first-header r essential limit (length set.clauses) → a ≡ first-asker set limit limits
     → MayBegin keeps-strong r kinds.Strong essential limit limits header a c
-may-begin there one healthy r essential limit limits set header a c starts header_is asker_is =
-    let some = there r starts.ordered in
-    let bases : Bases = some.0 in
-    let same : bases kinds.Strong essential ≡ Today set.clauses =
-    one r kinds.Strong essential (Today set.clauses) (bases kinds.Strong essential) starts.set_of.clauses (some.1 kinds.Strong essential) in
-    let inputs : (matter_of r essential (bases kinds.Strong essential)).inputs ≡ set.clauses =
-    ap (λ (x : Basis). (matter_of r essential x).inputs) same in
-    let g = setting_of r kinds.Strong essential limit limits bases in
+may-begin healthy r essential limit limits set header a c starts header_is asker_is =
+    let g = setting_of r kinds.Strong essential limit limits (Today essential set.clauses) in
     record {
-      bases = bases;
-      are_bases = some.1;
+      basis = Today essential set.clauses;
+      is_basis = (refl, starts.set_of.clauses);
       kept = record {
-        clauses = omega (arith, ap length inputs, starts.within.clauses_within, starts.set_of.clause_limit_is);
-        literals = omega (arith, ap literal_count inputs, starts.within.literals_within, starts.set_of.literal_limit_is);
+        variables = tt;
+        clauses = omega (arith, starts.within.clauses_within, starts.set_of.clause_limit_is);
+        literals = omega (arith, starts.within.literals_within, starts.set_of.literal_limit_is);
       };
-      header_of = header-of r essential limit limits set bases starts same;
+      header_of = header-of r essential limit limits set starts;
       begins = subst (λ (h : Header). Begins keeps-strong g h a (new_window a.log.variables) c) (sym header_is)
           (subst (λ (v : AskerView). Begins keeps-strong g (first-header r essential limit (length set.clauses)) v (new_window v.log.variables) c)
-          (sym asker_is) (begins healthy r essential limit limits set bases c starts some.1 same));
+          (sym asker_is) (begins healthy r essential limit limits set c starts));
     }
 
 -- ---- where there are input clauses, no limit of them was passed

@@ -20,7 +20,7 @@ use Rattle.dist_cert.specs.Part.{Passes}
 use Rattle.dist_cert.specs.Refusal.{lines_text, certificate_text}
 use Rattle.dist_cert.specs.Subject.{Matter}
 use Rattle.dist_cert.specs.Writing.{ended}
-use Rattle.dist_subject.specs.Basis.{Basis, Today, Later, IsBasisOf, matter_of, subject_of}
+use Rattle.dist_subject.specs.Basis.{Basis, Today, Later, IsBasisOf, matter_of}
 use Rattle.dist_strong.specs.Budget.{question_budget, line_budget, literal_budget, record_budget, certificate_budget, IsBelowBudget}
 use Rattle.dist_sweep.specs.Sweep.{IsFull}
 use Rattle.dist_strong.proofs.BudgetCounts.{asked, answers, ends, few-derived, few-answers, few-ends, few-claims, all-sorts}
@@ -90,18 +90,17 @@ below limits matter h steps what same strong kept first passes = absurd passes
 pub budgets-are-enough : FormsAreClear → (r : PackageList) (essential : Bool) (limit : ℕ) (limits : Limits) (what : What) (text : List ℕ)
     → IsFull r kinds.Strong essential limit limits what text
     → IsBelowBudget limits (length r.packages) limit what
-budgets-are-enough clear r essential limit limits what text (bases, are, stopped) =
+budgets-are-enough clear r essential limit limits what text (basis, are, stopped) =
     let n = length r.packages in
-    let basis = bases kinds.Strong essential in
-    let matter = matter_of r essential basis in
-    let sizes = strong-sizes r essential basis (are kinds.Strong essential) in
+    let matter = matter_of r basis in
+    let sizes = strong-sizes r essential basis are in
     subst (λ packages. IsBelowBudget limits packages limit what) sizes.0
     (below limits matter _ stopped.next.steps what (sizes.1 ∙ sym sizes.0) refl
-    (part-kept clear (subject_of r bases) limits _ (text ++ ended stopped.line) stopped.next.steps stopped.next.longer)
+    (part-kept clear (matter_of r basis) limits _ (text ++ ended stopped.line) stopped.next.steps stopped.next.longer)
     (header-width _ matter.packages stopped.next.longer.reads.header) stopped.passes)
   where
     -- the packages are the variables
     strong-sizes : (r : PackageList) (essential : Bool) (basis : Basis) → IsBasisOf r kinds.Strong essential basis
-        → ((matter_of r essential basis).packages ≡ length r.packages) × ((matter_of r essential basis).variables ≡ length r.packages)
-    strong-sizes r essential (Today inputs) is = (refl, refl)
+        → ((matter_of r basis).packages ≡ length r.packages) × ((matter_of r basis).variables ≡ length r.packages)
+    strong-sizes r essential (Today mode inputs) is = (refl, refl)
     strong-sizes r essential (Later space inputs) is = absurd is

@@ -14,7 +14,7 @@ use Rattle.dist_cert.specs.Form.{record_text, HasForm}
 use Rattle.dist_cert.specs.LineRules.{HasRecordFault}
 use Rattle.dist_cert.specs.Part.{IsNextLine, IsPartOf}
 use Rattle.dist_cert.specs.Refusal.{lines_text, HasLineFault}
-use Rattle.dist_cert.specs.Subject.{Matter, Subject}
+use Rattle.dist_cert.specs.Subject.{Matter}
 use Rattle.dist_cert.specs.GroupLaws.{all-at}
 
 -- The line has a form and no fault but its length, does not stand behind the end, and is one that a part may have next.
@@ -30,10 +30,10 @@ AreKept matter h steps = (before : List CertRecord) (step : CertRecord) (after :
 not-both : causes.BadRecord ≡ causes.LineTooLong → ⊥
 not-both e = cc
 
-pub part-kept : FormsAreClear → (subject : Subject) (limits : Limits) (h : Header) (text : List ℕ) (steps : List CertRecord)
-    → IsPartOf subject limits h text steps
-    → AreKept (subject.matter h.kind h.essential) h steps
-part-kept clear subject limits h text steps part before step after is =
+pub part-kept : FormsAreClear → (matter : Matter) (limits : Limits) (h : Header) (text : List ℕ) (steps : List CertRecord)
+    → IsPartOf matter limits h text steps
+    → AreKept matter h steps
+part-kept clear matter limits h text steps part before step after is =
     let form = all-at (λ (s : CertRecord). HasForm (record_text s) s) steps before step after is part.reads.records in
     let begins = append_assoc (record_text step) (line_feed ∷ []) (lines_text after) in
     record {
@@ -41,8 +41,8 @@ part-kept clear subject limits h text steps part before step after is =
       not_ended = λ ended. not-both (part.later before step after is causes.BadRecord
           (record_text step, lines_text after, record { ended = begins; one_line = clear.record_line step form }, inl ended)).0;
       faultless = λ cause fault.
-          let same = part.later before step after is cause (subst (λ (t : List ℕ). HasLineFault subject limits h before t cause) (sym begins)
-          (record_to_line clear subject limits h before step (lines_text after) form cause fault)) in
-          subst (λ (c : CertCause). HasRecordFault (subject.matter h.kind h.essential) h before step c) same.0 fault;
+          let same = part.later before step after is cause (subst (λ (t : List ℕ). HasLineFault matter limits h before t cause) (sym begins)
+          (record_to_line clear matter limits h before step (lines_text after) form cause fault)) in
+          subst (λ (c : CertCause). HasRecordFault matter h before step c) same.0 fault;
       next = part.next before step after is;
     }

@@ -20,7 +20,7 @@ use dist_clause::{ClauseSet, PushError};
 use dist_now::clauses_of;
 use dist_outside::{Desk, Limits, What, WorkError};
 use dist_repo::Repository;
-use dist_subject::{bases_are_one, models_are_healthy};
+use dist_subject::models_are_healthy;
 use dist_sweep::{Asker, write_file};
 use std::alloc::Global;
 
@@ -89,7 +89,6 @@ pub fn strong<D: Desk>(
     ensures too_many_clauses { IsExactly NoMemory result (TooLarge what.Clauses) (PassesClauses repo.now essential limits.now.clauses limits.now.literals) }
     ensures too_many_literals { IsExactly NoMemory result (TooLarge what.Literals) (PassesLiterals repo.now essential limits.now.clauses limits.now.literals) }
 {
-    bases_are_one();
     models_are_healthy();
     let inputs = inputs_of(alloc, repo, essential, limits)?;
     let header = header_of(repo, essential, limit, inputs.len());

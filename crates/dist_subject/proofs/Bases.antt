@@ -1,5 +1,5 @@
 -- One basis at each kind and mode.
-use Rattle.std.proofs.Common.{◌≡◌, ◌≢◌, Bool, List, refl, sym, ap, subst, ◌∙◌}
+use Rattle.std.proofs.Common.{◌≡◌, Bool, List, refl, sym, ap, subst, ◌∙◌}
 use Rattle.std.specs.List.{All}
 use Rattle.dist_version.specs.Spelling.{IsVersion}
 use Rattle.dist_clause.specs.Formula.{Literal}
@@ -12,17 +12,13 @@ use Rattle.dist_space.specs.SpaceOf.{IsSpaceOf}
 use Rattle.dist_space_clauses.specs.SpaceClauses.{AreSpaceClauses}
 use Rattle.dist_cert.specs.declared.records.CertKind.{CertKind}
 use Rattle.dist_cert.specs.declared.records.CertKind.TheVariants.{Strong, Outdated, Challenged}
-use Rattle.dist_subject.specs.Basis.{AreBases, Basis, Bases, Today, Later, IsBasisOf, IsLaterOf}
+use Rattle.dist_subject.specs.Basis.{Basis, Today, Later, HaveVersions, IsBasisOf, IsLaterOf}
 
 abbrev pub AreThere : Type 0
 AreThere = (r : PackageList) (essential : Bool) → IsInOrder r.packages → (clauses : List (List Literal)) × ArePresentClauses r essential clauses
 
--- kind strong at each mode
-pub bases-there : AreThere → (r : PackageList) → IsInOrder r.packages → (bases : Bases) × AreBases r bases
-bases-there law r ordered = (
-  (λ (kind : CertKind) (essential : Bool). Today (law r essential ordered).0),
-  λ kind essential. (law r essential ordered).1,
-)
+pub today-there : AreThere → (r : PackageList) (essential : Bool) → IsInOrder r.packages → (basis : Basis) × IsBasisOf r Strong essential basis
+today-there law r essential ordered = let some = law r essential ordered in (Today essential some.0, (refl, some.1))
 
 abbrev pub AreSpacesThere : Type 0
 AreSpacesThere = (r : PackageList) (essential : Bool) → IsFlat r.packages → AreBoundsVersions r → All (λ p. IsVersion p.version) r.packages
@@ -45,13 +41,23 @@ some-later spaces clauses r latest essential newest bounds versions =
       },
     )
 
-pub later-there : AreSpacesThere → AreClausesThere → (r latest : PackageList) (kind : CertKind) (essential : Bool) → kind ≢ Strong → IsLatestOf r latest
-    → AreBoundsVersions latest → All (λ p. IsVersion p.version) latest.packages → (basis : Basis) × IsBasisOf r kind essential basis
-later-there spaces clauses r latest Strong essential never newest bounds versions = absurd (never refl)
-later-there spaces clauses r latest Outdated essential never newest bounds versions =
-    let some = some-later spaces clauses r latest essential newest bounds versions in (Later some.0 some.1, some.2)
-later-there spaces clauses r latest Challenged essential never newest bounds versions =
-    let some = some-later spaces clauses r latest essential newest bounds versions in (Later some.0 some.1, some.2)
+abbrev pub IsLatestThere : Type 0
+IsLatestThere = (r : PackageList) → IsInOrder r.packages → (latest : PackageList) × IsLatestOf r latest
+
+later-of : AreSpacesThere → AreClausesThere → IsLatestThere → (r : PackageList) (essential : Bool) → IsInOrder r.packages → HaveVersions r
+    → (s : SpaceView) × (clauses : List (List Literal)) × IsLaterOf r essential s clauses
+later-of spaces clauses newest r essential ordered versions =
+    let latest = newest r ordered in
+    let have = versions latest.0 latest.1 in
+    some-later spaces clauses r latest.0 essential latest.1 have.1 have.0
+
+pub some-there : AreThere → AreSpacesThere → AreClausesThere → IsLatestThere → (r : PackageList) (kind : CertKind) (essential : Bool)
+    → IsInOrder r.packages → HaveVersions r → (basis : Basis) × IsBasisOf r kind essential basis
+some-there present spaces clauses newest r Strong essential ordered versions = today-there present r essential ordered
+some-there present spaces clauses newest r Outdated essential ordered versions =
+    let some = later-of spaces clauses newest r essential ordered versions in (Later some.0 some.1, some.2)
+some-there present spaces clauses newest r Challenged essential ordered versions =
+    let some = later-of spaces clauses newest r essential ordered versions in (Later some.0 some.1, some.2)
 
 -- the laws of the crates below
 pub record BasisLaws : Type 0 where
@@ -71,12 +77,13 @@ one-later laws r essential s t inputs others first second =
 
 pub one-basis : BasisLaws → (r : PackageList) (kind : CertKind) (essential : Bool) (basis other : Basis) → IsBasisOf r kind essential basis
     → IsBasisOf r kind essential other → other ≡ basis
-one-basis laws r Strong essential (Today inputs) (Today others) first second = ap (λ c. Today c) (laws.present r essential inputs others first second)
-one-basis laws r Strong essential (Today inputs) (Later t others) first second = absurd second
+one-basis laws r Strong essential (Today mode inputs) (Today other others) first second =
+    ap (λ m. Today m others) (second.0 ∙ sym first.0) ∙ ap (λ c. Today mode c) (laws.present r essential inputs others first.1 second.1)
+one-basis laws r Strong essential (Today mode inputs) (Later t others) first second = absurd second
 one-basis laws r Strong essential (Later s inputs) other first second = absurd first
 one-basis laws r Outdated essential (Later s inputs) (Later t others) first second = one-later laws r essential s t inputs others first second
-one-basis laws r Outdated essential (Later s inputs) (Today others) first second = absurd second
-one-basis laws r Outdated essential (Today inputs) other first second = absurd first
+one-basis laws r Outdated essential (Later s inputs) (Today mode others) first second = absurd second
+one-basis laws r Outdated essential (Today mode inputs) other first second = absurd first
 one-basis laws r Challenged essential (Later s inputs) (Later t others) first second = one-later laws r essential s t inputs others first second
-one-basis laws r Challenged essential (Later s inputs) (Today others) first second = absurd second
-one-basis laws r Challenged essential (Today inputs) other first second = absurd first
+one-basis laws r Challenged essential (Later s inputs) (Today mode others) first second = absurd second
+one-basis laws r Challenged essential (Today mode inputs) other first second = absurd first

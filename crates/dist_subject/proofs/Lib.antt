@@ -1,4 +1,5 @@
 mod Truth
 mod Bases
 mod Standing
+mod Numbers
 mod PairsOfSpace

@@ -67,13 +67,14 @@ AreInstalled = (r : PackageList) (essential : Bool) (clauses : List (List Litera
     → AreModelsInstallations r essential clauses
 
 pub models-healthy : AreInstalled → FutureLaws → (r : PackageList) (kind : CertKind) (essential : Bool) (basis : Basis) → IsInOrder r.packages
-    → IsBasisOf r kind essential basis → AreModelsHealthy (matter_of r essential basis)
-models-healthy present laws r Strong essential (Today inputs) ordered is =
-    both (present_matter r essential inputs) (present-exact r essential inputs ordered (present r essential inputs ordered is))
+    → IsBasisOf r kind essential basis → AreModelsHealthy (matter_of r basis)
+models-healthy present laws r Strong essential (Today mode inputs) ordered is =
+    subst (λ m. AreModelsHealthy (present_matter r m inputs)) (sym is.0)
+    (both (present_matter r essential inputs) (present-exact r essential inputs ordered (present r essential inputs ordered is.1)))
 models-healthy present laws r Strong essential (Later s inputs) ordered is = absurd is
 models-healthy present laws r Outdated essential (Later s inputs) ordered is =
     both (later_matter s inputs) (later-exact laws s inputs is.is_space.space is.are_clauses)
-models-healthy present laws r Outdated essential (Today inputs) ordered is = absurd is
+models-healthy present laws r Outdated essential (Today mode inputs) ordered is = absurd is
 models-healthy present laws r Challenged essential (Later s inputs) ordered is =
     both (later_matter s inputs) (later-exact laws s inputs is.is_space.space is.are_clauses)
-models-healthy present laws r Challenged essential (Today inputs) ordered is = absurd is
+models-healthy present laws r Challenged essential (Today mode inputs) ordered is = absurd is

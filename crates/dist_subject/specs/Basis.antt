@@ -1,11 +1,13 @@
 -- What certificates are judged by, for each kind and mode: the packages as they are, by the clauses of the present, or
--- their futures, by the clauses of the space of the futures.
-use Rattle.std.specs.Prelude.{◌≡◌, ℕ, Bool, List}
+-- their futures, by the clauses of the space of the futures. And when a text is accepted or refused over packages.
+use Rattle.std.specs.Prelude.{◌≡◌, ℕ, All, Bool, List}
 use Rattle.dist_outside.specs.declared.limits.Limits.{Limits}
+use Rattle.dist_version.specs.Spelling.{IsVersion}
 use Rattle.dist_clause.specs.Formula.{Literal}
 use Rattle.dist_repo.specs.Order.{IsLatestOf}
 use Rattle.dist_repo.specs.PackageList.{PackageList}
 use Rattle.dist_now.specs.PresentClauses.{ArePresentClauses}
+use Rattle.dist_classes.specs.Atoms.{AreBoundsVersions}
 use Rattle.dist_space.specs.Space.{SpaceView}
 use Rattle.dist_space.specs.SpaceOf.{IsSpaceOf}
 use Rattle.dist_space_clauses.specs.SpaceClauses.{AreSpaceClauses}
@@ -15,20 +17,21 @@ use Rattle.dist_cert.specs.declared.records.CertKind.TheVariants as kinds
 use Rattle.dist_cert.specs.declared.records.Claim.{Claim}
 use Rattle.dist_cert.specs.declared.records.Header.{Header}
 use Rattle.dist_cert.specs.Accepted.{Accepted}
-use Rattle.dist_cert.specs.Refusal.{Refusal}
-use Rattle.dist_cert.specs.Subject.{Matter, Subject}
+use Rattle.dist_cert.specs.Form.{HasHeaderForm}
+use Rattle.dist_cert.specs.Refusal.{BeginsWith, IsTooLong, Refusal}
+use Rattle.dist_cert.specs.Subject.{Matter}
 use Rattle.dist_subject.specs.Later.{later_matter}
 use Rattle.dist_subject.specs.Present.{present_matter}
 
--- the clauses of the present, or a space of futures and its clauses
+-- the clauses of the present at a mode, or a space of futures and its clauses
 pub data Basis : Type 0 where
-  Today : (inputs : List (List Literal)) → Basis
+  Today : (essential : Bool) → (inputs : List (List Literal)) → Basis
   Later : (space : SpaceView) → (inputs : List (List Literal)) → Basis
 
--- what is spoken of, of these packages at this mode
-abbrev pub matter_of : PackageList → Bool → Basis → Matter
-matter_of r essential (Today inputs) = present_matter r essential inputs
-matter_of r essential (Later space inputs) = later_matter space inputs
+-- what is spoken of, of these packages
+abbrev pub matter_of : PackageList → Basis → Matter
+matter_of r (Today essential inputs) = present_matter r essential inputs
+matter_of r (Later space inputs) = later_matter space inputs
 
 -- the clauses are those of this space, which is the one of the newest packages at the mode
 pub record IsLaterOf (r : PackageList) (essential : Bool) (space : SpaceView) (inputs : List (List Literal)) : Type 0
@@ -40,39 +43,29 @@ pub record IsLaterOf (r : PackageList) (essential : Bool) (space : SpaceView) (i
 -- Certificates of kind strong are judged by the present of all packages, those of the two other kinds by the futures of
 -- the newest of each name.
 abbrev pub IsBasisOf : PackageList → CertKind → Bool → Basis → Type 0
-IsBasisOf r kinds.Strong essential (Today inputs) = ArePresentClauses r essential inputs
+IsBasisOf r kinds.Strong essential (Today mode inputs) = (mode ≡ essential) × ArePresentClauses r essential inputs
 IsBasisOf r kinds.Outdated essential (Later space inputs) = IsLaterOf r essential space inputs
 IsBasisOf r kinds.Challenged essential (Later space inputs) = IsLaterOf r essential space inputs
 IsBasisOf r kind essential basis = ⊥
 
--- kind strong is taken, at both modes
-abbrev pub IsTakenKind : CertKind → Type 0
-IsTakenKind kind = kind ≡ kinds.Strong
+-- of the newest packages the versions are versions, and so are those of their bounds, as where a repository was read
+abbrev pub HaveVersions : PackageList → Type 0
+HaveVersions r = (latest : PackageList) → IsLatestOf r latest
+    → All (λ p. IsVersion p.version) latest.packages × AreBoundsVersions latest
 
--- What is judged by at each kind and mode. Kinds that are not taken are as kind strong.
-abbrev pub Bases : Type 0
-Bases = CertKind → Bool → Basis
-
-abbrev pub AreBases : PackageList → Bases → Type 0
-AreBases r bases = (kind : CertKind) (essential : Bool)
-    → IsBasisOf r kinds.Strong essential (bases kind essential)
-
-abbrev pub subject_of : PackageList → Bases → Subject
-subject_of r bases = record {
-  IsTaken = λ kind essential. IsTakenKind kind;
-  matter = λ kind essential. matter_of r essential (bases kind essential);
-}
-
--- what the certificates of a first line speak of
-abbrev pub matter_for : PackageList → Bases → Header → Matter
-matter_for r bases h = matter_of r h.essential (bases h.kind h.essential)
-
--- The text is accepted over the packages with this header and these claims.
+-- The text is accepted over the packages with this header and these claims: it is judged by what certificates of its
+-- kind and mode are judged by.
 abbrev pub IsAccepted : PackageList → Limits → List ℕ → Header → List Claim → Type 0
-IsAccepted r limits text h made = (bases : Bases) × AreBases r bases
-    × Accepted (subject_of r bases) limits text h made
+IsAccepted r limits text h made = (basis : Basis) × IsBasisOf r h.kind h.essential basis
+    × Accepted (matter_of r basis) limits text h made
+
+-- A text with a first line that is not too long and has the form is judged by what certificates of that kind and mode
+-- are; any other text by whatever.
+abbrev pub IsJudgedBy : PackageList → Limits → List ℕ → Basis → Type 0
+IsJudgedBy r limits text basis = (h : Header) (line more : List ℕ) → BeginsWith text line more → HasHeaderForm line h
+    → (¬ IsTooLong limits text) → IsBasisOf r h.kind h.essential basis
 
 -- The text is refused over the packages with this fault.
 abbrev pub IsRefused : PackageList → Limits → List ℕ → CertFault → Type 0
-IsRefused r limits text fault = (bases : Bases) × AreBases r bases
-    × Refusal (subject_of r bases) limits text fault
+IsRefused r limits text fault = (basis : Basis) × IsJudgedBy r limits text basis
+    × Refusal (matter_of r basis) limits text fault

@@ -1,16 +1,14 @@
 //! Laws of what certificates are judged by. The functions do nothing.
-ghost use Rattle.std.specs.Prelude.{◌≡◌, ◌≢◌, ◌↔◌, ℕ, All, Bool, List, length};
-ghost use Rattle.dist_version.specs.Spelling.{IsVersion};
+ghost use Rattle.std.specs.Prelude.{◌≡◌, ℕ, Bool, List, length};
 ghost use Rattle.dist_clause.specs.Formula.{Literal};
-ghost use Rattle.dist_repo.specs.Order.{IsInOrder, IsLatestOf};
+ghost use Rattle.dist_repo.specs.Order.{IsInOrder};
 ghost use Rattle.dist_repo.specs.PackageList.{PackageList};
-ghost use Rattle.dist_classes.specs.Atoms.{AreBoundsVersions};
 ghost use Rattle.dist_cert.specs.declared.records.CertKind.{CertKind};
 ghost use Rattle.dist_cert.specs.declared.records.CertKind.TheVariants.{Strong};
 ghost use Rattle.dist_future.specs.Future.{IsFuture};
 ghost use Rattle.dist_future.specs.SpaceLaws.{future_under};
 ghost use Rattle.dist_space.specs.Space.{IsSpace, SpaceView};
-ghost use Rattle.dist_subject.specs.Basis.{AreBases, Basis, Bases, IsBasisOf, matter_of};
+ghost use Rattle.dist_subject.specs.Basis.{Basis, HaveVersions, IsBasisOf, matter_of};
 ghost use Rattle.dist_subject.specs.Installed.{AreModelsHealthy};
 ghost use Rattle.dist_subject.specs.Later.{later_matter};
 ghost use Rattle.dist_subject.specs.Present.{truth_of};
@@ -22,11 +20,11 @@ use dist_space::{spaces_are_one, spaces_are_there};
 use dist_space_clauses::{space_clauses_are_one, space_clauses_are_there};
 
 /// What certificates are judged by is one at each kind and mode. For kinds outdated and challenged there is some at least where
-/// the versions of the newest packages and those of their bounds are versions, as they are in a repository that was read.
+/// the newest packages have versions, as they do in a repository that was read.
 pub fn bases_are_one()
-    ensures there { (r : PackageList) → IsInOrder r.packages → (bases : Bases) × AreBases r bases }
-    ensures later { (r latest : PackageList) (kind : CertKind) (essential : Bool) → kind ≢ Strong → IsLatestOf r latest → AreBoundsVersions latest
-        → All (λ p. IsVersion p.version) latest.packages → (basis : Basis) × IsBasisOf r kind essential basis }
+    ensures today { (r : PackageList) (essential : Bool) → IsInOrder r.packages → (basis : Basis) × IsBasisOf r Strong essential basis }
+    ensures there { (r : PackageList) (kind : CertKind) (essential : Bool) → IsInOrder r.packages → HaveVersions r
+        → (basis : Basis) × IsBasisOf r kind essential basis }
     ensures one { (r : PackageList) (kind : CertKind) (essential : Bool) (basis other : Basis) → IsBasisOf r kind essential basis
         → IsBasisOf r kind essential other → other ≡ basis }
 {
@@ -42,7 +40,7 @@ pub fn bases_are_one()
 /// The sets of variables that stand for a future and a healthy installation in it are exactly the models of the input clauses.
 pub fn models_are_healthy()
     ensures { (r : PackageList) (kind : CertKind) (essential : Bool) (basis : Basis) → IsInOrder r.packages
-        → IsBasisOf r kind essential basis → AreModelsHealthy (matter_of r essential basis) }
+        → IsBasisOf r kind essential basis → AreModelsHealthy (matter_of r basis) }
 {
     models_are_installations();
     futures_meet_their_clauses();

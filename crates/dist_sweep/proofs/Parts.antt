@@ -24,10 +24,11 @@ use Rattle.dist_cert.specs.PartByRecordsLaws.{AreLines, IsHeaderOf, IsLine, IsSh
 use Rattle.dist_cert.specs.Refusal.{Reads, certificate_text, lines_text}
 use Rattle.dist_cert.specs.Writing.{ended}
 use Rattle.dist_subject.specs.Completed.{IsCompleted, KeepsNumbers}
-use Rattle.dist_subject.specs.Basis.{AreBases, Bases, matter_of, subject_of}
+use Rattle.dist_subject.specs.Basis.{Basis, IsBasisOf, matter_of}
+use Rattle.dist_subject.specs.Limited.{AreInputsWithin}
 use Rattle.dist_sweep.specs.Script.{AllNext, AreWritten, IsCutOff, IsPassed, Setting, matter_in}
 use Rattle.dist_sweep.specs.Sweep.{IsCutSweep, IsFull, IsSweep}
-use Rattle.dist_sweep.specs.Sweeping.{KeepsInputs, setting_of}
+use Rattle.dist_sweep.specs.Sweeping.{setting_of}
 use Rattle.dist_sweep.specs.LineLaws.{contains-last}
 use Rattle.dist_sweep.proofs.OneLine.{certificate-push}
 
@@ -108,51 +109,51 @@ one-reading clear g lines others form written reads =
 -- ---- parts
 
 -- a setting of a sweep whose first line has a form
-pub record IsSet (r : PackageList) (kind : CertKind) (essential : Bool) (limit : ℕ) (limits : Limits) (bases : Bases) : Type 0 where
+pub record IsSet (r : PackageList) (kind : CertKind) (essential : Bool) (limit : ℕ) (limits : Limits) (basis : Basis) : Type 0 where
   pub clear : FormsAreClear
-  pub are_bases : AreBases r bases
-  pub header : IsHeaderOf (subject_of r bases) (setting_of r kind essential limit limits bases).header
+  pub is_basis : IsBasisOf r kind essential basis
+  pub header : IsHeaderOf (matter_of r basis) (setting_of r kind essential limit limits basis).header
 
-part-of : (r : PackageList) (kind : CertKind) (essential : Bool) (limit : ℕ) (limits : Limits) (bases : Bases) → IsSet r kind essential limit limits bases
+part-of : (r : PackageList) (kind : CertKind) (essential : Bool) (limit : ℕ) (limits : Limits) (basis : Basis) → IsSet r kind essential limit limits basis
     → (lines : List CertRecord)
-    → AreWritten (setting_of r kind essential limit limits bases) lines
-    → IsPartOf (subject_of r bases) limits (setting_of r kind essential limit limits bases).header
-    (certificate_text (setting_of r kind essential limit limits bases).header lines) lines
-part-of r kind essential limit limits bases is lines written =
-    let g = setting_of r kind essential limit limits bases in
-    part_by_records is.clear (subject_of r bases) limits g.header lines is.header (λ some. written.header_short)
+    → AreWritten (setting_of r kind essential limit limits basis) lines
+    → IsPartOf (matter_of r basis) limits (setting_of r kind essential limit limits basis).header
+    (certificate_text (setting_of r kind essential limit limits basis).header lines) lines
+part-of r kind essential limit limits basis is lines written =
+    let g = setting_of r kind essential limit limits basis in
+    part_by_records is.clear (matter_of r basis) limits g.header lines is.header (λ some. written.header_short)
     (are-lines g [] lines written.next written.short)
 
-part-with : (r : PackageList) (kind : CertKind) (essential : Bool) (limit : ℕ) (limits : Limits) (bases : Bases) → IsSet r kind essential limit limits bases
+part-with : (r : PackageList) (kind : CertKind) (essential : Bool) (limit : ℕ) (limits : Limits) (basis : Basis) → IsSet r kind essential limit limits basis
     → (lines : List CertRecord) (step : CertRecord)
-    → AreWritten (setting_of r kind essential limit limits bases) lines
-    → IsLine (matter_in (setting_of r kind essential limit limits bases)) (setting_of r kind essential limit limits bases).header lines step
-    → IsPartOf (subject_of r bases) limits (setting_of r kind essential limit limits bases).header
-    (certificate_text (setting_of r kind essential limit limits bases).header lines ++ ended (record_text step)) (lines ++ step ∷ [])
-part-with r kind essential limit limits bases is lines step written line =
-    let g = setting_of r kind essential limit limits bases in
-    subst (λ (text : List ℕ). IsPartOf (subject_of r bases) limits g.header text (lines ++ step ∷ [])) (certificate-push g.header lines step)
-    (part_by_records is.clear (subject_of r bases) limits g.header (lines ++ step ∷ []) is.header (λ some. written.header_short)
+    → AreWritten (setting_of r kind essential limit limits basis) lines
+    → IsLine (matter_in (setting_of r kind essential limit limits basis)) (setting_of r kind essential limit limits basis).header lines step
+    → IsPartOf (matter_of r basis) limits (setting_of r kind essential limit limits basis).header
+    (certificate_text (setting_of r kind essential limit limits basis).header lines ++ ended (record_text step)) (lines ++ step ∷ [])
+part-with r kind essential limit limits basis is lines step written line =
+    let g = setting_of r kind essential limit limits basis in
+    subst (λ (text : List ℕ). IsPartOf (matter_of r basis) limits g.header text (lines ++ step ∷ [])) (certificate-push g.header lines step)
+    (part_by_records is.clear (matter_of r basis) limits g.header (lines ++ step ∷ []) is.header (λ some. written.header_short)
     (with-last g [] lines step written.next written.short line))
 
 -- one line more would pass a number
-pub full : (r : PackageList) (kind : CertKind) (essential : Bool) (limit : ℕ) (limits : Limits) (bases : Bases) → IsSet r kind essential limit limits bases
+pub full : (r : PackageList) (kind : CertKind) (essential : Bool) (limit : ℕ) (limits : Limits) (basis : Basis) → IsSet r kind essential limit limits basis
     → (lines : List CertRecord) (what : What)
-    → AreWritten (setting_of r kind essential limit limits bases) lines → IsPassed (setting_of r kind essential limit limits bases) lines (TooLarge what)
-    → IsFull r kind essential limit limits what (certificate_text (setting_of r kind essential limit limits bases).header lines)
-full r kind essential limit limits bases is lines what written passed =
-    let g = setting_of r kind essential limit limits bases in (
-      bases,
-      is.are_bases,
+    → AreWritten (setting_of r kind essential limit limits basis) lines → IsPassed (setting_of r kind essential limit limits basis) lines (TooLarge what)
+    → IsFull r kind essential limit limits what (certificate_text (setting_of r kind essential limit limits basis).header lines)
+full r kind essential limit limits basis is lines what written passed =
+    let g = setting_of r kind essential limit limits basis in (
+      basis,
+      is.is_basis,
       record {
-        part = inr (lines, part-of r kind essential limit limits bases is lines written);
+        part = inr (lines, part-of r kind essential limit limits basis is lines written);
         kept = λ steps other passes. not-passed g lines what written
             (subst (λ (ls : List CertRecord). Passes limits g.header ls what) (one-reading is.clear g lines steps is.header.form written other.reads) passes);
         line = record_text passed.0;
         next = record {
           one_line = is.clear.record_line passed.0 passed.1.form;
           steps = lines ++ passed.0 ∷ [];
-          longer = part-with r kind essential limit limits bases is lines passed.0 written passed.1;
+          longer = part-with r kind essential limit limits basis is lines passed.0 written passed.1;
         };
         passes = passed.2;
       },
@@ -163,13 +164,13 @@ nothing-read h steps e =
     let n = ap length e in omega (arith, n, length-append (certificate_text h steps) [], length-append (header_text h) (line_feed ∷ lines_text steps))
 
 -- the first line would pass one
-pub first-full : (r : PackageList) (kind : CertKind) (essential : Bool) (limit : ℕ) (limits : Limits) (bases : Bases)
-    → IsSet r kind essential limit limits bases → (what : What)
-    → Passes limits (setting_of r kind essential limit limits bases).header [] what → IsFull r kind essential limit limits what []
-first-full r kind essential limit limits bases is what passes =
-    let g = setting_of r kind essential limit limits bases in (
-      bases,
-      is.are_bases,
+pub first-full : (r : PackageList) (kind : CertKind) (essential : Bool) (limit : ℕ) (limits : Limits) (basis : Basis)
+    → IsSet r kind essential limit limits basis → (what : What)
+    → Passes limits (setting_of r kind essential limit limits basis).header [] what → IsFull r kind essential limit limits what []
+first-full r kind essential limit limits basis is what passes =
+    let g = setting_of r kind essential limit limits basis in (
+      basis,
+      is.is_basis,
       record {
         part = inl refl;
         kept = λ steps other past. nothing-read g.header steps other.reads.text_is;
@@ -177,7 +178,7 @@ first-full r kind essential limit limits bases is what passes =
         next = record {
           one_line = is.clear.header_line g.header is.header.form;
           steps = [];
-          longer = part_by_records is.clear (subject_of r bases) limits g.header [] is.header (λ some. absurd (some refl)) tt;
+          longer = part_by_records is.clear (matter_of r basis) limits g.header [] is.header (λ some. absurd (some refl)) tt;
         };
         passes = passes;
       },
@@ -185,17 +186,17 @@ first-full r kind essential limit limits bases is what passes =
 
 -- ---- cut lines
 
-pub cut-behind : (r : PackageList) (kind : CertKind) (essential : Bool) (limit : ℕ) (limits : Limits) (bases : Bases)
-    → IsSet r kind essential limit limits bases → (lines : List CertRecord) (cut : List ℕ)
-    → AreWritten (setting_of r kind essential limit limits bases) lines → (cut ≡ []) ⊎ IsCutOff (setting_of r kind essential limit limits bases) lines cut
-    → IsCutSweep r kind essential limit limits (certificate_text (setting_of r kind essential limit limits bases).header lines ++ cut)
-cut-behind r kind essential limit limits bases is lines cut written off =
-    let g = setting_of r kind essential limit limits bases in (
-      bases,
-      is.are_bases,
+pub cut-behind : (r : PackageList) (kind : CertKind) (essential : Bool) (limit : ℕ) (limits : Limits) (basis : Basis)
+    → IsSet r kind essential limit limits basis → (lines : List CertRecord) (cut : List ℕ)
+    → AreWritten (setting_of r kind essential limit limits basis) lines → (cut ≡ []) ⊎ IsCutOff (setting_of r kind essential limit limits basis) lines cut
+    → IsCutSweep r kind essential limit limits (certificate_text (setting_of r kind essential limit limits basis).header lines ++ cut)
+cut-behind r kind essential limit limits basis is lines cut written off =
+    let g = setting_of r kind essential limit limits basis in (
+      basis,
+      is.is_basis,
       record {
         whole = certificate_text g.header lines;
-        part = inr (lines, part-of r kind essential limit limits bases is lines written);
+        part = inr (lines, part-of r kind essential limit limits basis is lines written);
         cut = cut;
         is = refl;
         cut_off = ⊎_elim inl (λ some. inr (
@@ -203,20 +204,20 @@ cut-behind r kind essential limit limits bases is lines cut written off =
           record {
             one_line = is.clear.record_line some.0 some.1.form;
             steps = lines ++ some.0 ∷ [];
-            longer = part-with r kind essential limit limits bases is lines some.0 written some.1;
+            longer = part-with r kind essential limit limits basis is lines some.0 written some.1;
           },
           some.2,
         )) off;
       },
     )
 
-pub cut-first : (r : PackageList) (kind : CertKind) (essential : Bool) (limit : ℕ) (limits : Limits) (bases : Bases) → IsSet r kind essential limit limits bases
+pub cut-first : (r : PackageList) (kind : CertKind) (essential : Bool) (limit : ℕ) (limits : Limits) (basis : Basis) → IsSet r kind essential limit limits basis
     → (cut : List ℕ)
-    → IsFrontOf (ended (header_text (setting_of r kind essential limit limits bases).header)) cut → IsCutSweep r kind essential limit limits cut
-cut-first r kind essential limit limits bases is cut front =
-    let g = setting_of r kind essential limit limits bases in (
-      bases,
-      is.are_bases,
+    → IsFrontOf (ended (header_text (setting_of r kind essential limit limits basis).header)) cut → IsCutSweep r kind essential limit limits cut
+cut-first r kind essential limit limits basis is cut front =
+    let g = setting_of r kind essential limit limits basis in (
+      basis,
+      is.is_basis,
       record {
         whole = [];
         part = inl refl;
@@ -227,47 +228,46 @@ cut-first r kind essential limit limits bases is cut front =
           record {
             one_line = is.clear.header_line g.header is.header.form;
             steps = [];
-            longer = part_by_records is.clear (subject_of r bases) limits g.header [] is.header (λ some. absurd (some refl)) tt;
+            longer = part_by_records is.clear (matter_of r basis) limits g.header [] is.header (λ some. absurd (some refl)) tt;
           },
           front,
         );
       },
     )
 
-pub cut-nothing : (r : PackageList) (kind : CertKind) (essential : Bool) (limit : ℕ) (limits : Limits) (bases : Bases)
-    → IsSet r kind essential limit limits bases → IsCutSweep r kind essential limit limits []
-cut-nothing r kind essential limit limits bases is = (bases, is.are_bases, record { whole = []; part = inl refl; cut = []; is = refl; cut_off = inl refl })
+pub cut-nothing : (r : PackageList) (kind : CertKind) (essential : Bool) (limit : ℕ) (limits : Limits) (basis : Basis)
+    → IsSet r kind essential limit limits basis → IsCutSweep r kind essential limit limits []
+cut-nothing r kind essential limit limits basis is = (basis, is.is_basis, record { whole = []; part = inl refl; cut = []; is = refl; cut_off = inl refl })
 
 -- ---- a whole certificate
 
-pub whole : (r : PackageList) (kind : CertKind) (essential : Bool) (limit : ℕ) (limits : Limits) (bases : Bases) → IsSet r kind essential limit limits bases
-    → KeepsInputs limits (matter_of r essential (bases kind essential)).inputs → (lines : List CertRecord)
-    → AreWritten (setting_of r kind essential limit limits bases) (lines ++ End ∷ [])
+pub whole : (r : PackageList) (kind : CertKind) (essential : Bool) (limit : ℕ) (limits : Limits) (basis : Basis) → IsSet r kind essential limit limits basis
+    → AreInputsWithin limits r basis → (lines : List CertRecord)
+    → AreWritten (setting_of r kind essential limit limits basis) (lines ++ End ∷ [])
     → IsSweep r kind essential limit limits (claims_in (lines ++ End ∷ []))
-    (certificate_text (setting_of r kind essential limit limits bases).header (lines ++ End ∷ []))
-whole r kind essential limit limits bases is kept lines written =
-    let g = setting_of r kind essential limit limits bases in
+    (certificate_text (setting_of r kind essential limit limits basis).header (lines ++ End ∷ []))
+whole r kind essential limit limits basis is kept lines written =
+    let g = setting_of r kind essential limit limits basis in
     let steps : List CertRecord = lines ++ End ∷ [] in
-    let sound : IsSoundHeader (subject_of r bases) limits g.header = record { form = is.header.form; fits = is.header.fits; short = written.header_short } in
+    let sound : IsSoundHeader (matter_of r basis) limits g.header = record { form = is.header.form; fits = is.header.fits; short = written.header_short } in
     let all : AreSound limits (matter_in g) g.header [] steps =
     sound_by_lines limits (matter_in g) g.header [] steps (are-lines g [] steps written.next written.short) written.short in
-    let accepted = subst (λ (text : List ℕ). Accepted (subject_of r bases) limits text g.header (claims_in steps))
+    let accepted = subst (λ (text : List ℕ). Accepted (matter_of r basis) limits text g.header (claims_in steps))
     (append-nil (certificate_text g.header steps))
-    (accepted_by_records is.clear (subject_of r bases) limits g.header steps sound all (contains-last lines End)) in
+    (accepted_by_records is.clear (matter_of r basis) limits g.header steps sound all (contains-last lines End)) in
     let same : accepted.0 ≡ steps = one-reading is.clear g steps accepted.0 is.header.form written accepted.1.faultless.reads in
     let completed : IsCompleted r limits (certificate_text g.header steps) g.header (claims_in steps) = record {
-      bases = bases;
-      are_bases = is.are_bases;
+      basis = basis;
+      is_basis = is.is_basis;
       steps = accepted.0;
       accepted = accepted.1;
       claims = accepted.2;
-      numbers = subst (λ (ls : List CertRecord). KeepsNumbers limits (matter_of r essential (bases kind essential)).inputs g.header ls) (sym same)
+      numbers = subst (λ (ls : List CertRecord). KeepsNumbers limits r basis g.header ls) (sym same)
           (record {
-            clauses = kept.clauses;
-            literals = kept.literals;
+            inputs = kept;
             derived_lines = written.kept.count;
             line_literals = written.kept.literals;
             bytes = written.bytes;
           });
     } in
-    (bases, is.are_bases, (completed, inr (steps, part-of r kind essential limit limits bases is steps written)))
+    (basis, is.is_basis, (completed, inr (steps, part-of r kind essential limit limits basis is steps written)))

@@ -9,7 +9,7 @@ use Rattle.dist_outside.specs.declared.trouble.What.TheVariants.{Variables, Clau
 use Rattle.dist_outside.specs.declared.trouble.WorkError.{WorkError}
 use Rattle.dist_outside.specs.declared.trouble.WorkError.TheVariants.{ReadFault, WriteFault, TooLarge, NoMemory}
 use Rattle.dist_repo.specs.PackageList.{PackageList}
-use Rattle.dist_subject.specs.Basis.{Bases}
+use Rattle.dist_subject.specs.Basis.{Basis}
 use Rattle.dist_cert.specs.declared.records.CertKind.{CertKind}
 use Rattle.dist_cert.specs.declared.records.CertRecord.TheVariants.{End}
 use Rattle.dist_cert.specs.declared.records.Claim.{Claim}
@@ -63,59 +63,59 @@ rose-within name text old mid late new done grew rose =
 
 -- ---- a refusal while lines are written
 
-stopped-first : (r : PackageList) (kind : CertKind) (essential : Bool) (limit : ℕ) (limits : Limits) (bases : Bases) (name : List ℕ)
-    (old mid late new : DeskView) (error : WorkError) → IsSet r kind essential limit limits bases
-    → IsDone name old mid late new → StopsFirst (setting_of r kind essential limit limits bases) mid late error
+stopped-first : (r : PackageList) (kind : CertKind) (essential : Bool) (limit : ℕ) (limits : Limits) (basis : Basis) (name : List ℕ)
+    (old mid late new : DeskView) (error : WorkError) → IsSet r kind essential limit limits basis
+    → IsDone name old mid late new → StopsFirst (setting_of r kind essential limit limits basis) mid late error
     → SweepAnswers r kind essential limit limits name old new (Err error)
-stopped-first r kind essential limit limits bases name old mid late new WriteFault is done stops = (
+stopped-first r kind essential limit limits basis name old mid late new WriteFault is done stops = (
   rose-within name stops.cut old mid late new done stops.grew stops.by,
   leaves r kind essential limit limits name stops.cut old new (holds name stops.cut old mid late new done stops.grew)
-      (cut-first r kind essential limit limits bases is stops.cut stops.is_front),
+      (cut-first r kind essential limit limits basis is stops.cut stops.is_front),
 )
-stopped-first r kind essential limit limits bases name old mid late new NoMemory is done stops =
+stopped-first r kind essential limit limits basis name old mid late new NoMemory is done stops =
     leaves r kind essential limit limits name stops.cut old new (holds name stops.cut old mid late new done stops.grew)
-    (cut-first r kind essential limit limits bases is stops.cut stops.is_front)
-stopped-first r kind essential limit limits bases name old mid late new ReadFault is done stops = stops.by
-stopped-first r kind essential limit limits bases name old mid late new (TooLarge Variables) is done stops = absurd stops.by.1
-stopped-first r kind essential limit limits bases name old mid late new (TooLarge Clauses) is done stops = absurd stops.by.1
-stopped-first r kind essential limit limits bases name old mid late new (TooLarge Literals) is done stops = absurd stops.by.1
-stopped-first r kind essential limit limits bases name old mid late new (TooLarge what) is done stops = (
+    (cut-first r kind essential limit limits basis is stops.cut stops.is_front)
+stopped-first r kind essential limit limits basis name old mid late new ReadFault is done stops = stops.by
+stopped-first r kind essential limit limits basis name old mid late new (TooLarge Variables) is done stops = absurd stops.by.1
+stopped-first r kind essential limit limits basis name old mid late new (TooLarge Clauses) is done stops = absurd stops.by.1
+stopped-first r kind essential limit limits basis name old mid late new (TooLarge Literals) is done stops = absurd stops.by.1
+stopped-first r kind essential limit limits basis name old mid late new (TooLarge what) is done stops = (
   [],
   holds name [] old mid late new done (subst (λ (text : List ℕ). FileGrew text mid late) stops.by.0 stops.grew),
-  first-full r kind essential limit limits bases is what stops.by.1,
+  first-full r kind essential limit limits basis is what stops.by.1,
 )
 
-stopped-later : (r : PackageList) (kind : CertKind) (essential : Bool) (limit : ℕ) (limits : Limits) (bases : Bases) (name : List ℕ)
-    (old mid late new : DeskView) (error : WorkError) → IsSet r kind essential limit limits bases
-    → IsDone name old mid late new → StopsLater (setting_of r kind essential limit limits bases) mid late error
+stopped-later : (r : PackageList) (kind : CertKind) (essential : Bool) (limit : ℕ) (limits : Limits) (basis : Basis) (name : List ℕ)
+    (old mid late new : DeskView) (error : WorkError) → IsSet r kind essential limit limits basis
+    → IsDone name old mid late new → StopsLater (setting_of r kind essential limit limits basis) mid late error
     → SweepAnswers r kind essential limit limits name old new (Err error)
-stopped-later r kind essential limit limits bases name old mid late new WriteFault is done stops =
-    let text : List ℕ = certificate_text (setting_of r kind essential limit limits bases).header stops.lines ++ stops.cut in (
+stopped-later r kind essential limit limits basis name old mid late new WriteFault is done stops =
+    let text : List ℕ = certificate_text (setting_of r kind essential limit limits basis).header stops.lines ++ stops.cut in (
       rose-within name text old mid late new done stops.grew stops.by,
       leaves r kind essential limit limits name text old new (holds name text old mid late new done stops.grew)
-          (cut-behind r kind essential limit limits bases is stops.lines stops.cut stops.written stops.cut_off),
+          (cut-behind r kind essential limit limits basis is stops.lines stops.cut stops.written stops.cut_off),
     )
-stopped-later r kind essential limit limits bases name old mid late new NoMemory is done stops =
-    let text : List ℕ = certificate_text (setting_of r kind essential limit limits bases).header stops.lines ++ stops.cut in
+stopped-later r kind essential limit limits basis name old mid late new NoMemory is done stops =
+    let text : List ℕ = certificate_text (setting_of r kind essential limit limits basis).header stops.lines ++ stops.cut in
     leaves r kind essential limit limits name text old new (holds name text old mid late new done stops.grew)
-    (cut-behind r kind essential limit limits bases is stops.lines stops.cut stops.written stops.cut_off)
-stopped-later r kind essential limit limits bases name old mid late new ReadFault is done stops = stops.by
-stopped-later r kind essential limit limits bases name old mid late new (TooLarge Variables) is done stops = absurd stops.by.1.2
-stopped-later r kind essential limit limits bases name old mid late new (TooLarge Clauses) is done stops = absurd stops.by.1.2
-stopped-later r kind essential limit limits bases name old mid late new (TooLarge Literals) is done stops = absurd stops.by.1.2
-stopped-later r kind essential limit limits bases name old mid late new (TooLarge what) is done stops =
-    let g = setting_of r kind essential limit limits bases in (
+    (cut-behind r kind essential limit limits basis is stops.lines stops.cut stops.written stops.cut_off)
+stopped-later r kind essential limit limits basis name old mid late new ReadFault is done stops = stops.by
+stopped-later r kind essential limit limits basis name old mid late new (TooLarge Variables) is done stops = absurd stops.by.1.2
+stopped-later r kind essential limit limits basis name old mid late new (TooLarge Clauses) is done stops = absurd stops.by.1.2
+stopped-later r kind essential limit limits basis name old mid late new (TooLarge Literals) is done stops = absurd stops.by.1.2
+stopped-later r kind essential limit limits basis name old mid late new (TooLarge what) is done stops =
+    let g = setting_of r kind essential limit limits basis in (
       certificate_text g.header stops.lines,
       holds name (certificate_text g.header stops.lines) old mid late new done
           (subst (λ (text : List ℕ). FileGrew text mid late) (ap (λ (cut : List ℕ). certificate_text g.header stops.lines ++ cut) stops.by.0
           ∙ append-nil (certificate_text g.header stops.lines)) stops.grew),
-      full r kind essential limit limits bases is stops.lines what stops.written stops.by.1,
+      full r kind essential limit limits basis is stops.lines what stops.written stops.by.1,
     )
 
 set-of : {C : Type 0} (Keeps : Keeping C) → FormsAreClear → (r : PackageList) (kind : CertKind) (essential : Bool) (limit : ℕ) (limits : Limits)
     (header : Header)
-    (a : AskerView) (c : C) → (may : MayBegin Keeps r kind essential limit limits header a c) → IsSet r kind essential limit limits may.bases
-set-of Keeps clear r kind essential limit limits header a c may = record { clear = clear; are_bases = may.are_bases; header = may.header_of }
+    (a : AskerView) (c : C) → (may : MayBegin Keeps r kind essential limit limits header a c) → IsSet r kind essential limit limits may.basis
+set-of Keeps clear r kind essential limit limits header a c may = record { clear = clear; is_basis = may.is_basis; header = may.header_of }
 
 pub file-stopped : {C : Type 0} (Keeps : Keeping C) → FormsAreClear → (name : List ℕ) (old mid late new : DeskView) (header : Header) (a : AskerView)
     (c : C) (error : WorkError)
@@ -123,17 +123,17 @@ pub file-stopped : {C : Type 0} (Keeps : Keeping C) → FormsAreClear → (name 
     → FileAnswers Keeps header a c name old new (Err error)
 file-stopped Keeps clear name old mid late new header a c error done stops r kind essential limit limits may =
     let is = set-of Keeps clear r kind essential limit limits header a c may in
-    ⊎_elim (λ first. stopped-first r kind essential limit limits may.bases name old mid late new error is done first)
-    (λ later. stopped-later r kind essential limit limits may.bases name old mid late new error is done later)
-    (stops (setting_of r kind essential limit limits may.bases) may.begins)
+    ⊎_elim (λ first. stopped-first r kind essential limit limits may.basis name old mid late new error is done first)
+    (λ later. stopped-later r kind essential limit limits may.basis name old mid late new error is done later)
+    (stops (setting_of r kind essential limit limits may.basis) may.begins)
 
 -- ---- the other answers
 
-not-made : (r : PackageList) (kind : CertKind) (essential : Bool) (limit : ℕ) (limits : Limits) (bases : Bases) (name : List ℕ) (old new : DeskView)
-    → IsSet r kind essential limit limits bases → NotCreated name old new
+not-made : (r : PackageList) (kind : CertKind) (essential : Bool) (limit : ℕ) (limits : Limits) (basis : Basis) (name : List ℕ) (old new : DeskView)
+    → IsSet r kind essential limit limits basis → NotCreated name old new
     → LeavesPart r kind essential limit limits name old new
-not-made r kind essential limit limits bases name old new is refused = record {
-  files = ⊎_elim inl (λ empty. inr ([], cut-nothing r kind essential limit limits bases is, empty)) refused.as_before_or_empty;
+not-made r kind essential limit limits basis name old new is refused = record {
+  files = ⊎_elim inl (λ empty. inr ([], cut-nothing r kind essential limit limits basis is, empty)) refused.as_before_or_empty;
   not_writing = subst IsNotWriting (sym refused.idle) tt;
   counts = refused.counts;
 }
@@ -153,7 +153,7 @@ pub file-refused : {C : Type 0} (Keeps : Keeping C) → FormsAreClear → (name 
     → FileAnswers Keeps header a c name old new (Err error)
 file-refused Keeps clear name old new header a c error refused cause r kind essential limit limits may =
     caused r kind essential limit limits name old old new error (omega arith) cause
-    (not-made r kind essential limit limits may.bases name old new (set-of Keeps clear r kind essential limit limits header a c may) refused)
+    (not-made r kind essential limit limits may.basis name old new (set-of Keeps clear r kind essential limit limits header a c may) refused)
     refused.counts.write_faults_stand
 
 pub file-closed : {C : Type 0} (Keeps : Keeping C) → FormsAreClear → (name : List ℕ) (old mid late new : DeskView) (header : Header) (a : AskerView) (c : C)
@@ -161,11 +161,11 @@ pub file-closed : {C : Type 0} (Keeps : Keeping C) → FormsAreClear → (name :
     (error : WorkError) → IsDone name old mid late new → SweepMore Keeps header mid late a (new_window a.log.variables) c made
     → DeskWriteCause error late new → FileAnswers Keeps header a c name old new (Err error)
 file-closed Keeps clear name old mid late new header a c made error done more cause r kind essential limit limits may =
-    let g = setting_of r kind essential limit limits may.bases in
+    let g = setting_of r kind essential limit limits may.basis in
     let all = more g may.begins in
     let text : List ℕ = certificate_text g.header (all.lines ++ End ∷ []) in
     let there = holds name text old mid late new done all.grew in
-    let cut = cut-behind r kind essential limit limits may.bases (set-of Keeps clear r kind essential limit limits header a c may) (all.lines ++ End ∷ [])
+    let cut = cut-behind r kind essential limit limits may.basis (set-of Keeps clear r kind essential limit limits header a c may) (all.lines ++ End ∷ [])
     [] all.written
     (inl refl) in
     caused r kind essential limit limits name old late new error (omega (arith, done.created.counts.write_faults_stand, all.grew.counts.write_faults_stand))
@@ -179,13 +179,13 @@ pub file-whole : {C : Type 0} (Keeps : Keeping C) → FormsAreClear → (name : 
     → IsDone name old mid late new → SweepMore Keeps header mid late a (new_window a.log.variables) c made
     → FileAnswers Keeps header a c name old new (Ok made)
 file-whole Keeps clear name old mid late new header a c made done more r kind essential limit limits may =
-    let g = setting_of r kind essential limit limits may.bases in
+    let g = setting_of r kind essential limit limits may.basis in
     let all = more g may.begins in
     let text : List ℕ = certificate_text g.header (all.lines ++ End ∷ []) in (
       text,
       holds name text old mid late new done all.grew,
       subst (λ (cs : List Claim). IsSweep r kind essential limit limits cs text) all.claims
-          (whole r kind essential limit limits may.bases (set-of Keeps clear r kind essential limit limits header a c may) may.kept all.lines all.written),
+          (whole r kind essential limit limits may.basis (set-of Keeps clear r kind essential limit limits header a c may) may.kept all.lines all.written),
     )
 
 -- want of memory before the file was made

@@ -29,7 +29,7 @@ pub record Setting : Type 0 where
   pub limits : Limits
 
 abbrev pub matter_in : Setting → Matter
-matter_in g = matter_of g.repo g.header.essential g.basis
+matter_in g = matter_of g.repo g.basis
 
 -- each line may come next, behind those before it
 abbrev pub AllNext : Setting → List CertRecord → List CertRecord → Type 0

@@ -15,7 +15,7 @@ use Rattle.dist_cert.specs.declared.records.Header.{Header}
 use Rattle.dist_cert.specs.Subject.{Matter}
 use Rattle.dist_cert.specs.Part.{IsPart, IsStoppedBy, IsCutPart}
 use Rattle.dist_subject.specs.Completed.{IsCompleted}
-use Rattle.dist_subject.specs.Basis.{AreBases, Bases, matter_of, subject_of}
+use Rattle.dist_subject.specs.Basis.{Basis, IsBasisOf, matter_of}
 use Rattle.dist_subject.specs.Limited.{PassesFirst}
 
 -- the first line of a certificate on what is spoken of
@@ -30,26 +30,26 @@ header_of kind essential limit matter = record {
 }
 
 -- what is said of a text, by what the certificates are judged by and the first line
-abbrev pub OfSweep : PackageList → CertKind → Bool → ℕ → (Bases → Header → Type 0) → Type 0
-OfSweep r kind essential limit P = (bases : Bases) × AreBases r bases
-    × P bases (header_of kind essential limit (matter_of r essential (bases kind essential)))
+abbrev pub OfSweep : PackageList → CertKind → Bool → ℕ → (Basis → Header → Type 0) → Type 0
+OfSweep r kind essential limit P = (basis : Basis) × IsBasisOf r kind essential basis
+    × P basis (header_of kind essential limit (matter_of r basis))
 
 -- The text is a whole certificate of these claims, of this kind and mode and with this limit: it is accepted, keeps the
 -- numbers, and is one that a sweep may write.
 abbrev pub IsSweep : PackageList → CertKind → Bool → ℕ → Limits → List Claim → List ℕ → Type 0
 IsSweep r kind essential limit limits made text =
-    OfSweep r kind essential limit (λ bases h. IsCompleted r limits text h made
-    × IsPart (subject_of r bases) limits h text)
+    OfSweep r kind essential limit (λ basis h. IsCompleted r limits text h made
+    × IsPart (matter_of r basis) limits h text)
 
 -- The text is what a sweep may have written so far, and one line more would pass a number.
 abbrev pub IsFull : PackageList → CertKind → Bool → ℕ → Limits → What → List ℕ → Type 0
 IsFull r kind essential limit limits what text =
-    OfSweep r kind essential limit (λ bases h. IsStoppedBy (subject_of r bases) limits h text what)
+    OfSweep r kind essential limit (λ basis h. IsStoppedBy (matter_of r basis) limits h text what)
 
 -- The text is what a sweep may have written so far, perhaps with a front of one line more behind it.
 abbrev pub IsCutSweep : PackageList → CertKind → Bool → ℕ → Limits → List ℕ → Type 0
 IsCutSweep r kind essential limit limits text =
-    OfSweep r kind essential limit (λ bases h. IsCutPart (subject_of r bases) limits h text)
+    OfSweep r kind essential limit (λ basis h. IsCutPart (matter_of r basis) limits h text)
 
 -- The desk writes no longer. The file is as before, or holds what a sweep may have written so far, perhaps with a front
 -- of one line more behind it. All other files are as before.

@@ -21,7 +21,8 @@ use Rattle.dist_cert.specs.Part.{Passes}
 use Rattle.dist_cert.specs.PartByRecordsLaws.{IsHeaderOf}
 use Rattle.dist_cert.specs.Refusal.{lines_text, certificate_text}
 use Rattle.dist_cert.specs.Writing.{WriterView, ended}
-use Rattle.dist_subject.specs.Basis.{AreBases, Bases, matter_of, subject_of}
+use Rattle.dist_subject.specs.Basis.{Basis, IsBasisOf, matter_of}
+use Rattle.dist_subject.specs.Limited.{AreInputsWithin}
 use Rattle.dist_sweep.specs.Asking.{AskerView, IsLogAt}
 use Rattle.dist_sweep.specs.Claiming.{Keeping, IsSwept}
 use Rattle.dist_sweep.specs.Script.{Setting, AreWritten, IsCutOff, IsWriter, Stops, StopsBy, matter_in}
@@ -130,18 +131,13 @@ SweepStops Keeps header old new a w c error = (g : Setting) → Begins Keeps g h
 -- ---- the file
 
 -- the packages, what certificates on them are judged by, the first line of theirs, and the limits
-abbrev pub setting_of : PackageList → CertKind → Bool → ℕ → Limits → Bases → Setting
-setting_of r kind essential limit limits bases = record {
+abbrev pub setting_of : PackageList → CertKind → Bool → ℕ → Limits → Basis → Setting
+setting_of r kind essential limit limits basis = record {
   repo = r;
-  basis = bases kind essential;
-  header = header_of kind essential limit (matter_of r essential (bases kind essential));
+  basis = basis;
+  header = header_of kind essential limit (matter_of r basis);
   limits = limits;
 }
-
--- the input clauses keep the limits of their number and of that of their literals
-pub record KeepsInputs (limits : Limits) (inputs : List (List Literal)) : Type 0 where
-  pub clauses : length inputs ≤ limits.clauses
-  pub literals : literal_count inputs ≤ limits.literals
 
 -- no installations
 abbrev pub new_window : ℕ → WindowView
@@ -150,12 +146,12 @@ new_window variables = record { kept = []; count = 0; variables = variables }
 -- A sweep may begin, with a first line of a form.
 pub record MayBegin {C : Type 0} (Keeps : Keeping C) (r : PackageList) (kind : CertKind) (essential : Bool) (limit : ℕ)
     (limits : Limits) (header : Header) (a : AskerView) (c : C) : Type 0 where
-  pub bases : Bases
-  pub are_bases : AreBases r bases
-  pub kept : KeepsInputs limits (matter_of r essential (bases kind essential)).inputs
-  pub header_of : IsHeaderOf (subject_of r bases)
-      (setting_of r kind essential limit limits bases).header
-  pub begins : Begins Keeps (setting_of r kind essential limit limits bases) header a (new_window a.log.variables) c
+  pub basis : Basis
+  pub is_basis : IsBasisOf r kind essential basis
+  pub kept : AreInputsWithin limits r basis
+  pub header_of : IsHeaderOf (matter_of r basis)
+      (setting_of r kind essential limit limits basis).header
+  pub begins : Begins Keeps (setting_of r kind essential limit limits basis) header a (new_window a.log.variables) c
 
 -- Where a sweep may begin, the answer is as it is to be, and so is what it leaves of the file.
 abbrev pub FileAnswers : {C : Type 0} → Keeping C → Header → AskerView → C → (name : List ℕ) → DeskView → DeskView

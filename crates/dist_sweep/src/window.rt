@@ -2,7 +2,7 @@
 ghost use Rattle.std.specs.Prelude.{◌≡◌, ◌+◌, ◌^◌, ◌<◌, ◌≤◌, ◌↔◌, [], ◌∷◌, ◌++◌, All, IfOk, IsTrue, OnOk, length, slice_index_or, true};
 ghost use Rattle.circular_buffer.specs.Buffer.{keep_last};
 ghost use Rattle.dist_clause.specs.Formula.{value_of};
-ghost use Rattle.dist_sweep.specs.Window.{WindowView, numbers_of};
+ghost use Rattle.dist_sweep.specs.Window.{WindowView, kept_at, numbers_of};
 
 use circular_buffer::HeapCircularBuffer;
 use dist_cert::REACH;
@@ -48,6 +48,33 @@ impl Window {
         ensures { result ≡ self.now.variables }
     {
         self.variables
+    }
+
+    /// How many installations there were. The latest one has this number.
+    pub fn count(&self) -> u32
+        ensures { result ≡ self.now.count }
+    {
+        self.count
+    }
+
+    /// How many of the installations are kept.
+    pub fn len(&self) -> u32
+        ensures value { result ≡ length self.now.kept }
+        ensures within { length self.now.kept ≤ self.now.count }
+    {
+        self.kept.len() as u32
+    }
+
+    /// Whether the installation of a number, which is kept, has a variable.
+    pub fn has(&self, number: u32, variable: u32) -> bool
+        requires low { self.now.count < number + length self.now.kept }
+        requires high { number ≤ self.now.count }
+        requires from_one { 1 ≤ variable }
+        requires upto { variable ≤ self.now.variables }
+        ensures { result ≡ value_of (kept_at self.now number) variable }
+    {
+        let first = self.count - self.kept.len() as u32 + 1;
+        self.has_at((number - first) as usize, variable)
     }
 
     /// Adds an installation as the latest one. More than 4,294,967,295 installations in all are want of memory too.

@@ -57,6 +57,95 @@ undecided_pairs: []
     ..TEN
 };
 
+// Package a, which needs an older b than the newest one. The certificate speaks of the newest of each name.
+const OUTDATED: Row = Row {
+    packages: "Package: a\nVersion: 1\nDepends: b (<< 2)\n\nPackage: b\nVersion: 1\n\nPackage: b\nVersion: 2\n",
+    cert: Some(
+        "distfuture-certificate 1 outdated plain 10000 2 7 7\nq 2\nf 5\no 1\nq 3\nm 1 3\na 2 1\ne\n",
+    ),
+    out: "report: \"outdated\"
+limit: 10000
+packages: 2
+outdated:
+  - \"a=1\"
+undecided: []
+",
+    ..TEN
+};
+
+// Later versions of a library at and above a bound break the program that needs it below.
+const CHALLENGED: Row = Row {
+    packages: "Package: libx\nVersion: 1\n\nPackage: p\nVersion: 1\nDepends: libx (<< 2)\n",
+    cert: Some(
+        "distfuture-certificate 1 challenged plain 10000 2 11 16\nq 1 2\nm 1 2\nc 1 1 0 0\nq 1 3\nm 1 2 3\nq 3 4\nm 3 4 5\nq 3 6\nf 6 12 5 1\nq 3 8\nf 8 12 5 2\nc 2 2 3 0 1 2 1 3 0\ne\n",
+    ),
+    out: "report: \"challenged\"
+limit: 10000
+packages: 2
+uninstallable: []
+challenged:
+  - cluster: \"libx=1\"
+    class: \"= 2\"
+    example: \"2\"
+    breaks:
+      - \"p=1\"
+  - cluster: \"libx=1\"
+    class: \">> 2\"
+    example: \"2-0A\"
+    breaks:
+      - \"p=1\"
+undecided: []
+undecided_classes: []
+",
+    ..TEN
+};
+
+// Package a, which needs b or c as they are, b, which needs c, and c and d. One derived line leaves it undecided whether a is
+// outdated, or whether a later d breaks it.
+const MAYBE_OUTDATED: Row = Row {
+    packages: "Package: a\nVersion: 1\nDepends: b (= 1) | c (= 1)\n\nPackage: b\nVersion: 1\nDepends: c (= 1)\n\nPackage: c\nVersion: 1\n\nPackage: d\nVersion: 1\n",
+    cert: Some(
+        "distfuture-certificate 1 outdated plain 1 4 13 14\nq 2\nd 4 -2 0 9 10\nu\ny 1\nm 1 3 4\na 2 1\na 3 1\nm 1 5\na 4 2\ne\n",
+    ),
+    status: Status::DoneWithUndecided,
+    out: "report: \"outdated\"
+limit: 1
+packages: 4
+outdated: []
+undecided:
+  - \"a=1\"
+",
+    ..TEN
+};
+
+const MAYBE_CHALLENGED: Row = Row {
+    cert: Some(
+        "distfuture-certificate 1 challenged plain 1 4 13 14\nm 1 2 4 5\nq 2 10\nf 5 10 9\nq 2 12\nd 4 -2 0 9 10\nu\nc 1 1 0 3 1 0 4 1\nm 1 3 4\nq 3 10\nf 5 10\nc 2 2 0 3 1 0\nm 1 4\nc 3 3 0 0\nm 1 5\nc 4 4 0 0\ne\n",
+    ),
+    out: "report: \"challenged\"
+limit: 1
+packages: 4
+uninstallable: []
+challenged:
+  - cluster: \"c=1\"
+    class: \">> 1\"
+    example: \"1-0A\"
+    breaks:
+      - \"a=1\"
+      - \"b=1\"
+undecided: []
+undecided_classes:
+  - cluster: \"d=1\"
+    class: \">> 1\"
+    example: \"1-0A\"
+    breaks:
+      - \"a=1\"
+",
+    ..MAYBE_OUTDATED
+};
+
+const ON_FUTURES: [Row; 4] = [OUTDATED, CHALLENGED, MAYBE_OUTDATED, MAYBE_CHALLENGED];
+
 const REFUSED: Row = Row {
     status: Status::CertificateRefused,
     out: "",
@@ -72,7 +161,7 @@ pub(crate) const BAD_LINE: Row = Row {
     ..REFUSED
 };
 
-const REFUSALS: [Row; 6] = [
+const REFUSALS: [Row; 8] = [
     BAD_LINE,
     Row {
         cert: Some(
@@ -107,6 +196,22 @@ const REFUSALS: [Row; 6] = [
         err: "distfuture: certificate refused at line 1: BadHeader\n",
         ..REFUSED
     },
+    // The numbers are those of all packages, of which one is not the newest.
+    Row {
+        cert: Some("distfuture-certificate 1 outdated plain 10000 3 7 7\n"),
+        status: Status::CertificateRefused,
+        out: "",
+        err: "distfuture: certificate refused at line 1: BadHeader\n",
+        ..OUTDATED
+    },
+    // The archive is as it is, and b is at a later class.
+    Row {
+        cert: Some("distfuture-certificate 1 outdated plain 10000 2 7 7\nm 1 3 6\n"),
+        status: Status::CertificateRefused,
+        out: "",
+        err: "distfuture: certificate refused at line 2: NotAFuture\n",
+        ..OUTDATED
+    },
 ];
 
 const STOPPED: Row = Row {
@@ -115,7 +220,7 @@ const STOPPED: Row = Row {
     ..TEN
 };
 
-const LIMITS: [Row; 3] = [
+const LIMITS: [Row; 4] = [
     Row {
         at_most: Some((What::Certificate, 10)),
         err: "distfuture: too large: Certificate\n",
@@ -132,6 +237,13 @@ const LIMITS: [Row; 3] = [
         out: "",
         err: "distfuture: too large: Lines\n",
         ..UNDECIDED
+    },
+    Row {
+        at_most: Some((What::Variables, 6)),
+        status: Status::TooLarge,
+        out: "",
+        err: "distfuture: too large: Variables\n",
+        ..OUTDATED
     },
 ];
 
@@ -166,8 +278,9 @@ const FAULTS: [Row; 3] = [
     },
 ];
 
-const TABLES: [Table; 4] = [
+const TABLES: [Table; 5] = [
     ("certificates are accepted", &[TEN, UNDECIDED]),
+    ("certificates on futures are accepted", &ON_FUTURES),
     ("faults of certificates are told", &REFUSALS),
     ("limits are kept", &LIMITS),
     ("faults are told", &FAULTS),

@@ -119,11 +119,11 @@ IsWritten r limits name files old new made = (old.files ≡ Some files) × Sweep
 verdict-same : RightLaw → OneVerdictLaw → (r : PackageList) (limits : Limits) (name : List ℕ) (files : Files) (old new : DeskView) (made : List Claim)
     (verdict : Verdict) → (w : IsWritten r limits name files old new made)
     → OfText (file_bytes new.files name) (λ text. Answers r limits text (Ok verdict))
-    → Accepted (header_of kinds.Strong false DEFAULT_LIMIT (matter_of r false (w.1.2.0 kinds.Strong false))) made ≡ verdict
+    → Accepted (header_of kinds.Strong false DEFAULT_LIMIT (matter_of r w.1.2.0)) made ≡ verdict
 verdict-same right one r limits name files old new made verdict w of =
     let text : List ℕ = w.1.0 in
     let answers : Answers r limits text (Ok verdict) = of-file (λ t. Answers r limits t (Ok verdict)) files name text Idle old new w.0 w.1.1 of in
-    let first : Verdict = Accepted (header_of kinds.Strong false DEFAULT_LIMIT (matter_of r false (w.1.2.0 kinds.Strong false))) made in
+    let first : Verdict = Accepted (header_of kinds.Strong false DEFAULT_LIMIT (matter_of r w.1.2.0)) made in
     one r limits text first verdict (right r limits text first w.1.2.2.0) (right r limits text verdict answers)
 
 same-claims : (h other : Header) (made claims : List Claim) → Accepted h made ≡ Accepted other claims → made ≡ claims
@@ -137,7 +137,7 @@ pub accepted : RightLaw → OneVerdictLaw → (r : PackageList) (limits : Limits
     → IsWritten r limits name files old new made → OfText (file_bytes new.files name) (λ text. Answers r limits text (Ok (Accepted h claims)))
     → AreSwept r limits claims
 accepted right one r limits name files old new made h claims w of =
-    let same = same-claims (header_of kinds.Strong false DEFAULT_LIMIT (matter_of r false (w.1.2.0 kinds.Strong false))) h made claims
+    let same = same-claims (header_of kinds.Strong false DEFAULT_LIMIT (matter_of r w.1.2.0)) h made claims
     (verdict-same right one r limits name files old new made (Accepted h claims) w of) in
     subst (AreSwept r limits) same (w.1.0, w.1.2)
 
@@ -145,7 +145,7 @@ pub not-refused : RightLaw → OneVerdictLaw → (r : PackageList) (limits : Lim
     (fault : CertFault)
     → IsWritten r limits name files old new made → ¬ OfText (file_bytes new.files name) (λ text. Answers r limits text (Ok (Refused fault)))
 not-refused right one r limits name files old new made fault w of =
-    accepted≢refused (header_of kinds.Strong false DEFAULT_LIMIT (matter_of r false (w.1.2.0 kinds.Strong false))) made fault
+    accepted≢refused (header_of kinds.Strong false DEFAULT_LIMIT (matter_of r w.1.2.0)) made fault
     (verdict-same right one r limits name files old new made (Refused fault) w of)
 
 abbrev pub OneAnswerLaw : Type 0
@@ -163,5 +163,5 @@ not-large one r limits name files old new made what ordered w of =
     let text : List ℕ = w.1.0 in
     let answers : Answers r limits text (Err (TooLarge what)) =
     of-file (λ t. Answers r limits t (Err (TooLarge what))) files name text Idle old new w.0 w.1.1 of in
-    let first : Verdict = Accepted (header_of kinds.Strong false DEFAULT_LIMIT (matter_of r false (w.1.2.0 kinds.Strong false))) made in
+    let first : Verdict = Accepted (header_of kinds.Strong false DEFAULT_LIMIT (matter_of r w.1.2.0)) made in
     large≢verdict what first (one r limits text (Ok first) (Err (TooLarge what)) ordered w.1.2.2.0 answers tt tt)

@@ -53,16 +53,16 @@ returns-in-Err-clause-check g c =
     (g.W.Sink.view c.carry_out.new.out))
 
 pub returns-in-Ok-clause-hard : goal.returns-in-Ok-clause-hard
-returns-in-Ok-clause-hard g c = λ r bases. c.undecided_questions_are_hard.ensures r bases c.args.limits.now
+returns-in-Ok-clause-hard g c = λ r basis. c.undecided_questions_are_hard.ensures r basis c.args.limits.now
 
 pub returns-in-Err-clause-hard : goal.returns-in-Err-clause-hard
-returns-in-Err-clause-hard g c = λ r bases. c.undecided_questions_are_hard.ensures r bases c.args.limits.now
+returns-in-Err-clause-hard g c = λ r basis. c.undecided_questions_are_hard.ensures r basis c.args.limits.now
 
 pub returns-in-Ok-clause-tried : goal.returns-in-Ok-clause-tried
-returns-in-Ok-clause-tried g c = λ r bases. c.marks_are_tried.ensures r bases c.args.limits.now
+returns-in-Ok-clause-tried g c = λ r basis. c.marks_are_tried.ensures r basis c.args.limits.now
 
 pub returns-in-Err-clause-tried : goal.returns-in-Err-clause-tried
-returns-in-Err-clause-tried g c = λ r bases. c.marks_are_tried.ensures r bases c.args.limits.now
+returns-in-Err-clause-tried g c = λ r basis. c.marks_are_tried.ensures r basis c.args.limits.now
 
 pub returns-in-Ok-clause-complete : goal.returns-in-Ok-clause-complete
 returns-in-Ok-clause-complete g c =

@@ -1,4 +1,4 @@
-use Rattle.std.proofs.Common.{List, [], ◌∷◌, ◌++◌, ℕ, Option, Some, None, Result, IfErr, refl}
+use Rattle.std.proofs.Common.{sym, ◌∙◌, subst, List, [], ◌∷◌, ◌++◌, ℕ, Option, Some, None, Result, IfErr, refl}
 use Rattle.dist_base.specs.Ascii.{line_feed}
 use Rattle.dist_outside.specs.declared.limits.Limits.{Limits}
 use Rattle.dist_repo.specs.PackageList.{PackageList}
@@ -12,7 +12,8 @@ use Rattle.dist_cert.specs.Reading.{text_left}
 use Rattle.dist_check.specs.declared.checking.Checked.{Checked}
 use Rattle.dist_check.specs.Checking.{LargeCause, TextAnswers, TextCause, OfText}
 use Rattle.dist_check.proofs.CheckSteps.{by-exit, header-stops, start-stops, starts-checked}
-use Rattle.dist_check.proofs.CheckText.{nothing-read, stops-alike, completed-alike, later-cause, no-memory}
+use Rattle.dist_subject.specs.Completed.{IsCompleted}
+use Rattle.dist_check.proofs.CheckText.{accepted-means, nothing-read, stops-alike, completed-alike, later-cause, no-memory}
 use Rattle.dist_check.proofs.LargeCauses.{header-large, start-large}
 use Rattle.dist_check.proofs.checking.check_text.Goals as goal
 
@@ -25,7 +26,7 @@ returns-in_err-header-clause-text g c =
     (λ text. TextAnswers (λ (x : Checked). x.header) (λ (x : Checked). x.claims) c.args.repo.now c.args.limits.now text r)) c.from_residual.result
     c.in_err-header.field-0.0
     c.from_residual.ensures.1
-    (header-stops c.bases_are_one.ensures.there c.args.repo.now c.len-in_order.ensures.in_order c.args.limits.now c.new-reader.result c.header.new.self
+    (header-stops c.args.repo.now c.args.limits.now c.new-reader.result c.header.new.self
     told (text_left c.new-reader.result old) (text_left c.header.new.self new) old new
     c.new-reader.ensures (nothing-read c.args.limits.now c.new-reader.result old c.new-reader.ensures) (λ (x : Checked). x.header) (λ (x : Checked). x.claims)
     c.in_err-header.field-0.0 c.in_err-header.ensures.text c.in_err-header.ensures.cause)
@@ -39,8 +40,7 @@ returns-in_err-state-clause-text g c =
     (λ text. TextAnswers (λ (x : Checked). x.header) (λ (x : Checked). x.claims) c.args.repo.now c.args.limits.now text r))
     c.from_residual-in_err-state.result c.in_err-state.field-0.0
     c.from_residual-in_err-state.ensures.1
-    (start-stops c.forms_are_clear.ensures c.bases_are_one.ensures.there c.bases_are_one.ensures.one c.args.repo.now c.len-in_order.ensures.in_order
-    c.args.limits.now c.new-reader.result told (text_left c.new-reader.result old)
+    (start-stops c.forms_are_clear.ensures c.args.repo.now c.args.limits.now c.new-reader.result told (text_left c.new-reader.result old)
     (text_left c.header.new.self new) c.in_ok-header.header c.new-reader.ensures (nothing-read c.args.limits.now c.new-reader.result old c.new-reader.ensures)
     (λ (x : Checked). x.header) (λ (x : Checked). x.claims) c.in_err-state.field-0.0
     c.in_ok-header.ensures.text c.in_err-state.ensures)
@@ -56,17 +56,21 @@ returns-in_err-tools-clause-text g c =
 
 pub take_lines-requires-clause-start : goal.take_lines-requires-clause-start
 take_lines-requires-clause-start g c =
-    starts-checked c.forms_are_clear.ensures c.bases_are_one.ensures.there c.bases_are_one.ensures.one c.models_are_healthy.ensures
-    c.args.repo.now c.len-in_order.ensures.in_order c.args.limits.now c.new-reader.result c.header.new.self None None None
+    starts-checked c.forms_are_clear.ensures c.models_are_healthy.ensures c.args.repo.now c.len-in_order.ensures.in_order
+    c.args.limits.now c.new-reader.result c.header.new.self None None None
     c.in_ok-header.header c.in_ok-state.state c.new-reader.ensures refl refl c.in_ok-header.ensures.some c.in_ok-header.ensures.gives c.in_ok-state.ensures
+
+pub take_lines-requires-clause-tools : goal.take_lines-requires-clause-tools
+take_lines-requires-clause-tools g c =
+    c.in_ok-tools.ensures ∙ c.in_ok-state.ensures.fits.variables ∙ sym c.in_ok-state.ensures.variables
 
 pub returns-in_err-take_lines-clause-text : goal.returns-in_err-take_lines-clause-text
 returns-in_err-take_lines-clause-text g c =
     let old : DeskView = g.D.Desk.view c.args.desk.now in
     let new : DeskView = g.D.Desk.view c.header.new.desk in
     let told : Option (List ℕ) = bytes_left old.files old.mode in
-    let checked = starts-checked c.forms_are_clear.ensures c.bases_are_one.ensures.there c.bases_are_one.ensures.one
-    c.models_are_healthy.ensures c.args.repo.now c.len-in_order.ensures.in_order c.args.limits.now c.new-reader.result c.header.new.self told
+    let checked = starts-checked c.forms_are_clear.ensures c.models_are_healthy.ensures c.args.repo.now c.len-in_order.ensures.in_order
+    c.args.limits.now c.new-reader.result c.header.new.self told
     (text_left c.new-reader.result old) (text_left c.header.new.self new) c.in_ok-header.header c.in_ok-state.state c.new-reader.ensures
     (nothing-read c.args.limits.now c.new-reader.result old c.new-reader.ensures) c.in_ok-header.ensures.text
     c.in_ok-header.ensures.some c.in_ok-header.ensures.gives c.in_ok-state.ensures in
@@ -92,14 +96,21 @@ returns-clause-text g c =
     let old : DeskView = g.D.Desk.view c.args.desk.now in
     let new : DeskView = g.D.Desk.view c.header.new.desk in
     let told : Option (List ℕ) = bytes_left old.files old.mode in
-    let checked = starts-checked c.forms_are_clear.ensures c.bases_are_one.ensures.there c.bases_are_one.ensures.one
-    c.models_are_healthy.ensures c.args.repo.now c.len-in_order.ensures.in_order c.args.limits.now c.new-reader.result c.header.new.self told
+    let checked = starts-checked c.forms_are_clear.ensures c.models_are_healthy.ensures c.args.repo.now c.len-in_order.ensures.in_order
+    c.args.limits.now c.new-reader.result c.header.new.self told
     (text_left c.new-reader.result old) (text_left c.header.new.self new) c.in_ok-header.header c.in_ok-state.state c.new-reader.ensures
     (nothing-read c.args.limits.now c.new-reader.result old c.new-reader.ensures) c.in_ok-header.ensures.text
     c.in_ok-header.ensures.some c.in_ok-header.ensures.gives c.in_ok-state.ensures in
     completed-alike (λ (x : Checked). x.header) (λ (x : Checked). x.claims) c.args.repo.now c.args.limits.now told c.in_ok-header.header
     c.take_lines.new.state.claims
     (record { header = c.in_ok-header.header; claims = c.into_claims.result }) refl c.into_claims.ensures (c.in_ok-take_lines.ensures.text told checked)
+
+pub returns-clause-means : goal.returns-clause-means
+returns-clause-means g c =
+    let some = c.in_ok-take_lines.ensures.some in
+    accepted-means c.accepted_claims_hold.ensures c.args.repo.now c.args.limits.now some.0 c.in_ok-header.header c.into_claims.result c.in_ok-state.state
+    c.len-in_order.ensures.in_order c.in_ok-state.ensures
+    (subst (λ made. IsCompleted c.args.repo.now c.args.limits.now some.0 c.in_ok-header.header made) (sym c.into_claims.ensures) some.1)
 
 pub returns-in_err-header-clause-large : goal.returns-in_err-header-clause-large
 returns-in_err-header-clause-large g c =
@@ -113,6 +124,13 @@ returns-in_err-state-clause-large g c =
     by-exit (λ (r : Result Checked ReadCertError). IfErr r (LargeCause c.args.repo.now c.args.limits.now)) c.from_residual-in_err-state.result
     c.in_err-state.field-0.0 c.from_residual-in_err-state.ensures.1
     (start-large c.args.repo.now c.args.limits.now c.in_ok-header.header c.in_err-state.field-0.0 c.in_err-state.ensures)
+
+pub returns-in_err-tools-clause-cause : goal.returns-in_err-tools-clause-cause
+returns-in_err-tools-clause-cause g c =
+    let old : DeskView = g.D.Desk.view c.args.desk.now in
+    let new : DeskView = g.D.Desk.view c.header.new.desk in
+    by-exit (λ (r : Result Checked ReadCertError). IfErr r (TextCause old new)) c.from_residual-in_err-tools.result (Work NoMemory)
+    c.from_residual-in_err-tools.ensures.1 tt
 
 pub returns-in_err-tools-clause-large : goal.returns-in_err-tools-clause-large
 returns-in_err-tools-clause-large g c =
@@ -135,7 +153,7 @@ returns-in_err-header-clause-some g c =
     let some = c.in_err-header.ensures.some in
     by-exit (Some_text c.args.repo.now c.args.limits.now) c.from_residual.result c.in_err-header.field-0.0 c.from_residual.ensures.1 (
       some.0,
-      header-stops c.bases_are_one.ensures.there c.args.repo.now c.len-in_order.ensures.in_order c.args.limits.now c.new-reader.result
+      header-stops c.args.repo.now c.args.limits.now c.new-reader.result
           c.header.new.self (Some some.0) (Some some.0) (Some some.0) (g.D.Desk.view c.args.desk.now) (g.D.Desk.view c.header.new.desk)
           c.new-reader.ensures refl (λ (x : Checked). x.header) (λ (x : Checked). x.claims) c.in_err-header.field-0.0 (some.0, refl, some.1)
           c.in_err-header.ensures.cause,
@@ -147,8 +165,7 @@ returns-in_err-state-clause-some g c =
     by-exit (Some_text c.args.repo.now c.args.limits.now) c.from_residual-in_err-state.result c.in_err-state.field-0.0
     c.from_residual-in_err-state.ensures.1 (
       text,
-      start-stops c.forms_are_clear.ensures c.bases_are_one.ensures.there c.bases_are_one.ensures.one c.args.repo.now
-          c.len-in_order.ensures.in_order c.args.limits.now c.new-reader.result (Some text) (Some text) (Some []) c.in_ok-header.header
+      start-stops c.forms_are_clear.ensures c.args.repo.now c.args.limits.now c.new-reader.result (Some text) (Some text) (Some []) c.in_ok-header.header
           c.new-reader.ensures refl
           (λ (x : Checked). x.header) (λ (x : Checked). x.claims) c.in_err-state.field-0.0 ([], refl, c.in_ok-header.ensures.some []) c.in_err-state.ensures,
     )

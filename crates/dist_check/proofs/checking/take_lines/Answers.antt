@@ -7,7 +7,7 @@ use Rattle.dist_cert.specs.Form.{record_text}
 use Rattle.dist_cert.specs.Refusal.{certificate_text}
 use Rattle.dist_cert.specs.Reading.{ReaderView, RecordAnswers, RecordCause, RecordOfSome, GivesRecord, WhereTold, text_left}
 use Rattle.dist_check.specs.Checking.{LargeCause, TextAnswers, OfText}
-use Rattle.dist_check.proofs.CheckState.{next-stops, completes, means-at, count-fits}
+use Rattle.dist_check.proofs.CheckState.{next-stops, completes, count-fits}
 use Rattle.dist_check.proofs.CheckSteps.{by-exit, at-bytes, line-stops, next-checked, limits-stay, variables-stay, reads-on}
 use Rattle.dist_check.proofs.LargeCauses.{record-large, line-large}
 use Rattle.dist_check.proofs.checking.take_lines.Goals as goal
@@ -33,13 +33,6 @@ returns-in_default-clause-text g c = λ told x.
     (c.lines.invariant.told told x) c.lines-within.ensures.within
     (subst (λ (o : Option CertRecord). WhereTold left after (λ rest more. RecordAnswers c.lines.reader rest more (Ok o))) c.in_default.is
     c.in_ok-step.ensures.text)
-
-pub returns-in_default-clause-means : goal.returns-in_default-clause-means
-returns-in_default-clause-means g c =
-    means-at c.lines_keep_models.ensures.what_follows c.models_are_installations.ensures c.args.repo.now c.args.limits.now None c.args.header.now c.lines.reader
-    None c.lines.state c.len-in_order.ensures.in_order c.lines.invariant.checked
-    (subst (λ (o : Option CertRecord). RecordCause c.lines.reader c.next.new.self (g.D.Desk.view c.lines.desk) (g.D.Desk.view c.next.new.desk) (Ok o))
-    c.in_default.is c.in_ok-step.ensures.cause)
 
 pub take_line-requires-clause-count : goal.take_line-requires-clause-count
 take_line-requires-clause-count g c =

@@ -20,7 +20,7 @@ returns-clause-answers g c =
     let header_is : c.header_of-header.result ≡ first-header c.args.repo.now c.args.essential c.args.limit (length set.clauses)
     = c.header_of-header.ensures.value ∙ ap (λ (n : ℕ). first-header c.args.repo.now c.args.essential c.args.limit n) c.len.ensures.value in
     c.write_file.ensures c.args.repo.now Strong c.args.essential c.args.limit c.args.limits.now
-    (may-begin c.bases_are_one.ensures.there c.bases_are_one.ensures.one c.models_are_healthy.ensures c.args.repo.now c.args.essential c.args.limit
+    (may-begin c.models_are_healthy.ensures c.args.repo.now c.args.essential c.args.limit
     c.args.limits.now set c.header_of-header.result c.in_ok-asker.asker _ starts header_is c.in_ok-asker.ensures)
 
 pub returns-clause-too_many_clauses : goal.returns-clause-too_many_clauses

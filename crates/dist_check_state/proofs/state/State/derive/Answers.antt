@@ -12,7 +12,8 @@ invariant_of-self c =
     let is = grown c.self.inside.log c.append.new.log (clause_of c.args.literals.now) c.append.result
     (omega (arith, c.inputs-within.ensures.value, c.inputs-within.ensures.within)) c.append.ensures.ok c.append.ensures.stays in (
       (let low = c.self.invariant.0 in omega (arith, low, is.variables)),
-      subst (λ (cs : List (List Literal)). AreDenialsOf cs c.self.inside.denials) (sym is.inputs) c.self.invariant.1,
-      subst (λ (n : ℕ). ForSome c.self.inside.question (λ q. AreLiteralsOver n q.assumptions)) (sym is.variables) c.self.invariant.2,
-      λ q there. let low = c.self.invariant.3 q there in omega (arith, low, is.more),
+      c.self.invariant.1,
+      subst (λ (cs : List (List Literal)). AreDenialsOf cs c.self.inside.denials) (sym is.inputs) c.self.invariant.2,
+      subst (λ (n : ℕ). ForSome c.self.inside.question (λ q. AreLiteralsOver n q.assumptions)) (sym is.variables) c.self.invariant.3,
+      λ q there. let low = c.self.invariant.4 q there in omega (arith, low, is.more),
     )

@@ -1,7 +1,8 @@
 use Rattle.std.proofs.Common.{◌∙◌, Bool, IfOk, List, ℕ, ap, subst, sym}
 use Rattle.dist_cert.specs.declared.records.CertRecord.{CertRecord}
+use Rattle.dist_cert.specs.declared.records.CertRecord.TheVariants as lines
 use Rattle.dist_cert.specs.Form.{Word}
-use Rattle.dist_check_state.specs.State.{StateView, Tells, TellsClaim, TellsEnd, TellsInstallation, TellsQuestion, TellsStrong, is_next}
+use Rattle.dist_check_state.specs.State.{StateView, Tells, TellsClaim, TellsEnd, TellsInstallation, TellsQuestion, is_next}
 use Rattle.dist_check_state.proofs.state.State.judge.Goals as goal
 
 pub returns-in-Question-clause-told : goal.returns-in-Question-clause-told
@@ -24,7 +25,7 @@ returns-in-NotInstallable-clause-told c =
     let found = c.judge_claim.result in
     let next : Bool = is_next c.args.self.now.next c.args.self.now.packages c.in-NotInstallable.package in
     subst (λ (step : CertRecord). Tells c.args.self.now step found) (sym c.in-NotInstallable.is)
-    (subst (λ (b : Bool). TellsClaim next b found) (c.is_refuted.ensures ∙ ap (λ (s : StateView). s.group.refuted.alone) c.self.view_is) c.judge_claim.ensures)
+    (subst (λ (b : Bool). TellsClaim next b found) c.holds_uninstallable.ensures c.judge_claim.ensures)
 
 pub returns-in-Unknown-clause-told : goal.returns-in-Unknown-clause-told
 returns-in-Unknown-clause-told c =
@@ -34,33 +35,41 @@ returns-in-Unknown-clause-told c =
     (subst (λ (b : Bool). TellsClaim next b found) (c.is_undecided.ensures ∙ ap (λ (s : StateView). s.group.undecided.alone) c.self.view_is)
     c.judge_claim-in-Unknown.ensures)
 
+pub returns-in-Outdated-clause-told : goal.returns-in-Outdated-clause-told
+returns-in-Outdated-clause-told c =
+    let found = c.judge_claim-in-Outdated.result in
+    let next : Bool = is_next c.args.self.now.next c.args.self.now.packages c.in-Outdated.package in
+    subst (λ (step : CertRecord). Tells c.args.self.now step found) (sym c.in-Outdated.is)
+    (subst (λ (b : Bool). TellsClaim next b found) c.holds_outdated.ensures c.judge_claim-in-Outdated.ensures)
+
+pub returns-in-Alive-clause-told : goal.returns-in-Alive-clause-told
+returns-in-Alive-clause-told c =
+    subst (λ (step : CertRecord). Tells c.args.self.now step c.judge_alive.result) (sym c.in-Alive.is) c.judge_alive.ensures
+
 pub returns-in-Strong-clause-told : goal.returns-in-Strong-clause-told
 returns-in-Strong-clause-told c =
     let found = c.judge_strong.result in
-    let p = c.in-Strong.package in
-    let Told : StateView → Bool → List ℕ → List ℕ → List ℕ → Type 0 =
-    λ s next named on undecided. IfOk found (TellsStrong next s.window s.group s.packages p named on undecided) in
-    let inside : StateView = record {
-      limit = c.self.inside.limit;
-      packages = c.self.inside.packages;
-      log = c.self.inside.log;
-      future = c.self.inside.future;
-      window = c.self.inside.window;
-      question = c.self.inside.question;
-      next = c.self.inside.next;
-      group = c.self.inside.group;
-      claims = c.self.inside.claims;
-    } in
-    let here : Told inside c.is_next.result c.as_slice-in-Strong.result.now c.as_slice-in-Strong-2.result.now c.as_slice-in-Strong-3.result.now =
-    c.judge_strong.ensures in
-    let named = subst (λ xs. Told inside c.is_next.result xs c.as_slice-in-Strong-2.result.now c.as_slice-in-Strong-3.result.now) c.as_slice-in-Strong.ensures
-    here in
-    let on = subst (λ xs. Told inside c.is_next.result c.in-Strong.named xs c.as_slice-in-Strong-3.result.now) c.as_slice-in-Strong-2.ensures named in
-    let undecided = subst (λ xs. Told inside c.is_next.result c.in-Strong.named c.in-Strong.on xs) c.as_slice-in-Strong-3.ensures on in
-    let next : Told inside (is_next inside.next inside.packages p) c.in-Strong.named c.in-Strong.on c.in-Strong.undecided
-    = subst (λ b. Told inside b c.in-Strong.named c.in-Strong.on c.in-Strong.undecided) c.is_next.ensures undecided in
-    subst (λ (step : CertRecord). IfOk found (Tells c.args.self.now step)) (sym c.in-Strong.is)
-    (subst (λ (s : StateView). Told s (is_next s.next s.packages p) c.in-Strong.named c.in-Strong.on c.in-Strong.undecided) c.self.view_is next)
+    let s : StateView = c.args.self.now in
+    let p : ℕ = c.in-Strong.package in
+    let Told : List ℕ → List ℕ → List ℕ → Type 0 = λ named on undecided. IfOk found (Tells s (lines.Strong p named on undecided)) in
+    let here : Told c.as_slice-in-Strong.result.now c.as_slice-in-Strong-2.result.now c.as_slice-in-Strong-3.result.now = c.judge_strong.ensures in
+    let named = subst (λ xs. Told xs c.as_slice-in-Strong-2.result.now c.as_slice-in-Strong-3.result.now) c.as_slice-in-Strong.ensures here in
+    let on = subst (λ xs. Told c.in-Strong.named xs c.as_slice-in-Strong-3.result.now) c.as_slice-in-Strong-2.ensures named in
+    let undecided = subst (λ xs. Told c.in-Strong.named c.in-Strong.on xs) c.as_slice-in-Strong-3.ensures on in
+    subst (λ (step : CertRecord). IfOk found (Tells s step)) (sym c.in-Strong.is) undecided
+
+pub returns-in-Challenged-clause-told : goal.returns-in-Challenged-clause-told
+returns-in-Challenged-clause-told c =
+    let found = c.judge_challenged.result in
+    let s : StateView = c.args.self.now in
+    let p : ℕ = c.in-Challenged.package in
+    let Told : List ℕ → List (ℕ × ℕ) → List (ℕ × ℕ) → Type 0 = λ named by undecided. IfOk found (Tells s (lines.Challenged p named by undecided)) in
+    let here : Told c.as_slice-in-Challenged.result.now c.as_slice-in-Challenged-2.result.now c.as_slice-in-Challenged-3.result.now
+    = c.judge_challenged.ensures in
+    let named = subst (λ xs. Told xs c.as_slice-in-Challenged-2.result.now c.as_slice-in-Challenged-3.result.now) c.as_slice-in-Challenged.ensures here in
+    let by = subst (λ xs. Told c.in-Challenged.named xs c.as_slice-in-Challenged-3.result.now) c.as_slice-in-Challenged-2.ensures named in
+    let undecided = subst (λ xs. Told c.in-Challenged.named c.in-Challenged.by xs) c.as_slice-in-Challenged-3.ensures by in
+    subst (λ (step : CertRecord). IfOk found (Tells s step)) (sym c.in-Challenged.is) undecided
 
 pub returns-in-End-clause-told : goal.returns-in-End-clause-told
 returns-in-End-clause-told c =

@@ -1,0 +1,234 @@
+//! Certificates that are judged by futures and refused, each at the line and for the cause of its first fault.
+use crate::future_certificates::{
+    BROKEN, CROWDED, ESSENTIAL, FOUR, LIBRARY, MARKED, MOVING, OLD, SHUT_OUT, STALE,
+};
+use crate::texts::{at, edited_in, fault_of};
+use dist_cert::CertCause::{
+    self, BadHeader, BadLine, Incomplete, LimitNotReached, NotAFuture, NotAnInstallation, NotNew,
+    OutOfOrder, OutOfRange, UnknownLine, WrongClaim,
+};
+use dist_cert::CertFault;
+use dist_outside::Limits;
+use std::alloc::Global;
+use std::process::Abort;
+
+/// The first and the last of some lines of a certificate, what takes their place, and the line and the cause of the refusal.
+type Edit = (u64, u64, &'static str, u64, CertCause);
+
+/// Of the certificate of outdated packages.
+const STALE_EDITS: &[Edit] = &[
+    // The numbers of the present, those of all packages, and another mode's.
+    (
+        1,
+        1,
+        "distfuture-certificate 1 outdated plain 10000 2 2 1\n",
+        1,
+        BadHeader,
+    ),
+    (
+        1,
+        1,
+        "distfuture-certificate 1 outdated plain 10000 3 7 7\n",
+        1,
+        BadHeader,
+    ),
+    (
+        1,
+        1,
+        "distfuture-certificate 1 outdated plain 10000 2 7 8\n",
+        1,
+        BadHeader,
+    ),
+    // A variable above the last.
+    (2, 2, "q 8\n", 2, OutOfRange),
+    // Of an outdated package the refutation is missing, is wrong, or is that of another question.
+    (3, 3, "", 3, WrongClaim),
+    (3, 3, "f 4\n", 3, BadLine),
+    (3, 3, "f 8\n", 3, UnknownLine),
+    (2, 2, "q 1 2\n", 4, WrongClaim),
+    // The archive is as it is, and b is at a class; both b as it is and at a class; and a without what it needs.
+    (6, 6, "m 1 3 6\n", 6, NotAFuture),
+    (6, 6, "m 3 6\n", 6, NotAFuture),
+    (6, 6, "m 2 3\n", 6, NotAnInstallation),
+    // The installation has not got the package as it is, or is none.
+    (6, 6, "m 6 7\n", 7, WrongClaim),
+    (7, 7, "a 2 2\n", 7, WrongClaim),
+    // Letters of other kinds, and a package that is passed over.
+    (4, 4, "x 1\n", 4, WrongClaim),
+    (7, 7, "c 2 1 0 0\n", 7, WrongClaim),
+    (4, 4, "o 2\n", 4, OutOfOrder),
+    (5, 7, "", 5, Incomplete),
+    // Nothing is undecided without work.
+    (3, 3, "u\n", 3, LimitNotReached),
+    (4, 4, "y 1\n", 4, WrongClaim),
+];
+
+/// Of the certificate of challenges of the library and p.
+const BROKEN_EDITS: &[Edit] = &[
+    (
+        1,
+        1,
+        "distfuture-certificate 1 challenged plain 10000 2 2 1\n",
+        1,
+        BadHeader,
+    ),
+    (
+        1,
+        1,
+        "distfuture-certificate 1 challenged plain 10000 2 11 15\n",
+        1,
+        BadHeader,
+    ),
+    // The archive is as it is, and the library is at a class; it is at two classes at once; and p is there without what it
+    // needs.
+    (6, 6, "m 1 4\n", 6, NotAFuture),
+    (8, 8, "m 3 4 5 6\n", 8, NotAFuture),
+    (8, 8, "m 3 4\n", 8, NotAnInstallation),
+    // A pair is listed that an installation covers; one is left out that nothing covers.
+    (13, 13, "c 2 2 3 0 1 1 1 2 1 3 0\n", 13, WrongClaim),
+    (13, 13, "c 2 2 3 0 1 2 0\n", 13, Incomplete),
+    (13, 13, "c 2 2 3 0 0\n", 13, Incomplete),
+    (
+        7,
+        13,
+        "q 3 6\nf 6 12 5 1\nq 3 8\nf 8 12 5 2\nc 2 2 0 1 2 1 3 0\n",
+        11,
+        Incomplete,
+    ),
+    // A pair of no class, one of the package's own cluster, and one that is listed without its refutation.
+    (13, 13, "c 2 2 3 0 1 2 1 3 1 4 0\n", 13, WrongClaim),
+    (13, 13, "c 2 2 3 0 1 2 1 3 2 1 0\n", 13, WrongClaim),
+    (11, 12, "", 11, WrongClaim),
+    (12, 12, "f 8 12 5 1\n", 12, BadLine),
+    // No installation of today, and one without the package.
+    (6, 6, "m 2 3\n", 13, WrongClaim),
+    (13, 13, "c 2 1 3 0 1 2 1 3 0\n", 13, WrongClaim),
+    // Letters of other kinds.
+    (4, 4, "o 1\n", 4, WrongClaim),
+    (4, 4, "a 1 1\n", 4, WrongClaim),
+    (4, 4, "s 1 1 0 0\n", 4, WrongClaim),
+];
+
+/// Of the certificate of challenges with a pair that is left undecided.
+const MARKED_EDITS: &[Edit] = &[
+    // An installation of the claim's group covers the undecided pair, though the claim does not name it.
+    (2, 2, "m 1 2 4 5\nm 1 2 4\n", 9, WrongClaim),
+    // The limit is not reached, or the question is another one.
+    (
+        1,
+        1,
+        "distfuture-certificate 1 challenged plain 2 4 13 14\n",
+        7,
+        LimitNotReached,
+    ),
+    (5, 5, "q 12 2\n", 8, WrongClaim),
+    // A line that propagation finds is not new.
+    (6, 6, "d -6 -2 0 1\n", 7, NotNew),
+];
+
+/// Of the certificate of outdated packages at mode essential.
+const SHUT_OUT_EDITS: &[Edit] = &[
+    (
+        1,
+        1,
+        "distfuture-certificate 1 outdated plain 10000 2 7 9\n",
+        1,
+        BadHeader,
+    ),
+    // Nothing of the essential name is there: without p, with it, and in the refutation.
+    (2, 2, "m 1\n", 2, NotAnInstallation),
+    (2, 2, "m 1 3\n", 2, NotAnInstallation),
+    (5, 5, "f 5 6\n", 5, BadLine),
+    (2, 2, "m 1 2 4\n", 2, NotAFuture),
+    (4, 5, "", 4, WrongClaim),
+    (6, 6, "a 2 1\n", 6, WrongClaim),
+];
+
+/// Of the certificate of challenges at mode essential.
+const CROWDED_EDITS: &[Edit] = &[
+    (
+        1,
+        1,
+        "distfuture-certificate 1 challenged plain 10000 2 11 18\n",
+        1,
+        BadHeader,
+    ),
+    (5, 5, "m 3 4\n", 5, NotAnInstallation),
+    (5, 5, "m 3 4 5 8\n", 5, NotAFuture),
+    (7, 7, "f 6 1 5 12 13\n", 7, BadLine),
+    (10, 10, "c 2 2 3 0 1 3 0\n", 10, Incomplete),
+    (10, 10, "c 2 2 3 0 1 1 1 2 1 3 0\n", 10, WrongClaim),
+];
+
+/// A certificate with its edits, and what it is over.
+type Edited = (&'static str, &'static str, &'static [Edit]);
+
+const EDITED: [Edited; 5] = [
+    (OLD, STALE, STALE_EDITS),
+    (ESSENTIAL, SHUT_OUT, SHUT_OUT_EDITS),
+    (LIBRARY, BROKEN, BROKEN_EDITS),
+    (MOVING, CROWDED, CROWDED_EDITS),
+    (FOUR, MARKED, MARKED_EDITS),
+];
+
+/// The fault of an edit.
+fn fault_of_edit(alloc: Global, stanzas: &str, text: &str, edit: &Edit) -> Option<CertFault> {
+    let text = edited_in(alloc, text, edit.0, edit.1, edit.2)?;
+    fault_of(alloc, stanzas, &text, &Limits::stated())
+}
+
+fn hold_edits(rt: &(impl Abort + AllocGlobal), stanzas: &str, text: &str, edits: &[Edit]) {
+    for edit in edits {
+        let fault = fault_of_edit(rt.alloc(), stanzas, text, edit);
+        assert_eq!(rt;
+            fault,
+            at(edit.3, edit.4),
+            "{:?} at line {}",
+            edit.2,
+            edit.0
+        );
+    }
+}
+
+fn hold(rt: &(impl Abort + AllocGlobal), all: &[Edited]) {
+    for (stanzas, text, edits) in all {
+        hold_edits(rt, stanzas, text, edits);
+    }
+}
+
+#[test]
+fn edits_of_certificates_on_futures_are_refused(rt: HostRuntime) {
+    hold(&rt, &EDITED);
+}
+
+/// Stanzas, a text, and the line and the cause of its refusal.
+type Text = (&'static str, &'static str, u64, CertCause);
+
+const TEXTS: [Text; 2] = [
+    // The mode decides how many clauses there are.
+    (
+        ESSENTIAL,
+        "distfuture-certificate 1 challenged plain 10000 2 7 9\n",
+        1,
+        BadHeader,
+    ),
+    // A space has a variable even where there are no packages.
+    (
+        "",
+        "distfuture-certificate 1 outdated plain 10000 0 0 0\ne\n",
+        1,
+        BadHeader,
+    ),
+];
+
+fn hold_texts(rt: &(impl Abort + AllocGlobal), rows: &[Text]) {
+    for (stanzas, text, line, cause) in rows {
+        let fault = fault_of(rt.alloc(), stanzas, text.as_bytes(), &Limits::stated());
+        assert_eq!(rt; fault, at(*line, *cause), "{text}");
+    }
+}
+
+#[test]
+fn texts_on_futures_are_refused(rt: HostRuntime) {
+    hold_texts(&rt, &TEXTS);
+}

@@ -1,0 +1,399 @@
+-- What the lines of a question for a pair make of what is kept of a group.
+use Rattle.std.proofs.Common.{◌≡◌, ◌⊎◌, ⊎_elim, inl, inr, ℕ, ◌+◌, ◌-◌, ◌<◌, ◌≤◌, Bool, true, false, not, List, [], ◌∷◌, ◌++◌, length, get_or}
+use Rattle.std.proofs.Common.{filter, refl, ap, sym, subst, ◌∙◌, arith, append-nil, length-append}
+use Rattle.std.specs.List.{All, AllPairs, Contains}
+use Rattle.std.specs.Prelude.{slice_index}
+use Rattle.std.proofs.lemmas.Bool.{true≢false}
+use Rattle.std.proofs.lemmas.List.{get_or_append_left, get_or_at}
+use Rattle.std.proofs.lemmas.List.Elements.{All-contains, All-filter, All-push, All-weaker, Contains-append_left, Contains-push}
+use Rattle.std.proofs.lemmas.List.Elements.{Contains-push_cases, filter_passes}
+use Rattle.std.proofs.lemmas.List.Kept.{AllPairs-filter}
+use Rattle.dist_cert.specs.declared.records.CertKind.TheVariants as kinds
+use Rattle.dist_cert.specs.declared.records.CertRecord.{CertRecord}
+use Rattle.dist_cert.specs.declared.records.CertRecord.TheVariants.{Question, Refuted, Undecided}
+use Rattle.dist_cert.specs.ClaimRules.{Covers, IsCovered, SomeInstallation}
+use Rattle.dist_cert.specs.Form.{Word}
+use Rattle.dist_cert.specs.Groups.{group, installations, IsClosedBy, IsRefutedIn, IsUndecidedIn}
+use Rattle.dist_space.specs.Space.{SpaceView}
+use Rattle.dist_sweep.specs.QuestionLinesLaws.{questions-of, AreAsked, group-after, count-after, in-group-after, closed-after, closed-here, installed-after}
+use Rattle.dist_sweep.specs.Script.{Setting, matter_in}
+use Rattle.dist_challenge.specs.ChallengePrivate.{GroupView, IsGroupAt, IsNameable, together}
+use Rattle.dist_challenge.specs.CoverPrivate.{IsPairVariable}
+use Rattle.dist_challenge.specs.Futures.{IsOfSpace}
+use Rattle.dist_challenge.specs.UsedPrivate.{pair_at}
+use Rattle.dist_challenge.proofs.CoverSteps.{filter-few, filter-in, in-filter, not-false, not-true, pairs-push}
+use Rattle.dist_challenge.proofs.GroupLines.{SomeOf, some-back, some-more, some-new}
+use Rattle.dist_challenge.proofs.Spaces.{present-is}
+
+-- the group with one pair more that is left
+abbrev pub with_left : GroupView → ℕ → GroupView
+with_left group_is at = record group_is { left = group_is.left ++ at ∷ [] }
+
+-- ---- questions
+
+second-of : List Word → ℕ
+second-of (v ∷ w ∷ words) = w.0
+second-of words = 0
+
+words-of : CertRecord → List Word
+words-of (Question words) = words
+words-of step = []
+
+same-second : (v at other : ℕ) → Question (together v at) ≡ Question (together v other) → at ≡ other
+unfolding second-of words-of
+same-second v at other e = ap (λ (s : CertRecord). second-of (words-of s)) e
+
+asked-after : (before : List CertRecord) (v at other : ℕ) (installed : List (List ℕ)) (after : List CertRecord)
+    → AreAsked before (together v at) installed after
+    → Contains (group after) (Question (together v other)) → Contains (group before) (Question (together v other)) ⊎ (at ≡ other)
+asked-after before v at other installed after asked there =
+    ⊎_elim (λ old. inl old) (λ new. inr (same-second v at other new))
+    (questions-of (group before) asked.between (together v at) (together v other) asked.answer asked.only_derived asked.answer_line
+    (subst (λ (ls : List CertRecord). Contains ls (Question (together v other))) (group-after before (together v at) installed after asked) there))
+
+-- ---- the pair that was the last one left
+
+all-left : {X : Type 0} (P : X → Type 0) (xs : List X) (y : X) → All P (xs ++ y ∷ []) → All P xs
+all-left P xs y all k d within = subst P (get_or_append_left xs (y ∷ []) d k within) (all k d (omega (arith, within, length-append xs (y ∷ []))))
+
+all-last : {X : Type 0} (P : X → Type 0) (xs : List X) (y : X) → All P (xs ++ y ∷ []) → P y
+all-last P xs y all = subst P (get_or_at xs y [] y (length xs) refl) (all (length xs) y (omega (arith, length-append xs (y ∷ []))))
+
+pairs-front : {X : Type 0} (R : X → X → Type 0) (xs : List X) (y : X) → AllPairs R (xs ++ y ∷ []) → AllPairs R xs
+pairs-front {X} R xs y pairs i j d before within =
+    subst (λ (a : X). R a (get_or xs j d)) (get_or_append_left xs (y ∷ []) d i (omega (arith, before, within)))
+    (subst (λ (b : X). R (get_or (xs ++ y ∷ []) i d) b) (get_or_append_left xs (y ∷ []) d j within)
+    (pairs i j d before (omega (arith, within, length-append xs (y ∷ [])))))
+
+pairs-last : {X : Type 0} (R : X → X → Type 0) (xs : List X) (y : X) → AllPairs R (xs ++ y ∷ []) → All (λ x. R x y) xs
+pairs-last {X} R xs y pairs k d within =
+    subst (λ (a : X). R a y) (get_or_append_left xs (y ∷ []) d k within)
+    (subst (λ (b : X). R (get_or (xs ++ y ∷ []) k d) b) (get_or_at xs y [] d (length xs) refl)
+    (pairs k (length xs) d within (omega (arith, length-append xs (y ∷ [])))))
+
+not-among : (xs : List ℕ) (n : ℕ) → All (λ x. n < x) xs → ¬ Contains xs n
+not-among xs n above there = let less = All-contains (λ x. n < x) xs n above there in omega (arith, less)
+
+not-above : (xs : List ℕ) (n : ℕ) → All (λ x. x < n) xs → ¬ Contains xs n
+not-above xs n below there = let less = All-contains (λ x. x < n) xs n below there in omega (arith, less)
+
+-- what is known of the last pair
+pub record LastPair (s : SpaceView) (g : Setting) (before : List CertRecord) (group : GroupView) (at : ℕ) : Type 0 where
+  pub variable : IsPairVariable s (slice_index s.cluster_of (group.claimed - 1)) at
+  pub above : All (λ next. at < next) group.left
+  pub refuted : All (λ other. other < at) group.refuted
+  pub undecided : All (λ other. other < at) group.undecided
+  pub uncovered : ¬ IsCovered (matter_in g) before group.claimed group.named (pair_at s at)
+
+last-pair : (s : SpaceView) (g : Setting) (before : List CertRecord) (group : GroupView) (at : ℕ) → IsGroupAt g before s (with_left group at)
+    → LastPair s g before group at
+last-pair s g before group at kept = record {
+  variable = all-last (IsPairVariable s (slice_index s.cluster_of (group.claimed - 1))) group.left at kept.pairs.0;
+  above = pairs-last (λ a b. b < a) group.left at kept.falling;
+  refuted = λ k d within. all-last (λ next. get_or group.refuted k d < next) group.left at (kept.below.0 k d within);
+  undecided = λ k d within. all-last (λ next. get_or group.undecided k d < next) group.left at (kept.below.1 k d within);
+  uncovered = all-last (λ a. ¬ IsCovered (matter_in g) before group.claimed group.named (pair_at s a)) group.left at kept.uncovered.0;
+}
+
+-- ---- no installation came
+
+module _ (g : Setting) (before after : List CertRecord) (question : List Word) (asked : AreAsked before question [] after) where
+  again : installations (group after) ≡ installations (group before)
+  again = in-group-after before question [] after asked ∙ append-nil (installations (group before))
+
+  all-again : installations after ≡ installations before
+  all-again = installed-after before question [] after asked ∙ append-nil (installations before)
+
+  some-again : (P : List ℕ → Type 0) (named : List ℕ) (variable : ℕ) → SomeInstallation before named variable P → SomeInstallation after named variable P
+  some-again P named variable some =
+      subst (λ (all : List (List ℕ)). SomeOf all (installations (group after)) named variable P) (sym all-again)
+      (subst (λ (own : List (List ℕ)). SomeOf (installations before) own named variable P) (sym again) some)
+
+  some-before : (P : List ℕ → Type 0) (named : List ℕ) (variable : ℕ) → SomeInstallation after named variable P → SomeInstallation before named variable P
+  some-before P named variable some =
+      subst (λ (all : List (List ℕ)). SomeOf all (installations (group before)) named variable P) all-again
+      (subst (λ (own : List (List ℕ)). SomeOf (installations after) own named variable P) again some)
+
+  nameable-again : (present more less number : ℕ) → less ≤ more → IsNameable before present more number → IsNameable after present less number
+  nameable-again present more less number fewer name =
+      let size = ap length all-again in
+      record {
+        from_one = name.from_one;
+        upto = omega (arith, name.upto, size);
+        lasts = omega (arith, name.lasts, size, fewer);
+        has = subst (λ (all : List (List ℕ)). Contains (get_or all (number - 1) []) present) (sym all-again) name.has;
+      }
+
+pub refuted-step : (g : Setting) (s : SpaceView) (before after : List CertRecord) (group_is : GroupView) (at : ℕ) (hints : List ℕ)
+    → IsGroupAt g before s (with_left group_is at) → (asked : AreAsked before (together group_is.present at) [] after) → asked.answer ≡ Refuted hints
+    → IsGroupAt g after s (record group_is { refuted = group_is.refuted ++ at ∷ [] })
+refuted-step g s before after group_is at hints kept asked is = record {
+  claimed = kept.claimed ∙ ap (λ (n : ℕ). n + 1) (sym (count-after before (together group_is.present at) [] after asked));
+  upto = kept.upto;
+  present = kept.present;
+  each = subst (λ (ms : List (List ℕ)). All (λ m. Contains m group_is.present) ms) (sym (again g before after (together group_is.present at) asked)) kept.each;
+  some = λ none. subst (λ (ms : List (List ℕ)). 0 < length ms) (sym (again g before after (together group_is.present at) asked)) (kept.some none);
+  names = All-weaker (IsNameable before group_is.present (length (group_is.left ++ at ∷ []))) (IsNameable after group_is.present (length group_is.left))
+      (λ n name. nameable-again g before after (together group_is.present at) asked group_is.present (length (group_is.left ++ at ∷ []))
+      (length group_is.left) n
+      (omega (arith, length-append group_is.left (at ∷ []))) name) group_is.named kept.names;
+  distinct = kept.distinct;
+  today = some-again g before after (together group_is.present at) asked (λ m. Contains m 1) group_is.named group_is.present kept.today;
+  falling = pairs-front (λ a b. b < a) group_is.left at kept.falling;
+  rising = (pairs-push (λ a b. a < b) group_is.refuted at kept.rising.0 last.refuted, kept.rising.1);
+  below = (
+    All-push (λ a. All (λ next. a < next) group_is.left) group_is.refuted at
+        (λ k d within. all-left (λ next. get_or group_is.refuted k d < next) group_is.left at (kept.below.0 k d within)) last.above,
+    λ k d within. all-left (λ next. get_or group_is.undecided k d < next) group_is.left at (kept.below.1 k d within),
+  );
+  apart = All-push (λ a. ¬ Contains group_is.undecided a) group_is.refuted at kept.apart (not-above group_is.undecided at last.undecided);
+  pairs = (
+    all-left (IsPairVariable s (slice_index s.cluster_of (group_is.claimed - 1))) group_is.left at kept.pairs.0,
+    All-push (IsPairVariable s (slice_index s.cluster_of (group_is.claimed - 1))) group_is.refuted at kept.pairs.1 last.variable,
+    kept.pairs.2,
+  );
+  are_refuted = All-push (λ a. IsRefutedIn (group after) (together group_is.present a)) group_is.refuted at
+      (All-weaker (λ a. IsRefutedIn (group before) (together group_is.present a)) (λ a. IsRefutedIn (group after) (together group_is.present a))
+      (λ a closed. (
+        closed.0,
+        closed-after before (together group_is.present at) [] after (together group_is.present a)
+            (Refuted closed.0) asked closed.1,
+      )) group_is.refuted
+      kept.are_refuted) (
+        hints,
+        subst (λ (step : CertRecord). IsClosedBy (group after) (together group_is.present at) step) is (closed-here before
+            (together group_is.present at) [] after asked),
+      );
+  are_undecided = All-weaker (λ a. IsUndecidedIn (group before) (together group_is.present a)) (λ a. IsUndecidedIn (group after) (together group_is.present a))
+      (λ a closed. closed-after before (together group_is.present at) [] after (together group_is.present a) Undecided asked closed) group_is.undecided
+      kept.are_undecided;
+  uncovered = (
+    (λ k d within covered. all-left (λ a. ¬ IsCovered (matter_in g) before group_is.claimed group_is.named (pair_at s a)) group_is.left at kept.uncovered.0
+        k d within (back (get_or group_is.left k d) covered)),
+    λ k d within covered. kept.uncovered.1 k d within (back (get_or group_is.undecided k d) covered),
+  );
+  rest = λ a variable not_left not_refuted not_undecided.
+      some-again g before after (together group_is.present at) asked (Covers (matter_in g) (pair_at s a)) group_is.named
+      ((matter_in g).present group_is.claimed)
+      (kept.rest a variable
+      (λ there. ⊎_elim not_left (λ same. not_refuted (subst (λ (n : ℕ). Contains (group_is.refuted ++ at ∷ []) n) same (Contains-push group_is.refuted at)))
+      (Contains-push_cases group_is.left at a there))
+      (λ there. not_refuted (Contains-append_left group_is.refuted (at ∷ []) a there)) not_undecided);
+  asked = λ a there left. ⊎_elim
+      (λ old. kept.asked a old (Contains-append_left group_is.left (at ∷ []) a left))
+      (λ same. not-among group_is.left at last.above (subst (λ (n : ℕ). Contains group_is.left n) (sym same) left))
+      (asked-after before group_is.present at a [] after asked there);
+}
+  where
+    last : LastPair s g before group_is at
+    last = last-pair s g before group_is at kept
+
+    back : (a : ℕ) → IsCovered (matter_in g) after group_is.claimed group_is.named (pair_at s a)
+        → IsCovered (matter_in g) before group_is.claimed group_is.named (pair_at s a)
+    back a covered = some-before g before after (together group_is.present at) asked (Covers (matter_in g) (pair_at s a)) group_is.named
+        ((matter_in g).present group_is.claimed) covered
+
+pub undecided-step : (g : Setting) (s : SpaceView) (before after : List CertRecord) (group_is : GroupView) (at : ℕ)
+    → IsGroupAt g before s (with_left group_is at) → (asked : AreAsked before (together group_is.present at) [] after) → asked.answer ≡ Undecided
+    → IsGroupAt g after s (record group_is { undecided = group_is.undecided ++ at ∷ [] })
+undecided-step g s before after group_is at kept asked is = record {
+  claimed = kept.claimed ∙ ap (λ (n : ℕ). n + 1) (sym (count-after before (together group_is.present at) [] after asked));
+  upto = kept.upto;
+  present = kept.present;
+  each = subst (λ (ms : List (List ℕ)). All (λ m. Contains m group_is.present) ms) (sym (again g before after (together group_is.present at) asked)) kept.each;
+  some = λ none. subst (λ (ms : List (List ℕ)). 0 < length ms) (sym (again g before after (together group_is.present at) asked)) (kept.some none);
+  names = All-weaker (IsNameable before group_is.present (length (group_is.left ++ at ∷ []))) (IsNameable after group_is.present (length group_is.left))
+      (λ n name. nameable-again g before after (together group_is.present at) asked group_is.present (length (group_is.left ++ at ∷ []))
+      (length group_is.left) n
+      (omega (arith, length-append group_is.left (at ∷ []))) name) group_is.named kept.names;
+  distinct = kept.distinct;
+  today = some-again g before after (together group_is.present at) asked (λ m. Contains m 1) group_is.named group_is.present kept.today;
+  falling = pairs-front (λ a b. b < a) group_is.left at kept.falling;
+  rising = (kept.rising.0, pairs-push (λ a b. a < b) group_is.undecided at kept.rising.1 last.undecided);
+  below = (
+    (λ k d within. all-left (λ next. get_or group_is.refuted k d < next) group_is.left at (kept.below.0 k d within)),
+    All-push (λ a. All (λ next. a < next) group_is.left) group_is.undecided at
+        (λ k d within. all-left (λ next. get_or group_is.undecided k d < next) group_is.left at (kept.below.1 k d within)) last.above,
+  );
+  apart = λ k d within there. ⊎_elim (kept.apart k d within)
+      (λ same. let less = last.refuted k d within in omega (arith, less, same))
+      (Contains-push_cases group_is.undecided at (get_or group_is.refuted k d) there);
+  pairs = (
+    all-left (IsPairVariable s (slice_index s.cluster_of (group_is.claimed - 1))) group_is.left at kept.pairs.0,
+    kept.pairs.1,
+    All-push (IsPairVariable s (slice_index s.cluster_of (group_is.claimed - 1))) group_is.undecided at kept.pairs.2 last.variable,
+  );
+  are_refuted = All-weaker (λ a. IsRefutedIn (group before) (together group_is.present a)) (λ a. IsRefutedIn (group after) (together group_is.present a))
+      (λ a closed. (closed.0, closed-after before (together group_is.present at) [] after (together group_is.present a) (Refuted closed.0) asked closed.1))
+      group_is.refuted kept.are_refuted;
+  are_undecided = All-push (λ a. IsUndecidedIn (group after) (together group_is.present a)) group_is.undecided at
+      (All-weaker (λ a. IsUndecidedIn (group before) (together group_is.present a)) (λ a. IsUndecidedIn (group after) (together group_is.present a))
+      (λ a closed. closed-after before (together group_is.present at) [] after (together group_is.present a) Undecided asked closed) group_is.undecided
+      kept.are_undecided)
+      (subst (λ (step : CertRecord). IsClosedBy (group after) (together group_is.present at) step) is
+      (closed-here before (together group_is.present at) [] after asked));
+  uncovered = (
+    (λ k d within covered. all-left (λ a. ¬ IsCovered (matter_in g) before group_is.claimed group_is.named (pair_at s a)) group_is.left at kept.uncovered.0
+        k d within (back (get_or group_is.left k d) covered)),
+    All-push (λ a. ¬ IsCovered (matter_in g) after group_is.claimed group_is.named (pair_at s a)) group_is.undecided at
+        (λ k d within covered. kept.uncovered.1 k d within (back (get_or group_is.undecided k d) covered)) (λ covered. last.uncovered (back at covered)),
+  );
+  rest = λ a variable not_left not_refuted not_undecided.
+      some-again g before after (together group_is.present at) asked (Covers (matter_in g) (pair_at s a)) group_is.named
+      ((matter_in g).present group_is.claimed)
+      (kept.rest a variable
+      (λ there. ⊎_elim not_left (λ same. not_undecided (subst (λ (n : ℕ). Contains (group_is.undecided ++ at ∷ []) n) same
+      (Contains-push group_is.undecided at)))
+      (Contains-push_cases group_is.left at a there))
+      not_refuted (λ there. not_undecided (Contains-append_left group_is.undecided (at ∷ []) a there)));
+  asked = λ a there left. ⊎_elim
+      (λ old. kept.asked a old (Contains-append_left group_is.left (at ∷ []) a left))
+      (λ same. not-among group_is.left at last.above (subst (λ (n : ℕ). Contains group_is.left n) (sym same) left))
+      (asked-after before group_is.present at a [] after asked there);
+}
+  where
+    last : LastPair s g before group_is at
+    last = last-pair s g before group_is at kept
+
+    back : (a : ℕ) → IsCovered (matter_in g) after group_is.claimed group_is.named (pair_at s a)
+        → IsCovered (matter_in g) before group_is.claimed group_is.named (pair_at s a)
+    back a covered = some-before g before after (together group_is.present at) asked (Covers (matter_in g) (pair_at s a)) group_is.named
+        ((matter_in g).present group_is.claimed) covered
+
+-- ---- an installation came
+
+pub found-step : (g : Setting) (s : SpaceView) (before after : List CertRecord) (group_is : GroupView) (at : ℕ) (members : List ℕ) (covers : ℕ → Bool)
+    → IsOfSpace kinds.Challenged s g
+    → IsGroupAt g before s (with_left group_is at) → AreAsked before (together group_is.present at) (members ∷ []) after
+    → Contains members group_is.present
+    → ((a : ℕ) → IsPairVariable s (slice_index s.cluster_of (group_is.claimed - 1)) a → covers a ≡ true → Covers (matter_in g) (pair_at s a) members)
+    → ((a : ℕ) → IsPairVariable s (slice_index s.cluster_of (group_is.claimed - 1)) a → Covers (matter_in g) (pair_at s a) members → covers a ≡ true)
+    → covers at ≡ true
+    → IsGroupAt g after s (record group_is {
+      left = filter (λ a. not (covers a)) group_is.left;
+      undecided = filter (λ a. not (covers a)) group_is.undecided;
+    })
+found-step g s before after group_is at members covers of kept asked has to from itself = record {
+  claimed = kept.claimed ∙ ap (λ (n : ℕ). n + 1) (sym (count-after before (together group_is.present at) (members ∷ []) after asked));
+  upto = kept.upto;
+  present = kept.present;
+  each = subst (λ (ms : List (List ℕ)). All (λ m. Contains m group_is.present) ms) (sym own_is)
+      (All-push (λ m. Contains m group_is.present) (installations (group before)) members kept.each has);
+  some = λ none. omega (arith, ap length own_is, length-append (installations (group before)) (members ∷ []));
+  names = All-weaker (IsNameable before group_is.present (length (group_is.left ++ at ∷ [])))
+      (IsNameable after group_is.present (length (filter (λ a. not (covers a)) group_is.left))) (λ n name. nameable n name) group_is.named kept.names;
+  distinct = kept.distinct;
+  today = more (λ m. Contains m 1) group_is.present kept.today;
+  falling = AllPairs-filter (λ a b. b < a) (λ a. not (covers a)) group_is.left (pairs-front (λ a b. b < a) group_is.left at kept.falling);
+  rising = (kept.rising.0, AllPairs-filter (λ a b. a < b) (λ a. not (covers a)) group_is.undecided kept.rising.1);
+  below = (
+    (λ k d within. All-filter (λ a. not (covers a)) (λ next. get_or group_is.refuted k d < next) group_is.left
+        (all-left (λ next. get_or group_is.refuted k d < next) group_is.left at (kept.below.0 k d within))),
+    All-filter (λ a. not (covers a)) (λ a. All (λ next. a < next) (filter (λ b. not (covers b)) group_is.left)) group_is.undecided
+        (λ k d within. All-filter (λ a. not (covers a)) (λ next. get_or group_is.undecided k d < next) group_is.left
+        (all-left (λ next. get_or group_is.undecided k d < next) group_is.left at (kept.below.1 k d within))),
+  );
+  apart = λ k d within there. kept.apart k d within (filter-in (λ a. not (covers a)) group_is.undecided (get_or group_is.refuted k d) there);
+  pairs = (
+    All-filter (λ a. not (covers a)) (IsPairVariable s (slice_index s.cluster_of (group_is.claimed - 1))) group_is.left
+        (all-left (IsPairVariable s (slice_index s.cluster_of (group_is.claimed - 1))) group_is.left at kept.pairs.0),
+    kept.pairs.1,
+    All-filter (λ a. not (covers a)) (IsPairVariable s (slice_index s.cluster_of (group_is.claimed - 1))) group_is.undecided kept.pairs.2,
+  );
+  are_refuted = All-weaker (λ a. IsRefutedIn (group before) (together group_is.present a)) (λ a. IsRefutedIn (group after) (together group_is.present a))
+      (λ a closed. (
+        closed.0,
+        closed-after before (together group_is.present at) (members ∷ []) after (together group_is.present a) (Refuted closed.0) asked closed.1,
+      )) group_is.refuted kept.are_refuted;
+  are_undecided = All-filter (λ a. not (covers a)) (λ a. IsUndecidedIn (group after) (together group_is.present a)) group_is.undecided
+      (All-weaker (λ a. IsUndecidedIn (group before) (together group_is.present a)) (λ a. IsUndecidedIn (group after) (together group_is.present a))
+      (λ a closed. closed-after before (together group_is.present at) (members ∷ []) after (together group_is.present a) Undecided asked closed)
+      group_is.undecided kept.are_undecided);
+  uncovered = (
+    (λ k d within covered.
+        let a = get_or (filter (λ b. not (covers b)) group_is.left) k d in
+        let variable = All-filter (λ b. not (covers b)) (IsPairVariable s (slice_index s.cluster_of (group_is.claimed - 1))) group_is.left
+        (all-left (IsPairVariable s (slice_index s.cluster_of (group_is.claimed - 1))) group_is.left at kept.pairs.0) k d within in
+        let none = All-filter (λ b. not (covers b)) (λ b. ¬ IsCovered (matter_in g) before group_is.claimed group_is.named (pair_at s b)) group_is.left
+        (all-left (λ b. ¬ IsCovered (matter_in g) before group_is.claimed group_is.named (pair_at s b)) group_is.left at kept.uncovered.0) k d within in
+        back a variable (not-true (covers a) (filter_passes (λ b. not (covers b)) group_is.left k d within)) none covered),
+    λ k d within covered.
+        let a = get_or (filter (λ b. not (covers b)) group_is.undecided) k d in
+        let variable = All-filter (λ b. not (covers b)) (IsPairVariable s (slice_index s.cluster_of (group_is.claimed - 1))) group_is.undecided kept.pairs.2
+        k d within in
+        let none = All-filter (λ b. not (covers b)) (λ b. ¬ IsCovered (matter_in g) before group_is.claimed group_is.named (pair_at s b)) group_is.undecided
+        kept.uncovered.1 k d within in
+        back a variable (not-true (covers a) (filter_passes (λ b. not (covers b)) group_is.undecided k d within)) none covered,
+  );
+  rest = λ a variable not_left not_refuted not_undecided. rest a variable not_left not_refuted not_undecided (covers a) refl;
+  asked = λ a there left. ⊎_elim
+      (λ old. kept.asked a old (Contains-append_left group_is.left (at ∷ []) a (filter-in (λ b. not (covers b)) group_is.left a left)))
+      (λ same. not-among group_is.left at last.above
+      (subst (λ (n : ℕ). Contains group_is.left n) (sym same) (filter-in (λ b. not (covers b)) group_is.left a left)))
+      (asked-after before group_is.present at a (members ∷ []) after asked there);
+}
+  where
+    own_is : installations (group after) ≡ installations (group before) ++ members ∷ []
+    own_is = in-group-after before (together group_is.present at) (members ∷ []) after asked
+
+    all_is : installations after ≡ installations before ++ members ∷ []
+    all_is = installed-after before (together group_is.present at) (members ∷ []) after asked
+
+    last : LastPair s g before group_is at
+    last = last-pair s g before group_is at kept
+
+    inside : All (λ n. (1 ≤ n) × (n ≤ length (installations before))) group_is.named
+    inside k d within = let name = kept.names k d within in (name.from_one, name.upto)
+
+    more : (P : List ℕ → Type 0) (variable : ℕ) → SomeInstallation before group_is.named variable P → SomeInstallation after group_is.named variable P
+    more P variable some =
+        subst (λ (all : List (List ℕ)). SomeOf all (installations (group after)) group_is.named variable P) (sym all_is)
+        (subst (λ (own : List (List ℕ)). SomeOf (installations before ++ members ∷ []) own group_is.named variable P) (sym own_is)
+        (some-more P (installations before) (installations (group before)) members group_is.named variable inside some))
+
+    nameable : (n : ℕ) → IsNameable before group_is.present (length (group_is.left ++ at ∷ [])) n
+        → IsNameable after group_is.present (length (filter (λ a. not (covers a)) group_is.left)) n
+    nameable n name =
+        let size = ap length all_is in
+        let long = length-append (installations before) (members ∷ []) in
+        let few = filter-few (λ a. not (covers a)) group_is.left in
+        record {
+          from_one = name.from_one;
+          upto = omega (arith, name.upto, size, long);
+          lasts = omega (arith, name.lasts, size, long, few, length-append group_is.left (at ∷ []));
+          has = subst (λ (all : List (List ℕ)). Contains (get_or all (n - 1) []) group_is.present) (sym all_is)
+              (subst (λ (m : List ℕ). Contains m group_is.present)
+              (sym (get_or_append_left (installations before) (members ∷ []) [] (n - 1) (omega (arith, name.from_one, name.upto)))) name.has);
+        }
+
+    back : (a : ℕ) → IsPairVariable s (slice_index s.cluster_of (group_is.claimed - 1)) a → covers a ≡ false
+        → ¬ IsCovered (matter_in g) before group_is.claimed group_is.named (pair_at s a)
+        → ¬ IsCovered (matter_in g) after group_is.claimed group_is.named (pair_at s a)
+    back a variable lacks none covered =
+        ⊎_elim none (λ now. true≢false (sym (from a variable now) ∙ lacks))
+        (some-back (Covers (matter_in g) (pair_at s a)) (installations before) (installations (group before)) members group_is.named
+        ((matter_in g).present group_is.claimed) inside
+        (subst (λ (own : List (List ℕ)). SomeOf (installations before ++ members ∷ []) own group_is.named ((matter_in g).present group_is.claimed)
+        (Covers (matter_in g) (pair_at s a))) own_is
+        (subst (λ (all : List (List ℕ)). SomeOf all (installations (group after)) group_is.named ((matter_in g).present group_is.claimed)
+        (Covers (matter_in g) (pair_at s a))) all_is covered)))
+
+    rest : (a : ℕ) → IsPairVariable s (slice_index s.cluster_of (group_is.claimed - 1)) a → ¬ Contains (filter (λ b. not (covers b)) group_is.left) a
+        → ¬ Contains group_is.refuted a → ¬ Contains (filter (λ b. not (covers b)) group_is.undecided) a → (b : Bool) → covers a ≡ b
+        → IsCovered (matter_in g) after group_is.claimed group_is.named (pair_at s a)
+    rest a variable not_left not_refuted not_undecided true holds =
+        subst (λ (all : List (List ℕ)). SomeOf all (installations (group after)) group_is.named ((matter_in g).present group_is.claimed)
+        (Covers (matter_in g) (pair_at s a))) (sym all_is)
+        (subst (λ (own : List (List ℕ)). SomeOf (installations before ++ members ∷ []) own group_is.named ((matter_in g).present group_is.claimed)
+        (Covers (matter_in g) (pair_at s a))) (sym own_is)
+        (some-new (Covers (matter_in g) (pair_at s a)) (installations before) (installations (group before)) members group_is.named
+        ((matter_in g).present group_is.claimed)
+        (subst (λ (v : ℕ). Contains members v) (kept.present ∙ sym (present-is kinds.Challenged s g of group_is.claimed)) has) (to a variable holds)))
+    rest a variable not_left not_refuted not_undecided false lacks =
+        more (Covers (matter_in g) (pair_at s a)) ((matter_in g).present group_is.claimed)
+        (kept.rest a variable
+        (λ there. ⊎_elim
+        (λ left. not_left (in-filter (λ b. not (covers b)) group_is.left a left (not-false (covers a) lacks)))
+        (λ same. true≢false (sym itself ∙ ap covers same ∙ lacks))
+        (Contains-push_cases group_is.left at a there))
+        not_refuted (λ there. not_undecided (in-filter (λ b. not (covers b)) group_is.undecided a there (not-false (covers a) lacks))))

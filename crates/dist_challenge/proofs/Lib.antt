@@ -1,0 +1,16 @@
+mod Asked
+mod ClaimLines
+mod Spaces
+mod LatestSteps
+mod OutdatedSteps
+mod Searched
+mod UsedSteps
+mod PairOrder
+mod CoverSteps
+mod CoveredPairs
+mod GroupLines
+mod GroupStart
+mod GroupSteps
+mod ChallengedLine
+mod SettleSteps
+mod ChallengedSteps

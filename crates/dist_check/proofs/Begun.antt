@@ -1,0 +1,262 @@
+-- What a checker begins with behind a first line.
+use Rattle.std.proofs.Common.{◌≡◌, ◌≢◌, ◌↔◌, inl, inr, ℕ, ◌+◌, ◌-◌, ◌<◌, ◌≤◌, Bool, List, [], length, take, drop, None, Ok, Err, Result, refl, sym, ap}
+use Rattle.std.proofs.Common.{subst, ◌∙◌, arith}
+use Rattle.std.specs.Prelude.{All, IfErr}
+use Rattle.std.proofs.lemmas.Bool.{cases_lt}
+use Rattle.std.proofs.lemmas.List.{drop_all, length-take}
+use Rattle.std.proofs.lemmas.List.Elements.{All-drop, All-take}
+use Rattle.dist_base.specs.Answers.{IsExactly}
+use Rattle.dist_outside.specs.declared.limits.Limits.{Limits}
+use Rattle.dist_outside.specs.declared.trouble.What.TheVariants.{Clauses, Literals}
+use Rattle.dist_outside.specs.declared.trouble.WorkError.TheVariants.{TooLarge, NoMemory}
+use Rattle.dist_clause.specs.ClauseList.{ClauseList, IsWithinLimits, literal_count}
+use Rattle.dist_clause.specs.Formula.{Literal, IsClauseOver, IsModel, value_of}
+use Rattle.dist_clause.specs.declared.clause_set.PushError.{PushError}
+use Rattle.dist_clause.specs.declared.clause_set.PushError.TheVariants as push
+use Rattle.dist_derive.specs.ClauseLog.{ClauseLog, IsWithinLineLimits}
+use Rattle.dist_repo.specs.PackageList.{PackageList}
+use Rattle.dist_space.specs.Space.{IsSpace, SpaceView, variable_of}
+use Rattle.dist_space.specs.VariableLaws.{variable-range}
+use Rattle.dist_space.specs.declared.meaning.Meaning.TheVariants.{Present}
+use Rattle.dist_space_clauses.specs.SpaceClauses.{IsDemand}
+use Rattle.dist_space_clauses.specs.SpaceSet as futures
+use Rattle.dist_space_clauses.specs.declared.ends.FutureEnds.{FutureEnds}
+use Rattle.dist_future.specs.FutureClauses.{AreTrueAround, MeetsFuture}
+use Rattle.dist_cert.specs.declared.faults.CertCause.TheVariants.{BadHeader}
+use Rattle.dist_cert.specs.declared.faults.ReadCertError.{ReadCertError}
+use Rattle.dist_cert.specs.declared.faults.ReadCertError.TheVariants.{Bad, Work}
+use Rattle.dist_cert.specs.declared.records.CertKind.{CertKind}
+use Rattle.dist_cert.specs.declared.records.CertKind.TheVariants as kinds
+use Rattle.dist_cert.specs.declared.records.Header.{Header}
+use Rattle.dist_cert.specs.Rising.{is_among}
+use Rattle.dist_check_group.specs.Group.{empty_group}
+use Rattle.dist_check_group.specs.Layout.{LayoutView}
+use Rattle.dist_check_state.specs.State.{StateView}
+use Rattle.dist_check_state.specs.declared.future.FutureClauses.{FutureClauses}
+use Rattle.dist_subject.specs.Basis.{IsBasisOf, IsLaterOf, Later}
+use Rattle.dist_subject.specs.Later.{later_matter}
+use Rattle.dist_subject.specs.Limited.{PassesFirst, PassesLater}
+use Rattle.dist_subject.specs.MemberLaws.{model-alike, value-among}
+use Rattle.dist_subject.specs.Present.{present_matter, truth_of}
+use Rattle.dist_check.specs.AtPrivate.{AreFuturesBy}
+use Rattle.dist_check.specs.LaysOut.{IsCluster, LaysOut}
+use Rattle.dist_check.specs.Start.{IsStart, StartAnswers}
+use Rattle.dist_check.specs.StartPrivate.{HasNumbers, IsLarge, IsSpaceWithin, IsSubject, PassesSpace, large_by}
+
+-- ---- the packages as they are
+
+no-cluster : (r : PackageList) (essential : Bool) (inputs : List (List Literal)) (c : ℕ) → IsCluster (present_matter r essential inputs) c → ⊥
+no-cluster r essential inputs c is =
+    let from : 1 ≤ c = is.0 in
+    let upto : c ≤ 0 = is.1 in
+    omega (arith, from, upto)
+
+pub lays-present : (r : PackageList) (essential : Bool) (inputs : List (List Literal))
+    → LaysOut (present_matter r essential inputs) (record { kind = kinds.Strong; cluster_of = []; classes = [] })
+lays-present r essential inputs = record {
+  present_is = λ p from upto. refl;
+  clusters = refl;
+  classes = λ c is. absurd (no-cluster r essential inputs c is);
+  at_is = λ pair is. absurd (no-cluster r essential inputs pair.0 is.0);
+  apart = λ pair other is is_other same. absurd (no-cluster r essential inputs pair.0 is.0);
+  no_package = λ pair is. refl;
+  today = refl;
+  packages = λ c v is. absurd (no-cluster r essential inputs c is);
+  own = λ p c from upto is. absurd (no-cluster r essential inputs c is);
+}
+
+-- no clause says what a future is
+pub futures-present : (r : PackageList) (essential : Bool) (inputs : List (List Literal)) (n : ℕ)
+    → AreFuturesBy (present_matter r essential inputs) (record { upto = 0; behind = n; last = n })
+futures-present r essential inputs n members = (
+  (λ future. (
+    (λ k d short. absurd (omega (arith, short))),
+    subst (λ (clauses : List (List Literal)). IsModel (is_among members) clauses)
+        (sym (drop_all n (take n inputs) (omega (arith, length-take n inputs))))
+        (λ k d short. absurd (omega (arith, short))),
+  )),
+  λ stands. tt,
+)
+
+-- ---- futures
+
+module _ (s : SpaceView) (clauses : List (List Literal)) (ends : FutureEnds) where
+  abbrev by_ends : FutureClauses
+  by_ends = record { upto = ends.early; behind = ends.today; last = ends.after }
+
+  pub futures-by : All (IsClauseOver (length s.meanings)) clauses
+      → ((values : List Bool) → MeetsFuture s values ↔ AreTrueAround (value_of values) ends clauses)
+      → AreFuturesBy (later_matter s clauses) by_ends
+  futures-by over two members =
+      let n = length s.meanings in
+      let values = truth_of n members in
+      let front = All-take (IsClauseOver n) ends.early clauses over in
+      let back = All-drop (IsClauseOver n) ends.today (take ends.after clauses) (All-take (IsClauseOver n) ends.after clauses over) in
+      let same = λ (v : ℕ) (from : 1 ≤ v) (upto : v ≤ n). value-among n members v from upto in
+      let other = λ (v : ℕ) (from : 1 ≤ v) (upto : v ≤ n). sym (value-among n members v from upto) in (
+        (λ meets.
+            let around = (two values).0 meets in (
+              model-alike (value_of values) (is_among members) n same (take ends.early clauses) front around.0,
+              model-alike (value_of values) (is_among members) n same (drop ends.today (take ends.after clauses)) back around.1,
+            )),
+        λ stands. (two values).1 (
+          model-alike (is_among members) (value_of values) n other (take ends.early clauses) front stands.0,
+          model-alike (is_among members) (value_of values) n other (drop ends.today (take ends.after clauses)) back stands.1,
+        ),
+      )
+
+-- each package has a variable
+enough-variables : (s : SpaceView) → IsSpace s
+    → ((number : ℕ) → number < length s.repository.packages → variable_of s (Present number) ≡ number + 2)
+    → length s.repository.packages ≤ length s.meanings
+enough-variables s space places = elim (cases_lt 0 (length s.repository.packages)) [
+  | inl some ↦
+      let short : length s.repository.packages - 1 < length s.repository.packages = omega (arith, some) in
+      let range = (variable-range s (Present (length s.repository.packages - 1)) space short).1 in
+      omega (arith, range, places (length s.repository.packages - 1) short, some)
+  | inr none ↦ omega (arith, none)
+]
+
+later-basis : (r : PackageList) (kind : CertKind) (essential : Bool) (s : SpaceView) (inputs : List (List Literal)) → kind ≢ kinds.Strong
+    → IsLaterOf r essential s inputs → IsBasisOf r kind essential (Later s inputs)
+later-basis r kinds.Strong essential s inputs later is = absurd (later refl)
+later-basis r kinds.Outdated essential s inputs later is = is
+later-basis r kinds.Challenged essential s inputs later is = is
+
+pub later-subject : (r : PackageList) (essential : Bool) (limits : Limits) (kind : CertKind) (s : SpaceView) (set : ClauseList) (ends : FutureEnds)
+    (layout : LayoutView) (packages : ℕ) → kind ≢ kinds.Strong → IsSpaceWithin r essential limits s
+    → futures.IsSetOf s (IsDemand s) limits.clauses limits.literals set → IsWithinLimits set → packages ≡ length s.repository.packages
+    → layout.kind ≡ kind → LaysOut (later_matter s set.clauses) layout
+    → ((values : List Bool) → MeetsFuture s values ↔ AreTrueAround (value_of values) ends set.clauses)
+    → ((number : ℕ) → number < length s.repository.packages → variable_of s (Present number) ≡ number + 2)
+    → IsSubject r limits kind essential packages set layout (record { upto = ends.early; behind = ends.today; last = ends.after })
+later-subject r essential limits kind s set ends layout packages later space is_set within count kind_is lays two places =
+    let clause_limit : set.clause_limit ≡ limits.clauses = is_set.clause_limit_is in
+    let literal_limit : set.literal_limit ≡ limits.literals = is_set.literal_limit_is in
+    let few : length set.clauses ≤ set.clause_limit = within.clauses_within in
+    let short : literal_count set.clauses ≤ set.literal_limit = within.literals_within in
+    let variables : set.variables ≡ length s.meanings = is_set.variables in
+    record {
+      basis = Later s set.clauses;
+      is_basis = later-basis r kind essential s set.clauses later
+          (record { newest = space.newest; is_space = space.is_space; are_clauses = is_set.clauses });
+      kept = record {
+        variables = space.variables;
+        clauses = omega (arith, few, clause_limit);
+        literals = omega (arith, short, literal_limit);
+      };
+      packages_are = count;
+      clauses = refl;
+      variables = variables;
+      enough = omega (arith, enough-variables s space.is_space.space places, count, variables);
+      kind_is = kind_is;
+      layout_is = lays;
+      future_is = futures-by s set.clauses ends
+          (subst (λ (n : ℕ). All (IsClauseOver n) set.clauses) variables within.over_variables) two;
+    }
+
+-- ---- numbers that are passed
+
+pub space-large : {X : Type 0} (s : SpaceView) (limits : Limits) (error : PushError)
+    → IsExactly {X = X} push.NoMemory (Err error) push.TooManyClauses (futures.PassesClauses s limits.clauses limits.literals)
+    → IsExactly {X = X} push.NoMemory (Err error) push.TooManyLiterals (futures.PassesLiterals s limits.clauses limits.literals)
+    → IsLarge (PassesSpace s limits) (large_by error)
+space-large s limits push.TooManyClauses clauses literals = (clauses (λ e. cc)).0 refl
+space-large s limits push.TooManyLiterals clauses literals = (literals (λ e. cc)).0 refl
+space-large s limits push.NoMemory clauses literals = tt
+
+pub later-large : (r : PackageList) (essential : Bool) (limits : Limits) (s : SpaceView) → IsSpaceWithin r essential limits s
+    → (e : ReadCertError) → IsLarge (PassesSpace s limits) e → IsLarge (PassesLater r essential limits) e
+later-large r essential limits s space (Work (TooLarge Clauses)) large = (s, space.newest, space.is_space, (space.variables, large))
+later-large r essential limits s space (Work (TooLarge Literals)) large = (s, space.newest, space.is_space, (space.variables, large))
+later-large r essential limits s space (Work (TooLarge what)) large = absurd large
+later-large r essential limits s space (Work NoMemory) large = tt
+later-large r essential limits s space (Work error) large = absurd large
+later-large r essential limits s space (Bad fault) large = absurd large
+
+pub later-err : {X : Type 0} (r : PackageList) (essential : Bool) (limits : Limits) (s : SpaceView) → IsSpaceWithin r essential limits s
+    → (result : Result X ReadCertError) → IfErr result (IsLarge (PassesSpace s limits)) → IfErr result (IsLarge (PassesLater r essential limits))
+later-err r essential limits s space (Ok x) large = tt
+later-err r essential limits s space (Err e) large = later-large r essential limits s space e large
+
+pub large-answers : (r : PackageList) (limits : Limits) (h : Header) (e : ReadCertError) → IsLarge (PassesFirst r h.kind h.essential limits) e
+    → StartAnswers r limits h (Err e)
+large-answers r limits h (Work (TooLarge what)) large = large
+large-answers r limits h (Work NoMemory) large = tt
+large-answers r limits h (Work error) large = absurd large
+large-answers r limits h (Bad fault) large = absurd large
+
+-- ---- the state
+
+abbrev pub log_of : ClauseList → Limits → ClauseLog
+log_of inputs limits = record {
+  clauses = inputs.clauses;
+  inputs = length inputs.clauses;
+  variables = inputs.variables;
+  line_limit = limits.lines;
+  line_literal_limit = limits.line_literals;
+}
+
+abbrev pub begun : ℕ → ℕ → LayoutView → FutureClauses → ClauseLog → StateView
+begun limit packages layout future log = record {
+  limit = limit;
+  packages = packages;
+  layout = layout;
+  log = log;
+  future = future;
+  window = record { kept = []; count = 0 };
+  question = None;
+  next = 1;
+  group = empty_group;
+  claims = [];
+}
+
+pub begins : (r : PackageList) (limits : Limits) (h : Header) (packages : ℕ) (inputs : ClauseList) (layout : LayoutView) (future : FutureClauses)
+    (s : StateView) → IsSubject r limits h.kind h.essential packages inputs layout future → HasNumbers packages inputs h
+    → s ≡ begun h.limit packages layout future (log_of inputs limits) → IsWithinLineLimits s.log → IsStart r limits h s
+begins r limits h packages inputs layout future s subject numbers same within =
+    subst (λ (t : StateView). IsStart r limits h t) (sym same) (record {
+      basis = subject.basis;
+      is_basis = subject.is_basis;
+      fits = record {
+        packages = numbers.0 ∙ subject.packages_are;
+        variables = numbers.1 ∙ subject.variables;
+        clauses = numbers.2 ∙ ap (λ (clauses : List (List Literal)). length clauses) subject.clauses;
+      };
+      kept = subject.kept;
+      limit = refl;
+      packages = subject.packages_are;
+      clauses = subject.clauses;
+      inputs = refl;
+      variables = subject.variables;
+      kind = subject.kind_is;
+      layout = subject.layout_is;
+      future = subject.future_is;
+      line_limit = refl;
+      line_literal_limit = refl;
+      within = subst IsWithinLineLimits (ap (λ (t : StateView). t.log) same) within;
+      window = refl;
+      question = refl;
+      next = refl;
+      group_is = refl;
+      claims = refl;
+    })
+
+-- the numbers are those of what is judged by
+pub fits-numbers : (r : PackageList) (limits : Limits) (h : Header) (packages : ℕ) (inputs : ClauseList) (layout : LayoutView) (future : FutureClauses)
+    → (subject : IsSubject r limits h.kind h.essential packages inputs layout future) → (¬ HasNumbers packages inputs h)
+    → StartAnswers r limits h (Err (Bad (record { line = 1; cause = BadHeader })))
+fits-numbers r limits h packages inputs layout future subject wrong = (
+  refl,
+  refl,
+  record {
+    basis = subject.basis;
+    is_basis = subject.is_basis;
+    within = subject.kept;
+    wrong = λ fits. wrong (
+      fits.packages ∙ sym subject.packages_are,
+      fits.variables ∙ sym subject.variables,
+      fits.clauses ∙ sym (ap (λ (clauses : List (List Literal)). length clauses) subject.clauses),
+    );
+  },
+)
