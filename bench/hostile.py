@@ -133,6 +133,10 @@ ROWS = {
     "the classes of one entry told again and again": (8_000, lambda n: classes(
         stanza("libx", more="Provides: " + ", ".join(["a (= 1)"] * n) + "\n") + stanza("p", more="Conflicts: " + ", ".join(f"a (>= {k})" for k in range(n)) + "\n"))),
     "the clauses of futures of so many entries": (8_000, lambda n: futures(many_entries(n))),
+    "the clauses of futures of one alternative told again and again": (20_000, lambda n: futures(
+        "".join(stanza(f"p{k}", more="Provides: x\n") for k in range(n)) + stanza("q", more="Depends: " + " | ".join(["x"] * (n // 20)) + "\n"))),
+    "the clauses of futures of one conflict told again and again": (20_000, lambda n: futures(
+        "".join(stanza(f"p{k}", more="Provides: x\n") for k in range(n)) + stanza("q", more="Conflicts: " + ", ".join(["x"] * (n // 20)) + "\n"))),
 }
 
 

@@ -54,8 +54,10 @@ wants 0 "$report" '' check packages cert
 wants 0 'size 2
 strong 1
 uninstallable 0
+outdated 0
+challenged 0
 undecided 0
-accepted 1' '' try --size 2 --seed 0
+accepted 3' '' try --size 2 --seed 0
 wants 1 'report: "strong"
 limit: 1
 packages: 21

@@ -8,8 +8,8 @@ use Rattle.dist_cert.specs.declared.records.Header.{Header}
 use Rattle.dist_check.specs.Answers.{Answers, AcceptedMeans}
 use Rattle.dist_check.specs.Checking.{OfText}
 use Rattle.dist_check.specs.declared.verdict.Verdict.TheVariants.{Accepted}
-use Rattle.dist_app.specs.Check.{CertificateStage, IsReportOf, Reports}
-use Rattle.dist_app.specs.Claims.{claims_status}
+use Rattle.dist_app.specs.Check.{CertificateStage, Reports}
+use Rattle.dist_app.specs.Claims.{IsReportOf, claims_status}
 use Rattle.dist_app.specs.Stages.{Then, answered}
 use Rattle.dist_app.specs.declared.status.Status.{Status}
 
@@ -17,7 +17,7 @@ pub reported : (files : Option Files) (limits : Limits) (cert : List ℕ) (r : P
     → IsPresent files cert
     → OfText (file_bytes files cert) (λ bytes. Answers r limits bytes (Ok (Accepted h made)))
     → ((bytes : List ℕ) × Answers r limits bytes (Ok (Accepted h made))) → AcceptedMeans r h made → status ≡ claims_status made
-    → IsReportOf r h made text
+    → IsReportOf r h.kind h.limit made text
     → Then (CertificateStage files limits cert r) (Reports files r) (answered files status text)
 reported files limits cert r h made status text present answers some means s told =
     inr (

@@ -10,13 +10,16 @@ use Rattle.dist_package.specs.declared.error.PackagesError.{PackagesError}
 use Rattle.dist_package.specs.declared.error.PackagesError.TheVariants as packages_error
 use Rattle.dist_repo.specs.PackageList.{PackageList}
 use Rattle.dist_repo.specs.declared.package.Package.{Package}
-use Rattle.dist_words.specs.CommandLine.{CommandLine, Health, Classes, Strong, Check, Try}
+use Rattle.dist_words.specs.CommandLine.{CommandLine, Health, Classes, Sweep, Check, Try}
 use Rattle.dist_words.specs.Table.{command_of}
+use Rattle.dist_outside.specs.declared.trouble.What.{What}
 use Rattle.dist_outside.specs.declared.trouble.WorkError.{WorkError}
 use Rattle.dist_outside.specs.declared.trouble.WorkError.TheVariants as work
 use Rattle.dist_repo.specs.Order.{IsInOrder}
+use Rattle.dist_cert.specs.declared.records.CertKind.{CertKind}
 use Rattle.dist_cert.specs.declared.records.Claim.{Claim}
 use Rattle.dist_cert.specs.declared.records.Header.{Header}
+use Rattle.dist_subject.specs.Limited.{PassesFirst}
 use Rattle.dist_check.specs.Answers.{Answers, IsOfText}
 use Rattle.dist_check.specs.Checking.{OfText}
 use Rattle.dist_check.specs.declared.verdict.Verdict.{Verdict}
@@ -29,7 +32,7 @@ use Rattle.dist_app.specs.PackagesStage.{PackagesStage}
 use Rattle.dist_app.specs.RepositoryStage.{IsEndOf, RepositoryStage}
 use Rattle.dist_app.specs.Run.{Decides, Refuses, IsRunGivenUp}
 use Rattle.dist_app.specs.Stages.{Ending, Goes, Ends, IsDetermined, Excludes, refused}
-use Rattle.dist_app.specs.Strong.{ClausesStage, StrongStages, Sweeps}
+use Rattle.dist_app.specs.Sweeps.{InputsStage, SweepStages, Sweeps}
 use Rattle.dist_app.specs.TextStage.{TextStage}
 use Rattle.dist_app.specs.Try.{ArchiveStage, Tries}
 use Rattle.dist_generate.specs.Generator.{generated}
@@ -60,11 +63,18 @@ abbrev pub HaveOneAnswer : Type 0
 HaveOneAnswer = (r : PackageList) (limits : Limits) (text : List ℕ) (result other : Result Verdict WorkError) → IsInOrder r.packages
     → Answers r limits text result → Answers r limits text other → IsOfText result → IsOfText other → other ≡ result
 
--- each Packages text has one repository or one error, each LIST one set or one first bad line, and each CERT one answer
+-- one number is passed first
+abbrev pub HaveOneNumber : Type 0
+HaveOneNumber = (r : PackageList) (kind : CertKind) (essential : Bool) (limits : Limits) (what other : What) → IsInOrder r.packages
+    → PassesFirst r kind essential limits what → PassesFirst r kind essential limits other → other ≡ what
+
+-- each Packages text has one repository or one error, each LIST one set or one first bad line, each CERT one answer, and of what a sweep is judged by one
+-- number is passed first
 pub record AreExact : Type 0 where
   pub packages : (text : List ℕ) (limit : ℕ) → HasOneAnswer text limit
   pub lists : (packages : List Package) (text : List ℕ) → ListHasOneAnswer packages text
   pub certificates : HaveOneAnswer
+  pub numbers : HaveOneNumber
 
 repository_determined : AreExact → (files : Option Files) (stanzas : ℕ) (text : List ℕ) → IsDetermined (RepositoryStage files stanzas text)
 repository_determined exact files stanzas text (Goes a) (Goes b) f g = ap Goes ((exact.packages text stanzas).one_repository a b f g)
@@ -110,23 +120,25 @@ packages_determined exact files limits name (Ends e) (Ends o) (inr (t, f, g)) (i
     repository_determined exact (Some files) limits.stanzas t (Ends e) (Ends o) g
     (subst (λ (x : List ℕ). RepositoryStage (Some files) limits.stanzas x (Ends o)) same k)
 
-pub clauses_determined : (files : Option Files) (limits : Limits) (essential : Bool) (r : PackageList) → IsDetermined (ClausesStage files limits essential r)
-clauses_determined files limits essential r (Goes a) (Goes b) f g = refl
-clauses_determined files limits essential r (Goes a) (Ends e) (clauses, literals) (inl (passes, is)) = absurd (clauses passes)
-clauses_determined files limits essential r (Goes a) (Ends e) (clauses, literals) (inr (not, passes, is)) = absurd (literals passes)
-clauses_determined files limits essential r (Ends e) (Goes b) (inl (passes, is)) (clauses, literals) = absurd (clauses passes)
-clauses_determined files limits essential r (Ends e) (Goes b) (inr (not, passes, is)) (clauses, literals) = absurd (literals passes)
-clauses_determined files limits essential r (Ends e) (Ends o) (inl (passes, is)) (inl (passes', is')) = ap Ends (is' ∙ sym is)
-clauses_determined files limits essential r (Ends e) (Ends o) (inl (passes, is)) (inr (not, passes', is')) = absurd (not passes)
-clauses_determined files limits essential r (Ends e) (Ends o) (inr (not, passes, is)) (inl (passes', is')) = absurd (not passes')
-clauses_determined files limits essential r (Ends e) (Ends o) (inr (not, passes, is)) (inr (not', passes', is')) = ap Ends (is' ∙ sym is)
+pub inputs_determined : HaveOneNumber → (files : Option Files) (limits : Limits) (kind : CertKind) (essential : Bool) (r : PackageList)
+    → IsInOrder r.packages → IsDetermined (InputsStage files limits kind essential r)
+inputs_determined one files limits kind essential r order (Goes a) (Goes b) f g = refl
+inputs_determined one files limits kind essential r order (Goes a) (Ends e) none (number, passes, is) = absurd (none number passes)
+inputs_determined one files limits kind essential r order (Ends e) (Goes b) (number, passes, is) none = absurd (none number passes)
+inputs_determined one files limits kind essential r order (Ends e) (Ends o) (number, passes, is) (other, passes', is') =
+    ap Ends (is' ∙ ap (λ (n : What). refused files (refusal.TooLarge n)) (one r kind essential limits number other order passes passes') ∙ sym is)
 
-strong_excludes : AreExact → (files : Files) (limits : Limits) (packages : List ℕ) (essential : Bool) (Last : PackageList → Ending → Type 0)
-    → Excludes (StrongStages (Some files) limits packages essential (λ r ending. ⊥)) (StrongStages (Some files) limits packages essential Last)
-strong_excludes exact files limits packages essential Last =
+-- a repository of packages is in order
+pub in_order : (files : Option Files) (limits : Limits) (name : List ℕ) (r : PackageList) → PackagesStage files limits name (Goes r) → IsInOrder r.packages
+in_order files limits name r (text, goes, has) = has.in_order
+
+sweep_excludes : AreExact → (files : Files) (limits : Limits) (kind : CertKind) (packages : List ℕ) (essential : Bool) (Last : PackageList → Ending → Type 0)
+    → Excludes (SweepStages (Some files) limits kind packages essential (λ r ending. ⊥)) (SweepStages (Some files) limits kind packages essential Last)
+sweep_excludes exact files limits kind packages essential Last =
     then_excludes (PackagesStage (Some files) limits packages) _ _ (packages_determined exact files limits packages) (λ r goes.
-    then_excludes (ClausesStage (Some files) limits essential r) _ _ (clauses_determined (Some files) limits essential r) (λ _ kept.
-    nothing_excludes (Last r)))
+    then_excludes (InputsStage (Some files) limits kind essential r) _ _
+    (inputs_determined exact.numbers (Some files) limits kind essential r (in_order (Some files) limits packages r goes))
+    (λ _ kept. nothing_excludes (Last r)))
 
 pub archive_determined : AreExact → (files : Option Files) (limits : Limits) (size seed : ℕ) → IsDetermined (ArchiveStage files limits size seed)
 archive_determined exact files limits size seed (Goes a) (Goes b) f g =
@@ -198,10 +210,6 @@ certificate_determined one files limits cert r order (Ends e) (Ends o) (result, 
     (end_of_text (Some files) result' o end') in
     ap Ends (one_end (Some files) result e o end (subst (λ (x : Result Verdict WorkError). IsEndOfCertificate (Some files) x o) same end'))
 
--- a repository of packages is in order
-pub in_order : (files : Option Files) (limits : Limits) (name : List ℕ) (r : PackageList) → PackagesStage files limits name (Goes r) → IsInOrder r.packages
-in_order files limits name r (text, goes, has) = has.in_order
-
 -- ---- commands
 
 command_excludes : AreExact → (line : CommandLine) (files : Files) (limits : Limits)
@@ -214,25 +222,24 @@ command_excludes exact (Health packages list) files limits =
 command_excludes exact (Classes packages) files limits =
     then_excludes (PackagesStage (Some files) limits packages) _ _ (packages_determined exact files limits packages)
     (λ r goes. nothing_excludes (TellsClasses (Some files) r))
-command_excludes exact (Strong packages cert essential limit) files limits =
-    strong_excludes exact files limits packages essential (Sweeps (Some files) limits cert essential limit)
+command_excludes exact (Sweep kind packages cert essential limit) files limits =
+    sweep_excludes exact files limits kind packages essential (Sweeps (Some files) limits kind cert essential limit)
 command_excludes exact (Check packages cert) files limits =
     then_excludes (PackagesStage (Some files) limits packages) _ _ (packages_determined exact files limits packages) (λ r goes.
     then_excludes (CertificateStage (Some files) limits cert r) _ _
     (certificate_determined exact.certificates files limits cert r (in_order (Some files) limits packages r goes))
     (λ accepted judged. nothing_excludes (Reports (Some files) r accepted)))
 command_excludes exact (Try size seed) files limits =
-    then_excludes (ArchiveStage (Some files) limits size seed) _ _ (archive_determined exact (Some files) limits size seed) (λ r goes.
-    then_excludes (ClausesStage (Some files) limits false r) _ _ (clauses_determined (Some files) limits false r) (λ _ kept.
-    nothing_excludes (Tries (Some files) limits size r)))
+    then_excludes (ArchiveStage (Some files) limits size seed) _ _ (archive_determined exact (Some files) limits size seed)
+    (λ r goes end ending refuses tries. tries.first end refuses)
 
 -- nor is a fault of writing the end
 given_up_excludes : AreExact → (line : CommandLine) (files : Files) (limits : Limits)
     → Excludes (CommandRefuses line (Some files) limits) (CommandIsGivenUp line (Some files) limits refusal.WriteFault)
 given_up_excludes exact (Health packages list) files limits end ending refuses given_up = absurd given_up
 given_up_excludes exact (Classes packages) files limits end ending refuses given_up = absurd given_up
-given_up_excludes exact (Strong packages cert essential limit) files limits end ending refuses given_up =
-    strong_excludes exact files limits packages essential (λ r e. Unit {0}) end ending refuses
+given_up_excludes exact (Sweep kind packages cert essential limit) files limits end ending refuses given_up =
+    sweep_excludes exact files limits kind packages essential (λ r e. Unit {0}) end ending refuses
     (inr (given_up.repository, given_up.read, inr (tt, given_up.kept refl, tt)))
 given_up_excludes exact (Check packages cert) files limits end ending refuses given_up = absurd given_up
 given_up_excludes exact (Try size seed) files limits end ending refuses given_up = absurd given_up

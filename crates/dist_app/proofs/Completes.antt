@@ -1,5 +1,6 @@
 -- What an undisturbed run comes to, from the end that it promises.
-use Rattle.std.proofs.Common.{◌≡◌, ◌⊎◌, ℕ, Bool, false, List, inl, inr, Option, Some, Result, Ok, Err, length, ap, sym, ◌∙◌, subst}
+use Rattle.std.proofs.Common.{◌≡◌, ◌⊎◌, ℕ, Bool, false, List, inl, inr, Option, Some, Result, Ok, Err, ap, sym, ◌∙◌, subst}
+use Rattle.std.specs.List.{list_any}
 use Rattle.dist_base.specs.declared.TheConstants.{DEFAULT_LIMIT}
 use Rattle.dist_outside.specs.Counts.{Rose}
 use Rattle.dist_outside.specs.DeskView.{DeskView}
@@ -14,16 +15,20 @@ use Rattle.dist_now.specs.Health.{IsHealth}
 use Rattle.dist_now.specs.declared.kinds.Health.{Health as Judgement}
 use Rattle.dist_now.specs.declared.kinds.Health.TheVariants as health
 use Rattle.dist_cert.specs.declared.records.Claim.{Claim}
-use Rattle.dist_strong.specs.Budget.{IsBelowBudget}
-use Rattle.dist_cert.specs.declared.records.CertKind.TheVariants as kinds
-use Rattle.dist_sweep.specs.Sweep.{IsFull}
+use Rattle.dist_budget.specs.Budget.{IsBelowBudget}
+use Rattle.dist_cert.specs.Part.{IsStoppedBy}
+use Rattle.dist_cert.specs.declared.records.CertKind.{CertKind}
+use Rattle.dist_subject.specs.Basis.{Basis, IsBasisOf, matter_of}
+use Rattle.dist_sweep.specs.Sweep.{IsFull, OfSweep, header_of}
+use Rattle.dist_trial.specs.Summary.{has_marks}
+use Rattle.dist_trial.specs.Trial.{IsStoppedAt}
 use Rattle.dist_check.specs.Answers.{IsOfText}
 use Rattle.dist_check.specs.declared.verdict.Verdict.{Verdict}
 use Rattle.dist_check.specs.declared.verdict.Verdict.TheVariants as verdict
-use Rattle.dist_words.specs.CommandLine.{CommandLine, Health, Classes, Strong, Check, Try}
+use Rattle.dist_words.specs.CommandLine.{CommandLine, Health, Classes, Sweep, Check, Try}
 use Rattle.dist_words.specs.Table.{command_of}
 use Rattle.dist_app.specs.Check.{CertificateStage, IsEndOfCertificate, IsJudged, Reports}
-use Rattle.dist_app.specs.Claims.{claims_status}
+use Rattle.dist_app.specs.Claims.{has_mark, marked_status}
 use Rattle.dist_app.specs.Classes.{TellsClasses}
 use Rattle.dist_app.specs.Command.{CommandDecides, CommandIsGivenUp, IsApart}
 use Rattle.dist_app.specs.Complete.{Completes, IsComplete, IsStatusOfSet, IsUndisturbed, StopsBelowBudget, TrialIsComplete, verdict_status}
@@ -32,17 +37,17 @@ use Rattle.dist_app.specs.Health.{Judges, ListStage, ListStages, Tells}
 use Rattle.dist_app.specs.PackagesStage.{PackagesStage}
 use Rattle.dist_app.specs.Run.{Comes, Decides, IsRunGivenUp, Runs}
 use Rattle.dist_app.specs.Stages.{Ending, Goes, Then, answered}
-use Rattle.dist_app.specs.Strong.{ClausesStage, Sweeps}
+use Rattle.dist_app.specs.Sweeps.{InputsStage, Sweeps}
 use Rattle.dist_app.specs.TextStage.{TextStage}
 use Rattle.dist_app.specs.Try.{ArchiveStage, Tries}
 use Rattle.dist_app.specs.declared.refusal.Refusal.{Refusal}
 use Rattle.dist_app.specs.declared.refusal.Refusal.TheVariants as refusal
 use Rattle.dist_app.specs.declared.status.Status.{Status}
 use Rattle.dist_app.specs.declared.status.Status.TheVariants.{Done, WriteFault, NoMemory, TooLarge}
-use Rattle.dist_app.proofs.CommandLaws.{AreExact, one_line, archive_determined, clauses_determined, end_of_text, in_order, list_determined, one_judgement}
+use Rattle.dist_app.proofs.CommandLaws.{AreExact, one_line, archive_determined, inputs_determined, end_of_text, in_order, list_determined, one_judgement}
 use Rattle.dist_app.proofs.CommandLaws.{packages_determined, text_determined}
 use Rattle.dist_app.proofs.Headlines.{of_line}
-use Rattle.dist_app.proofs.Refused.{claims_carried_out}
+use Rattle.dist_app.proofs.Refused.{mark_carried_out}
 use Rattle.dist_app.proofs.StageLaws.{then_goes}
 
 -- a set has one health
@@ -52,9 +57,9 @@ HaveOneHealth = (r : PackageList) (essential : Bool) (flags : List Bool) (health
 
 -- a sweep is stopped by a number only where that is below its budget
 abbrev pub BudgetsSuffice : Type 0
-BudgetsSuffice = (r : PackageList) (essential : Bool) (limit : ℕ) (limits : Limits) (what : What) (text : List ℕ)
-    → IsFull r kinds.Strong essential limit limits what text
-    → IsBelowBudget limits (length r.packages) limit what
+BudgetsSuffice = (r : PackageList) (kind : CertKind) (essential : Bool) (limit : ℕ) (limits : Limits) (basis : Basis) (text : List ℕ) (what : What)
+    → IsBasisOf r kind essential basis → IsStoppedBy (matter_of r basis) limits (header_of kind essential limit (matter_of r basis)) text what
+    → IsBelowBudget limits kind (matter_of r basis) limit what
 
 -- what the ends of commands are told by
 pub record Laws : Type 0 where
@@ -108,66 +113,81 @@ classes_end laws files limits packages r ending read decides =
     status_from ending (answered (Some files) Done tells.text) tells.is
 
 -- what a sweep leaves
-abbrev SweepComesTo : (files left : Option Files) → Limits → (cert : List ℕ) → Bool → ℕ → PackageList → Status → Type 0
-SweepComesTo files left limits cert essential limit r status =
-    IsCarriedOut status ⊎ ((text : List ℕ) × StopsBelowBudget r essential limit limits status text × (left ≡ with_file files cert text))
+abbrev SweepComesTo : (files left : Option Files) → Limits → CertKind → (cert : List ℕ) → Bool → ℕ → PackageList → Status → Type 0
+SweepComesTo files left limits kind cert essential limit r status =
+    IsCarriedOut status ⊎ ((text : List ℕ) × StopsBelowBudget r kind essential limit limits status text × (left ≡ with_file files cert text))
 
-carried_claims : (status : Status) (made : List Claim) → status ≡ claims_status made → IsCarriedOut status
-carried_claims status made is = subst IsCarriedOut (sym is) (claims_carried_out made)
+carried_marks : (status : Status) (marked : Bool) → status ≡ marked_status marked → IsCarriedOut status
+carried_marks status marked is = subst IsCarriedOut (sym is) (mark_carried_out marked)
 
-sweep_comes_to : Laws → (files : Option Files) (limits : Limits) (cert : List ℕ) (essential : Bool) (limit : ℕ) (r : PackageList) (ending : Ending)
-    → Sweeps files limits cert essential limit r ending → SweepComesTo files ending.files limits cert essential limit r ending.status
-sweep_comes_to laws files limits cert essential limit r ending (inl swept) =
-    inl (carried_claims ending.status swept.made (ap (λ (x : Ending). x.status) swept.is))
-sweep_comes_to laws files limits cert essential limit r ending (inr stopped) =
+below_budget : BudgetsSuffice → (r : PackageList) (kind : CertKind) (essential : Bool) (limit : ℕ) (limits : Limits) (what : What) (text : List ℕ)
+    → IsFull r kind essential limit limits what text
+    → OfSweep r kind essential limit (λ basis h. IsStoppedBy (matter_of r basis) limits h text what × IsBelowBudget limits kind (matter_of r basis) limit what)
+below_budget budgets r kind essential limit limits what text (basis, are, stopped) =
+    (basis, are, (stopped, budgets r kind essential limit limits basis text what are stopped))
+
+sweep_comes_to : Laws → (files : Option Files) (limits : Limits) (kind : CertKind) (cert : List ℕ) (essential : Bool) (limit : ℕ) (r : PackageList)
+    (ending : Ending)
+    → Sweeps files limits kind cert essential limit r ending → SweepComesTo files ending.files limits kind cert essential limit r ending.status
+sweep_comes_to laws files limits kind cert essential limit r ending (inl swept) =
+    inl (carried_marks ending.status (list_any has_mark swept.made) (ap (λ (x : Ending). x.status) swept.is))
+sweep_comes_to laws files limits kind cert essential limit r ending (inr stopped) =
     inr (
       stopped.text,
       record {
         what = stopped.what;
         stopped = ap (λ (x : Ending). x.status) stopped.is;
-        below = laws.budgets r essential limit limits stopped.what stopped.text stopped.full;
-        full = stopped.full;
+        below = below_budget laws.budgets r kind essential limit limits stopped.what stopped.text stopped.full;
       },
       ap (λ (x : Ending). x.files) stopped.is,
     )
 
-strong_ends : Laws → (files : Files) (limits : Limits) (packages cert : List ℕ) (essential : Bool) (limit : ℕ) (r : PackageList) (ending : Ending)
-    → PackagesStage (Some files) limits packages (Goes r) → ClausesStage (Some files) limits essential r (Goes tt)
-    → CommandDecides (Strong packages cert essential limit) (Some files) limits ending
-    → SweepComesTo (Some files) ending.files limits cert essential limit r ending.status
-strong_ends laws files limits packages cert essential limit r ending read kept decides =
-    sweep_comes_to laws (Some files) limits cert essential limit r ending
-    (then_goes (ClausesStage (Some files) limits essential r) (λ _. Sweeps (Some files) limits cert essential limit r)
-    (clauses_determined (Some files) limits essential r) tt kept ending
+sweep_ends : Laws → (files : Files) (limits : Limits) (kind : CertKind) (packages cert : List ℕ) (essential : Bool) (limit : ℕ) (r : PackageList)
+    (ending : Ending)
+    → PackagesStage (Some files) limits packages (Goes r) → InputsStage (Some files) limits kind essential r (Goes tt)
+    → CommandDecides (Sweep kind packages cert essential limit) (Some files) limits ending
+    → SweepComesTo (Some files) ending.files limits kind cert essential limit r ending.status
+sweep_ends laws files limits kind packages cert essential limit r ending read kept decides =
+    sweep_comes_to laws (Some files) limits kind cert essential limit r ending
+    (then_goes (InputsStage (Some files) limits kind essential r) (λ _. Sweeps (Some files) limits kind cert essential limit r)
+    (inputs_determined laws.texts.numbers (Some files) limits kind essential r (in_order (Some files) limits packages r read)) tt kept ending
     (then_goes (PackagesStage (Some files) limits packages)
-    (λ x. Then (ClausesStage (Some files) limits essential x) (λ _. Sweeps (Some files) limits cert essential limit x))
+    (λ x. Then (InputsStage (Some files) limits kind essential x) (λ _. Sweeps (Some files) limits kind cert essential limit x))
     (packages_determined laws.texts files limits packages) r read ending decides))
 
 abbrev TrialComesTo : Limits → PackageList → Status → Type 0
-TrialComesTo limits r status = IsCarriedOut status ⊎ ((text : List ℕ) × StopsBelowBudget r false DEFAULT_LIMIT limits status text)
+TrialComesTo limits r status =
+    IsCarriedOut status ⊎ ((kind : CertKind) × (text : List ℕ) × StopsBelowBudget r kind false DEFAULT_LIMIT limits status text)
 
-trial_comes_to : Laws → (files : Option Files) (limits : Limits) (size : ℕ) (r : PackageList) (ending : Ending) → Tries files limits size r ending
-    → TrialComesTo limits r ending.status
-trial_comes_to laws files limits size r ending (inl tried) = inl (carried_claims ending.status tried.made (ap (λ (x : Ending). x.status) tried.is))
-trial_comes_to laws files limits size r ending (inr stopped) =
+-- what each sweep is judged by keeps its numbers
+abbrev AllKeep : Option Files → Limits → PackageList → Type 0
+AllKeep files limits r = (kind : CertKind) → InputsStage files limits kind false r (Goes tt)
+
+trial_stops : Laws → (files : Option Files) (limits : Limits) (r : PackageList) (kind : CertKind) (what : What) (status : Status) → status ≡ TooLarge
+    → AllKeep files limits r → IsStoppedAt r kind limits what → TrialComesTo limits r status
+trial_stops laws files limits r kind what status is kept (inl passes) = absurd (kept kind what passes)
+trial_stops laws files limits r kind what status is kept (inr (text, full)) =
     inr (
-      stopped.text,
-      record {
-        what = stopped.what;
-        stopped = ap (λ (x : Ending). x.status) stopped.is;
-        below = laws.budgets r false DEFAULT_LIMIT limits stopped.what stopped.text stopped.full;
-        full = stopped.full;
-      },
+      kind,
+      text,
+      record { what = what; stopped = is; below = below_budget laws.budgets r kind false DEFAULT_LIMIT limits what text full },
     )
 
+trial_comes_to : Laws → (files : Option Files) (limits : Limits) (size : ℕ) (r : PackageList) (ending : Ending) → AllKeep files limits r
+    → Tries files limits size r ending
+    → TrialComesTo limits r ending.status
+trial_comes_to laws files limits size r ending kept tries =
+    elim tries.comes [
+      | inl told ↦ inl (carried_marks ending.status (has_marks told.strong told.outdated told.challenged) (ap (λ (x : Ending). x.status) told.is))
+      | inr stopped ↦ trial_stops laws files limits r stopped.kind stopped.what ending.status (ap (λ (x : Ending). x.status) stopped.is) kept stopped.stopped
+    ]
+
 trial_ends : Laws → (files : Option Files) (limits : Limits) (size seed : ℕ) (r : PackageList) (ending : Ending)
-    → ArchiveStage files limits size seed (Goes r) → ClausesStage files limits false r (Goes tt)
+    → ArchiveStage files limits size seed (Goes r) → AllKeep files limits r
     → CommandDecides (Try size seed) files limits ending → TrialComesTo limits r ending.status
 trial_ends laws files limits size seed r ending made kept decides =
-    trial_comes_to laws files limits size r ending
-    (then_goes (ClausesStage files limits false r) (λ _. Tries files limits size r) (clauses_determined files limits false r) tt kept ending
-    (then_goes (ArchiveStage files limits size seed) (λ x. Then (ClausesStage files limits false x) (λ _. Tries files limits size x))
-    (archive_determined laws.texts files limits size seed) r made ending decides))
+    trial_comes_to laws files limits size r ending kept
+    (then_goes (ArchiveStage files limits size seed) (Tries files limits size) (archive_determined laws.texts files limits size seed) r made ending decides)
 
 -- the one answer of CERT
 abbrev CheckComesTo : Option Files → Limits → (cert : List ℕ) → PackageList → Status → Type 0
@@ -222,8 +242,8 @@ module _ (laws : Laws) (words : List (List ℕ)) (limits : Limits) (files : File
     health = λ packages list r text members is read whole names. inr
         (health_ends laws files limits packages list r text members ending read whole names (of (Health packages list) is));
     classes = λ packages r is read. inr (classes_end laws files limits packages r ending read (of (Classes packages) is));
-    strong = λ packages cert essential limit r is read kept.
-        inr (strong_ends laws files limits packages cert essential limit r ending read kept (of (Strong packages cert essential limit) is));
+    sweep = λ kind packages cert essential limit r is read kept.
+        inr (sweep_ends laws files limits kind packages cert essential limit r ending read kept (of (Sweep kind packages cert essential limit) is));
     check = λ packages cert r is read. inr (check_ends laws files limits packages cert r ending read (of (Check packages cert) is));
   }
     where
@@ -236,7 +256,7 @@ stored_out : (words : List (List ℕ)) (limits : Limits) (result : Status) (file
 stored_out words limits result files left memory = record {
   health = λ packages list r text members is read whole names. inl memory;
   classes = λ packages r is read. inl memory;
-  strong = λ packages cert essential limit r is read kept. inl memory;
+  sweep = λ kind packages cert essential limit r is read kept. inl memory;
   check = λ packages cert r is read. inl memory;
 }
 
@@ -258,7 +278,7 @@ module _ (laws : Laws) (words : List (List ℕ)) (limits : Limits) (result : Sta
           (decided_completes laws words limits files runs.ending (subst (λ (t : Option Files). Decides words t limits runs.ending) is decides))))
 
   module _ (none : ¬ Rose out.faults out'.faults) (size seed : ℕ) (r : PackageList) (is_line : command_of words ≡ Some (Try size seed))
-      (made : ArchiveStage desk.files limits size seed (Goes r)) (kept : ClausesStage desk.files limits false r (Goes tt)) where
+      (made : ArchiveStage desk.files limits size seed (Goes r)) (kept : AllKeep desk.files limits r) where
     is_try : (line : CommandLine) → command_of words ≡ Some line → line ≡ Try size seed
     is_try line is = one_line (Try size seed) line (command_of words) is_line is
 

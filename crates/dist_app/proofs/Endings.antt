@@ -1,6 +1,5 @@
 -- How a run ends, from how carrying out its command does.
 use Rattle.std.proofs.Common.{◌≡◌, ℕ, List, [], inl, inr, Option, Some, None, Result, Ok, Err, MatchResult, refl, ap, sym, subst, arith}
-use Rattle.dist_base.specs.Front.{IsFrontOf}
 use Rattle.dist_outside.specs.Counts.{Rose}
 use Rattle.dist_outside.specs.Files.{Files, IsNotWriting}
 use Rattle.dist_outside.specs.DeskView.{DeskView, OnlyReads}
@@ -44,9 +43,6 @@ command_leaves words line desk desk' is leaves reads apart = record {
 }
 
 -- ---- the ends
-
-no_front : (text : List ℕ) → IsFrontOf text []
-no_front text = record { count = 0; within = omega arith; is = refl }
 
 good : (words : List (List ℕ)) (line : CommandLine) → command_of words ≡ Some line → ¬ IsBadWords words
 good words line is bad = apart (command_of words) is bad
@@ -139,29 +135,12 @@ module _ (words : List (List ℕ)) (limits : Limits) (desk : DeskView) (out out'
     unfinished : CommandIsGivenUp line desk.files limits refusal.NoMemory (refused desk'.files refusal.NoMemory) → Grew [] out out' → Refused refusal.NoMemory
     unfinished given_up grew = wanted desk' (inr (inr (inr (inl (inr (line, is_line, given_up)))))) grew
 
-    untold : (status : Status) (text : List ℕ) → CommandDecides line desk.files limits (answered desk'.files status text) → Grew [] out out'
-        → Refused refusal.NoMemory
-    untold status text decides grew =
-        wanted desk'
-        (inr
-        (inr
-        (inr
-        (inr (inr (record {
-          decided = answered desk'.files status text;
-          decides = inr (line, is_line, decides);
-          answers = refl;
-          front = no_front text;
-          is = refl;
-        }))))))
-        grew
-
     pub refused_command : (r : Refusal) → Stops line limits desk desk' r → Grew [] out out' → Refused r
     refused_command r (inl decides) grew = decided_refusal r decides grew
     refused_command r (inr (inl (is, of_files, same, rose))) grew = subst Refused (sym is) (unread of_files same rose grew)
     refused_command r (inr (inr (inl (is, rose, given_up)))) grew = subst Refused (sym is) (unwritten rose given_up grew)
     refused_command r (inr (inr (inr (is, inl same)))) grew = subst Refused (sym is) (unstored same grew)
-    refused_command r (inr (inr (inr (is, inr (inl given_up))))) grew = subst Refused (sym is) (unfinished given_up grew)
-    refused_command r (inr (inr (inr (is, inr (inr (status, text, decides)))))) grew = subst Refused (sym is) (untold status text decides grew)
+    refused_command r (inr (inr (inr (is, inr given_up)))) grew = subst Refused (sym is) (unfinished given_up grew)
 
     answered_command : (status : Status) (text : List ℕ) → CommandDecides line desk.files limits (answered desk'.files status text) → Grew text out out'
         → IsAnswered words limits desk desk' out out' status

@@ -1,26 +1,27 @@
--- What a run of `strong` and one of `check` prove, from the end that they come to.
+-- What a run that sweeps and one of `check` prove, from the end that they come to.
 use Rattle.std.proofs.Common.{◌≡◌, ℕ, Bool, List, inl, inr, Option, Some, None, ap, ◌∙◌, subst}
 use Rattle.dist_outside.specs.DeskView.{DeskView}
 use Rattle.dist_outside.specs.Files.{Files}
 use Rattle.dist_outside.specs.SinkView.{SinkView, Grew}
 use Rattle.dist_outside.specs.declared.limits.Limits.{Limits}
 use Rattle.dist_repo.specs.PackageList.{PackageList}
+use Rattle.dist_cert.specs.declared.records.CertKind.{CertKind}
 use Rattle.dist_cert.specs.declared.records.Claim.{Claim}
 use Rattle.dist_cert.specs.declared.records.Header.{Header}
-use Rattle.dist_words.specs.CommandLine.{CommandLine, Strong, Check}
+use Rattle.dist_words.specs.CommandLine.{CommandLine, Sweep, Check}
 use Rattle.dist_words.specs.Table.{command_of}
 use Rattle.dist_app.specs.CarriedPrivate.{IsAnswered}
 use Rattle.dist_app.specs.Check.{CertificateStage, CheckStages, Reports}
 use Rattle.dist_app.specs.Command.{CommandDecides}
-use Rattle.dist_app.specs.Headline.{CheckIsProved, IsCarriedOut, ProvesCheck, ProvesStrong, StrongIsProved}
+use Rattle.dist_app.specs.Headline.{CheckIsProved, IsCarriedOut, ProvesCheck, ProvesSweep, SweepIsProved}
 use Rattle.dist_app.specs.PackagesStage.{PackagesStage}
 use Rattle.dist_app.specs.Refusal.{status_of}
 use Rattle.dist_app.specs.Run.{Decides}
 use Rattle.dist_app.specs.Stages.{Ending, Goes}
-use Rattle.dist_app.specs.Strong.{IsSwept, StrongStages, Sweeps}
+use Rattle.dist_app.specs.Sweeps.{IsSwept, SweepStages, Sweeps}
 use Rattle.dist_app.specs.declared.refusal.Refusal.{Refusal}
 use Rattle.dist_app.specs.declared.status.Status.{Status}
-use Rattle.dist_app.proofs.Refused.{certificate_refuses, clauses_refuse, not_carried_out, packages_refuses, refusal_not_carried_out}
+use Rattle.dist_app.proofs.Refused.{certificate_refuses, inputs_refuse, not_carried_out, packages_refuses, refusal_not_carried_out}
 use Rattle.dist_app.proofs.Sweeping.{ClaimsHold, sweep_means}
 
 -- words of a command decide by it
@@ -36,13 +37,13 @@ of_line words files limits line ending is (inr (other, is_other, decides)) =
     same : (o : Option CommandLine) → o ≡ Some other → o ≡ Some line → other ≡ line
     same o e f = cc
 
--- ---- `strong`
+-- ---- sweeps
 
-module _ (hold : ClaimsHold) (limits : Limits) (packages cert : List ℕ) (essential : Bool) (limit : ℕ) (result : Status) (desk desk' : DeskView)
-    (out out' : SinkView) (ending : Ending)
+module _ (hold : ClaimsHold) (limits : Limits) (kind : CertKind) (packages cert : List ℕ) (essential : Bool) (limit : ℕ) (result : Status)
+    (desk desk' : DeskView) (out out' : SinkView) (ending : Ending)
     (status_is : result ≡ ending.status) (carried : IsCarriedOut ending.status) (files : desk'.files ≡ ending.files) (printed : Grew ending.out out out') where
-  swept_proves : (r : PackageList) → PackagesStage desk.files limits packages (Goes r) → IsSwept desk.files limits cert essential limit r ending
-      → ProvesStrong limits packages cert essential limit result desk desk' out out'
+  swept_proves : (r : PackageList) → PackagesStage desk.files limits packages (Goes r) → IsSwept desk.files limits kind cert essential limit r ending
+      → ProvesSweep limits kind packages cert essential limit result desk desk' out out'
   swept_proves r (text, goes, has) swept = record {
     repository = r;
     read = (text, goes, has);
@@ -50,18 +51,20 @@ module _ (hold : ClaimsHold) (limits : Limits) (packages cert : List ℕ) (essen
     text = swept.text;
     certificate = swept.certificate;
     files = files ∙ ap (λ (e : Ending). e.files) swept.is;
-    means = sweep_means hold r essential limit limits swept.text swept.made has.in_order swept.certificate;
+    means = sweep_means hold r kind essential limit limits swept.text swept.made has.in_order swept.certificate;
+    report = swept.report;
+    is_report = swept.is_report;
     printed = subst (λ (e : Ending). Grew e.out out out') swept.is printed;
     status = status_is ∙ ap (λ (e : Ending). e.status) swept.is;
   }
 
-  pub strong_proves : StrongStages desk.files limits packages essential (Sweeps desk.files limits cert essential limit) ending
-      → ProvesStrong limits packages cert essential limit result desk desk' out out'
-  strong_proves (inl ends) = absurd (refusal_not_carried_out desk.files ending (packages_refuses desk.files limits packages ending ends) carried)
-  strong_proves (inr (r, goes, inl ends)) = absurd (refusal_not_carried_out desk.files ending (clauses_refuse desk.files limits essential r ending ends)
-      carried)
-  strong_proves (inr (r, goes, inr (_, kept, inl swept))) = swept_proves r goes swept
-  strong_proves (inr (r, goes, inr (_, kept, inr stopped))) = absurd (subst (λ (e : Ending). IsCarriedOut e.status) stopped.is carried)
+  pub sweep_proves : SweepStages desk.files limits kind packages essential (Sweeps desk.files limits kind cert essential limit) ending
+      → ProvesSweep limits kind packages cert essential limit result desk desk' out out'
+  sweep_proves (inl ends) = absurd (refusal_not_carried_out desk.files ending (packages_refuses desk.files limits packages ending ends) carried)
+  sweep_proves (inr (r, goes, inl ends)) =
+      absurd (refusal_not_carried_out desk.files ending (inputs_refuse desk.files limits kind essential r ending ends) carried)
+  sweep_proves (inr (r, goes, inr (_, kept, inl swept))) = swept_proves r goes swept
+  sweep_proves (inr (r, goes, inr (_, kept, inr stopped))) = absurd (subst (λ (e : Ending). IsCarriedOut e.status) stopped.is carried)
 
 -- ---- `check`
 
@@ -92,12 +95,12 @@ module _ (limits : Limits) (packages cert : List ℕ) (result : Status) (desk de
 
 -- ---- runs
 
-pub strong_proved : ClaimsHold → (words : List (List ℕ)) (limits : Limits) (result : Status) (desk desk' : DeskView) (out out' : SinkView)
-    → IsAnswered words limits desk desk' out out' result → StrongIsProved words limits result desk desk' out out'
-strong_proved hold words limits result desk desk' out out' a packages cert essential limit is carried =
-    strong_proves hold limits packages cert essential limit result desk desk' out out' a.ending a.status_is (subst IsCarriedOut a.status_is carried) a.files
-    a.printed
-    (of_line words desk.files limits (Strong packages cert essential limit) a.ending is a.decides)
+pub sweep_proved : ClaimsHold → (words : List (List ℕ)) (limits : Limits) (result : Status) (desk desk' : DeskView) (out out' : SinkView)
+    → IsAnswered words limits desk desk' out out' result → SweepIsProved words limits result desk desk' out out'
+sweep_proved hold words limits result desk desk' out out' a kind packages cert essential limit is carried =
+    sweep_proves hold limits kind packages cert essential limit result desk desk' out out' a.ending a.status_is (subst IsCarriedOut a.status_is carried)
+    a.files a.printed
+    (of_line words desk.files limits (Sweep kind packages cert essential limit) a.ending is a.decides)
 
 pub check_proved : (words : List (List ℕ)) (limits : Limits) (result : Status) (desk desk' : DeskView) (out out' : SinkView)
     → IsAnswered words limits desk desk' out out' result → CheckIsProved words limits result desk desk' out out'
@@ -106,9 +109,9 @@ check_proved words limits result desk desk' out out' a packages cert is carried 
     (of_line words desk.files limits (Check packages cert) a.ending is a.decides)
 
 -- a refusal proves nothing of either
-pub strong_refused : (words : List (List ℕ)) (limits : Limits) (r : Refusal) (desk desk' : DeskView) (out out' : SinkView)
-    → StrongIsProved words limits (status_of r) desk desk' out out'
-strong_refused words limits r desk desk' out out' packages cert essential limit is carried = absurd (not_carried_out r carried)
+pub sweep_refused : (words : List (List ℕ)) (limits : Limits) (r : Refusal) (desk desk' : DeskView) (out out' : SinkView)
+    → SweepIsProved words limits (status_of r) desk desk' out out'
+sweep_refused words limits r desk desk' out out' kind packages cert essential limit is carried = absurd (not_carried_out r carried)
 
 pub check_refused : (words : List (List ℕ)) (limits : Limits) (r : Refusal) (desk desk' : DeskView) (out out' : SinkView)
     → CheckIsProved words limits (status_of r) desk desk' out out'

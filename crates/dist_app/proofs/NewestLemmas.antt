@@ -10,6 +10,7 @@ use Rattle.dist_package.specs.RepositoryOf.{IsRepositoryOf}
 use Rattle.dist_package.specs.Spelled.{IsSpelled, IsSpelledAtom}
 use Rattle.dist_classes.specs.Atoms.{AreBoundsVersions}
 use Rattle.dist_report.specs.ClassesReport.{IsClassesText}
+use Rattle.dist_subject.specs.Basis.{HaveVersions}
 
 newest-spelled : (r newest : PackageList) → IsLatestOf r newest → All IsSpelled r.packages → All IsSpelled newest.packages
 newest-spelled r newest is spelled k d short =
@@ -37,9 +38,18 @@ spelled-bounds r spelled version on =
           (λ p own there. done (All-contains IsSpelledAtom p.conflicts atom own.conflicts there))
     ]
 
-pub some-report : ((text : List ℕ) (limit : ℕ) (r : PackageList) → IsRepositoryOf text limit r → All IsSpelled r.packages)
+-- the law of the reader of packages
+abbrev pub AreSpelled : Type 0
+AreSpelled = (text : List ℕ) (limit : ℕ) (r : PackageList) → IsRepositoryOf text limit r → All IsSpelled r.packages
+
+pub newest-have-versions : AreSpelled → (text : List ℕ) (limit : ℕ) (r : PackageList) → IsRepositoryOf text limit r → HaveVersions r
+newest-have-versions spelled text limit r read newest latest =
+    let own = newest-spelled r newest latest (spelled text limit r read) in
+    ((λ k d short. (own k d short).version), spelled-bounds newest own)
+
+pub some-report : AreSpelled
     → ((r : PackageList) → AreBoundsVersions r → All (λ p. IsVersion p.version) r.packages → (report : List ℕ) × IsClassesText r report)
     → (text : List ℕ) (limit : ℕ) (r newest : PackageList) → IsRepositoryOf text limit r → IsLatestOf r newest → (report : List ℕ) × IsClassesText newest report
 some-report spelled report text limit r newest read latest =
-    let own = newest-spelled r newest latest (spelled text limit r read) in
-    report newest (spelled-bounds newest own) (λ k d short. (own k d short).version)
+    let have = newest-have-versions spelled text limit r read newest latest in
+    report newest have.1 have.0

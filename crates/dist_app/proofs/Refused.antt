@@ -12,12 +12,15 @@ use Rattle.dist_now.specs.declared.kinds.Health.{Health as Judgement}
 use Rattle.dist_now.specs.declared.kinds.Health.TheVariants as health
 use Rattle.dist_repo.specs.PackageList.{PackageList}
 use Rattle.dist_repo.specs.declared.package.Package.{Package}
+use Rattle.dist_cert.specs.declared.records.CertKind.{CertKind}
+use Rattle.dist_cert.specs.declared.records.CertKind.TheVariants as kinds
 use Rattle.dist_cert.specs.declared.records.Claim.{Claim}
 use Rattle.dist_check.specs.declared.verdict.Verdict.{Verdict}
 use Rattle.dist_check.specs.declared.verdict.Verdict.TheVariants as verdict
-use Rattle.dist_words.specs.CommandLine.{CommandLine, Health, Classes, Strong, Check, Try}
+use Rattle.dist_trial.specs.Summary.{has_marks}
+use Rattle.dist_words.specs.CommandLine.{CommandLine, Health, Classes, Sweep, Check, Try}
 use Rattle.dist_app.specs.Check.{CertificateStage, IsEndOfCertificate}
-use Rattle.dist_app.specs.Claims.{claims_status, has_mark}
+use Rattle.dist_app.specs.Claims.{has_mark, marked_status}
 use Rattle.dist_app.specs.Command.{CommandDecides, CommandRefuses, CommandIsGivenUp}
 use Rattle.dist_app.specs.Headline.{IsCarriedOut}
 use Rattle.dist_app.specs.Health.{ListStage, Tells}
@@ -26,7 +29,7 @@ use Rattle.dist_app.specs.Refusal.{status_of, refusal_text}
 use Rattle.dist_app.specs.RepositoryStage.{IsEndOf}
 use Rattle.dist_app.specs.Run.{Decides, Refuses}
 use Rattle.dist_app.specs.Stages.{Ending, Ends, answered, refused}
-use Rattle.dist_app.specs.Strong.{ClausesStage}
+use Rattle.dist_app.specs.Sweeps.{InputsStage}
 use Rattle.dist_app.specs.TextStage.{TextStage}
 use Rattle.dist_app.specs.Try.{ArchiveStage}
 use Rattle.dist_app.specs.declared.refusal.Refusal.{Refusal}
@@ -92,10 +95,9 @@ list_refuses : (files : Option Files) (packages : List Package) (text : List ℕ
     → IsRefusal files ending
 list_refuses files packages text ending (line, bad, is) = record { why = refusal.BadList line; of_files = tt; is = is }
 
-pub clauses_refuse : (files : Option Files) (limits : Limits) (essential : Bool) (r : PackageList) (ending : Ending)
-    → ClausesStage files limits essential r (Ends ending) → IsRefusal files ending
-clauses_refuse files limits essential r ending (inl (passes, is)) = record { why = refusal.TooLarge what.Clauses; of_files = tt; is = is }
-clauses_refuse files limits essential r ending (inr (not, passes, is)) = record { why = refusal.TooLarge what.Literals; of_files = tt; is = is }
+pub inputs_refuse : (files : Option Files) (limits : Limits) (kind : CertKind) (essential : Bool) (r : PackageList) (ending : Ending)
+    → InputsStage files limits kind essential r (Ends ending) → IsRefusal files ending
+inputs_refuse files limits kind essential r ending (number, passes, is) = record { why = refusal.TooLarge number; of_files = tt; is = is }
 
 certificate_end_refuses : (files : Option Files) (result : Result Verdict WorkError) (ending : Ending) → IsEndOfCertificate files result ending
     → IsRefusal files ending
@@ -125,15 +127,15 @@ command_refuses (Health packages list) files limits ending (inr (r, goes, inr (n
 command_refuses (Health packages list) files limits ending (inr (r, goes, inr (names, whole, inr (members, has, none)))) = absurd none
 command_refuses (Classes packages) files limits ending (inl p) = packages_refuses files limits packages ending p
 command_refuses (Classes packages) files limits ending (inr (r, goes, none)) = absurd none
-command_refuses (Strong packages cert essential limit) files limits ending (inl p) = packages_refuses files limits packages ending p
-command_refuses (Strong packages cert essential limit) files limits ending (inr (r, goes, inl c)) = clauses_refuse files limits essential r ending c
-command_refuses (Strong packages cert essential limit) files limits ending (inr (r, goes, inr (_, kept, none))) = absurd none
+command_refuses (Sweep kind packages cert essential limit) files limits ending (inl p) = packages_refuses files limits packages ending p
+command_refuses (Sweep kind packages cert essential limit) files limits ending (inr (r, goes, inl c)) =
+    inputs_refuse files limits kind essential r ending c
+command_refuses (Sweep kind packages cert essential limit) files limits ending (inr (r, goes, inr (_, kept, none))) = absurd none
 command_refuses (Check packages cert) files limits ending (inl p) = packages_refuses files limits packages ending p
 command_refuses (Check packages cert) files limits ending (inr (r, goes, inl c)) = certificate_refuses files limits cert r ending c
 command_refuses (Check packages cert) files limits ending (inr (r, goes, inr (accepted, judged, none))) = absurd none
 command_refuses (Try size seed) files limits ending (inl a) = archive_refuses files limits size seed ending a
-command_refuses (Try size seed) files limits ending (inr (r, goes, inl c)) = clauses_refuse files limits false r ending c
-command_refuses (Try size seed) files limits ending (inr (r, goes, inr (_, kept, none))) = absurd none
+command_refuses (Try size seed) files limits ending (inr (r, goes, c)) = inputs_refuse files limits kinds.Strong false r ending c
 
 pub refuses_told : (words : List (List ℕ)) (files : Option Files) (limits : Limits) (ending : Ending) → Refuses words files limits ending → ¬ (ending.err ≡ [])
 refuses_told words files limits ending (inl (bad, is)) empty = told_not_empty refusal.BadWords (sym (ap (λ (e : Ending). e.err) is) ∙ empty)
@@ -148,19 +150,13 @@ told_status packages (health.Unmet p place) status line tells = subst IsOfFiles 
 told_status packages (health.Conflict p q) status line tells = subst IsOfFiles (sym tells.0) tt
 told_status packages (health.EssentialMissing p) status line tells = absurd tells.1
 
-pub claims_of_files : (made : List Claim) → IsOfFiles (claims_status made)
-claims_of_files made = go (list_any has_mark made) refl
-  where
-    go : (b : Bool) → list_any has_mark made ≡ b → IsOfFiles (claims_status made)
-    go true e = rw e tt
-    go false e = rw e tt
+mark_of_files : (marked : Bool) → IsOfFiles (marked_status marked)
+mark_of_files true = tt
+mark_of_files false = tt
 
-pub claims_carried_out : (made : List Claim) → IsCarriedOut (claims_status made)
-claims_carried_out made = go (list_any has_mark made) refl
-  where
-    go : (b : Bool) → list_any has_mark made ≡ b → IsCarriedOut (claims_status made)
-    go true e = rw e tt
-    go false e = rw e tt
+pub mark_carried_out : (marked : Bool) → IsCarriedOut (marked_status marked)
+mark_carried_out true = tt
+mark_carried_out false = tt
 
 with_status : (ending other : Ending) → ending ≡ other → IsOfFiles other.status → IsOfFiles ending.status
 with_status ending other is of = subst (λ (e : Ending). IsOfFiles e.status) (sym is) of
@@ -175,30 +171,31 @@ command_status (Health packages list) files limits ending (inr (r, goes, inr (na
     with_status ending (answered files judges.status judges.line) judges.is (told_status r.packages judges.health judges.status judges.line judges.tells)
 command_status (Classes packages) files limits ending (inl p) = refusal_status files ending (packages_refuses files limits packages ending p)
 command_status (Classes packages) files limits ending (inr (r, goes, tells)) = with_status ending (answered files Done tells.text) tells.is tt
-command_status (Strong packages cert essential limit) files limits ending (inl p) =
+command_status (Sweep kind packages cert essential limit) files limits ending (inl p) =
     refusal_status files ending (packages_refuses files limits packages ending p)
-command_status (Strong packages cert essential limit) files limits ending (inr (r, goes, inl c)) =
-    refusal_status files ending (clauses_refuse files limits essential r ending c)
-command_status (Strong packages cert essential limit) files limits ending (inr (r, goes, inr (_, kept, inl swept))) =
-    subst (λ (e : Ending). IsOfFiles e.status) (sym swept.is) (claims_of_files swept.made)
-command_status (Strong packages cert essential limit) files limits ending (inr (r, goes, inr (_, kept, inr stopped))) =
+command_status (Sweep kind packages cert essential limit) files limits ending (inr (r, goes, inl c)) =
+    refusal_status files ending (inputs_refuse files limits kind essential r ending c)
+command_status (Sweep kind packages cert essential limit) files limits ending (inr (r, goes, inr (_, kept, inl swept))) =
+    subst (λ (e : Ending). IsOfFiles e.status) (sym swept.is) (mark_of_files (list_any has_mark swept.made))
+command_status (Sweep kind packages cert essential limit) files limits ending (inr (r, goes, inr (_, kept, inr stopped))) =
     subst (λ (e : Ending). IsOfFiles e.status) (sym stopped.is) tt
 command_status (Check packages cert) files limits ending (inl p) = refusal_status files ending (packages_refuses files limits packages ending p)
 command_status (Check packages cert) files limits ending (inr (r, goes, inl c)) = refusal_status files ending (certificate_refuses files limits cert r ending c)
 command_status (Check packages cert) files limits ending (inr (r, goes, inr (accepted, judged, reports))) =
-    subst (λ (e : Ending). IsOfFiles e.status) (sym reports.is) (claims_of_files accepted.1)
+    subst (λ (e : Ending). IsOfFiles e.status) (sym reports.is) (mark_of_files (list_any has_mark accepted.1))
 command_status (Try size seed) files limits ending (inl a) = refusal_status files ending (archive_refuses files limits size seed ending a)
-command_status (Try size seed) files limits ending (inr (r, goes, inl c)) = refusal_status files ending (clauses_refuse files limits false r ending c)
-command_status (Try size seed) files limits ending (inr (r, goes, inr (_, kept, inl tried))) =
-    subst (λ (e : Ending). IsOfFiles e.status) (sym tried.is) (claims_of_files tried.made)
-command_status (Try size seed) files limits ending (inr (r, goes, inr (_, kept, inr stopped))) = subst (λ (e : Ending). IsOfFiles e.status) (sym stopped.is) tt
+command_status (Try size seed) files limits ending (inr (r, goes, tries)) =
+    elim tries.comes [
+      | inl told ↦ subst (λ (e : Ending). IsOfFiles e.status) (sym told.is) (mark_of_files (has_marks told.strong told.outdated told.challenged))
+      | inr stopped ↦ subst (λ (e : Ending). IsOfFiles e.status) (sym stopped.is) tt
+    ]
 
 -- a command that was given up while it wrote ends with the status of why
 pub given_up_status : (line : CommandLine) (files : Option Files) (limits : Limits) (why : Refusal) (ending : Ending)
     → CommandIsGivenUp line files limits why ending → ending.status ≡ status_of why
 given_up_status (Health packages list) files limits why ending given_up = absurd given_up
 given_up_status (Classes packages) files limits why ending given_up = absurd given_up
-given_up_status (Strong packages cert essential limit) files limits why ending given_up = ap (λ (e : Ending). e.status) given_up.is
+given_up_status (Sweep kind packages cert essential limit) files limits why ending given_up = ap (λ (e : Ending). e.status) given_up.is
 given_up_status (Check packages cert) files limits why ending given_up = absurd given_up
 given_up_status (Try size seed) files limits why ending given_up = absurd given_up
 

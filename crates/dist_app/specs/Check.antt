@@ -4,18 +4,14 @@ use Rattle.dist_outside.specs.Files.{Files, IsPresent, file_bytes}
 use Rattle.dist_outside.specs.declared.limits.Limits.{Limits}
 use Rattle.dist_outside.specs.declared.trouble.WorkError.{WorkError}
 use Rattle.dist_outside.specs.declared.trouble.WorkError.TheVariants as work
-use Rattle.dist_repo.specs.Order.{IsLatestOf}
 use Rattle.dist_repo.specs.PackageList.{PackageList}
-use Rattle.dist_cert.specs.declared.records.CertKind.{CertKind}
-use Rattle.dist_cert.specs.declared.records.CertKind.TheVariants.{Strong}
 use Rattle.dist_cert.specs.declared.records.Claim.{Claim}
 use Rattle.dist_cert.specs.declared.records.Header.{Header}
 use Rattle.dist_check.specs.Answers.{Answers, AcceptedMeans}
 use Rattle.dist_check.specs.Checking.{OfText}
 use Rattle.dist_check.specs.declared.verdict.Verdict.{Verdict}
 use Rattle.dist_check.specs.declared.verdict.Verdict.TheVariants.{Accepted, Refused}
-use Rattle.dist_report.specs.ReportText.{IsReportText}
-use Rattle.dist_app.specs.Claims.{claims_status}
+use Rattle.dist_app.specs.Claims.{IsReportOf, claims_status}
 use Rattle.dist_app.specs.PackagesStage.{PackagesStage}
 use Rattle.dist_app.specs.Stages.{Ending, Step, Goes, Ends, Then, answered, refused}
 use Rattle.dist_app.specs.declared.refusal.Refusal.TheVariants.{CertificateRefused, TooLarge}
@@ -42,23 +38,12 @@ CertificateStage files limits cert r (Goes accepted) =
 CertificateStage files limits cert r (Ends ending) = (result : Result Verdict WorkError)
     × IsJudged files limits cert r result × IsEndOfCertificate files result ending
 
--- the packages that certificates of a kind speak of: all, or the newest of each name
-abbrev pub AreSpokenOf : CertKind → PackageList → (spoken : PackageList) → Type 0
-AreSpokenOf Strong r spoken = spoken ≡ r
-AreSpokenOf kind r spoken = IsLatestOf r spoken
-
--- the report of claims, by the names of the packages that their certificate speaks of
-pub record IsReportOf (r : PackageList) (h : Header) (made : List Claim) (text : List ℕ) : Type 0 where
-  pub spoken : PackageList
-  pub are_spoken : AreSpokenOf h.kind r spoken
-  pub is_text : IsReportText spoken h made text
-
 -- what is accepted is true, and is reported
 pub record Reports (files : Option Files) (r : PackageList) (accepted : Header × List Claim) (ending : Ending) : Type 0
   where
     pub means : AcceptedMeans r accepted.0 accepted.1
     pub text : List ℕ
-    pub is_report : IsReportOf r accepted.0 accepted.1 text
+    pub is_report : IsReportOf r accepted.0.kind accepted.0.limit accepted.1 text
     pub is : ending ≡ answered files (claims_status accepted.1) text
 
 -- PACKAGES is read and taken apart first, then CERT is judged. The first stage that is refused decides.

@@ -1,13 +1,14 @@
 -- What each command comes to, from the files and the limits.
-use Rattle.std.specs.Prelude.{Option}
+use Rattle.std.specs.Prelude.{false, Option}
 use Rattle.dist_outside.specs.Files.{Files}
 use Rattle.dist_outside.specs.declared.limits.Limits.{Limits}
-use Rattle.dist_words.specs.CommandLine.{CommandLine, Health, Classes, Strong, Check, Try}
+use Rattle.dist_cert.specs.declared.records.CertKind.TheVariants.{Strong}
+use Rattle.dist_words.specs.CommandLine.{CommandLine, Health, Classes, Sweep, Check, Try}
 use Rattle.dist_app.specs.Check.{CheckStages, Reports}
 use Rattle.dist_app.specs.Classes.{ClassesStages, TellsClasses}
 use Rattle.dist_app.specs.Health.{HealthStages, Judges}
-use Rattle.dist_app.specs.Stages.{Ending}
-use Rattle.dist_app.specs.Strong.{StrongStages, Sweeps, IsSweepGivenUp}
+use Rattle.dist_app.specs.Stages.{Ending, Ends}
+use Rattle.dist_app.specs.Sweeps.{InputsStage, SweepStages, Sweeps, IsSweepGivenUp}
 use Rattle.dist_app.specs.Try.{TryStages, Tries}
 use Rattle.dist_app.specs.declared.refusal.Refusal.{Refusal}
 
@@ -15,26 +16,28 @@ use Rattle.dist_app.specs.declared.refusal.Refusal.{Refusal}
 abbrev pub CommandDecides : CommandLine → Option Files → Limits → Ending → Type 0
 CommandDecides (Health packages list) files limits = HealthStages files limits packages list (Judges files)
 CommandDecides (Classes packages) files limits = ClassesStages files limits packages (TellsClasses files)
-CommandDecides (Strong packages cert essential limit) files limits =
-    StrongStages files limits packages essential (Sweeps files limits cert essential limit)
+CommandDecides (Sweep kind packages cert essential limit) files limits =
+    SweepStages files limits kind packages essential (Sweeps files limits kind cert essential limit)
 CommandDecides (Check packages cert) files limits = CheckStages files limits packages cert (Reports files)
 CommandDecides (Try size seed) files limits = TryStages files limits size seed (Tries files limits size)
 
--- The refusals that come whatever happens later: the end of a stage before the last one.
+-- The refusals that come whatever happens later: the end of a stage before the last one; of a trial also that of its
+-- first sweep, before it writes.
 abbrev pub CommandRefuses : CommandLine → Option Files → Limits → Ending → Type 0
 CommandRefuses (Health packages list) files limits =
     HealthStages files limits packages list (λ repository members ending. ⊥)
 CommandRefuses (Classes packages) files limits = ClassesStages files limits packages (λ repository ending. ⊥)
-CommandRefuses (Strong packages cert essential limit) files limits =
-    StrongStages files limits packages essential (λ repository ending. ⊥)
+CommandRefuses (Sweep kind packages cert essential limit) files limits =
+    SweepStages files limits kind packages essential (λ repository ending. ⊥)
 CommandRefuses (Check packages cert) files limits =
     CheckStages files limits packages cert (λ repository accepted ending. ⊥)
-CommandRefuses (Try size seed) files limits = TryStages files limits size seed (λ repository ending. ⊥)
+CommandRefuses (Try size seed) files limits = TryStages files limits size seed
+    (λ repository ending. InputsStage files limits Strong false repository (Ends ending))
 
 -- the ends of a command that was given up while it wrote a file
 abbrev pub CommandIsGivenUp : CommandLine → Option Files → Limits → Refusal → Ending → Type 0
-CommandIsGivenUp (Strong packages cert essential limit) files limits =
-    IsSweepGivenUp files limits packages cert essential limit
+CommandIsGivenUp (Sweep kind packages cert essential limit) files limits =
+    IsSweepGivenUp files limits kind packages cert essential limit
 CommandIsGivenUp line files limits = λ refusal ending. ⊥
 
 -- the command does nothing with the desk
@@ -44,5 +47,5 @@ IsApart line = ⊥
 
 -- the command leaves all files as they are
 abbrev pub OnlyReadsFiles : CommandLine → Type 0
-OnlyReadsFiles (Strong packages cert essential limit) = ⊥
+OnlyReadsFiles (Sweep kind packages cert essential limit) = ⊥
 OnlyReadsFiles line = Unit {0}

@@ -1,5 +1,5 @@
 -- What a run of each command comes to where nothing is in its way. Want of memory may come in place of any answer.
-use Rattle.std.specs.Prelude.{◌≡◌, ◌⊎◌, ℕ, Bool, false, List, Option, Some, Result, Ok, Err, length}
+use Rattle.std.specs.Prelude.{◌≡◌, ◌⊎◌, ℕ, Bool, false, List, Option, Some, Result, Ok, Err}
 use Rattle.dist_base.specs.declared.TheConstants.{DEFAULT_LIMIT}
 use Rattle.dist_outside.specs.Counts.{Rose}
 use Rattle.dist_outside.specs.DeskView.{DeskView}
@@ -11,13 +11,15 @@ use Rattle.dist_outside.specs.declared.trouble.WorkError.{WorkError}
 use Rattle.dist_repo.specs.PackageList.{PackageList}
 use Rattle.dist_now.specs.Health.{IsHealth}
 use Rattle.dist_now.specs.declared.kinds.Health.TheVariants.{Healthy}
-use Rattle.dist_strong.specs.Budget.{IsBelowBudget}
-use Rattle.dist_cert.specs.declared.records.CertKind.TheVariants as kinds
-use Rattle.dist_sweep.specs.Sweep.{IsFull}
+use Rattle.dist_budget.specs.Budget.{IsBelowBudget}
+use Rattle.dist_cert.specs.Part.{IsStoppedBy}
+use Rattle.dist_cert.specs.declared.records.CertKind.{CertKind}
+use Rattle.dist_subject.specs.Basis.{matter_of}
+use Rattle.dist_sweep.specs.Sweep.{OfSweep}
 use Rattle.dist_check.specs.Answers.{IsOfText}
 use Rattle.dist_check.specs.declared.verdict.Verdict.{Verdict}
 use Rattle.dist_check.specs.declared.verdict.Verdict.TheVariants.{Accepted, Refused}
-use Rattle.dist_words.specs.CommandLine.{Health, Classes, Strong, Check, Try}
+use Rattle.dist_words.specs.CommandLine.{Health, Classes, Sweep, Check, Try}
 use Rattle.dist_words.specs.Table.{command_of}
 use Rattle.dist_app.specs.Check.{IsJudged}
 use Rattle.dist_app.specs.Claims.{claims_status}
@@ -26,7 +28,7 @@ use Rattle.dist_app.specs.Health.{ListStage}
 use Rattle.dist_app.specs.PackagesStage.{PackagesStage}
 use Rattle.dist_app.specs.Run.{TellsFiles}
 use Rattle.dist_app.specs.Stages.{Goes}
-use Rattle.dist_app.specs.Strong.{ClausesStage}
+use Rattle.dist_app.specs.Sweeps.{InputsStage}
 use Rattle.dist_app.specs.TextStage.{TextStage}
 use Rattle.dist_app.specs.Try.{ArchiveStage}
 use Rattle.dist_app.specs.declared.status.Status.{Status}
@@ -62,33 +64,34 @@ ClassesAreComplete words limits result files = (packages : List ℕ) (r : Packag
     → command_of words ≡ Some (Classes packages)
     → PackagesStage files limits packages (Goes r) → (result ≡ NoMemory) ⊎ (result ≡ Done)
 
--- ---- `strong` and `try`
+-- ---- sweeps and `try`
 
 -- A sweep stopped at a number that is below its budget, with a full part of a certificate.
-pub record StopsBelowBudget (r : PackageList) (essential : Bool) (limit : ℕ) (limits : Limits) (status : Status)
-    (text : List ℕ) : Type 0 where
+pub record StopsBelowBudget (r : PackageList) (kind : CertKind) (essential : Bool) (limit : ℕ) (limits : Limits)
+    (status : Status) (text : List ℕ) : Type 0 where
   pub what : What
   pub stopped : status ≡ TooLarge
-  pub below : IsBelowBudget limits (length r.packages) limit what
-  pub full : IsFull r kinds.Strong essential limit limits what text
+  pub below : OfSweep r kind essential limit (λ basis h. IsStoppedBy (matter_of r basis) limits h text what
+      × IsBelowBudget limits kind (matter_of r basis) limit what)
 
--- The input clauses of PACKAGES keep their numbers. The part that stopped stands in CERT.
-abbrev pub StrongIsComplete : List (List ℕ) → Limits → Status → (files left : Option Files) → Type 0
-StrongIsComplete words limits result files left =
-    (packages cert : List ℕ) (essential : Bool) (limit : ℕ) (r : PackageList)
-    → command_of words ≡ Some (Strong packages cert essential limit) → PackagesStage files limits packages (Goes r)
-    → ClausesStage files limits essential r (Goes tt)
+-- What the sweep of PACKAGES is judged by keeps its numbers. The part that stopped stands in CERT.
+abbrev pub SweepIsComplete : List (List ℕ) → Limits → Status → (files left : Option Files) → Type 0
+SweepIsComplete words limits result files left =
+    (kind : CertKind) (packages cert : List ℕ) (essential : Bool) (limit : ℕ) (r : PackageList)
+    → command_of words ≡ Some (Sweep kind packages cert essential limit) → PackagesStage files limits packages (Goes r)
+    → InputsStage files limits kind essential r (Goes tt)
     → (result ≡ NoMemory) ⊎ (IsCarriedOut result
-    ⊎ ((text : List ℕ) × StopsBelowBudget r essential limit limits result text
+    ⊎ ((text : List ℕ) × StopsBelowBudget r kind essential limit limits result text
     × (left ≡ with_file files cert text)))
 
--- The archive of the size and the seed, and its input clauses, keep their numbers. The desk has no part in it.
+-- The archive of the size and the seed, and what the sweep of each kind is judged by, keep their numbers. The desk has
+-- no part in it.
 abbrev pub TrialIsComplete : List (List ℕ) → Limits → Status → Option Files → SinkView → SinkView → Type 0
 TrialIsComplete words limits result files out out' = ¬ Rose out.faults out'.faults → (size seed : ℕ) (r : PackageList)
     → command_of words ≡ Some (Try size seed) → ArchiveStage files limits size seed (Goes r)
-    → ClausesStage files limits false r (Goes tt)
+    → ((kind : CertKind) → InputsStage files limits kind false r (Goes tt))
     → (result ≡ NoMemory) ⊎ (IsCarriedOut result
-    ⊎ ((text : List ℕ) × StopsBelowBudget r false DEFAULT_LIMIT limits result text))
+    ⊎ ((kind : CertKind) × (text : List ℕ) × StopsBelowBudget r kind false DEFAULT_LIMIT limits result text))
 
 -- ---- `check`
 
@@ -114,7 +117,7 @@ pub record Completes (words : List (List ℕ)) (limits : Limits) (result : Statu
   where
     pub health : HealthIsComplete words limits result files
     pub classes : ClassesAreComplete words limits result files
-    pub strong : StrongIsComplete words limits result files left
+    pub sweep : SweepIsComplete words limits result files left
     pub check : CheckIsComplete words limits result files
 
 -- where nothing outside fails, a run comes to what the files and the limits decide

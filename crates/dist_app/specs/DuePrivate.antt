@@ -5,15 +5,14 @@ use Rattle.dist_outside.specs.Files.{Files, IsNotWriting, with_file}
 use Rattle.dist_outside.specs.DeskView.{DeskView}
 use Rattle.dist_outside.specs.declared.limits.Limits.{Limits}
 use Rattle.dist_repo.specs.PackageList.{PackageList}
-use Rattle.dist_cert.specs.declared.records.CertKind.TheVariants as kinds
+use Rattle.dist_cert.specs.declared.records.CertKind.{CertKind}
 use Rattle.dist_sweep.specs.Sweep.{IsCutSweep}
 use Rattle.dist_words.specs.CommandLine.{CommandLine}
 use Rattle.dist_app.specs.Command.{CommandDecides, CommandIsGivenUp, IsApart}
-use Rattle.dist_app.specs.Stages.{Ending, Ends, Goes, answered, refused}
-use Rattle.dist_app.specs.Strong.{ClausesStage, IsSweepStopped, IsSwept}
+use Rattle.dist_app.specs.Stages.{Ending, Ends, Goes, refused}
+use Rattle.dist_app.specs.Sweeps.{InputsStage, IsSweepStopped}
 use Rattle.dist_app.specs.declared.refusal.Refusal.{Refusal}
 use Rattle.dist_app.specs.declared.refusal.Refusal.TheVariants.{ReadFault, WriteFault, NoMemory}
-use Rattle.dist_app.specs.declared.status.Status.{Status}
 
 -- ---- commands that only read
 
@@ -29,33 +28,31 @@ IsDue Decided old new refusal = ((refusal ≡ ReadFault) × Rose old.read_faults
 -- ---- the sweep
 
 -- the file is as before, or holds what a sweep may have written so far
-abbrev pub LeavesCut : PackageList → Bool → ℕ → Limits → (name : List ℕ) → (files left : Option Files) → Type 0
-LeavesCut r essential limit limits name files left =
-    (left ≡ files) ⊎ ((text : List ℕ) × IsCutSweep r kinds.Strong essential limit limits text
+abbrev pub LeavesCut : PackageList → CertKind → Bool → ℕ → Limits → (name : List ℕ) → (files left : Option Files)
+    → Type 0
+LeavesCut r kind essential limit limits name files left =
+    (left ≡ files) ⊎ ((text : List ℕ) × IsCutSweep r kind essential limit limits text
     × (left ≡ with_file files name text))
 
--- A sweep was given up: its clauses pass a number, a later line does, a fault of writing was counted, or memory was
--- wanted, perhaps for the report alone.
-abbrev pub SweepStops : PackageList → Bool → ℕ → Limits → (name : List ℕ) → DeskView → DeskView → Refusal → Type 0
-SweepStops r essential limit limits name old new refusal =
-    (ClausesStage old.files limits essential r (Ends (refused new.files refusal)))
-    ⊎ (ClausesStage old.files limits essential r (Goes tt)
-    × IsSweepStopped old.files limits name essential limit r (refused new.files refusal))
+-- A sweep was given up: what it is judged by passes a number, a later line does, a fault of writing was counted, or
+-- memory was wanted, perhaps for the report alone.
+abbrev pub SweepStops : PackageList → CertKind → Bool → ℕ → Limits → (name : List ℕ) → DeskView → DeskView → Refusal
+    → Type 0
+SweepStops r kind essential limit limits name old new refusal =
+    (InputsStage old.files limits kind essential r (Ends (refused new.files refusal)))
+    ⊎ (InputsStage old.files limits kind essential r (Goes tt)
+    × IsSweepStopped old.files limits kind name essential limit r (refused new.files refusal))
     ⊎ ((refusal ≡ WriteFault) × Rose old.write_faults new.write_faults
-    × ClausesStage old.files limits essential r (Goes tt)
-    × LeavesCut r essential limit limits name old.files new.files)
-    ⊎ ((refusal ≡ NoMemory) × (LeavesCut r essential limit limits name old.files new.files
-    ⊎ ((status : Status) × (text : List ℕ) × ClausesStage old.files limits essential r (Goes tt)
-    × IsSwept old.files limits name essential limit r (answered new.files status text))))
+    × InputsStage old.files limits kind essential r (Goes tt)
+    × LeavesCut r kind essential limit limits name old.files new.files)
+    ⊎ ((refusal ≡ NoMemory) × LeavesCut r kind essential limit limits name old.files new.files)
 
 -- ---- all commands
 
--- Memory was wanted: with all files as before, in the midst of a file, or for the text of an answer that was decided.
+-- Memory was wanted: with all files as before, or once a file was begun.
 abbrev pub IsUnfinished : CommandLine → Limits → DeskView → DeskView → Type 0
 IsUnfinished line limits old new =
-    (new.files ≡ old.files)
-    ⊎ CommandIsGivenUp line old.files limits NoMemory (refused new.files NoMemory)
-    ⊎ ((status : Status) × (text : List ℕ) × CommandDecides line old.files limits (answered new.files status text))
+    (new.files ≡ old.files) ⊎ CommandIsGivenUp line old.files limits NoMemory (refused new.files NoMemory)
 
 abbrev pub Stops : CommandLine → Limits → DeskView → DeskView → Refusal → Type 0
 Stops line limits old new refusal =

@@ -1,4 +1,4 @@
--- What a run of `strong` and one of `check` prove.
+-- What a run that sweeps and one of `check` prove.
 use Rattle.std.specs.Prelude.{◌≡◌, ◌↔◌, ◌≤◌, ◌^◌, ℕ, Bool, List, [], Some, Contains, length}
 use Rattle.dist_outside.specs.DeskView.{DeskView}
 use Rattle.dist_outside.specs.Files.{IsPresent, file_bytes, with_file}
@@ -13,18 +13,16 @@ use Rattle.dist_cert.specs.Tried.{AreMarksTried}
 use Rattle.dist_cert.specs.declared.records.CertRecord.{CertRecord}
 use Rattle.dist_cert.specs.declared.records.Claim.{Claim}
 use Rattle.dist_cert.specs.declared.records.Header.{Header}
-use Rattle.dist_cert.specs.declared.records.CertKind.TheVariants as kinds
+use Rattle.dist_cert.specs.declared.records.CertKind.{CertKind}
 use Rattle.dist_subject.specs.Completed.{IsCompleted}
 use Rattle.dist_subject.specs.Basis.{Basis, matter_of}
 use Rattle.dist_sweep.specs.Sweep.{IsSweep}
 use Rattle.dist_check.specs.Answers.{AcceptedMeans}
 use Rattle.dist_check.specs.Checking.{OfText}
 use Rattle.dist_check.specs.Means.{Means}
-use Rattle.dist_report.specs.StrongReport.{strong_lines}
-use Rattle.dist_words.specs.CommandLine.{Strong, Check}
+use Rattle.dist_words.specs.CommandLine.{Sweep, Check}
 use Rattle.dist_words.specs.Table.{command_of}
-use Rattle.dist_app.specs.Check.{IsReportOf}
-use Rattle.dist_app.specs.Claims.{claims_status}
+use Rattle.dist_app.specs.Claims.{IsReportOf, claims_status}
 use Rattle.dist_app.specs.PackagesStage.{PackagesStage}
 use Rattle.dist_app.specs.Stages.{Goes}
 use Rattle.dist_app.specs.declared.status.Status.{Status}
@@ -36,18 +34,20 @@ IsCarriedOut Done = Unit {0}
 IsCarriedOut DoneWithUndecided = Unit {0}
 IsCarriedOut status = ⊥
 
--- PACKAGES has a repository, and CERT holds a whole certificate over it, of kind strong, with the command's mode and
--- limit. What it claims is true, and its report was printed. All other files are as before.
-pub record ProvesStrong (limits : Limits) (packages cert : List ℕ) (essential : Bool) (limit : ℕ) (result : Status)
-    (desk desk' : DeskView) (out out' : SinkView) : Type 0 where
+-- PACKAGES has a repository, and CERT holds a whole certificate over it, of the command's kind, and with its mode and
+-- limit. What it claims is true at that kind and mode, and its report was printed. All other files are as before.
+pub record ProvesSweep (limits : Limits) (kind : CertKind) (packages cert : List ℕ) (essential : Bool) (limit : ℕ)
+    (result : Status) (desk desk' : DeskView) (out out' : SinkView) : Type 0 where
   pub repository : PackageList
   pub read : PackagesStage desk.files limits packages (Goes repository)
   pub made : List Claim
   pub text : List ℕ
-  pub certificate : IsSweep repository kinds.Strong essential limit limits made text
+  pub certificate : IsSweep repository kind essential limit limits made text
   pub files : desk'.files ≡ with_file desk.files cert text
-  pub means : Means kinds.Strong essential repository made
-  pub printed : Grew (strong_lines repository.packages limit made) out out'
+  pub means : Means kind essential repository made
+  pub report : List ℕ
+  pub is_report : IsReportOf repository kind limit made report
+  pub printed : Grew report out out'
   pub status : result ≡ claims_status made
 
 -- PACKAGES has a repository, and the file CERT was accepted over it, whoever wrote it, with a first line and claims.
@@ -64,16 +64,18 @@ pub record ProvesCheck (limits : Limits) (packages cert : List ℕ) (result : St
   pub files : desk'.files ≡ desk.files
   pub means : AcceptedMeans repository header made
   pub report : List ℕ
-  pub is_report : IsReportOf repository header made report
+  pub is_report : IsReportOf repository header.kind header.limit made report
   pub printed : Grew report out out'
   pub status : result ≡ claims_status made
 
 -- the same of a run with these words
-abbrev pub StrongIsProved : List (List ℕ) → Limits → Status → DeskView → DeskView → SinkView → SinkView → Type 0
-StrongIsProved words limits result desk desk' out out' = (packages cert : List ℕ) (essential : Bool) (limit : ℕ)
-    → command_of words ≡ Some (Strong packages cert essential limit) → IsCarriedOut result
-    → ProvesStrong limits packages cert essential limit result desk desk' out out'
+abbrev pub SweepIsProved : List (List ℕ) → Limits → Status → DeskView → DeskView → SinkView → SinkView → Type 0
+SweepIsProved words limits result desk desk' out out' =
+    (kind : CertKind) (packages cert : List ℕ) (essential : Bool) (limit : ℕ)
+    → command_of words ≡ Some (Sweep kind packages cert essential limit) → IsCarriedOut result
+    → ProvesSweep limits kind packages cert essential limit result desk desk' out out'
 
+-- and of one of `check`
 abbrev pub CheckIsProved : List (List ℕ) → Limits → Status → DeskView → DeskView → SinkView → SinkView → Type 0
 CheckIsProved words limits result desk desk' out out' = (packages cert : List ℕ)
     → command_of words ≡ Some (Check packages cert) → IsCarriedOut result

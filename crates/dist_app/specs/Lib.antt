@@ -3,7 +3,6 @@ pub mod CauseText
 pub mod Check
 pub mod Claims
 pub mod Classes
-pub mod Try
 pub mod Command
 pub mod Complete
 pub mod DuePrivate
@@ -16,6 +15,7 @@ pub mod RepositoryStage
 pub mod Run
 pub mod Stages
 pub mod Status
-pub mod Strong
+pub mod Sweeps
 pub mod TextStage
+pub mod Try
 pub mod WritesPrivate

@@ -1,24 +1,22 @@
 //! `check PACKAGES CERT`, stage by stage.
-ghost use Rattle.std.specs.Prelude.{◌≡◌, IfOk, IfErr};
+ghost use Rattle.std.specs.Prelude.{IfOk, IfErr};
 ghost use Rattle.dist_outside.specs.DeskView.{OnlyReads};
 ghost use Rattle.dist_outside.specs.Files.{IsNotWriting};
 ghost use Rattle.dist_repo.specs.Size.{IsWithinSize};
-ghost use Rattle.dist_app.specs.Check.{CertificateStage, CheckStages, IsReportOf, Reports};
-ghost use Rattle.dist_app.specs.Claims.{claims_status};
+ghost use Rattle.dist_app.specs.Check.{CertificateStage, CheckStages, Reports};
 ghost use Rattle.dist_app.specs.DuePrivate.{IsDue};
 ghost use Rattle.dist_app.specs.Run.{IsWithinStated};
 ghost use Rattle.dist_app.specs.Stages.{Then, answered};
 
 use crate::answer::Answer;
-use crate::claims::tell_claims;
+use crate::claims::report;
 use crate::files::read_repository;
 use crate::refusal::{Refusal, refusal_of};
-use dist_cert::{CertKind, Claims, Header};
 use dist_check::{Verdict, check};
 use dist_outside::{Desk, Limits};
 use dist_repo::Repository;
 use dist_words::CertFiles;
-use std::alloc::{AllocError, Global};
+use std::alloc::Global;
 
 /// What the command answers, or why it was given up.
 pub(crate) fn run_check<D: Desk>(
@@ -67,24 +65,5 @@ fn judge_certificate<D: Desk>(
         }
         Ok(Verdict::Refused(fault)) => Err(Refusal::CertificateRefused(fault)),
         Err(error) => Err(refusal_of(error)),
-    }
-}
-
-/// The report of what a certificate claims, of the packages that its kind speaks of.
-fn report(
-    alloc: Global,
-    repository: &Repository,
-    header: &Header,
-    claims: &Claims,
-) -> Result<Answer, AllocError>
-    ensures status { IfOk result (λ answer. answer.status ≡ claims_status claims.now) }
-    ensures text { IfOk result (λ answer. IsReportOf repository.now header.now claims.now answer.text.items) }
-{
-    match header.kind {
-        CertKind::Strong => tell_claims(alloc, repository, header, claims),
-        CertKind::Outdated | CertKind::Challenged => {
-            let newest = repository.latest()?;
-            tell_claims(alloc, &newest, header, claims)
-        }
     }
 }

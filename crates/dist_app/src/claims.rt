@@ -1,11 +1,11 @@
 //! What is told of the claims of a certificate.
 ghost use Rattle.std.specs.Prelude.{◌≡◌, IfOk};
 ghost use Rattle.dist_report.specs.ReportText.{IsReportText};
-ghost use Rattle.dist_app.specs.Claims.{claims_status, marked_status};
+ghost use Rattle.dist_app.specs.Claims.{IsReportOf, claims_status, marked_status};
 
 use crate::answer::Answer;
 use crate::status::Status;
-use dist_cert::{Claims, Header};
+use dist_cert::{CertKind, Claims, Header};
 use dist_repo::Repository;
 use dist_report::{some_has_mark, text};
 use std::alloc::{AllocError, Global};
@@ -21,8 +21,28 @@ pub(crate) fn marked_status(undecided: bool) -> Status
     }
 }
 
+/// The report of claims, of the packages that certificates of their kind speak of. Of the first line it goes by the kind and
+/// the limit.
+pub(crate) fn report(
+    alloc: Global,
+    repository: &Repository,
+    header: &Header,
+    claims: &Claims,
+) -> Result<Answer, AllocError>
+    ensures status { IfOk result (λ answer. answer.status ≡ claims_status claims.now) }
+    ensures text { IfOk result (λ answer. IsReportOf repository.now header.now.kind header.now.limit claims.now answer.text.items) }
+{
+    match header.kind {
+        CertKind::Strong => tell_claims(alloc, repository, header, claims),
+        CertKind::Outdated | CertKind::Challenged => {
+            let newest = repository.latest()?;
+            tell_claims(alloc, &newest, header, claims)
+        }
+    }
+}
+
 /// The report of claims, with its status.
-pub(crate) fn tell_claims(
+fn tell_claims(
     alloc: Global,
     repository: &Repository,
     header: &Header,

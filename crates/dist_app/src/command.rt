@@ -13,7 +13,7 @@ use crate::check_command::run_check;
 use crate::classes_command::run_classes;
 use crate::health_command::run_health;
 use crate::refusal::Refusal;
-use crate::strong_command::run_strong;
+use crate::sweep_command::run_sweep;
 use crate::try_command::run_try;
 use dist_outside::{Desk, Limits};
 use dist_words::Command;
@@ -39,7 +39,7 @@ pub(crate) fn run_command<D: Desk>(
     match command {
         Command::Health(files) => run_health(alloc, desk, files, limits),
         Command::Classes(packages) => run_classes(alloc, desk, packages, limits),
-        Command::Strong(words) => run_strong(alloc, desk, words, limits),
+        Command::Sweep(words) => run_sweep(alloc, desk, words, limits),
         Command::Check(files) => run_check(alloc, desk, files, limits),
         Command::Try(words) => run_try(alloc, words, limits),
     }

@@ -19,10 +19,10 @@ mod pieces;
 mod refusal;
 mod refusal_text;
 mod status;
-mod strong_command;
+mod sweep_command;
 mod top_call;
 mod try_command;
 
-pub use laws::archives_have_reports;
+pub use laws::{archives_have_reports, texts_have_verdicts};
 pub use status::Status;
 pub use top_call::{run, run_with};

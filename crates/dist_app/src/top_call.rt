@@ -2,7 +2,7 @@
 ghost use Rattle.std.specs.Prelude.{◌≡◌, ℕ, List, map, string_bytes, MatchResult};
 ghost use Rattle.dist_outside.specs.Files.{IsNotWriting};
 ghost use Rattle.dist_app.specs.Complete.{IsComplete};
-ghost use Rattle.dist_app.specs.Headline.{CheckIsProved, MarksAreTried, StrongIsProved, UndecidedAreHard};
+ghost use Rattle.dist_app.specs.Headline.{CheckIsProved, MarksAreTried, SweepIsProved, UndecidedAreHard};
 ghost use Rattle.dist_app.specs.Run.{IsWithinStated, Leaves, Runs, stated_limits};
 ghost use Rattle.dist_app.specs.CarriedPrivate.{IsAnswered, IsRefused, Prints};
 
@@ -11,6 +11,7 @@ use crate::command::run_command;
 use crate::refusal::{Refusal, refusal_of};
 use crate::refusal_text::write_refusal;
 use crate::status::Status;
+use dist_budget::budgets_are_enough;
 use dist_check::{
     accepted_claims_hold, marks_are_tried, texts_have_one_answer, undecided_questions_are_hard,
 };
@@ -18,7 +19,7 @@ use dist_list::lists_are_exact;
 use dist_now::one_health;
 use dist_outside::{Desk, Limits, Sink, sink_grows, write_whole};
 use dist_package::packages_are_exact;
-use dist_strong::budgets_are_enough;
+use dist_subject::first_numbers_are_one;
 use dist_words::{WordsError, command_of};
 use std::alloc::Global;
 
@@ -35,7 +36,7 @@ pub fn run<D: Desk, W: Sink, E: Sink>(
     requires { IsNotWriting (D.view desk.old).mode }
     ensures runs { Runs (map string_bytes words.now) stated_limits result (D.view desk.old) (D.view desk.new)
         (W.view out.old) (W.view out.new) (E.view err.old) (E.view err.new) }
-    ensures strong { StrongIsProved (map string_bytes words.now) stated_limits result (D.view desk.old) (D.view desk.new)
+    ensures sweep { SweepIsProved (map string_bytes words.now) stated_limits result (D.view desk.old) (D.view desk.new)
         (W.view out.old) (W.view out.new) }
     ensures check { CheckIsProved (map string_bytes words.now) stated_limits result (D.view desk.old) (D.view desk.new)
         (W.view out.old) (W.view out.new) }
@@ -60,7 +61,7 @@ pub fn run_with<D: Desk, W: Sink, E: Sink>(
     requires within { IsWithinStated limits.now }
     ensures runs { Runs (map string_bytes words.now) limits.now result (D.view desk.old) (D.view desk.new)
         (W.view out.old) (W.view out.new) (E.view err.old) (E.view err.new) }
-    ensures strong { StrongIsProved (map string_bytes words.now) limits.now result (D.view desk.old) (D.view desk.new)
+    ensures sweep { SweepIsProved (map string_bytes words.now) limits.now result (D.view desk.old) (D.view desk.new)
         (W.view out.old) (W.view out.new) }
     ensures check { CheckIsProved (map string_bytes words.now) limits.now result (D.view desk.old) (D.view desk.new)
         (W.view out.old) (W.view out.new) }
@@ -73,6 +74,7 @@ pub fn run_with<D: Desk, W: Sink, E: Sink>(
     one_health();
     budgets_are_enough();
     texts_have_one_answer();
+    first_numbers_are_one();
     lists_are_exact();
     accepted_claims_hold();
     undecided_questions_are_hard();

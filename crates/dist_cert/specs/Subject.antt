@@ -7,9 +7,10 @@ pub record Cluster : Type 0 where
   pub members : List ℕ
   pub classes : ℕ
 
--- What the certificates of one kind and mode speak of, and are judged against. Packages, variables, clusters and classes are numbered from 1.
--- `present` gives the variable of a package as it is, `new` that of a package at a class, `at` that of a cluster at a
--- class. The two last fields say of a set of variables that it stands for a future, and that it is healthy.
+-- What the certificates of one kind and mode speak of, and are judged against. Packages, variables, clusters and
+-- classes are numbered from 1. `present` gives the variable of a package as it is, `new` that of a package at a class,
+-- `at` that of a cluster at a class. The two last fields say of a set of variables that it stands for a future, and
+-- that it is healthy.
 pub record Matter : Type 1 where
   pub packages : ℕ
   pub variables : ℕ

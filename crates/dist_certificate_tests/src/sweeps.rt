@@ -4,10 +4,11 @@ ghost use Rattle.dist_subject.specs.Limited.{AreStated};
 
 use crate::stanzas::repository;
 use crate::texts::{Expected, TWO, is_accepted, is_expected, limited};
+use dist_budget::budgets_are_enough;
 use dist_cert::Claims;
 use dist_outside::{Limits, MemoryDesk, What, WorkError};
 use dist_repo::Repository;
-use dist_strong::{budgets_are_enough, strong};
+use dist_strong::strong;
 use std::alloc::Global;
 use std::process::Abort;
 

@@ -1,17 +1,24 @@
 //! Whole trials.
 ghost use Rattle.std.specs.Prelude.{◌≤◌};
+ghost use Rattle.dist_base.specs.declared.TheConstants.{MAX_SIZE};
 ghost use Rattle.dist_subject.specs.Limited.{AreStated};
 
-use dist_outside::{Limits, What, WorkError};
-use dist_trial::{marks_are_counted, trial};
+use dist_base::DEFAULT_LIMIT;
+use dist_generate::generate;
+use dist_outside::{Limits, MemoryDesk, What, WorkError};
+use dist_package::read_packages;
+use dist_strong::strong;
+use dist_trial::{Trial, marks_are_counted, trial};
 use std::alloc::Global;
 use std::test::Fail;
 
 const TWO: &str = "size 2
 strong 1
 uninstallable 0
+outdated 0
+challenged 0
 undecided 0
-accepted 1
+accepted 3
 ";
 
 #[test]
@@ -24,13 +31,91 @@ fn two_packages(rt: HostRuntime) -> Result<(), Fail> {
     Ok(())
 }
 
+const SIXTY: &str = "size 60
+strong 41
+uninstallable 13
+outdated 2
+challenged 8
+undecided 0
+accepted 3
+";
+
+/// What a trial of this size and seed tells, within the stated limits.
+fn told(alloc: Global, size: u32, seed: u32) -> Result<Trial, WorkError>
+    requires some { 1 ≤ size }
+    requires few { size ≤ MAX_SIZE }
+{
+    trial(alloc, size, seed, &Limits::stated())
+}
+
+/// Whether two trials of this size and seed tell the same, all three certificates are accepted, and nothing is undecided.
+fn is_told_twice(alloc: Global, size: u32, seed: u32) -> Result<bool, WorkError>
+    requires some { 1 ≤ size }
+    requires few { size ≤ MAX_SIZE }
+{
+    let first = told(alloc, size, seed)?;
+    let second = told(alloc, size, seed)?;
+    Ok(
+        first.summary == second.summary
+            && first.summary.ends_with(b"\nundecided 0\naccepted 3\n")
+            && !first.undecided,
+    )
+}
+
 #[test]
-fn sixty_packages_twice(rt: HostRuntime) -> Result<(), Fail> {
+fn small_archives(rt: HostRuntime) -> Result<(), Fail> {
+    for size in [2, 20] {
+        for seed in [0, 1, 5] {
+            assert_eq!(rt; is_told_twice(rt.alloc(), size, seed), Ok(true));
+        }
+    }
+    Ok(())
+}
+
+#[test]
+fn sixty_packages(rt: HostRuntime) -> Result<(), Fail> {
+    let sixty = told(rt.alloc(), 60, 1)?;
+    assert_eq!(rt; sixty.summary.as_slice(), SIXTY.as_bytes());
+    Ok(())
+}
+
+/// Whether the sweep for strong dependencies keeps some limits over the archive of this size and seed.
+fn keeps_strong(alloc: Global, size: u32, seed: u32, limits: &Limits) -> Option<bool>
+    requires some { 1 ≤ size }
+    requires few { size ≤ MAX_SIZE }
+    requires limits { AreStated limits.now }
+{
+    let text = generate(alloc, size, seed).ok()?;
+    let repository = read_packages(alloc, &text, size).ok()?;
+    if !repository.is_within_size() {
+        return None;
+    }
+    let mut desk = MemoryDesk::new(alloc, usize::MAX, &[]).ok()?;
+    let made = strong(
+        alloc,
+        &repository,
+        false,
+        &mut desk,
+        "c",
+        DEFAULT_LIMIT,
+        limits,
+    );
+    Some(made.is_ok())
+}
+
+#[test]
+fn a_later_certificate_may_pass_a_number(rt: HostRuntime) -> Result<(), Fail> {
     let alloc = rt.alloc();
-    let first = trial(alloc, 60, 1, &Limits::stated())?;
-    let second = trial(alloc, 60, 1, &Limits::stated())?;
-    assert_eq!(rt; first.summary.as_slice(), second.summary.as_slice());
-    assert_eq!(rt; first.summary.starts_with(b"size 60\nstrong "), true);
+    // The certificate of outdated packages is the only one with a derived line.
+    let limits = Limits {
+        lines: 0,
+        ..Limits::stated()
+    };
+    assert_eq!(rt; keeps_strong(alloc, 8, 31, &limits), Some(true));
+    assert_eq!(rt;
+        trial(alloc, 8, 31, &limits).err(),
+        Some(WorkError::TooLarge(What::Lines))
+    );
     Ok(())
 }
 

@@ -1,3 +1,4 @@
+mod LaterKinds
 mod Asked
 mod ClaimLines
 mod Spaces

@@ -8,7 +8,7 @@ ghost use Rattle.dist_challenge.specs.CoverPrivate.{AreClustersFrom, AreGathered
 ghost use Rattle.dist_challenge.specs.UsedPrivate.{pair_at};
 ghost use Rattle.dist_space.specs.Space.{variable_of};
 
-use crate::challenged::ChallengedClaimant;
+use crate::challenged_claimant::ChallengedClaimant;
 use crate::used::{has, pair_at};
 use dist_cert::REACH;
 use dist_space::Meaning;

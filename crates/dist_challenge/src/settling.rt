@@ -5,7 +5,7 @@ ghost use Rattle.dist_sweep.specs.Script.{Grows};
 ghost use Rattle.dist_challenge.specs.ChallengePrivate.{FitsGroup, IsAdded, IsStruck, SettleMore, SettleStops};
 ghost use Rattle.dist_challenge.specs.CoverPrivate.{IsKept};
 
-use crate::challenged::ChallengedClaimant;
+use crate::challenged_claimant::ChallengedClaimant;
 use crate::group::Group;
 use crate::used::used_clusters;
 use crate::words::both;

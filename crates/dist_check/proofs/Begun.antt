@@ -1,25 +1,20 @@
 -- What a checker begins with behind a first line.
 use Rattle.std.proofs.Common.{◌≡◌, ◌≢◌, ◌↔◌, inl, inr, ℕ, ◌+◌, ◌-◌, ◌<◌, ◌≤◌, Bool, List, [], length, take, drop, None, Ok, Err, Result, refl, sym, ap}
 use Rattle.std.proofs.Common.{subst, ◌∙◌, arith}
-use Rattle.std.specs.Prelude.{All, IfErr}
+use Rattle.std.specs.Prelude.{All}
 use Rattle.std.proofs.lemmas.Bool.{cases_lt}
 use Rattle.std.proofs.lemmas.List.{drop_all, length-take}
 use Rattle.std.proofs.lemmas.List.Elements.{All-drop, All-take}
-use Rattle.dist_base.specs.Answers.{IsExactly}
 use Rattle.dist_outside.specs.declared.limits.Limits.{Limits}
-use Rattle.dist_outside.specs.declared.trouble.What.TheVariants.{Clauses, Literals}
 use Rattle.dist_outside.specs.declared.trouble.WorkError.TheVariants.{TooLarge, NoMemory}
 use Rattle.dist_clause.specs.ClauseList.{ClauseList, IsWithinLimits, literal_count}
 use Rattle.dist_clause.specs.Formula.{Literal, IsClauseOver, IsModel, value_of}
-use Rattle.dist_clause.specs.declared.clause_set.PushError.{PushError}
-use Rattle.dist_clause.specs.declared.clause_set.PushError.TheVariants as push
 use Rattle.dist_derive.specs.ClauseLog.{ClauseLog, IsWithinLineLimits}
 use Rattle.dist_repo.specs.PackageList.{PackageList}
 use Rattle.dist_space.specs.Space.{IsSpace, SpaceView, variable_of}
 use Rattle.dist_space.specs.VariableLaws.{variable-range}
 use Rattle.dist_space.specs.declared.meaning.Meaning.TheVariants.{Present}
-use Rattle.dist_space_clauses.specs.SpaceClauses.{IsDemand}
-use Rattle.dist_space_clauses.specs.SpaceSet as futures
+use Rattle.dist_space_clauses.specs.SpaceClauses.{AreSpaceClauses}
 use Rattle.dist_space_clauses.specs.declared.ends.FutureEnds.{FutureEnds}
 use Rattle.dist_future.specs.FutureClauses.{AreTrueAround, MeetsFuture}
 use Rattle.dist_cert.specs.declared.faults.CertCause.TheVariants.{BadHeader}
@@ -35,13 +30,14 @@ use Rattle.dist_check_state.specs.State.{StateView}
 use Rattle.dist_check_state.specs.declared.future.FutureClauses.{FutureClauses}
 use Rattle.dist_subject.specs.Basis.{IsBasisOf, IsLaterOf, Later}
 use Rattle.dist_subject.specs.Later.{later_matter}
-use Rattle.dist_subject.specs.Limited.{PassesFirst, PassesLater}
+use Rattle.dist_subject.specs.Inputs.{AreInputsOf}
+use Rattle.dist_subject.specs.Limited.{PassesFirst}
 use Rattle.dist_subject.specs.MemberLaws.{model-alike, value-among}
 use Rattle.dist_subject.specs.Present.{present_matter, truth_of}
 use Rattle.dist_check.specs.AtPrivate.{AreFuturesBy}
 use Rattle.dist_check.specs.LaysOut.{IsCluster, LaysOut}
 use Rattle.dist_check.specs.Start.{IsStart, StartAnswers}
-use Rattle.dist_check.specs.StartPrivate.{HasNumbers, IsLarge, IsSpaceWithin, IsSubject, PassesSpace, large_by}
+use Rattle.dist_check.specs.StartPrivate.{HasNumbers, IsLargeFault, IsSubject}
 
 -- ---- the packages as they are
 
@@ -117,69 +113,37 @@ enough-variables s space places = elim (cases_lt 0 (length s.repository.packages
   | inr none ↦ omega (arith, none)
 ]
 
-later-basis : (r : PackageList) (kind : CertKind) (essential : Bool) (s : SpaceView) (inputs : List (List Literal)) → kind ≢ kinds.Strong
-    → IsLaterOf r essential s inputs → IsBasisOf r kind essential (Later s inputs)
-later-basis r kinds.Strong essential s inputs later is = absurd (later refl)
-later-basis r kinds.Outdated essential s inputs later is = is
-later-basis r kinds.Challenged essential s inputs later is = is
+later-of : (r : PackageList) (kind : CertKind) (essential : Bool) (s : SpaceView) (inputs : List (List Literal)) → kind ≢ kinds.Strong
+    → IsBasisOf r kind essential (Later s inputs) → IsLaterOf r essential s inputs
+later-of r kinds.Strong essential s inputs later is = absurd (later refl)
+later-of r kinds.Outdated essential s inputs later is = is
+later-of r kinds.Challenged essential s inputs later is = is
 
 pub later-subject : (r : PackageList) (essential : Bool) (limits : Limits) (kind : CertKind) (s : SpaceView) (set : ClauseList) (ends : FutureEnds)
-    (layout : LayoutView) (packages : ℕ) → kind ≢ kinds.Strong → IsSpaceWithin r essential limits s
-    → futures.IsSetOf s (IsDemand s) limits.clauses limits.literals set → IsWithinLimits set → packages ≡ length s.repository.packages
+    (layout : LayoutView) (packages : ℕ) → kind ≢ kinds.Strong → AreInputsOf r kind essential limits (Later s set.clauses) set
+    → IsWithinLimits set → packages ≡ length s.repository.packages
     → layout.kind ≡ kind → LaysOut (later_matter s set.clauses) layout
-    → ((values : List Bool) → MeetsFuture s values ↔ AreTrueAround (value_of values) ends set.clauses)
-    → ((number : ℕ) → number < length s.repository.packages → variable_of s (Present number) ≡ number + 2)
+    → (AreSpaceClauses s set.clauses → (values : List Bool) → MeetsFuture s values ↔ AreTrueAround (value_of values) ends set.clauses)
+    → (IsSpace s → (number : ℕ) → number < length s.repository.packages → variable_of s (Present number) ≡ number + 2)
     → IsSubject r limits kind essential packages set layout (record { upto = ends.early; behind = ends.today; last = ends.after })
-later-subject r essential limits kind s set ends layout packages later space is_set within count kind_is lays two places =
-    let clause_limit : set.clause_limit ≡ limits.clauses = is_set.clause_limit_is in
-    let literal_limit : set.literal_limit ≡ limits.literals = is_set.literal_limit_is in
-    let few : length set.clauses ≤ set.clause_limit = within.clauses_within in
-    let short : literal_count set.clauses ≤ set.literal_limit = within.literals_within in
-    let variables : set.variables ≡ length s.meanings = is_set.variables in
+later-subject r essential limits kind s set ends layout packages later inputs within count kind_is lays two places =
+    let is = later-of r kind essential s set.clauses later inputs.is_basis in
+    let variables : set.variables ≡ length s.meanings = inputs.variables in
+    let space : IsSpace s = is.is_space.space in
     record {
       basis = Later s set.clauses;
-      is_basis = later-basis r kind essential s set.clauses later
-          (record { newest = space.newest; is_space = space.is_space; are_clauses = is_set.clauses });
-      kept = record {
-        variables = space.variables;
-        clauses = omega (arith, few, clause_limit);
-        literals = omega (arith, short, literal_limit);
-      };
+      are_inputs = inputs;
       packages_are = count;
-      clauses = refl;
-      variables = variables;
-      enough = omega (arith, enough-variables s space.is_space.space places, count, variables);
+      enough = omega (arith, enough-variables s space (places space), count, variables);
       kind_is = kind_is;
       layout_is = lays;
       future_is = futures-by s set.clauses ends
-          (subst (λ (n : ℕ). All (IsClauseOver n) set.clauses) variables within.over_variables) two;
+          (subst (λ (n : ℕ). All (IsClauseOver n) set.clauses) variables within.over_variables) (two is.are_clauses);
     }
 
 -- ---- numbers that are passed
 
-pub space-large : {X : Type 0} (s : SpaceView) (limits : Limits) (error : PushError)
-    → IsExactly {X = X} push.NoMemory (Err error) push.TooManyClauses (futures.PassesClauses s limits.clauses limits.literals)
-    → IsExactly {X = X} push.NoMemory (Err error) push.TooManyLiterals (futures.PassesLiterals s limits.clauses limits.literals)
-    → IsLarge (PassesSpace s limits) (large_by error)
-space-large s limits push.TooManyClauses clauses literals = (clauses (λ e. cc)).0 refl
-space-large s limits push.TooManyLiterals clauses literals = (literals (λ e. cc)).0 refl
-space-large s limits push.NoMemory clauses literals = tt
-
-pub later-large : (r : PackageList) (essential : Bool) (limits : Limits) (s : SpaceView) → IsSpaceWithin r essential limits s
-    → (e : ReadCertError) → IsLarge (PassesSpace s limits) e → IsLarge (PassesLater r essential limits) e
-later-large r essential limits s space (Work (TooLarge Clauses)) large = (s, space.newest, space.is_space, (space.variables, large))
-later-large r essential limits s space (Work (TooLarge Literals)) large = (s, space.newest, space.is_space, (space.variables, large))
-later-large r essential limits s space (Work (TooLarge what)) large = absurd large
-later-large r essential limits s space (Work NoMemory) large = tt
-later-large r essential limits s space (Work error) large = absurd large
-later-large r essential limits s space (Bad fault) large = absurd large
-
-pub later-err : {X : Type 0} (r : PackageList) (essential : Bool) (limits : Limits) (s : SpaceView) → IsSpaceWithin r essential limits s
-    → (result : Result X ReadCertError) → IfErr result (IsLarge (PassesSpace s limits)) → IfErr result (IsLarge (PassesLater r essential limits))
-later-err r essential limits s space (Ok x) large = tt
-later-err r essential limits s space (Err e) large = later-large r essential limits s space e large
-
-pub large-answers : (r : PackageList) (limits : Limits) (h : Header) (e : ReadCertError) → IsLarge (PassesFirst r h.kind h.essential limits) e
+pub large-answers : (r : PackageList) (limits : Limits) (h : Header) (e : ReadCertError) → IsLargeFault (PassesFirst r h.kind h.essential limits) e
     → StartAnswers r limits h (Err e)
 large-answers r limits h (Work (TooLarge what)) large = large
 large-answers r limits h (Work NoMemory) large = tt
@@ -217,18 +181,18 @@ pub begins : (r : PackageList) (limits : Limits) (h : Header) (packages : ℕ) (
 begins r limits h packages inputs layout future s subject numbers same within =
     subst (λ (t : StateView). IsStart r limits h t) (sym same) (record {
       basis = subject.basis;
-      is_basis = subject.is_basis;
+      is_basis = subject.are_inputs.is_basis;
       fits = record {
         packages = numbers.0 ∙ subject.packages_are;
-        variables = numbers.1 ∙ subject.variables;
-        clauses = numbers.2 ∙ ap (λ (clauses : List (List Literal)). length clauses) subject.clauses;
+        variables = numbers.1 ∙ subject.are_inputs.variables;
+        clauses = numbers.2 ∙ ap (λ (clauses : List (List Literal)). length clauses) subject.are_inputs.clauses;
       };
-      kept = subject.kept;
+      kept = subject.are_inputs.kept;
       limit = refl;
       packages = subject.packages_are;
-      clauses = subject.clauses;
+      clauses = subject.are_inputs.clauses;
       inputs = refl;
-      variables = subject.variables;
+      variables = subject.are_inputs.variables;
       kind = subject.kind_is;
       layout = subject.layout_is;
       future = subject.future_is;
@@ -251,12 +215,12 @@ fits-numbers r limits h packages inputs layout future subject wrong = (
   refl,
   record {
     basis = subject.basis;
-    is_basis = subject.is_basis;
-    within = subject.kept;
+    is_basis = subject.are_inputs.is_basis;
+    within = subject.are_inputs.kept;
     wrong = λ fits. wrong (
       fits.packages ∙ sym subject.packages_are,
-      fits.variables ∙ sym subject.variables,
-      fits.clauses ∙ sym (ap (λ (clauses : List (List Literal)). length clauses) subject.clauses),
+      fits.variables ∙ sym subject.are_inputs.variables,
+      fits.clauses ∙ sym (ap (λ (clauses : List (List Literal)). length clauses) subject.are_inputs.clauses),
     );
   },
 )

@@ -16,7 +16,7 @@ use Rattle.dist_cert.specs.declared.records.CertKind.TheVariants as kinds
 use Rattle.dist_cert.specs.declared.records.Claim.{Claim}
 use Rattle.dist_cert.specs.declared.records.Claim.TheVariants.{Uninstallable, Unknown, Strong, Outdated, Alive}
 use Rattle.dist_cert.specs.declared.records.Claim.TheVariants.{Challenged}
-use Rattle.dist_subject.specs.Claims.{AreClaimsOf}
+use Rattle.dist_subject.specs.Claims.{AreStrongClaimsOf}
 
 -- ---- kind strong
 
@@ -38,7 +38,7 @@ SaysStrong essential r number p claim = ⊥
 
 -- Each claim says what is true of its package, at mode essential or plain.
 pub record MeansStrong (essential : Bool) (r : PackageList) (made : List Claim) : Type 0 where
-  pub are_claims : AreClaimsOf (length r.packages) made
+  pub are_claims : AreStrongClaimsOf (length r.packages) made
   pub each : (number : ℕ) (p : Package) (claim : Claim) → slice_get r.packages number ≡ Some p
       → slice_get made number ≡ Some claim → SaysStrong essential r number p claim
 

@@ -12,7 +12,6 @@ pub mod DemandLists
 pub mod SetLemmas
 pub mod ModelLemmas
 pub mod AddsLemmas
-pub mod AskedLemmas
 pub mod MatchedLemmas
 pub mod NumberLemmas
 pub mod VersionLemmas

@@ -7,6 +7,5 @@ pub mod PresentClauses
 pub mod PresentSet
 pub mod PresentLaws
 pub mod GatheringPrivate
-pub mod AtomOrderPrivate
 pub mod PresentExamples
 pub mod HealthExamples

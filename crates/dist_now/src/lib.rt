@@ -5,8 +5,6 @@
 //! the providers of a name and never by trying all pairs. `health` takes no memory.
 #![tactic(auto)]
 
-mod asked;
-mod atom_key;
 mod clause_text;
 mod conflicts;
 mod essentials;

@@ -7,7 +7,7 @@ ghost use Rattle.dist_repo.specs.Providers.{AreProviders, IsProvider};
 ghost use Rattle.dist_now.specs.GatheringPrivate.{Adds};
 ghost use Rattle.dist_now.specs.PresentClauses.{AreNumbersOf, IsMetBy};
 
-use crate::asked::AskedAtoms;
+use dist_asked::AskedAtoms;
 use dist_relation::{Alternatives, Atom, Name};
 use dist_repo::{Package, Repository};
 use std::alloc::AllocError;

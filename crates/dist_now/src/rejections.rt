@@ -8,8 +8,8 @@ ghost use Rattle.dist_repo.specs.PackageList.{IsPackageAnd};
 ghost use Rattle.dist_repo.specs.Providers.{IsProvider};
 ghost use Rattle.dist_now.specs.GatheringPrivate.{Adds, AreSplitAt, IsPairFor, IsPairIn, IsPairOf, IsPairWithin, IsPairWith, IsRejectingPair, Rejects};
 
-use crate::asked::AskedAtoms;
 use crate::numbers::{matches_provider, place_from};
+use dist_asked::AskedAtoms;
 use dist_relation::Atom;
 use dist_repo::{Offer, Package, Repository};
 use std::alloc::{AllocError, Global};

@@ -58,7 +58,7 @@ packages_with test made = filter (λ p. option_map_or test (slice_get made p) fa
 
 -- ---- the text
 
--- what kind of report it is, how many derived lines closed a question, and how many packages there are
+-- what kind of report it is, behind how many derived lines a question is undecided, and how many packages there are
 abbrev pub opening_lines : (kind : List ℕ) → List Package → (limit : ℕ) → List ℕ
 opening_lines kind packages limit = string_line (codes "report: ") kind ++ (codes "limit: "
     ++ (decimal limit ++ (codes "\npackages: " ++ (decimal (length packages) ++ codes "\n"))))

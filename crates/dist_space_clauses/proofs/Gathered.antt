@@ -7,7 +7,8 @@ use Rattle.std.proofs.lemmas.Bool.{cases_lt}
 use Rattle.std.proofs.lemmas.List.{take-append-drop, take_all, take_more}
 use Rattle.std.proofs.lemmas.List.Elements.{Contains-append_left, Contains-push, Contains-push_cases}
 use Rattle.std.proofs.lemmas.Option.{get_or_from_slice_get, slice_get_within}
-use Rattle.dist_base.specs.ListLaws.{any-contained}
+use Rattle.dist_base.specs.ListLaws.{any-at, any-contained}
+use Rattle.dist_space_clauses.specs.EndLaws.{at-take}
 use Rattle.dist_space_clauses.specs.GatheringPrivate.{Adds, AreVariablesOf, Gathers}
 use Rattle.dist_space.specs.Space.{IsMeaning, SpaceView, variable_of}
 use Rattle.dist_space.specs.declared.meaning.Meaning.{Meaning}
@@ -133,6 +134,16 @@ module _ (s : SpaceView) where
     each-more old mid new k x is first second =
         gathers-both old mid new P (λ m. Any (λ y. Q y m) (take k xs)) (Q x) (λ m. Any (λ y. Q y m) (take (k + 1) xs)) first second
         (λ m meaning any. any-take (λ y. Q y m) xs k x is any)
+
+    -- an element that stands before too
+    pub each-repeated : (old new : List ℕ) (k earlier : ℕ) (x : X) → slice_get xs k ≡ Some x → earlier < k → slice_get xs earlier ≡ slice_get xs k
+        → Gathers s old new P (λ m. Any (λ y. Q y m) (take k xs)) → Gathers s old new P (λ m. Any (λ y. Q y m) (take (k + 1) xs))
+    each-repeated old new k earlier x is less same of =
+        gathers-weaker old new P P (λ m. Any (λ y. Q y m) (take k xs)) (λ m. Any (λ y. Q y m) (take (k + 1) xs)) (λ m is p. p)
+        (λ m meaning any. elim (any-take (λ y. Q y m) xs k x is any) [
+          | inl there ↦ there
+          | inr here ↦ any-at (λ y. Q y m) (take k xs) earlier x (at-take xs k earlier x less (same ∙ is)) here
+        ]) of
 
     pub each-whole : (old new : List ℕ) (k : ℕ) → length xs ≤ k → Gathers s old new P (λ m. Any (λ y. Q y m) (take k xs))
         → Gathers s old new P (λ m. Any (λ y. Q y m) xs)

@@ -95,7 +95,7 @@ take-at [] (suc count) k x is = cc
 take-at (y ∷ ys) (suc count) zero x is = (omega arith, is)
 take-at (y ∷ ys) (suc count) (suc k) x is = let rest = take-at ys count k x is in (omega (arith, rest.0), rest.1)
 
-at-take : {X : Type 0} (xs : List X) (count k : ℕ) (x : X) → k < count → slice_get xs k ≡ Some x
+pub at-take : {X : Type 0} (xs : List X) (count k : ℕ) (x : X) → k < count → slice_get xs k ≡ Some x
     → slice_get (take count xs) k ≡ Some x
 at-take xs zero k x short is = absurd (omega (arith, short))
 at-take [] (suc count) k x short is = cc

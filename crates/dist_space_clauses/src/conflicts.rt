@@ -13,6 +13,7 @@ ghost use Rattle.dist_space.specs.declared.meaning.Meaning.TheVariants as meanin
 use crate::clause_text::{Scratch, add_pair};
 use crate::matched::{add_fresh, add_later, add_variable, put_in_order};
 use crate::rejecting::Rejecting;
+use dist_asked::AskedAtoms;
 use dist_clause::{ClauseSet, Lit, PushError};
 use dist_relation::{Atom, Name};
 use dist_repo::Package;
@@ -122,14 +123,13 @@ fn add_atoms(
 ) -> Result<(), AllocError>
     ensures { OnOk result (Gathers space.now variables.old.items variables.new.items (Excludes space.now number «package».now) (λ m. Any (λ atom. IsMatched space.now atom m × Excludes space.now number «package».now m) «package».now.conflicts)) }
 {
+    let mut asked = AskedAtoms::new(*variables.allocator());
     for place in 0..package.conflicts.len() {
-        add_atom(
-            space,
-            number,
-            package,
-            package.conflicts.get(place),
-            variables,
-        )?;
+        let atom = package.conflicts.get(place);
+        let is_repeated = asked.note(atom, package.conflicts.len())?;
+        if !is_repeated {
+            add_atom(space, number, package, atom, variables)?;
+        }
     }
     Ok(())
 }

@@ -7,6 +7,7 @@ ghost use Rattle.dist_space.specs.declared.meaning.Meaning.TheVariants as meanin
 
 use crate::clause_text::Scratch;
 use crate::matched::{add_fresh, add_later, add_variable, put_in_order};
+use dist_asked::AskedAtoms;
 use dist_clause::{ClauseSet, PushError};
 use dist_relation::{Alternatives, Atom};
 use dist_repo::Package;
@@ -80,8 +81,13 @@ fn gather_meeting(
     ensures { OnOk result (AreVariablesOf space.now (IsMetBy space.now alternatives.now) variables.new.items) }
 {
     variables.clear();
+    let mut asked = AskedAtoms::new(*variables.allocator());
     for place in 0..alternatives.len() {
-        add_matched(space, alternatives.get(place), variables)?;
+        let atom = alternatives.get(place);
+        let is_repeated = asked.note(atom, alternatives.len())?;
+        if !is_repeated {
+            add_matched(space, atom, variables)?;
+        }
     }
     put_in_order(variables);
     Ok(())

@@ -3,12 +3,4 @@ mod Counting
 mod SettleSteps
 mod StrongLine
 mod ClaimSteps
-mod FewNumbers
-mod Fronts
-mod KeptLines
-mod BudgetCounts
-mod BudgetQuestions
-mod BudgetWidths
-mod Budgets
 mod Claimed
-mod Begun

@@ -1,5 +1,3 @@
 pub mod Group
 pub mod SettlingPrivate
 pub mod ClaimingPrivate
-pub mod Budget
-pub mod InputsPrivate

@@ -5,12 +5,10 @@
 //! candidates (`group.rt`), so that few questions are asked.
 #![tactic(auto)]
 
-mod budget_laws;
 mod claimant;
 mod claiming;
 mod group;
 mod settling;
 mod sweep;
 
-pub use budget_laws::budgets_are_enough;
 pub use sweep::strong;

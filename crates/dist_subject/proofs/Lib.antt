@@ -2,4 +2,5 @@ mod Truth
 mod Bases
 mod Standing
 mod Numbers
+mod Made
 mod PairsOfSpace

@@ -1,4 +1,5 @@
--- When claims are of a repository, whatever they say of it.
+-- When claims on strong dependencies are of a repository, whatever they say of it. Of pairs of a cluster and a class
+-- nothing is said here.
 use Rattle.std.specs.Prelude.{◌≡◌, ◌≢◌, ℕ, ◌<◌, List, All, Some, length, slice_get}
 use Rattle.dist_cert.specs.declared.records.Claim.{Claim}
 use Rattle.dist_cert.specs.declared.records.Claim.TheVariants.{Strong}
@@ -10,6 +11,6 @@ NamesOthers packages number (Strong on undecided) = All (λ q. (q < packages) ×
 NamesOthers packages number claim = Unit {0}
 
 -- There is one claim for each package, in order, and each names packages of the repository.
-pub record AreClaimsOf (packages : ℕ) (made : List Claim) : Type 0 where
+pub record AreStrongClaimsOf (packages : ℕ) (made : List Claim) : Type 0 where
   pub one_each : length made ≡ packages
   pub named : (number : ℕ) (claim : Claim) → slice_get made number ≡ Some claim → NamesOthers packages number claim

@@ -6,6 +6,9 @@ pub mod LaterExamples
 pub mod Claims
 pub mod Installed
 pub mod Limited
+pub mod Inputs
+pub mod InputsPrivate
+pub mod Spoken
 pub mod Completed
 pub mod TruthLaws
 pub mod MemberLaws

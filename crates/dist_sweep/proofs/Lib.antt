@@ -10,3 +10,4 @@ mod FirstLine
 mod SweepLines
 mod Parts
 mod SweptFile
+mod Started

@@ -78,3 +78,8 @@ SweepAnswers r kind essential limit limits name old new (Err WriteFault) = Rose 
 SweepAnswers r kind essential limit limits name old new (Err NoMemory) =
     LeavesPart r kind essential limit limits name old new
 SweepAnswers r kind essential limit limits name old new (Err ReadFault) = ⊥
+
+-- The number that the input clauses pass first is told, but for want of memory.
+abbrev pub TellsFirst : PackageList → CertKind → Bool → Limits → Result (List Claim) WorkError → Type 0
+TellsFirst r kind essential limits result = (what : What) → PassesFirst r kind essential limits what
+    → (result ≡ Err (TooLarge what)) ⊎ (result ≡ Err NoMemory)

@@ -8,6 +8,7 @@ use Rattle.dist_outside.specs.DeskView.{DeskView, FileGrew}
 use Rattle.dist_outside.specs.declared.limits.Limits.{Limits}
 use Rattle.dist_outside.specs.declared.trouble.WorkError.{WorkError}
 use Rattle.dist_outside.specs.declared.trouble.WorkError.TheVariants.{WriteFault, TooLarge, NoMemory}
+use Rattle.dist_repo.specs.Order.{IsInOrder}
 use Rattle.dist_repo.specs.PackageList.{PackageList}
 use Rattle.dist_cert.specs.declared.records.CertKind.{CertKind}
 use Rattle.dist_cert.specs.declared.records.CertRecord.{CertRecord}
@@ -22,12 +23,14 @@ use Rattle.dist_cert.specs.PartByRecordsLaws.{IsHeaderOf}
 use Rattle.dist_cert.specs.Refusal.{lines_text, certificate_text}
 use Rattle.dist_cert.specs.Writing.{WriterView, ended}
 use Rattle.dist_subject.specs.Basis.{Basis, IsBasisOf, matter_of}
+use Rattle.dist_subject.specs.Inputs.{AreInputsOf}
 use Rattle.dist_subject.specs.Limited.{AreInputsWithin}
 use Rattle.dist_sweep.specs.Asking.{AskerView, IsLogAt}
 use Rattle.dist_sweep.specs.Claiming.{Keeping, IsSwept}
 use Rattle.dist_sweep.specs.Script.{Setting, AreWritten, IsCutOff, IsWriter, Stops, StopsBy, matter_in}
 use Rattle.dist_sweep.specs.Sweep.{SweepAnswers, header_of}
 use Rattle.dist_sweep.specs.Window.{WindowView, IsWindowAt}
+use Rattle.dist_sweep.specs.declared.sweep.SweepInputs.{SweepInputs}
 
 -- ---- the first line
 
@@ -160,3 +163,25 @@ FileAnswers Keeps header a c name old new result =
     (r : PackageList) (kind : CertKind) (essential : Bool) (limit : ℕ) (limits : Limits)
     → MayBegin Keeps r kind essential limit limits header a c
     → SweepAnswers r kind essential limit limits name old new result
+
+-- ---- the sweep
+
+-- the first line
+abbrev pub first_header : SweepInputs → Header
+first_header over = record {
+  kind = over.kind;
+  limit = over.limit;
+  packages = over.packages;
+  variables = over.clauses.variables;
+  clauses = length over.clauses.clauses;
+  essential = over.essential;
+}
+
+-- Over the input clauses of what certificates of a kind and mode are judged by, and where the claimant keeps what no
+-- lines hold, the answer is as it is to be, and so is what it leaves of the file.
+abbrev pub SweepsOver : {C : Type 0} → Keeping C → SweepInputs → Limits → C → (name : List ℕ) → DeskView → DeskView
+    → Result (List Claim) WorkError → Type 0
+SweepsOver Keeps over limits c name old new result = (r : PackageList) (basis : Basis) → IsInOrder r.packages
+    → AreInputsOf r over.kind over.essential limits basis over.clauses → over.packages ≡ (matter_of r basis).packages
+    → Keeps (setting_of r over.kind over.essential over.limit limits basis) [] c
+    → SweepAnswers r over.kind over.essential over.limit limits name old new result

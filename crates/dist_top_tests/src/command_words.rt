@@ -1,15 +1,16 @@
 //! The words of each command, and words that are of none.
 use crate::running::words_of;
+use dist_cert::CertKind;
 use dist_words::{Command, WordsError, command_of};
 use std::alloc::Global;
 use std::test::Fail;
 
-/// The options of `strong f g`, where these are the words of it.
-fn strong_options(alloc: Global, words: &[&str]) -> Result<Option<(u32, bool)>, Fail> {
+/// The kind and the options of a sweep of the files f and g, where these are the words of it.
+fn sweep_options(alloc: Global, words: &[&str]) -> Result<Option<(CertKind, u32, bool)>, Fail> {
     let words = words_of(alloc, words)?;
     match command_of(alloc, &words) {
-        Ok(Command::Strong(read)) if read.packages == "f" && read.cert == "g" => {
-            Ok(Some((read.limit, read.essential)))
+        Ok(Command::Sweep(read)) if read.packages == "f" && read.cert == "g" => {
+            Ok(Some((read.kind, read.limit, read.essential)))
         }
         _ => Ok(None),
     }
@@ -18,11 +19,11 @@ fn strong_options(alloc: Global, words: &[&str]) -> Result<Option<(u32, bool)>, 
 #[test]
 fn options_are_read(rt: HostRuntime) -> Result<(), Fail> {
     let alloc = rt.alloc();
-    let plain = strong_options(alloc, &["strong", "f", "g"])?;
-    assert_eq!(rt; plain, Some((10_000, false)));
-    let equals = strong_options(alloc, &["strong", "f", "g", "--limit=3"])?;
-    assert_eq!(rt; equals, Some((3, false)));
-    let before = strong_options(
+    let plain = sweep_options(alloc, &["strong", "f", "g"])?;
+    assert_eq!(rt; plain, Some((CertKind::Strong, 10_000, false)));
+    let equals = sweep_options(alloc, &["strong", "f", "g", "--limit=3"])?;
+    assert_eq!(rt; equals, Some((CertKind::Strong, 3, false)));
+    let before = sweep_options(
         alloc,
         &[
             "--essential",
@@ -34,7 +35,11 @@ fn options_are_read(rt: HostRuntime) -> Result<(), Fail> {
             "g",
         ],
     )?;
-    assert_eq!(rt; before, Some((1_000_000, true)));
+    assert_eq!(rt; before, Some((CertKind::Strong, 1_000_000, true)));
+    let outdated = sweep_options(alloc, &["outdated", "f", "g"])?;
+    assert_eq!(rt; outdated, Some((CertKind::Outdated, 10_000, false)));
+    let challenged = sweep_options(alloc, &["challenged", "f", "g", "--essential", "--limit=3"])?;
+    assert_eq!(rt; challenged, Some((CertKind::Challenged, 3, true)));
     Ok(())
 }
 
@@ -61,7 +66,7 @@ fn files_are_read(rt: HostRuntime) -> Result<(), Fail> {
 #[test]
 fn other_words_are_refused(rt: HostRuntime) -> Result<(), Fail> {
     let alloc = rt.alloc();
-    let lists: [&[&str]; 17] = [
+    let lists: [&[&str]; 20] = [
         &[],
         &["strong", "f"],
         &["health", "f", "g", "--limit", "3"],
@@ -78,6 +83,9 @@ fn other_words_are_refused(rt: HostRuntime) -> Result<(), Fail> {
         &["strong", "f", "g", "--lim", "3"],
         &["strong", "f", "g", "h"],
         &["strongly", "f", "g"],
+        &["outdated", "f"],
+        &["challenged", "f", "g", "--size", "3"],
+        &["outdated", "f", "g", "--limit", "0"],
         &["--help"],
     ];
     for list in lists {

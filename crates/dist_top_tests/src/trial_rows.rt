@@ -6,14 +6,14 @@ use std::test::Fail;
 const TRIAL: Row = Row {
     words: &["try", "--size", "2", "--seed", "0"],
     failing: Failing { desk: 1, ..NOTHING },
-    out: "size 2\nstrong 1\nuninstallable 0\nundecided 0\naccepted 1\n",
+    out: "size 2\nstrong 1\nuninstallable 0\noutdated 0\nchallenged 0\nundecided 0\naccepted 3\n",
     ..EMPTY
 };
 
 // A larger one, which comes to the same each time.
 const LARGER: Row = Row {
     words: &["try", "--size", "60", "--seed", "1"],
-    out: "size 60\nstrong 41\nuninstallable 13\nundecided 0\naccepted 1\n",
+    out: "size 60\nstrong 41\nuninstallable 13\noutdated 2\nchallenged 8\nundecided 0\naccepted 3\n",
     ..TRIAL
 };
 

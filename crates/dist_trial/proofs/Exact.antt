@@ -1,6 +1,5 @@
 -- When a trial gives each answer, by its two stages.
-use Rattle.std.proofs.Common.{◌≡◌, ◌≢◌, ◌∙◌, ◌<◌, ◌≤◌, ℕ, false, List, Result, Ok, Err, length, refl, sym, ap, subst, arith}
-use Rattle.dist_base.specs.declared.TheConstants.{DEFAULT_LIMIT}
+use Rattle.std.proofs.Common.{◌≡◌, ◌≢◌, ◌⊎◌, ◌∙◌, ◌<◌, ◌≤◌, inl, inr, ℕ, false, List, Result, Ok, Err, length, refl, sym, ap, subst, arith}
 use Rattle.dist_base.specs.Answers.{IsExactly}
 use Rattle.dist_outside.specs.declared.limits.Limits.{Limits}
 use Rattle.dist_outside.specs.declared.trouble.What.{What}
@@ -8,30 +7,32 @@ use Rattle.dist_outside.specs.declared.trouble.What.TheVariants.{Bytes, Stanzas,
 use Rattle.dist_outside.specs.declared.trouble.WorkError.{WorkError}
 use Rattle.dist_outside.specs.declared.trouble.WorkError.TheVariants.{ReadFault, WriteFault, TooLarge, NoMemory}
 use Rattle.dist_repo.specs.PackageList.{PackageList}
-use Rattle.dist_now.specs.PresentSet.{PassesClauses, PassesLiterals}
+use Rattle.dist_cert.specs.declared.records.CertKind.{CertKind}
 use Rattle.dist_cert.specs.declared.records.CertKind.TheVariants as kinds
-use Rattle.dist_sweep.specs.Sweep.{IsFull}
+use Rattle.dist_subject.specs.Limited.{PassesFirst}
 use Rattle.dist_generate.specs.Generator.{generated}
-use Rattle.dist_trial.specs.Trial.{ArchiveAnswers, IsTrial, OfArchive, SweptAnswers, TrialAnswers}
+use Rattle.dist_trial.specs.Trial.{ArchiveAnswers, IsStoppedAt, IsTrial, OfArchive, Tells, TrialAnswers}
 use Rattle.dist_trial.specs.declared.trials.Trial.{Trial}
 use Rattle.dist_trial.proofs.Archives.{OneAnswerLaw}
-use Rattle.dist_trial.proofs.Sweeps.{same-error}
+use Rattle.dist_trial.proofs.Sweeps.{GivesTrial, same-error}
 
 -- ---- an error that comes
 
 neither : {X : Type 0} (result : Result X WorkError) (error : WorkError) (P : Type 0) → result ≢ Err error → (¬ P) → IsExactly NoMemory result error P
 neither result error P not none = λ free. ((λ is. absurd (not is)), λ p. absurd (none p))
 
-exact-iff : {X : Type 0} (result : Result X WorkError) (error : WorkError) (P Q : Type 0) → (P → Q) → (Q → P) → IsExactly NoMemory result error P
-    → IsExactly NoMemory result error Q
-exact-iff result error P Q to from exact = λ free. ((λ is. to ((exact free).0 is)), λ q. (exact free).1 (from q))
+-- no sweep passes the numbers of an archive
+not-bytes : (r : PackageList) (kind : CertKind) (limits : Limits) → IsStoppedAt r kind limits Bytes → ⊥
+not-bytes r kinds.Strong limits (inl passes) = passes
+not-bytes r kinds.Outdated limits (inl passes) = passes
+not-bytes r kinds.Challenged limits (inl passes) = passes
+not-bytes r kind limits (inr full) = full.1.2.passes
 
--- only four numbers are passed by a part
-not-full : (r : PackageList) (limits : Limits) (text : List ℕ) → IsFull r kinds.Strong false DEFAULT_LIMIT limits Bytes text → ⊥
-not-full r limits text full = full.2.passes
-
-not-full-stanzas : (r : PackageList) (limits : Limits) (text : List ℕ) → IsFull r kinds.Strong false DEFAULT_LIMIT limits Stanzas text → ⊥
-not-full-stanzas r limits text full = full.2.passes
+not-stanzas : (r : PackageList) (kind : CertKind) (limits : Limits) → IsStoppedAt r kind limits Stanzas → ⊥
+not-stanzas r kinds.Strong limits (inl passes) = passes
+not-stanzas r kinds.Outdated limits (inl passes) = passes
+not-stanzas r kinds.Challenged limits (inl passes) = passes
+not-stanzas r kind limits (inr full) = full.1.2.passes
 
 apart : (what other : What) → what ≢ other → TooLarge what ≢ TooLarge other
 apart what other not is = not (cc)
@@ -93,22 +94,24 @@ module _ (size seed : ℕ) (limits : Limits) where
       archive-exact error (TooLarge Stanzas) IsPast stops (λ over is. absurd (apart Bytes Stanzas (λ e. cc) is)) (λ past is. past)
       (λ over past. absurd (over-past over past)) (λ past p. refl)
 
-  -- no error of the sweep comes before there is a repository
-  archive-later : {X : Type 0} (error : WorkError) (what : What) (Q : PackageList → Type 0) → Bytes ≢ what → Stanzas ≢ what
-      → ArchiveAnswers size seed limits (Err error)
-      → IsExactly {X = X} NoMemory (Err error) (TooLarge what) (OfArchive size seed limits Q)
-  archive-later error what Q not-bytes not-stanzas stops =
-      archive-exact error (TooLarge what) (OfArchive size seed limits Q) stops (λ over is. absurd (apart Bytes what not-bytes is))
-      (λ past is. absurd (apart Stanzas what not-stanzas is))
-      (λ over o. absurd (omega (arith, over, o.bytes))) (λ past o. absurd (omega (arith, past.1, o.stanzas)))
+  -- the input clauses of the first kind, of the archive's repository, pass this number first
+  abbrev pub PassesOfArchive : What → Type 0
+  PassesOfArchive what = OfArchive size seed limits (λ r. PassesFirst r kinds.Strong false limits what)
 
-  pub archive-clauses : {X : Type 0} (error : WorkError) (Q : PackageList → Type 0) → ArchiveAnswers size seed limits (Err error)
-      → IsExactly {X = X} NoMemory (Err error) (TooLarge Clauses) (OfArchive size seed limits Q)
-  archive-clauses error Q stops = archive-later error Clauses Q (λ e. cc) (λ e. cc) stops
-
-  pub archive-literals : {X : Type 0} (error : WorkError) (Q : PackageList → Type 0) → ArchiveAnswers size seed limits (Err error)
-      → IsExactly {X = X} NoMemory (Err error) (TooLarge Literals) (OfArchive size seed limits Q)
-  archive-literals error Q stops = archive-later error Literals Q (λ e. cc) (λ e. cc) stops
+  -- there are none before there is a repository
+  pub archive-first : {X : Type 0} (error : WorkError) → ArchiveAnswers size seed limits (Err error) → Tells {X = X} PassesOfArchive (Err error)
+  archive-first (TooLarge Bytes) over = λ what o. absurd (omega (arith, over, o.bytes))
+  archive-first (TooLarge Stanzas) past = λ what o. absurd (omega (arith, past.1, o.stanzas))
+  archive-first NoMemory stops = λ what o. inr refl
+  archive-first ReadFault stops = absurd stops
+  archive-first WriteFault stops = absurd stops
+  archive-first (TooLarge Variables) stops = absurd stops
+  archive-first (TooLarge Clauses) stops = absurd stops
+  archive-first (TooLarge Literals) stops = absurd stops
+  archive-first (TooLarge Lines) stops = absurd stops
+  archive-first (TooLarge LineLiterals) stops = absurd stops
+  archive-first (TooLarge Certificate) stops = absurd stops
+  archive-first (TooLarge RecordLine) stops = absurd stops
 
   -- ---- where there is one
 
@@ -116,39 +119,36 @@ module _ (size seed : ℕ) (limits : Limits) where
     with-it : (P : PackageList → Type 0) → P r → OfArchive size seed limits P
     with-it P p = record { bytes = o.bytes; stanzas = o.stanzas; repository = o.repository; is_repository = o.is_repository; holds = subst P (sym o.holds) p }
 
-    pub swept-answers : (result : Result Trial WorkError) → SweptAnswers (λ done. IsTrial size limits done r) r limits result
-        → TrialAnswers size seed limits result
+    stopped : (what : What) → (kind : CertKind) × IsStoppedAt r kind limits what
+        → OfArchive size seed limits (λ p. (kind : CertKind) × IsStoppedAt p kind limits what)
+    stopped what a = with-it (λ p. (kind : CertKind) × IsStoppedAt p kind limits what) a
+
+    pub swept-answers : (result : Result Trial WorkError) → GivesTrial size r limits result → TrialAnswers size seed limits result
     swept-answers (Ok done) a = with-it (IsTrial size limits done) a
-    swept-answers (Err (TooLarge Clauses)) a = with-it (λ r. PassesClauses r false limits.clauses limits.literals) a
-    swept-answers (Err (TooLarge Literals)) a = with-it (λ r. PassesLiterals r false limits.clauses limits.literals) a
-    swept-answers (Err (TooLarge Bytes)) a = absurd (not-full r limits a.0 a.1)
-    swept-answers (Err (TooLarge Stanzas)) a = absurd (not-full-stanzas r limits a.0 a.1)
-    swept-answers (Err (TooLarge Variables)) a = with-it (λ r. (text : List ℕ) × IsFull r kinds.Strong false DEFAULT_LIMIT limits Variables text) a
-    swept-answers (Err (TooLarge Lines)) a = with-it (λ r. (text : List ℕ) × IsFull r kinds.Strong false DEFAULT_LIMIT limits Lines text) a
-    swept-answers (Err (TooLarge LineLiterals)) a = with-it (λ r. (text : List ℕ) × IsFull r kinds.Strong false DEFAULT_LIMIT limits LineLiterals text) a
-    swept-answers (Err (TooLarge Certificate)) a = with-it (λ r. (text : List ℕ) × IsFull r kinds.Strong false DEFAULT_LIMIT limits Certificate text) a
-    swept-answers (Err (TooLarge RecordLine)) a = with-it (λ r. (text : List ℕ) × IsFull r kinds.Strong false DEFAULT_LIMIT limits RecordLine text) a
+    swept-answers (Err (TooLarge Bytes)) a = absurd (not-bytes r a.0 limits a.1)
+    swept-answers (Err (TooLarge Stanzas)) a = absurd (not-stanzas r a.0 limits a.1)
+    swept-answers (Err (TooLarge Variables)) a = stopped Variables a
+    swept-answers (Err (TooLarge Clauses)) a = stopped Clauses a
+    swept-answers (Err (TooLarge Literals)) a = stopped Literals a
+    swept-answers (Err (TooLarge Lines)) a = stopped Lines a
+    swept-answers (Err (TooLarge LineLiterals)) a = stopped LineLiterals a
+    swept-answers (Err (TooLarge Certificate)) a = stopped Certificate a
+    swept-answers (Err (TooLarge RecordLine)) a = stopped RecordLine a
     swept-answers (Err NoMemory) a = tt
     swept-answers (Err ReadFault) a = absurd a
     swept-answers (Err WriteFault) a = absurd a
 
-    pub swept-bytes : (result : Result Trial WorkError) → SweptAnswers (λ done. IsTrial size limits done r) r limits result
-        → IsExactly NoMemory result (TooLarge Bytes) IsOver
+    pub swept-bytes : (result : Result Trial WorkError) → GivesTrial size r limits result → IsExactly NoMemory result (TooLarge Bytes) IsOver
     swept-bytes result a =
-        neither result (TooLarge Bytes) IsOver (λ is. (let full = subst (SweptAnswers (λ done. IsTrial size limits done r) r limits) is a in
-        not-full r limits full.0 full.1))
+        neither result (TooLarge Bytes) IsOver (λ is. (let stops = subst (GivesTrial size r limits) is a in not-bytes r stops.0 limits stops.1))
         (λ over. omega (arith, over, o.bytes))
 
-    pub swept-stanzas : (result : Result Trial WorkError) → SweptAnswers (λ done. IsTrial size limits done r) r limits result
-        → IsExactly NoMemory result (TooLarge Stanzas) IsPast
+    pub swept-stanzas : (result : Result Trial WorkError) → GivesTrial size r limits result → IsExactly NoMemory result (TooLarge Stanzas) IsPast
     swept-stanzas result a =
-        neither result (TooLarge Stanzas) IsPast (λ is. (let full = subst (SweptAnswers (λ done. IsTrial size limits done r) r limits) is a in
-        not-full-stanzas r limits full.0 full.1))
+        neither result (TooLarge Stanzas) IsPast (λ is. (let stops = subst (GivesTrial size r limits) is a in not-stanzas r stops.0 limits stops.1))
         (λ past. omega (arith, past.1, o.stanzas))
 
-    pub swept-exact : OneAnswerLaw → (result : Result Trial WorkError) (error : WorkError) (P : PackageList → Type 0) → IsExactly NoMemory result error (P r)
-        → IsExactly NoMemory result error (OfArchive size seed limits P)
-    swept-exact one result error P exact =
-        exact-iff result error (P r) (OfArchive size seed limits P) (with-it P)
-        (λ q. subst P ((one (generated size seed) limits.stanzas).one_repository o.repository q.repository o.is_repository q.is_repository ∙ o.holds) q.holds)
-        exact
+    pub swept-first : OneAnswerLaw → (result : Result Trial WorkError) → Tells (PassesFirst r kinds.Strong false limits) result → Tells PassesOfArchive result
+    swept-first one result tells = λ what q. tells what
+        (subst (λ p. PassesFirst p kinds.Strong false limits what)
+        ((one (generated size seed) limits.stanzas).one_repository o.repository q.repository o.is_repository q.is_repository ∙ o.holds) q.holds)

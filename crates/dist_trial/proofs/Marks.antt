@@ -6,7 +6,7 @@ use Rattle.std.proofs.lemmas.List.Sums.{sum_by-cons}
 use Rattle.dist_cert.specs.declared.records.Claim.{Claim}
 use Rattle.dist_cert.specs.declared.records.Claim.TheVariants.{Uninstallable, Unknown, Strong, Outdated, Alive, Challenged}
 use Rattle.dist_report.specs.Marks.{has_mark}
-use Rattle.dist_trial.specs.Summary.{mark_count, marks_of}
+use Rattle.dist_trial.specs.Summary.{all_marks, has_marks, mark_count, marks_of}
 
 not-false : (b : Bool) → not b ≡ false → b ≡ true
 not-false true e = refl
@@ -31,5 +31,23 @@ none (claim ∷ made) =
       λ e. (
           let parts = or_parts (has_mark claim) (list_any has_mark made) e in
           omega (arith, sum, (of-one claim).1 parts.0, (none made).1 parts.1)
+          ),
+    )
+
+pub none-of-three : (strong outdated challenged : List Claim) → (all_marks strong outdated challenged ≡ 0) ↔ (has_marks strong outdated challenged ≡ false)
+none-of-three strong outdated challenged =
+    let some : Bool = list_any has_mark strong in
+    let more : Bool = list_any has_mark outdated in
+    let most : Bool = list_any has_mark challenged in (
+      λ e. (
+          let a : some ≡ false = (none strong).0 (omega (arith, e)) in
+          let b : more ≡ false = (none outdated).0 (omega (arith, e)) in
+          let d : most ≡ false = (none challenged).0 (omega (arith, e)) in
+          ap (λ (x : Bool). x || more || most) a ∙ ap (λ (x : Bool). x || most) b ∙ d
+          ),
+      λ e. (
+          let parts = or_parts (some || more) most e in
+          let firsts = or_parts some more parts.0 in
+          omega (arith, (none strong).1 firsts.0, (none outdated).1 firsts.1, (none challenged).1 parts.1)
           ),
     )

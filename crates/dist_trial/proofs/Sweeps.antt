@@ -1,10 +1,9 @@
 -- What comes of a sweep and of the check of its file.
-use Rattle.std.proofs.Common.{◌≡◌, ◌≢◌, ◌∙◌, ℕ, cond, false, List, Option, Some, Result, Ok, Err, refl, ap, subst}
+use Rattle.std.proofs.Common.{◌≡◌, ◌≢◌, ◌∙◌, ◌≤◌, ◌⊎◌, inl, inr, ℕ, Bool, cond, false, List, length, Option, Some, Result, Ok, Err, refl, ap, subst, arith}
 use Rattle.std.proofs.lemmas.Cmp.{nat_list_cmp_total}
 use Rattle.std.specs.Cmp.{eq_by_cmp_equiv}
 use Rattle.std.specs.FinMap.{get, insert, get-insert}
-use Rattle.dist_base.specs.declared.TheConstants.{DEFAULT_LIMIT}
-use Rattle.dist_base.specs.Answers.{IsExactly}
+use Rattle.dist_base.specs.declared.TheConstants.{DEFAULT_LIMIT, MAX_PACKAGES}
 use Rattle.dist_outside.specs.DeskView.{DeskView, Holds}
 use Rattle.dist_outside.specs.Files.{Files, Mode, Idle, file_bytes, with_file}
 use Rattle.dist_outside.specs.declared.limits.Limits.{Limits}
@@ -12,20 +11,24 @@ use Rattle.dist_outside.specs.declared.trouble.What.{What}
 use Rattle.dist_outside.specs.declared.trouble.What.TheVariants.{Bytes, Stanzas, Variables, Clauses, Literals, Lines, LineLiterals, Certificate, RecordLine}
 use Rattle.dist_outside.specs.declared.trouble.WorkError.{WorkError}
 use Rattle.dist_outside.specs.declared.trouble.WorkError.TheVariants.{ReadFault, WriteFault, TooLarge, NoMemory}
-use Rattle.dist_repo.specs.Order.{IsInOrder}
+use Rattle.dist_repo.specs.Order.{IsInOrder, IsLatestOf}
 use Rattle.dist_repo.specs.PackageList.{PackageList}
+use Rattle.dist_repo.specs.Size.{IsWithinSize}
 use Rattle.dist_cert.specs.declared.faults.CertFault.{CertFault}
 use Rattle.dist_cert.specs.declared.records.Claim.{Claim}
 use Rattle.dist_cert.specs.declared.records.Header.{Header}
+use Rattle.dist_cert.specs.declared.records.CertKind.{CertKind}
 use Rattle.dist_cert.specs.declared.records.CertKind.TheVariants as kinds
 use Rattle.dist_subject.specs.Basis.{matter_of}
 use Rattle.dist_sweep.specs.Sweep.{SweepAnswers, header_of}
 use Rattle.dist_check.specs.Answers.{Answers, IsOfText, IsVerdict}
 use Rattle.dist_check.specs.Checking.{OfText}
+use Rattle.dist_check.specs.Means.{Means}
 use Rattle.dist_check.specs.declared.verdict.Verdict.{Verdict}
 use Rattle.dist_check.specs.declared.verdict.Verdict.TheVariants.{Accepted, Refused}
 use Rattle.dist_trial.specs.ClaimingPrivate.{in_memory}
-use Rattle.dist_trial.specs.Trial.{AreSwept, SweptAnswers}
+use Rattle.dist_trial.specs.Trial.{AreSwept, IsStoppedAt, IsTrial, SweptAnswers, Tells}
+use Rattle.dist_trial.specs.declared.trials.Trial.{Trial}
 
 -- ---- a sweep that stops
 
@@ -35,61 +38,68 @@ no-error x error e = cc
 pub same-error : {X : Type 0} (result : Result X WorkError) (error other : WorkError) → result ≡ Err error → result ≡ Err other → error ≡ other
 same-error result error other is also = cc
 
--- an error comes as exactly from a call that hands it on
-pub exact-ok : {X Y : Type 0} (x : X) (y : Y) (error : WorkError) (P : Type 0) → IsExactly NoMemory (Ok x) error P → IsExactly NoMemory (Ok y) error P
-exact-ok x y error P exact = λ other. (
-  (λ is. absurd (no-error y error is)),
-  λ p. absurd (no-error x error ((exact (no-error x NoMemory)).1 p)),
-)
+-- what a call tells of numbers that are passed, where an answer is none of them, or is handed on
+pub tells-any : {X Y : Type 0} (Passes : What → Type 0) (x : X) (result : Result Y WorkError) → Tells Passes (Ok x) → Tells Passes result
+tells-any Passes x result tells = λ what passes. elim (tells what passes) [
+  | inl is ↦ absurd (no-error x (TooLarge what) is)
+  | inr is ↦ absurd (no-error x NoMemory is)
+]
 
-pub exact-err : {X Y : Type 0} (error other : WorkError) (P : Type 0) → IsExactly {X = X} NoMemory (Err error) other P
-    → IsExactly {X = Y} NoMemory (Err error) other P
-exact-err {X} {Y} error other P exact = λ free.
-    let x : Result X WorkError = Err error in
-    let y : Result Y WorkError = Err error in
-    let both = exact (λ is. free (ap Err (same-error x error NoMemory refl is))) in
-    ((λ is. both.0 (ap Err (same-error y error other refl is))), λ p. ap Err (same-error x error other refl (both.1 p)))
+pub tells-none : {Y : Type 0} (Passes : What → Type 0) → Tells {X = Y} Passes (Err NoMemory)
+tells-none Passes = λ what passes. inr refl
 
-pub exact-none : {Y : Type 0} (other : WorkError) (P : Type 0) → IsExactly {X = Y} NoMemory (Err NoMemory) other P
-exact-none other P = λ free. absurd (free refl)
+pub tells-err : {X Y : Type 0} (Passes : What → Type 0) (error : WorkError) → Tells {X = X} Passes (Err error) → Tells {X = Y} Passes (Err error)
+tells-err {X} {Y} Passes error tells = λ what passes.
+    let result : Result X WorkError = Err error in
+    elim (tells what passes) [
+      | inl is ↦ inl (ap Err (same-error result error (TooLarge what) refl is))
+      | inr is ↦ inr (ap Err (same-error result error NoMemory refl is))
+    ]
 
-pub exact-memory : {X Y : Type 0} (error other : WorkError) (P : Type 0) → IsExactly {X = X} NoMemory (Err error) other P
-    → IsExactly {X = Y} NoMemory (Err (in_memory error)) other P
-exact-memory ReadFault other P exact = exact-none other P
-exact-memory WriteFault other P exact = exact-none other P
-exact-memory (TooLarge what) other P exact = exact-err (TooLarge what) other P exact
-exact-memory NoMemory other P exact = exact-none other P
+pub tells-memory : {X Y : Type 0} (Passes : What → Type 0) (error : WorkError) → Tells {X = X} Passes (Err error)
+    → Tells {X = Y} Passes (Err (in_memory error))
+tells-memory Passes ReadFault tells = tells-none Passes
+tells-memory Passes WriteFault tells = tells-none Passes
+tells-memory Passes (TooLarge what) tells = tells-err Passes (TooLarge what) tells
+tells-memory Passes NoMemory tells = tells-none Passes
 
-pub sweep-stops : {X : Type 0} (Gives : X → Type 0) (r : PackageList) (limits : Limits) (name : List ℕ) (old new : DeskView) (error : WorkError)
-    → SweepAnswers r kinds.Strong false DEFAULT_LIMIT limits name old new (Err error) → SweptAnswers Gives r limits (Err (in_memory error))
-sweep-stops Gives r limits name old new ReadFault stops = tt
-sweep-stops Gives r limits name old new WriteFault stops = tt
-sweep-stops Gives r limits name old new NoMemory stops = tt
-sweep-stops Gives r limits name old new (TooLarge Clauses) stops = stops.1
-sweep-stops Gives r limits name old new (TooLarge Literals) stops = stops.1
-sweep-stops Gives r limits name old new (TooLarge Bytes) stops = (stops.0, stops.2)
-sweep-stops Gives r limits name old new (TooLarge Stanzas) stops = (stops.0, stops.2)
-sweep-stops Gives r limits name old new (TooLarge Variables) stops = absurd stops.1
-sweep-stops Gives r limits name old new (TooLarge Lines) stops = (stops.0, stops.2)
-sweep-stops Gives r limits name old new (TooLarge LineLiterals) stops = (stops.0, stops.2)
-sweep-stops Gives r limits name old new (TooLarge Certificate) stops = (stops.0, stops.2)
-sweep-stops Gives r limits name old new (TooLarge RecordLine) stops = (stops.0, stops.2)
+-- what the sweep of a kind and its check give
+abbrev pub GivesClaims : PackageList → CertKind → Limits → Result (List Claim) WorkError → Type 0
+GivesClaims r kind limits result = SweptAnswers (AreSwept r kind limits) (IsStoppedAt r kind limits) result
+
+pub sweep-stops : (r : PackageList) (kind : CertKind) (limits : Limits) (name : List ℕ) (old new : DeskView) (error : WorkError)
+    → SweepAnswers r kind false DEFAULT_LIMIT limits name old new (Err error) → GivesClaims r kind limits (Err (in_memory error))
+sweep-stops r kind limits name old new ReadFault stops = tt
+sweep-stops r kind limits name old new WriteFault stops = tt
+sweep-stops r kind limits name old new NoMemory stops = tt
+sweep-stops r kind limits name old new (TooLarge Variables) stops = inl stops.1
+sweep-stops r kind limits name old new (TooLarge Clauses) stops = inl stops.1
+sweep-stops r kind limits name old new (TooLarge Literals) stops = inl stops.1
+sweep-stops r kind limits name old new (TooLarge Bytes) stops = inr (stops.0, stops.2)
+sweep-stops r kind limits name old new (TooLarge Stanzas) stops = inr (stops.0, stops.2)
+sweep-stops r kind limits name old new (TooLarge Lines) stops = inr (stops.0, stops.2)
+sweep-stops r kind limits name old new (TooLarge LineLiterals) stops = inr (stops.0, stops.2)
+sweep-stops r kind limits name old new (TooLarge Certificate) stops = inr (stops.0, stops.2)
+sweep-stops r kind limits name old new (TooLarge RecordLine) stops = inr (stops.0, stops.2)
 
 -- the same error in place of another value
-pub stops-alike : {X Y : Type 0} (Gives : X → Type 0) (Others : Y → Type 0) (r : PackageList) (limits : Limits) (error : WorkError)
-    → SweptAnswers Gives r limits (Err error) → SweptAnswers Others r limits (Err error)
-stops-alike Gives Others r limits ReadFault stops = stops
-stops-alike Gives Others r limits WriteFault stops = stops
-stops-alike Gives Others r limits NoMemory stops = stops
-stops-alike Gives Others r limits (TooLarge Clauses) stops = stops
-stops-alike Gives Others r limits (TooLarge Literals) stops = stops
-stops-alike Gives Others r limits (TooLarge Bytes) stops = stops
-stops-alike Gives Others r limits (TooLarge Stanzas) stops = stops
-stops-alike Gives Others r limits (TooLarge Variables) stops = stops
-stops-alike Gives Others r limits (TooLarge Lines) stops = stops
-stops-alike Gives Others r limits (TooLarge LineLiterals) stops = stops
-stops-alike Gives Others r limits (TooLarge Certificate) stops = stops
-stops-alike Gives Others r limits (TooLarge RecordLine) stops = stops
+pub stops-alike : {X Y : Type 0} (Gives : X → Type 0) (Others : Y → Type 0) (Stops More : What → Type 0) (error : WorkError)
+    → ((what : What) → Stops what → More what) → SweptAnswers Gives Stops (Err error) → SweptAnswers Others More (Err error)
+stops-alike Gives Others Stops More ReadFault more stops = stops
+stops-alike Gives Others Stops More WriteFault more stops = stops
+stops-alike Gives Others Stops More NoMemory more stops = stops
+stops-alike Gives Others Stops More (TooLarge what) more stops = more what stops
+
+-- what the three sweeps and their checks give
+abbrev pub GivesTrial : ℕ → PackageList → Limits → Result Trial WorkError → Type 0
+GivesTrial size r limits result = SweptAnswers (λ done. IsTrial size limits done r) (λ what. (kind : CertKind) × IsStoppedAt r kind limits what) result
+
+-- one that stops
+pub kind-stops : (size : ℕ) (r : PackageList) (kind : CertKind) (limits : Limits) (error : WorkError) → GivesClaims r kind limits (Err error)
+    → GivesTrial size r limits (Err error)
+kind-stops size r kind limits error stops =
+    stops-alike (AreSwept r kind limits) (λ done. IsTrial size limits done r) (IsStoppedAt r kind limits)
+    (λ what. (other : CertKind) × IsStoppedAt r other limits what) error (λ what stopped. (kind, stopped)) stops
 
 -- ---- the check of a sweep's file
 
@@ -113,17 +123,17 @@ OneVerdictLaw = (r : PackageList) (limits : Limits) (text : List ℕ) (verdict o
     → verdict ≡ other
 
 -- What a sweep wrote to a desk that tells its files.
-abbrev pub IsWritten : PackageList → Limits → (name : List ℕ) → Files → (old new : DeskView) → List Claim → Type 0
-IsWritten r limits name files old new made = (old.files ≡ Some files) × SweepAnswers r kinds.Strong false DEFAULT_LIMIT limits name old new (Ok made)
+abbrev pub IsWritten : PackageList → CertKind → Limits → (name : List ℕ) → Files → (old new : DeskView) → List Claim → Type 0
+IsWritten r kind limits name files old new made = (old.files ≡ Some files) × SweepAnswers r kind false DEFAULT_LIMIT limits name old new (Ok made)
 
-verdict-same : RightLaw → OneVerdictLaw → (r : PackageList) (limits : Limits) (name : List ℕ) (files : Files) (old new : DeskView) (made : List Claim)
-    (verdict : Verdict) → (w : IsWritten r limits name files old new made)
+verdict-same : RightLaw → OneVerdictLaw → (r : PackageList) (kind : CertKind) (limits : Limits) (name : List ℕ) (files : Files) (old new : DeskView)
+    (made : List Claim) (verdict : Verdict) → (w : IsWritten r kind limits name files old new made)
     → OfText (file_bytes new.files name) (λ text. Answers r limits text (Ok verdict))
-    → Accepted (header_of kinds.Strong false DEFAULT_LIMIT (matter_of r w.1.2.0)) made ≡ verdict
-verdict-same right one r limits name files old new made verdict w of =
+    → Accepted (header_of kind false DEFAULT_LIMIT (matter_of r w.1.2.0)) made ≡ verdict
+verdict-same right one r kind limits name files old new made verdict w of =
     let text : List ℕ = w.1.0 in
     let answers : Answers r limits text (Ok verdict) = of-file (λ t. Answers r limits t (Ok verdict)) files name text Idle old new w.0 w.1.1 of in
-    let first : Verdict = Accepted (header_of kinds.Strong false DEFAULT_LIMIT (matter_of r w.1.2.0)) made in
+    let first : Verdict = Accepted (header_of kind false DEFAULT_LIMIT (matter_of r w.1.2.0)) made in
     one r limits text first verdict (right r limits text first w.1.2.2.0) (right r limits text verdict answers)
 
 same-claims : (h other : Header) (made claims : List Claim) → Accepted h made ≡ Accepted other claims → made ≡ claims
@@ -132,21 +142,21 @@ same-claims h other made claims e = cc
 accepted≢refused : (h : Header) (made : List Claim) (fault : CertFault) → Accepted h made ≢ Refused fault
 accepted≢refused h made fault e = cc
 
-pub accepted : RightLaw → OneVerdictLaw → (r : PackageList) (limits : Limits) (name : List ℕ) (files : Files) (old new : DeskView) (made : List Claim)
-    (h : Header) (claims : List Claim)
-    → IsWritten r limits name files old new made → OfText (file_bytes new.files name) (λ text. Answers r limits text (Ok (Accepted h claims)))
-    → AreSwept r limits claims
-accepted right one r limits name files old new made h claims w of =
-    let same = same-claims (header_of kinds.Strong false DEFAULT_LIMIT (matter_of r w.1.2.0)) h made claims
-    (verdict-same right one r limits name files old new made (Accepted h claims) w of) in
-    subst (AreSwept r limits) same (w.1.0, w.1.2)
+pub accepted : RightLaw → OneVerdictLaw → (r : PackageList) (kind : CertKind) (limits : Limits) (name : List ℕ) (files : Files) (old new : DeskView)
+    (made : List Claim) (h : Header) (claims : List Claim)
+    → IsWritten r kind limits name files old new made → OfText (file_bytes new.files name) (λ text. Answers r limits text (Ok (Accepted h claims)))
+    → AreSwept r kind limits claims
+accepted right one r kind limits name files old new made h claims w of =
+    let same = same-claims (header_of kind false DEFAULT_LIMIT (matter_of r w.1.2.0)) h made claims
+    (verdict-same right one r kind limits name files old new made (Accepted h claims) w of) in
+    subst (AreSwept r kind limits) same (w.1.0, w.1.2)
 
-pub not-refused : RightLaw → OneVerdictLaw → (r : PackageList) (limits : Limits) (name : List ℕ) (files : Files) (old new : DeskView) (made : List Claim)
-    (fault : CertFault)
-    → IsWritten r limits name files old new made → ¬ OfText (file_bytes new.files name) (λ text. Answers r limits text (Ok (Refused fault)))
-not-refused right one r limits name files old new made fault w of =
-    accepted≢refused (header_of kinds.Strong false DEFAULT_LIMIT (matter_of r w.1.2.0)) made fault
-    (verdict-same right one r limits name files old new made (Refused fault) w of)
+pub not-refused : RightLaw → OneVerdictLaw → (r : PackageList) (kind : CertKind) (limits : Limits) (name : List ℕ) (files : Files) (old new : DeskView)
+    (made : List Claim) (fault : CertFault)
+    → IsWritten r kind limits name files old new made → ¬ OfText (file_bytes new.files name) (λ text. Answers r limits text (Ok (Refused fault)))
+not-refused right one r kind limits name files old new made fault w of =
+    accepted≢refused (header_of kind false DEFAULT_LIMIT (matter_of r w.1.2.0)) made fault
+    (verdict-same right one r kind limits name files old new made (Refused fault) w of)
 
 abbrev pub OneAnswerLaw : Type 0
 OneAnswerLaw = (r : PackageList) (limits : Limits) (text : List ℕ) (result other : Result Verdict WorkError) → IsInOrder r.packages
@@ -156,12 +166,24 @@ OneAnswerLaw = (r : PackageList) (limits : Limits) (text : List ℕ) (result oth
 large≢verdict : (what : What) (verdict : Verdict) → Err (TooLarge what) ≢ Ok verdict
 large≢verdict what verdict e = cc
 
-pub not-large : OneAnswerLaw → (r : PackageList) (limits : Limits) (name : List ℕ) (files : Files) (old new : DeskView) (made : List Claim) (what : What)
-    → IsInOrder r.packages
-    → IsWritten r limits name files old new made → ¬ OfText (file_bytes new.files name) (λ text. Answers r limits text (Err (TooLarge what)))
-not-large one r limits name files old new made what ordered w of =
+pub not-large : OneAnswerLaw → (r : PackageList) (kind : CertKind) (limits : Limits) (name : List ℕ) (files : Files) (old new : DeskView) (made : List Claim)
+    (what : What) → IsInOrder r.packages
+    → IsWritten r kind limits name files old new made → ¬ OfText (file_bytes new.files name) (λ text. Answers r limits text (Err (TooLarge what)))
+not-large one r kind limits name files old new made what ordered w of =
     let text : List ℕ = w.1.0 in
     let answers : Answers r limits text (Err (TooLarge what)) =
     of-file (λ t. Answers r limits t (Err (TooLarge what))) files name text Idle old new w.0 w.1.1 of in
-    let first : Verdict = Accepted (header_of kinds.Strong false DEFAULT_LIMIT (matter_of r w.1.2.0)) made in
+    let first : Verdict = Accepted (header_of kind false DEFAULT_LIMIT (matter_of r w.1.2.0)) made in
     large≢verdict what first (one r limits text (Ok first) (Err (TooLarge what)) ordered w.1.2.2.0 answers tt tt)
+
+-- ---- how many claims there are
+
+abbrev pub WithinLaw : Type 0
+WithinLaw = (r latest : PackageList) → IsLatestOf r latest → IsWithinSize r → IsWithinSize latest
+
+-- no more than packages
+pub few-claims : WithinLaw → (r : PackageList) (kind : CertKind) (essential : Bool) (made : List Claim) → IsWithinSize r → Means kind essential r made
+    → length made ≤ MAX_PACKAGES
+few-claims within r kinds.Strong essential made size means = omega (arith, means.are_claims.one_each, size.packages)
+few-claims within r kinds.Outdated essential made size means = omega (arith, means.2.one_each, (within r means.0 means.1 size).packages)
+few-claims within r kinds.Challenged essential made size means = omega (arith, means.3.one_each, (within r means.0.repository means.1 size).packages)

@@ -1,19 +1,20 @@
 //! The claims of a repository: a sweep writes its certificate to a desk in memory, and the check reads it there.
-ghost use Rattle.std.specs.Prelude.{◌≡◌, ◌≢◌, ℕ, false, Err, Result};
-ghost use Rattle.dist_base.specs.Answers.{IsExactly};
-ghost use Rattle.dist_now.specs.PresentSet.{PassesClauses, PassesLiterals};
-ghost use Rattle.dist_outside.specs.declared.trouble.What.TheVariants as what;
-ghost use Rattle.dist_outside.specs.declared.trouble.WorkError.TheVariants.{NoMemory, TooLarge};
+ghost use Rattle.std.specs.Prelude.{◌≡◌, ◌≤◌, IfOk, codes, false, length};
+ghost use Rattle.dist_base.specs.declared.TheConstants.{DEFAULT_LIMIT, MAX_PACKAGES};
+ghost use Rattle.dist_outside.specs.Files.{IsNotWriting};
+ghost use Rattle.dist_outside.specs.Memory.{desk_view};
 ghost use Rattle.dist_repo.specs.Size.{IsWithinSize};
-ghost use Rattle.dist_subject.specs.Limited.{AreStated};
+ghost use Rattle.dist_subject.specs.Limited.{AreStated, PassesFirst};
+ghost use Rattle.dist_sweep.specs.Sweep.{SweepAnswers, TellsFirst};
 ghost use Rattle.dist_trial.specs.ClaimingPrivate.{in_memory};
-ghost use Rattle.dist_trial.specs.Trial.{AreSwept, SweptAnswers};
+ghost use Rattle.dist_trial.specs.Trial.{AreSwept, IsStoppedAt, SweptAnswers, Tells};
 
 use dist_base::DEFAULT_LIMIT;
-use dist_cert::Claims;
+use dist_cert::{CertKind, Claims};
+use dist_challenge::{challenged, outdated};
 use dist_check::{Verdict, check, texts_have_one_answer, texts_have_one_verdict};
 use dist_outside::{Limits, MemoryDesk, WorkError};
-use dist_repo::Repository;
+use dist_repo::{Repository, latest_is_one};
 use dist_strong::strong;
 use std::alloc::Global;
 
@@ -30,33 +31,49 @@ fn in_memory(error: WorkError) -> WorkError
     }
 }
 
-/// The claims of a certificate of the repository, plain, which is written and then checked.
+/// Writes the certificate of a kind, plain.
+fn write(
+    alloc: Global,
+    repo: &Repository,
+    kind: CertKind,
+    desk: &mut MemoryDesk,
+    limits: &Limits,
+) -> Result<Claims, WorkError>
+    requires idle { IsNotWriting desk.old.mode }
+    requires size { IsWithinSize repo.now }
+    requires limits { AreStated limits.now }
+    ensures answers { SweepAnswers repo.now kind false DEFAULT_LIMIT limits.now (codes "certificate") (desk_view desk.old) (desk_view desk.new) result }
+    ensures first { TellsFirst repo.now kind false limits.now result }
+{
+    let (name, limit) = (CERTIFICATE, DEFAULT_LIMIT);
+    match kind {
+        CertKind::Strong => strong(alloc, repo, false, desk, name, limit, limits),
+        CertKind::Outdated => outdated(alloc, repo, false, desk, name, limit, limits),
+        CertKind::Challenged => challenged(alloc, repo, false, desk, name, limit, limits),
+    }
+}
+
+/// The claims of a certificate of a kind, plain, which is written and then checked.
 #[tactic(none)]
 pub(crate) fn claims_of(
     alloc: Global,
     repo: &Repository,
+    kind: CertKind,
     limits: &Limits,
 ) -> Result<Claims, WorkError>
     requires size { IsWithinSize repo.now }
     requires limits { AreStated limits.now }
-    ensures answers { SweptAnswers (AreSwept repo.now limits.now) repo.now limits.now result }
-    ensures too_many_clauses { IsExactly NoMemory result (TooLarge what.Clauses) (PassesClauses repo.now false limits.now.clauses limits.now.literals) }
-    ensures too_many_literals { IsExactly NoMemory result (TooLarge what.Literals) (PassesLiterals repo.now false limits.now.clauses limits.now.literals) }
+    ensures answers { SweptAnswers (AreSwept repo.now kind limits.now) (IsStoppedAt repo.now kind limits.now) result }
+    ensures few { IfOk result (λ made. length made ≤ MAX_PACKAGES) }
+    ensures first { Tells (PassesFirst repo.now kind false limits.now) result }
 {
+    latest_is_one();
     texts_have_one_verdict();
     texts_have_one_answer();
     // The packages of a repository are in order.
     let _ = repo.len();
     let mut desk = MemoryDesk::new(alloc, usize::MAX, &[])?;
-    match strong(
-        alloc,
-        repo,
-        false,
-        &mut desk,
-        CERTIFICATE,
-        DEFAULT_LIMIT,
-        limits,
-    ) {
+    match write(alloc, repo, kind, &mut desk, limits) {
         Ok(_) => {}
         Err(error) => return Err(in_memory(error)),
     }

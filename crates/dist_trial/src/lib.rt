@@ -1,6 +1,8 @@
-//! Trials: an archive of a size and a seed is made, swept and checked in memory, and what comes of it is told in a few lines.
+//! Trials: an archive of a size and a seed is made, swept for each kind of certificate and checked in memory, and what comes of it
+//! is told in a few lines.
 //!
-//! A trial takes what its sweep and its check take, apart from work linear in the bytes of the archive and of the certificate.
+//! A trial takes what its sweeps and their checks take, one after another, apart from work linear in the bytes of the archive and of
+//! the certificates. Only one certificate is in memory at a time.
 #![tactic(auto)]
 
 mod archive;

@@ -1,9 +1,8 @@
 //! The lines of a summary.
-ghost use Rattle.std.specs.Prelude.{◌≡◌, ◌++◌, IfOk, OnOk, codes, length, sum_by};
-ghost use Rattle.std.specs.List.{list_any};
-ghost use Rattle.dist_report.specs.Marks.{has_mark};
+ghost use Rattle.std.specs.Prelude.{◌≡◌, ◌++◌, ◌*◌, ◌≤◌, IfOk, OnOk, codes, length, sum_by};
+ghost use Rattle.dist_base.specs.declared.TheConstants.{MAX_PACKAGES};
 ghost use Rattle.dist_trial.specs.FiguresPrivate.{figure_in};
-ghost use Rattle.dist_trial.specs.Summary.{number_line, summary_text};
+ghost use Rattle.dist_trial.specs.Summary.{all_marks, has_marks, number_line, summary_text};
 
 use crate::trials::Trial;
 use dist_cert::{Claim, Claims};
@@ -16,6 +15,8 @@ use std::alloc::{AllocError, Global};
 pub(crate) enum Figure {
     Pairs,
     NotInstallable,
+    Replaced,
+    Challenges,
     Marks,
 }
 
@@ -26,6 +27,8 @@ fn figure_of(claim: &Claim, figure: Figure) -> usize
     match (claim, figure) {
         (Claim::Strong(on, _), Figure::Pairs) => on.len(),
         (Claim::Uninstallable, Figure::NotInstallable) => 1,
+        (Claim::Outdated, Figure::Replaced) => 1,
+        (Claim::Challenged(by, _), Figure::Challenges) => by.len(),
         (Claim::Unknown, Figure::Marks) => 1,
         (Claim::Strong(_, undecided), Figure::Marks) => undecided.len(),
         (Claim::Challenged(_, undecided), Figure::Marks) => undecided.len(),
@@ -35,7 +38,8 @@ fn figure_of(claim: &Claim, figure: Figure) -> usize
 
 /// A figure of all claims. No list of claims is so long that it passes 128 bits.
 fn total(claims: &Claims, figure: Figure) -> u128
-    ensures { result ≡ sum_by (figure_in figure) claims.now }
+    ensures sum { result ≡ sum_by (figure_in figure) claims.now }
+    ensures fits { result ≤ 18446744073709551615 * length claims.now }
 {
     let mut sum = 0u128;
     for place in 0..claims.len() {
@@ -55,23 +59,63 @@ fn add_line(text: &mut Vec<u8>, key: &[u8], number: u128) -> Result<(), AllocErr
     Ok(())
 }
 
-/// What is told of accepted claims.
-pub(crate) fn told(alloc: Global, size: u32, claims: &Claims) -> Result<Trial, AllocError>
-    ensures summary { IfOk result (λ done. done.summary.items ≡ summary_text size claims.now) }
-    ensures undecided { IfOk result (λ done. done.undecided ≡ list_any has_mark claims.now) }
+/// The marks of three certificates.
+fn all_marks(strong: &Claims, outdated: &Claims, challenged: &Claims) -> u128
+    requires strong { length strong.now ≤ MAX_PACKAGES }
+    requires outdated { length outdated.now ≤ MAX_PACKAGES }
+    requires challenged { length challenged.now ≤ MAX_PACKAGES }
+    ensures { result ≡ all_marks strong.now outdated.now challenged.now }
+{
+    total(strong, Figure::Marks) + total(outdated, Figure::Marks) + total(challenged, Figure::Marks)
+}
+
+/// Whether one of three certificates has a mark.
+fn has_marks(strong: &Claims, outdated: &Claims, challenged: &Claims) -> bool
+    ensures { result ≡ has_marks strong.now outdated.now challenged.now }
+{
+    some_has_mark(strong) || some_has_mark(outdated) || some_has_mark(challenged)
+}
+
+/// What is told of the accepted claims of three certificates.
+pub(crate) fn told(
+    alloc: Global,
+    size: u32,
+    strong: &Claims,
+    outdated: &Claims,
+    challenged: &Claims,
+) -> Result<Trial, AllocError>
+    requires strong { length strong.now ≤ MAX_PACKAGES }
+    requires outdated { length outdated.now ≤ MAX_PACKAGES }
+    requires challenged { length challenged.now ≤ MAX_PACKAGES }
+    ensures summary { IfOk result (λ done. done.summary.items ≡ summary_text size strong.now outdated.now challenged.now) }
+    ensures undecided { IfOk result (λ done. done.undecided ≡ has_marks strong.now outdated.now challenged.now) }
 {
     let mut summary = Vec::new(alloc);
     add_line(&mut summary, b"size ", u128::from(size))?;
-    add_line(&mut summary, b"strong ", total(claims, Figure::Pairs))?;
+    add_line(&mut summary, b"strong ", total(strong, Figure::Pairs))?;
     add_line(
         &mut summary,
         b"uninstallable ",
-        total(claims, Figure::NotInstallable),
+        total(strong, Figure::NotInstallable),
     )?;
-    add_line(&mut summary, b"undecided ", total(claims, Figure::Marks))?;
-    summary.extend_from_slice(b"accepted 1\n")?;
+    add_line(
+        &mut summary,
+        b"outdated ",
+        total(outdated, Figure::Replaced),
+    )?;
+    add_line(
+        &mut summary,
+        b"challenged ",
+        total(challenged, Figure::Challenges),
+    )?;
+    add_line(
+        &mut summary,
+        b"undecided ",
+        all_marks(strong, outdated, challenged),
+    )?;
+    summary.extend_from_slice(b"accepted 3\n")?;
     Ok(Trial {
         summary,
-        undecided: some_has_mark(claims),
+        undecided: has_marks(strong, outdated, challenged),
     })
 }

@@ -1,11 +1,12 @@
 -- The commands, with what their words say.
 use Rattle.std.specs.Prelude.{ℕ, List, Bool}
+use Rattle.dist_cert.specs.declared.records.CertKind.{CertKind}
 
--- A command with the names of its files and its options: how many derived lines leave a question undecided, whether
--- every installation has the essential names, and the size and the seed of an archive that is made.
+-- A command with the names of its files and its options: what a sweep is for, how many derived lines leave a question
+-- undecided, whether every installation has the essential names, and the size and the seed of an archive that is made.
 pub data CommandLine : Type 0 where
   Health : (packages list : List ℕ) → CommandLine
   Classes : (packages : List ℕ) → CommandLine
-  Strong : (packages cert : List ℕ) → (essential : Bool) → (limit : ℕ) → CommandLine
+  Sweep : (kind : CertKind) → (packages cert : List ℕ) → (essential : Bool) → (limit : ℕ) → CommandLine
   Check : (packages cert : List ℕ) → CommandLine
   Try : (size seed : ℕ) → CommandLine

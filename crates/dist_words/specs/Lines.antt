@@ -3,7 +3,7 @@ use Rattle.std.specs.Prelude.{◌≤◌, ℕ, List, map}
 use Rattle.std.specs.Borrow.{Bor}
 use Rattle.dist_base.specs.declared.TheConstants.{MAX_LIMIT, MAX_SIZE}
 use Rattle.dist_words.specs.Clap.{Options as Chosen}
-use Rattle.dist_words.specs.CommandLine.{CommandLine, Health, Classes, Strong, Check, Try}
+use Rattle.dist_words.specs.CommandLine.{CommandLine, Health, Classes, Sweep, Check, Try}
 use Rattle.dist_words.specs.declared.command.Command.{Command}
 use Rattle.dist_words.specs.declared.command.Command.TheVariants as command
 use Rattle.dist_words.specs.declared.taken.Options.{Options}
@@ -12,7 +12,7 @@ use Rattle.dist_words.specs.declared.taken.Options.{Options}
 abbrev pub line_of : Command → CommandLine
 line_of (command.Health files) = Health files.packages.now files.list.now
 line_of (command.Classes packages) = Classes packages.now
-line_of (command.Strong words) = Strong words.packages.now words.cert.now words.essential words.limit
+line_of (command.Sweep words) = Sweep words.kind words.packages.now words.cert.now words.essential words.limit
 line_of (command.Check files) = Check files.packages.now files.cert.now
 line_of (command.Try words) = Try words.size words.seed
 
@@ -28,7 +28,7 @@ pub record IsSize (size : ℕ) : Type 0 where
 
 -- a command's limit, or its size, may stand
 abbrev pub HasLimit : Command → Type 0
-HasLimit (command.Strong words) = IsLimit words.limit
+HasLimit (command.Sweep words) = IsLimit words.limit
 HasLimit (command.Try words) = IsSize words.size
 HasLimit line = Unit {0}
 

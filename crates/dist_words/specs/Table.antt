@@ -1,19 +1,23 @@
 -- The table of the commands: for each word the number of files and the options that may stand with it.
 --
---   command    files             options
---   health     PACKAGES LIST     none
---   classes    PACKAGES          none
---   strong     PACKAGES CERT     --limit, --essential
---   check      PACKAGES CERT     none
---   try        none              --size and --seed, both needed
+--   command       files             options
+--   health        PACKAGES LIST     none
+--   classes       PACKAGES          none
+--   strong        PACKAGES CERT     --limit, --essential
+--   outdated      PACKAGES CERT     --limit, --essential
+--   challenged    PACKAGES CERT     --limit, --essential
+--   check         PACKAGES CERT     none
+--   try           none              --size and --seed, both needed
 use Rattle.std.specs.Prelude.{◌≡◌, ℕ, ◌&&◌, Bool, not, List, [], ◌∷◌, Option, Some, None, is_some, if◌then◌else◌, codes}
 use Rattle.std.specs.Prelude.{unwrap_or}
 use Rattle.std.specs.Str.{bytes_eq}
 use Rattle.dist_base.specs.declared.TheConstants.{DEFAULT_LIMIT}
+use Rattle.dist_cert.specs.declared.records.CertKind.{CertKind}
+use Rattle.dist_cert.specs.declared.records.CertKind.TheVariants.{Strong, Outdated, Challenged}
 use Rattle.clap.specs.Walk.{Text, is_empty}
 use Rattle.clap.specs.Faults.{fault_of}
 use Rattle.dist_words.specs.Clap.{Options, Taken, simple_command, taken}
-use Rattle.dist_words.specs.CommandLine.{CommandLine, Health, Classes, Strong, Check, Try}
+use Rattle.dist_words.specs.CommandLine.{CommandLine, Health, Classes, Sweep, Check, Try}
 
 -- ---- options
 
@@ -52,8 +56,14 @@ with_none command files = None
 abbrev pub where_allowed : Bool → Option CommandLine → Option CommandLine
 where_allowed allowed line = if allowed then line else None
 
-abbrev pub strong_with : Options → Text → Text → CommandLine
-strong_with options packages cert = Strong packages cert options.essential (unwrap_or options.limit DEFAULT_LIMIT)
+-- a sweep of a kind, with the limit of a question that its options give, or where they give none
+abbrev pub sweep_with : CertKind → Options → Text → Text → CommandLine
+sweep_with kind options packages cert =
+    Sweep kind packages cert options.essential (unwrap_or options.limit DEFAULT_LIMIT)
+
+-- a command that sweeps
+abbrev pub swept : CertKind → List Text → Options → Option CommandLine
+swept kind files options = where_allowed (has_no_seed options) (with_two (sweep_with kind options) files)
 
 -- with a size and a seed
 abbrev pub seeded : Option ℕ → Option ℕ → Option CommandLine
@@ -65,12 +75,13 @@ abbrev pub in_table : Text → List Text → Options → Option CommandLine
 in_table word files options =
     if bytes_eq word (codes "health") then where_allowed (has_no_option options) (with_two Health files)
     else (if bytes_eq word (codes "classes") then where_allowed (has_no_option options) (with_one Classes files)
-    else (if bytes_eq word (codes "strong") then where_allowed (has_no_seed options)
-    (with_two (strong_with options) files)
+    else (if bytes_eq word (codes "strong") then swept Strong files options
+    else (if bytes_eq word (codes "outdated") then swept Outdated files options
+    else (if bytes_eq word (codes "challenged") then swept Challenged files options
     else (if bytes_eq word (codes "check") then where_allowed (has_no_option options) (with_two Check files)
     else (if bytes_eq word (codes "try") then where_allowed (has_no_limit options)
     (with_none (seeded options.size options.seed) files)
-    else None))))
+    else None))))))
 
 -- the command that the table has for what was taken
 abbrev pub accepted : Taken → Option CommandLine

@@ -1,13 +1,20 @@
 -- Worked examples of the table.
 use Rattle.std.specs.Prelude.{◌≡◌, true, false, [], ◌∷◌, Some, None, codes, refl}
-use Rattle.dist_words.specs.CommandLine.{Strong, Try}
+use Rattle.dist_words.specs.CommandLine.{Sweep, Try}
+use Rattle.dist_cert.specs.declared.records.CertKind.TheVariants.{Strong, Challenged}
 use Rattle.dist_words.specs.Table.{in_table}
 
 -- `strong f g`, with no limit
 strong_by_default : in_table (codes "strong") (codes "f" ∷ codes "g" ∷ [])
     (record { limit = None; size = None; seed = None; essential = false })
-    ≡ Some (Strong (codes "f") (codes "g") false 10000)
+    ≡ Some (Sweep Strong (codes "f") (codes "g") false 10000)
 strong_by_default = refl
+
+-- `challenged f g --essential --limit 3`
+challenged_has_options : in_table (codes "challenged") (codes "f" ∷ codes "g" ∷ [])
+    (record { limit = Some 3; size = None; seed = None; essential = true })
+    ≡ Some (Sweep Challenged (codes "f") (codes "g") true 3)
+challenged_has_options = refl
 
 -- `check f g --limit 3`
 check_takes_no_limit : in_table (codes "check") (codes "f" ∷ codes "g" ∷ [])

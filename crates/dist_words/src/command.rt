@@ -1,4 +1,5 @@
 //! The commands.
+use dist_cert::CertKind;
 
 /// The two files of `health PACKAGES LIST`.
 #[derive(Clone, Copy, Debug)]
@@ -14,9 +15,11 @@ pub struct CertFiles<'a> {
     pub cert: &'a str,
 }
 
-/// The files and the options of `strong PACKAGES CERT`.
+/// The kind of a sweep, by the command's word, and the files and the options of `strong`, `outdated` and `challenged PACKAGES
+/// CERT`.
 #[derive(Clone, Copy, Debug)]
-pub struct StrongWords<'a> {
+pub struct SweepWords<'a> {
+    pub kind: CertKind,
     pub packages: &'a str,
     pub cert: &'a str,
     /// Whether each installation has the essential names.
@@ -38,7 +41,7 @@ pub struct TryWords {
 pub enum Command<'a> {
     Health(HealthFiles<'a>),
     Classes(&'a str),
-    Strong(StrongWords<'a>),
+    Sweep(SweepWords<'a>),
     Check(CertFiles<'a>),
     Try(TryWords),
 }

@@ -6,15 +6,16 @@ ghost use Rattle.dist_words.specs.Clap.{taken_of};
 ghost use Rattle.dist_words.specs.SimpleCommandPrivate.{IsMatched};
 ghost use Rattle.dist_words.specs.CommandLine.{Health, Classes, Check};
 ghost use Rattle.dist_words.specs.Lines.{HasLimit, IsLimit, IsSize, line_of, names, seen};
-ghost use Rattle.dist_words.specs.Table.{IsBadWords, accepted, command_of, in_table, has_no_limit, has_no_option, has_no_seed, seeded, strong_with, where_allowed, with_none, with_one, with_two};
+ghost use Rattle.dist_words.specs.Table.{IsBadWords, accepted, command_of, in_table, has_no_limit, has_no_option, has_no_seed, seeded, swept, where_allowed, with_none, with_one, with_two};
 ghost use Rattle.dist_words.specs.declared.error.WordsError.TheVariants.{BadWords};
 
 use crate::clap_command::matches_of;
-use crate::command::{CertFiles, Command, HealthFiles, StrongWords, TryWords};
+use crate::command::{CertFiles, Command, HealthFiles, SweepWords, TryWords};
 use crate::error::WordsError;
 use crate::taken::{Options, options_of};
 use clap::ArgMatches;
 use dist_base::DEFAULT_LIMIT;
+use dist_cert::CertKind;
 use std::alloc::Global;
 
 /// The command of the words, which stand after the program's name.
@@ -57,7 +58,11 @@ fn in_table<'a>(word: &str, files: &[&'a str], options: Options) -> Option<Comma
     } else if word == "classes" {
         classes(files, options)
     } else if word == "strong" {
-        strong(files, options)
+        sweep(CertKind::Strong, files, options)
+    } else if word == "outdated" {
+        sweep(CertKind::Outdated, files, options)
+    } else if word == "challenged" {
+        sweep(CertKind::Challenged, files, options)
     } else if word == "check" {
         check(files, options)
     } else if word == "try" {
@@ -110,15 +115,15 @@ fn classes<'a>(files: &[&'a str], options: Options) -> Option<Command<'a>>
     }
 }
 
-/// `strong PACKAGES CERT`.
-fn strong<'a>(files: &[&'a str], options: Options) -> Option<Command<'a>>
+/// `strong`, `outdated` or `challenged PACKAGES CERT`, by its kind.
+fn sweep<'a>(kind: CertKind, files: &[&'a str], options: Options) -> Option<Command<'a>>
     requires { IfSome options.limit IsLimit }
-    ensures command { option_map line_of result
-        ≡ where_allowed (has_no_seed (seen options)) (with_two (strong_with (seen options)) (names files.now)) }
+    ensures command { option_map line_of result ≡ swept kind (names files.now) (seen options) }
     ensures limit { IfSome result HasLimit }
 {
     match files {
-        [packages, cert] if has_no_seed(options) => Some(Command::Strong(StrongWords {
+        [packages, cert] if has_no_seed(options) => Some(Command::Sweep(SweepWords {
+            kind,
             packages,
             cert,
             essential: options.essential,

@@ -1,15 +1,20 @@
 use Rattle.std.proofs.Common.{map, string_bytes, subst, sym}
-use Rattle.dist_app.specs.Headline.{CheckIsProved, StrongIsProved}
+use Rattle.dist_app.specs.Headline.{CheckIsProved, SweepIsProved}
 use Rattle.dist_app.specs.Run.{Runs}
 use Rattle.dist_app.specs.declared.status.Status.{Status}
 use Rattle.dist_app.proofs.Completes.{run_completes}
-use Rattle.dist_app.proofs.Headlines.{check_proved, check_refused, strong_proved, strong_refused}
+use Rattle.dist_app.proofs.Headlines.{check_proved, check_refused, sweep_proved, sweep_refused}
 use Rattle.dist_app.proofs.Runs.{answered_runs, refused_runs}
 use Rattle.dist_app.proofs.top_call.run_with.Goals as goal
 
 pub returns-in-Ok-clause-runs : goal.returns-in-Ok-clause-runs
 returns-in-Ok-clause-runs g c =
-    answered_runs (record { packages = c.packages_are_exact.ensures; lists = c.lists_are_exact.ensures; certificates = c.texts_have_one_answer.ensures }) _
+    answered_runs (record {
+      packages = c.packages_are_exact.ensures;
+      lists = c.lists_are_exact.ensures;
+      certificates = c.texts_have_one_answer.ensures;
+      numbers = c.first_numbers_are_one.ensures.one;
+    }) _
     c.args.limits.now c.in-Ok.status (g.D.Desk.view c.args.desk.now) (g.D.Desk.view c.carry_out.new.desk) (g.W.Sink.view c.args.out.now)
     (g.W.Sink.view c.carry_out.new.out)
     (g.E.Sink.view c.args.err.now) c.in-Ok.ensures.ends c.in-Ok.ensures.leaves (c.sink_grows.ensures.begin (g.E.Sink.view c.args.err.now))
@@ -19,14 +24,19 @@ returns-in-Err-clause-runs g c =
     subst (λ (s : Status). Runs (map string_bytes c.args.words.now) c.args.limits.now s (g.D.Desk.view c.args.desk.now) (g.D.Desk.view c.carry_out.new.desk)
     (g.W.Sink.view c.args.out.now) (g.W.Sink.view c.carry_out.new.out)
     (g.E.Sink.view c.args.err.now) (g.E.Sink.view c.write_refusal.new.err)) (sym c.status-status.ensures)
-    (refused_runs (record { packages = c.packages_are_exact.ensures; lists = c.lists_are_exact.ensures; certificates = c.texts_have_one_answer.ensures }) _
+    (refused_runs (record {
+      packages = c.packages_are_exact.ensures;
+      lists = c.lists_are_exact.ensures;
+      certificates = c.texts_have_one_answer.ensures;
+      numbers = c.first_numbers_are_one.ensures.one;
+    }) _
     c.args.limits.now (g.D.Desk.view c.args.desk.now) (g.D.Desk.view c.carry_out.new.desk) (g.W.Sink.view c.args.out.now) (g.W.Sink.view c.carry_out.new.out)
     c.in-Err.refusal c.in-Err.ensures.ends c.write_refusal.result (g.E.Sink.view c.args.err.now) (g.E.Sink.view c.write_refusal.new.err) c.in-Err.ensures.leaves
     c.write_refusal.ensures)
 
-pub returns-in-Ok-clause-strong : goal.returns-in-Ok-clause-strong
-returns-in-Ok-clause-strong g c =
-    strong_proved c.accepted_claims_hold.ensures _ c.args.limits.now c.in-Ok.status (g.D.Desk.view c.args.desk.now) (g.D.Desk.view c.carry_out.new.desk)
+pub returns-in-Ok-clause-sweep : goal.returns-in-Ok-clause-sweep
+returns-in-Ok-clause-sweep g c =
+    sweep_proved c.accepted_claims_hold.ensures _ c.args.limits.now c.in-Ok.status (g.D.Desk.view c.args.desk.now) (g.D.Desk.view c.carry_out.new.desk)
     (g.W.Sink.view c.args.out.now) (g.W.Sink.view c.carry_out.new.out)
     c.in-Ok.ensures.ends
 
@@ -36,12 +46,12 @@ returns-in-Ok-clause-check g c =
     (g.W.Sink.view c.carry_out.new.out)
     c.in-Ok.ensures.ends
 
-pub returns-in-Err-clause-strong : goal.returns-in-Err-clause-strong
-returns-in-Err-clause-strong g c =
-    subst (λ (s : Status). StrongIsProved (map string_bytes c.args.words.now) c.args.limits.now s (g.D.Desk.view c.args.desk.now)
+pub returns-in-Err-clause-sweep : goal.returns-in-Err-clause-sweep
+returns-in-Err-clause-sweep g c =
+    subst (λ (s : Status). SweepIsProved (map string_bytes c.args.words.now) c.args.limits.now s (g.D.Desk.view c.args.desk.now)
     (g.D.Desk.view c.carry_out.new.desk) (g.W.Sink.view c.args.out.now) (g.W.Sink.view c.carry_out.new.out))
     (sym c.status-status.ensures)
-    (strong_refused _ c.args.limits.now c.in-Err.refusal (g.D.Desk.view c.args.desk.now) (g.D.Desk.view c.carry_out.new.desk) (g.W.Sink.view c.args.out.now)
+    (sweep_refused _ c.args.limits.now c.in-Err.refusal (g.D.Desk.view c.args.desk.now) (g.D.Desk.view c.carry_out.new.desk) (g.W.Sink.view c.args.out.now)
     (g.W.Sink.view c.carry_out.new.out))
 
 pub returns-in-Err-clause-check : goal.returns-in-Err-clause-check
@@ -68,7 +78,12 @@ pub returns-in-Ok-clause-complete : goal.returns-in-Ok-clause-complete
 returns-in-Ok-clause-complete g c =
     run_completes
     (record {
-      texts = record { packages = c.packages_are_exact.ensures; lists = c.lists_are_exact.ensures; certificates = c.texts_have_one_answer.ensures };
+      texts = record {
+        packages = c.packages_are_exact.ensures;
+        lists = c.lists_are_exact.ensures;
+        certificates = c.texts_have_one_answer.ensures;
+        numbers = c.first_numbers_are_one.ensures.one;
+      };
       health = c.one_health.ensures;
       budgets = c.budgets_are_enough.ensures;
     })
@@ -80,7 +95,12 @@ pub returns-in-Err-clause-complete : goal.returns-in-Err-clause-complete
 returns-in-Err-clause-complete g c =
     run_completes
     (record {
-      texts = record { packages = c.packages_are_exact.ensures; lists = c.lists_are_exact.ensures; certificates = c.texts_have_one_answer.ensures };
+      texts = record {
+        packages = c.packages_are_exact.ensures;
+        lists = c.lists_are_exact.ensures;
+        certificates = c.texts_have_one_answer.ensures;
+        numbers = c.first_numbers_are_one.ensures.one;
+      };
       health = c.one_health.ensures;
       budgets = c.budgets_are_enough.ensures;
     })

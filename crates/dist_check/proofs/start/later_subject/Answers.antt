@@ -1,9 +1,22 @@
-use Rattle.dist_check.proofs.Begun.{later-err}
+use Rattle.std.proofs.lemmas.Result.{err_from_is_err_and}
+use Rattle.dist_check.proofs.Begun.{later-subject}
 use Rattle.dist_check.proofs.start.later_subject.Goals as goal
 
-pub returns-clause-ok : goal.returns-clause-ok
-returns-clause-ok c = c.subject_of_space.ensures.ok c.args.repo.now c.args.essential c.in_ok-space.ensures.ok
+pub returns-in_err-made-clause-err : goal.returns-in_err-made-clause-err
+returns-in_err-made-clause-err c =
+    let p = err_from_is_err_and c.from_residual.result c.from_residual.ensures.1 in
+    rw (p.1, p.2) c.in_err-made.ensures.cause
 
-pub returns-clause-err : goal.returns-clause-err
-returns-clause-err c = later-err c.args.repo.now c.args.essential c.args.limits.now c.in_ok-space.space c.in_ok-space.ensures.ok
-    c.subject_of_space.result c.subject_of_space.ensures.err
+pub returns-in_err-layout-clause-err : goal.returns-in_err-layout-clause-err
+returns-in_err-layout-clause-err c =
+    let p = err_from_is_err_and c.from_residual-in_err-layout.result c.from_residual-in_err-layout.ensures.1 in
+    rw (p.1, p.2) tt
+
+pub returns-clause-ok : goal.returns-clause-ok
+returns-clause-ok c =
+    let made = c.in_ok-made.made in
+    later-subject c.args.repo.now c.args.essential c.args.limits.now c.args.kind made.space made.clauses made.ends c.in_ok-layout.layout
+    c.package_count.result c.requires.kind (c.in_ok-made.ensures.ok c.args.kind c.requires.kind) c.len-within.ensures.within c.package_count.ensures
+    c.in_ok-layout.ensures.kind (c.in_ok-layout.ensures.lays_out made.clauses.clauses)
+    (λ clauses values. c.future_clauses_are_two_parts.ensures made.space made.clauses.clauses made.ends values clauses c.in_ok-made.ensures.ends)
+    (λ space number. c.packages_come_first.ensures.packages made.space number space)

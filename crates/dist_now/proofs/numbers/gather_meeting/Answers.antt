@@ -1,7 +1,7 @@
 use Rattle.std.proofs.Common.{◌+◌, arith, []}
 use Rattle.dist_now.specs.GatheringPrivate.{IsMatchedAt}
 use Rattle.dist_now.proofs.AddsLemmas.{UpTo, adds-more, adds-moved, adds-repeated}
-use Rattle.dist_now.proofs.AskedLemmas.{asked-earlier, asked-more}
+use Rattle.dist_asked.specs.AskedLaws.{asked-earlier, asked-more}
 use Rattle.dist_now.proofs.NumberLemmas.{matched-at, meeting-all}
 use Rattle.dist_now.proofs.numbers.gather_meeting.Goals.{then-not-is_repeated+in_ok-add_matched, else-not-is_repeated}
 use Rattle.dist_now.proofs.numbers.gather_meeting.Goals as goal

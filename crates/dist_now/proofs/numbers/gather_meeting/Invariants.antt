@@ -1,6 +1,6 @@
 use Rattle.std.specs.Prelude.{[]}
 use Rattle.dist_now.proofs.AddsLemmas.{AddsUpTo}
-use Rattle.dist_now.proofs.AskedLemmas.{AreAsked}
+use Rattle.dist_asked.specs.AskedLaws.{AreAsked}
 use Rattle.dist_now.specs.GatheringPrivate.{IsMatchedAt}
 use Rattle.dist_now.proofs.numbers.gather_meeting.Given as goal
 

@@ -1,6 +1,6 @@
 use Rattle.std.proofs.Common.{arith}
 use Rattle.dist_now.proofs.AddsLemmas.{adds-more, adds-repeated}
-use Rattle.dist_now.proofs.AskedLemmas.{asked-earlier, asked-more}
+use Rattle.dist_asked.specs.AskedLaws.{asked-earlier, asked-more}
 use Rattle.dist_now.proofs.PairLemmas.{IsRejectedAt, rejected-all, rejected-at}
 use Rattle.dist_now.proofs.rejections.add_rejected.Goals.{else-not-is_repeated, then-not-is_repeated+in_ok-add_matched}
 use Rattle.dist_now.proofs.rejections.add_rejected.Goals as goal

@@ -1,5 +1,5 @@
 use Rattle.dist_now.proofs.AddsLemmas.{AddsUpTo}
-use Rattle.dist_now.proofs.AskedLemmas.{AreAsked}
+use Rattle.dist_asked.specs.AskedLaws.{AreAsked}
 use Rattle.dist_now.proofs.PairLemmas.{IsRejectedAt}
 use Rattle.dist_now.proofs.rejections.add_rejected.Given as goal
 

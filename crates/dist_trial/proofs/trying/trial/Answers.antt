@@ -1,14 +1,13 @@
-use Rattle.std.proofs.Common.{false, Result}
+use Rattle.std.proofs.Common.{Result}
 use Rattle.dist_base.specs.Answers.{IsExactly}
-use Rattle.dist_now.specs.PresentSet.{PassesClauses, PassesLiterals}
-use Rattle.dist_outside.specs.declared.trouble.What.TheVariants.{Bytes, Stanzas, Clauses, Literals}
+use Rattle.dist_outside.specs.declared.trouble.What.TheVariants.{Bytes, Stanzas}
 use Rattle.dist_outside.specs.declared.trouble.WorkError.{WorkError}
 use Rattle.dist_outside.specs.declared.trouble.WorkError.TheVariants.{NoMemory, TooLarge}
-use Rattle.dist_trial.specs.Trial.{OfArchive, TrialAnswers}
+use Rattle.dist_trial.specs.Trial.{Tells, TrialAnswers}
 use Rattle.dist_trial.specs.declared.trials.Trial.{Trial}
 use Rattle.dist_trial.proofs.Archives.{by-exit}
-use Rattle.dist_trial.proofs.Exact.{IsOver, IsPast, archive-bytes, archive-clauses, archive-literals, archive-stanzas, archive-stops, swept-answers}
-use Rattle.dist_trial.proofs.Exact.{swept-bytes, swept-exact, swept-stanzas}
+use Rattle.dist_trial.proofs.Exact.{IsOver, IsPast, PassesOfArchive, archive-bytes, archive-first, archive-stanzas, archive-stops, swept-answers}
+use Rattle.dist_trial.proofs.Exact.{swept-bytes, swept-first, swept-stanzas}
 use Rattle.dist_trial.proofs.trying.trial.Goals as goal
 
 pub repository_of-requires-clause-some : goal.repository_of-requires-clause-some
@@ -41,22 +40,6 @@ returns-in_err-repo-clause-too_many_stanzas c =
     c.in_err-repo.field-0.0 c.from_residual.ensures.1
     (archive-stanzas c.args.size c.args.seed c.args.limits.now c.in_err-repo.field-0.0 c.in_err-repo.ensures.answers)
 
-pub returns-in_err-repo-clause-too_many_clauses : goal.returns-in_err-repo-clause-too_many_clauses
-returns-in_err-repo-clause-too_many_clauses c =
-    by-exit (λ (r : Result Trial WorkError). IsExactly NoMemory r (TooLarge Clauses)
-    (OfArchive c.args.size c.args.seed c.args.limits.now (λ p. PassesClauses p false c.args.limits.now.clauses c.args.limits.now.literals)))
-    c.from_residual.result c.in_err-repo.field-0.0 c.from_residual.ensures.1
-    (archive-clauses c.args.size c.args.seed c.args.limits.now c.in_err-repo.field-0.0
-    (λ p. PassesClauses p false c.args.limits.now.clauses c.args.limits.now.literals) c.in_err-repo.ensures.answers)
-
-pub returns-in_err-repo-clause-too_many_literals : goal.returns-in_err-repo-clause-too_many_literals
-returns-in_err-repo-clause-too_many_literals c =
-    by-exit (λ (r : Result Trial WorkError). IsExactly NoMemory r (TooLarge Literals)
-    (OfArchive c.args.size c.args.seed c.args.limits.now (λ p. PassesLiterals p false c.args.limits.now.clauses c.args.limits.now.literals)))
-    c.from_residual.result c.in_err-repo.field-0.0 c.from_residual.ensures.1
-    (archive-literals c.args.size c.args.seed c.args.limits.now c.in_err-repo.field-0.0
-    (λ p. PassesLiterals p false c.args.limits.now.clauses c.args.limits.now.literals) c.in_err-repo.ensures.answers)
-
 pub returns-clause-answers : goal.returns-clause-answers
 returns-clause-answers c = swept-answers c.args.size c.args.seed c.args.limits.now c.in_ok-repo.repo c.in_ok-repo.ensures.answers c.swept.result
     c.swept.ensures.answers
@@ -69,14 +52,13 @@ pub returns-clause-too_many_stanzas : goal.returns-clause-too_many_stanzas
 returns-clause-too_many_stanzas c = swept-stanzas c.args.size c.args.seed c.args.limits.now c.in_ok-repo.repo c.in_ok-repo.ensures.answers c.swept.result
     c.swept.ensures.answers
 
-pub returns-clause-too_many_clauses : goal.returns-clause-too_many_clauses
-returns-clause-too_many_clauses c =
-    swept-exact c.args.size c.args.seed c.args.limits.now c.in_ok-repo.repo c.in_ok-repo.ensures.answers c.packages_are_exact.ensures c.swept.result
-    (TooLarge Clauses)
-    (λ p. PassesClauses p false c.args.limits.now.clauses c.args.limits.now.literals) c.swept.ensures.too_many_clauses
+pub returns-in_err-repo-clause-first : goal.returns-in_err-repo-clause-first
+returns-in_err-repo-clause-first c =
+    by-exit (λ (r : Result Trial WorkError). Tells (PassesOfArchive c.args.size c.args.seed c.args.limits.now) r) c.from_residual.result
+    c.in_err-repo.field-0.0 c.from_residual.ensures.1
+    (archive-first c.args.size c.args.seed c.args.limits.now c.in_err-repo.field-0.0 c.in_err-repo.ensures.answers)
 
-pub returns-clause-too_many_literals : goal.returns-clause-too_many_literals
-returns-clause-too_many_literals c =
-    swept-exact c.args.size c.args.seed c.args.limits.now c.in_ok-repo.repo c.in_ok-repo.ensures.answers c.packages_are_exact.ensures c.swept.result
-    (TooLarge Literals)
-    (λ p. PassesLiterals p false c.args.limits.now.clauses c.args.limits.now.literals) c.swept.ensures.too_many_literals
+pub returns-clause-first : goal.returns-clause-first
+returns-clause-first c =
+    swept-first c.args.size c.args.seed c.args.limits.now c.in_ok-repo.repo c.in_ok-repo.ensures.answers c.packages_are_exact.ensures c.swept.result
+    c.swept.ensures.first

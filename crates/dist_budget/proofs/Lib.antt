@@ -1,0 +1,9 @@
+mod FewNumbers
+mod Fronts
+mod KeptLines
+mod Pairs
+mod EnoughVariables
+mod Counts
+mod Questions
+mod Widths
+mod Budgets

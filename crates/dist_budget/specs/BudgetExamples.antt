@@ -1,0 +1,74 @@
+-- Worked examples of the numbers that are enough, with at most 10,000 derived lines a question.
+use Rattle.std.specs.Prelude.{◌≡◌, ◌+◌, [], ◌∷◌, refl}
+use Rattle.dist_cert.specs.Subject.{Matter}
+use Rattle.dist_cert.specs.declared.records.CertKind.TheVariants.{Strong, Outdated, Challenged}
+use Rattle.dist_budget.specs.Budget.{certificate_budget, line_budget, literal_budget, pair_count, question_budget}
+use Rattle.dist_budget.specs.Budget.{record_budget}
+
+-- two packages as they are
+abbrev two : Matter
+two = record {
+  packages = 2;
+  variables = 2;
+  inputs = [];
+  clusters = [];
+  present = λ p. p;
+  new = λ p class. 0;
+  at = λ cluster class. 0;
+  IsFuture = λ members. Unit {0};
+  IsHealthy = λ members. Unit {0};
+}
+
+-- the futures of two packages: each is a cluster, one with three classes and one with one
+abbrev futures : Matter
+futures = record {
+  packages = 2;
+  variables = 11;
+  inputs = [];
+  clusters = record { members = 1 ∷ []; classes = 3 } ∷ record { members = 2 ∷ []; classes = 1 } ∷ [];
+  present = λ p. p + 1;
+  new = λ p class. 0;
+  at = λ cluster class. 0;
+  IsFuture = λ members. Unit {0};
+  IsHealthy = λ members. Unit {0};
+}
+
+-- each of the two alone, and without the other one
+strong_questions : question_budget Strong two ≡ 4
+strong_questions = refl
+
+strong_lines : line_budget Strong two 10000 ≡ 40000
+strong_lines = refl
+
+strong_literals : literal_budget Strong two 10000 ≡ 80000
+strong_literals = refl
+
+strong_bytes : record_budget two ≡ 13248
+strong_bytes = refl
+
+strong_file : certificate_budget Strong two 10000 ≡ 530078976
+strong_file = refl
+
+-- three pairs and one
+pairs : pair_count futures ≡ 4
+pairs = refl
+
+-- one of each package
+outdated_questions : question_budget Outdated futures ≡ 2
+outdated_questions = refl
+
+-- each package today, and at each of the four pairs
+challenged_questions : question_budget Challenged futures ≡ 10
+challenged_questions = refl
+
+challenged_lines : line_budget Challenged futures 10000 ≡ 100000
+challenged_lines = refl
+
+challenged_literals : literal_budget Challenged futures 10000 ≡ 1100000
+challenged_literals = refl
+
+challenged_bytes : record_budget futures ≡ 13464
+challenged_bytes = refl
+
+challenged_file : certificate_budget Challenged futures 10000 ≡ 1346723136
+challenged_file = refl

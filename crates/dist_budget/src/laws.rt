@@ -1,0 +1,21 @@
+//! Which numbers are enough for a sweep. The function does nothing.
+ghost use Rattle.std.specs.Prelude.{ℕ, Bool, List};
+ghost use Rattle.dist_budget.specs.Budget.{IsBelowBudget};
+ghost use Rattle.dist_cert.specs.Part.{IsStoppedBy};
+ghost use Rattle.dist_cert.specs.declared.records.CertKind.{CertKind};
+ghost use Rattle.dist_outside.specs.declared.limits.Limits.{Limits};
+ghost use Rattle.dist_outside.specs.declared.trouble.What.{What};
+ghost use Rattle.dist_repo.specs.PackageList.{PackageList};
+ghost use Rattle.dist_subject.specs.Basis.{Basis, IsBasisOf, matter_of};
+ghost use Rattle.dist_sweep.specs.Sweep.{header_of};
+
+use dist_cert::forms_are_clear;
+
+/// A sweep is stopped by a number only where that number is below its budget.
+pub fn budgets_are_enough()
+    ensures { (r : PackageList) (kind : CertKind) (essential : Bool) (limit : ℕ) (limits : Limits) (basis : Basis) (text : List ℕ) (what : What)
+        → IsBasisOf r kind essential basis → IsStoppedBy (matter_of r basis) limits (header_of kind essential limit (matter_of r basis)) text what
+        → IsBelowBudget limits kind (matter_of r basis) limit what }
+{
+    forms_are_clear();
+}

@@ -1,0 +1,34 @@
+use Rattle.std.proofs.Common.{◌≡◌, ◌∙◌, ◌+◌, ◌-◌, ◌<◌, ◌≤◌, ℕ, List, ap, arith, filter, length, not, subst, sym}
+use Rattle.std.specs.List.{All}
+use Rattle.std.proofs.lemmas.List.Elements.{All-filter}
+use Rattle.dist_cert.specs.declared.TheConstants.{REACH}
+use Rattle.dist_sweep.specs.Window.{WindowView}
+use Rattle.dist_challenge.specs.Challenged.{ChallengedView}
+use Rattle.dist_challenge.specs.CoverPrivate.{IsPlan, covered_by}
+use Rattle.dist_challenge.proofs.CoverSteps.{plan-struck}
+use Rattle.dist_challenge.proofs.challenged_claimant.ChallengedClaimant.strike_by.Goals as goal
+
+pub returns-in_ok-push-clause-plan : goal.returns-in_ok-push-clause-plan
+returns-in_ok-push-clause-plan c =
+    let self : ChallengedView = c.args.self.now in
+    let kept : WindowView = c.args.window.now in
+    let is : c.in_ok-left.left.items ≡ filter (λ at. not (covered_by self kept c.args.number at)) c.args.ats.now.items =
+    c.in_ok-left.ensures ∙ ap (λ (xs : List ℕ). filter (λ at. not (covered_by self kept c.args.number at)) xs) c.deref.ensures.value in
+    let long = c.len-then-len.ensures in
+    let lasts : kept.count + c.len-then-len.result < c.args.number + REACH = c.lasts.ensures c.if-lasts.true in
+    let low = c.requires.kept.low in
+    let few = c.len-kept.ensures.within in
+    λ present own today has other plan.
+    subst (λ (ns : List ℕ). IsPlan self kept present own today (c.args.number - 1) ns c.in_ok-left.left.items) (sym c.in_ok-push.ensures.items)
+    (plan-struck self kept present own today c.args.number c.args.named.now.items c.args.ats.now.items c.in_ok-left.left.items c.requires.kept
+    (omega (arith, low, few)) has other (omega (arith, lasts, long, c.in_ok-left.left.ok.0)) is plan)
+
+pub returns-in_ok-push-clause-inside : goal.returns-in_ok-push-clause-inside
+returns-in_ok-push-clause-inside c =
+    let self : ChallengedView = c.args.self.now in
+    let kept : WindowView = c.args.window.now in
+    let is : c.in_ok-left.left.items ≡ filter (λ at. not (covered_by self kept c.args.number at)) c.args.ats.now.items =
+    c.in_ok-left.ensures ∙ ap (λ (xs : List ℕ). filter (λ at. not (covered_by self kept c.args.number at)) xs) c.deref.ensures.value in
+    subst (λ (xs : List ℕ). All (λ at. (1 ≤ at) × (at ≤ length self.space.meanings)) xs) (sym is)
+    (All-filter (λ at. not (covered_by self kept c.args.number at)) (λ at. (1 ≤ at) × (at ≤ length self.space.meanings)) c.args.ats.now.items
+    c.requires.inside)

@@ -1,0 +1,42 @@
+//! Trials of larger archives: the three sweeps and checks of each, twice. They take some 20 seconds as the gate builds them; `rt try`,
+//! which builds with checks, is hundreds of times slower, so they stand apart from the other tests.
+#![tactic(auto)]
+
+ghost use Rattle.std.specs.Prelude.{◌≤◌};
+ghost use Rattle.dist_base.specs.declared.TheConstants.{MAX_SIZE};
+
+use dist_outside::{Limits, WorkError};
+use dist_trial::trial;
+use std::alloc::Global;
+use std::test::Fail;
+
+/// Whether two trials of this size and seed tell the same, all three certificates are accepted, and nothing is undecided.
+fn is_told_twice(alloc: Global, size: u32, seed: u32) -> Result<bool, WorkError>
+    requires some { 1 ≤ size }
+    requires few { size ≤ MAX_SIZE }
+{
+    let limits = Limits::stated();
+    let first = trial(alloc, size, seed, &limits)?;
+    let second = trial(alloc, size, seed, &limits)?;
+    Ok(
+        first.summary == second.summary
+            && first.summary.ends_with(b"\nundecided 0\naccepted 3\n")
+            && !first.undecided,
+    )
+}
+
+#[test]
+fn archives_of_sixty_packages(rt: HostRuntime) -> Result<(), Fail> {
+    for seed in [0, 1, 5] {
+        assert_eq!(rt; is_told_twice(rt.alloc(), 60, seed), Ok(true));
+    }
+    Ok(())
+}
+
+#[test]
+fn archives_of_three_hundred_packages(rt: HostRuntime) -> Result<(), Fail> {
+    for seed in [0, 1, 5] {
+        assert_eq!(rt; is_told_twice(rt.alloc(), 300, seed), Ok(true));
+    }
+    Ok(())
+}
