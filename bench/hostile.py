@@ -93,6 +93,15 @@ def installed_again(n):
     return packages, header("plain", f"{n + 1} {n + 1} {n}") + "m 1\n" * (2 * n)
 
 
+def chained(n):
+    """A package that reaches a chain of n others, each of which comes before the one that depends on it, and one new line on it."""
+    packages = stanza("p", more="Depends: x | y\n") + stanza("x", more="Depends: z\n") + stanza("y", more="Depends: z\n")
+    packages += stanza("z", more=f"Depends: chain-link-{n - 1:06}\n") + stanza("chain-link-000000")
+    packages += "".join(stanza(f"chain-link-{k:06}", more=f"Depends: chain-link-{k - 1:06}\n") for k in range(1, n))
+    first = f"distfuture-certificate 1 strong plain 1 {n + 4} {n + 4} {n + 3}\n"
+    return packages, first + f"q {n + 1}\nd {n + 4} -{n + 1} 0 {n + 1} {n + 2} {n}\nu\n"
+
+
 def many_entries(n):
     """A library with n / 4 entries and n / 20 bounds on another name, and n / 2 atoms on the library."""
     entries = ", ".join(f"e{k}" for k in range(n // 4))
@@ -130,6 +139,7 @@ ROWS = {
     "one false hint told again and again": (100_000, lambda n: checked(*hints(n))),
     "one line of so many numbers": (6_000_000, lambda n: checked(*wide_line(n))),
     "a package in so many conflicts, installed again and again": (20_000, lambda n: checked(*installed_again(n))),
+    "one new line that reaches a chain of so many": (100_000, lambda n: checked(*chained(n))),
     "the classes of one entry told again and again": (8_000, lambda n: classes(
         stanza("libx", more="Provides: " + ", ".join(["a (= 1)"] * n) + "\n") + stanza("p", more="Conflicts: " + ", ".join(f"a (>= {k})" for k in range(n)) + "\n"))),
     "the clauses of futures of so many entries": (8_000, lambda n: futures(many_entries(n))),

@@ -23,6 +23,9 @@ asked-more atoms old new P place atom is adds asked a there = elim ((adds a).0 t
 ]
 
 -- a repeated atom has an equal one at an earlier place
-pub asked-earlier : (atoms asked : List Atom) (place : ℕ) (atom : Atom) → slice_get atoms place ≡ Some atom → AreAsked atoms asked place
-    → Contains asked atom → (earlier : ℕ) × (earlier < place) × (slice_get atoms earlier ≡ slice_get atoms place)
-asked-earlier atoms asked place atom is are there = let stands = are atom there in (stands.0, stands.1, stands.2 ∙ sym is)
+pub asked-earlier : (atoms asked : List Atom) (place : ℕ) (atom : Atom) → slice_get atoms place ≡ Some atom
+    → AreAsked atoms asked place → Contains asked atom
+    → (earlier : ℕ) × (earlier < place) × (slice_get atoms earlier ≡ slice_get atoms place)
+asked-earlier atoms asked place atom is are there =
+    let stands = are atom there in
+    (stands.0, stands.1, stands.2 ∙ sym is)

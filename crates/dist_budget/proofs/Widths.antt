@@ -204,7 +204,7 @@ few-words matter h before (Installation variables) enough kept =
     omega (arith, few, length-map variables plain)
 few-words matter h before (Strong p named on undecided) enough kept = held-words matter h before (Strong p named on undecided) refl enough kept kept.next
 few-words matter h before (Challenged p named by undecided) enough kept =
-    held-words matter h before (Challenged p named by undecided) refl enough kept kept.next
+    held-words matter h before (Challenged p named by undecided) refl enough kept kept.next.0
 few-words matter h before step enough kept = omega arith
 
 -- ---- how long a line is

@@ -1,7 +1,7 @@
 -- Worked example: a certificate of kind challenged is accepted as a whole. The archive has `libx` of version 1, and
 -- `p`, which depends on `libx (<< 2)`. Of libx's later versions the classes are `>> 1, << 2`, `= 2` and `>> 2`, of p's
 -- there is one.
-use Rattle.std.specs.Prelude.{◌≡◌, ℕ, ◌+◌, ◌-◌, ◌≤◌, true, false, List, [], ◌∷◌, ◌++◌, codes, slice_index_or}
+use Rattle.std.specs.Prelude.{ℕ, ◌+◌, ◌-◌, ◌≤◌, true, false, List, [], ◌∷◌, ◌++◌, codes, slice_index_or}
 use Rattle.dist_outside.specs.declared.limits.Limits.{Limits}
 use Rattle.dist_clause.specs.Formula.{Literal, literal, IsModel}
 use Rattle.dist_cert.specs.declared.records.CertKind.TheVariants as kinds

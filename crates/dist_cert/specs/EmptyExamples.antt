@@ -1,5 +1,5 @@
 -- Worked example: the certificate of the empty archive is accepted as a whole.
-use Rattle.std.specs.Prelude.{◌≡◌, ℕ, ◌≤◌, false, List, [], ◌∷◌, codes}
+use Rattle.std.specs.Prelude.{ℕ, ◌≤◌, false, List, [], ◌∷◌, codes}
 use Rattle.dist_outside.specs.declared.limits.Limits.{Limits}
 use Rattle.dist_cert.specs.declared.records.CertKind.TheVariants as kinds
 use Rattle.dist_cert.specs.declared.records.Header.{Header}

@@ -1,6 +1,7 @@
 -- What a writer of certificates may have written so far. It keeps more rules than an accepted text has to: it asks for
 -- the next claim alone, asks nothing twice for a claim, and spends no more lines on a question than the limit.
-use Rattle.std.specs.Prelude.{◌≡◌, ◌≢◌, ◌⊎◌, ℕ, ◌+◌, ◌<◌, ◌≤◌, List, [], ◌∷◌, ◌++◌, AllPairs, Any, Contains, length}
+use Rattle.std.specs.Prelude.{◌≡◌, ◌≢◌, ◌⊎◌, ℕ, ◌+◌, ◌<◌, ◌≤◌, List, [], ◌∷◌, ◌++◌, All, AllPairs, Any, Contains}
+use Rattle.std.specs.Prelude.{length}
 use Rattle.dist_base.specs.Front.{IsFrontOf}
 use Rattle.dist_clause.specs.ClauseList.{literal_count}
 use Rattle.dist_derive.specs.New.{IsNew}
@@ -17,8 +18,9 @@ use Rattle.dist_cert.specs.declared.records.CertRecord.TheVariants.{Strong, Chal
 use Rattle.dist_cert.specs.declared.records.Header.{Header}
 use Rattle.dist_cert.specs.Form.{Word, record_text, header_text}
 use Rattle.dist_cert.specs.Subject.{Matter}
-use Rattle.dist_cert.specs.Groups.{clause_of, derived, numbered, installations, claim_count, group, IsOpen}
-use Rattle.dist_cert.specs.ClaimRules.{yes, no, claim_question, challenge_question, IsPairFor}
+use Rattle.dist_cert.specs.Groups.{clause_of, derived, numbered, installation_at, installations, claim_count, group}
+use Rattle.dist_cert.specs.Groups.{IsOpen}
+use Rattle.dist_cert.specs.ClaimRules.{yes, no, claim_question, challenge_question, Covers, IsPairFor}
 use Rattle.dist_cert.specs.Refusal.{IsOneLine, lines_text, certificate_text, Reads, HasFirstFault, HasLineFault}
 use Rattle.dist_cert.specs.Writing.{ended}
 
@@ -62,10 +64,29 @@ pub record IsNextDerived (matter : Matter) (h : Header) (before : List CertRecor
 abbrev pub AreFewHints : Matter → List ℕ → Type 0
 AreFewHints matter hints = length hints ≤ matter.variables + 1
 
+-- ---- the installations that a claim names
+
+-- An installation strikes a pair that a claim on p may list: it covers the pair, and neither that of today nor a later
+-- one of those that the claim names does.
+pub record Strikes (matter : Matter) (before : List CertRecord) (p today : ℕ) (named : List ℕ) (number : ℕ) : Type 0
+  where
+    pub pair : ℕ × ℕ
+    pub is_pair : IsPairFor matter p pair
+    pub covers : Covers matter pair (installation_at before number)
+    pub not_today : ¬ Covers matter pair (installation_at before today)
+    pub none_later : All (λ later. number < later → ¬ Covers matter pair (installation_at before later)) named
+
+-- A claim on challenges of p names no installations but one of today with p and such as strike a pair.
+pub record NamesFew (matter : Matter) (before : List CertRecord) (p : ℕ) (named : List ℕ) : Type 0 where
+  pub today : ℕ
+  pub is_today : Contains (installation_at before today) 1
+  pub has : Contains (installation_at before today) (matter.present p)
+  pub strike : All (λ number. number ≢ today → Strikes matter before p today named number) named
+
 -- ---- lines
 
 -- What a line keeps besides having no fault: a derived line, an installation and an answer come to a question, one
--- installation or answer at most to each, and a claim names no installation twice.
+-- installation or answer at most to each; a claim names no installation twice, and one on challenges none without need.
 abbrev pub IsNextLine : Matter → Header → List CertRecord → CertRecord → Type 0
 IsNextLine matter h before (Question question) = IsNextQuestion matter h before question
 IsNextLine matter h before (Derived literals hints) = IsNextDerived matter h before literals × AreFewHints matter hints
@@ -74,6 +95,7 @@ IsNextLine matter h before (Installation variables) = AsksSome before
 IsNextLine matter h before Undecided = AsksSome before
 IsNextLine matter h before (Strong p named on undecided) = AllPairs (λ m n. m ≢ n) named
 IsNextLine matter h before (Challenged p named by undecided) = AllPairs (λ m n. m ≢ n) named
+    × NamesFew matter before p named
 IsNextLine matter h before step = Unit {0}
 
 -- the line is too long, and stands last

@@ -1,5 +1,7 @@
 -- Worked examples of what a part may have next.
-use Rattle.std.proofs.Common.{◌≡◌, ℕ, ◌<◌, List, [], ◌∷◌, refl, arith, lit<}
+use Rattle.std.proofs.Common.{◌≡◌, ◌≢◌, ℕ, zero, suc, ◌-◌, ◌<◌, List, [], ◌∷◌, refl, subst, arith, lit<}
+use Rattle.std.specs.List.{All, Contains}
+use Rattle.std.specs.Prelude.{slice_index_or}
 use Rattle.dist_outside.specs.declared.limits.Limits.{Limits}
 use Rattle.dist_outside.specs.declared.trouble.What.TheVariants.{Lines}
 use Rattle.dist_cert.specs.declared.records.CertRecord.{CertRecord}
@@ -7,7 +9,8 @@ use Rattle.dist_cert.specs.declared.records.CertRecord.TheVariants.{Question, De
 use Rattle.dist_cert.specs.declared.records.Header.{Header}
 use Rattle.dist_cert.specs.Subject.{Matter}
 use Rattle.dist_cert.specs.ClaimRules.{yes, no}
-use Rattle.dist_cert.specs.Part.{IsNextLine, Passes}
+use Rattle.dist_cert.specs.Groups.{installation_at, installations}
+use Rattle.dist_cert.specs.Part.{IsNextLine, NamesFew, Passes, Strikes}
 
 abbrev asked : List CertRecord
 asked = Question (yes 1 ∷ no 2 ∷ []) ∷ Refuted (3 ∷ []) ∷ []
@@ -36,6 +39,23 @@ may_stand matter h = (
 named_once : (matter : Matter) (h : Header) (before : List CertRecord)
     → ¬ IsNextLine matter h before (Strong 2 (1 ∷ 1 ∷ []) [] [])
 named_once matter h before once = once 0 1 0 (lit< tt) (lit< tt) refl
+
+abbrev two_alike : List CertRecord
+two_alike = Installation (1 ∷ 2 ∷ []) ∷ Installation (1 ∷ 2 ∷ []) ∷ []
+
+-- of two installations that cover the same pairs a claim names one
+one_of_two : (matter : Matter) → ¬ NamesFew matter two_alike 1 (1 ∷ 2 ∷ [])
+one_of_two matter few = by few.today few.is_today few.strike
+  where
+    by : (today : ℕ) → Contains (installation_at two_alike today) 1
+        → All (λ number. number ≢ today → Strikes matter two_alike 1 today (1 ∷ 2 ∷ []) number) (1 ∷ 2 ∷ []) → ⊥
+    by zero now strike = let one = strike 0 0 (lit< tt) (λ e. omega (arith, e)) in one.not_today one.covers
+    by (suc zero) now strike = let one = strike 1 0 (lit< tt) (λ e. omega (arith, e)) in one.not_today one.covers
+    by (suc (suc zero)) now strike = let one = strike 0 0 (lit< tt) (λ e. omega (arith, e)) in one.not_today one.covers
+    by (suc (suc (suc n))) now strike =
+        let place : suc (suc (suc n)) - 1 ≡ suc (suc n) = omega arith in
+        let none = subst (λ (k : ℕ). Contains (slice_index_or (installations two_alike) k []) 1) place now in
+        omega (arith, none.1)
 
 -- two derived lines pass the number 1
 two_lines : (limits : Limits) (h : Header) → limits.lines ≡ 1

@@ -1,6 +1,6 @@
 -- Worked example: a certificate of ten lines is accepted as a whole. The archive has `a`, which depends on `b`, and
 -- `b`.
-use Rattle.std.specs.Prelude.{◌≡◌, ℕ, ◌≤◌, true, false, List, [], ◌∷◌, Contains, codes}
+use Rattle.std.specs.Prelude.{ℕ, ◌≤◌, true, false, List, [], ◌∷◌, Contains, codes}
 use Rattle.dist_outside.specs.declared.limits.Limits.{Limits}
 use Rattle.dist_clause.specs.Formula.{literal}
 use Rattle.dist_cert.specs.declared.records.CertKind.TheVariants as kinds

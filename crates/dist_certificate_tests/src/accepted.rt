@@ -1,106 +1,125 @@
-//! The laws, and certificates that are accepted.
-use crate::texts::{Expected, PAIR, TEN, TWO, answer, is_expected};
-use dist_cert::Claims;
+//! The laws, and certificates that are accepted with all their claims.
+use dist_cert::CertKind::{self, Strong};
 use dist_check::{
     Verdict, accepted_claims_hold, each_text_has_a_verdict, texts_have_one_answer,
     texts_have_one_verdict, undecided_questions_are_hard,
 };
 use dist_outside::Limits;
+use dist_samples::{PAIR, Said, TEN, TWO};
+use dist_verdicts::{answer, are_said};
 use std::alloc::Global;
 use std::process::Abort;
 
-/// Stanzas, an accepted certificate, whether it is of mode essential, how many claims it has, and the first one, where there
-/// is one.
-type Accepted = (&'static str, &'static str, bool, usize, Expected);
+/// What an accepted certificate is over, its kind, whether it is of mode essential, and its claims.
+pub(crate) struct Accepted {
+    pub(crate) stanzas: &'static str,
+    pub(crate) text: &'static str,
+    pub(crate) kind: CertKind,
+    pub(crate) essential: bool,
+    pub(crate) said: &'static [Said],
+}
 
 /// Package a, which depends on b or c, and b, which depends on c, and c and d.
 const FOUR: &str =
     "Package: a\nVersion: 1\nDepends: b | c\n\nPackage: b\nVersion: 1\nDepends: c\n\nPackage: c\nVersion: 1\n\nPackage: d\nVersion: 1\n";
 
-const ACCEPTED: [Accepted; 8] = [
-    (TWO, TEN, false, 2, ('s', &[1], &[])),
+const ACCEPTED: &[Accepted] = &[
+    Accepted {
+        stanzas: TWO,
+        text: TEN,
+        kind: Strong,
+        essential: false,
+        said: &[Said::Strong(&[1], &[]), Said::Strong(&[], &[])],
+    },
     // No packages.
-    (
-        "",
-        "distfuture-certificate 1 strong plain 10000 0 0 0\ne\n",
-        false,
-        0,
-        ('-', &[], &[]),
-    ),
+    Accepted {
+        stanzas: "",
+        text: "distfuture-certificate 1 strong plain 10000 0 0 0\ne\n",
+        kind: Strong,
+        essential: false,
+        said: &[],
+    },
     // A package that is not installable.
-    (
-        "Package: a\nVersion: 1\nDepends: c\n",
-        "distfuture-certificate 1 strong plain 10000 1 1 1\nq 1\nf 1\nx 1\ne\n",
-        false,
-        1,
-        ('x', &[], &[]),
-    ),
+    Accepted {
+        stanzas: "Package: a\nVersion: 1\nDepends: c\n",
+        text: "distfuture-certificate 1 strong plain 10000 1 1 1\nq 1\nf 1\nx 1\ne\n",
+        kind: Strong,
+        essential: false,
+        said: &[Said::Uninstallable],
+    },
     // A package that is undecided.
-    (
-        FOUR,
-        "distfuture-certificate 1 strong plain 1 4 4 2\nq 1\nd 3 -1 0 1 2\nu\ny 1\nm 2 3\nq 2 -3\nf 2\ns 2 1 0 3 0\nm 3\ns 3 2 0 0\nm 4\ns 4 3 0 0\ne\n",
-        false,
-        4,
-        ('y', &[], &[]),
-    ),
+    Accepted {
+        stanzas: FOUR,
+        text: "distfuture-certificate 1 strong plain 1 4 4 2\nq 1\nd 3 -1 0 1 2\nu\ny 1\nm 2 3\nq 2 -3\nf 2\ns 2 1 0 3 0\nm 3\ns 3 2 0 0\nm 4\ns 4 3 0 0\ne\n",
+        kind: Strong,
+        essential: false,
+        said: &[
+            Said::Unknown,
+            Said::Strong(&[2], &[]),
+            Said::Strong(&[], &[]),
+            Said::Strong(&[], &[]),
+        ],
+    },
     // A strong dependency that is undecided.
-    (
-        FOUR,
-        "distfuture-certificate 1 strong plain 1 4 4 2\nm 1 3 4\nq 1 -3\nf 1 2\nq 1 -4\nd 3 -1 0 1 2\nu\ns 1 1 1 0 3 0 4\nm 2 3\nq 2 -3\nf 2\ns 2 2 0 3 0\nm 3\ns 3 3 0 0\nm 4\ns 4 4 0 0\ne\n",
-        false,
-        4,
-        ('s', &[2], &[3]),
-    ),
+    Accepted {
+        stanzas: FOUR,
+        text: "distfuture-certificate 1 strong plain 1 4 4 2\nm 1 3 4\nq 1 -3\nf 1 2\nq 1 -4\nd 3 -1 0 1 2\nu\ns 1 1 1 0 3 0 4\nm 2 3\nq 2 -3\nf 2\ns 2 2 0 3 0\nm 3\ns 3 3 0 0\nm 4\ns 4 4 0 0\ne\n",
+        kind: Strong,
+        essential: false,
+        said: &[
+            Said::Strong(&[2], &[3]),
+            Said::Strong(&[2], &[]),
+            Said::Strong(&[], &[]),
+            Said::Strong(&[], &[]),
+        ],
+    },
     // At mode essential each installation has the essential package, and at mode plain none needs it.
-    (
-        PAIR,
-        "distfuture-certificate 1 strong essential 10000 2 2 1\nm 1 2\nq 1 -2\nf 1\ns 1 1 0 2 0\nm 2\ns 2 2 0 0\ne\n",
-        true,
-        2,
-        ('s', &[1], &[]),
-    ),
-    (
-        PAIR,
-        "distfuture-certificate 1 strong plain 10000 2 2 0\nm 1\ns 1 1 0 0\nm 2\ns 2 2 0 0\ne\n",
-        false,
-        2,
-        ('s', &[], &[]),
-    ),
+    Accepted {
+        stanzas: PAIR,
+        text: "distfuture-certificate 1 strong essential 10000 2 2 1\nm 1 2\nq 1 -2\nf 1\ns 1 1 0 2 0\nm 2\ns 2 2 0 0\ne\n",
+        kind: Strong,
+        essential: true,
+        said: &[Said::Strong(&[1], &[]), Said::Strong(&[], &[])],
+    },
+    Accepted {
+        stanzas: PAIR,
+        text: "distfuture-certificate 1 strong plain 10000 2 2 0\nm 1\ns 1 1 0 0\nm 2\ns 2 2 0 0\ne\n",
+        kind: Strong,
+        essential: false,
+        said: &[Said::Strong(&[], &[]), Said::Strong(&[], &[])],
+    },
     // Without essential packages the modes are alike.
-    (
-        TWO,
-        "distfuture-certificate 1 strong essential 10000 2 2 1\nm 1 2\nq 1 -2\nf 1\ns 1 1 0 2 0\nm 2\ns 2 2 0 0\ne\n",
-        true,
-        2,
-        ('s', &[1], &[]),
-    ),
+    Accepted {
+        stanzas: TWO,
+        text: "distfuture-certificate 1 strong essential 10000 2 2 1\nm 1 2\nq 1 -2\nf 1\ns 1 1 0 2 0\nm 2\ns 2 2 0 0\ne\n",
+        kind: Strong,
+        essential: true,
+        said: &[Said::Strong(&[1], &[]), Said::Strong(&[], &[])],
+    },
 ];
 
-/// Whether there are so many claims, and the first has this letter and these lists.
-fn are_claims(claims: &Claims, count: usize, first: &Expected) -> bool {
-    claims.len() == count && (claims.len() == 0 || is_expected(claims.get(0), first))
-}
-
-/// Whether a row's text is accepted, at its mode and with its claims.
+/// Whether a row's text is accepted, at its kind and mode and with its claims.
 fn is_accepted(alloc: Global, row: &Accepted) -> bool {
-    let (stanzas, text, essential, count, first) = *row;
-    match answer(alloc, stanzas, text.as_bytes(), &Limits::stated()) {
+    match answer(alloc, row.stanzas, row.text.as_bytes(), &Limits::stated()) {
         Some(Ok(Verdict::Accepted(header, claims))) => {
-            header.essential == essential && are_claims(&claims, count, &first)
+            header.kind == row.kind
+                && header.essential == row.essential
+                && are_said(&claims, row.said)
         }
         _ => false,
     }
 }
 
-fn hold(rt: &(impl Abort + AllocGlobal), rows: &[Accepted]) {
+/// Each row must be accepted as it says.
+pub(crate) fn hold(rt: &(impl Abort + AllocGlobal), rows: &[Accepted]) {
     for row in rows {
-        assert!(rt; is_accepted(rt.alloc(), row), "{}", row.1);
+        assert!(rt; is_accepted(rt.alloc(), row), "{}", row.text);
     }
 }
 
 #[test]
 fn certificates_are_accepted(rt: HostRuntime) {
-    hold(&rt, &ACCEPTED);
+    hold(&rt, ACCEPTED);
 }
 
 #[test]

@@ -1,18 +1,19 @@
 //! Certificates that are refused, each at the line and for the cause of its first fault.
-use crate::texts::{PAIR, TEN, TWO, at, edited, fault_of, is_accepted};
 use dist_cert::CertCause::{
     self, BadHeader, BadLine, BadRecord, Incomplete, LimitNotReached, NotAnInstallation, NotNew,
     OutOfOrder, OutOfRange, Truncated, UnknownLine, WrongClaim,
 };
 use dist_cert::CertFault;
 use dist_outside::Limits;
+use dist_samples::{PAIR, TEN, TWO};
+use dist_verdicts::{at, edited, fault_of, is_accepted};
 use std::alloc::Global;
 use std::process::Abort;
 
-/// The first and the last of some lines of the certificate of a and b, what takes their place, and the line and the cause of
-/// the refusal.
-type Edit = (u64, u64, &'static str, u64, CertCause);
+/// The first and the last of some lines of a certificate, what takes their place, and the line and the cause of the refusal.
+pub(crate) type Edit = (u64, u64, &'static str, u64, CertCause);
 
+/// Of the certificate of a and b.
 const EDITS: [Edit; 29] = [
     // First lines of other kinds.
     (
@@ -82,14 +83,20 @@ const EDITS: [Edit; 29] = [
 ];
 
 /// The fault of an edit.
-fn fault_of_edit(alloc: Global, edit: &Edit) -> Option<CertFault> {
-    let text = edited(alloc, edit.0, edit.1, edit.2)?;
-    fault_of(alloc, TWO, &text, &Limits::stated())
+fn fault_of_edit(alloc: Global, stanzas: &str, text: &str, edit: &Edit) -> Option<CertFault> {
+    let text = edited(alloc, text, edit.0, edit.1, edit.2)?;
+    fault_of(alloc, stanzas, &text, &Limits::stated())
 }
 
-fn hold_edits(rt: &(impl Abort + AllocGlobal), edits: &[Edit]) {
+/// Each edit of a text over some stanzas must be refused as it says.
+pub(crate) fn hold_edits(
+    rt: &(impl Abort + AllocGlobal),
+    stanzas: &str,
+    text: &str,
+    edits: &[Edit],
+) {
     for edit in edits {
-        let fault = fault_of_edit(rt.alloc(), edit);
+        let fault = fault_of_edit(rt.alloc(), stanzas, text, edit);
         assert_eq!(rt;
             fault,
             at(edit.3, edit.4),
@@ -102,11 +109,11 @@ fn hold_edits(rt: &(impl Abort + AllocGlobal), edits: &[Edit]) {
 
 #[test]
 fn edits_are_refused(rt: HostRuntime) {
-    hold_edits(&rt, &EDITS);
+    hold_edits(&rt, TWO, TEN, &EDITS);
 }
 
 /// Stanzas, a text, and the line and the cause of its refusal.
-type Text = (&'static str, &'static str, u64, CertCause);
+pub(crate) type Text = (&'static str, &'static str, u64, CertCause);
 
 const TEXTS: [Text; 5] = [
     // An undecided question needs new lines.
@@ -144,7 +151,8 @@ const TEXTS: [Text; 5] = [
     ),
 ];
 
-fn hold_texts(rt: &(impl Abort + AllocGlobal), rows: &[Text]) {
+/// Each text must be refused as its row says.
+pub(crate) fn hold_texts(rt: &(impl Abort + AllocGlobal), rows: &[Text]) {
     for (stanzas, text, line, cause) in rows {
         let fault = fault_of(rt.alloc(), stanzas, text.as_bytes(), &Limits::stated());
         assert_eq!(rt; fault, at(*line, *cause), "{text}");

@@ -1,18 +1,11 @@
 //! Certificates that are judged by futures, of outdated packages and of challenges, which are accepted with all their claims.
-use crate::claim_reports::Said;
-use crate::texts::answer;
+use crate::accepted::{Accepted, hold};
 use dist_cert::CertKind::{Challenged, Outdated};
-use dist_cert::{CertKind, Claim, Claims};
-use dist_check::Verdict;
-use dist_outside::Limits;
-use std::alloc::Global;
-use std::process::Abort;
+use dist_samples::{LIBRARY, Said};
 
-/// A library, and p, which needs it below a version. Variable 1 says that the archive is as it is; 2 and 3 are the packages as
-/// they are; the library's classes are 4, 6 and 8, and its new versions 5, 7 and 9; those of p are 10 and 11.
-pub(crate) const LIBRARY: &str =
-    "Package: libx\nVersion: 1\n\nPackage: p\nVersion: 1\nDepends: libx (<< 2)\n";
-
+/// Over the library and p, which needs it below a version. Variable 1 says that the archive is as it is; 2 and 3 are the packages
+/// as they are; the library's classes are 4, 6 and 8, and its new versions 5, 7 and 9; those of p are 10 and 11.
+///
 /// The library is challenged by nothing, and p by the library's second and third class.
 pub(crate) const BROKEN: &str =
     "distfuture-certificate 1 challenged plain 10000 2 11 16\nq 1 2\nm 1 2\nc 1 1 0 0\nq 1 3\nm 1 2 3\nq 3 4\nm 3 4 5\nq 3 6\nf 6 12 5 1\nq 3 8\nf 8 12 5 2\nc 2 2 3 0 1 2 1 3 0\ne\n";
@@ -49,15 +42,6 @@ pub(crate) const FOUR: &str =
 /// One derived line leaves it undecided whether d at its class challenges a.
 pub(crate) const MARKED: &str =
     "distfuture-certificate 1 challenged plain 1 4 13 14\nm 1 2 4 5\nq 2 10\nf 5 10 9\nq 2 12\nd 4 -2 0 9 10\nu\nc 1 1 0 3 1 0 4 1\nm 1 3 4\nq 3 10\nf 5 10\nc 2 2 0 3 1 0\nm 1 4\nc 3 3 0 0\nm 1 5\nc 4 4 0 0\ne\n";
-
-/// What an accepted certificate is over, its kind, whether it is of mode essential, and its claims.
-struct Accepted {
-    stanzas: &'static str,
-    text: &'static str,
-    kind: CertKind,
-    essential: bool,
-    said: &'static [Said],
-}
 
 const ACCEPTED: &[Accepted] = &[
     Accepted {
@@ -187,51 +171,6 @@ const ACCEPTED: &[Accepted] = &[
         ],
     },
 ];
-
-/// Whether a claim is the expected one. Those on strong dependencies are none of these.
-fn is_said(claim: &Claim, said: &Said) -> bool {
-    match (claim, said) {
-        (Claim::Uninstallable, Said::Uninstallable) => true,
-        (Claim::Unknown, Said::Unknown) => true,
-        (Claim::Outdated, Said::Outdated) => true,
-        (Claim::Alive, Said::Alive) => true,
-        (Claim::Challenged(by, undecided), Said::Challenged(more, left)) => {
-            by.as_slice() == *more && undecided.as_slice() == *left
-        }
-        _ => false,
-    }
-}
-
-/// Whether the claims are the expected ones, in order.
-fn are_said(claims: &Claims, said: &[Said]) -> bool {
-    if claims.len() != said.len() {
-        return false;
-    }
-    for place in 0..said.len() {
-        if !is_said(claims.get(place), &said[place]) {
-            return false;
-        }
-    }
-    true
-}
-
-/// Whether a row's text is accepted, at its kind and mode and with its claims.
-fn is_accepted(alloc: Global, row: &Accepted) -> bool {
-    match answer(alloc, row.stanzas, row.text.as_bytes(), &Limits::stated()) {
-        Some(Ok(Verdict::Accepted(header, claims))) => {
-            header.kind == row.kind
-                && header.essential == row.essential
-                && are_said(&claims, row.said)
-        }
-        _ => false,
-    }
-}
-
-fn hold(rt: &(impl Abort + AllocGlobal), rows: &[Accepted]) {
-    for row in rows {
-        assert!(rt; is_accepted(rt.alloc(), row), "{}", row.text);
-    }
-}
 
 #[test]
 fn certificates_on_futures_are_accepted(rt: HostRuntime) {

@@ -1,19 +1,14 @@
 //! Certificates that are judged by futures and refused, each at the line and for the cause of its first fault.
+use crate::faults::{Edit, Text, hold_edits, hold_texts};
 use crate::future_certificates::{
-    BROKEN, CROWDED, ESSENTIAL, FOUR, LIBRARY, MARKED, MOVING, OLD, SHUT_OUT, STALE,
+    BROKEN, CROWDED, ESSENTIAL, FOUR, MARKED, MOVING, OLD, SHUT_OUT, STALE,
 };
-use crate::texts::{at, edited_in, fault_of};
 use dist_cert::CertCause::{
-    self, BadHeader, BadLine, Incomplete, LimitNotReached, NotAFuture, NotAnInstallation, NotNew,
+    BadHeader, BadLine, Incomplete, LimitNotReached, NotAFuture, NotAnInstallation, NotNew,
     OutOfOrder, OutOfRange, UnknownLine, WrongClaim,
 };
-use dist_cert::CertFault;
-use dist_outside::Limits;
-use std::alloc::Global;
+use dist_samples::LIBRARY;
 use std::process::Abort;
-
-/// The first and the last of some lines of a certificate, what takes their place, and the line and the cause of the refusal.
-type Edit = (u64, u64, &'static str, u64, CertCause);
 
 /// Of the certificate of outdated packages.
 const STALE_EDITS: &[Edit] = &[
@@ -171,25 +166,6 @@ const EDITED: [Edited; 5] = [
     (FOUR, MARKED, MARKED_EDITS),
 ];
 
-/// The fault of an edit.
-fn fault_of_edit(alloc: Global, stanzas: &str, text: &str, edit: &Edit) -> Option<CertFault> {
-    let text = edited_in(alloc, text, edit.0, edit.1, edit.2)?;
-    fault_of(alloc, stanzas, &text, &Limits::stated())
-}
-
-fn hold_edits(rt: &(impl Abort + AllocGlobal), stanzas: &str, text: &str, edits: &[Edit]) {
-    for edit in edits {
-        let fault = fault_of_edit(rt.alloc(), stanzas, text, edit);
-        assert_eq!(rt;
-            fault,
-            at(edit.3, edit.4),
-            "{:?} at line {}",
-            edit.2,
-            edit.0
-        );
-    }
-}
-
 fn hold(rt: &(impl Abort + AllocGlobal), all: &[Edited]) {
     for (stanzas, text, edits) in all {
         hold_edits(rt, stanzas, text, edits);
@@ -200,9 +176,6 @@ fn hold(rt: &(impl Abort + AllocGlobal), all: &[Edited]) {
 fn edits_of_certificates_on_futures_are_refused(rt: HostRuntime) {
     hold(&rt, &EDITED);
 }
-
-/// Stanzas, a text, and the line and the cause of its refusal.
-type Text = (&'static str, &'static str, u64, CertCause);
 
 const TEXTS: [Text; 2] = [
     // The mode decides how many clauses there are.
@@ -220,13 +193,6 @@ const TEXTS: [Text; 2] = [
         BadHeader,
     ),
 ];
-
-fn hold_texts(rt: &(impl Abort + AllocGlobal), rows: &[Text]) {
-    for (stanzas, text, line, cause) in rows {
-        let fault = fault_of(rt.alloc(), stanzas, text.as_bytes(), &Limits::stated());
-        assert_eq!(rt; fault, at(*line, *cause), "{text}");
-    }
-}
 
 #[test]
 fn texts_on_futures_are_refused(rt: HostRuntime) {

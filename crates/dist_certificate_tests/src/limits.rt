@@ -1,8 +1,9 @@
 //! Texts that pass a number, and files that are not read.
-use crate::texts::{TEN, TWO, answer, answer_at, at, edited, fault_of, limited};
 use dist_cert::CertCause::LineTooLong;
 use dist_check::Verdict;
 use dist_outside::{Limits, What, WorkError};
+use dist_samples::{TEN, TWO, limited};
+use dist_verdicts::{answer, answer_at, at, edited, fault_of};
 use std::alloc::Global;
 use std::process::Abort;
 
@@ -50,7 +51,7 @@ const PASSED: [Passed; 8] = [
 /// Whether a row passes its number.
 fn is_passed(alloc: Global, row: &Passed) -> Option<bool> {
     let (line, with, what, number) = *row;
-    let text = edited(alloc, line, line, with)?;
+    let text = edited(alloc, TEN, line, line, with)?;
     let answer = answer(alloc, TWO, &text, &limited(what, number))?;
     Some(answer.err() == Some(WorkError::TooLarge(what)))
 }

@@ -19,6 +19,7 @@ use Rattle.dist_cert.specs.ClaimRules.{challenge_question, yes}
 use Rattle.dist_cert.specs.Form.{ArePairs, IsSmall, Word, is_end, pair_words, plain, plains, separator}
 use Rattle.dist_cert.specs.Groups.{claim_count, group, installation_at, installations, IsRefutedIn, IsUndecidedIn}
 use Rattle.dist_cert.specs.LineRules.{HasRecordFault}
+use Rattle.dist_cert.specs.Part.{NamesFew, Strikes}
 use Rattle.dist_cert.specs.PartByRecordsLaws.{IsLine}
 use Rattle.dist_space.specs.Space.{IsMeaning, IsSpace, SpaceView, variable_of}
 use Rattle.dist_space.specs.ClusterLaws.{placed-in}
@@ -30,9 +31,9 @@ use Rattle.dist_sweep.specs.ClaimLinesLaws.{IsClaimLine, next-claim}
 use Rattle.dist_sweep.specs.LineLaws.{no-future, none-in, plains-small}
 use Rattle.dist_sweep.specs.Script.{Setting, matter_in}
 use Rattle.dist_sweep.specs.Window.{IsWindowAt, WindowView}
-use Rattle.dist_challenge.specs.ChallengePrivate.{GroupView, IsGroupAt, IsNameable, challenged_line, names_of, together}
+use Rattle.dist_challenge.specs.GroupPrivate.{AreFew, GroupView, IsGroupAt, IsNameable, Struck, challenged_line, names_of, together}
 use Rattle.dist_challenge.specs.CoverPrivate.{IsPairVariable}
-use Rattle.dist_challenge.specs.Futures.{IsOfSpace}
+use Rattle.dist_challenge.specs.FuturesPrivate.{IsOfSpace}
 use Rattle.dist_challenge.specs.UsedPrivate.{AreSmallPairs, pair_at}
 use Rattle.dist_challenge.proofs.GroupLines.{group-few, latest-of}
 use Rattle.dist_challenge.proofs.PairOrder.{pair-below, variable-pair}
@@ -151,6 +152,54 @@ names-named g before w present more (n ∷ named) at names latest = λ k d withi
 names-distinct : (w : WindowView) (named : List ℕ) → AllPairs (λ m n. m ≢ n) named → AllPairs (λ m n. m ≢ n) (names_of w named)
 names-distinct w [] distinct = λ i j d before within. absurd (omega (arith, before, within))
 names-distinct w (n ∷ named) distinct = distinct
+
+-- those that struck, in the words of certificates
+struck-few : PairsLaw → (g : Setting) (s : SpaceView) → IsOfSpace kinds.Challenged s g → IsSpace s → (before : List CertRecord) (p today number : ℕ)
+    (named : List ℕ) → 1 ≤ p → Struck g s (slice_index s.cluster_of (p - 1)) (installations before) today named number
+    → Strikes (matter_in g) before p today named number
+struck-few law g s of space before p today number named from struck = record {
+  pair = pair_at s struck.at;
+  is_pair = pair-for law g s of space p struck.at from struck.variable;
+  covers = struck.covers;
+  not_today = struck.not_today;
+  none_later = struck.none_later;
+}
+
+names-few : PairsLaw → (g : Setting) (s : SpaceView) → IsOfSpace kinds.Challenged s g → IsSpace s → (before : List CertRecord) (w : WindowView)
+    (p present : ℕ) (named : List ℕ) → 1 ≤ p → IsWindowAt before w → (matter_in g).present p ≡ present
+    → AreFew g s (slice_index s.cluster_of (p - 1)) present (installations before) (installations (group before)) named
+    → NamesFew (matter_in g) before p (names_of w named)
+names-few law g s of space before w p present named from at is few = record {
+  today = few.today;
+  has = subst (λ (v : ℕ). Contains (installation_at before few.today) v) (sym is) few.has;
+  is_today = few.now;
+  strike = by named few.struck few.latest;
+}
+  where
+    own : ℕ
+    own = slice_index s.cluster_of (p - 1)
+
+    by : (ns : List ℕ) → All (λ n. n ≢ few.today → Struck g s own (installations before) few.today ns n) ns
+        → (length ns ≡ 0 → length (installations before) ≢ few.today
+        → Struck g s own (installations before) few.today [] (length (installations before)))
+        → All (λ n. n ≢ few.today → Strikes (matter_in g) before p few.today (names_of w ns) n) (names_of w ns)
+    by [] all latest = All-cons (λ n. n ≢ few.today → Strikes (matter_in g) before p few.today (w.count ∷ []) n) w.count []
+        (λ other. last (subst (λ (n : ℕ). Struck g s own (installations before) few.today [] n) (sym at.count) (latest refl (λ same. other (at.count ∙ same)))))
+        (All-nil (λ n. n ≢ few.today → Strikes (matter_in g) before p few.today (w.count ∷ []) n))
+      where
+        last : Struck g s own (installations before) few.today [] w.count → Strikes (matter_in g) before p few.today (w.count ∷ []) w.count
+        last struck =
+            let one = struck-few law g s of space before p few.today w.count [] from struck in
+            record {
+              pair = one.pair;
+              is_pair = one.is_pair;
+              covers = one.covers;
+              not_today = one.not_today;
+              none_later = All-cons (λ n. w.count < n → ¬ Covers (matter_in g) one.pair (installation_at before n)) w.count []
+                  (λ less. absurd (omega (arith, less))) (All-nil (λ n. w.count < n → ¬ Covers (matter_in g) one.pair (installation_at before n)));
+            }
+    by (n ∷ ns) all latest = λ k d within other.
+        struck-few law g s of space before p few.today (get_or (n ∷ ns) k d) (n ∷ ns) from (all k d within other)
 
 names-some : (w : WindowView) (named : List ℕ) → 0 < length (names_of w named)
 names-some w [] = omega arith
@@ -332,7 +381,11 @@ challenged-next law g before w s group_is of space from at kept done going fits 
   };
   not_ended = going;
   faultless = none;
-  next = names-distinct w group_is.named kept.distinct;
+  next = (
+    names-distinct w group_is.named kept.distinct,
+    names-few law g s of space before w group_is.claimed group_is.present group_is.named from at
+        (present-is kinds.Challenged s g of group_is.claimed ∙ sym kept.present) kept.few,
+  );
 }
   where
     rules : HoldsChallenged (matter_in g) before group_is.claimed (names_of w group_is.named) (map (pair_at s) group_is.refuted)

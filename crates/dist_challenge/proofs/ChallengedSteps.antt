@@ -31,11 +31,11 @@ use Rattle.dist_sweep.specs.Window.{WindowView}
 use Rattle.dist_sweep.specs.WindowLaws.{window-same}
 use Rattle.dist_sweep.specs.Words.{true_variables}
 use Rattle.dist_sweep.specs.declared.asker.Reply.TheVariants as replies
-use Rattle.dist_challenge.specs.Challenged.{AreUses, ChallengedView, KeepsChallenged}
-use Rattle.dist_challenge.specs.ChallengePrivate.{ChallengeMore, FitsGroup, GroupView, IsAdded, IsFoundGroup, IsGroupAt, IsKnownGroup, IsSettling, SettleMore}
-use Rattle.dist_challenge.specs.ChallengePrivate.{SettleStops, challenged_line, together}
+use Rattle.dist_challenge.specs.ChallengedPrivate.{AreUses, ChallengedView, KeepsChallenged}
+use Rattle.dist_challenge.specs.GroupPrivate.{ChallengeMore, FitsGroup, GroupView, IsAdded, IsFoundGroup, IsGroupAt, IsKnownGroup, IsSettling, SettleMore}
+use Rattle.dist_challenge.specs.GroupPrivate.{SettleStops, challenged_line, together}
 use Rattle.dist_challenge.specs.CoverPrivate.{IsPairVariable, IsStriker}
-use Rattle.dist_challenge.specs.Futures.{FitsSpace, IsOfSpace}
+use Rattle.dist_challenge.specs.FuturesPrivate.{FitsSpace, IsOfSpace}
 use Rattle.dist_challenge.specs.UsedPrivate.{AreSmallPairs, pair_at}
 use Rattle.dist_challenge.proofs.Asked.{AskedFrom, asked-lines, asked-none, IsReady, Known, nothing-in, PutsBehind, PutsFrom, Stands}
 use Rattle.dist_challenge.proofs.ChallengedLine.{challenged-kind, challenged-next, PairsLaw}

@@ -5,8 +5,8 @@ use Rattle.std.specs.List.{All, AllPairs, Contains, list_any}
 use Rattle.std.specs.Prelude.{slice_index}
 use Rattle.std.proofs.lemmas.Bool.{cases_eq, cases_lt, true≢false, false≢true, or_parts}
 use Rattle.std.proofs.lemmas.List.{get_or_append_left, get_or_at, get_or_default}
-use Rattle.std.proofs.lemmas.List.Elements.{All-contains, All-filter, All-nil, All-push, All-weaker, Contains-append_left, Contains-push}
-use Rattle.std.proofs.lemmas.List.Elements.{filter_passes}
+use Rattle.std.proofs.lemmas.List.Elements.{All-cons, All-contains, All-filter, All-head, All-nil, All-push, All-tail, All-weaker}
+use Rattle.std.proofs.lemmas.List.Elements.{Contains-append_left, Contains-push, filter_passes}
 use Rattle.std.proofs.lemmas.List.Kept.{AllPairs-filter}
 use Rattle.dist_clause.specs.Formula.{value_of}
 use Rattle.dist_cert.specs.ClaimRules.{IsPairBelow}
@@ -16,10 +16,9 @@ use Rattle.dist_space.specs.Space.{IsSpace, SpaceView, cluster_classes, variable
 use Rattle.dist_space.specs.VariableLaws.{place-at, variable-range}
 use Rattle.dist_space.specs.declared.meaning.Meaning.TheVariants.{At}
 use Rattle.dist_sweep.specs.Window.{WindowView, kept_at}
-use Rattle.dist_challenge.specs.Challenged.{ChallengedView}
-use Rattle.dist_challenge.specs.CoverPrivate.{AreClustersFrom, AreGathered, AreOpen, HasClasses, IsAbove, IsGathering, IsKept, IsPairVariable, IsPlan}
-use Rattle.dist_challenge.specs.CoverPrivate.{IsStriker, Lasts}
-use Rattle.dist_challenge.specs.CoverPrivate.{covered_by, is_covered, used_by}
+use Rattle.dist_challenge.specs.ChallengedPrivate.{ChallengedView}
+use Rattle.dist_challenge.specs.CoverPrivate.{AreClustersFrom, AreGathered, AreOpen, HasClasses, HasStruck, IsAbove, IsGathering, IsKept}
+use Rattle.dist_challenge.specs.CoverPrivate.{IsPairVariable, IsPlan, IsStriker, Lasts, covered_by, is_covered, used_by}
 use Rattle.dist_challenge.specs.UsedPrivate.{pair_at}
 use Rattle.dist_challenge.proofs.PairOrder.{variable-below, variable-pair}
 use Rattle.dist_challenge.proofs.UsedSteps.{means}
@@ -136,6 +135,7 @@ plan-passed c w present own today below lower named ats under plan = record {
   falling = plan.falling;
   strikers = All-weaker (IsStriker w present today (length ats) below) (IsStriker w present today (length ats) lower)
       (λ n striker. striker-later w present today (length ats) (length ats) below lower n (omega arith) under striker) named plan.strikers;
+  struck = plan.struck;
   are_open = plan.are_open;
 }
 
@@ -144,14 +144,72 @@ pub plan-starts : (c : ChallengedView) (w : WindowView) (present own today below
 plan-starts c w present own today below ats are = record {
   falling = no-pairs (λ m n. n < m);
   strikers = All-nil (IsStriker w present today (length ats) below);
+  struck = All-nil (HasStruck c w own today []);
   are_open = are;
 }
 
+-- a pair that is left out of some is one that the test refuses
+pub record LeftOut {X : Type 0} (test : X → Bool) (xs : List X) : Type 0 where
+  pub it : X
+  pub there : Contains xs it
+  pub refused : test it ≡ false
+
+left-out : {X : Type 0} (test : X → Bool) (xs : List X) → length (filter test xs) < length xs → LeftOut test xs
+left-out test [] less = absurd (omega (arith, less))
+left-out {X} test (y ∷ xs) less = by (λ fewer. left-out test xs fewer) (test y) refl less
+  where
+    by : (length (filter test xs) < length xs → LeftOut test xs) → (b : Bool) → test y ≡ b
+        → length (cond b (y ∷ filter test xs) (filter test xs)) < length (y ∷ xs) → LeftOut test (y ∷ xs)
+    by rest false is fewer = record { it = y; there = (0, omega arith, refl); refused = is }
+    by rest true is fewer =
+        let later = rest (omega (arith, fewer)) in
+        record { it = later.it; there = contains-later y xs later.it later.there; refused = later.refused }
+
+none-covers-it : (c : ChallengedView) (w : WindowView) (at : ℕ) (numbers : List ℕ) → is_covered c w numbers at ≡ false
+    → All (λ number. covered_by c w number at ≡ false) numbers
+none-covers-it c w at [] lacks = All-nil (λ number. covered_by c w number at ≡ false)
+none-covers-it c w at (n ∷ numbers) lacks =
+    let parts = or_parts (covered_by c w n at) (is_covered c w numbers at) lacks in
+    All-cons (λ number. covered_by c w number at ≡ false) n numbers parts.0 (none-covers-it c w at numbers parts.1)
+
+-- an earlier installation is named too
+struck-still : (c : ChallengedView) (w : WindowView) (own today number n : ℕ) (named : List ℕ) → number < n → HasStruck c w own today named n
+    → HasStruck c w own today (named ++ number ∷ []) n
+struck-still c w own today number n named earlier struck = record {
+  at = struck.at;
+  variable = struck.variable;
+  covers = struck.covers;
+  not_today = struck.not_today;
+  none_later = All-push (λ later. n < later → covered_by c w later struck.at ≡ false) named number struck.none_later
+      (λ less. absurd (omega (arith, earlier, less)));
+}
+
+-- the installation struck one of the pairs that were left
+struck-here : (c : ChallengedView) (w : WindowView) (own today number : ℕ) (named ats : List ℕ) → AreOpen c w own (today ∷ named) ats
+    → length (filter (λ at. not (covered_by c w number at)) ats) < length ats → HasStruck c w own today (named ++ number ∷ []) number
+struck-here c w own today number named ats are less =
+    let out = left-out (λ at. not (covered_by c w number at)) ats less in
+    let none = none-covers-it c w out.it (today ∷ named)
+    (All-contains (λ at. is_covered c w (today ∷ named) at ≡ false) ats out.it are.open_still out.there) in
+    record {
+      at = out.it;
+      variable = All-contains (IsPairVariable c.space own) ats out.it are.pairs out.there;
+      covers = not-not (covered_by c w number out.it) out.refused;
+      not_today = All-head (λ n. covered_by c w n out.it ≡ false) today named none;
+      none_later = All-push (λ later. number < later → covered_by c w later out.it ≡ false) named number
+          (λ k d within less. All-tail (λ n. covered_by c w n out.it ≡ false) today named none k d within)
+          (λ less. absurd (omega (arith, less)));
+    }
+  where
+    not-not : (b : Bool) → not b ≡ false → b ≡ true
+    not-not true is = refl
+    not-not false is = absurd (true≢false is)
+
 pub plan-struck : (c : ChallengedView) (w : WindowView) (present own today number : ℕ) (named ats left : List ℕ) → IsKept w number → 1 ≤ number
-    → value_of (kept_at w number) present ≡ true → number ≢ today → Lasts w (length left) number
+    → value_of (kept_at w number) present ≡ true → number ≢ today → Lasts w (length left) number → length left < length ats
     → left ≡ filter (λ at. not (covered_by c w number at)) ats → IsPlan c w present own today number named ats
     → IsPlan c w present own today (number - 1) (named ++ number ∷ []) left
-plan-struck c w present own today number named ats left kept from has other lasts is plan =
+plan-struck c w present own today number named ats left kept from has other lasts fewer is plan =
     let few : length left ≤ length ats = subst (λ (xs : List ℕ). length xs ≤ length ats) (sym is) (filter-few (λ at. not (covered_by c w number at)) ats) in
     record {
       falling = pairs-push (λ m n. n < m) named number plan.falling (λ k d within. (plan.strikers k d within).above);
@@ -159,6 +217,9 @@ plan-struck c w present own today number named ats left kept from has other last
           (All-weaker (IsStriker w present today (length ats) number) (IsStriker w present today (length left) (number - 1))
           (λ n striker. striker-later w present today (length ats) (length left) number (number - 1) n few (omega arith) striker) named plan.strikers)
           (record { kept = kept; has = has; other = other; lasts = lasts; above = omega (arith, from) });
+      struck = All-push (HasStruck c w own today (named ++ number ∷ [])) named number
+          (λ k d within. struck-still c w own today number (get_or named k d) named (plan.strikers k d within).above (plan.struck k d within))
+          (struck-here c w own today number named ats plan.are_open (subst (λ (xs : List ℕ). length xs < length ats) is fewer));
       are_open = subst (λ (xs : List ℕ). AreOpen c w own (today ∷ (named ++ number ∷ [])) xs) (sym is)
           (open-struck c w own number (today ∷ named) ats plan.are_open);
     }

@@ -28,9 +28,9 @@ use Rattle.dist_sweep.specs.TrueOnesLaws.{true-ones}
 use Rattle.dist_sweep.specs.Window.{IsWindowAt, WindowView, kept_at}
 use Rattle.dist_sweep.specs.WindowLaws.{IsIn, installation-is, keep-push, sized}
 use Rattle.dist_sweep.specs.Words.{true_variables}
-use Rattle.dist_challenge.specs.Challenged.{AreUsed, AreUses, ChallengedView}
+use Rattle.dist_challenge.specs.ChallengedPrivate.{AreUsed, AreUses, ChallengedView}
 use Rattle.dist_challenge.specs.CoverPrivate.{IsKept, IsPairVariable, covered_by, is_covered, used_by}
-use Rattle.dist_challenge.specs.Futures.{IsOfSpace}
+use Rattle.dist_challenge.specs.FuturesPrivate.{IsOfSpace}
 use Rattle.dist_challenge.specs.UsedPrivate.{pair_at}
 use Rattle.dist_challenge.proofs.PairOrder.{variable-pair}
 use Rattle.dist_challenge.proofs.UsedSteps.{means}

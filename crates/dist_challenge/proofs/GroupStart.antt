@@ -3,6 +3,7 @@ use Rattle.std.proofs.Common.{◌≡◌, ◌≢◌, ⊎_elim, inl, inr, ℕ, ◌
 use Rattle.std.proofs.Common.{refl, ap, sym, subst, ◌∙◌, arith, length-append}
 use Rattle.std.specs.List.{All, AllPairs, Any, Contains}
 use Rattle.std.specs.Prelude.{slice_index}
+use Rattle.std.proofs.lemmas.Bool.{true≢false}
 use Rattle.std.proofs.lemmas.List.Elements.{All-cons, All-nil, All-push, All-weaker}
 use Rattle.dist_base.specs.ListLaws.{any-cases, any-head, any-later}
 use Rattle.dist_clause.specs.Formula.{value_of}
@@ -15,12 +16,12 @@ use Rattle.dist_space.specs.Space.{variable_of}
 use Rattle.dist_space.specs.declared.meaning.Meaning.TheVariants.{Present}
 use Rattle.dist_sweep.specs.Script.{Setting, matter_in}
 use Rattle.dist_sweep.specs.Window.{WindowView, kept_at}
-use Rattle.dist_sweep.specs.WindowLaws.{kept-has}
-use Rattle.dist_challenge.specs.Challenged.{ChallengedView}
-use Rattle.dist_challenge.specs.ChallengePrivate.{IsGroupAt, IsNameable, group_of, together}
-use Rattle.dist_challenge.specs.CoverPrivate.{IsKept, IsPairVariable, IsPlan, IsStriker, Lasts, is_covered}
+use Rattle.dist_sweep.specs.WindowLaws.{kept-has, sized}
+use Rattle.dist_challenge.specs.ChallengedPrivate.{ChallengedView}
+use Rattle.dist_challenge.specs.GroupPrivate.{IsGroupAt, IsNameable, Struck, group_of, together}
+use Rattle.dist_challenge.specs.CoverPrivate.{HasStruck, IsKept, IsPairVariable, IsPlan, IsStriker, Lasts, covered_by, is_covered}
 use Rattle.dist_challenge.specs.UsedPrivate.{pair_at}
-use Rattle.dist_challenge.proofs.CoveredPairs.{CoveredLaw, CoversBy, Kept, kept-in, none-covers, some-covers}
+use Rattle.dist_challenge.proofs.CoveredPairs.{CoveredLaw, CoversBy, Kept, kept-covers, kept-in, none-covers, some-covers}
 use Rattle.dist_challenge.proofs.CoverSteps.{no-pairs, pairs-push}
 use Rattle.dist_challenge.proofs.GroupLines.{any-append-cases, any-append-left, any-append-right}
 use Rattle.dist_challenge.proofs.Spaces.{present-is}
@@ -60,6 +61,22 @@ strikers-kept w present today more below named all k d within = (all k d within)
 nothing-in : {X : Type 0} (x : X) → ¬ Contains [] x
 nothing-in x there = omega (arith, there.1)
 
+-- what an installation struck, in the words of certificates
+struck-lines : CoveredLaw → (g : Setting) (before : List CertRecord) (w : WindowView) (c : ChallengedView) (own today number : ℕ) (named : List ℕ)
+    → Kept g before w c → IsKept w today → IsKept w number → All (IsKept w) named → HasStruck c w own today named number
+    → Struck g c.space own (installations before) today named number
+struck-lines law g before w c own today number named kept kept_today kept_it all struck = record {
+  at = struck.at;
+  variable = struck.variable;
+  covers = (kept-covers law g before w c own number struck.at kept kept_it struck.variable).0 struck.covers;
+  not_today = not-covers today kept_today struck.not_today;
+  none_later = λ k d within later. not-covers (get_or named k d) (all k d within) (struck.none_later k d within later);
+}
+  where
+    not-covers : (n : ℕ) → IsKept w n → covered_by c w n struck.at ≡ false → ¬ CoversBy g before c.space struck.at n
+    not-covers n kept_n lacks covers =
+        true≢false (sym ((kept-covers law g before w c own n struck.at kept kept_n struck.variable).1 covers) ∙ lacks)
+
 -- ---- by a known installation of today
 
 module _ (law : CoveredLaw) (g : Setting) (before : List CertRecord) (w : WindowView) (c : ChallengedView) (p present : ℕ) (kept : Kept g before w c) where
@@ -80,8 +97,19 @@ module _ (law : CoveredLaw) (g : Setting) (before : List CertRecord) (w : Window
         (λ n striker. striker-nameable g before w c present today (length left) 0 n kept present_from present_upto striker) strikers plan.strikers)
         (today-nameable g before w c present (length left) today kept present_from present_upto kept_today has lasts);
     distinct = pairs-push (λ m n. m ≢ n) strikers today (falling-distinct strikers plan.falling) (λ k d within. (plan.strikers k d within).other);
-    today = inl (any-append-right (λ n. Contains (installation_at before n) 1) strikers today
-        (kept-has before w today 1 kept.window (kept-in before w today kept.window kept_today) (omega arith) (omega (arith, present_from, present_upto)) now));
+    today = inl (any-append-right (λ n. Contains (installation_at before n) 1) strikers today now_there);
+    few = record {
+      today = today;
+      from_one = (today-nameable g before w c present (length left) today kept present_from present_upto kept_today has lasts).from_one;
+      upto = (today-nameable g before w c present (length left) today kept present_from present_upto kept_today has lasts).upto;
+      has = (today-nameable g before w c present (length left) today kept present_from present_upto kept_today has lasts).has;
+      now = now_there;
+      struck = All-push (λ n. n ≢ today → Struck g c.space own (installations before) today (strikers ++ today ∷ []) n) strikers today
+          (λ k d within other. struck-before (get_or strikers k d) (plan.strikers k d within).kept (plan.struck k d within))
+          (λ other. absurd (other refl));
+      of_group = λ none. absurd (omega (arith, none, length-append strikers (today ∷ [])));
+      latest = λ none other. absurd (omega (arith, none, length-append strikers (today ∷ [])));
+    };
     falling = plan.are_open.falling;
     rising = (no-pairs (λ a b. a < b), no-pairs (λ a b. a < b));
     below = (All-nil (λ at. All (λ next. at < next) left), All-nil (λ at. All (λ next. at < next) left));
@@ -102,6 +130,26 @@ module _ (law : CoveredLaw) (g : Setting) (before : List CertRecord) (w : Window
         (subst (λ (ls : List CertRecord). Contains ls (Question (together present at))) no_group there));
   }
     where
+      own : ℕ
+      own = slice_index c.space.cluster_of (p - 1)
+
+      now_there : Contains (installation_at before today) 1
+      now_there = kept-has before w today 1 kept.window (kept-in before w today kept.window kept_today) (omega arith)
+          (omega (arith, present_from, present_upto)) now
+
+      struck-before : (n : ℕ) → IsKept w n → HasStruck c w own today strikers n
+          → Struck g c.space own (installations before) today (strikers ++ today ∷ []) n
+      struck-before n kept_n struck =
+          let one = struck-lines law g before w c own today n strikers kept kept_today kept_n
+          (strikers-kept w present today (length left) 0 strikers plan.strikers) struck in
+          record {
+            at = one.at;
+            variable = one.variable;
+            covers = one.covers;
+            not_today = one.not_today;
+            none_later = All-push (λ later. n < later → ¬ CoversBy g before c.space one.at later) strikers today one.none_later (λ less. one.not_today);
+          }
+
       all-kept : All (IsKept w) (today ∷ strikers)
       all-kept = All-cons (IsKept w) today strikers kept_today (strikers-kept w present today (length left) 0 strikers plan.strikers)
 
@@ -147,6 +195,18 @@ module _ (law : CoveredLaw) (g : Setting) (before : List CertRecord) (w : Window
     distinct = falling-distinct strikers plan.falling;
     today = inr (subst (λ (ms : List (List ℕ)). Any (λ m. Contains m present × Contains m 1) ms) (sym own)
         (any-head (λ m. Contains m present × Contains m 1) members [] (has, now)));
+    few = record {
+      today = w.count;
+      from_one = omega (arith, kept_today.low, (sized before w kept.window).fewer);
+      upto = let count = kept.window.count in omega (arith, count);
+      has = subst (λ (m : List ℕ). Contains m present) (sym latest) has;
+      now = subst (λ (m : List ℕ). Contains m 1) (sym latest) now;
+      struck = λ k d within other. struck-lines law g before w c (slice_index c.space.cluster_of (p - 1)) w.count (get_or strikers k d) strikers kept
+          kept_today (plan.strikers k d within).kept (strikers-kept w present w.count (length left) 0 strikers plan.strikers) (plan.struck k d within);
+      of_group = λ none. subst (λ (ms : List (List ℕ)). Contains ms (installation_at before w.count)) (sym own)
+          (0, omega arith, sym latest);
+      latest = λ none other. absurd (other (sym kept.window.count));
+    };
     falling = plan.are_open.falling;
     rising = (no-pairs (λ a b. a < b), no-pairs (λ a b. a < b));
     below = (All-nil (λ at. All (λ next. at < next) left), All-nil (λ at. All (λ next. at < next) left));

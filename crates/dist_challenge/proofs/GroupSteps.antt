@@ -2,24 +2,25 @@
 use Rattle.std.proofs.Common.{◌≡◌, ◌⊎◌, ⊎_elim, inl, inr, ℕ, ◌+◌, ◌-◌, ◌<◌, ◌≤◌, Bool, true, false, not, List, [], ◌∷◌, ◌++◌, length, get_or}
 use Rattle.std.proofs.Common.{filter, refl, ap, sym, subst, ◌∙◌, arith, append-nil, length-append}
 use Rattle.std.specs.List.{All, AllPairs, Contains}
-use Rattle.std.specs.Prelude.{slice_index}
+use Rattle.std.specs.Prelude.{slice_index, slice_index_or}
 use Rattle.std.proofs.lemmas.Bool.{true≢false}
 use Rattle.std.proofs.lemmas.List.{get_or_append_left, get_or_at}
 use Rattle.std.proofs.lemmas.List.Elements.{All-contains, All-filter, All-push, All-weaker, Contains-append_left, Contains-push}
 use Rattle.std.proofs.lemmas.List.Elements.{Contains-push_cases, filter_passes}
 use Rattle.std.proofs.lemmas.List.Kept.{AllPairs-filter}
+use Rattle.dist_base.specs.ListLaws.{any-contained}
 use Rattle.dist_cert.specs.declared.records.CertKind.TheVariants as kinds
 use Rattle.dist_cert.specs.declared.records.CertRecord.{CertRecord}
 use Rattle.dist_cert.specs.declared.records.CertRecord.TheVariants.{Question, Refuted, Undecided}
 use Rattle.dist_cert.specs.ClaimRules.{Covers, IsCovered, SomeInstallation}
 use Rattle.dist_cert.specs.Form.{Word}
-use Rattle.dist_cert.specs.Groups.{group, installations, IsClosedBy, IsRefutedIn, IsUndecidedIn}
+use Rattle.dist_cert.specs.Groups.{group, installation_at, installations, IsClosedBy, IsRefutedIn, IsUndecidedIn}
 use Rattle.dist_space.specs.Space.{SpaceView}
 use Rattle.dist_sweep.specs.QuestionLinesLaws.{questions-of, AreAsked, group-after, count-after, in-group-after, closed-after, closed-here, installed-after}
 use Rattle.dist_sweep.specs.Script.{Setting, matter_in}
-use Rattle.dist_challenge.specs.ChallengePrivate.{GroupView, IsGroupAt, IsNameable, together}
+use Rattle.dist_challenge.specs.GroupPrivate.{AreFew, GroupView, IsGroupAt, IsNameable, together}
 use Rattle.dist_challenge.specs.CoverPrivate.{IsPairVariable}
-use Rattle.dist_challenge.specs.Futures.{IsOfSpace}
+use Rattle.dist_challenge.specs.FuturesPrivate.{IsOfSpace}
 use Rattle.dist_challenge.specs.UsedPrivate.{pair_at}
 use Rattle.dist_challenge.proofs.CoverSteps.{filter-few, filter-in, in-filter, not-false, not-true, pairs-push}
 use Rattle.dist_challenge.proofs.GroupLines.{SomeOf, some-back, some-more, some-new}
@@ -124,6 +125,12 @@ module _ (g : Setting) (before after : List CertRecord) (question : List Word) (
         has = subst (λ (all : List (List ℕ)). Contains (get_or all (number - 1) []) present) (sym all-again) name.has;
       }
 
+  few-again : (s : SpaceView) (own present : ℕ) (named : List ℕ) → AreFew g s own present (installations before) (installations (group before)) named
+      → AreFew g s own present (installations after) (installations (group after)) named
+  few-again s own present named few =
+      subst (λ (all : List (List ℕ)). AreFew g s own present all (installations (group after)) named) (sym all-again)
+      (subst (λ (of_group : List (List ℕ)). AreFew g s own present (installations before) of_group named) (sym again) few)
+
 pub refuted-step : (g : Setting) (s : SpaceView) (before after : List CertRecord) (group_is : GroupView) (at : ℕ) (hints : List ℕ)
     → IsGroupAt g before s (with_left group_is at) → (asked : AreAsked before (together group_is.present at) [] after) → asked.answer ≡ Refuted hints
     → IsGroupAt g after s (record group_is { refuted = group_is.refuted ++ at ∷ [] })
@@ -139,6 +146,8 @@ refuted-step g s before after group_is at hints kept asked is = record {
       (omega (arith, length-append group_is.left (at ∷ []))) name) group_is.named kept.names;
   distinct = kept.distinct;
   today = some-again g before after (together group_is.present at) asked (λ m. Contains m 1) group_is.named group_is.present kept.today;
+  few = few-again g before after (together group_is.present at) asked s (slice_index s.cluster_of (group_is.claimed - 1)) group_is.present group_is.named
+      kept.few;
   falling = pairs-front (λ a b. b < a) group_is.left at kept.falling;
   rising = (pairs-push (λ a b. a < b) group_is.refuted at kept.rising.0 last.refuted, kept.rising.1);
   below = (
@@ -208,6 +217,8 @@ undecided-step g s before after group_is at kept asked is = record {
       (omega (arith, length-append group_is.left (at ∷ []))) name) group_is.named kept.names;
   distinct = kept.distinct;
   today = some-again g before after (together group_is.present at) asked (λ m. Contains m 1) group_is.named group_is.present kept.today;
+  few = few-again g before after (together group_is.present at) asked s (slice_index s.cluster_of (group_is.claimed - 1)) group_is.present group_is.named
+      kept.few;
   falling = pairs-front (λ a b. b < a) group_is.left at kept.falling;
   rising = (kept.rising.0, pairs-push (λ a b. a < b) group_is.undecided at kept.rising.1 last.undecided);
   below = (
@@ -262,6 +273,54 @@ undecided-step g s before after group_is at kept asked is = record {
 
 -- ---- an installation came
 
+-- the last pair that was left was uncovered, and is covered by the new installation
+few-more : (g : Setting) (s : SpaceView) (own present : ℕ) (all group : List (List ℕ)) (members named : List ℕ) (at : ℕ)
+    → All (λ n. (1 ≤ n) × (n ≤ length all)) named → (few : AreFew g s own present all group named) → IsPairVariable s own at
+    → Covers (matter_in g) (pair_at s at) members
+    → (length named ≡ 0 → ¬ Covers (matter_in g) (pair_at s at) (slice_index_or all (few.today - 1) []))
+    → AreFew g s own present (all ++ members ∷ []) (group ++ members ∷ []) named
+few-more g s own present all group members named at inside few variable covers uncovered = record {
+  today = few.today;
+  from_one = few.from_one;
+  upto = omega (arith, few.upto, long);
+  has = again (λ m. Contains m present) few.today few.from_one few.upto few.has;
+  now = again (λ m. Contains m 1) few.today few.from_one few.upto few.now;
+  struck = λ k d within other.
+      let old = few.struck k d within other in
+      let number : ℕ = get_or named k d in
+      record {
+        at = old.at;
+        variable = old.variable;
+        covers = again (Covers (matter_in g) (pair_at s old.at)) number (inside k d within).0 (inside k d within).1 old.covers;
+        not_today = again (λ m. ¬ Covers (matter_in g) (pair_at s old.at) m) few.today few.from_one few.upto old.not_today;
+        none_later = λ j e short later. again (λ m. ¬ Covers (matter_in g) (pair_at s old.at) m) (get_or named j e) (inside j e short).0 (inside j e short).1
+            (old.none_later j e short later);
+      };
+  of_group = λ none. again (λ m. Contains (group ++ members ∷ []) m) few.today few.from_one few.upto
+      (Contains-append_left group (members ∷ []) (slice_index_or all (few.today - 1) []) (few.of_group none));
+  latest = λ none other. record {
+    at = at;
+    variable = variable;
+    covers = subst (Covers (matter_in g) (pair_at s at)) (sym newest) covers;
+    not_today = again (λ m. ¬ Covers (matter_in g) (pair_at s at) m) few.today few.from_one few.upto (uncovered none);
+    none_later = λ k d within. absurd (omega (arith, within));
+  };
+}
+  where
+    long : length (all ++ members ∷ []) ≡ length all + 1
+    long = length-append all (members ∷ [])
+
+    again : (P : List ℕ → Type 0) (n : ℕ) → 1 ≤ n → n ≤ length all → P (slice_index_or all (n - 1) [])
+        → P (slice_index_or (all ++ members ∷ []) (n - 1) [])
+    again P n from upto holds =
+        let short : n - 1 < length all = omega (arith, from, upto) in
+        subst P (sym (get_or_append_left all (members ∷ []) [] (n - 1) short)) holds
+
+    newest : slice_index_or (all ++ members ∷ []) (length (all ++ members ∷ []) - 1) [] ≡ members
+    newest =
+        let place : length (all ++ members ∷ []) - 1 ≡ length all = omega (arith, long) in
+        ap (λ (k : ℕ). get_or (all ++ members ∷ []) k []) place ∙ get_or_at all members [] [] (length all) refl
+
 pub found-step : (g : Setting) (s : SpaceView) (before after : List CertRecord) (group_is : GroupView) (at : ℕ) (members : List ℕ) (covers : ℕ → Bool)
     → IsOfSpace kinds.Challenged s g
     → IsGroupAt g before s (with_left group_is at) → AreAsked before (together group_is.present at) (members ∷ []) after
@@ -284,6 +343,10 @@ found-step g s before after group_is at members covers of kept asked has to from
       (IsNameable after group_is.present (length (filter (λ a. not (covers a)) group_is.left))) (λ n name. nameable n name) group_is.named kept.names;
   distinct = kept.distinct;
   today = more (λ m. Contains m 1) group_is.present kept.today;
+  few = subst (λ (all : List (List ℕ)). AreFew g s own group_is.present all (installations (group after)) group_is.named) (sym all_is)
+      (subst (λ (of_group : List (List ℕ)). AreFew g s own group_is.present (installations before ++ members ∷ []) of_group group_is.named) (sym own_is)
+      (few-more g s own group_is.present (installations before) (installations (group before)) members group_is.named at inside kept.few last.variable
+      (to at last.variable itself) not-today));
   falling = AllPairs-filter (λ a b. b < a) (λ a. not (covers a)) group_is.left (pairs-front (λ a b. b < a) group_is.left at kept.falling);
   rising = (kept.rising.0, AllPairs-filter (λ a b. a < b) (λ a. not (covers a)) group_is.undecided kept.rising.1);
   below = (
@@ -333,6 +396,9 @@ found-step g s before after group_is at members covers of kept asked has to from
       (asked-after before group_is.present at a (members ∷ []) after asked there);
 }
   where
+    own : ℕ
+    own = slice_index s.cluster_of (group_is.claimed - 1)
+
     own_is : installations (group after) ≡ installations (group before) ++ members ∷ []
     own_is = in-group-after before (together group_is.present at) (members ∷ []) after asked
 
@@ -344,6 +410,13 @@ found-step g s before after group_is at members covers of kept asked has to from
 
     inside : All (λ n. (1 ≤ n) × (n ≤ length (installations before))) group_is.named
     inside k d within = let name = kept.names k d within in (name.from_one, name.upto)
+
+    not-today : length group_is.named ≡ 0 → ¬ Covers (matter_in g) (pair_at s at) (installation_at before kept.few.today)
+    not-today none covers =
+        let today = installation_at before kept.few.today in
+        let has = subst (λ (v : ℕ). Contains today v) (kept.present ∙ sym (present-is kinds.Challenged s g of group_is.claimed)) kept.few.has in
+        let P : List ℕ → Type 0 = λ m. Contains m ((matter_in g).present group_is.claimed) × Covers (matter_in g) (pair_at s at) m in
+        last.uncovered (inr (any-contained P (installations (group before)) today (kept.few.of_group none) (has, covers)))
 
     more : (P : List ℕ → Type 0) (variable : ℕ) → SomeInstallation before group_is.named variable P → SomeInstallation after group_is.named variable P
     more P variable some =

@@ -11,8 +11,7 @@ use Rattle.dist_space.specs.Space.{IsSpace, SpaceView, variable_of}
 use Rattle.dist_space.specs.declared.meaning.Meaning.TheVariants.{Present}
 use Rattle.dist_sweep.specs.TrueOnesLaws.{true-ones}
 use Rattle.dist_sweep.specs.Words.{true_variables}
-use Rattle.dist_challenge.specs.Outdated.{AreLatest, IsLatestWith}
-use Rattle.dist_challenge.specs.OutdatedPrivate.{AreNoted}
+use Rattle.dist_challenge.specs.OutdatedPrivate.{AreLatest, AreNoted, IsLatestWith}
 use Rattle.dist_challenge.proofs.Spaces.{present-in}
 
 -- it has the variable, and is the latest

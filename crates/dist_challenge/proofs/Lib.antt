@@ -1,10 +1,10 @@
 mod LaterKinds
+mod Starts
 mod Asked
 mod ClaimLines
 mod Spaces
 mod LatestSteps
 mod OutdatedSteps
-mod Searched
 mod UsedSteps
 mod PairOrder
 mod CoverSteps

@@ -27,9 +27,8 @@ use Rattle.dist_sweep.specs.Window.{IsWindowAt, WindowView}
 use Rattle.dist_sweep.specs.WindowLaws.{window-more, window-same}
 use Rattle.dist_sweep.specs.Words.{true_variables}
 use Rattle.dist_sweep.specs.declared.asker.Reply.TheVariants as replies
-use Rattle.dist_challenge.specs.Futures.{FitsSpace, IsOfSpace}
-use Rattle.dist_challenge.specs.Outdated.{AreLatest, KeepsOutdated, OutdatedView}
-use Rattle.dist_challenge.specs.OutdatedPrivate.{AreNoted, IsReached}
+use Rattle.dist_challenge.specs.FuturesPrivate.{FitsSpace, IsOfSpace}
+use Rattle.dist_challenge.specs.OutdatedPrivate.{AreLatest, AreNoted, IsReached, KeepsOutdated, OutdatedView}
 use Rattle.dist_challenge.proofs.Asked.{asked-lines, IsReady, Known, nothing-in, PutsBehind, PutsFrom, Stands}
 use Rattle.dist_challenge.proofs.ClaimLines.{alive-line, outdated-line, same-installed}
 use Rattle.dist_challenge.proofs.LatestSteps.{latest-more}

@@ -30,10 +30,10 @@ use Rattle.dist_sweep.specs.Window.{IsWindowAt, WindowView}
 use Rattle.dist_sweep.specs.WindowLaws.{window-more, window-same}
 use Rattle.dist_sweep.specs.Words.{true_variables}
 use Rattle.dist_sweep.specs.declared.asker.Reply.TheVariants as replies
-use Rattle.dist_challenge.specs.Challenged.{AreUsed, AreUses, ChallengedView}
-use Rattle.dist_challenge.specs.ChallengePrivate.{FitsGroup, GroupView, IsAdded, IsGroupAt, IsSettling, IsStruck, SettleMore, SettleStops, together}
+use Rattle.dist_challenge.specs.ChallengedPrivate.{AreUsed, AreUses, ChallengedView}
+use Rattle.dist_challenge.specs.GroupPrivate.{FitsGroup, GroupView, IsAdded, IsGroupAt, IsSettling, IsStruck, SettleMore, SettleStops, together}
 use Rattle.dist_challenge.specs.CoverPrivate.{IsKept, IsPairVariable, covered_by}
-use Rattle.dist_challenge.specs.Futures.{IsOfSpace}
+use Rattle.dist_challenge.specs.FuturesPrivate.{IsOfSpace}
 use Rattle.dist_challenge.specs.UsedPrivate.{pair_at}
 use Rattle.dist_challenge.proofs.Asked.{AskedFrom, asked-lines, asked-none, IsReady, Known}
 use Rattle.dist_challenge.proofs.ChallengedLine.{at-is, pair-for, pair-question, PairsLaw}

@@ -6,7 +6,7 @@ use Rattle.dist_space.specs.VariableLaws.{variable-range}
 use Rattle.dist_space.specs.declared.meaning.Meaning.TheVariants.{Present}
 use Rattle.dist_subject.specs.Basis.{Basis, matter_of}
 use Rattle.dist_sweep.specs.Script.{Setting, matter_in}
-use Rattle.dist_challenge.specs.Futures.{IsOfSpace}
+use Rattle.dist_challenge.specs.FuturesPrivate.{IsOfSpace}
 
 module _ (kind : CertKind) (s : SpaceView) (g : Setting) (of : IsOfSpace kind s g) where
   pub packages-are : (matter_in g).packages ≡ length s.repository.packages

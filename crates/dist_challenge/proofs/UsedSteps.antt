@@ -18,7 +18,7 @@ use Rattle.dist_space.specs.declared.meaning.Meaning.{Meaning}
 use Rattle.dist_space.specs.declared.meaning.Meaning.TheVariants.{Now, Present, At, New, Kept, Fresh}
 use Rattle.dist_sweep.specs.TrueOnesLaws.{contained, true-low, true-ones, true-rising, true-upto}
 use Rattle.dist_sweep.specs.Words.{true_variables}
-use Rattle.dist_challenge.specs.Challenged.{AreUsed}
+use Rattle.dist_challenge.specs.ChallengedPrivate.{AreUsed}
 use Rattle.dist_challenge.specs.UsedPrivate.{AreFlags, IsFlagged, Uses, cluster_at, cluster_meant, pair_at, pair_meant}
 
 -- ---- values that are set

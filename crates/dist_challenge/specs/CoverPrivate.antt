@@ -10,7 +10,7 @@ use Rattle.dist_cert.specs.Rising.{is_among}
 use Rattle.dist_space.specs.Space.{SpaceView, cluster_classes, variable_of}
 use Rattle.dist_space.specs.declared.meaning.Meaning.TheVariants.{At}
 use Rattle.dist_sweep.specs.Window.{WindowView, kept_at}
-use Rattle.dist_challenge.specs.Challenged.{ChallengedView}
+use Rattle.dist_challenge.specs.ChallengedPrivate.{ChallengedView}
 use Rattle.dist_challenge.specs.UsedPrivate.{pair_at}
 
 -- the installation of the number is kept
@@ -49,7 +49,7 @@ pub record AreOpen (c : ChallengedView) (w : WindowView) (own : ℕ) (numbers at
 abbrev pub Lasts : WindowView → (more number : ℕ) → Type 0
 Lasts w more number = w.count + more < number + REACH
 
--- an installation with the variable that struck pairs
+-- an installation with the variable that a claim may name
 pub record IsStriker (w : WindowView) (present today more below number : ℕ) : Type 0 where
   pub kept : IsKept w number
   pub has : value_of (kept_at w number) present ≡ true
@@ -57,11 +57,20 @@ pub record IsStriker (w : WindowView) (present today more below number : ℕ) : 
   pub lasts : Lasts w more number
   pub above : below < number
 
+-- an installation covers a pair that today's does not, nor a later one of those that are named
+pub record HasStruck (c : ChallengedView) (w : WindowView) (own today : ℕ) (named : List ℕ) (number : ℕ) : Type 0 where
+  pub at : ℕ
+  pub variable : IsPairVariable c.space own at
+  pub covers : covered_by c w number at ≡ true
+  pub not_today : covered_by c w today at ≡ false
+  pub none_later : All (λ later. number < later → covered_by c w later at ≡ false) named
+
 -- Installations above a number that struck pairs, besides that of today, and the pairs that are left.
 pub record IsPlan (c : ChallengedView) (w : WindowView) (present own today below : ℕ)
     (named ats : List ℕ) : Type 0 where
   pub falling : AllPairs (λ m n. n < m) named
   pub strikers : All (IsStriker w present today (length ats) below) named
+  pub struck : All (HasStruck c w own today named) named
   pub are_open : AreOpen c w own (today ∷ named) ats
 
 -- ---- how the pairs of today's installation are gathered

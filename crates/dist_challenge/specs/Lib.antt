@@ -1,8 +1,6 @@
-pub mod Futures
-pub mod Outdated
+pub mod FuturesPrivate
 pub mod OutdatedPrivate
-pub mod Challenged
+pub mod ChallengedPrivate
 pub mod UsedPrivate
 pub mod CoverPrivate
-pub mod ChallengePrivate
-pub mod StartLaws
+pub mod GroupPrivate

@@ -9,10 +9,10 @@ ghost use Rattle.dist_sweep.specs.Claiming.{ClaimMore, ClaimStops, Suits};
 ghost use Rattle.dist_sweep.specs.Script.{Grows};
 ghost use Rattle.dist_space.specs.Space.{IsSpace, variable_of};
 ghost use Rattle.dist_space.specs.declared.meaning.Meaning.TheVariants.{Present};
-ghost use Rattle.dist_challenge.specs.Challenged.{KeepsChallenged};
-ghost use Rattle.dist_challenge.specs.ChallengePrivate.{ChallengeMore, FitsGroup, IsFoundGroup, IsKnownGroup, SettleStops, challenged_line, names_of};
+ghost use Rattle.dist_challenge.specs.ChallengedPrivate.{KeepsChallenged};
+ghost use Rattle.dist_challenge.specs.GroupPrivate.{ChallengeMore, FitsGroup, IsFoundGroup, IsKnownGroup, SettleStops, challenged_line, names_of};
 ghost use Rattle.dist_challenge.specs.CoverPrivate.{IsKept, IsPairVariable};
-ghost use Rattle.dist_challenge.specs.Futures.{FitsSpace};
+ghost use Rattle.dist_challenge.specs.FuturesPrivate.{FitsSpace};
 ghost use Rattle.dist_challenge.specs.UsedPrivate.{AreSmallPairs, pair_at};
 
 use crate::covering::lasts;
@@ -42,7 +42,7 @@ impl Model for ChallengedClaimant {
     ghost use Rattle.dist_cert.specs.declared.TheConstants.{REACH};
     ghost use Rattle.dist_cert.specs.Form.{AreFromOne};
     ghost use Rattle.dist_cert.specs.Rising.{AreRising};
-    ghost use Rattle.dist_challenge.specs.Challenged.{ChallengedView};
+    ghost use Rattle.dist_challenge.specs.ChallengedPrivate.{ChallengedView};
 
     ghost Value = { ChallengedView };
 
@@ -327,8 +327,8 @@ impl ChallengedClaimant {
 }
 
 impl Claimant for ChallengedClaimant {
-    ghost use Rattle.dist_challenge.specs.Challenged.{KeepsChallenged};
-    ghost use Rattle.dist_challenge.specs.Futures.{FitsSpace};
+    ghost use Rattle.dist_challenge.specs.ChallengedPrivate.{KeepsChallenged};
+    ghost use Rattle.dist_challenge.specs.FuturesPrivate.{FitsSpace};
 
     ghost keeps = { λ g before c. KeepsChallenged g before c };
 

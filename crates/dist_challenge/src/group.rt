@@ -18,7 +18,7 @@ pub(crate) struct Group {
 }
 
 impl Model for Group {
-    ghost use Rattle.dist_challenge.specs.ChallengePrivate.{GroupView};
+    ghost use Rattle.dist_challenge.specs.GroupPrivate.{GroupView};
 
     ghost Value = { GroupView };
 

@@ -7,9 +7,8 @@ ghost use Rattle.dist_space.specs.Space.{IsSpace, variable_of};
 ghost use Rattle.dist_space.specs.declared.meaning.Meaning.TheVariants.{Present};
 ghost use Rattle.dist_sweep.specs.Claiming.{ClaimMore, ClaimStops, Suits};
 ghost use Rattle.dist_sweep.specs.Script.{Grows};
-ghost use Rattle.dist_challenge.specs.Futures.{FitsSpace};
-ghost use Rattle.dist_challenge.specs.Outdated.{KeepsOutdated};
-ghost use Rattle.dist_challenge.specs.OutdatedPrivate.{AreNoted, IsReached};
+ghost use Rattle.dist_challenge.specs.FuturesPrivate.{FitsSpace};
+ghost use Rattle.dist_challenge.specs.OutdatedPrivate.{AreNoted, IsReached, KeepsOutdated};
 
 use crate::words::alone;
 use dist_cert::{CertRecord, Claim, REACH};
@@ -31,7 +30,7 @@ pub struct OutdatedClaimant {
 
 impl Model for OutdatedClaimant {
     ghost use Rattle.std.specs.Prelude.{◌≡◌, length};
-    ghost use Rattle.dist_challenge.specs.Outdated.{OutdatedView};
+    ghost use Rattle.dist_challenge.specs.OutdatedPrivate.{OutdatedView};
 
     ghost Value = { OutdatedView };
 
@@ -189,8 +188,8 @@ impl OutdatedClaimant {
 }
 
 impl Claimant for OutdatedClaimant {
-    ghost use Rattle.dist_challenge.specs.Futures.{FitsSpace};
-    ghost use Rattle.dist_challenge.specs.Outdated.{KeepsOutdated};
+    ghost use Rattle.dist_challenge.specs.FuturesPrivate.{FitsSpace};
+    ghost use Rattle.dist_challenge.specs.OutdatedPrivate.{KeepsOutdated};
 
     ghost keeps = { λ g before c. KeepsOutdated g before c };
 

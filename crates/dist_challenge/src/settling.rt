@@ -2,7 +2,7 @@
 ghost use Rattle.std.specs.Prelude.{◌≡◌, ◌≤◌, ◌∷◌, [], ◌++◌, All, IfErr, OnOk, length};
 ghost use Rattle.dist_outside.specs.Files.{IsWriting};
 ghost use Rattle.dist_sweep.specs.Script.{Grows};
-ghost use Rattle.dist_challenge.specs.ChallengePrivate.{FitsGroup, IsAdded, IsStruck, SettleMore, SettleStops};
+ghost use Rattle.dist_challenge.specs.GroupPrivate.{FitsGroup, IsAdded, IsStruck, SettleMore, SettleStops};
 ghost use Rattle.dist_challenge.specs.CoverPrivate.{IsKept};
 
 use crate::challenged_claimant::ChallengedClaimant;

@@ -2,7 +2,7 @@
 ghost use Rattle.std.specs.Prelude.{◌≡◌, ◌+◌, ◌^◌, ◌<◌, ◌≤◌, IfOk, IfSome, length};
 ghost use Rattle.dist_cert.specs.Form.{IsSmall};
 ghost use Rattle.dist_cert.specs.Rising.{AreRising, is_among};
-ghost use Rattle.dist_challenge.specs.Challenged.{AreUsed};
+ghost use Rattle.dist_challenge.specs.ChallengedPrivate.{AreUsed};
 ghost use Rattle.dist_challenge.specs.UsedPrivate.{AreFlags, IsFlagged, cluster_at, pair_at};
 
 use dist_cert::{Items, Numbers};

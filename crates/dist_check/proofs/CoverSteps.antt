@@ -1,5 +1,5 @@
 -- What is kept of a group's installations for a claim on challenges, one installation after another.
-use Rattle.std.proofs.Common.{◌≡◌, ◌⊎◌, inl, inr, ℕ, ◌<◌, ◌↔◌, ◌&&◌, ◌||◌, Bool, true, false, List, [], ◌∷◌, ◌++◌, Option, Some, None, filter, length, get_or}
+use Rattle.std.proofs.Common.{◌≡◌, ◌⊎◌, inl, inr, ℕ, ◌<◌, ◌↔◌, ◌&&◌, Bool, true, false, List, [], ◌∷◌, ◌++◌, Option, Some, None, filter, length, get_or}
 use Rattle.std.proofs.Common.{refl, sym, subst, ◌∙◌, arith, length-append, if◌then◌else◌}
 use Rattle.std.specs.List.{All, Any, Contains}
 use Rattle.std.proofs.lemmas.Bool.{false≢true, and_parts, and_from, or_cases, or_left, or_right}
@@ -14,7 +14,7 @@ use Rattle.dist_check_group.specs.Common.{narrowed}
 use Rattle.dist_check_group.specs.Cover.{AreSame, CoverView, Gathers, used_with}
 use Rattle.dist_check.specs.CoverPrivate.{IsCoverOf, IsUsedOf}
 
-filter-has : (members xs : List ℕ) (q : ℕ) → Contains (filter (is_among members) xs) q ↔ (Contains xs q × Contains members q)
+pub filter-has : (members xs : List ℕ) (q : ℕ) → Contains (filter (is_among members) xs) q ↔ (Contains xs q × Contains members q)
 filter-has members [] q = ((λ h. absurd (omega (arith, h.1))), λ h. absurd (omega (arith, h.0.1)))
 filter-has members (x ∷ xs) q = by (is_among members x) refl (filter-has members xs q)
   where
@@ -38,7 +38,7 @@ filter-has members (x ∷ xs) q = by (is_among members x) refl (filter-has membe
       ],
     )
 
-any-append : {X : Type 0} (P : X → Type 0) (xs : List X) (x : X) → Any P xs → Any P (xs ++ x ∷ [])
+pub any-append : {X : Type 0} (P : X → Type 0) (xs : List X) (x : X) → Any P xs → Any P (xs ++ x ∷ [])
 any-append P xs x any = (any.0, any.1, omega (arith, any.2, length-append xs (x ∷ [])), place (xs) any.0 any.1 any.2 ∙ any.3, any.4)
   where
     place : (ys : List _) (k : ℕ) (d : _) → k < length ys → get_or (ys ++ x ∷ []) k d ≡ get_or ys k d

@@ -1,7 +1,7 @@
 -- What is kept, with one line more.
-use Rattle.std.proofs.Common.{◌≡◌, ◌≢◌, ◌⊎◌, inl, inr, ℕ, zero, suc, ◌+◌, ◌-◌, ◌<◌, ◌↔◌, ◌==◌, Bool, true, false, List, [], ◌∷◌, ◌++◌, Option, Some, None}
-use Rattle.std.proofs.Common.{◌||◌, length, drop, filter, get_or, refl, sym, ap, subst, ◌∙◌, arith, length-append, if◌then◌else◌}
-use Rattle.std.specs.List.{All, Any, Contains}
+use Rattle.std.proofs.Common.{◌≡◌, ◌≢◌, ◌⊎◌, inl, inr, ℕ, zero, suc, ◌+◌, ◌-◌, ◌↔◌, ◌==◌, Bool, true, false, List, [], ◌∷◌, ◌++◌, Option, Some, None}
+use Rattle.std.proofs.Common.{◌||◌, length, drop, refl, sym, ap, subst, ◌∙◌, arith, length-append, if◌then◌else◌}
+use Rattle.std.specs.List.{All, Contains}
 use Rattle.std.proofs.lemmas.Bool.{true≢false, false≢true, and_parts, and_from, or_cases, or_left, or_right, eqb-true, eq-eqb}
 use Rattle.std.proofs.lemmas.List.{append-nil, drop-append-le, drop-drop, length-drop, get_or_append_left, get_or_at}
 use Rattle.std.proofs.lemmas.List.Elements.{All-nil, All-push}
@@ -25,8 +25,8 @@ use Rattle.dist_check_group.specs.Layout.{LayoutView}
 use Rattle.dist_check_state.specs.State.{Notes, QuestionView}
 use Rattle.dist_check.specs.AtPrivate.{IsQuestionOf, AreClosed, IsCommonOf, IsGathered, IsGroupOf, own_question}
 use Rattle.dist_check.specs.CoverPrivate.{IsCoverOf}
-use Rattle.dist_check.proofs.CoverSteps.{cover-first, cover-push}
-use Rattle.dist_cert.specs.ListLaws.{any-from, contains-cases, contains-later, from-any}
+use Rattle.dist_check.proofs.CoverSteps.{any-append, cover-first, cover-push, filter-has}
+use Rattle.dist_cert.specs.ListLaws.{any-from, from-any}
 use Rattle.dist_cert.specs.GroupLaws.{IsOpening, IsAsked, one-open, still-open, none-still, closed-push, closed-more, closed-here, none-closed, group-push}
 use Rattle.dist_cert.specs.GroupLaws.{group-claim, asked-in-group}
 
@@ -257,36 +257,6 @@ same-closed Old New kind p closed same are = record {
 }
 
 -- ---- what installations have in common
-
-filter-has : (members xs : List ℕ) (q : ℕ) → Contains (filter (is_among members) xs) q ↔ (Contains xs q × Contains members q)
-filter-has members [] q = ((λ h. absurd (omega (arith, h.1))), λ h. absurd (omega (arith, h.0.1)))
-filter-has members (x ∷ xs) q = by (is_among members x) refl (filter-has members xs q)
-  where
-    by : (b : Bool) → is_among members x ≡ b → Contains (filter (is_among members) xs) q ↔ (Contains xs q × Contains members q)
-        → Contains (if b then x ∷ filter (is_among members) xs else filter (is_among members) xs) q ↔ (Contains (x ∷ xs) q × Contains members q)
-    by true is rest = (
-      (λ h. elim (contains-cases x (filter (is_among members) xs) q h) [
-        | inl here ↦ ((0, omega arith, here), subst (Contains members) here (from-any x members is))
-        | inr later ↦ (contains-later x xs q (rest.0 later).0, (rest.0 later).1)
-      ]),
-      λ h. elim (contains-cases x xs q h.0) [
-        | inl here ↦ (0, omega arith, here)
-        | inr later ↦ contains-later x (filter (is_among members) xs) q (rest.1 (later, h.1))
-      ],
-    )
-    by false is rest = (
-      (λ h. (contains-later x xs q (rest.0 h).0, (rest.0 h).1)),
-      λ h. elim (contains-cases x xs q h.0) [
-        | inl here ↦ absurd (false≢true (sym is ∙ any-from x members (subst (Contains members) (sym here) h.1)))
-        | inr later ↦ rest.1 (later, h.1)
-      ],
-    )
-
-any-append : {X : Type 0} (P : X → Type 0) (xs : List X) (x : X) → Any P xs → Any P (xs ++ x ∷ [])
-any-append P xs x any = (any.0, any.1, omega (arith, any.2, length-append xs (x ∷ [])), place (xs) any.0 any.1 any.2 ∙ any.3, any.4)
-  where
-    place : (ys : List _) (k : ℕ) (d : _) → k < length ys → get_or (ys ++ x ∷ []) k d ≡ get_or ys k d
-    place ys k d within = get_or_append_left ys (x ∷ []) d k within
 
 all-front : {X : Type 0} (P : X → Type 0) (xs : List X) (x : X) → All P (xs ++ x ∷ []) → All P xs
 all-front P xs x all k d within = subst P (get_or_append_left xs (x ∷ []) d k within) (all k d (omega (arith, within, length-append xs (x ∷ []))))

@@ -8,3 +8,4 @@ pub mod Checking
 pub mod CheckedPrivate
 pub mod Answers
 pub mod Means
+pub mod MeansExamples

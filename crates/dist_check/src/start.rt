@@ -151,6 +151,7 @@ pub(crate) fn start(
     if !has_numbers(packages, &inputs, header) {
         return Err(bad_header());
     }
-    let log = Log::new(alloc, inputs, limits.lines, limits.line_literals);
+    let mut log = Log::new(alloc, inputs, limits.lines, limits.line_literals);
+    log.cover()?;
     Ok(State::new(alloc, header.limit, packages, layout, future, log)?)
 }

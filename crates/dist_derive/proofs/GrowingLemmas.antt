@@ -1,32 +1,38 @@
 -- A set of variables that grows under the clauses.
-use Rattle.std.proofs.Common.{◌≡◌, ℕ, zero, suc, ◌↔◌, ⊎_elim, eqb, ◌+◌, ◌-◌, ◌<◌, ◌≤◌, Bool, true, false, ◌||◌, List, [], ◌∷◌, ◌++◌, length, get_or, take, refl}
+use Rattle.std.proofs.Common.{◌≡◌, ℕ, zero, suc, ◌↔◌, ⊎_elim, eqb, ◌<◌, ◌≤◌, Bool, true, false, ◌||◌, List, [], ◌∷◌, ◌++◌, length, get_or, take, refl}
 use Rattle.std.proofs.Common.{ap, sym, subst, ◌∙◌, arith}
 use Rattle.std.specs.List.{All, Contains}
 use Rattle.std.proofs.lemmas.Bool.{false≢true, true≢false, or_cases, or_left, or_right, eq-eqb, eqb-true}
-use Rattle.std.proofs.lemmas.List.{length_push, take_more}
-use Rattle.std.proofs.lemmas.List.Elements.{All-nil, All-cons, All-head, All-push, All-weaker, All-contains, All-contains_itself, Contains-append_left}
+use Rattle.std.proofs.lemmas.List.{length_push, take-append-le}
+use Rattle.std.proofs.lemmas.List.Elements.{All-nil, All-head, All-push, All-weaker, All-contains, All-contains_itself, Contains-append_left}
 use Rattle.std.proofs.lemmas.List.Elements.{Contains-push}
 use Rattle.dist_clause.specs.Formula.{Literal}
-use Rattle.dist_clause.specs.ClauseList.{clause_at}
 use Rattle.dist_derive.proofs.ValuedLemmas.{All-front, All-last}
 use Rattle.dist_derive.specs.VariableSet.{VariableList}
 use Rattle.dist_derive.specs.Marking.{HasAll, Includes, Grows, IsClosedAt}
 use Rattle.dist_derive.specs.Cone.{IsClosedUnder, InCone}
 use Rattle.dist_derive.specs.ContainmentPrivate.{ContainsAll}
+use Rattle.dist_derive.specs.ConePrivate.{Reaches}
 
 pub Grows-none : (s : VariableList) → Grows s s false
 Grows-none s = record {
   same_variables = refl;
   kept = All-contains_itself s.members;
+  front = λ count within. refl;
   still = λ _. refl;
   more = λ e. absurd (false≢true e);
 }
+
+pub Grows-longer : (a b : VariableList) (grown : Bool) → Grows a b grown → length a.members ≤ length b.members
+Grows-longer a b false h = let same = ap (λ (s : VariableList). length s.members) (h.still refl) in omega arith
+Grows-longer a b true h = let more = (h.more refl).0 in omega arith
 
 -- grown in one of two steps
 pub Grows-then : (a b c : VariableList) (g h : Bool) → Grows a b g → Grows b c h → Grows a c (g || h)
 Grows-then a b c g h first second = record {
   same_variables = second.same_variables ∙ first.same_variables;
   kept = All-weaker (Contains b.members) (Contains c.members) (λ v e. All-contains (Contains c.members) b.members v second.kept e) a.members first.kept;
+  front = λ count within. second.front count (omega (arith, Grows-longer a b g first)) ∙ first.front count within;
   still = λ e. still-then g h first second e;
   more = λ e. more-then g h first second e;
 }
@@ -61,6 +67,7 @@ Grows-included a b v true h =
       kept = subst (λ ms. ContainsAll ms a.members) (sym members)
           (All-weaker (Contains a.members) (Contains (a.members ++ v ∷ [])) (λ w e. Contains-append_left a.members (v ∷ []) w e) a.members
           (All-contains_itself a.members));
+      front = λ count within. ap (λ ms. take count ms) members ∙ take-append-le count a.members (v ∷ []) within;
       still = λ e. absurd (true≢false e);
       more = λ _. (omega (arith, ap length members, length_push a.members v), h.1);
     }
@@ -106,55 +113,17 @@ closed_has has members clause all closed negatives =
     (All-weaker (λ l. l.positive ≡ false → Contains members l.variable) (λ l. l.positive ≡ false → has l.variable ≡ true)
     (λ l h e. All-contains (λ v. has v ≡ true) members l.variable all (h e)) clause negatives)
 
--- a walk over the first clauses that puts in what the cone has
-pub record WalksSoFar (clauses : List (List Literal)) (start now : VariableList) (grown : Bool) : Type 0 where
-  pub grows : Grows start now grown
-  pub closed : grown ≡ false → All (IsClosedAt now.members) clauses
-  pub least : (has : ℕ → Bool) → HasAll has start.members → IsClosedUnder has clauses → HasAll has now.members
-
-pub walks_none : (s : VariableList) → WalksSoFar [] s s false
-walks_none s = record { grows = Grows-none s; closed = λ _. All-nil (IsClosedAt s.members); least = λ has all _. all }
-
-or-left : (g h : Bool) → (g || h) ≡ false → g ≡ false
-or-left false h e = refl
-or-left true h e = absurd (true≢false e)
-
-or-right : (g h : Bool) → (g || h) ≡ false → h ≡ false
-or-right false h e = e
-or-right true h e = absurd (true≢false e)
-
-ClosedTest : (ℕ → Bool) → List Literal → Type 0
-ClosedTest has c = All (λ l. l.positive ≡ false → has l.variable ≡ true) c → All (λ l. has l.variable ≡ true) c
-
-pub walks_more : (clauses : List (List Literal)) (clause : List Literal) (start now next : VariableList) (grown more : Bool)
-    → WalksSoFar clauses start now grown
-    → Grows now next more → (more ≡ false → IsClosedAt next.members clause)
-    → ((has : ℕ → Bool) → HasAll has now.members → IsClosedUnder has (clause ∷ []) → HasAll has next.members)
-    → WalksSoFar (clauses ++ clause ∷ []) start next (grown || more)
-unfolding ClosedTest
-walks_more clauses clause start now next grown more h grows closed least = record {
-  grows = Grows-then start now next grown more h.grows grows;
-  closed = λ e.
-      let same = grows.still (or-right grown more e) in
-      All-push (IsClosedAt next.members) clauses clause
-      (subst (λ (s : VariableList). All (IsClosedAt s.members) clauses) (sym same) (h.closed (or-left grown more e)))
-      (closed (or-right grown more e));
-  least = λ has all under. least has (h.least has all (All-front (ClosedTest has) clauses (clause ∷ []) under))
-      (All-cons (ClosedTest has) clause [] (All-last (ClosedTest has) clauses clause under) (All-nil (ClosedTest has)));
-}
-
 -- what is in before and after each walk
 pub record ReachesSoFar (clauses : List (List Literal)) (assumptions : List Literal) (now : VariableList) : Type 0 where
   pub assumed : All (λ l. Contains now.members l.variable) assumptions
   pub least : (has : ℕ → Bool) → All (λ l. has l.variable ≡ true) assumptions → IsClosedUnder has clauses → HasAll has now.members
 
-pub reaches_more : (clauses : List (List Literal)) (assumptions : List Literal) (now next : VariableList) (grown : Bool) → ReachesSoFar clauses assumptions now
-    → Grows now next grown → ((has : ℕ → Bool) → HasAll has now.members → IsClosedUnder has clauses → HasAll has next.members)
-    → ReachesSoFar clauses assumptions next
-reaches_more clauses assumptions now next grown h grows least = record {
+pub reaches_more : (clauses : List (List Literal)) (assumptions : List Literal) (now next : VariableList) → ReachesSoFar clauses assumptions now
+    → Reaches clauses now next → ReachesSoFar clauses assumptions next
+reaches_more clauses assumptions now next h step = record {
   assumed = All-weaker (λ l. Contains now.members l.variable) (λ l. Contains next.members l.variable)
-      (λ l e. All-contains (Contains next.members) now.members l.variable grows.kept e) assumptions h.assumed;
-  least = λ has assumed under. least has (h.least has assumed under) under;
+      (λ l e. All-contains (Contains next.members) now.members l.variable step.kept e) assumptions h.assumed;
+  least = λ has assumed under. step.least has (h.least has assumed under) under;
 }
 
 -- whether a variable is a member, as a test
@@ -190,10 +159,3 @@ InCone-members clauses assumptions s v h closed = (
       clauses closed)),
   λ e has assumed under. All-contains (λ w. has w ≡ true) s.members v (h.least has assumed under) e,
 )
-
--- one clause more, as a loop over their places reads it
-pub clause_item : (clauses : List (List Literal)) (place : ℕ) (clause : List Literal) → place < length clauses → clause ≡ clause_at clauses (place + 1)
-    → take (place + 1) clauses ≡ take place clauses ++ clause ∷ []
-clause_item clauses place clause within is =
-    let same : place + 1 - 1 ≡ place = omega arith in
-    take_more clauses place [] within ∙ ap (λ c. take place clauses ++ c ∷ []) (sym (is ∙ ap (λ k. get_or clauses k []) same))

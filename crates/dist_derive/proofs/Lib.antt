@@ -1,4 +1,5 @@
 pub mod LogLemmas
+pub mod OccurrenceLemmas
 pub mod MarkedLemmas
 pub mod ValuedLemmas
 pub mod LiteralLemmas
@@ -8,6 +9,9 @@ pub mod FollowsLemmas
 pub mod Soundness
 pub mod GrowingLemmas
 pub mod AssumeLemmas
+pub mod WaitLemmas
+pub mod QueueLemmas
+pub mod ReachLemmas
 pub mod SweepLemmas
 pub mod NewLemmas
 pub mod ConeLaws
@@ -15,3 +19,4 @@ pub mod FewLemmas
 pub mod SettledLaws
 pub mod HintLaws
 pub mod CountLaws
+pub mod ModelLemmas

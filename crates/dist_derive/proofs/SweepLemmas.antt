@@ -1,105 +1,91 @@
 -- True literals that grow under the clauses, and what they leave unset.
-use Rattle.std.proofs.Common.{◌≡◌, ℕ, ◌<◌, ◌≤◌, inl, inr, Bool, true, false, List, [], ◌∷◌, ◌++◌, length, get_or, take, map, refl, ap, sym, subst, ◌∙◌, arith}
+use Rattle.std.proofs.Common.{◌≡◌, ℕ, ◌+◌, ◌-◌, ◌<◌, ◌≤◌, inl, inr, Bool, true, false, List, [], ◌∷◌, length, take, map, refl, ap, sym, subst, ◌∙◌}
+use Rattle.std.proofs.Common.{arith, length-take}
 use Rattle.std.specs.List.{All, Contains}
-use Rattle.std.proofs.lemmas.Bool.{false≢true, true≢false}
-use Rattle.std.proofs.lemmas.List.{length_push}
-use Rattle.std.proofs.lemmas.List.Elements.{All-nil, All-cons, All-head, All-tail, All-push, All-weaker, All-contains, All-take, All-map, All-get_or}
+use Rattle.std.proofs.lemmas.Bool.{cases_eq, false≢true, true≢false}
+use Rattle.std.proofs.lemmas.List.{length_push, get_or-take}
+use Rattle.std.proofs.lemmas.List.Elements.{All-nil, All-cons, All-head, All-tail, All-weaker, All-contains, All-map}
 use Rattle.dist_clause.specs.Formula.{Literal, negation}
+use Rattle.dist_clause.specs.ClauseList.{clause_at}
 use Rattle.dist_derive.specs.TrueLiterals.{LiteralList, HasOutcome}
-use Rattle.dist_derive.specs.declared.true_literals.Outcome.TheVariants.{Open}
-use Rattle.dist_derive.specs.Propagation.{IsUnset, AllFalse, IsUnit, IsConsistent, IsPropagated}
+use Rattle.dist_derive.specs.HintsPrivate.{TakesHint}
+use Rattle.dist_derive.specs.declared.true_literals.Outcome.{Outcome}
+use Rattle.dist_derive.specs.declared.true_literals.Outcome.TheVariants.{Conflict, Unit as UnitClause, Open}
+use Rattle.dist_derive.specs.declared.propagation.Sweep.TheVariants.{Settled}
+use Rattle.dist_derive.specs.Propagation.{IsUnset, AllFalse, IsConsistent, IsPropagated}
 use Rattle.dist_derive.specs.New.{LeavesUnset}
 use Rattle.dist_derive.specs.ContainmentPrivate.{ContainsAll}
-use Rattle.dist_derive.specs.SweepPrivate.{IsForced, IsRefuted, AllOpen}
+use Rattle.dist_derive.specs.SweepPrivate.{IsForced, IsRefuted, AllOpen, Propagates, Sweeps}
 use Rattle.dist_derive.proofs.LiteralLemmas.{contains_or_not}
 use Rattle.dist_derive.proofs.OutcomeLemmas.{all_false_with}
-use Rattle.dist_derive.proofs.ValuedLemmas.{All-front, All-last}
-use Rattle.dist_derive.proofs.AssumeLemmas.{ContainsAll-itself, ContainsAll-then, ContainsAll-push, AllFalse-more, OthersFalse-more}
+use Rattle.dist_derive.proofs.AssumeLemmas.{ContainsAll-then}
+use Rattle.dist_derive.proofs.WaitLemmas.{Propagates-none, Propagates-then, Propagates-hint, refuted_before, refuted_hint}
 
-pub record SweepsSoFar (clauses : List (List Literal)) (start now : LiteralList) (grown : Bool) : Type 0 where
-  pub same_variables : now.variables ≡ start.variables
-  pub kept : ContainsAll now.literals start.literals
-  pub forced : IsForced clauses start.literals now.literals
-  pub still : grown ≡ false → (now ≡ start) × AllOpen start.literals clauses
+-- a walk over the clauses with numbers above `first` has come to a place
+pub record SweepsSoFar (clauses : List (List Literal)) (last first place : ℕ) (start now : LiteralList) (grown : Bool) : Type 0 where
+  pub grows : Propagates (take last clauses) start now
+  pub still : grown ≡ false → (now ≡ start) × ((number : ℕ) → first < number → number ≤ place
+      → HasOutcome start.literals (clause_at clauses number) Open)
   pub more : grown ≡ true → (length start.literals < length now.literals) × (length now.literals ≤ now.variables)
 
-pub sweeps_none : (s : LiteralList) → SweepsSoFar [] s s false
-sweeps_none s = record {
-  same_variables = refl;
-  kept = ContainsAll-itself s.literals;
-  forced = λ trues all _. all;
-  still = λ _. (refl, All-nil (λ clause. HasOutcome s.literals clause Open));
-  more = λ e. absurd (false≢true e);
-}
+module _ (clauses : List (List Literal)) (last first : ℕ) where
+  pub sweeps_none : (s : LiteralList) → SweepsSoFar clauses last first first s s false
+  sweeps_none s = record {
+    grows = Propagates-none (take last clauses) s;
+    still = λ _. (refl, λ number above to. absurd (omega arith));
+    more = λ e. absurd (false≢true e);
+  }
 
-module _ (clauses : List (List Literal)) (clause : List Literal) (start now next : LiteralList) (grown : Bool) (h : SweepsSoFar clauses start now grown) where
-  pub sweeps_open : next ≡ now → HasOutcome now.literals clause Open → SweepsSoFar (clauses ++ clause ∷ []) start next grown
-  sweeps_open same is_open = subst (λ s. SweepsSoFar (clauses ++ clause ∷ []) start s grown) (sym same) (record {
-    same_variables = h.same_variables;
-    kept = h.kept;
-    forced = λ trues all propagated. h.forced trues all (All-front (IsPropagated trues) clauses (clause ∷ []) propagated);
-    still = λ e.
-        let was = h.still e in (
-          was.0,
-          All-push (λ c. HasOutcome start.literals c Open) clauses clause was.1
-              (subst (λ (s : LiteralList). HasOutcome s.literals clause Open) was.0 is_open),
-        );
-    more = h.more;
-  })
+  module _ (enough : last ≤ length clauses) (place : ℕ) (within : place < last) (start now next : LiteralList) (grown : Bool)
+      (h : SweepsSoFar clauses last first place start now grown) where
+    grows_more : (o : Outcome) → TakesHint clauses now next (place + 1) o → Propagates (take last clauses) start next
+    grows_more o taken = Propagates-then (take last clauses) start now next h.grows
+        (Propagates-hint clauses last enough now next (place + 1) o taken (omega arith))
 
-  pub sweeps_unit : (l : Literal) → next ≡ record now { literals = now.literals ++ l ∷ [] } → IsUnit now.literals clause l
-      → length next.literals ≤ next.variables → SweepsSoFar (clauses ++ clause ∷ []) start next true
-  sweeps_unit l same u few =
-      let literals : next.literals ≡ now.literals ++ l ∷ [] = ap (λ (t : LiteralList). t.literals) same in
-      record {
-        same_variables = ap (λ (t : LiteralList). t.variables) same ∙ h.same_variables;
-        kept = subst (λ ts. ContainsAll ts start.literals) (sym literals)
-            (ContainsAll-then start.literals now.literals (now.literals ++ l ∷ []) h.kept (ContainsAll-push now.literals l));
-        forced = λ trues all propagated.
-            let before = h.forced trues all (All-front (IsPropagated trues) clauses (clause ∷ []) propagated) in
-            let this = All-last (IsPropagated trues) clauses clause propagated l u.member (OthersFalse-more now.literals trues clause l before u.others) in
-            subst (λ ts. ContainsAll trues ts) (sym literals) (All-push (Contains trues) now.literals l before this);
-        still = λ e. absurd (true≢false e);
-        more = λ _. (at_least_one l literals, few);
-      }
-    where
-      before_length : (g : Bool) → SweepsSoFar clauses start now g → length start.literals ≤ length now.literals
-      before_length true s = let m = (s.more refl).0 in omega arith
-      before_length false s = let m = ap (λ (t : LiteralList). length t.literals) (s.still refl).0 in omega arith
+    pub sweeps_open : TakesHint clauses now next (place + 1) Open → SweepsSoFar clauses last first (place + 1) start next grown
+    sweeps_open taken = record {
+      grows = grows_more Open taken;
+      still = λ e.
+          let was = h.still e in (
+            taken.0 ∙ was.0,
+            λ number above to. elim (cases_eq number (place + 1)) [
+              | inl same ↦ subst (λ n. HasOutcome start.literals (clause_at clauses n) Open) (sym same)
+                  (subst (λ (s : LiteralList). HasOutcome s.literals (clause_at clauses (place + 1)) Open) was.0 (taken.1 (omega arith, omega arith)))
+              | inr other ↦ was.1 number above (omega arith)
+            ],
+          );
+      more = λ e.
+          let grew = h.more e in
+          let same = taken.0 in
+          (subst (λ (s : LiteralList). (length start.literals < length s.literals) × (length s.literals ≤ s.variables)) (sym same) grew);
+    }
 
-      at_least_one : (l : Literal) → next.literals ≡ now.literals ++ l ∷ [] → length start.literals < length next.literals
-      at_least_one l e = omega (arith, ap length e, length_push now.literals l, before_length grown h)
+    pub sweeps_unit : (l : Literal) → TakesHint clauses now next (place + 1) (UnitClause l) → SweepsSoFar clauses last first (place + 1) start next true
+    sweeps_unit l taken = record {
+      grows = grows_more (UnitClause l) taken;
+      still = λ e. absurd (true≢false e);
+      more = λ _. (
+        omega (arith, h.grows.longer, ap (λ (s : LiteralList). length s.literals) taken.0, length_push now.literals l),
+        taken.3,
+      );
+    }
 
-pub sweeps_conflict : (clauses : List (List Literal)) (place : ℕ) (start now : LiteralList) (grown : Bool) → SweepsSoFar (take place clauses) start now grown
-    → place < length clauses → AllFalse now.literals (get_or clauses place []) → IsRefuted clauses start.literals
-sweeps_conflict clauses place start now grown h within all_false = λ trues all propagated no_conflict.
-    let before = h.forced trues all (All-take (IsPropagated trues) place clauses propagated) in
-    All-get_or (λ c. ¬ AllFalse trues c) clauses place [] within no_conflict (AllFalse-more now.literals trues (get_or clauses place []) before all_false)
+    pub sweeps_conflict : TakesHint clauses now next (place + 1) Conflict → IsRefuted (take last clauses) start.literals
+    sweeps_conflict taken = refuted_before (take last clauses) start now h.grows
+        (refuted_hint clauses last enough now next (place + 1) taken (omega arith))
 
-pub sweeps_to : (clauses : List (List Literal)) (place last : ℕ) (start now : LiteralList) (grown : Bool) → place ≡ last
-    → SweepsSoFar (take place clauses) start now grown → SweepsSoFar (take last clauses) start now grown
-sweeps_to clauses place last start now grown all h = subst (λ n. SweepsSoFar (take n clauses) start now grown) all h
-
--- what walks over the clauses keep
-pub record PropagatesSoFar (clauses : List (List Literal)) (start now : LiteralList) : Type 0 where
-  pub same_variables : now.variables ≡ start.variables
-  pub kept : ContainsAll now.literals start.literals
-  pub forced : IsForced clauses start.literals now.literals
-
-pub propagates_none : (clauses : List (List Literal)) (s : LiteralList) → PropagatesSoFar clauses s s
-propagates_none clauses s = record { same_variables = refl; kept = ContainsAll-itself s.literals; forced = λ trues all _. all }
-
-pub propagates_more : (clauses : List (List Literal)) (start now next : LiteralList) → PropagatesSoFar clauses start now → next.variables ≡ now.variables
-    → ContainsAll next.literals now.literals → IsForced clauses now.literals next.literals → PropagatesSoFar clauses start next
-propagates_more clauses start now next h variables kept forced = record {
-  same_variables = variables ∙ h.same_variables;
-  kept = ContainsAll-then start.literals now.literals next.literals h.kept kept;
-  forced = λ trues all propagated. forced trues (h.forced trues all propagated) propagated;
-}
-
-pub refuted_before : (clauses : List (List Literal)) (start now : LiteralList) → PropagatesSoFar clauses start now → IsRefuted clauses now.literals
-    → IsRefuted clauses start.literals
-refuted_before clauses start now h refuted = λ trues all propagated no_conflict. refuted trues (h.forced trues all propagated) propagated no_conflict
+  pub sweeps_all : (enough : last ≤ length clauses) (place : ℕ) (start now : LiteralList) → last ≤ place → SweepsSoFar clauses last first place start now false
+      → Sweeps (take last clauses) first start now Settled
+  sweeps_all enough place start now all h =
+      let still = h.still refl in (
+        still.0,
+        λ number above to.
+            let long = length-take last clauses in
+            let open_at = still.1 number above (omega arith) in
+            let same = get_or-take last clauses (number - 1) [] (omega arith) in
+            subst (λ clause. HasOutcome now.literals clause Open) (sym same)
+            (subst (λ (s : LiteralList). HasOutcome s.literals (clause_at clauses number) Open) (sym still.0) open_at),
+      )
 
 -- where no clause is false or unit, all is propagated
 pub open_propagated : (trues clause : List Literal) → HasOutcome trues clause Open → IsPropagated trues clause

@@ -2,6 +2,8 @@ pub mod ContainmentPrivate
 pub mod ClauseLog
 pub mod Propagation
 pub mod Follows
+pub mod OccurrencesPrivate
+pub mod LogPrivate
 pub mod Cone
 pub mod New
 pub mod VariableSet
@@ -9,5 +11,6 @@ pub mod Marking
 pub mod TrueLiterals
 pub mod HintsPrivate
 pub mod SweepPrivate
+pub mod ConePrivate
 pub mod Scratch
 pub mod Examples

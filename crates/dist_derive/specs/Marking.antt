@@ -1,6 +1,6 @@
 -- How a set of variables is kept, as a list of its members and a mark at each of them, and how it grows.
-use Rattle.std.specs.Prelude.{◌≡◌, ◌≢◌, ℕ, ◌+◌, ◌<◌, ◌≤◌, ◌↔◌, Bool, true, false, not, List, [], ◌∷◌, ◌++◌, length, All}
-use Rattle.std.specs.Prelude.{AllPairs, Contains, count_by}
+use Rattle.std.specs.Prelude.{◌≡◌, ◌≢◌, ℕ, ◌+◌, ◌<◌, ◌≤◌, ◌↔◌, Bool, true, false, not, List, [], ◌∷◌, ◌++◌}
+use Rattle.std.specs.Prelude.{length, take, All, AllPairs, Contains, count_by}
 use Rattle.dist_clause.specs.Formula.{Literal, value_of}
 use Rattle.dist_derive.specs.ContainmentPrivate.{ContainsAll}
 use Rattle.dist_derive.specs.VariableSet.{VariableList}
@@ -27,6 +27,7 @@ Includes old new variable true = (new ≡ record old { members = old.members ++ 
 pub record Grows (old new : VariableList) (grown : Bool) : Type 0 where
   pub same_variables : new.variables ≡ old.variables
   pub kept : ContainsAll new.members old.members
+  pub front : (count : ℕ) → count ≤ length old.members → take count new.members ≡ take count old.members
   pub still : grown ≡ false → new ≡ old
   pub more : grown ≡ true → (length old.members < length new.members) × (length new.members ≤ new.variables)
 

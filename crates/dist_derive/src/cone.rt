@@ -1,12 +1,20 @@
 //! The cone of assumptions: the variables that they reach through the input clauses.
+//!
+//! The members are a queue: each is taken once, with the clauses in which it stands negated. A clause asks for nothing until
+//! all its negated variables are in, so what the cone doesn't touch isn't looked at. Clauses that are not in the index are
+//! walked.
 
-ghost use Rattle.std.specs.Prelude.{◌≡◌, ◌≤◌, ◌↔◌, ◌-◌, ℕ, Bool, false, [], length, take, All, Contains, IsTrue};
+ghost use Rattle.std.specs.Prelude.{◌≡◌, ◌<◌, ◌≤◌, ◌↔◌, ℕ, false, [], length, take, All, Contains, IsTrue};
 ghost use Rattle.dist_clause.specs.Formula.{IsClauseOver};
 ghost use Rattle.dist_derive.specs.ClauseLog.{inputs_of};
-ghost use Rattle.dist_derive.specs.Cone.{IsClosedUnder, InCone};
-ghost use Rattle.dist_derive.specs.Marking.{HasAll, Grows, IsClosedAt};
+ghost use Rattle.dist_clause.specs.ClauseList.{clause_at};
+ghost use Rattle.dist_derive.specs.Cone.{InCone};
+ghost use Rattle.dist_derive.specs.Marking.{Grows, IsClosedAt};
+ghost use Rattle.dist_derive.specs.OccurrencesPrivate.{Lists, IsIndexOf};
+ghost use Rattle.dist_derive.specs.ConePrivate.{WaitsIn, AllWaitIn, Reaches};
 
 use crate::Log;
+use crate::occurrences::{Occurrences, POSITIVE};
 use crate::variable_set::VariableSet;
 use dist_clause::Lit;
 
@@ -52,21 +60,77 @@ impl Log {
             ↔ InCone (take inputs self.now.clauses) assumptions.now v }
         ensures same_variables { cone.new.variables ≡ cone.old.variables }
     {
+        let index = self.occurrences();
         cone.include_all(assumptions);
-        while self.walk(cone, inputs) {}
+        self.close_list(index, cone, index.latest(POSITIVE), inputs);
+        let mut done = 0;
+        loop {
+            self.take_members(index, cone, done, inputs);
+            done = cone.len();
+            if !self.walk(cone, index.covered(), inputs) {
+                return;
+            }
+        }
     }
 
-    /// Puts in what the first clauses ask for, one after another, and answers whether a variable was not in before.
-    fn walk(&self, cone: &mut VariableSet, inputs: u32) -> bool
+    /// Takes the members from a place on, each with the clauses in which it stands negated.
+    fn take_members(&self, index: &Occurrences, cone: &mut VariableSet, first: usize, inputs: u32)
+        requires index { IsIndexOf index.now self.now.clauses }
+        requires same_variables { cone.old.variables ≡ self.now.variables }
+        requires inputs { inputs ≤ length self.now.clauses }
+        requires waiting { AllWaitIn index.now self.now.clauses inputs cone.old.members first }
+        ensures reaches { Reaches (take inputs self.now.clauses) cone.old cone.new }
+        ensures closed { AllWaitIn index.now self.now.clauses inputs cone.new.members (length cone.new.members) }
+    {
+        let mut done = first;
+        while done < cone.len() {
+            let latest = index.latest_negated(cone.get(done));
+            self.close_list(index, cone, latest, inputs);
+            done += 1;
+        }
+    }
+
+    /// Puts in what the clauses of a list ask for, of those with numbers up to `inputs`.
+    fn close_list(&self, index: &Occurrences, cone: &mut VariableSet, latest: u32, inputs: u32)
+        requires index { IsIndexOf index.now self.now.clauses }
+        requires same_variables { cone.old.variables ≡ self.now.variables }
+        requires inputs { inputs ≤ length self.now.clauses }
+        ensures reaches { Reaches (take inputs self.now.clauses) cone.old cone.new }
+        ensures visited { (number done : ℕ) → Lists index.now.links latest number → number ≤ inputs
+            → done ≤ length cone.old.members → WaitsIn cone.new.members done (clause_at self.now.clauses number) }
+    {
+        let mut place = latest;
+        while let Some(link) = index.link(place) {
+            self.close_clause(cone, link.number, inputs);
+            place = link.next;
+        }
+    }
+
+    /// Puts in what a clause asks for, unless its number is above `inputs`.
+    fn close_clause(&self, cone: &mut VariableSet, number: u32, inputs: u32)
+        requires same_variables { cone.old.variables ≡ self.now.variables }
+        requires inputs { inputs ≤ length self.now.clauses }
+        requires from_one { 1 ≤ number }
+        ensures reaches { Reaches (take inputs self.now.clauses) cone.old cone.new }
+        ensures closed { number ≤ inputs → IsClosedAt cone.new.members (clause_at self.now.clauses number) }
+    {
+        if number <= inputs {
+            cone.close_at(self.clause(number));
+        }
+    }
+
+    /// Puts in what the clauses with numbers above `first` and up to `inputs` ask for, one after another, and answers whether
+    /// a variable was not in before.
+    fn walk(&self, cone: &mut VariableSet, first: u32, inputs: u32) -> bool
         requires same_variables { cone.old.variables ≡ self.now.variables }
         requires inputs { inputs ≤ length self.now.clauses }
         ensures grows { Grows cone.old cone.new result }
-        ensures closed { result ≡ false → All (IsClosedAt cone.new.members) (take inputs self.now.clauses) }
-        ensures least { (has : ℕ → Bool) → HasAll has cone.old.members
-            → IsClosedUnder has (take inputs self.now.clauses) → HasAll has cone.new.members }
+        ensures reaches { Reaches (take inputs self.now.clauses) cone.old cone.new }
+        ensures closed { result ≡ false → (number : ℕ) → first < number → number ≤ inputs
+            → IsClosedAt cone.new.members (clause_at self.now.clauses number) }
     {
         let mut grown = false;
-        for place in 0..inputs {
+        for place in first..inputs {
             grown |= cone.close_at(self.clause(place + 1));
         }
         grown

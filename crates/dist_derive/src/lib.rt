@@ -1,8 +1,9 @@
 //! The log of derived clauses and the two tests on which certificates rest: whether a clause follows by hints, and
 //! whether it is new. The literals that are true for now are public, so that a search propagates over the same ones.
 //!
-//! `follows` costs the literals of the hinted clauses and takes no memory; `is_new` walks over all clauses until nothing
-//! grows. What stands here decides what a certificate proves: a change needs the checker's laws again.
+//! `follows` costs the literals of the hinted clauses and takes no memory; `is_new` costs the clauses in which a true literal
+//! or a variable of the cone stands negated, and walks those that the log's index hasn't got (`Log::cover`). What stands here
+//! decides what a certificate proves: a change needs the checker's laws again.
 #![tactic(auto)]
 
 mod cone;
@@ -10,7 +11,9 @@ mod conflicts;
 mod follows;
 mod laws;
 mod log;
+mod models;
 mod newness;
+mod occurrences;
 mod propagation;
 mod scratch;
 mod true_literals;
@@ -22,6 +25,7 @@ pub use laws::{
     what_settles_a_clause, what_the_cone_depends_on,
 };
 pub use log::{AppendError, Log};
+pub use occurrences::Link;
 pub use scratch::Scratch;
 pub use true_literals::{Outcome, TrueLiterals, Truth};
 pub use variable_set::VariableSet;

@@ -1,13 +1,17 @@
 //! Input clauses and the lines derived from them, numbered on.
 
-ghost use Rattle.std.specs.Prelude.{◌≡◌, ◌+◌, ◌<◌, ◌≤◌, ◌↔◌, [], ◌∷◌, ◌++◌, length, IfOk, OnOk, OnErr, Err};
+ghost use Rattle.std.specs.Prelude.{◌≡◌, ◌+◌, ◌<◌, ◌≤◌, ◌↔◌, [], ◌∷◌, ◌++◌, length, IfOk, IfSome, OnOk, OnErr, Err};
 ghost use Rattle.dist_clause.specs.Formula.{IsClauseOver};
 ghost use Rattle.dist_clause.specs.ClauseList.{clause_at, literal_count};
-ghost use Rattle.dist_derive.specs.ClauseLog.{lines_of, IsWithinLineLimits};
+ghost use Rattle.dist_derive.specs.ClauseLog.{joined, lines_of, IsWithinLineLimits};
+ghost use Rattle.dist_derive.specs.Follows.{IsNumberOf};
+ghost use Rattle.dist_derive.specs.OccurrencesPrivate.{IsIndexOf};
+ghost use Rattle.dist_derive.specs.LogPrivate.{IsIndexed};
 
+use crate::occurrences::{Link, Occurrences, code_of};
 use dist_base::{MAX_CLAUSES, MAX_LINE_LITERALS, MAX_LINES, MAX_VARIABLES};
 use dist_clause::{ClauseSet, Lit, PushError};
-use std::alloc::Global;
+use std::alloc::{AllocError, Global};
 use std::marker::Model;
 
 /// Why a line was not appended.
@@ -25,17 +29,19 @@ pub enum AppendError {
 pub struct Log {
     inputs: ClauseSet,
     lines: ClauseSet,
+    /// The clauses in which each literal stands, of those that are in the index.
+    occurrences: Occurrences,
 }
 
 impl Model for Log {
-    ghost use Rattle.std.specs.Prelude.{◌≡◌};
     ghost use Rattle.dist_derive.specs.ClauseLog.{ClauseLog, joined};
+    ghost use Rattle.dist_derive.specs.LogPrivate.{IsIndexed};
 
     ghost Value = { ClauseLog };
 
     ghost view = { λ a. joined a.inputs a.lines };
 
-    ghost invariant = { λ a. a.lines.variables ≡ a.inputs.variables };
+    ghost invariant = { λ a. IsIndexed a.inputs a.lines a.occurrences };
 }
 
 impl Log {
@@ -52,7 +58,11 @@ impl Log {
         } }
     {
         let lines = ClauseSet::new(alloc, inputs.variables(), lines, line_literals);
-        Log { inputs, lines }
+        Log {
+            inputs,
+            lines,
+            occurrences: Occurrences::new(alloc),
+        }
     }
 
     /// The number of clauses, derived lines included.
@@ -89,15 +99,38 @@ impl Log {
         ensures value { result.now ≡ clause_at self.now.clauses number }
         ensures over_variables { IsClauseOver self.now.variables result.now }
     {
-        let inputs = self.inputs.len();
-        if number <= inputs {
-            self.inputs.clause(number)
-        } else {
-            self.lines.clause(number - inputs)
-        }
+        clause_of(&self.inputs, &self.lines, number)
     }
 
-    /// Adds a derived line as the last one, and gives its number.
+    /// Puts the clauses that the index hasn't got yet into it. Until then, and after want of memory, calls walk these.
+    pub fn cover(&mut self) -> Result<(), AllocError>
+        ensures same { self.new ≡ self.old }
+    {
+        self.occurrences.make_lists(self.inputs.variables())?;
+        cover_all(&mut self.occurrences, &self.inputs, &self.lines)
+    }
+
+    /// The place of the latest clause in which a literal stands, of those in the index; 0: there is none.
+    pub fn latest_with(&self, literal: Lit) -> u32 {
+        self.occurrences.latest(code_of(literal))
+    }
+
+    /// What stands at a place: the number of a clause, and the place of the clause before it with the same literal.
+    pub fn link(&self, place: u32) -> Option<Link>
+        ensures { IfSome result (λ link. IsNumberOf self.now.clauses link.number × (link.next < place)) }
+    {
+        self.occurrences.link(place)
+    }
+
+    /// The index of the clauses.
+    pub(crate) fn occurrences(&self) -> &Occurrences
+        ensures { IsIndexOf result.now self.now.clauses }
+    {
+        &self.occurrences
+    }
+
+    /// Adds a derived line as the last one, and gives its number. Where all clauses before it are in the index, it is put
+    /// in too, unless memory is wanting.
     pub fn append(&mut self, clause: &[Lit]) -> Result<u32, AppendError>
         requires { IsClauseOver self.old.variables clause.now }
         ensures number { IfOk result (λ number. number ≡ length self.old.clauses + 1) }
@@ -110,10 +143,46 @@ impl Log {
             × (self.old.line_literal_limit < literal_count (lines_of self.old) + length clause.now) }
     {
         match self.lines.push(clause) {
-            Ok(()) => Ok(self.len()),
+            Ok(()) => {
+                let number = self.inputs.len() + self.lines.len();
+                self.occurrences.add_next(number, clause);
+                Ok(number)
+            }
             Err(PushError::TooManyClauses) => Err(AppendError::TooManyLines),
             Err(PushError::TooManyLiterals) => Err(AppendError::TooManyLiterals),
             Err(PushError::NoMemory) => Err(AppendError::NoMemory),
         }
     }
+}
+
+/// The clause of a number, of input clauses followed by lines.
+fn clause_of<'a>(inputs: &'a ClauseSet, lines: &'a ClauseSet, number: u32) -> &'a [Lit]
+    requires from_one { 1 ≤ number }
+    requires to_len { number ≤ length (joined inputs.now lines.now).clauses }
+    requires same_variables { lines.now.variables ≡ inputs.now.variables }
+    ensures value { result.now ≡ clause_at (joined inputs.now lines.now).clauses number }
+    ensures over_variables { IsClauseOver inputs.now.variables result.now }
+{
+    let first = inputs.len();
+    if number <= first {
+        inputs.clause(number)
+    } else {
+        lines.clause(number - first)
+    }
+}
+
+/// Puts the clauses that an index hasn't got yet into it.
+fn cover_all(
+    occurrences: &mut Occurrences,
+    inputs: &ClauseSet,
+    lines: &ClauseSet,
+) -> Result<(), AllocError>
+    requires indexed { IsIndexed inputs.now lines.now occurrences.old }
+    ensures indexed { IsIndexed inputs.now lines.now occurrences.new }
+{
+    let len = inputs.len() + lines.len();
+    for place in occurrences.covered()..len {
+        occurrences.add(place + 1, clause_of(inputs, lines, place + 1))?;
+    }
+    Ok(())
 }

@@ -1,6 +1,6 @@
 //! Literals that are true for now, and what clauses are under them.
 
-ghost use Rattle.std.specs.Prelude.{◌≡◌, ◌≢◌, ◌<◌, ◌≤◌, ◌↔◌, [], ◌∷◌, ◌++◌, false, List, length, map, All, Contains, IfOk, IsTrue};
+ghost use Rattle.std.specs.Prelude.{◌≡◌, ◌≢◌, ◌<◌, ◌≤◌, ◌↔◌, [], ◌∷◌, ◌++◌, false, List, length, map, All, Contains, IfOk, IsTrue, slice_index_or};
 ghost use Rattle.dist_clause.specs.Formula.{Literal, negation, IsClauseOver};
 ghost use Rattle.dist_derive.specs.Propagation.{IsUnset, IsConsistent};
 
@@ -36,14 +36,13 @@ pub struct TrueLiterals {
 }
 
 impl Model for TrueLiterals {
-    ghost use Rattle.std.specs.Prelude.{◌≡◌, length};
-    ghost use Rattle.dist_derive.specs.TrueLiterals.{LiteralList, valued};
+    ghost use Rattle.dist_derive.specs.TrueLiterals.{LiteralList, IsValued, valued};
 
     ghost Value = { LiteralList };
 
     ghost view = { λ a. record { variables = a.touched.variables; literals = valued a.signs a.touched.members } };
 
-    ghost invariant = { λ a. length a.signs ≡ a.touched.variables };
+    ghost invariant = { λ a. IsValued a.signs a.touched };
 }
 
 impl TrueLiterals {
@@ -72,6 +71,23 @@ impl TrueLiterals {
         } else {
             Truth::False
         }
+    }
+
+    /// How many literals are true.
+    pub(crate) fn len(&self) -> usize
+        ensures value { result ≡ length self.now.literals }
+        ensures few { result ≤ self.now.variables }
+    {
+        self.touched.len()
+    }
+
+    /// The literal at a place, from 0 on, in the order in which they became true.
+    pub(crate) fn get(&self, place: usize) -> Lit
+        requires { place < length self.now.literals }
+        ensures { result ≡ slice_index_or self.now.literals place result }
+    {
+        let variable = self.touched.get(place);
+        Lit::new(variable, self.signs.value(variable))
     }
 
     /// Makes an unset literal true.

@@ -1,8 +1,9 @@
 //! Sets of variables that are emptied in time proportional to their members.
 
-ghost use Rattle.std.specs.Prelude.{◌≡◌, ◌≢◌, ◌<◌, ◌≤◌, ◌↔◌, true, false, [], ◌∷◌, ◌++◌, ℕ, Bool, length, replicate, All, AllPairs, Contains, IfOk, IsTrue};
-ghost use Rattle.dist_clause.specs.Formula.{value_of};
+ghost use Rattle.std.specs.Prelude.{◌≡◌, ◌≢◌, ◌<◌, ◌≤◌, ◌↔◌, true, false, [], ◌∷◌, ◌++◌, ℕ, Bool, length, replicate, All, AllPairs, Contains, IfOk, IsTrue, slice_index};
+ghost use Rattle.dist_clause.specs.Formula.{value_of, IsTrueLiteral, MakesTrue};
 ghost use Rattle.dist_derive.specs.Cone.{IsClosedUnder};
+ghost use Rattle.dist_derive.specs.VariableSet.{GivesTrue};
 ghost use Rattle.dist_derive.specs.Marking.{Includes, Grows, HasAll, IsClosedAt};
 
 use dist_clause::{Assignment, Lit};
@@ -57,6 +58,24 @@ impl VariableSet {
         &self.members
     }
 
+    /// How many members there are.
+    pub(crate) fn len(&self) -> usize
+        ensures value { result ≡ length self.now.members }
+        ensures few { result ≤ self.now.variables }
+    {
+        self.members.len()
+    }
+
+    /// The member at a place, from 0 on, in the order in which they came.
+    pub(crate) fn get(&self, place: usize) -> u32
+        requires { place < length self.now.members }
+        ensures value { result ≡ slice_index self.now.members place }
+        ensures from_one { 1 ≤ result }
+        ensures in_range { result ≤ self.now.variables }
+    {
+        self.members[place]
+    }
+
     /// Adds a variable that is no member.
     pub(crate) fn add(&mut self, variable: u32)
         requires from_one { 1 ≤ variable }
@@ -72,7 +91,7 @@ impl VariableSet {
     }
 
     /// Puts a variable in, and answers whether it was not in before.
-    pub(crate) fn include(&mut self, variable: u32) -> bool
+    pub fn include(&mut self, variable: u32) -> bool
         requires from_one { 1 ≤ variable }
         requires in_range { variable ≤ self.old.variables }
         ensures { Includes self.old self.new variable result }
@@ -104,7 +123,7 @@ impl VariableSet {
     pub(crate) fn close_at(&mut self, clause: &[Lit]) -> bool
         requires { All (λ l. l.variable ≤ self.old.variables) clause.now }
         ensures grows { Grows self.old self.new result }
-        ensures closed { result ≡ false → IsClosedAt self.new.members clause.now }
+        ensures closed { IsClosedAt self.new.members clause.now }
         ensures least { (has : ℕ → Bool) → HasAll has self.old.members → IsClosedUnder has (clause.now ∷ [])
             → HasAll has self.new.members }
     {
@@ -136,6 +155,22 @@ impl VariableSet {
             }
         }
         true
+    }
+
+    /// Whether a literal is true where exactly the members are.
+    pub fn makes_true(&self, literal: Lit) -> bool
+        requires { literal.variable ≤ self.now.variables }
+        ensures { (value : ℕ → Bool) → GivesTrue value self.now.members → IsTrue result ↔ IsTrueLiteral value literal }
+    {
+        self.contains(literal.variable()) == literal.positive()
+    }
+
+    /// Whether a clause has a literal that is true where exactly the members are.
+    pub(crate) fn makes_clause_true(&self, clause: &[Lit]) -> bool
+        requires { All (λ l. l.variable ≤ self.now.variables) clause.now }
+        ensures { (value : ℕ → Bool) → GivesTrue value self.now.members → IsTrue result ↔ MakesTrue value clause.now }
+    {
+        clause.iter().any(|l| self.makes_true(*l))
     }
 
     /// Takes all members out.

@@ -33,25 +33,25 @@ made name version provides = record {
   essential = false;
 }
 
-abbrev a : Package
+abbrev pub a : Package
 a = made (codes "a") (codes "1") []
 
-abbrev b : Package
+abbrev pub b : Package
 b = made (codes "b") (codes "1") (menu ∷ abi (codes "1") ∷ [])
 
-abbrev two : PackageList
+abbrev pub two : PackageList
 two = record { architecture = None; packages = a ∷ b ∷ [] }
 
 -- the versions 2 of both: b has dropped the menu, and kept abi, which is at 2 now
-abbrev later_a : Package
+abbrev pub later_a : Package
 later_a = made (codes "a") (codes "2") []
 
-abbrev later_b : Package
+abbrev pub later_b : Package
 later_b = made (codes "b") (codes "2") (abi (codes "2") ∷ [])
 
 -- ---- lists of two, and names
 
-one-of : (p q x : Package) → Contains (p ∷ q ∷ []) x → (p ≡ x) ⊎ (q ≡ x)
+pub one-of : (p q x : Package) → Contains (p ∷ q ∷ []) x → (p ≡ x) ⊎ (q ≡ x)
 one-of p q x (zero, short, is) = inl is
 one-of p q x (suc zero, short, is) = inr is
 one-of p q x (suc (suc k), short, is) = absurd (omega (arith, short))
@@ -59,7 +59,7 @@ one-of p q x (suc (suc k), short, is) = absurd (omega (arith, short))
 a_is_not_b : codes "a" ≢ codes "b"
 a_is_not_b e = let differ : 97 ≡ 98 = ap (λ (s : List ℕ). slice_index_or s 0 0) e in omega (arith, differ)
 
-pair : (p q : Package) → p.name ≢ q.name → AllPairs (λ (x y : Package). x.name ≢ y.name) (p ∷ q ∷ [])
+pub pair : (p q : Package) → p.name ≢ q.name → AllPairs (λ (x y : Package). x.name ≢ y.name) (p ∷ q ∷ [])
 pair p q differ zero zero d less short = absurd (omega (arith, less))
 pair p q differ zero (suc zero) d less short = differ
 pair p q differ zero (suc (suc j)) d less short = absurd (omega (arith, short))
@@ -67,7 +67,7 @@ pair p q differ (suc i) j d less short = absurd (omega (arith, less, short))
 
 -- ---- both members move together
 
-two-is-version : IsVersion (codes "2")
+pub two-is-version : IsVersion (codes "2")
 two-is-version = (
   record { epoch = 0; upstream = codes "2"; revision = None },
   record {
@@ -82,11 +82,11 @@ two-is-version = (
   },
 )
 
-one-below-two : IsBelow (codes "1") (codes "2")
+pub one-below-two : IsBelow (codes "1") (codes "2")
 unfolding version_cmp part_cmp weights_of epoch_of epoch_digits after_epoch upstream_of revision_of
 one-below-two = refl
 
-two-is-two : version_cmp (codes "2") (codes "2") ≡ Equal
+pub two-is-two : version_cmp (codes "2") (codes "2") ≡ Equal
 unfolding version_cmp part_cmp weights_of epoch_of epoch_digits after_epoch upstream_of revision_of
 two-is-two = refl
 
@@ -162,7 +162,7 @@ moved_together = record {
 
 -- ---- one member alone moves
 
-itself : (version : List ℕ) → version_cmp version version ≡ Equal
+pub itself : (version : List ℕ) → version_cmp version version ≡ Equal
 itself version = tied_itself version_total version
 
 a-and-a : IsInClusterOf two a a

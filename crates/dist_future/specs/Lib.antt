@@ -3,6 +3,7 @@ pub mod Outdated
 pub mod Stands
 pub mod SpaceLaws
 pub mod FutureExamples
+pub mod OutdatedExamples
 pub mod FutureHealth
 pub mod MatchingPrivate
 pub mod HealthLaws

@@ -88,7 +88,7 @@ unset_negation : (trues : List Literal) (l : Literal) → IsUnset trues l → Is
 unset_negation trues l unset = (unset.1, λ here. unset.0 (subst (λ m. Contains trues m) (negation_twice l) here))
 
 -- where all literals are true, no negated one is
-denial_not_true : (value : ℕ → Bool) (clause : List Literal) → All (IsTrueLiteral value) clause → ¬ MakesTrue value (map negation clause)
+pub denial_not_true : (value : ℕ → Bool) (clause : List Literal) → All (IsTrueLiteral value) clause → ¬ MakesTrue value (map negation clause)
 denial_not_true value clause all made =
     let inside : made.0 < length clause = omega (arith, made.2, length-map clause negation) in
     let l = get_or clause made.0 made.1 in

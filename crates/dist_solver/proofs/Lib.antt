@@ -6,3 +6,4 @@ pub mod DecisionLemmas
 pub mod ModelLemmas
 pub mod KeptLemmas
 pub mod EvidenceLemmas
+pub mod TestedLemmas

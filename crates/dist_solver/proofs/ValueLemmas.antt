@@ -15,7 +15,7 @@ pub record ValuesSoFar (trues : List Literal) (members : List ℕ) (values : Lis
   pub only : (v : ℕ) → 1 ≤ v → value_of values v ≡ true → Contains members v × (¬ Contains trues (literal v false))
   pub all : (v : ℕ) → 1 ≤ v → Contains members v → Contains trues (literal v true) → value_of values v ≡ true
 
-none_true : (n k : ℕ) → get_or (replicate n false) k false ≡ false
+pub none_true : (n k : ℕ) → get_or (replicate n false) k false ≡ false
 none_true n k = elim (cases_lt k n) [
   | inl within ↦ get_or-replicate n k false false within
   | inr past ↦ get_or_past (replicate n false) k false (omega (arith, past, length-replicate n false))
@@ -37,7 +37,7 @@ value_true trues v None h c = absurd (h.0 c)
 value_true trues v (Some true) h c = refl
 value_true trues v (Some false) h c = absurd (h.1 c)
 
-still_in : (members : List ℕ) (v u : ℕ) → Contains members u → Contains (members ++ v ∷ []) u
+pub still_in : (members : List ℕ) (v u : ℕ) → Contains members u → Contains (members ++ v ∷ []) u
 still_in members v u h = (h.0, omega (arith, h.1, length-append members (v ∷ [])), get_or_append_left members (v ∷ []) u h.0 h.1 ∙ h.2)
 
 pub values_more : (trues : List Literal) (members : List ℕ) (values : List Bool) (v : ℕ) (o : Option Bool) → 1 ≤ v → v ≤ length values → HasValue trues v o

@@ -10,6 +10,8 @@ use Rattle.dist_derive.specs.Cone.{IsWithinCone}
 use Rattle.dist_derive.specs.New.{IsNew}
 use Rattle.dist_solver.specs.Evidence.{IsShort}
 use Rattle.dist_solver.specs.Ask.{IsModelUnder, IsRefutation}
+use Rattle.dist_solver.specs.declared.answers.Answer.{Answer}
+use Rattle.dist_solver.specs.declared.answers.Answer.TheVariants.{Found, Refuted, Undecided}
 use Rattle.dist_solver.specs.declared.descent.Descent.{Descent}
 use Rattle.dist_solver.specs.declared.descent.Descent.TheVariants.{Model, Refutation, Lesson}
 
@@ -58,3 +60,9 @@ IsEnd log assumptions (Lesson clause hints) = IsLesson log assumptions clause.it
 abbrev pub GoesOn : ClauseLog → List Literal → List Literal → List Literal → Option Descent → Type 0
 GoesOn log assumptions old new (Some end) = IsEnd log assumptions end
 GoesOn log assumptions old new None = IsDecided log assumptions new × (length old < length new)
+
+-- an answer that came without a line more
+abbrev pub IsShown : ClauseLog → List Literal → Answer → Type 0
+IsShown log assumptions (Found values) = IsModelUnder log assumptions values
+IsShown log assumptions (Refuted hints) = IsRefutation log assumptions hints
+IsShown log assumptions Undecided = ⊥

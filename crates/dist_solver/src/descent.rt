@@ -1,4 +1,5 @@
-//! One descent of the search: decisions are taken one after another until a model, a refutation or a conflict comes.
+//! A plain descent: decisions are taken one after another until a model, a refutation or a conflict comes, each from
+//! propagation over all clauses. It stands behind the guesses.
 
 ghost use Rattle.std.specs.Prelude.{◌≡◌, ◌<◌, ◌≤◌, ◌↔◌, ℕ, List, length, map, reverse, All, Contains, IfOk, IfSome, IfNone, MatchOption};
 ghost use Rattle.dist_clause.specs.Formula.{literal, negation, IsClauseOver, Literal};

@@ -1,16 +1,21 @@
 //! The search behind every question: it answers with a model, with a refutation, or with the stated number of new lines.
 //! Whatever it answers, the lines that it added follow by hints and are new, so that no answer has to be believed.
 //!
-//! This is the plainest search. It goes down by decisions on variables of the cone, each time false first, propagates anew
-//! from all of them, and at a conflict learns the clause of the negated decisions and assumptions. Its contract says nothing of
-//! how it searches, so its body may be replaced alone.
+//! Two searches guess (`guesses.rt`): the quick phase of dist_quick, and behind it the search by watched literals of
+//! dist_watched, within the cone of the assumptions. Each guess is tested before it leaves (`tested.rt`): a model by the clauses
+//! in which its true variables are negated, hints by `follows`, a line by `is_new` too. Where a guess fails its test, a plain
+//! descent (`descent.rt`) from the assumptions gives the answer or the next line; it walks over all clauses, and with ample memory it
+//! is not known to be reached. So what is proved rests on the tests and the descent alone, and how the searches guess may
+//! change without a proof.
 #![tactic(auto)]
 
 mod answers;
 mod descent;
+mod guesses;
 mod lines;
 mod propagation;
 mod search;
+mod tested;
 mod trail;
 
 pub use answers::{Answer, AskError, Hints};

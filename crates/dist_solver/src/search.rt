@@ -7,10 +7,12 @@ ghost use Rattle.dist_derive.specs.Follows.{EachLineFollows};
 ghost use Rattle.dist_derive.specs.Cone.{InCone};
 ghost use Rattle.dist_solver.specs.Evidence.{Adds};
 ghost use Rattle.dist_solver.specs.Ask.{IsAnswer};
+ghost use Rattle.dist_solver.specs.DescentPrivate.{IsEnd};
 ghost use Rattle.dist_solver.specs.LearningPrivate.{Learns};
 
 use crate::answers::{Answer, AskError};
 use crate::descent::{Descent, descend};
+use crate::guesses::Guesses;
 use crate::lines::Derived;
 use crate::trail::Trail;
 use dist_base::{MAX_LINE_LITERALS, MAX_LINES};
@@ -26,6 +28,7 @@ pub struct Solver {
     added: Derived,
     trail: Trail,
     cone: VariableSet,
+    guesses: Guesses,
     alloc: Global,
 }
 
@@ -37,7 +40,7 @@ impl Model for Solver {
 
     ghost view = { λ a. record { log = a.entries; derived = a.added } };
 
-    ghost invariant = { λ a. IsSound a.entries a.trail.variables a.cone.variables };
+    ghost invariant = { λ a. IsSound a.entries a.trail.variables a.cone.variables a.guesses };
 }
 
 impl Solver {
@@ -64,11 +67,15 @@ impl Solver {
     {
         let trail = Trail::new(alloc, clauses.variables())?;
         let cone = VariableSet::new(alloc, clauses.variables())?;
+        let guesses = Guesses::new(alloc, clauses.variables())?;
+        let mut entries = Log::new(alloc, clauses, lines, line_literals);
+        entries.cover()?;
         Ok(Solver {
-            entries: Log::new(alloc, clauses, lines, line_literals),
+            entries,
             added: Derived::new(alloc),
             trail,
             cone,
+            guesses,
             alloc,
         })
     }
@@ -82,11 +89,16 @@ impl Solver {
         ensures answer { IsAnswer self.old.log self.new.log assumptions.now limit result }
     {
         self.added.clear();
+        if let Some(answer) = self.guesses.first(self.alloc, &self.entries, assumptions)? {
+            return Ok(answer);
+        }
         self.entries.mark_cone(&mut self.cone, assumptions);
+        self.guesses.turn_to_another();
         search(
             self.alloc,
             &mut self.entries,
             &mut self.added,
+            &mut self.guesses,
             &mut self.trail,
             self.cone.members(),
             assumptions,
@@ -116,11 +128,13 @@ fn search(
     alloc: Global,
     log: &mut Log,
     derived: &mut Derived,
+    guesses: &mut Guesses,
     trail: &mut Trail,
     cone: &[u32],
     assumptions: &[Lit],
     limit: u32,
 ) -> Result<Answer, AskError>
+    requires guesses { guesses.old ≡ log.old.variables }
     requires assumptions { IsClauseOver log.old.variables assumptions.now }
     requires in_range { All (λ v. (1 ≤ v) × (v ≤ log.old.variables)) cone.now }
     requires cone { (v : ℕ) → Contains cone.now v ↔ InCone (inputs_of log.old) assumptions.now v }
@@ -131,18 +145,47 @@ fn search(
     ensures answer { IsAnswer log.old log.new assumptions.now limit result }
     ensures lines_follow { EachLineFollows log.new.inputs log.new.clauses }
     ensures same_variables { trail.new.variables ≡ trail.old.variables }
+    ensures same_guesses { guesses.new ≡ guesses.old }
 {
     new_lines_are_few();
     more_clauses_keep_what_follows();
     let _clauses = log.len();
     for _ in 0..limit {
-        match descend(alloc, log, trail, cone, assumptions)? {
+        match next_end(alloc, log, guesses, trail, cone, assumptions)? {
             Descent::Model(values) => return Ok(Answer::Found(values)),
             Descent::Refutation(hints) => return Ok(Answer::Refuted(hints)),
-            Descent::Lesson(clause, hints) => learn(log, derived, &clause, hints.as_slice())?,
+            Descent::Lesson(clause, hints) => {
+                learn(log, derived, &clause, hints.as_slice())?;
+                guesses.learned(log.len());
+            }
         }
     }
     Ok(Answer::Undecided)
+}
+
+/// The next end: the one that is guessed, where it passes its test, or else that of a descent from the assumptions.
+fn next_end(
+    alloc: Global,
+    log: &Log,
+    guesses: &mut Guesses,
+    trail: &mut Trail,
+    cone: &[u32],
+    assumptions: &[Lit],
+) -> Result<Descent, AllocError>
+    requires guesses { guesses.old ≡ log.now.variables }
+    requires assumptions { IsClauseOver log.now.variables assumptions.now }
+    requires in_range { All (λ v. (1 ≤ v) × (v ≤ log.now.variables)) cone.now }
+    requires cone { (v : ℕ) → Contains cone.now v ↔ InCone (inputs_of log.now) assumptions.now v }
+    requires trail { trail.old.variables ≡ log.now.variables }
+    requires lines_follow { EachLineFollows log.now.inputs log.now.clauses }
+    ensures ends { IfOk result (IsEnd log.now assumptions.now) }
+    ensures same_variables { trail.new.variables ≡ trail.old.variables }
+    ensures same_guesses { guesses.new ≡ guesses.old }
+{
+    if let Some(end) = guesses.next(alloc, log, cone, assumptions)? {
+        return Ok(end);
+    }
+    descend(alloc, log, trail, cone, assumptions)
 }
 
 /// Adds a line to the log, and to the derived lines its number and hints; or to neither.

@@ -1,8 +1,8 @@
 //! The strong sweep: for each package a certificate of which other packages every healthy installation with it has.
 //!
-//! `sweep.rt` makes the input clauses and writes the file by dist_sweep. `claiming.rt` makes the claim on one package: after its
-//! own question `settling.rt` asks for the package without each candidate that is left. Each installation that is found strikes
-//! candidates (`group.rt`), so that few questions are asked.
+//! `sweep.rt` takes the input clauses from dist_subject and writes the file by dist_sweep. `claiming.rt` makes the claim on one
+//! package: after its own question `settling.rt` asks for the package without each candidate that is left. Each installation that
+//! is found strikes candidates (`group.rt`), so that few questions are asked.
 #![tactic(auto)]
 
 mod claimant;

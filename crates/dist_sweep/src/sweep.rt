@@ -24,7 +24,8 @@ pub struct SweepInputs {
     pub clauses: ClauseSet,
 }
 
-/// The number of packages. What this call tells is that it has 32 bits.
+/// The number of packages. That it has 32 bits is known of a call's answer, and not of a field behind a reference: this function
+/// is there to tell it to `first_line`.
 fn packages_of(over: &SweepInputs) -> u32
     ensures { result ≡ over.now.packages }
 {

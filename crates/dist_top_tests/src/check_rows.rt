@@ -1,35 +1,10 @@
 //! Worked rows of `check`: certificates that are accepted, refused, too large, or not read.
-use crate::running::{EMPTY, Failing, NOTHING, Row, Table, hold};
 use dist_app::Status;
 use dist_outside::What;
+use dist_samples::LIBRARY;
+use dist_top_rows::check_rows::{BAD_LINE, MISSING, REFUSED, TEN};
+use dist_top_rows::{Failing, NOTHING, Row, Table, first_wrong};
 use std::test::Fail;
-
-const REPORT: &str = "report: \"strong\"
-limit: 10000
-packages: 2
-uninstallable: []
-strong:
-  - package: \"a=1\"
-    on:
-      - \"b=1\"
-impact:
-  - package: \"b=1\"
-    of:
-      - \"a=1\"
-undecided: []
-undecided_pairs: []
-";
-
-/// Ten lines that are accepted.
-pub(crate) const TEN: Row = Row {
-    words: &["check", "packages", "cert"],
-    packages: "Package: a\nVersion: 1\nDepends: b\n\nPackage: b\nVersion: 1\n",
-    cert: Some(
-        "distfuture-certificate 1 strong plain 10000 2 2 1\nq 1\nm 1 2\nq 1 -2\nf 1\ns 1 1 0 2 0\nq 2\nm 2\ns 2 2 0 0\ne\n",
-    ),
-    out: REPORT,
-    ..EMPTY
-};
 
 // Package a, which depends on b or c, and b, which depends on c, and c and d. One derived line leaves a undecided.
 const UNDECIDED: Row = Row {
@@ -75,7 +50,7 @@ undecided: []
 
 // Later versions of a library at and above a bound break the program that needs it below.
 const CHALLENGED: Row = Row {
-    packages: "Package: libx\nVersion: 1\n\nPackage: p\nVersion: 1\nDepends: libx (<< 2)\n",
+    packages: LIBRARY,
     cert: Some(
         "distfuture-certificate 1 challenged plain 10000 2 11 16\nq 1 2\nm 1 2\nc 1 1 0 0\nq 1 3\nm 1 2 3\nq 3 4\nm 3 4 5\nq 3 6\nf 6 12 5 1\nq 3 8\nf 8 12 5 2\nc 2 2 3 0 1 2 1 3 0\ne\n",
     ),
@@ -145,21 +120,6 @@ undecided_classes:
 };
 
 const ON_FUTURES: [Row; 4] = [OUTDATED, CHALLENGED, MAYBE_OUTDATED, MAYBE_CHALLENGED];
-
-const REFUSED: Row = Row {
-    status: Status::CertificateRefused,
-    out: "",
-    ..TEN
-};
-
-/// A question that is closed without a clause.
-pub(crate) const BAD_LINE: Row = Row {
-    cert: Some(
-        "distfuture-certificate 1 strong plain 10000 2 2 1\nq 1\nm 1 2\nq 1 -2\nf\ns 1 1 0 2 0\nq 2\nm 2\ns 2 2 0 0\ne\n",
-    ),
-    err: "distfuture: certificate refused at line 5: BadLine\n",
-    ..REFUSED
-};
 
 const REFUSALS: [Row; 8] = [
     BAD_LINE,
@@ -247,15 +207,6 @@ const LIMITS: [Row; 4] = [
     },
 ];
 
-/// No certificate of that name.
-pub(crate) const MISSING: Row = Row {
-    words: &["check", "packages", "missing"],
-    status: Status::ReadFault,
-    out: "",
-    err: "distfuture: read fault\n",
-    ..TEN
-};
-
 // PACKAGES is taken apart before CERT is looked for.
 const BAD_BEFORE_MISSING: Row = Row {
     words: &["check", "packages", "missing"],
@@ -288,5 +239,6 @@ const TABLES: [Table; 5] = [
 
 #[test]
 fn certificates_are_judged(rt: HostRuntime) -> Result<(), Fail> {
-    Ok(hold(&rt, &TABLES)?)
+    assert_eq!(rt; first_wrong(rt.alloc(), &TABLES)?, None);
+    Ok(())
 }

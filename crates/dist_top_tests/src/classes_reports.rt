@@ -1,36 +1,5 @@
 //! The reports of the rows of `classes`.
 
-/// A dependency with two bounds cuts five classes.
-pub(crate) const BOUNDS_REPORT: &str = "report: \"classes\"
-packages: 2
-clusters:
-  - cluster: \"libx=1.0-1\"
-    source: \"libx\"
-    top: \"1.0-1\"
-    members:
-      - \"libx=1.0-1\"
-    classes:
-      - class: \">> 1.0-1, << 2.0\"
-        example: \"1.0-1A~~~\"
-      - class: \"= 2.0\"
-        example: \"2.0\"
-      - class: \">> 2.0, << 3\"
-        example: \"2.0-0A~\"
-      - class: \"= 3\"
-        example: \"3\"
-      - class: \">> 3\"
-        example: \"3-0A\"
-  - cluster: \"p=1\"
-    source: \"p\"
-    top: \"1\"
-    members:
-      - \"p=1\"
-    classes:
-      - class: \">> 1\"
-        example: \"1-0A\"
-names: []
-";
-
 /// A bound just above a top.
 pub(crate) const NEAR_REPORT: &str = "report: \"classes\"
 packages: 2

@@ -1,28 +1,14 @@
 //! Worked rows of `classes`: whole reports.
 use crate::classes_reports::{
-    ALONE_REPORT, ANY_REPORT, BOUNDS_REPORT, CUT_REPORT, NEAR_REPORT, NEW_NAME_REPORT,
-    NO_NAMES_REPORT, PYTHON_REPORT, TOGETHER_REPORT,
+    ALONE_REPORT, ANY_REPORT, CUT_REPORT, NEAR_REPORT, NEW_NAME_REPORT, NO_NAMES_REPORT,
+    PYTHON_REPORT, TOGETHER_REPORT,
 };
-use crate::running::{EMPTY, Failing, NOTHING, Row, Table, hold};
 use dist_app::Status;
 use dist_outside::What;
+use dist_samples::PYTHON;
+use dist_top_rows::classes_rows::{BAD_STANZA, CUT, NONE, STOPPED};
+use dist_top_rows::{Failing, NOTHING, Row, Table, first_wrong};
 use std::test::Fail;
-
-const NONE: Row = Row {
-    words: &["classes", "packages"],
-    out: "report: \"classes\"\npackages: 0\nclusters: []\nnames: []\n",
-    ..EMPTY
-};
-
-const BOUNDS: &str = "Package: libx\nVersion: 1.0-1\nArchitecture: all\n
-Package: p\nVersion: 1\nArchitecture: all\nDepends: libx (<< 2.0) | libx (>= 3)\n";
-
-/// A package and one that depends on it.
-pub(crate) const CUT: Row = Row {
-    packages: BOUNDS,
-    out: BOUNDS_REPORT,
-    ..NONE
-};
 
 const CUTS: [Row; 4] = [
     NONE,
@@ -60,19 +46,6 @@ const NAMES: [Row; 3] = [
     },
 ];
 
-/// A stanza of Debian 12.
-pub(crate) const PYTHON: &str = "Package: python3
-Source: python3-defaults (3.11.2-1)
-Version: 3.11.2-1+b1
-Architecture: amd64
-Replaces: python3-minimal (<< 3.1.2-2)
-Provides: python3-profiler
-Depends: python3.11:any (>= 3.11.2-1~),
- libpython3-stdlib (= 3.11.2-1+b1)
-Pre-Depends: python3-minimal (= 3.11.2-1+b1)
-Tag: devel::interpreter,
- implemented-in::c";
-
 const ARCHIVE_STANZA: Row = Row {
     packages: PYTHON,
     out: PYTHON_REPORT,
@@ -103,20 +76,6 @@ const DEPENDENCIES: [Row; 4] = [
         ..NONE
     },
 ];
-
-const STOPPED: Row = Row {
-    status: Status::TooLarge,
-    out: "",
-    ..CUT
-};
-
-/// A line that is no field.
-pub(crate) const BAD_STANZA: Row = Row {
-    packages: "no colon\n",
-    status: Status::BadPackages,
-    err: "distfuture: bad packages at line 1: NoColon\n",
-    ..STOPPED
-};
 
 const STOPS: [Row; 5] = [
     Row {
@@ -155,5 +114,6 @@ const TABLES: [Table; 5] = [
 
 #[test]
 fn classes_are_reported(rt: HostRuntime) -> Result<(), Fail> {
-    Ok(hold(&rt, &TABLES)?)
+    assert_eq!(rt; first_wrong(rt.alloc(), &TABLES)?, None);
+    Ok(())
 }

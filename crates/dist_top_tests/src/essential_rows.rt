@@ -1,7 +1,7 @@
 //! Worked rows of essential packages, whose names every healthy installation has where the flag stands.
-use crate::running::{After, EMPTY, Row, Table, hold};
-use crate::strong_rows;
 use dist_app::Status;
+use dist_top_rows::strong_rows::NONE;
+use dist_top_rows::{After, EMPTY, Row, Table, first_wrong};
 use std::test::Fail;
 
 const BASE: &str =
@@ -41,7 +41,7 @@ undecided: []
 undecided_pairs: []
 ",
     after: After::Begins("distfuture-certificate 1 strong essential 10000 3 3 2\n"),
-    ..strong_rows::NONE
+    ..NONE
 };
 
 const FLAG: [Row; 2] = [
@@ -170,5 +170,6 @@ const TABLES: [Table; 3] = [
 
 #[test]
 fn essential_names_are_kept(rt: HostRuntime) -> Result<(), Fail> {
-    Ok(hold(&rt, &TABLES)?)
+    assert_eq!(rt; first_wrong(rt.alloc(), &TABLES)?, None);
+    Ok(())
 }

@@ -1,10 +1,11 @@
 //! Worked rows of `health`.
-use crate::running::{EMPTY, Failing, NOTHING, Row, Table, hold};
 use dist_app::Status;
 use dist_outside::What;
+use dist_top_rows::health_rows::{
+    BAD_DEPENDS, BAD_LIST, BAD_PACKAGES, BAD_THIRD_LINE, NOT_HEALTHY, ONE, UNMET,
+};
+use dist_top_rows::{EMPTY, Failing, NOTHING, Row, Table, first_wrong};
 use std::test::Fail;
-
-const ONE: &str = "Package: a\nVersion: 1\n";
 
 const MAIL: &str = "Package: exim4
 Version: 1
@@ -19,24 +20,8 @@ Provides: mail-transport-agent
 Conflicts: mail-transport-agent
 ";
 
-const NEEDS: &str =
-    "Package: p\nVersion: 1\nDepends: x (>= 1)\n\nPackage: y\nVersion: 1\nProvides: x\n";
-
 const MET: &str =
     "Package: p\nVersion: 1\nDepends: x (>= 1)\n\nPackage: y\nVersion: 1\nProvides: x (= 1)\n";
-
-const NOT_HEALTHY: Row = Row {
-    status: Status::NotHealthy,
-    ..EMPTY
-};
-
-/// A dependency with a bound, on a name that is provided without a version.
-pub(crate) const UNMET: Row = Row {
-    packages: NEEDS,
-    list: "p 1\ny 1\n",
-    out: "unmet p=1: x (>= 1)\n",
-    ..NOT_HEALTHY
-};
 
 const SETS: [Row; 6] = [
     Row {
@@ -67,33 +52,6 @@ const SETS: [Row; 6] = [
         ..NOT_HEALTHY
     },
 ];
-
-const BAD_PACKAGES: Row = Row {
-    status: Status::BadPackages,
-    out: "",
-    ..EMPTY
-};
-
-const BAD_LIST: Row = Row {
-    packages: ONE,
-    status: Status::BadList,
-    out: "",
-    ..EMPTY
-};
-
-/// A version that is none, in a dependency.
-pub(crate) const BAD_DEPENDS: Row = Row {
-    packages: "Package: a\nVersion: 1\nDepends: b,\n c (= 1_2)\n",
-    err: "distfuture: bad packages at line 3: BadVersion BadByte in Depends at 9\n",
-    ..BAD_PACKAGES
-};
-
-/// A line with a word too many.
-pub(crate) const BAD_THIRD_LINE: Row = Row {
-    list: "\na 1\na  1 x\n",
-    err: "distfuture: bad list at line 3\n",
-    ..BAD_LIST
-};
 
 const BAD_FILES: [Row; 8] = [
     Row {
@@ -214,5 +172,6 @@ const TABLES: [Table; 4] = [
 
 #[test]
 fn health_is_told(rt: HostRuntime) -> Result<(), Fail> {
-    Ok(hold(&rt, &TABLES)?)
+    assert_eq!(rt; first_wrong(rt.alloc(), &TABLES)?, None);
+    Ok(())
 }

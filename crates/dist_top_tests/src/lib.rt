@@ -1,5 +1,4 @@
-//! The top call on memory desks, a file of rows for each command; and what it meets outside: desks and sinks in memory and of the
-//! system, the words of the command line, and lists kept flat. Tests alone.
+//! The top call on memory desks: a file of rows for each command, each status, and want of memory. Tests alone.
 #![tactic(auto)]
 
 #[cfg(test)]
@@ -9,21 +8,13 @@ mod classes_reports;
 #[cfg(test)]
 mod classes_rows;
 #[cfg(test)]
-mod command_words;
-#[cfg(test)]
-mod desks;
-#[cfg(test)]
-mod each_call;
-#[cfg(test)]
 mod essential_rows;
 #[cfg(test)]
-mod flat_lists;
+mod futures_rows;
 #[cfg(test)]
 mod health_rows;
 #[cfg(test)]
 mod memory_rows;
-#[cfg(test)]
-mod running;
 #[cfg(test)]
 mod status_rows;
 #[cfg(test)]

@@ -1,7 +1,8 @@
 //! Want of memory, which a sink tells: the status with its number and its line.
-use crate::running::{EMPTY, Row, SINK_STEP, desk_of, words_of};
 use dist_app::{Status, run};
 use dist_outside::{MemorySink, Sink, Trouble};
+use dist_samples::words_of;
+use dist_top_rows::{EMPTY, Row, SINK_STEP, desk_of};
 use std::alloc::{AllocError, Global};
 use std::test::Fail;
 

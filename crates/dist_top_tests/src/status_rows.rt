@@ -1,6 +1,7 @@
 //! Each status with its number and its line, but for want of memory, which has a file of its own.
-use crate::running::{Place, Row, holds};
-use crate::{check_rows, classes_rows, health_rows, strong_rows, words_rows};
+use dist_top_rows::{
+    Row, check_rows, classes_rows, health_rows, strong_rows, words_rows, wrong_of,
+};
 use std::alloc::AllocError;
 use std::process::Abort;
 use std::test::Fail;
@@ -21,11 +22,9 @@ const NUMBERED: [(u8, Row); 10] = [
 /// A row must come to what it says, and its status have this number.
 fn has_number(rt: &(impl Abort + AllocGlobal), number: u8, row: &Row) -> Result<(), AllocError> {
     assert_eq!(rt; row.status.number(), number);
-    let at = Place {
-        table: "each status",
-        row: usize::from(number),
-    };
-    holds(rt, row, at)
+    let wrong = wrong_of(rt.alloc(), row)?;
+    assert_eq!(rt; wrong, None, "status {number}");
+    Ok(())
 }
 
 /// Each row must come to what it says, and its status have its number.

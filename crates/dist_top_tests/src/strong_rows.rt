@@ -1,50 +1,10 @@
 //! Worked rows of `strong`: reports, certificates, and what is left of one where the work stops.
-use crate::classes_rows::PYTHON;
-use crate::running::{After, EMPTY, Failing, NOTHING, Row, Table, hold};
 use dist_app::Status;
 use dist_outside::What;
+use dist_samples::PYTHON;
+use dist_top_rows::strong_rows::{CUT_SHORT, NONE, NOT_MADE, STOPPED, UNDECIDED, UNWRITTEN};
+use dist_top_rows::{After, Failing, NOTHING, Row, Table, first_wrong};
 use std::test::Fail;
-
-/// No packages, and a file at the certificate's name.
-pub(crate) const NONE: Row = Row {
-    words: &["strong", "packages", "cert", "--limit=10000"],
-    cert: Some("old\n"),
-    out: "report: \"strong\"
-limit: 10000
-packages: 0
-uninstallable: []
-strong: []
-impact: []
-undecided: []
-undecided_pairs: []
-",
-    after: After::Is("distfuture-certificate 1 strong plain 10000 0 0 0\ne\n"),
-    ..EMPTY
-};
-
-/// A package that depends on another.
-pub(crate) const TWO: Row = Row {
-    packages: "Package: a\nVersion: 1\nDepends: b\n\nPackage: b\nVersion: 1\n",
-    out: "report: \"strong\"
-limit: 10000
-packages: 2
-uninstallable: []
-strong:
-  - package: \"a=1\"
-    on:
-      - \"b=1\"
-impact:
-  - package: \"b=1\"
-    of:
-      - \"a=1\"
-undecided: []
-undecided_pairs: []
-",
-    after: After::Is(
-        "distfuture-certificate 1 strong plain 10000 2 2 1\nq 1\nm 1 2\nq 1 -2\nf 1\ns 1 1 0 2 0\nq 2\nm 2\ns 2 1 2 0 0\ne\n",
-    ),
-    ..NONE
-};
 
 const APART: &str = "Package: a\nVersion: 1\nDepends: b\n\nPackage: b\nVersion: 1\nConflicts: a\n";
 
@@ -154,20 +114,6 @@ undecided_pairs: []
     },
 ];
 
-const UNWRITTEN: Row = Row {
-    status: Status::WriteFault,
-    out: "",
-    err: "distfuture: write fault\n",
-    ..NONE
-};
-
-/// The file is not made.
-pub(crate) const NOT_MADE: Row = Row {
-    failing: Failing { desk: 3, ..NOTHING },
-    after: After::AsBefore,
-    ..UNWRITTEN
-};
-
 // The calls of the desk: a start and a read that comes to the end, then the file is made (3); eight writes are the first line
 // (4 to 11), one is the last line (12); then the file is closed (13).
 const FAULTS: [Row; 9] = [
@@ -224,20 +170,6 @@ const FAULTS: [Row; 9] = [
     },
 ];
 
-const STOPPED: Row = Row {
-    status: Status::TooLarge,
-    out: "",
-    ..NONE
-};
-
-/// A certificate that would pass its limit with its last line.
-pub(crate) const CUT_SHORT: Row = Row {
-    at_most: Some((What::Certificate, 51)),
-    err: "distfuture: too large: Certificate\n",
-    after: After::Is("distfuture-certificate 1 strong plain 10000 0 0 0\n"),
-    ..STOPPED
-};
-
 /// A file at the certificate's name stays as it is where the clauses are too many.
 const MANY_CLAUSES: Row = Row {
     packages: APART,
@@ -255,29 +187,6 @@ const LIMITS: [Row; 3] = [
         ..MANY_CLAUSES
     },
 ];
-
-// Five packages in each of four groups, of which a set may have one, and a package that wants five of them.
-const GROUPS: &str = "Package: a1\nVersion: 1\nProvides: a\nConflicts: a\n
-Package: a2\nVersion: 1\nProvides: a\nConflicts: a\n
-Package: a3\nVersion: 1\nProvides: a\nConflicts: a\n
-Package: a4\nVersion: 1\nProvides: a\nConflicts: a\n
-Package: a5\nVersion: 1\nProvides: a\nConflicts: a\n
-Package: b1\nVersion: 1\nProvides: b\nConflicts: b\n
-Package: b2\nVersion: 1\nProvides: b\nConflicts: b\n
-Package: b3\nVersion: 1\nProvides: b\nConflicts: b\n
-Package: b4\nVersion: 1\nProvides: b\nConflicts: b\n
-Package: b5\nVersion: 1\nProvides: b\nConflicts: b\n
-Package: c1\nVersion: 1\nProvides: c\nConflicts: c\n
-Package: c2\nVersion: 1\nProvides: c\nConflicts: c\n
-Package: c3\nVersion: 1\nProvides: c\nConflicts: c\n
-Package: c4\nVersion: 1\nProvides: c\nConflicts: c\n
-Package: c5\nVersion: 1\nProvides: c\nConflicts: c\n
-Package: d1\nVersion: 1\nProvides: d\nConflicts: d\n
-Package: d2\nVersion: 1\nProvides: d\nConflicts: d\n
-Package: d3\nVersion: 1\nProvides: d\nConflicts: d\n
-Package: d4\nVersion: 1\nProvides: d\nConflicts: d\n
-Package: d5\nVersion: 1\nProvides: d\nConflicts: d\n
-Package: p\nVersion: 1\nDepends: a1 | b1 | c1 | d1, a2 | b2 | c2 | d2, a3 | b3 | c3 | d3, a4 | b4 | c4 | d4, a5 | b5 | c5 | d5\n";
 
 // The twenty of them, a package that wants five, one that another package or that one meets, and the other package.
 const EITHER: &str = "Package: a1\nVersion: 1\nProvides: a\nConflicts: a\n
@@ -303,25 +212,6 @@ Package: d5\nVersion: 1\nProvides: d\nConflicts: d\n
 Package: h\nVersion: 1\nDepends: a1 | b1 | c1 | d1, a2 | b2 | c2 | d2, a3 | b3 | c3 | d3, a4 | b4 | c4 | d4, a5 | b5 | c5 | d5\n
 Package: p\nVersion: 1\nDepends: q | h\n
 Package: q\nVersion: 1\n";
-
-/// A question that is left undecided after one line.
-pub(crate) const UNDECIDED: Row = Row {
-    words: &["strong", "packages", "cert", "--limit=1"],
-    packages: GROUPS,
-    status: Status::DoneWithUndecided,
-    out: "report: \"strong\"
-limit: 1
-packages: 21
-uninstallable: []
-strong: []
-impact: []
-undecided:
-  - \"p=1\"
-undecided_pairs: []
-",
-    after: After::Begins("distfuture-certificate 1 strong plain 1 21 21 45\n"),
-    ..NONE
-};
 
 /// A package of which nothing is known, and a pair.
 const UNDECIDED_PAIR: Row = Row {
@@ -373,5 +263,6 @@ const TABLES: [Table; 4] = [
 
 #[test]
 fn strong_dependencies_are_reported(rt: HostRuntime) -> Result<(), Fail> {
-    Ok(hold(&rt, &TABLES)?)
+    assert_eq!(rt; first_wrong(rt.alloc(), &TABLES)?, None);
+    Ok(())
 }

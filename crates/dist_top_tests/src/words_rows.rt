@@ -1,22 +1,7 @@
 //! Words that are no command, and a command.
-use crate::running::{EMPTY, Row, Table, hold};
-use dist_app::Status;
+use dist_top_rows::words_rows::{COMMAND, NO_COMMAND};
+use dist_top_rows::{Row, Table, first_wrong};
 use std::test::Fail;
-
-const COMMAND: Row = Row {
-    packages: "Package: a\nVersion: 1\n",
-    list: "a 1\n",
-    ..EMPTY
-};
-
-/// A command with a word too few.
-pub(crate) const NO_COMMAND: Row = Row {
-    words: &["strong", "packages"],
-    status: Status::BadWords,
-    out: "",
-    err: "distfuture: bad command line\n",
-    ..COMMAND
-};
 
 const NO_COMMANDS: [Row; 9] = [
     Row {
@@ -61,5 +46,6 @@ const TABLES: [Table; 2] = [
 
 #[test]
 fn words_are_a_command_or_refused(rt: HostRuntime) -> Result<(), Fail> {
-    Ok(hold(&rt, &TABLES)?)
+    assert_eq!(rt; first_wrong(rt.alloc(), &TABLES)?, None);
+    Ok(())
 }

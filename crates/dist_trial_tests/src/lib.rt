@@ -1,5 +1,5 @@
-//! Trials of larger archives: the three sweeps and checks of each, twice. They take some 20 seconds as the gate builds them; `rt try`,
-//! which builds with checks, is hundreds of times slower, so they stand apart from the other tests.
+//! Trials, each twice: the three sweeps and checks of an archive. Those of larger archives take some 20 seconds as the gate builds
+//! them; `rt try`, which builds with checks, is hundreds of times slower, so they stand apart from the other tests.
 #![tactic(auto)]
 
 ghost use Rattle.std.specs.Prelude.{◌≤◌};
@@ -23,6 +23,16 @@ fn is_told_twice(alloc: Global, size: u32, seed: u32) -> Result<bool, WorkError>
             && first.summary.ends_with(b"\nundecided 0\naccepted 3\n")
             && !first.undecided,
     )
+}
+
+#[test]
+fn small_archives(rt: HostRuntime) -> Result<(), Fail> {
+    for size in [2, 20] {
+        for seed in [0, 1, 5] {
+            assert_eq!(rt; is_told_twice(rt.alloc(), size, seed), Ok(true));
+        }
+    }
+    Ok(())
 }
 
 #[test]

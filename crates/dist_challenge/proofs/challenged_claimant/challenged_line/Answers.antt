@@ -2,7 +2,7 @@ use Rattle.std.proofs.Common.{◌∙◌, ◌≤◌, ◌<◌, ◌-◌, List, ℕ,
 use Rattle.std.specs.List.{All}
 use Rattle.std.specs.Prelude.{slice_index}
 use Rattle.dist_cert.specs.Form.{AreFromOne, ArePairs}
-use Rattle.dist_challenge.specs.ChallengePrivate.{names_of}
+use Rattle.dist_challenge.specs.GroupPrivate.{names_of}
 use Rattle.dist_challenge.specs.UsedPrivate.{pair_at}
 use Rattle.dist_challenge.proofs.ChallengedLine.{names-from, names-there, pairs-from}
 use Rattle.dist_challenge.proofs.SettleSteps.{all-inside}

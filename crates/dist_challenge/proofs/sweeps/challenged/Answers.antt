@@ -2,9 +2,9 @@ use Rattle.std.proofs.Common.{[], refl, subst, sym, arith}
 use Rattle.dist_cert.specs.declared.records.CertKind.TheVariants.{Challenged}
 use Rattle.dist_subject.specs.Basis.{Later}
 use Rattle.dist_sweep.specs.Sweeping.{setting_of}
-use Rattle.dist_challenge.specs.Futures.{FitsSpace}
-use Rattle.dist_challenge.specs.Challenged.{ChallengedView, KeepsChallenged}
-use Rattle.dist_challenge.specs.StartLaws.{challenged-starts}
+use Rattle.dist_challenge.specs.FuturesPrivate.{FitsSpace}
+use Rattle.dist_challenge.specs.ChallengedPrivate.{ChallengedView, KeepsChallenged}
+use Rattle.dist_challenge.proofs.Starts.{challenged-starts}
 use Rattle.dist_challenge.proofs.LaterKinds.{challenged-is-later}
 use Rattle.dist_challenge.proofs.sweeps.challenged.Goals as goal
 

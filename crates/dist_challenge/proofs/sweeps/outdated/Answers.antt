@@ -2,9 +2,9 @@ use Rattle.std.proofs.Common.{[], length, refl, subst, sym, arith}
 use Rattle.dist_cert.specs.declared.records.CertKind.TheVariants.{Outdated}
 use Rattle.dist_subject.specs.Basis.{Later}
 use Rattle.dist_sweep.specs.Sweeping.{setting_of}
-use Rattle.dist_challenge.specs.Futures.{FitsSpace}
-use Rattle.dist_challenge.specs.Outdated.{OutdatedView, KeepsOutdated}
-use Rattle.dist_challenge.specs.StartLaws.{outdated-starts}
+use Rattle.dist_challenge.specs.FuturesPrivate.{FitsSpace}
+use Rattle.dist_challenge.specs.OutdatedPrivate.{OutdatedView, KeepsOutdated}
+use Rattle.dist_challenge.proofs.Starts.{outdated-starts}
 use Rattle.dist_challenge.proofs.LaterKinds.{outdated-is-later}
 use Rattle.dist_challenge.proofs.sweeps.outdated.Goals as goal
 

@@ -1,5 +1,5 @@
 use Rattle.std.proofs.Common.{◌∙◌}
-use Rattle.dist_challenge.proofs.Searched.{searched-among}
+use Rattle.dist_cert.specs.RisingLaws.{searched-among}
 use Rattle.dist_challenge.proofs.used.has.Goals as goal
 
 pub returns : goal.returns

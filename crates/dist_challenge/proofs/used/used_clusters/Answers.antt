@@ -1,5 +1,5 @@
 use Rattle.std.proofs.Common.{◌∙◌, length, refl, subst, sym}
-use Rattle.dist_challenge.specs.Challenged.{AreUsed}
+use Rattle.dist_challenge.specs.ChallengedPrivate.{AreUsed}
 use Rattle.dist_challenge.proofs.UsedSteps.{are-used}
 use Rattle.dist_challenge.proofs.used.used_clusters.Goals as goal
 

@@ -11,7 +11,8 @@ returns c =
     let subject = c.in_ok-subject.subject in
     begins c.args.repo.now c.args.limits.now h subject.packages subject.inputs subject.layout subject.future c.in_ok-new.field-0
     c.in_ok-subject.ensures.ok (c.has_numbers.ensures.0 c.if-not-has_numbers.false)
-    (c.in_ok-new.ensures.value ∙ ap (λ (log : ClauseLog). begun h.limit subject.packages subject.layout subject.future log) c.new-log.ensures)
+    (c.in_ok-new.ensures.value
+    ∙ ap (λ (log : ClauseLog). begun h.limit subject.packages subject.layout subject.future log) (c.cover.ensures.same ∙ c.new-log.ensures))
     c.in_ok-new.ensures.within
 
 pub returns-then-not-has_numbers : goal.returns-then-not-has_numbers

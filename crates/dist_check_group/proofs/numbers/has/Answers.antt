@@ -1,5 +1,5 @@
 use Rattle.std.proofs.Common.{◌∙◌}
-use Rattle.dist_check_group.proofs.RisingLemmas.{searched-among}
+use Rattle.dist_cert.specs.RisingLaws.{searched-among}
 use Rattle.dist_check_group.proofs.numbers.has.Goals as goal
 
 pub returns : goal.returns

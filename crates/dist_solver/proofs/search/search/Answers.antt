@@ -8,8 +8,8 @@ use Rattle.dist_solver.specs.DescentPrivate.{IsEnd, IsLesson}
 use Rattle.dist_solver.proofs.EvidenceLemmas.{inputs_same, model_of_old, adds_more}
 use Rattle.dist_solver.proofs.search.search.Goals as goal
 
-pub descend-requires-clause-cone : goal.descend-requires-clause-cone
-descend-requires-clause-cone c =
+pub next_end-requires-clause-cone : goal.next_end-requires-clause-cone
+next_end-requires-clause-cone c =
     let old = c.args.log.now in
     let same = inputs_same old c.loop.log c.loop.derived c.args.assumptions.now c.loop.counter c.loop.invariant.adds
     c.len-clauses.ensures.within.inputs_within in
@@ -36,7 +36,8 @@ loop-preserved c =
       lines_follow = subst (λ (l : ClauseLog). EachLineFollows l.inputs l.clauses) (sym learned.0)
           (c.more_clauses_keep_what_follows.ensures.lines log.inputs log.clauses c.deref.result.now c.as_slice.result.now c.loop.invariant.lines_follow
           as_passed.follows);
-      variables = c.descend.ensures.same_variables ∙ c.loop.invariant.variables;
+      variables = c.next_end.ensures.same_variables ∙ c.loop.invariant.variables;
+      guesses = c.learned.ensures ∙ (c.next_end.ensures.same_guesses ∙ c.loop.invariant.guesses);
     }
 
 pub returns-in_err-learn-in-Lesson-clause-lines_follow : goal.returns-in_err-learn-in-Lesson-clause-lines_follow

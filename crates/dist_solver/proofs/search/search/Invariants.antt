@@ -9,4 +9,5 @@ invariant-loop l = record {
   exact : length l.log.clauses ≡ length l.initial.log.clauses + l.counter;
   lines_follow : EachLineFollows l.log.inputs l.log.clauses;
   variables : l.trail.variables ≡ l.initial.log.variables;
+  guesses : l.guesses ≡ l.initial.guesses;
 }

@@ -1,7 +1,13 @@
-use Rattle.std.proofs.Common.{◌<◌, ◌^◌, subst}
+use Rattle.std.proofs.Common.{◌<◌, ◌≤◌, ◌^◌, ap, sym, subst}
 use Rattle.dist_cert.specs.declared.records.Header.{Header}
+use Rattle.dist_sweep.specs.Asking.{AskerView}
 use Rattle.dist_sweep.proofs.Started.{IsGiven, may-begin}
 use Rattle.dist_sweep.proofs.sweep.write_sweep.Goals as goal
+
+pub write_file-requires-clause-fits : goal.write_file-requires-clause-fits
+write_file-requires-clause-fits g c = λ p from to.
+    subst (λ n. g.C.Claimant.fits c.args.claimant.now n p) (sym (ap (λ (a : AskerView). a.log.variables) c.in_ok-asker.ensures))
+    (c.requires.fits p from (subst (λ (h : Header). p ≤ h.packages) c.first_line-header.ensures.value to))
 
 pub returns : goal.returns
 returns g c = λ r basis ordered inputs packages keeps.

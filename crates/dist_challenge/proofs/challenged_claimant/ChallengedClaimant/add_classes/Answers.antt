@@ -3,7 +3,7 @@ use Rattle.dist_clause.specs.Formula.{value_of}
 use Rattle.dist_space.specs.Space.{SpaceView, cluster_classes, variable_of}
 use Rattle.dist_space.specs.declared.meaning.Meaning.TheVariants.{At}
 use Rattle.dist_sweep.specs.Window.{WindowView, kept_at}
-use Rattle.dist_challenge.specs.Challenged.{ChallengedView}
+use Rattle.dist_challenge.specs.ChallengedPrivate.{ChallengedView}
 use Rattle.dist_challenge.specs.CoverPrivate.{IsGathering}
 use Rattle.dist_challenge.proofs.CoverSteps.{class-passed, class-pushed}
 use Rattle.dist_challenge.proofs.challenged_claimant.ChallengedClaimant.add_classes.Goals as goal

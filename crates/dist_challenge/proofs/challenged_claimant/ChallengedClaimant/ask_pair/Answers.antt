@@ -9,8 +9,8 @@ use Rattle.dist_sweep.specs.ScriptLaws.{by-exit}
 use Rattle.dist_sweep.specs.Window.{WindowView}
 use Rattle.dist_sweep.specs.declared.asker.Reply.{Reply}
 use Rattle.dist_sweep.specs.declared.asker.Reply.TheVariants as replies
-use Rattle.dist_challenge.specs.Challenged.{ChallengedView}
-use Rattle.dist_challenge.specs.ChallengePrivate.{FitsGroup, GroupView, SettleMore, SettleStops, together}
+use Rattle.dist_challenge.specs.ChallengedPrivate.{ChallengedView}
+use Rattle.dist_challenge.specs.GroupPrivate.{FitsGroup, GroupView, SettleMore, SettleStops, together}
 use Rattle.dist_challenge.proofs.Asked.{ask-stops, ask-told, asked-memory, memory-stops}
 use Rattle.dist_challenge.proofs.GroupSteps.{with_left}
 use Rattle.dist_challenge.proofs.SettleSteps.{fits-found, fits-refuted, fits-undecided, inside-left, inside-undecided, pair-over, pair-ready, Settled}

@@ -3,7 +3,7 @@ use Rattle.dist_outside.specs.DeskView.{DeskView}
 use Rattle.dist_outside.specs.Files.{IsWriting}
 use Rattle.dist_outside.specs.declared.trouble.WorkError.{WorkError}
 use Rattle.dist_sweep.specs.ScriptLaws.{by-exit, two-grow}
-use Rattle.dist_challenge.specs.ChallengePrivate.{FitsGroup, GroupView, SettleMore, SettleStops}
+use Rattle.dist_challenge.specs.GroupPrivate.{FitsGroup, GroupView, SettleMore, SettleStops}
 use Rattle.dist_challenge.proofs.SettleSteps.{settle-join, settle-stops}
 use Rattle.dist_challenge.proofs.challenged_claimant.ChallengedClaimant.ask_pairs.Goals as goal
 

@@ -1,7 +1,7 @@
 use Rattle.std.proofs.Common.{◌≡◌, length}
 use Rattle.dist_outside.specs.Files.{IsWriting}
 use Rattle.dist_sweep.specs.Script.{Grows}
-use Rattle.dist_challenge.specs.ChallengePrivate.{FitsGroup, SettleMore}
+use Rattle.dist_challenge.specs.GroupPrivate.{FitsGroup, SettleMore}
 use Rattle.dist_challenge.proofs.challenged_claimant.ChallengedClaimant.ask_pairs.Given as goal
 
 abbrev pub invariant-pairs : goal.invariant-pairs

@@ -14,8 +14,8 @@ use Rattle.dist_sweep.specs.ScriptLaws.{by-exit, two-grow}
 use Rattle.dist_sweep.specs.Window.{WindowView}
 use Rattle.dist_sweep.specs.declared.asker.Reply.{Reply}
 use Rattle.dist_sweep.specs.declared.asker.Reply.TheVariants as replies
-use Rattle.dist_challenge.specs.Challenged.{ChallengedView, KeepsChallenged}
-use Rattle.dist_challenge.specs.ChallengePrivate.{ChallengeMore, SettleStops}
+use Rattle.dist_challenge.specs.ChallengedPrivate.{ChallengedView, KeepsChallenged}
+use Rattle.dist_challenge.specs.GroupPrivate.{ChallengeMore, SettleStops}
 use Rattle.dist_challenge.proofs.Asked.{ask-stops, ask-told, asked-memory, claim-behind, memory-stops, stops-behind, StopsFrom}
 use Rattle.dist_challenge.proofs.ChallengedSteps.{found-claimed, found-fits, found-stops, KeptBy, may-stand, MayChallenge, present-upto-added, today-over}
 use Rattle.dist_challenge.proofs.ChallengedSteps.{today-question, today-ready}

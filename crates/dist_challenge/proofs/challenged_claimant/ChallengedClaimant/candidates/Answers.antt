@@ -2,7 +2,7 @@ use Rattle.std.proofs.Common.{◌≡◌, ◌∙◌, ◌+◌, ◌-◌, ◌<◌, �
 use Rattle.std.specs.Prelude.{slice_index}
 use Rattle.dist_cert.specs.Rising.{AreRising}
 use Rattle.dist_sweep.specs.Window.{WindowView}
-use Rattle.dist_challenge.specs.Challenged.{ChallengedView}
+use Rattle.dist_challenge.specs.ChallengedPrivate.{ChallengedView}
 use Rattle.dist_challenge.specs.CoverPrivate.{AreClustersFrom, AreOpen, used_by}
 use Rattle.dist_challenge.proofs.CoverSteps.{cluster-gathered, clusters-above, gathered-open, own-passed}
 use Rattle.dist_challenge.proofs.challenged_claimant.ChallengedClaimant.candidates.Goals as goal

@@ -8,8 +8,8 @@ use Rattle.dist_sweep.specs.Asking.{AskerView}
 use Rattle.dist_sweep.specs.Claiming.{ClaimMore, ClaimStops}
 use Rattle.dist_sweep.specs.ScriptLaws.{by-exit}
 use Rattle.dist_sweep.specs.Window.{WindowView}
-use Rattle.dist_challenge.specs.Challenged.{ChallengedView, KeepsChallenged}
-use Rattle.dist_challenge.specs.ChallengePrivate.{ChallengeMore, GroupView, IsKnownGroup, SettleStops}
+use Rattle.dist_challenge.specs.ChallengedPrivate.{ChallengedView, KeepsChallenged}
+use Rattle.dist_challenge.specs.GroupPrivate.{ChallengeMore, GroupView, IsKnownGroup, SettleStops}
 use Rattle.dist_challenge.proofs.Asked.{memory-stops}
 use Rattle.dist_challenge.proofs.ChallengedSteps.{known-claimed, known-fits, known-stops, may-stand, MayChallenge}
 use Rattle.dist_challenge.proofs.challenged_claimant.ChallengedClaimant.claim.Goals as goal

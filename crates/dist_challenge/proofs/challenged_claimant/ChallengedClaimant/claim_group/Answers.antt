@@ -1,7 +1,7 @@
 use Rattle.std.proofs.lemmas.Result.{IfErr-weaker, IfOk-weaker}
 use Rattle.dist_outside.specs.DeskView.{DeskView}
 use Rattle.dist_sweep.specs.ScriptLaws.{two-grow}
-use Rattle.dist_challenge.specs.ChallengePrivate.{ChallengeMore, SettleStops}
+use Rattle.dist_challenge.specs.GroupPrivate.{ChallengeMore, SettleStops}
 use Rattle.dist_challenge.proofs.ChallengedSteps.{group-claimed}
 use Rattle.dist_challenge.proofs.SettleSteps.{settle-stops}
 use Rattle.dist_challenge.proofs.challenged_claimant.ChallengedClaimant.claim_group.Goals as goal

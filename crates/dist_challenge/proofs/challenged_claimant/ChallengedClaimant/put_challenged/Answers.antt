@@ -8,8 +8,8 @@ use Rattle.dist_space.specs.Space.{SpaceView}
 use Rattle.dist_sweep.specs.Asking.{AskerView}
 use Rattle.dist_sweep.specs.ScriptLaws.{by-exit}
 use Rattle.dist_sweep.specs.Window.{WindowView}
-use Rattle.dist_challenge.specs.Challenged.{ChallengedView}
-use Rattle.dist_challenge.specs.ChallengePrivate.{SettleStops, challenged_line}
+use Rattle.dist_challenge.specs.ChallengedPrivate.{ChallengedView}
+use Rattle.dist_challenge.specs.GroupPrivate.{SettleStops, challenged_line}
 use Rattle.dist_challenge.specs.UsedPrivate.{AreSmallPairs, pair_at}
 use Rattle.dist_challenge.proofs.Asked.{memory-stops, put-claim, put-stops}
 use Rattle.dist_challenge.proofs.ChallengedSteps.{challenged-puts, KeptBy, line-kind}

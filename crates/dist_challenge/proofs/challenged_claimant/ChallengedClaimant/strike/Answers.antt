@@ -1,6 +1,6 @@
 use Rattle.std.proofs.Common.{◌≡◌, ◌∙◌, ◌+◌, ◌-◌, ℕ, List, ap, arith, subst, sym}
 use Rattle.dist_sweep.specs.Window.{WindowView}
-use Rattle.dist_challenge.specs.Challenged.{ChallengedView}
+use Rattle.dist_challenge.specs.ChallengedPrivate.{ChallengedView}
 use Rattle.dist_challenge.specs.CoverPrivate.{IsPlan}
 use Rattle.dist_challenge.proofs.CoverSteps.{plan-passed}
 use Rattle.dist_challenge.proofs.challenged_claimant.ChallengedClaimant.strike.Goals as goal

@@ -3,7 +3,7 @@ use Rattle.std.specs.List.{All}
 use Rattle.std.proofs.lemmas.List.Elements.{All-filter}
 use Rattle.dist_cert.specs.declared.TheConstants.{REACH}
 use Rattle.dist_sweep.specs.Window.{WindowView}
-use Rattle.dist_challenge.specs.Challenged.{ChallengedView}
+use Rattle.dist_challenge.specs.ChallengedPrivate.{ChallengedView}
 use Rattle.dist_challenge.specs.CoverPrivate.{IsPlan, covered_by}
 use Rattle.dist_challenge.proofs.CoverSteps.{plan-struck}
 use Rattle.dist_challenge.proofs.challenged_claimant.ChallengedClaimant.strike_by.Goals as goal
@@ -16,12 +16,14 @@ returns-in_ok-push-clause-plan c =
     c.in_ok-left.ensures ∙ ap (λ (xs : List ℕ). filter (λ at. not (covered_by self kept c.args.number at)) xs) c.deref.ensures.value in
     let long = c.len-then-len.ensures in
     let lasts : kept.count + c.len-then-len.result < c.args.number + REACH = c.lasts.ensures c.if-lasts.true in
+    let fewer : length c.in_ok-left.left.items < length c.args.ats.now.items =
+    omega (arith, c.if-len.true, c.len.ensures, c.len-2.ensures, c.in_ok-left.left.ok.0, c.args.ats.now.ok.0) in
     let low = c.requires.kept.low in
     let few = c.len-kept.ensures.within in
     λ present own today has other plan.
     subst (λ (ns : List ℕ). IsPlan self kept present own today (c.args.number - 1) ns c.in_ok-left.left.items) (sym c.in_ok-push.ensures.items)
     (plan-struck self kept present own today c.args.number c.args.named.now.items c.args.ats.now.items c.in_ok-left.left.items c.requires.kept
-    (omega (arith, low, few)) has other (omega (arith, lasts, long, c.in_ok-left.left.ok.0)) is plan)
+    (omega (arith, low, few)) has other (omega (arith, lasts, long, c.in_ok-left.left.ok.0)) fewer is plan)
 
 pub returns-in_ok-push-clause-inside : goal.returns-in_ok-push-clause-inside
 returns-in_ok-push-clause-inside c =

@@ -16,7 +16,7 @@ use Rattle.dist_sweep.specs.ScriptLaws.{by-exit, two-grow}
 use Rattle.dist_sweep.specs.Window.{WindowView}
 use Rattle.dist_sweep.specs.declared.asker.Reply.{Reply}
 use Rattle.dist_sweep.specs.declared.asker.Reply.TheVariants as replies
-use Rattle.dist_challenge.specs.Outdated.{KeepsOutdated, OutdatedView}
+use Rattle.dist_challenge.specs.OutdatedPrivate.{KeepsOutdated, OutdatedView}
 use Rattle.dist_challenge.proofs.Asked.{ask-stops, ask-told, asked-memory, claim-behind, memory-stops, stops-behind, StopsFrom}
 use Rattle.dist_challenge.proofs.ClaimLines.{alive-kind, outdated-kind}
 use Rattle.dist_challenge.proofs.OutdatedSteps.{found-puts, KeptBy, may-stand, MayClaimOn, outdated-puts, outdated-ready, question_of, unknown-puts}

@@ -8,7 +8,7 @@ use Rattle.dist_sweep.specs.Asking.{AskerView}
 use Rattle.dist_sweep.specs.Claiming.{ClaimStops}
 use Rattle.dist_sweep.specs.ScriptLaws.{by-exit}
 use Rattle.dist_sweep.specs.Window.{WindowView}
-use Rattle.dist_challenge.specs.Outdated.{KeepsOutdated, OutdatedView}
+use Rattle.dist_challenge.specs.OutdatedPrivate.{KeepsOutdated, OutdatedView}
 use Rattle.dist_challenge.proofs.Asked.{put-claim, put-stops}
 use Rattle.dist_challenge.proofs.ClaimLines.{alive-kind}
 use Rattle.dist_challenge.proofs.OutdatedSteps.{alive-puts, KeptBy, may-stand, MayClaimOn}

@@ -1,9 +1,9 @@
-use Rattle.std.proofs.Common.{◌≡◌, ◌-◌, length, take}
-use Rattle.dist_derive.proofs.GrowingLemmas.{ReachesSoFar}
+use Rattle.std.proofs.Common.{◌-◌, length}
+use Rattle.dist_derive.proofs.ReachLemmas.{MarksSoFar}
 use Rattle.dist_derive.proofs.log.Log.mark.Given as goal
 
-abbrev pub invariant-loop : goal.invariant-loop
-invariant-loop l = ReachesSoFar (take l.inputs l.self.clauses) l.assumptions l.cone × (l.cone.variables ≡ l.self.variables)
+abbrev pub invariant-loop-index : goal.invariant-loop-index
+invariant-loop-index l = MarksSoFar l.self.clauses l.inputs l.self.variables l.index l.assumptions l.cone l.done
 
-abbrev pub decreases-loop : goal.decreases-loop
-decreases-loop l = l.cone.variables - length l.cone.members
+abbrev pub decreases-loop-index : goal.decreases-loop-index
+decreases-loop-index l = l.cone.variables - length l.cone.members

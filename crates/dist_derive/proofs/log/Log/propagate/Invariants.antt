@@ -1,9 +1,9 @@
-use Rattle.std.proofs.Common.{◌-◌, length, take}
-use Rattle.dist_derive.proofs.SweepLemmas.{PropagatesSoFar}
+use Rattle.std.proofs.Common.{◌-◌, length}
+use Rattle.dist_derive.proofs.QueueLemmas.{TakesSoFar}
 use Rattle.dist_derive.proofs.log.Log.propagate.Given as goal
 
-abbrev pub invariant-loop : goal.invariant-loop
-invariant-loop l = PropagatesSoFar (take l.last l.self.clauses) l.initial.literals l.literals
+abbrev pub invariant-loop-index : goal.invariant-loop-index
+invariant-loop-index l = TakesSoFar l.self.clauses l.last l.index l.fn.literals l.literals l.done
 
-abbrev pub decreases-loop : goal.decreases-loop
-decreases-loop l = l.literals.variables - length l.literals.literals
+abbrev pub decreases-loop-index : goal.decreases-loop-index
+decreases-loop-index l = l.literals.variables - length l.literals.literals

@@ -1,0 +1,76 @@
+//! Texts over the packages a=1, a=2 and b=1:0-3, in their order.
+use dist_list::{ListError, lists_are_exact, read_list};
+use dist_repo::Repository;
+use dist_samples::repository;
+use std::alloc::Global;
+use std::process::Abort;
+use std::test::Fail;
+
+const STANZAS: &str =
+    "Package: a\nVersion: 1\n\nPackage: a\nVersion: 2\n\nPackage: b\nVersion: 1:0-3\n";
+
+/// Whether each package is in the set that a text names, or the number of the first bad line.
+type Named = Result<[bool; 3], u64>;
+
+const ROWS: [(&str, Named); 18] = [
+    ("", Ok([false, false, false])),
+    ("a 1\n", Ok([true, false, false])),
+    // The last line needs no LF.
+    ("a 2\nb 1:0-3", Ok([false, true, true])),
+    ("a 2\na 1\n", Ok([true, true, false])),
+    // A package may stand twice, also by an equal version.
+    ("a 1\na 1\n", Ok([true, false, false])),
+    ("a 1-0\n", Ok([true, false, false])),
+    ("a 1\na 0:1\n", Ok([true, false, false])),
+    // Blank lines, spaces and tabs.
+    ("\n \t\n\ta \t 1  \n\n", Ok([true, false, false])),
+    // An unknown package, an unknown version, an epoch left out.
+    ("c 1\n", Err(1)),
+    ("a 1\na 3\n", Err(2)),
+    ("b 0-3\n", Err(1)),
+    // One word, three words, a version that is none.
+    ("a\n", Err(1)),
+    ("a 1 2\n", Err(1)),
+    ("a 1 (x)\n", Err(1)),
+    ("a 1_\n", Err(1)),
+    ("a\r 1\n", Err(1)),
+    // The first bad line counts, and blank ones do too.
+    ("\n\na 1\nc 1\nd 1\n", Err(4)),
+    ("a 1\n\nc", Err(3)),
+];
+
+/// What a text names, where there are three packages.
+fn named(alloc: Global, repository: &Repository, text: &str) -> Option<Named> {
+    if repository.len() != 3 {
+        return None;
+    }
+    match read_list(alloc, repository, text.as_bytes()) {
+        Ok(members) => Some(Ok([members.value(1), members.value(2), members.value(3)])),
+        Err(ListError::Bad(line)) => Some(Err(line)),
+        Err(ListError::NoMemory) => None,
+    }
+}
+
+fn hold(rt: &(impl Abort + AllocGlobal), repository: &Repository, rows: &[(&str, Named)]) {
+    for (text, comes) in rows {
+        assert_eq!(rt;
+            named(rt.alloc(), repository, text),
+            Some(*comes),
+            "{text:?}"
+        );
+    }
+}
+
+#[test]
+fn sets(rt: HostRuntime) -> Result<(), Fail> {
+    match repository(rt.alloc(), STANZAS) {
+        Some(repository) => hold(&rt, &repository, &ROWS),
+        None => Err("no repository")?,
+    }
+    Ok(())
+}
+
+#[test]
+fn law_holds(_rt: HostRuntime) {
+    lists_are_exact();
+}

@@ -1,0 +1,6 @@
+use Rattle.dist_future.specs.FutureHealth.{IsOneEach}
+use Rattle.dist_future_tests.proofs.assignments.assignment.Given as goal
+
+-- one truth value per variable
+abbrev pub invariant-loop-variable : goal.invariant-loop-variable
+invariant-loop-variable l = IsOneEach l.space l.members

@@ -1,6 +1,0 @@
-use Rattle.std.specs.Prelude.{◌≡◌, length}
-use Rattle.dist_library_tests.proofs.assignments.next.Given as goal
-
--- as many values as before
-abbrev pub invariant-loop-place : goal.invariant-loop-place
-invariant-loop-place l = length l.members ≡ l.variables

@@ -1,0 +1,18 @@
+//! The quick phase of a question: a guess at its answer, which nobody has to trust.
+//!
+//! Nearly all questions about an archive are settled without one conflict below a decision. So clauses are looked at only
+//! where all variables that they negate are true, a decision takes one alternative of a clause that none makes true yet, and
+//! after a few conflicts that no unit clauses explain the guess is given up. What it costs is what it touches, and what follows
+//! from the first assumption stays while the next questions have the same one.
+//!
+//! Who asks tests the guess before it leaves: a model by the clauses that its true variables are negated in, a refutation by its
+//! hints. Therefore it is proved here that each call is safe and ends, and nothing else; what is tried first may change freely.
+#![tactic(auto)]
+
+mod backward;
+mod clauses;
+mod forward;
+mod question;
+mod trail;
+
+pub use question::{Guess, Quick};

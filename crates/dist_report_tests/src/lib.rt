@@ -1,0 +1,7 @@
+//! Reports, whole, over repositories of a few stanzas. Tests alone.
+#![tactic(auto)]
+
+#[cfg(test)]
+mod claim_reports;
+#[cfg(test)]
+mod reports;

@@ -1,0 +1,16 @@
+//! What is answered of small repositories: matches, conflicts, providers, health, the clauses of the present, clusters and classes.
+//! Tests alone.
+#![tactic(auto)]
+
+#[cfg(test)]
+mod builder;
+#[cfg(test)]
+mod classes;
+#[cfg(test)]
+mod clusters;
+#[cfg(test)]
+mod health;
+#[cfg(test)]
+mod present_clauses;
+#[cfg(test)]
+mod repositories;

@@ -1,0 +1,393 @@
+//! Questions at worked rows and limits, and small clause sets compared with trying all assignments.
+ghost use Rattle.std.specs.Prelude.{◌≡◌, ◌≤◌, length, IfSome};
+ghost use Rattle.dist_clause.specs.Formula.{IsClauseOver};
+
+use dist_clause::{Assignment, ClauseSet, Lit};
+use dist_derive::Scratch;
+use dist_samples::{add, clause, push, push_all};
+use dist_solver::{Answer, AskError, Solver};
+use std::alloc::Global;
+use std::process::Abort;
+
+/// Clauses over 21 variables, and groups of numbers of each of which at most one is true.
+type Puzzle = (&'static [&'static [i32]], &'static [&'static [i32]]);
+
+/// One conflict with the first variable.
+const CONFLICT: Puzzle = (&[&[-1, 2], &[-1, -2]], &[]);
+
+/// All four clauses over two variables.
+const FOUR: Puzzle = (&[&[1, 2], &[1, -2], &[-1, 2], &[-1, -2]], &[]);
+
+/// One variable leads to the next, and the last excludes the first.
+const CHAIN: Puzzle = (&[&[-1, 2], &[-2, 3], &[-3, -1]], &[]);
+
+/// An odd number of three variables is true.
+const ODD: Puzzle = (&[&[1, 2, 3], &[1, -2, -3], &[-1, 2, -3], &[-1, -2, 3]], &[]);
+
+/// Exactly one of three variables is true.
+const ONE: Puzzle = (&[&[1, 2, 3]], &[&[1, 2, 3]]);
+
+/// No clause at all.
+const NOTHING: Puzzle = (&[], &[]);
+
+/// Four pigeons, each in one of three holes, no two in one.
+const PIGEONS: Puzzle = (
+    &[&[1, 5, 9], &[2, 6, 10], &[3, 7, 11], &[4, 8, 12]],
+    &[&[1, 2, 3, 4], &[5, 6, 7, 8], &[9, 10, 11, 12]],
+);
+
+/// A package, variable 21, with five dependencies, each met by one of four, of which no two of one kind stand together.
+const CROWDED: Puzzle = (
+    &[
+        &[-21, 1, 6, 11, 16],
+        &[-21, 2, 7, 12, 17],
+        &[-21, 3, 8, 13, 18],
+        &[-21, 4, 9, 14, 19],
+        &[-21, 5, 10, 15, 20],
+    ],
+    &[
+        &[1, 2, 3, 4, 5],
+        &[6, 7, 8, 9, 10],
+        &[11, 12, 13, 14, 15],
+        &[16, 17, 18, 19, 20],
+    ],
+);
+
+/// Adds that a number is not true together with another one.
+fn exclude(alloc: Global, set: &mut ClauseSet, number: i32, others: &[i32]) -> bool
+    requires { set.old.variables ≡ 21 }
+    ensures { set.new.variables ≡ 21 }
+{
+    for other in others {
+        let pair = [other.wrapping_neg(), number.wrapping_neg()];
+        if push(alloc, set, &pair) != Some(Ok(())) {
+            return false;
+        }
+    }
+    true
+}
+
+/// Adds that of the numbers at most one is true.
+fn keep_apart(alloc: Global, set: &mut ClauseSet, group: &[i32]) -> bool
+    requires { set.old.variables ≡ 21 }
+    ensures { set.new.variables ≡ 21 }
+{
+    for place in 1..group.len() {
+        if !exclude(alloc, set, group[place], &group[..place]) {
+            return false;
+        }
+    }
+    true
+}
+
+/// Adds of each group of numbers that at most one is true.
+fn keep_all_apart(alloc: Global, set: &mut ClauseSet, groups: &[&[i32]]) -> bool
+    requires { set.old.variables ≡ 21 }
+    ensures { set.new.variables ≡ 21 }
+{
+    for group in groups {
+        if !keep_apart(alloc, set, group) {
+            return false;
+        }
+    }
+    true
+}
+
+/// The clauses of a puzzle.
+fn clauses_of(alloc: Global, puzzle: &Puzzle) -> Option<ClauseSet>
+    ensures { IfSome result (λ s. s.variables ≡ 21) }
+{
+    let mut set = ClauseSet::new(alloc, 21, 100, 1000);
+    if push_all(alloc, &mut set, puzzle.0) && keep_all_apart(alloc, &mut set, puzzle.1) {
+        Some(set)
+    } else {
+        None
+    }
+}
+
+/// A solver of a puzzle.
+fn solver_of(alloc: Global, puzzle: &Puzzle, lines: u32, literals: u32) -> Option<Solver>
+    requires lines { lines ≤ 1000 }
+    requires literals { literals ≤ 10000 }
+    ensures { IfSome result (λ s. s.log.variables ≡ 21) }
+{
+    Solver::new(alloc, clauses_of(alloc, puzzle)?, lines, literals).ok()
+}
+
+/// What a question came to.
+#[derive(Clone, Copy, Debug, PartialEq, Eq)]
+enum Seen {
+    Found,
+    Refuted,
+    /// Hints that do not refute the assumptions.
+    NotRefuted,
+    Undecided,
+    Refused(AskError),
+}
+
+/// The clause of the negated assumptions.
+fn negated(alloc: Global, assumptions: &[Lit]) -> Option<Vec<Lit>>
+    ensures { IfSome result (λ c. IsClauseOver 21 c.items) }
+{
+    let mut negated = Vec::new(alloc);
+    for literal in assumptions {
+        if !add(&mut negated, 21, literal.variable(), !literal.positive()) {
+            return None;
+        }
+    }
+    Some(negated)
+}
+
+/// Whether hints refute assumptions.
+fn refuted(alloc: Global, solver: &Solver, assumptions: &[Lit], hints: &[u32]) -> Option<Seen>
+    requires { solver.now.log.variables ≡ 21 }
+{
+    let mut scratch = Scratch::new(alloc, 21).ok()?;
+    let negated = negated(alloc, assumptions)?;
+    if solver.log().follows(&mut scratch, &negated, hints) {
+        Some(Seen::Refuted)
+    } else {
+        Some(Seen::NotRefuted)
+    }
+}
+
+/// What an answer comes to.
+fn seen_of(
+    alloc: Global,
+    solver: &Solver,
+    assumptions: &[Lit],
+    answer: &Result<Answer, AskError>,
+) -> Option<Seen>
+    requires { solver.now.log.variables ≡ 21 }
+{
+    match answer {
+        Ok(Answer::Found(_)) => Some(Seen::Found),
+        Ok(Answer::Refuted(hints)) => refuted(alloc, solver, assumptions, hints.as_slice()),
+        Ok(Answer::Undecided) => Some(Seen::Undecided),
+        Err(error) => Some(Seen::Refused(*error)),
+    }
+}
+
+/// What a question under one assumption, or under none for 0, comes to.
+fn put(alloc: Global, solver: &mut Solver, assumption: i32, limit: u32) -> Option<Seen>
+    requires variables { solver.old.log.variables ≡ 21 }
+    requires limit { 1 ≤ limit }
+    ensures { solver.new.log.variables ≡ 21 }
+{
+    let assumed = clause(alloc, 21, &[assumption])?;
+    let answer = solver.ask(&assumed, limit);
+    seen_of(alloc, solver, &assumed, &answer)
+}
+
+/// Whether a question about the second variable finds it true, and the first one false.
+fn finds_the_second(alloc: Global) -> Option<bool> {
+    let mut solver = solver_of(alloc, &CONFLICT, 9, 99)?;
+    let assumed = clause(alloc, 21, &[2])?;
+    match solver.ask(&assumed, 1) {
+        Ok(Answer::Found(values)) => Some(!values.value(1) && values.value(2)),
+        _ => None,
+    }
+}
+
+#[test]
+fn a_model_is_found(rt: HostRuntime) {
+    assert_eq!(rt; finds_the_second(rt.alloc()), Some(true));
+}
+
+/// A puzzle, the most lines and literals of a solver, one assumption or 0 for none, a limit, what the question comes to, and
+/// how many lines it adds, where that is told.
+type Asked = (Puzzle, u32, u32, i32, u32, Seen, Option<usize>);
+
+const FULL: Seen = Seen::Refused(AskError::TooManyLines);
+
+const LONG: Seen = Seen::Refused(AskError::TooManyLiterals);
+
+const ASKED: [Asked; 11] = [
+    (CONFLICT, 9, 99, 2, 1, Seen::Found, Some(0)),
+    (CONFLICT, 9, 99, 1, 1, Seen::Refuted, Some(0)),
+    (CROWDED, 9, 99, 21, 1, Seen::Undecided, Some(1)),
+    (CROWDED, 0, 99, 21, 1, FULL, Some(0)),
+    (CROWDED, 1, 0, 21, 1, LONG, Some(0)),
+    (CROWDED, 2, 99, 21, 5, FULL, Some(2)),
+    (PIGEONS, 9, 99, 0, 1, Seen::Undecided, Some(1)),
+    (PIGEONS, 9, 99, 0, 2, Seen::Undecided, Some(2)),
+    // Enough lines decide.
+    (FOUR, 1000, 10000, 0, 10, Seen::Refuted, None),
+    (PIGEONS, 1000, 10000, 0, 10000, Seen::Refuted, None),
+    (CROWDED, 1000, 10000, 21, 10000, Seen::Refuted, None),
+];
+
+/// Whether a question comes to what its row says.
+fn is_answered(alloc: Global, row: &Asked) -> Option<bool> {
+    let (puzzle, lines, literals, assumption, limit, seen, added) = *row;
+    if lines > 1000 || literals > 10000 || limit == 0 {
+        return None;
+    }
+    let mut solver = solver_of(alloc, &puzzle, lines, literals)?;
+    let before = solver.log().len() as usize;
+    let found = put(alloc, &mut solver, assumption, limit)?;
+    let count = solver.derived().len();
+    let grown = solver.log().len() as usize == before.saturating_add(count);
+    Some(found == seen && added.unwrap_or(count) == count && grown)
+}
+
+fn hold_asked(rt: &(impl Abort + AllocGlobal), rows: &[Asked]) {
+    for (number, row) in rows.iter().enumerate() {
+        assert_eq!(rt; is_answered(rt.alloc(), row), Some(true), "row {number}");
+    }
+}
+
+#[test]
+fn questions_have_their_answers(rt: HostRuntime) {
+    hold_asked(&rt, &ASKED);
+}
+
+/// One assumption or 0 for none, a limit, and what the question comes to.
+type Turn = (i32, u32, Seen);
+
+/// Questions to one solver of the crowded package: the same again, another one between, the same after lines were added.
+const TURNS: [Turn; 7] = [
+    (21, 1, Seen::Undecided),
+    (21, 1, Seen::Undecided),
+    (1, 1, Seen::Found),
+    (21, 10000, Seen::Refuted),
+    (21, 1, Seen::Refuted),
+    (-21, 1, Seen::Found),
+    (0, 1, Seen::Found),
+];
+
+/// Questions to a solver that may add two lines.
+const SHORT_TURNS: [Turn; 4] = [
+    (21, 5, FULL),
+    (21, 5, FULL),
+    (1, 1, Seen::Found),
+    (21, 5, FULL),
+];
+
+/// Whether questions to one solver come to what they say, one after another.
+fn are_answered(alloc: Global, lines: u32, turns: &[Turn]) -> Option<bool>
+    requires { lines ≤ 1000 }
+{
+    let mut solver = solver_of(alloc, &CROWDED, lines, 10000)?;
+    for (assumption, limit, seen) in turns {
+        if *limit == 0 || put(alloc, &mut solver, *assumption, *limit)? != *seen {
+            return Some(false);
+        }
+    }
+    Some(true)
+}
+
+#[test]
+fn questions_in_turn_have_their_answers(rt: HostRuntime) {
+    assert_eq!(rt; are_answered(rt.alloc(), 1000, &TURNS), Some(true));
+    assert_eq!(rt; are_answered(rt.alloc(), 2, &SHORT_TURNS), Some(true));
+}
+
+/// Whether one of the assignments of the first three variables is a model in which the literals are true.
+fn is_possible(alloc: Global, clauses: &ClauseSet, literals: &[Lit]) -> Option<bool>
+    requires clauses { clauses.now.variables ≡ 21 }
+    requires literals { IsClauseOver 21 literals.now }
+{
+    let mut values = Assignment::new(alloc, 21).ok()?;
+    for bits in 0..8u32 {
+        values.set(1, bits & 1 != 0);
+        values.set(2, bits & 2 != 0);
+        values.set(3, bits & 4 != 0);
+        if values.holds(clauses) && are_true(&values, literals) {
+            return Some(true);
+        }
+    }
+    Some(false)
+}
+
+/// Whether all literals are true.
+fn are_true(values: &Assignment, literals: &[Lit]) -> bool
+    requires values { length values.now ≡ 21 }
+    requires literals { IsClauseOver 21 literals.now }
+{
+    literals
+        .iter()
+        .all(|l| values.value(l.variable()) == l.positive())
+}
+
+/// Whether the answer under assumptions is what trying all assignments gives.
+fn agrees(alloc: Global, clauses: &ClauseSet, solver: &mut Solver, numbers: &[i32]) -> Option<bool>
+    requires clauses { clauses.now.variables ≡ 21 }
+    requires solver { solver.old.log.variables ≡ 21 }
+    ensures { solver.new.log.variables ≡ 21 }
+{
+    let assumptions = clause(alloc, 21, numbers)?;
+    let possible = is_possible(alloc, clauses, &assumptions)?;
+    let answer = solver.ask(&assumptions, 10000);
+    if let Ok(Answer::Found(values)) = &answer {
+        return Some(possible && values.holds(clauses) && are_true(values, &assumptions));
+    }
+    let seen = seen_of(alloc, solver, &assumptions, &answer)?;
+    Some(!possible && seen == Seen::Refuted)
+}
+
+/// Whether a solver answers all 27 lists of assumptions on three variables as trying all assignments does.
+fn agrees_always(alloc: Global, clauses: &ClauseSet, solver: &mut Solver) -> Option<bool>
+    requires clauses { clauses.now.variables ≡ 21 }
+    requires solver { solver.old.log.variables ≡ 21 }
+{
+    let signs = [0, 1, -1i32];
+    for code in 0..27usize {
+        let first = signs[code % 3];
+        let second = signs[code / 3 % 3].wrapping_mul(2);
+        let third = signs[code / 9 % 3].wrapping_mul(3);
+        if !agrees(alloc, clauses, solver, &[first, second, third])? {
+            return Some(false);
+        }
+    }
+    Some(true)
+}
+
+/// Whether a solver of a puzzle answers as trying all assignments does.
+fn is_agreed(alloc: Global, puzzle: &Puzzle) -> Option<bool> {
+    let clauses = clauses_of(alloc, puzzle)?;
+    let mut solver = solver_of(alloc, puzzle, 1000, 10000)?;
+    agrees_always(alloc, &clauses, &mut solver)
+}
+
+const SMALL: [Puzzle; 6] = [CONFLICT, FOUR, CHAIN, ODD, ONE, NOTHING];
+
+fn hold_small(rt: &(impl Abort + AllocGlobal), puzzles: &[Puzzle]) {
+    for (number, puzzle) in puzzles.iter().enumerate() {
+        assert_eq!(rt;
+            is_agreed(rt.alloc(), puzzle),
+            Some(true),
+            "puzzle {number}"
+        );
+    }
+}
+
+#[test]
+fn small_sets_are_answered_as_by_trying_all(rt: HostRuntime) {
+    hold_small(&rt, &SMALL);
+}
+
+/// Whether the question added one line alone, with the number 5 and hints among the four clauses by which it follows.
+fn has_added(alloc: Global, solver: &Solver) -> Option<bool> {
+    let derived = solver.derived();
+    let log = solver.log();
+    if derived.len() != 1 || log.len() != 5 || derived.line(0) != 5 {
+        return Some(false);
+    }
+    let mut scratch = Scratch::new(alloc, log.variables()).ok()?;
+    let hints = derived.hints(0);
+    let of_four = hints.iter().all(|number| *number <= 4);
+    Some(of_four && log.follows(&mut scratch, log.clause(5), hints))
+}
+
+/// Whether a question with the limit of one line adds that line, of a solver of the four clauses.
+fn adds_the_line(alloc: Global) -> Option<bool> {
+    let mut solver = solver_of(alloc, &FOUR, 10, 10)?;
+    let seen = put(alloc, &mut solver, 0, 1)?;
+    Some(seen == Seen::Undecided && has_added(alloc, &solver)?)
+}
+
+#[test]
+fn a_derived_line_has_its_number_and_hints(rt: HostRuntime) {
+    assert_eq!(rt; adds_the_line(rt.alloc()), Some(true));
+}

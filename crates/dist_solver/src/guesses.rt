@@ -1,0 +1,149 @@
+//! The searches that guess, and how their guesses become answers.
+
+ghost use Rattle.std.specs.Prelude.{◌≡◌, IfOk, IfSome};
+ghost use Rattle.dist_clause.specs.Formula.{IsClauseOver};
+ghost use Rattle.dist_derive.specs.Follows.{EachLineFollows};
+ghost use Rattle.dist_solver.specs.DescentPrivate.{IsShown, IsEnd};
+
+use crate::answers::Answer;
+use crate::descent::Descent;
+use crate::tested::Tests;
+use dist_clause::Lit;
+use dist_derive::Log;
+use dist_quick::{Guess, Quick};
+use dist_watched::{Turn, Watched};
+use std::alloc::{AllocError, Global};
+use std::marker::Model;
+
+/// What guesses at answers, and tests the guesses.
+#[derive(Debug, Drop)]
+pub(crate) struct Guesses {
+    quick: Quick,
+    watched: Watched,
+    /// Whether the watched search stands where this question's last line left it.
+    stands: bool,
+    tests: Tests,
+}
+
+impl Model for Guesses {
+    ghost use Rattle.std.specs.Prelude.{ℕ};
+
+    ghost Value = { ℕ };
+
+    ghost view = { λ a. a.tests };
+}
+
+impl Guesses {
+    /// Room for logs of so many variables.
+    pub(crate) fn new(alloc: Global, variables: u32) -> Result<Guesses, AllocError>
+        ensures { IfOk result (λ guesses. guesses ≡ variables) }
+    {
+        let quick = Quick::new(alloc, variables)?;
+        let tests = Tests::new(alloc, variables)?;
+        Ok(Guesses {
+            quick,
+            watched: Watched::new(alloc, variables),
+            stands: false,
+            tests,
+        })
+    }
+
+    /// The answer that the quick phase guesses, where it passes its test.
+    pub(crate) fn first(
+        &mut self,
+        alloc: Global,
+        log: &Log,
+        assumptions: &[Lit],
+    ) -> Result<Option<Answer>, AllocError>
+        requires same_variables { self.old ≡ log.now.variables }
+        requires assumptions { IsClauseOver log.now.variables assumptions.now }
+        requires lines_follow { EachLineFollows log.now.inputs log.now.clauses }
+        ensures shown { IfOk result (λ r. IfSome r (IsShown log.now assumptions.now)) }
+        ensures same_variables { self.new ≡ self.old }
+    {
+        match self.quick.ask(log, assumptions)? {
+            Guess::Model => {
+                let model = self
+                    .tests
+                    .model(alloc, log, assumptions, self.quick.trues())?;
+                Ok(model.map(Answer::Found))
+            }
+            Guess::Refutation => {
+                let hints = self
+                    .tests
+                    .refutation(alloc, log, assumptions, self.quick.hints())?;
+                Ok(hints.map(Answer::Refuted))
+            }
+            Guess::Nothing => Ok(None),
+        }
+    }
+
+    /// The next end that the search by watched literals guesses, where it passes its test. The cone is given by its variables.
+    pub(crate) fn next(
+        &mut self,
+        alloc: Global,
+        log: &Log,
+        cone: &[u32],
+        assumptions: &[Lit],
+    ) -> Result<Option<Descent>, AllocError>
+        requires same_variables { self.old ≡ log.now.variables }
+        requires assumptions { IsClauseOver log.now.variables assumptions.now }
+        requires lines_follow { EachLineFollows log.now.inputs log.now.clauses }
+        ensures ends { IfOk result (λ r. IfSome r (IsEnd log.now assumptions.now)) }
+        ensures same_variables { self.new ≡ self.old }
+    {
+        if !self.stands {
+            self.watched.start(log, cone, assumptions)?;
+        }
+        let turn = self.watched.go()?;
+        let end = self.tested(alloc, log, assumptions, turn)?;
+        self.stands = end.is_some();
+        Ok(end)
+    }
+
+    /// What the search by watched literals came to, where it passes its test.
+    fn tested(
+        &mut self,
+        alloc: Global,
+        log: &Log,
+        assumptions: &[Lit],
+        turn: Turn,
+    ) -> Result<Option<Descent>, AllocError>
+        requires same_variables { self.old ≡ log.now.variables }
+        requires assumptions { IsClauseOver log.now.variables assumptions.now }
+        requires lines_follow { EachLineFollows log.now.inputs log.now.clauses }
+        ensures ends { IfOk result (λ r. IfSome r (IsEnd log.now assumptions.now)) }
+        ensures same_variables { self.new ≡ self.old }
+    {
+        let hints = self.watched.hints();
+        match turn {
+            Turn::Model => {
+                let trues = self.watched.trues();
+                let model = self.tests.model(alloc, log, assumptions, trues)?;
+                Ok(model.map(Descent::Model))
+            }
+            Turn::Refutation => {
+                let hints = self.tests.refutation(alloc, log, assumptions, hints)?;
+                Ok(hints.map(Descent::Refutation))
+            }
+            Turn::Lesson => self
+                .tests
+                .lesson(alloc, log, assumptions, self.watched.clause(), hints),
+            Turn::Nothing => Ok(None),
+        }
+    }
+
+    /// The last lesson became the log's last clause, which has this number. Without memory for it the search begins anew.
+    pub(crate) fn learned(&mut self, number: u32)
+        ensures { self.new ≡ self.old }
+    {
+        self.stands = self.stands && self.watched.learned(number).is_ok();
+    }
+
+    /// Another question begins.
+    pub(crate) fn turn_to_another(&mut self)
+        ensures { self.new ≡ self.old }
+    {
+        self.stands = false;
+    }
+}

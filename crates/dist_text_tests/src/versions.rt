@@ -1,0 +1,334 @@
+//! Values from outside: the order as `dpkg --compare-versions` answers it (1.21.22), and refusals by the grammar.
+use dist_version::{
+    Version, VersionError, equal_is_neither_below, order_is_total, rebuilds_are_taken_off,
+    texts_are_exact, versions_are_dense, weights_decide,
+};
+use std::alloc::Global;
+use std::cmp::Ordering;
+use std::process::Abort;
+
+/// Two versions, and the order of the first to the second.
+type Pair = (&'static str, Ordering, &'static str);
+
+const ORDER: [Pair; 89] = [
+    ("1.0~~", Ordering::Less, "1.0~"),
+    ("1.0~", Ordering::Less, "1.0"),
+    ("1.0", Ordering::Equal, "1.0-0"),
+    ("1.0", Ordering::Less, "1.0a"),
+    ("1.0a", Ordering::Less, "1.0+"),
+    ("1.9", Ordering::Less, "1.10"),
+    ("0:1", Ordering::Equal, "1"),
+    ("9", Ordering::Less, "1:0"),
+    ("007", Ordering::Equal, "7"),
+    (
+        "999999999999999999999999999999999999999",
+        Ordering::Less,
+        "1000000000000000000000000000000000000000",
+    ),
+    ("0", Ordering::Equal, "0-0"),
+    ("0-0", Ordering::Equal, "0-00"),
+    ("0~", Ordering::Less, "0"),
+    ("0-0~", Ordering::Less, "0"),
+    ("0-~", Ordering::Less, "0-0"),
+    ("0-~", Ordering::Less, "0"),
+    ("1-~a", Ordering::Less, "1-a"),
+    ("1-1", Ordering::Greater, "1-1~"),
+    ("1-1~", Ordering::Greater, "1-1~~"),
+    ("1~rc1-1", Ordering::Less, "1-0"),
+    ("1.0~rc1", Ordering::Less, "1.0~rc2"),
+    ("1.0~rc1", Ordering::Greater, "1.0~beta"),
+    ("1.0~a", Ordering::Less, "1.0~+"),
+    ("1.0~", Ordering::Less, "1.0~a"),
+    ("a", Ordering::Less, "b"),
+    ("a", Ordering::Less, "+"),
+    ("a", Ordering::Less, "."),
+    ("z", Ordering::Less, "+"),
+    ("Z", Ordering::Less, "a"),
+    ("A", Ordering::Less, "a"),
+    ("1a", Ordering::Less, "1."),
+    ("1.", Ordering::Greater, "1+"),
+    ("1+", Ordering::Greater, "1-1"),
+    ("1.a", Ordering::Less, "1.+"),
+    ("+", Ordering::Less, "."),
+    ("1.0-1", Ordering::Less, "1.0-1.1"),
+    ("1.0-1", Ordering::Less, "1.0-1+b1"),
+    ("1.0-1+b1", Ordering::Less, "1.0-1+b2"),
+    ("1.0-1+b9", Ordering::Less, "1.0-1+b10"),
+    ("1.0-1", Ordering::Greater, "1.0-1~bpo12+1"),
+    ("1.0-1~bpo12+1", Ordering::Greater, "1.0-1~bpo11+1"),
+    ("2:1", Ordering::Less, "10:0"),
+    ("00:1", Ordering::Equal, "1"),
+    ("1:1", Ordering::Equal, "01:1"),
+    ("1:1", Ordering::Equal, "1:1-0"),
+    ("0:0", Ordering::Equal, "0"),
+    ("2147483647:1", Ordering::Greater, "0:9"),
+    ("2147483647:1", Ordering::Greater, "2147483646:2"),
+    ("1:1:1", Ordering::Greater, "1:1.1"),
+    ("1:1:0", Ordering::Equal, "1:1:00"),
+    ("1:a:1", Ordering::Greater, "1:a1"),
+    ("1.00", Ordering::Equal, "1.0"),
+    ("1.01", Ordering::Equal, "1.1"),
+    ("1.010", Ordering::Equal, "1.10"),
+    ("1.0", Ordering::Greater, "1"),
+    ("1.", Ordering::Greater, "1"),
+    ("1.a", Ordering::Greater, "1.0a"),
+    ("1.0.0", Ordering::Greater, "1.0"),
+    ("1..0", Ordering::Greater, "1.0"),
+    ("1.2.3-4-5", Ordering::Less, "1.2.3-4-6"),
+    ("1-2-3", Ordering::Greater, "1-2"),
+    ("1-2", Ordering::Less, "1-2-0"),
+    ("1-0", Ordering::Less, "1-0-0"),
+    ("10", Ordering::Greater, "9"),
+    ("010", Ordering::Greater, "9"),
+    ("1a2", Ordering::Less, "1a10"),
+    ("1a02", Ordering::Equal, "1a2"),
+    ("a1", Ordering::Greater, "a~1"),
+    ("a", Ordering::Greater, "a~"),
+    ("a0", Ordering::Equal, "a"),
+    ("a00", Ordering::Equal, "a0"),
+    ("a-0", Ordering::Equal, "a"),
+    ("~", Ordering::Less, "0"),
+    ("~", Ordering::Less, "a"),
+    ("~~", Ordering::Less, "~"),
+    ("~1", Ordering::Greater, "~"),
+    ("1.0+dfsg", Ordering::Greater, "1.0"),
+    ("1.0+dfsg-1", Ordering::Greater, "1.0-1"),
+    ("1.0+dfsg", Ordering::Less, "1.0.1"),
+    ("1.0+dfsg", Ordering::Greater, "1.0a"),
+    ("1.18.36ubuntu0~3", Ordering::Less, "1.18.36ubuntu0"),
+    ("20080514-1", Ordering::Less, "20080514.1-1"),
+    ("1.3.dfsg-12", Ordering::Less, "1.3.dfsg.1-1"),
+    ("4.0~pre1", Ordering::Less, "4.0"),
+    ("3.0.0~20200101", Ordering::Greater, "3.0.0~20191231"),
+    ("0-0-0", Ordering::Greater, "0-0"),
+    ("1-1.", Ordering::Greater, "1-1"),
+    ("1-a", Ordering::Greater, "1-1"),
+    ("1-.", Ordering::Greater, "1-a"),
+];
+
+/// The version of a text that is one.
+fn read(alloc: Global, text: &str) -> Option<Version> {
+    Version::read(alloc, text.as_bytes()).ok()
+}
+
+/// The order of two versions, where both ways agree.
+fn agreed_order(first: &Version, second: &Version) -> Option<Ordering> {
+    let order = first.compare(second);
+    if second.compare(first) == order.reverse() {
+        Some(order)
+    } else {
+        None
+    }
+}
+
+/// The order of a version to that of a text, where both ways agree.
+fn order_to(alloc: Global, first: &Version, second: &str) -> Option<Ordering> {
+    agreed_order(first, &read(alloc, second)?)
+}
+
+/// The order of the versions of two texts, where both ways agree.
+fn order_of(alloc: Global, first: &str, second: &str) -> Option<Ordering> {
+    order_to(alloc, &read(alloc, first)?, second)
+}
+
+fn hold_order(rt: &(impl Abort + AllocGlobal), pairs: &[Pair]) {
+    for (first, order, second) in pairs {
+        let found = order_of(rt.alloc(), first, second);
+        assert_eq!(rt; found, Some(*order), "{first} and {second}");
+    }
+}
+
+#[test]
+fn compares_as_dpkg_does(rt: HostRuntime) {
+    hold_order(&rt, &ORDER);
+}
+
+/// A text, and its first fault.
+type Faulty = (&'static str, VersionError);
+
+const FAULTY: [Faulty; 22] = [
+    ("", VersionError::Empty),
+    (":", VersionError::BadEpoch),
+    (":1", VersionError::BadEpoch),
+    ("a:1", VersionError::BadEpoch),
+    ("1 :", VersionError::BadEpoch),
+    ("-1:", VersionError::BadEpoch),
+    ("99999999999999999999x:", VersionError::BadEpoch),
+    ("2147483648:1", VersionError::EpochTooLarge),
+    ("18446744073709551617:-", VersionError::EpochTooLarge),
+    ("1:", VersionError::EmptyUpstream),
+    ("-1", VersionError::EmptyUpstream),
+    ("-", VersionError::EmptyUpstream),
+    ("1:-_", VersionError::EmptyUpstream),
+    ("1-", VersionError::EmptyRevision),
+    ("1_-", VersionError::EmptyRevision),
+    ("1_2", VersionError::BadByte(1)),
+    ("0:1_2-_", VersionError::BadByte(3)),
+    ("1-2-3_", VersionError::BadByte(5)),
+    ("1-2:", VersionError::BadEpoch),
+    ("1:1-2:3", VersionError::BadByte(5)),
+    (" 1", VersionError::BadByte(0)),
+    ("1\u{e9}", VersionError::BadByte(1)),
+];
+
+/// The first fault of a text.
+fn refusal_of(alloc: Global, text: &str) -> Option<VersionError> {
+    Version::read(alloc, text.as_bytes()).err()
+}
+
+fn hold_faults(rt: &(impl Abort + AllocGlobal), rows: &[Faulty]) {
+    for (text, fault) in rows {
+        assert_eq!(rt; refusal_of(rt.alloc(), text), Some(*fault), "{text}");
+    }
+}
+
+#[test]
+fn refuses_by_the_first_fault(rt: HostRuntime) {
+    hold_faults(&rt, &FAULTY);
+}
+
+/// A text, and its epoch, its upstream version and its revision, where it has one.
+type Spelled = (&'static str, u32, &'static str, Option<&'static str>);
+
+const SPELLED: [Spelled; 2] = [
+    ("02147483647:1:0-1-3+b1", 2147483647, "1:0-1", Some("3+b1")),
+    ("~", 0, "~", None),
+];
+
+/// Whether a version has a row's text and parts.
+fn is_spelled(version: &Version, row: &Spelled) -> bool {
+    let (text, epoch, upstream, revision) = *row;
+    version.text() == text.as_bytes()
+        && version.epoch() == epoch
+        && version.upstream() == upstream.as_bytes()
+        && version.revision().is_some() == revision.is_some()
+        && version.revision().unwrap_or(b"") == revision.unwrap_or("").as_bytes()
+}
+
+/// Whether a version and its copy have a row's text and parts, and are one in both orders.
+fn is_kept(version: &Version, row: &Spelled) -> Option<bool> {
+    let copy = version.try_clone().ok()?;
+    Some(
+        is_spelled(version, row)
+            && is_spelled(&copy, row)
+            && copy == *version
+            && copy.compare(version) == Ordering::Equal,
+    )
+}
+
+/// Whether the version of a row's text is as the row says.
+fn is_read(alloc: Global, row: &Spelled) -> Option<bool> {
+    is_kept(&read(alloc, row.0)?, row)
+}
+
+fn hold_spelled(rt: &(impl Abort + AllocGlobal), rows: &[Spelled]) {
+    for row in rows {
+        assert_eq!(rt; is_read(rt.alloc(), row), Some(true), "{}", row.0);
+    }
+}
+
+#[test]
+fn keeps_text_and_parts(rt: HostRuntime) {
+    hold_spelled(&rt, &SPELLED);
+}
+
+/// Two texts, and whether they are the same bytes.
+type Same = (&'static str, &'static str, bool);
+
+const SAME: [Same; 2] = [("1.0", "1.0", true), ("1.0", "1.0-0", false)];
+
+/// Whether a version has the same text as that of a text.
+fn is_same(alloc: Global, first: &Version, second: &str) -> Option<bool> {
+    Some(*first == read(alloc, second)?)
+}
+
+/// Whether the versions of two texts have the same text.
+fn are_same(alloc: Global, first: &str, second: &str) -> Option<bool> {
+    is_same(alloc, &read(alloc, first)?, second)
+}
+
+fn hold_same(rt: &(impl Abort + AllocGlobal), rows: &[Same]) {
+    for (first, second, same) in rows {
+        let found = are_same(rt.alloc(), first, second);
+        assert_eq!(rt; found, Some(*same), "{first} and {second}");
+    }
+}
+
+#[test]
+fn equal_texts_are_the_same_bytes(rt: HostRuntime) {
+    hold_same(&rt, &SAME);
+}
+
+/// How a version is made of another one.
+#[derive(Clone, Copy)]
+enum Way {
+    After(usize),
+    Below,
+    WithoutRebuild,
+}
+
+/// A version's text, a way, and the text of the version that is made, where one is.
+type Made = (&'static str, Way, Option<&'static str>);
+
+const BETWEEN: [Made; 4] = [
+    ("1", Way::After(4), Some("1-0A~~~~")),
+    ("1-0A", Way::After(4), Some("1-0A0A~~~~")),
+    ("1", Way::After(usize::MAX), None),
+    ("1", Way::Below, Some("~~")),
+];
+
+const REBUILDS: [Made; 3] = [
+    ("1-2+b3", Way::WithoutRebuild, Some("1-2")),
+    ("1+b2+b3", Way::WithoutRebuild, Some("1+b2")),
+    ("1+b", Way::WithoutRebuild, Some("1+b")),
+];
+
+/// The version that is made of another one.
+fn made(version: &Version, way: Way) -> Option<Version> {
+    match way {
+        Way::After(tildes) => version.after(tildes).ok(),
+        Way::Below => version.below().ok(),
+        Way::WithoutRebuild => version.without_rebuild().ok(),
+    }
+}
+
+/// Whether a version has this text, or is missing where none is given.
+fn has_text(version: &Option<Version>, text: Option<&str>) -> bool {
+    match (version, text) {
+        (Some(version), Some(text)) => version.text() == text.as_bytes(),
+        (None, None) => true,
+        _ => false,
+    }
+}
+
+/// Whether what is made of the version of a row's text is as the row says.
+fn is_made(alloc: Global, row: &Made) -> Option<bool> {
+    let (text, way, expected) = *row;
+    Some(has_text(&made(&read(alloc, text)?, way), expected))
+}
+
+fn hold_made(rt: &(impl Abort + AllocGlobal), rows: &[Made]) {
+    for row in rows {
+        assert_eq!(rt; is_made(rt.alloc(), row), Some(true), "{}", row.0);
+    }
+}
+
+#[test]
+fn finds_versions_in_between(rt: HostRuntime) {
+    hold_made(&rt, &BETWEEN);
+}
+
+#[test]
+fn takes_rebuilds_off(rt: HostRuntime) {
+    hold_made(&rt, &REBUILDS);
+}
+
+#[test]
+fn the_laws_hold() {
+    texts_are_exact();
+    weights_decide();
+    order_is_total();
+    equal_is_neither_below();
+    versions_are_dense();
+    rebuilds_are_taken_off();
+}

@@ -1,0 +1,376 @@
+//! Worked rows of `outdated` and `challenged`, and of `check` on what they write.
+use dist_app::Status;
+use dist_outside::What;
+use dist_samples::{LIBRARY, PYTHON};
+use dist_top_rows::{After, EMPTY, Row, Table, first_wrong};
+use std::test::Fail;
+
+/// Two packages of one source, and one that needs versions of both which no later archive has together.
+const OUTDATED: Row = Row {
+    words: &["outdated", "packages", "cert"],
+    packages: "Package: a
+Version: 1
+Source: s
+
+Package: b
+Version: 1
+Source: s
+
+Package: p
+Version: 1
+Depends: a (= 1), b (>= 2)
+",
+    cert: Some("old\n"),
+    out: "report: \"outdated\"
+limit: 10000
+packages: 3
+outdated:
+  - \"p=1\"
+undecided: []
+",
+    after: After::Begins("distfuture-certificate 1 outdated plain 10000 3 15 23\n"),
+    ..EMPTY
+};
+
+const OUTDATED_ROWS: [Row; 7] = [
+    OUTDATED,
+    Row {
+        words: &["outdated", "packages", "cert", "--limit=500", "--essential"],
+        out: "report: \"outdated\"
+limit: 500
+packages: 3
+outdated:
+  - \"p=1\"
+undecided: []
+",
+        after: After::Begins("distfuture-certificate 1 outdated essential 500 3 "),
+        ..OUTDATED
+    },
+    // The sources are apart.
+    Row {
+        packages: "Package: a
+Version: 1
+
+Package: b
+Version: 1
+
+Package: p
+Version: 1
+Depends: a (= 1), b (>= 2)
+",
+        out: "report: \"outdated\"
+limit: 10000
+packages: 3
+outdated: []
+undecided: []
+",
+        after: After::Begins("distfuture-certificate 1 outdated plain 10000 3 "),
+        ..OUTDATED
+    },
+    // No later version is below the one that stands. Of a name the newest version alone is told of.
+    Row {
+        packages: "Package: foo
+Version: 1
+
+Package: foo
+Version: 2
+
+Package: p
+Version: 1
+Depends: foo (<< 1)
+",
+        out: "report: \"outdated\"
+limit: 10000
+packages: 2
+outdated:
+  - \"p=1\"
+undecided: []
+",
+        after: After::Begins("distfuture-certificate 1 outdated plain 10000 2 "),
+        ..OUTDATED
+    },
+    // A new name may come at any version.
+    Row {
+        packages: "Package: p
+Version: 1
+Depends: foo (<< 1)
+",
+        out: "report: \"outdated\"
+limit: 10000
+packages: 1
+outdated: []
+undecided: []
+",
+        after: After::Begins("distfuture-certificate 1 outdated plain 10000 1 "),
+        ..OUTDATED
+    },
+    // A new version may leave out what its package provides.
+    Row {
+        packages: "Package: q
+Version: 1
+Provides: m
+
+Package: p
+Version: 1
+Depends: q
+Conflicts: m
+",
+        out: "report: \"outdated\"
+limit: 10000
+packages: 2
+outdated: []
+undecided: []
+",
+        after: After::Begins("distfuture-certificate 1 outdated plain 10000 2 "),
+        ..OUTDATED
+    },
+    // Names of which there is no package yet may come.
+    Row {
+        packages: PYTHON,
+        out: "report: \"outdated\"
+limit: 10000
+packages: 1
+outdated: []
+undecided: []
+",
+        after: After::Begins("distfuture-certificate 1 outdated plain 10000 1 "),
+        ..OUTDATED
+    },
+];
+
+/// A library, and a program that needs it below version 2.
+const CHALLENGED: Row = Row {
+    words: &["challenged", "packages", "cert"],
+    packages: LIBRARY,
+    out: "report: \"challenged\"
+limit: 10000
+packages: 2
+uninstallable: []
+challenged:
+  - cluster: \"libx=1\"
+    class: \"= 2\"
+    example: \"2\"
+    breaks:
+      - \"p=1\"
+  - cluster: \"libx=1\"
+    class: \">> 2\"
+    example: \"2-0A\"
+    breaks:
+      - \"p=1\"
+undecided: []
+undecided_classes: []
+",
+    after: After::Begins("distfuture-certificate 1 challenged plain 10000 2 11 16\n"),
+    ..OUTDATED
+};
+
+/// An essential package, and one that is in conflict with its later versions.
+const ESSENTIAL: Row = Row {
+    words: &["challenged", "packages", "cert", "--essential"],
+    packages: "Package: base
+Version: 1
+Essential: yes
+
+Package: p
+Version: 1
+Conflicts: base (>= 2)
+",
+    out: "report: \"challenged\"
+limit: 10000
+packages: 2
+uninstallable: []
+challenged:
+  - cluster: \"base=1\"
+    class: \"= 2\"
+    example: \"2\"
+    breaks:
+      - \"p=1\"
+  - cluster: \"base=1\"
+    class: \">> 2\"
+    example: \"2-0A\"
+    breaks:
+      - \"p=1\"
+undecided: []
+undecided_classes: []
+",
+    after: After::Begins("distfuture-certificate 1 challenged essential 10000 2 11 18\n"),
+    ..OUTDATED
+};
+
+const NONE_CHALLENGED: &str = "report: \"challenged\"
+limit: 10000
+packages: 2
+uninstallable: []
+challenged: []
+undecided: []
+undecided_classes: []
+";
+
+const CHALLENGED_ROWS: [Row; 6] = [
+    CHALLENGED,
+    // The class breaks the package that needs the library itself alone.
+    Row {
+        packages: "Package: libx
+Version: 1
+
+Package: p
+Version: 1
+Depends: q
+
+Package: q
+Version: 1
+Depends: libx (<< 2)
+",
+        out: "report: \"challenged\"
+limit: 10000
+packages: 3
+uninstallable: []
+challenged:
+  - cluster: \"libx=1\"
+    class: \"= 2\"
+    example: \"2\"
+    breaks:
+      - \"q=1\"
+  - cluster: \"libx=1\"
+    class: \">> 2\"
+    example: \"2-0A\"
+    breaks:
+      - \"q=1\"
+undecided: []
+undecided_classes: []
+",
+        after: After::Begins("distfuture-certificate 1 challenged plain 10000 3 "),
+        ..CHALLENGED
+    },
+    // What is provided moves with the version.
+    Row {
+        packages: "Package: libx
+Version: 1.0
+Provides: abi (= 1.0)
+
+Package: p
+Version: 1
+Depends: abi (= 1.0)
+",
+        out: "report: \"challenged\"
+limit: 10000
+packages: 2
+uninstallable: []
+challenged:
+  - cluster: \"libx=1.0\"
+    class: \">> 1.0\"
+    example: \"1.0-0A\"
+    breaks:
+      - \"p=1\"
+undecided: []
+undecided_classes: []
+",
+        after: After::Begins("distfuture-certificate 1 challenged plain 10000 2 8 8\n"),
+        ..CHALLENGED
+    },
+    // A new version may leave out what its package provides.
+    Row {
+        packages: "Package: libx
+Version: 1
+Provides: abi (= 1)
+
+Package: p
+Version: 1
+Depends: libx
+Conflicts: abi (>= 2)
+",
+        out: NONE_CHALLENGED,
+        after: After::Begins("distfuture-certificate 1 challenged plain 10000 2 "),
+        ..CHALLENGED
+    },
+    // What is essential must be there, at mode essential alone.
+    ESSENTIAL,
+    Row {
+        words: &["challenged", "packages", "cert"],
+        out: NONE_CHALLENGED,
+        after: After::Begins("distfuture-certificate 1 challenged plain 10000 2 11 17\n"),
+        ..ESSENTIAL
+    },
+];
+
+/// Its certificate.
+const CERTIFICATE: &str = "distfuture-certificate 1 challenged essential 10000 2 11 18
+q 1 2
+m 1 2
+c 1 1 0 0
+q 1 3
+m 1 2 3
+q 3 4
+m 3 4 5
+q 3 6
+f 1 3 5 6 9 10 11 12 15 18
+q 3 8
+f 2 3 5 7 8 10 11 13 16 18
+c 2 3 0 1 2 1 3 0
+e
+";
+
+/// A front of a certificate with the same numbers at the other mode.
+const OTHER_MODE: &str = "distfuture-certificate 1 challenged plain 10000 2 11 18
+q 1 2
+";
+
+const CHECK_ROWS: [Row; 2] = [
+    Row {
+        words: &["check", "packages", "cert"],
+        cert: Some(CERTIFICATE),
+        after: After::AsBefore,
+        ..ESSENTIAL
+    },
+    // At mode plain there is a clause less.
+    Row {
+        words: &["check", "packages", "cert"],
+        cert: Some(OTHER_MODE),
+        status: Status::CertificateRefused,
+        out: "",
+        err: "distfuture: certificate refused at line 1: BadHeader\n",
+        after: After::AsBefore,
+        ..ESSENTIAL
+    },
+];
+
+// A number that the variables or the clauses of the futures pass leaves the file as it was.
+const STOPPED: [Row; 3] = [
+    Row {
+        at_most: Some((What::Variables, 1)),
+        status: Status::TooLarge,
+        out: "",
+        err: "distfuture: too large: Variables\n",
+        after: After::AsBefore,
+        ..OUTDATED
+    },
+    Row {
+        at_most: Some((What::Clauses, 1)),
+        status: Status::TooLarge,
+        out: "",
+        err: "distfuture: too large: Clauses\n",
+        after: After::AsBefore,
+        ..CHALLENGED
+    },
+    Row {
+        at_most: Some((What::Certificate, 60)),
+        status: Status::TooLarge,
+        out: "",
+        err: "distfuture: too large: Certificate\n",
+        after: After::Begins("distfuture-certificate 1 challenged plain 10000 2 "),
+        ..CHALLENGED
+    },
+];
+
+const TABLES: [Table; 4] = [
+    ("outdated packages are told", &OUTDATED_ROWS),
+    ("challenges are told", &CHALLENGED_ROWS),
+    ("certificates on the futures are judged", &CHECK_ROWS),
+    ("a sweep for the futures is stopped", &STOPPED),
+];
+
+#[test]
+fn futures_are_told(rt: HostRuntime) -> Result<(), Fail> {
+    assert_eq!(rt; first_wrong(rt.alloc(), &TABLES)?, None);
+    Ok(())
+}
