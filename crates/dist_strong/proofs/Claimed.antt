@@ -24,7 +24,7 @@ use Rattle.dist_cert.specs.PartByRecordsLaws.{IsLine}
 use Rattle.dist_cert.specs.Writing.{ended}
 use Rattle.dist_sweep.specs.Asking.{AskerView, Holds, IsAsked, IsOver, question_lines, AskMore, AskStops}
 use Rattle.dist_strong.specs.ClaimingPrivate.{StrongClaims, StrongStops, StrongMore, StrongSuits}
-use Rattle.dist_sweep.specs.Claiming.{IsSwept, MayClaim}
+use Rattle.dist_sweep.specs.Claiming.{IsSwept}
 use Rattle.dist_strong.specs.Group.{GroupView, new_group}
 use Rattle.dist_sweep.specs.Script.{Setting, PutMore, PutStops, matter_in}
 use Rattle.dist_strong.specs.SettlingPrivate.{Fits, IsGroupAt, IsSettling, SettleMore, SettleStops, without}

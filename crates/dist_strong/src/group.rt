@@ -1,5 +1,5 @@
 //! What is kept of the group of a claim.
-ghost use Rattle.std.specs.Prelude.{◌≡◌, ◌-◌, ◌≤◌, ◌&&◌, ◌↔◌, ℕ, IfOk, IfSome, IsTrue, None, length, slice_set, true};
+ghost use Rattle.std.specs.Prelude.{◌≡◌, ◌-◌, ◌<◌, ◌≤◌, ◌&&◌, ◌↔◌, ℕ, IfOk, IfSome, IsTrue, None, length, slice_set, true};
 ghost use Rattle.dist_clause.specs.Formula.{value_of};
 ghost use Rattle.dist_strong.specs.Group.{AreLeft, GroupView, IsCandidate, IsLeft, IsNarrowed, is_open, new_group};
 ghost use Rattle.dist_sweep.specs.Words.{true_variables};
@@ -129,15 +129,33 @@ impl Group {
         true_variables(alloc, &self.refuted, self.variables)
     }
 
-    /// The first package that is in all installations of the claim and was not asked for.
-    pub(crate) fn candidate(&self, window: &Window) -> Option<u32>
+    /// A package that is in all installations of the claim and was not asked for, if there is one. Those behind the one that was
+    /// asked for last come first: few of those before it are open again.
+    pub(crate) fn candidate(&self, window: &Window, last: u32) -> Option<u32>
         requires from_one { 1 ≤ self.now.claimed }
         requires upto { self.now.claimed ≤ self.now.variables }
         requires variables { window.now.variables ≡ self.now.variables }
         ensures some { IfSome result (IsCandidate window.now self.now) }
         ensures none { result ≡ None → (q : ℕ) → ¬ IsCandidate window.now self.now q }
     {
-        for place in 0..self.variables {
+        let last = last.min(self.variables);
+        let behind = self.candidate_between(window, last, self.variables);
+        if behind.is_some() {
+            return behind;
+        }
+        self.candidate_between(window, 0, last)
+    }
+
+    /// The first candidate above a number and up to another one.
+    fn candidate_between(&self, window: &Window, above: u32, upto: u32) -> Option<u32>
+        requires from_one { 1 ≤ self.now.claimed }
+        requires claimed { self.now.claimed ≤ self.now.variables }
+        requires variables { window.now.variables ≡ self.now.variables }
+        requires upto { upto ≤ self.now.variables }
+        ensures some { IfSome result (IsCandidate window.now self.now) }
+        ensures none { result ≡ None → (q : ℕ) → above < q → q ≤ upto → ¬ IsCandidate window.now self.now q }
+    {
+        for place in above..upto {
             if self.is_open(place + 1) && window.each_has(self.claimed, place + 1) {
                 return Some(place + 1);
             }

@@ -76,8 +76,10 @@ pub(crate) fn ask_candidates<D: Desk>(
     ensures grows { Grows (D.view desk.old) (D.view desk.new) }
 {
     file_grows();
-    'candidates: while let Some(other) = group.candidate(window) {
+    let mut last = 0;
+    'candidates: while let Some(other) = group.candidate(window, last) {
         ask_without(alloc, asker, window, group, desk, other)?;
+        last = other;
     }
     Ok(())
 }
