@@ -1,0 +1,3 @@
+pub mod Bits
+pub mod BitsPrivate
+pub mod Rows
