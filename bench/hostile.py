@@ -102,6 +102,22 @@ def chained(n):
     return packages, first + f"q {n + 1}\nd {n + 4} -{n + 1} 0 {n + 1} {n + 2} {n}\nu\n"
 
 
+def new_again(n):
+    """Half of the packages can't be installed; of the others each fourth leads to one other in two ways, which a question's new line says."""
+    broken, groups = n // 2, n // 8
+    packages = "".join(stanza(f"b{k:06}", more="Depends: nowhere\n") for k in range(broken))
+    for k in range(groups):
+        name = f"g{k:06}"
+        packages += stanza(f"{name}-p", more=f"Depends: {name}-x | {name}-y\n") + stanza(f"{name}-z")
+        packages += "".join(stanza(f"{name}-{letter}", more=f"Depends: {name}-z\n") for letter in "xy")
+    lines = ""
+    for k in range(groups):
+        package, clause = broken + 4 * k + 1, broken + 3 * k + 1
+        lines += f"q {package}\nd {package + 3} -{package} 0 {clause + 1} {clause + 2} {clause}\nu\n"
+    number = broken + 4 * groups
+    return packages, f"distfuture-certificate 1 strong plain 1 {number} {number} {broken + 3 * groups}\n" + lines
+
+
 def many_entries(n):
     """A library with n / 4 entries and n / 20 bounds on another name, and n / 2 atoms on the library."""
     entries = ", ".join(f"e{k}" for k in range(n // 4))
@@ -140,6 +156,7 @@ ROWS = {
     "one line of so many numbers": (6_000_000, lambda n: checked(*wide_line(n))),
     "a package in so many conflicts, installed again and again": (20_000, lambda n: checked(*installed_again(n))),
     "one new line that reaches a chain of so many": (100_000, lambda n: checked(*chained(n))),
+    "so many questions, each with a new line": (80_000, lambda n: checked(*new_again(n))),
     "the classes of one entry told again and again": (8_000, lambda n: classes(
         stanza("libx", more="Provides: " + ", ".join(["a (= 1)"] * n) + "\n") + stanza("p", more="Conflicts: " + ", ".join(f"a (>= {k})" for k in range(n)) + "\n"))),
     "the clauses of futures of so many entries": (8_000, lambda n: futures(many_entries(n))),

@@ -1,4 +1,5 @@
 pub mod Counting
 pub mod Limits
 pub mod LinesRead
+pub mod QuestionLemmas
 pub mod Spaces

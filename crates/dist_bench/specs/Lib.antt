@@ -5,5 +5,6 @@ pub mod FutureClauses
 pub mod Futures
 pub mod Jobs
 pub mod Packages
+pub mod Questions
 pub mod Relations
 pub mod Versions

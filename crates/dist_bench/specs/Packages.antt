@@ -1,5 +1,5 @@
 -- What is counted of a Packages file: its packages, the clauses of the present, the classes of later versions.
-use Rattle.std.specs.Prelude.{◌≡◌, ◌⊎◌, ℕ, ◌<◌, ◌≤◌, false, List, [], ◌++◌, codes, length, slice_index_or, sum_by}
+use Rattle.std.specs.Prelude.{◌≡◌, ◌⊎◌, ℕ, ◌<◌, ◌≤◌, Bool, false, List, [], ◌++◌, codes, length, slice_index_or, sum_by}
 use Rattle.dist_base.specs.declared.TheConstants.{MAX_BYTES, MAX_STANZAS, MAX_CLAUSES, MAX_LITERALS}
 use Rattle.dist_clause.specs.Formula.{Literal}
 use Rattle.dist_cluster.specs.Top.{ClusterList}
@@ -40,22 +40,26 @@ HasNoPackages text error = (error ≡ NoPackages) × ((r : PackageList) → ¬ I
 abbrev pub IsPackagesText : (text answer : List ℕ) → Type 0
 IsPackagesText text answer = OfFile text (λ r. answer ≡ counted (length r.packages) (codes " packages\n"))
 
--- ---- the answer of `count-clauses`, at mode plain, and why it has none
+-- ---- the clauses of the present at a mode
 
-abbrev pub PassesPresentLimits : PackageList → Type 0
-PassesPresentLimits r = PassesClauses r false MAX_CLAUSES MAX_LITERALS ⊎ PassesLiterals r false MAX_CLAUSES MAX_LITERALS
+abbrev pub PassesPresentLimits : PackageList → (essential : Bool) → Type 0
+PassesPresentLimits r essential = PassesClauses r essential MAX_CLAUSES MAX_LITERALS
+    ⊎ PassesLiterals r essential MAX_CLAUSES MAX_LITERALS
 
 -- the clauses of the present of a repository, which pass no stated limit
-pub record ArePresentWithin (r : PackageList) (clauses : List (List Literal)) : Type 0 where
-  pub are : ArePresentClauses r false clauses
-  pub within : ¬ PassesPresentLimits r
+pub record ArePresentWithin (r : PackageList) (essential : Bool) (clauses : List (List Literal)) : Type 0 where
+  pub are : ArePresentClauses r essential clauses
+  pub within : ¬ PassesPresentLimits r essential
+
+-- ---- the answer of `count-clauses`, at mode plain, and why it has none
 
 abbrev pub IsClausesText : (text answer : List ℕ) → Type 0
-IsClausesText text answer = OfFile text (λ r. (clauses : List (List Literal)) × ArePresentWithin r clauses
+IsClausesText text answer = OfFile text (λ r. (clauses : List (List Literal)) × ArePresentWithin r false clauses
     × (answer ≡ counted (length clauses) (codes " clauses\n")))
 
 abbrev pub HasNoClauses : (text : List ℕ) → JobError → Type 0
-HasNoClauses text error = HasNoPackages text error ⊎ ((error ≡ TooManyClauses) × OfFile text PassesPresentLimits)
+HasNoClauses text error = HasNoPackages text error
+    ⊎ ((error ≡ TooManyClauses) × OfFile text (λ r. PassesPresentLimits r false))
 
 -- ---- the answer of `count-classes`
 

@@ -4,12 +4,15 @@ ghost use Rattle.dist_base.specs.Answers.{Answers};
 ghost use Rattle.dist_bench.specs.Jobs.{HasNoAnswer, IsAnswer, word_of};
 
 use crate::error::JobError;
-use crate::{counted, filled, future_clauses, futures, packages, relations, versions};
+use crate::{counted, filled, future_clauses, futures, packages, questions, relations, versions};
 use std::alloc::Global;
 
 /// What is done to a text.
 #[derive(Clone, Copy, Debug, PartialEq, Eq)]
 pub enum Job {
+    AskEssentialPackages,
+    AskLastPackage,
+    AskPackages,
     CountLines,
     CountClasses,
     CountClauses,
@@ -27,6 +30,9 @@ impl Job {
         ensures { MatchOption result ((job : Job) → word.now ≢ word_of job) (λ job. word.now ≡ word_of job) }
     {
         match word {
+            "ask-essential-packages" => Some(Job::AskEssentialPackages),
+            "ask-last-package" => Some(Job::AskLastPackage),
+            "ask-packages" => Some(Job::AskPackages),
             "count-lines" => Some(Job::CountLines),
             "count-classes" => Some(Job::CountClasses),
             "count-clauses" => Some(Job::CountClauses),
@@ -47,6 +53,9 @@ pub fn answer(alloc: Global, job: Job, text: &str) -> Result<Vec<u8>, JobError>
 {
     let bytes = text.as_bytes();
     match job {
+        Job::AskEssentialPackages => questions::asked_text(alloc, bytes, true),
+        Job::AskLastPackage => questions::last_text(alloc, bytes),
+        Job::AskPackages => questions::asked_text(alloc, bytes, false),
         Job::CountLines => Ok(counted::lines_text(alloc, bytes)?),
         Job::CountClasses => packages::classes_text(alloc, bytes),
         Job::CountClauses => packages::clauses_text(alloc, bytes),

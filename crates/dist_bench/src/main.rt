@@ -9,6 +9,7 @@ mod future_clauses;
 mod futures;
 mod job;
 mod packages;
+mod questions;
 mod relations;
 mod versions;
 

@@ -51,13 +51,18 @@ pub fn packages_text(alloc: Global, text: &[u8]) -> Result<Vec<u8>, JobError>
     Ok(counted(alloc, u128::from(repository.len()), b" packages\n")?)
 }
 
-/// The clauses of the present, at mode plain.
-fn present_clauses(alloc: Global, repository: &Repository) -> Result<ClauseSet, JobError>
+/// The clauses of the present.
+pub(crate) fn present_clauses(
+    alloc: Global,
+    repository: &Repository,
+    essential: bool,
+) -> Result<ClauseSet, JobError>
     requires { IsWithinSize repository.now }
-    ensures { Answers (λ set. ArePresentWithin repository.now set.clauses) (λ error. (error ≡ JobError.TooManyClauses) × PassesPresentLimits repository.now)
-        JobError.NoMemory result }
+    ensures answers { Answers (λ set. ArePresentWithin repository.now essential set.clauses)
+        (λ error. (error ≡ JobError.TooManyClauses) × PassesPresentLimits repository.now essential) JobError.NoMemory result }
+    ensures variables { IfOk result (λ set. set.variables ≡ length repository.now.packages) }
 {
-    match clauses_of(alloc, repository, false, MAX_CLAUSES, MAX_LITERALS) {
+    match clauses_of(alloc, repository, essential, MAX_CLAUSES, MAX_LITERALS) {
         Ok(set) => Ok(set),
         Err(PushError::TooManyClauses) => Err(JobError::TooManyClauses),
         Err(PushError::TooManyLiterals) => Err(JobError::TooManyClauses),
@@ -70,7 +75,7 @@ pub fn clauses_text(alloc: Global, text: &[u8]) -> Result<Vec<u8>, JobError>
     ensures { Answers (λ answer. IsClausesText text.now answer.items) (HasNoClauses text.now) JobError.NoMemory result }
 {
     let repository = repository_of(alloc, text)?;
-    let set = present_clauses(alloc, &repository)?;
+    let set = present_clauses(alloc, &repository, false)?;
     Ok(counted(alloc, u128::from(set.len()), b" clauses\n")?)
 }
 

@@ -1,5 +1,5 @@
 -- The latest installations of packages, where one more comes.
-use Rattle.std.proofs.Common.{◌≡◌, inl, inr, ℕ, ◌+◌, ◌-◌, ◌<◌, Bool, true, false, if◌then◌else◌, get_or-set_other, get_or-set_same, length-set}
+use Rattle.std.proofs.Common.{◌≡◌, inl, inr, ℕ, zero, suc, ◌+◌, ◌-◌, ◌<◌, ◌≤◌, Bool, true, false, if◌then◌else◌, get_or-set_other, get_or-set_same, length-set}
 use Rattle.std.proofs.Common.{slice_set, List, [], ◌∷◌, ◌++◌, length, get_or}
 use Rattle.std.proofs.Common.{refl, ap, sym, subst, ◌∙◌, arith, length-append}
 use Rattle.std.specs.List.{Contains}
@@ -11,7 +11,7 @@ use Rattle.dist_space.specs.Space.{IsSpace, SpaceView, variable_of}
 use Rattle.dist_space.specs.declared.meaning.Meaning.TheVariants.{Present}
 use Rattle.dist_sweep.specs.TrueOnesLaws.{true-ones}
 use Rattle.dist_sweep.specs.Words.{true_variables}
-use Rattle.dist_challenge.specs.OutdatedPrivate.{AreLatest, AreNoted, IsLatestWith}
+use Rattle.dist_challenge.specs.OutdatedPrivate.{AreLatest, AreNoted, IsLatestWith, IsNextHeld}
 use Rattle.dist_challenge.proofs.Spaces.{present-in}
 
 -- it has the variable, and is the latest
@@ -108,4 +108,35 @@ noted-passed s n values number old latest lacks noted = record {
     | inr other ↦ noted.each r (omega (arith, short, other))
   ];
   rest = λ r past. noted.rest r (omega (arith, past));
+}
+
+noted-none : (s : SpaceView) (n d : ℕ) (values : List Bool) (number : ℕ) (old latest : List ℕ)
+    → ((r : ℕ) → n ≤ r → r < n + d → value_of values (variable_of s (Present r)) ≡ false)
+    → AreNoted s n values number old latest → AreNoted s (n + d) values number old latest
+noted-none s n zero values number old latest none noted = let same : n + 0 ≡ n = omega arith in
+    subst (λ (m : ℕ). AreNoted s m values number old latest) (sym same) noted
+noted-none s n (suc d) values number old latest none noted =
+    let next : (n + d) + 1 ≡ n + suc d = omega arith in
+    subst (λ (m : ℕ). AreNoted s m values number old latest) next
+    (noted-passed s (n + d) values number old latest (none (n + d) (omega arith) (omega arith))
+    (noted-none s n d values number old latest (λ r from within. none r from (omega (arith, within))) noted))
+
+-- those from n on before the next one that is held are passed
+pub noted-next : (s : SpaceView) (n next : ℕ) (values : List Bool) (number : ℕ) (old latest : List ℕ) → IsNextHeld s values n next
+    → AreNoted s n values number old latest → AreNoted s next values number old latest
+noted-next s n next values number old latest held noted =
+    let same : n + (next - n) ≡ next = omega (arith, held.from) in
+    subst (λ (m : ℕ). AreNoted s m values number old latest) same
+    (noted-none s n (next - n) values number old latest (λ r from within. held.none r from (omega (arith, within, held.from))) noted)
+
+-- the first true variable behind those of the packages before
+pub next-held : (s : SpaceView) (values : List Bool) (r next : ℕ) → ((number : ℕ) → number < length s.repository.packages
+    → variable_of s (Present number) ≡ number + 2) → r ≤ next → next ≤ length s.repository.packages
+    → (next < length s.repository.packages → value_of values (next + 2) ≡ true)
+    → ((w : ℕ) → r + 2 ≤ w → w < next + 2 → value_of values w ≡ false) → IsNextHeld s values r next
+next-held s values r next first from within holds none = record {
+  from = from;
+  within = within;
+  holds = λ short. ap (value_of values) (first next short) ∙ holds short;
+  none = λ other low high. ap (value_of values) (first other (omega (arith, high, within))) ∙ none (other + 2) (omega (arith, low)) (omega (arith, high));
 }

@@ -9,6 +9,8 @@ use Rattle.std.proofs.lemmas.List.{get_or-replicate, length-replicate}
 use Rattle.std.proofs.lemmas.Option.{get_or_from_slice_get, same_Some, slice_get_within}
 use Rattle.dist_base.specs.ListLaws.{at-has, contains-at, element-at, here-at}
 use Rattle.dist_clause.specs.Formula.{value_of}
+use Rattle.dist_cert.specs.ListLaws.{any-from, from-any}
+use Rattle.dist_cert.specs.Rising.{is_among}
 use Rattle.dist_cluster.specs.Partition.{IsIn}
 use Rattle.dist_future.specs.Pairs.{UsesNone}
 use Rattle.dist_space.specs.ClusterLaws.{has-cluster, in-package, placed-in}
@@ -41,6 +43,31 @@ pub none_at : (xs : List (List ℕ)) (k : ℕ) → slice_get xs k ≡ None → g
 none_at [] k is = refl
 none_at (x ∷ xs) zero is = cc
 none_at (x ∷ xs) (suc k) is = none_at xs k is
+
+-- ---- flags, and their numbers
+
+-- of the numbers in range those are among the true ones that are true
+pub among-flags : (flags : List Bool) (number : ℕ) → 1 ≤ number → number ≤ length flags → value_of flags number ≡ is_among (true_variables flags) number
+among-flags flags number from upto = by (value_of flags number) refl
+  where
+    by : (b : Bool) → value_of flags number ≡ b → b ≡ is_among (true_variables flags) number
+    by true holds = sym (any-from number (true_variables flags) ((true-ones flags number from upto).1 holds))
+    by false lacks = by-among (is_among (true_variables flags) number) refl
+      where
+        by-among : (a : Bool) → is_among (true_variables flags) number ≡ a → false ≡ a
+        by-among false is = refl
+        by-among true is = absurd (true≢false (sym ((true-ones flags number from upto).0 (from-any number (true_variables flags) is)) ∙ lacks))
+
+-- and no others
+pub among-none : (flags : List Bool) (number : ℕ) → (1 ≤ number → number ≤ length flags → ⊥) → false ≡ is_among (true_variables flags) number
+among-none flags number outside = by (is_among (true_variables flags) number) refl
+  where
+    by : (a : Bool) → is_among (true_variables flags) number ≡ a → false ≡ a
+    by false is = refl
+    by true is =
+        let there = from-any number (true_variables flags) is in
+        absurd (outside (contained (λ v. 1 ≤ v) (true_variables flags) number (true-low flags) there)
+        (contained (λ v. v ≤ length flags) (true_variables flags) number (true-upto flags) there))
 
 -- ---- what a variable means
 
@@ -180,6 +207,33 @@ flags-passed s values flags n are lacks = record {
     | inr other ↦ are.all cluster (uses-back s values n cluster uses other)
   ];
 }
+
+flags-none : (s : SpaceView) (values flags : List Bool) (n d : ℕ) → ((v : ℕ) → n < v → v ≤ n + d → value_of values v ≡ false) → AreFlags s values n flags
+    → AreFlags s values (n + d) flags
+flags-none s values flags n zero none are = let same : n + 0 ≡ n = omega arith in subst (λ (m : ℕ). AreFlags s values m flags) (sym same) are
+flags-none s values flags n (suc d) none are =
+    let next : (n + d) + 1 ≡ n + suc d = omega arith in
+    subst (λ (m : ℕ). AreFlags s values m flags) next
+    (flags-passed s values flags (n + d) (flags-none s values flags n d (λ v above within. none v above (omega (arith, within))) are)
+    (none ((n + d) + 1) (omega arith) (omega arith)))
+
+-- variables that are false are passed
+pub flags-past : (s : SpaceView) (values flags : List Bool) (n m : ℕ) → n ≤ m → ((v : ℕ) → n < v → v ≤ m → value_of values v ≡ false)
+    → AreFlags s values n flags → AreFlags s values m flags
+flags-past s values flags n m more none are =
+    let same : n + (m - n) ≡ m = omega (arith, more) in
+    subst (λ (k : ℕ). AreFlags s values k flags) same
+    (flags-none s values flags n (m - n) (λ v above within. none v above (omega (arith, within, more))) are)
+
+-- the next one that is true
+pub flags-next : (s : SpaceView) (values flags new : List Bool) (n v : ℕ) → n < v → ((w : ℕ) → n < w → w < v → value_of values w ≡ false)
+    → value_of values v ≡ true → IsFlagged s v flags new → AreFlags s values n flags → AreFlags s values v new
+flags-next s values flags new n v above none holds flag are =
+    let same : (v - 1) + 1 ≡ v = omega (arith, above) in
+    subst (λ (k : ℕ). AreFlags s values k new) same
+    (flags-more s values flags new (v - 1) (flags-past s values flags n (v - 1) (omega (arith, above))
+    (λ w more within. none w more (omega (arith, within, above))) are) (ap (value_of values) same ∙ holds)
+    (subst (λ (k : ℕ). IsFlagged s k flags new) (sym same) flag))
 
 -- ---- what they say
 

@@ -1,5 +1,6 @@
 -- Serves private contracts: what is kept between claims on outdated packages, and the steps of a claim.
-use Rattle.std.specs.Prelude.{◌≡◌, ℕ, ◌+◌, ◌-◌, ◌<◌, ◌≤◌, Bool, if◌then◌else◌, List, [], Contains, length, slice_index}
+use Rattle.std.specs.Prelude.{◌≡◌, ℕ, ◌+◌, ◌-◌, ◌<◌, ◌≤◌, Bool, true, false, if◌then◌else◌, List, [], Contains}
+use Rattle.std.specs.Prelude.{length, slice_index}
 use Rattle.std.specs.Prelude.{slice_index_or}
 use Rattle.dist_clause.specs.Formula.{value_of}
 use Rattle.dist_cert.specs.declared.TheConstants.{REACH}
@@ -42,6 +43,13 @@ pub record AreNoted (s : SpaceView) (n : ℕ) (values : List Bool) (number : ℕ
   pub each : (r : ℕ) → r < n → slice_index new r ≡ (if value_of values (variable_of s
       (Present r)) then number else slice_index old r)
   pub rest : (r : ℕ) → n ≤ r → slice_index new r ≡ slice_index old r
+
+-- the first package from r on that some values hold, or the number of packages
+pub record IsNextHeld (s : SpaceView) (values : List Bool) (r next : ℕ) : Type 0 where
+  pub from : r ≤ next
+  pub within : next ≤ length s.repository.packages
+  pub holds : next < length s.repository.packages → value_of values (variable_of s (Present next)) ≡ true
+  pub none : (other : ℕ) → r ≤ other → other < next → value_of values (variable_of s (Present other)) ≡ false
 
 -- the number is that of the latest installation with package p, and a claim may reach it
 pub record IsReached (c : OutdatedView) (w : WindowView) (p number : ℕ) : Type 0 where

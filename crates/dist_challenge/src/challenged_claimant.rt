@@ -17,7 +17,7 @@ ghost use Rattle.dist_challenge.specs.UsedPrivate.{AreSmallPairs, pair_at};
 
 use crate::covering::lasts;
 use crate::group::Group;
-use crate::used::pair_at;
+use crate::used::{Used, pair_at};
 use crate::words::both;
 use circular_buffer::HeapCircularBuffer;
 use dist_cert::{CertRecord, Claim, Items, Numbers, REACH};
@@ -34,7 +34,7 @@ pub struct ChallengedClaimant {
     pub(crate) alloc: Global,
     pub(crate) space: Space,
     /// Clusters from 1, rising, for each installation that a claim may reach.
-    pub(crate) uses: HeapCircularBuffer<Numbers>,
+    pub(crate) uses: HeapCircularBuffer<Used>,
 }
 
 impl Model for ChallengedClaimant {

@@ -1,7 +1,7 @@
 //! Which pairs of a cluster and a class installations cover. A pair is given by the variable that its cluster is at its class.
 ghost use Rattle.std.specs.Prelude.{◌≡◌, ◌≢◌, ◌+◌, ◌<◌, ◌≤◌, ◌∷◌, [], not, All, Contains, IfOk, IfSome, IsTrue, OnOk, filter, length, slice_index, true, ◌-◌, ℕ};
 ghost use Rattle.dist_cert.specs.Form.{AreFromOne};
-ghost use Rattle.dist_cert.specs.Rising.{AreRising};
+ghost use Rattle.dist_cert.specs.Rising.{AreRising, is_among};
 ghost use Rattle.dist_clause.specs.Formula.{value_of};
 ghost use Rattle.dist_sweep.specs.Window.{kept_at};
 ghost use Rattle.dist_challenge.specs.CoverPrivate.{AreClustersFrom, AreGathered, AreOpen, IsAbove, IsGathering, IsKept, IsPlan, Lasts, covered_by, used_by};
@@ -9,7 +9,7 @@ ghost use Rattle.dist_challenge.specs.UsedPrivate.{pair_at};
 ghost use Rattle.dist_space.specs.Space.{variable_of};
 
 use crate::challenged_claimant::ChallengedClaimant;
-use crate::used::{has, pair_at};
+use crate::used::pair_at;
 use dist_cert::REACH;
 use dist_space::Meaning;
 use dist_sweep::Window;
@@ -38,6 +38,19 @@ impl ChallengedClaimant {
         }
     }
 
+    /// Whether an installation uses the cluster of this number from 1.
+    #[tactic(auto, using(crate::proofs::UsedSteps::none_at))]
+    fn uses(&self, window: &Window, number: u32, cluster: u32) -> bool
+        requires { IsKept window.now number }
+        ensures { result ≡ is_among (used_by self.now window.now number) cluster }
+    {
+        let first = window.count() - window.len() + 1;
+        match self.uses.get((number - first) as usize) {
+            Some(used) => used.has(cluster),
+            None => false,
+        }
+    }
+
     /// Whether an installation covers a pair.
     fn covers(&self, window: &Window, number: u32, at: u32) -> bool
         requires kept { IsKept window.now number }
@@ -46,7 +59,7 @@ impl ChallengedClaimant {
         requires upto { at ≤ length self.now.space.meanings }
         ensures { result ≡ covered_by self.now window.now number at }
     {
-        window.has(number, at) || !has(self.used_by(window, number), pair_at(&self.space, at).0)
+        window.has(number, at) || !self.uses(window, number, pair_at(&self.space, at).0)
     }
 
     /// The pairs of some that an installation does not cover.

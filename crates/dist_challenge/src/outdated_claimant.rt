@@ -8,14 +8,14 @@ ghost use Rattle.dist_space.specs.declared.meaning.Meaning.TheVariants.{Present}
 ghost use Rattle.dist_sweep.specs.Claiming.{ClaimMore, ClaimStops, Suits};
 ghost use Rattle.dist_sweep.specs.Script.{Grows};
 ghost use Rattle.dist_challenge.specs.FuturesPrivate.{FitsSpace};
-ghost use Rattle.dist_challenge.specs.OutdatedPrivate.{AreNoted, IsReached, KeepsOutdated};
+ghost use Rattle.dist_challenge.specs.OutdatedPrivate.{AreNoted, IsNextHeld, IsReached, KeepsOutdated};
 
 use crate::words::alone;
 use dist_cert::{CertRecord, Claim, REACH};
 use dist_clause::Assignment;
 use dist_outside::{Desk, WorkError, file_grows};
-use dist_space::{Meaning, Space};
-use dist_sweep::{Asker, Claimant, Reply, Window};
+use dist_space::{Meaning, Space, packages_come_first};
+use dist_sweep::{Asker, Claimant, Reply, Window, next_true};
 use std::alloc::{AllocError, Global};
 use std::marker::Model;
 
@@ -39,17 +39,35 @@ impl Model for OutdatedClaimant {
     ghost invariant = { λ c. length c.latest.items ≡ length c.space.repository.packages };
 }
 
-/// Notes the number of an installation for each package that it holds: one walk over the packages.
+/// The first package, from this one on, that some values hold, or the number of all packages where none is held. The packages
+/// stand behind the first variable, in their order.
+fn next_held(space: &Space, values: &Assignment, member: u32) -> u32
+    requires values { length values.now ≡ length space.now.meanings }
+    requires member { member ≤ length space.now.repository.packages }
+    ensures { IsNextHeld space.now values.now member result }
+{
+    packages_come_first();
+    let packages = space.package_count();
+    if member == packages {
+        return packages;
+    }
+    match next_true(values, space.variables(), member + 2) {
+        Some(variable) => packages.min(variable - 2),
+        None => packages,
+    }
+}
+
+/// Notes the number of an installation for each package that it holds.
 fn note(space: &Space, latest: &mut [u32], values: &Assignment, number: u32)
     requires values { length values.now ≡ length space.now.meanings }
     requires latest { length latest.old ≡ length space.now.repository.packages }
     ensures { AreNoted space.now (length space.now.repository.packages) values.now number latest.old latest.new }
 {
-    for member in 0..space.package_count() {
-        let variable = space.variable(&Meaning::Present(member));
-        if values.value(variable) {
-            latest[member as usize] = number;
-        }
+    let packages = space.package_count();
+    let mut member = next_held(space, values, 0);
+    'members: while member < packages {
+        latest[member as usize] = number;
+        member = next_held(space, values, member + 1);
     }
 }
 

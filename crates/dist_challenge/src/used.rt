@@ -1,22 +1,53 @@
 //! The clusters that an installation uses.
 ghost use Rattle.std.specs.Prelude.{◌≡◌, ◌+◌, ◌^◌, ◌<◌, ◌≤◌, IfOk, IfSome, length};
 ghost use Rattle.dist_cert.specs.Form.{IsSmall};
-ghost use Rattle.dist_cert.specs.Rising.{AreRising, is_among};
+ghost use Rattle.dist_cert.specs.Rising.{is_among};
 ghost use Rattle.dist_challenge.specs.ChallengedPrivate.{AreUsed};
 ghost use Rattle.dist_challenge.specs.UsedPrivate.{AreFlags, IsFlagged, cluster_at, pair_at};
 
 use dist_cert::{Items, Numbers};
 use dist_clause::Assignment;
 use dist_space::{Meaning, Space};
-use dist_sweep::true_variables;
+use dist_sweep::{next_true, true_variables};
 use std::alloc::{AllocError, Global};
+use std::marker::Model;
 
-/// Whether rising numbers have this one.
-pub(crate) fn has(numbers: &[u32], number: u32) -> bool
-    requires { AreRising numbers.now }
-    ensures { result ≡ is_among numbers.now number }
-{
-    numbers.binary_search(&number).is_ok()
+/// The clusters that an installation uses, by their numbers from 1, rising, and each by a flag: whether one is used is asked for
+/// each pair.
+#[derive(Debug, Drop)]
+pub(crate) struct Used {
+    numbers: Numbers,
+    flags: Assignment,
+    clusters: u32,
+}
+
+impl Model for Used {
+    ghost use Rattle.std.specs.Prelude.{◌≡◌, ℕ, List, length};
+    ghost use Rattle.dist_sweep.specs.Words.{true_variables};
+
+    ghost Value = { List ℕ };
+
+    ghost view = { λ u. u.numbers };
+
+    ghost invariant = { λ u. (u.numbers ≡ true_variables u.flags) × (length u.flags ≡ u.clusters) };
+}
+
+impl Used {
+    pub(crate) fn as_slice(&self) -> &[u32]
+        ensures { result.now ≡ self.now }
+    {
+        self.numbers.as_slice()
+    }
+
+    /// Whether a number is one of them.
+    pub(crate) fn has(&self, number: u32) -> bool
+        ensures { result ≡ is_among self.now number }
+    {
+        if number == 0 || number > self.clusters {
+            return false;
+        }
+        self.flags.value(number)
+    }
 }
 
 /// The cluster of a variable's package, as it is or new.
@@ -73,9 +104,15 @@ fn used_flags(alloc: Global, space: &Space, values: &Assignment) -> Result<Assig
     ensures { IfOk result (AreFlags space.now values.now (length space.now.meanings)) }
 {
     let mut flags = Assignment::new(alloc, space.clusters().len())?;
-    for place in 0..space.variables() {
-        if values.value(place + 1) {
-            flag(space, &mut flags, place + 1);
+    let variables = space.variables();
+    let mut last = 0;
+    'variables: while last < variables {
+        match next_true(values, variables, last + 1) {
+            Some(variable) => {
+                flag(space, &mut flags, variable);
+                last = variable;
+            }
+            None => last = variables,
         }
     }
     Ok(flags)
@@ -86,12 +123,17 @@ pub(crate) fn used_clusters(
     alloc: Global,
     space: &Space,
     values: &Assignment,
-) -> Result<Numbers, AllocError>
+) -> Result<Used, AllocError>
     requires { length values.now ≡ length space.now.meanings }
     ensures { IfOk result (AreUsed space.now values.now) }
 {
     let _variables = space.variables();
+    let clusters = space.clusters().len();
     let flags = used_flags(alloc, space, values)?;
-    let used = true_variables(alloc, &flags, space.clusters().len())?;
-    Ok(Items::from_vec(used))
+    let used = true_variables(alloc, &flags, clusters)?;
+    Ok(Used {
+        numbers: Items::from_vec(used),
+        flags,
+        clusters,
+    })
 }

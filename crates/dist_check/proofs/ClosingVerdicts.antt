@@ -9,7 +9,7 @@ use Rattle.std.proofs.lemmas.Grind.{flat_map-append}
 use Rattle.std.proofs.lemmas.List.Elements.{All-cons, All-nil}
 use Rattle.dist_base.specs.ListLaws.{any-cases, any-head}
 use Rattle.dist_clause.specs.Formula.{Literal}
-use Rattle.dist_derive.specs.New.{EachIsNew}
+use Rattle.dist_derive.specs.New.{AreNewFrom, EachIsNew}
 use Rattle.dist_cert.specs.declared.faults.CertCause.{CertCause}
 use Rattle.dist_cert.specs.declared.faults.CertCause.TheVariants as causes
 use Rattle.dist_cert.specs.declared.records.CertKind.{CertKind}
@@ -22,7 +22,6 @@ use Rattle.dist_cert.specs.Groups.{clause_of, derived, derived_in, claim_count, 
 use Rattle.dist_cert.specs.Subject.{Matter}
 use Rattle.dist_cert.specs.ClaimRules.{yes, claim_question, HoldsClaim, IsNamed}
 use Rattle.dist_cert.specs.LineRules.{HasRecordFault}
-use Rattle.dist_check_state.specs.Since.{AreNewFrom}
 use Rattle.dist_check_group.specs.Layout.{present}
 use Rattle.dist_check_group.specs.Window.{has_member, kept_at}
 use Rattle.dist_check_state.specs.State.{QuestionView, StateView, is_next, is_outdated, holds_alive, holds_outdated, holds_uninstallable, TellsUndecided}

@@ -10,7 +10,7 @@ use Rattle.dist_clause.specs.ClauseList.{clause_at}
 use Rattle.dist_clause.specs.Formula.{Literal, negation, IsModel, value_of}
 use Rattle.dist_derive.specs.ClauseLog.{inputs_of}
 use Rattle.dist_derive.specs.Follows.{Follows}
-use Rattle.dist_derive.specs.New.{IsNew, EachIsNew}
+use Rattle.dist_derive.specs.New.{AreNewFrom, IsNew, EachIsNew}
 use Rattle.dist_cert.specs.declared.faults.CertCause.{CertCause}
 use Rattle.dist_cert.specs.declared.faults.CertCause.TheVariants as causes
 use Rattle.dist_cert.specs.declared.records.CertKind.{CertKind}
@@ -24,7 +24,6 @@ use Rattle.dist_cert.specs.Subject.{Matter}
 use Rattle.dist_cert.specs.LineRules.{HasRecordFault, IsNoFuture}
 use Rattle.dist_check.specs.CheckedPrivate.{AreInputsOf}
 use Rattle.dist_cert.specs.Rising.{is_among}
-use Rattle.dist_check_state.specs.Since.{AreNewFrom}
 use Rattle.dist_check_state.specs.Future.{StandsForFuture}
 use Rattle.dist_check_state.specs.State.{QuestionView, StateView, names_above, is_above, TellsQuestion, TellsDerived, TellsRefuted, TellsInstallation}
 use Rattle.dist_check.specs.AtPrivate.{IsQuestionOf, IsAt}

@@ -58,6 +58,34 @@ fn take_lines<D: Desk>(
     }
 }
 
+/// What the text behind its first line claims, with what is kept behind that one.
+fn claims_behind<D: Desk>(
+    alloc: Global,
+    repo: &Repository,
+    desk: &mut D,
+    limits: &Limits,
+    header: &Header,
+    reader: &mut Reader,
+    state: State,
+) -> Result<Claims, ReadCertError>
+    requires reading { IsReading (D.view desk.old).mode }
+    requires variables { header.now.variables ≡ state.log.variables }
+    requires start { IsChecked repo.now limits.now None header.now reader.old None state }
+    ensures text { (told : Option (List ℕ)) → IsChecked repo.now limits.now told header.now reader.old (text_left reader.old (D.view desk.old)) state
+        → OfText told (λ text. TextAnswers (λ _. header.now) (λ claims. claims) repo.now limits.now text result) }
+    ensures some { (text : List ℕ) × TextAnswers (λ _. header.now) (λ claims. claims) repo.now limits.now text result }
+    ensures cause { IfErr result (TextCause (D.view desk.old) (D.view desk.new)) }
+    ensures large { IfErr result (LargeCause repo.now limits.now) }
+    ensures only_reads { OnlyReads (D.view desk.old) (D.view desk.new) }
+{
+    let mut state = state;
+    let mut tools = Tools::new(alloc, header.variables)?;
+    take_lines(
+        alloc, repo, desk, limits, header, reader, &mut state, &mut tools,
+    )?;
+    Ok(state.into_claims())
+}
+
 /// Checks the text that a desk is reading.
 pub(crate) fn check_text<D: Desk>(
     alloc: Global,
@@ -82,20 +110,7 @@ pub(crate) fn check_text<D: Desk>(
     let _in_order = repo.len();
     let mut reader = Reader::new(alloc, limits);
     let header = reader.header(desk)?;
-    let mut state = start(alloc, repo, &header, limits)?;
-    let mut tools = Tools::new(alloc, header.variables)?;
-    take_lines(
-        alloc,
-        repo,
-        desk,
-        limits,
-        &header,
-        &mut reader,
-        &mut state,
-        &mut tools,
-    )?;
-    Ok(Checked {
-        header,
-        claims: state.into_claims(),
-    })
+    let state = start(alloc, repo, &header, limits)?;
+    let claims = claims_behind(alloc, repo, desk, limits, &header, &mut reader, state)?;
+    Ok(Checked { header, claims })
 }

@@ -153,5 +153,5 @@ pub(crate) fn start(
     }
     let mut log = Log::new(alloc, inputs, limits.lines, limits.line_literals);
     log.cover()?;
-    Ok(State::new(alloc, header.limit, packages, layout, future, log)?)
+    Ok(State::new(alloc, header.limit, packages, layout, future, log))
 }

@@ -1,20 +1,22 @@
 -- Pairs in order, and the tests of a claim on challenges by what was looked up for it.
-use Rattle.std.proofs.Common.{◌≡◌, inl, inr, ℕ, zero, suc, ◌+◌, ◌-◌, ◌<◌, ◌≤◌, ◌==◌, ◌&&◌, ◌||◌, Bool, true, not, List, [], length, map}
-use Rattle.std.proofs.Common.{get_or, sym, ap, subst, ◌∙◌, arith, nat_le}
+use Rattle.std.proofs.Common.{◌≡◌, inl, inr, ℕ, zero, suc, ◌+◌, ◌-◌, ◌<◌, ◌≤◌, ◌==◌, ◌&&◌, ◌||◌, Bool, true, false, not, List, [], ◌∷◌, length, map}
+use Rattle.std.proofs.Common.{get_or, refl, sym, ap, subst, ◌∙◌, arith, nat_le}
 use Rattle.std.proofs.Math.Path.{fun_ext}
 use Rattle.std.specs.List.{AllPairs, AllAdjacentBelow, Contains, list_any}
-use Rattle.std.proofs.lemmas.Bool.{and_parts, and_from, cases_lt, or_from, or_parts, le-leb, leb-true, not-true, not-false, not_from_true, not_from_false}
-use Rattle.std.proofs.lemmas.List.{get_or_default, get_or_past}
+use Rattle.std.proofs.lemmas.Bool.{and_parts, and_from, cases_Bool, cases_lt, eqb-true, or_from, or_parts, or_right, le-leb, leb-true}
+use Rattle.std.proofs.lemmas.Bool.{not-true, not-false, not_from_true, not_from_false}
+use Rattle.std.proofs.lemmas.List.{get_or-map, get_or_default, get_or_past, length-map}
 use Rattle.std.proofs.lemmas.List.Folds.{Any-from_list_any, list_any-from_Any}
 use Rattle.dist_cert.specs.ClaimRules.{IsPairBelow}
 use Rattle.dist_cert.specs.Rising.{is_among}
-use Rattle.dist_cert.specs.ListLaws.{any-from, from-any}
+use Rattle.dist_cert.specs.ListLaws.{any-from, contains-later, from-any}
 use Rattle.dist_check_group.specs.Layout.{LayoutView, at_class, classes_of, cluster_of}
 use Rattle.dist_check_group.specs.Window.{WindowView}
 use Rattle.dist_check_group.specs.Cover.{CoverView}
 use Rattle.dist_check_group.specs.Group.{GroupView}
-use Rattle.dist_check_group.specs.Challenge.{OmitsPair, is_covered, is_listed, is_used}
-use Rattle.dist_check_group.specs.FoundPrivate.{FoundView, IsFoundFor, is_open, leaves_out}
+use Rattle.dist_check_group.specs.Challenge.{OmitsPair, is_covered, is_held, is_listed, is_used}
+use Rattle.dist_check_group.specs.MarksPrivate.{is_marked}
+use Rattle.dist_check_group.specs.FoundPrivate.{FoundView, IsFoundFor, is_asked, is_open, leaves_out}
 
 -- ---- pairs in order
 
@@ -41,29 +43,64 @@ pairs-rising pairs next i j d less within =
 
 -- ---- what was looked up
 
-pub listed-is : (layout : LayoutView) (w : WindowView) (cover : CoverView) (named : List ℕ) (by undecided : List (ℕ × ℕ)) (found : FoundView)
-    → IsFoundFor layout w cover named by undecided found → (pairs : List (ℕ × ℕ))
+pub listed-is : (layout : LayoutView) (w : WindowView) (cover : CoverView) (variable : ℕ) (named : List ℕ) (by undecided : List (ℕ × ℕ))
+    (found : FoundView) → IsFoundFor layout w cover variable named by undecided found → (pairs : List (ℕ × ℕ))
     → list_any (λ pair. is_among found.undecided (at_class layout pair)) pairs ≡ list_any (is_listed layout undecided) pairs
-listed-is layout w cover named by undecided found x pairs =
+listed-is layout w cover variable named by undecided found x pairs =
     let test : ℕ × ℕ → Bool = λ pair. is_among found.undecided (at_class layout pair) in
     let same : test ≡ is_listed layout undecided = fun_ext (λ pair. x.undecided_is (at_class layout pair)) in
     ap (λ (t : ℕ × ℕ → Bool). list_any t pairs) same
 
-covers : (layout : LayoutView) (w : WindowView) (cover : CoverView) (named : List ℕ) (by undecided : List (ℕ × ℕ)) (found : FoundView)
-    → IsFoundFor layout w cover named by undecided found → (pair : ℕ × ℕ)
-    → (not (is_among found.used pair.0) || is_among found.held (at_class layout pair)) ≡ is_covered layout w cover named pair
-covers layout w cover named by undecided found x pair =
-    ap (λ (b : Bool). not b || is_among found.held (at_class layout pair)) (x.used_is pair.0)
+and-asked : (a b : Bool) → b ≡ true → (a && b) ≡ a
+and-asked true b e = e
+and-asked false b e = refl
+
+not-empty : (xs : List ℕ) (v : ℕ) → Contains xs v → not (length xs == 0) ≡ true
+not-empty xs v there = elim (cases_Bool (length xs == 0)) [
+  | inl none ↦ absurd (let e = eqb-true (length xs) 0 none in omega (arith, e, there.1))
+  | inr some ↦ ap not some
+]
+
+at-listed : (layout : LayoutView) (pairs : List (ℕ × ℕ)) (pair : ℕ × ℕ) → Contains pairs pair
+    → is_among (map (at_class layout) pairs) (at_class layout pair) ≡ true
+at-listed layout pairs pair there = any-from (at_class layout pair) (map (at_class layout) pairs) (
+  there.0,
+  omega (arith, there.1, length-map pairs (at_class layout)),
+  get_or-map (at_class layout) pairs there.0 pair (at_class layout pair) there.1 ∙ ap (at_class layout) there.2,
+)
+
+-- where a pair is undecided all clusters are asked for
+undecided-asked : (layout : LayoutView) (w : WindowView) (cover : CoverView) (variable : ℕ) (named : List ℕ) (by undecided : List (ℕ × ℕ))
+    (found : FoundView) → IsFoundFor layout w cover variable named by undecided found
+    → (pair : ℕ × ℕ) → Contains undecided pair → (cluster : ℕ) → is_asked layout found variable cluster ≡ true
+undecided-asked layout w cover variable named by undecided found x pair there cluster =
+    let v : ℕ = at_class layout pair in
+    ap (λ (b : Bool). b || leaves_out layout found variable cluster)
+    (not-empty found.undecided v (from-any v found.undecided (x.undecided_is v ∙ at-listed layout undecided pair there)))
+
+covers : (layout : LayoutView) (w : WindowView) (cover : CoverView) (variable : ℕ) (named : List ℕ) (by undecided : List (ℕ × ℕ))
+    (found : FoundView) → IsFoundFor layout w cover variable named by undecided found
+    → (pair : ℕ × ℕ) → is_asked layout found variable pair.0 ≡ true
+    → (not (is_among found.used pair.0) || is_marked found.held (at_class layout pair)) ≡ is_covered layout w cover named pair
+covers layout w cover variable named by undecided found x pair asked =
+    ap (λ (b : Bool). not b || is_marked found.held (at_class layout pair))
+    (x.used_is pair.0 ∙ and-asked (is_used layout w cover named pair.0) (is_asked layout found variable pair.0) asked)
     ∙ ap (λ (b : Bool). not (is_used layout w cover named pair.0) || b) (x.held_is (at_class layout pair))
 
-pub covered-is : (layout : LayoutView) (w : WindowView) (cover : CoverView) (named : List ℕ) (by undecided : List (ℕ × ℕ)) (found : FoundView)
-    → IsFoundFor layout w cover named by undecided found → (pairs : List (ℕ × ℕ))
-    → list_any (λ pair. not (is_among found.used pair.0) || is_among found.held (at_class layout pair)) pairs
-    ≡ list_any (is_covered layout w cover named) pairs
-covered-is layout w cover named by undecided found x pairs =
-    let test : ℕ × ℕ → Bool = λ pair. not (is_among found.used pair.0) || is_among found.held (at_class layout pair) in
-    let same : test ≡ is_covered layout w cover named = fun_ext (λ pair. covers layout w cover named by undecided found x pair) in
-    ap (λ (t : ℕ × ℕ → Bool). list_any t pairs) same
+any-same : (f g : ℕ × ℕ → Bool) (xs : List (ℕ × ℕ)) → ((pair : ℕ × ℕ) → Contains xs pair → f pair ≡ g pair) → list_any f xs ≡ list_any g xs
+any-same f g [] same = refl
+any-same f g (x ∷ xs) same =
+    ap (λ (b : Bool). b || list_any f xs) (same x (0, omega arith, refl))
+    ∙ ap (λ (b : Bool). g x || b) (any-same f g xs (λ pair there. same pair (contains-later x xs pair there)))
+
+pub covered-is : (layout : LayoutView) (w : WindowView) (cover : CoverView) (variable : ℕ) (named : List ℕ) (by undecided : List (ℕ × ℕ))
+    (found : FoundView) → IsFoundFor layout w cover variable named by undecided found
+    → list_any (λ pair. not (is_among found.used pair.0) || is_marked found.held (at_class layout pair)) undecided
+    ≡ list_any (is_covered layout w cover named) undecided
+covered-is layout w cover variable named by undecided found x =
+    any-same (λ pair. not (is_among found.used pair.0) || is_marked found.held (at_class layout pair)) (is_covered layout w cover named) undecided
+    (λ pair there. covers layout w cover variable named by undecided found x pair
+    (undecided-asked layout w cover variable named by undecided found x pair there pair.0))
 
 -- ---- a pair that is left out
 
@@ -91,7 +128,7 @@ within-clusters layout cluster place from within = elim (cases_lt (cluster - 1) 
 ]
 
 pub omits-from : (layout : LayoutView) (w : WindowView) (group : GroupView) (variable : ℕ) (named : List ℕ) (by undecided : List (ℕ × ℕ))
-    (found : FoundView) → IsFoundFor layout w group.cover named by undecided found
+    (found : FoundView) → IsFoundFor layout w group.cover variable named by undecided found
     → list_any (leaves_out layout found variable) found.used ≡ true → OmitsPair layout w group variable named by undecided
 omits-from layout w group variable named by undecided found x e =
     let any = Any-from_list_any (leaves_out layout found variable) found.used e in
@@ -102,11 +139,12 @@ omits-from layout w group variable named by undecided found x e =
     let v : ℕ = here.1 in
     let class = class-of layout cluster v (here.0, here.2, here.3) in
     let pair : ℕ × ℕ = (cluster, class.place + 1) in
-    let open_still = and_parts (not (is_among found.by v) && not (is_among found.undecided v)) (not (is_among found.held v)) here.4 in
+    let open_still = and_parts (not (is_among found.by v) && not (is_among found.undecided v)) (not (is_marked found.held v)) here.4 in
     let unlisted = and_parts (not (is_among found.by v)) (not (is_among found.undecided v)) open_still.0 in
     let from : 1 ≤ cluster = leb-true 1 cluster front.0 in
     let within = class.within in
-    let used : is_among found.used cluster ≡ true = any-from cluster found.used (any.0, any.2, any.3) in
+    let there : is_among found.used cluster ≡ true = any-from cluster found.used (any.0, any.2, any.3) in
+    let used = and_parts (is_used layout w group.cover named cluster) (is_asked layout found variable cluster) (sym (x.used_is cluster) ∙ there) in
     record {
       pair = pair;
       is_pair = and_from _ (not (cluster == cluster_of layout variable))
@@ -120,13 +158,13 @@ omits-from layout w group variable named by undecided found x e =
       unlisted = ap (λ (n : ℕ). is_among (map (at_class layout) by) n) class.is ∙ sym (x.by_is v) ∙ not-true (is_among found.by v) unlisted.0;
       decided = ap (λ (n : ℕ). is_among (map (at_class layout) undecided) n) class.is ∙ sym (x.undecided_is v)
           ∙ not-true (is_among found.undecided v) unlisted.1;
-      uncovered = sym (covers layout w group.cover named by undecided found x pair)
-          ∙ or_from (not (is_among found.used cluster)) (is_among found.held (at_class layout pair)) (not_from_true (is_among found.used cluster) used)
-          (ap (λ (n : ℕ). is_among found.held n) class.is ∙ not-true (is_among found.held v) open_still.1);
+      uncovered = or_from (not (is_used layout w group.cover named cluster)) (is_held layout w group.cover named (at_class layout pair))
+          (not_from_true (is_used layout w group.cover named cluster) used.0)
+          (sym (x.held_is (at_class layout pair)) ∙ ap (λ (n : ℕ). is_marked found.held n) class.is ∙ not-true (is_marked found.held v) open_still.1);
     }
 
 pub omits-to : (layout : LayoutView) (w : WindowView) (group : GroupView) (variable : ℕ) (named : List ℕ) (by undecided : List (ℕ × ℕ))
-    (found : FoundView) → IsFoundFor layout w group.cover named by undecided found
+    (found : FoundView) → IsFoundFor layout w group.cover variable named by undecided found
     → OmitsPair layout w group variable named by undecided → list_any (leaves_out layout found variable) found.used ≡ true
 omits-to layout w group variable named by undecided found x omits =
     let pair : ℕ × ℕ = omits.pair in
@@ -138,21 +176,18 @@ omits-to layout w group variable named by undecided found x omits =
     let from : 1 ≤ pair.1 = leb-true 1 pair.1 low.1 in
     let upto : pair.1 ≤ length (classes_of layout pair.0) = leb-true pair.1 (length (classes_of layout pair.0)) high.1 in
     let within : pair.1 - 1 < length (classes_of layout pair.0) = omega (arith, from, upto) in
-    let uncovered = or_parts (not (is_among found.used pair.0)) (is_among found.held v)
-    (covers layout w group.cover named by undecided found x pair ∙ omits.uncovered) in
-    let used = from-any pair.0 found.used (not-false (is_among found.used pair.0) uncovered.0) in
-    let open_still : is_open found v ≡ true = and_from (not (is_among found.by v) && not (is_among found.undecided v)) (not (is_among found.held v))
+    let is_used_here : Bool = is_used layout w group.cover named pair.0 in
+    let uncovered = or_parts (not is_used_here) (is_held layout w group.cover named v) omits.uncovered in
+    let open_still : is_open found v ≡ true = and_from (not (is_among found.by v) && not (is_among found.undecided v)) (not (is_marked found.held v))
     (and_from (not (is_among found.by v)) (not (is_among found.undecided v)) (not_from_false (is_among found.by v) (x.by_is v ∙ omits.unlisted))
     (not_from_false (is_among found.undecided v) (x.undecided_is v ∙ omits.decided)))
-    (not_from_false (is_among found.held v) uncovered.1) in
+    (not_from_false (is_marked found.held v) (x.held_is v ∙ uncovered.1)) in
     let class = list_any-from_Any (is_open found) (classes_of layout pair.0)
     (pair.1 - 1, v, within, get_or_default (classes_of layout pair.0) (pair.1 - 1) v 0 within, open_still) in
-    list_any-from_Any (leaves_out layout found variable) found.used (
-      used.0,
-      pair.0,
-      used.1,
-      used.2,
-      and_from (nat_le 1 pair.0 && not (pair.0 == cluster_of layout variable))
-          (list_any (is_open found) (classes_of layout pair.0))
-          (and_from (nat_le 1 pair.0) (not (pair.0 == cluster_of layout variable)) cluster.0 own.1) class,
-    )
+    let leaves : leaves_out layout found variable pair.0 ≡ true = and_from (nat_le 1 pair.0 && not (pair.0 == cluster_of layout variable))
+    (list_any (is_open found) (classes_of layout pair.0))
+    (and_from (nat_le 1 pair.0) (not (pair.0 == cluster_of layout variable)) cluster.0 own.1) class in
+    let asked = or_right (not (length found.undecided == 0)) (leaves_out layout found variable pair.0) leaves in
+    let used = from-any pair.0 found.used
+    (x.used_is pair.0 ∙ and_from is_used_here (is_asked layout found variable pair.0) (not-false is_used_here uncovered.0) asked) in
+    list_any-from_Any (leaves_out layout found variable) found.used (used.0, pair.0, used.1, used.2, leaves)

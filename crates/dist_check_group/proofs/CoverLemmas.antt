@@ -6,7 +6,7 @@ use Rattle.std.specs.List.{Contains, list_all, list_any}
 use Rattle.std.proofs.lemmas.Bool.{and_left}
 use Rattle.std.proofs.lemmas.List.{append-nil, map-append}
 use Rattle.std.proofs.lemmas.List.Elements.{filter_more}
-use Rattle.std.proofs.lemmas.List.Folds.{Any-from_list_any, list_any-append, list_any-from_Any, list_any_more}
+use Rattle.std.proofs.lemmas.List.Folds.{Any-from_list_any, list_any-append, list_any-from_Any}
 use Rattle.dist_cert.specs.Rising.{is_among}
 use Rattle.dist_cert.specs.ListLaws.{both-flags}
 use Rattle.dist_check_group.specs.Layout.{LayoutView, cluster_of, is_package, non_packages, used}
@@ -111,31 +111,6 @@ gathers-one layout variable members old kept held there same more = record {
       ∙ ap (λ (b : Bool). is_among old.held v || (b && is_among (non_packages layout members) v)) (sym there);
 }
 
-or-none : (b : Bool) → b ≡ (b || false)
-or-none true = refl
-or-none false = refl
-
--- before the first one that is named
-pub named-first : (before : List ℕ) (v : ℕ) (test : ℕ → Bool) → is_among before v ≡ (is_among before v || list_any test [])
-named-first before v test = or-none (is_among before v)
-
-or-assoc : (a b c : Bool) → ((a || b) || c) ≡ (a || (b || c))
-or-assoc true b c = refl
-or-assoc false b c = refl
-
--- what one more installation holds
-pub named-more : (layout : LayoutView) (w : WindowView) (named before held : List ℕ) (i v : ℕ) → i < length named
-    → is_among held v ≡ (is_among before v || list_any (λ number. is_among (non_packages layout (members_at w number)) v) (take i named))
-    → is_among (held ++ non_packages layout (members_at w (get_or named i 0))) v
-    ≡ (is_among before v || list_any (λ number. is_among (non_packages layout (members_at w number)) v) (take (i + 1) named))
-named-more layout w named before held i v within is =
-    let test : ℕ → Bool = λ number. is_among (non_packages layout (members_at w number)) v in
-    let here : Bool = test (get_or named i 0) in
-    list_any-append (λ n. v == n) held (non_packages layout (members_at w (get_or named i 0)))
-    ∙ ap (λ (b : Bool). b || here) is
-    ∙ or-assoc (is_among before v) (list_any test (take i named)) here
-    ∙ ap (λ (b : Bool). is_among before v || b) (sym (list_any_more test named i 0 within))
-
 -- ---- installations that are named once
 
 absorb : (a b : Bool) → (a && (a && b)) ≡ (a && b)
@@ -162,3 +137,12 @@ pub held-once : (layout : LayoutView) (w : WindowView) (cover : CoverView) (name
 held-once layout w cover named once same v =
     ap (λ (b : Bool). is_among cover.held v || b)
     (same-any (λ number. is_among (non_packages layout (members_at w number)) v) named once same)
+
+-- ---- clusters that are asked for
+
+pub swap-last : (a b c : Bool) → ((a && b) && c) ≡ ((a && c) && b)
+swap-last true true true = refl
+swap-last true true false = refl
+swap-last true false true = refl
+swap-last true false false = refl
+swap-last false b c = refl

@@ -2,4 +2,5 @@ mod RisingLemmas
 mod SetLemmas
 mod RuleLemmas
 mod CoverLemmas
+mod MarkLemmas
 mod ChallengeLemmas

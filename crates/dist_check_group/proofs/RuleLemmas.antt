@@ -3,12 +3,12 @@ use Rattle.std.proofs.Common.{◌≡◌, ℕ, ◌+◌, ◌<◌, ◌↔◌, ◌==
 use Rattle.std.proofs.Common.{get_or, refl, sym, ap, ◌∙◌, arith, take, if◌then◌else◌}
 use Rattle.std.proofs.Math.Path.{fun_ext}
 use Rattle.std.specs.List.{Contains, list_all, list_any}
-use Rattle.std.proofs.lemmas.Bool.{eqb-true, and_parts, and_from}
+use Rattle.std.proofs.lemmas.Bool.{cases_Bool, eqb-true, false≢true, and_parts, and_from, or_parts}
 use Rattle.std.proofs.lemmas.List.{take_more}
-use Rattle.dist_check_group.specs.Group.{GroupView, always, candidates, in_each, is_always, omits_package}
+use Rattle.dist_check_group.specs.Group.{AreListsRight, GroupView, candidates, in_each, is_always, omits_package}
 use Rattle.dist_cert.specs.Rising.{is_among}
 use Rattle.dist_check_group.specs.Window.{WindowView, has_member, kept_at}
-use Rattle.dist_cert.specs.ListLaws.{both-flags, contains-cases, contains-later}
+use Rattle.dist_cert.specs.ListLaws.{any-from, both-flags, contains-cases, contains-later, from-any}
 
 and-true : (a : Bool) → (a && true) ≡ a
 and-true true = refl
@@ -36,7 +36,7 @@ filter-none f (x ∷ xs) none = ap (λ (b : Bool). if b then x ∷ filter f xs e
 pub none-kept : (kept : Option (List ℕ)) (xs : List ℕ) → kept ≡ None → filter (has_member kept) xs ≡ []
 none-kept kept xs none = filter-none (has_member kept) xs (λ q. ap (λ (m : Option (List ℕ)). has_member m q) none)
 
-filter-twice : (f g : ℕ → Bool) (xs : List ℕ) → filter g (filter f xs) ≡ filter (λ q. f q && g q) xs
+pub filter-twice : (f g : ℕ → Bool) (xs : List ℕ) → filter g (filter f xs) ≡ filter (λ q. f q && g q) xs
 filter-twice f g [] = refl
 filter-twice f g (x ∷ xs) = at (f x) (filter-twice f g xs)
   where
@@ -118,14 +118,63 @@ named-once w named sorted xs same = filter-ext (in_each w sorted) (in_each w nam
 
 -- ---- the rules
 
-pub always-all : (w : WindowView) (common : Option (List ℕ)) (named found undecided : List ℕ) → found ≡ always w common named
-    → list_all (is_among found) undecided ≡ list_all (is_always w common named) undecided
-always-all w common named found undecided is =
-    ap (λ (ys : List ℕ). list_all (is_among ys) undecided) is
-    ∙ ap (λ (f : ℕ → Bool). list_all f undecided) (fun_ext (λ q. among-filter (in_each w named) (candidates w common named) q))
+-- of a list in which none passes a test, none does
+any-none : (f : ℕ → Bool) (xs : List ℕ) → list_any f xs ≡ false → (n : ℕ) → Contains xs n → f n ≡ false
+any-none f [] e n there = absurd (omega (arith, there.1))
+any-none f (x ∷ xs) e n there =
+    let parts = or_parts (f x) (list_any f xs) e in
+    elim (contains-cases x xs n there) [
+      | inl here ↦ ap f (sym here) ∙ parts.0
+      | inr later ↦ any-none f xs parts.1 n later
+    ]
 
-pub omitted-any : (w : WindowView) (group : GroupView) (p : ℕ) (named on undecided found : List ℕ) → found ≡ always w group.common named
-    → list_any (λ q. not (q == p) && not (is_among on q) && not (is_among undecided q)) found ≡ omits_package w group p named on undecided
+all-same : (f g : ℕ → Bool) (xs : List ℕ) → ((n : ℕ) → Contains xs n → f n ≡ g n) → list_all f xs ≡ list_all g xs
+all-same f g xs same =
+    both-flags (list_all f xs) (list_all g xs) (λ e. each-all g xs (λ n there. sym (same n there) ∙ all-each f xs e n there))
+    (λ e. each-all f xs (λ n there. same n there ∙ all-each g xs e n there))
+
+-- a package other than p that the claim doesn't name as a dependency
+abbrev pub is_left : ℕ → List ℕ → ℕ → Bool
+is_left p on q = not (q == p) && not (is_among on q)
+
+-- an undecided one is of these
+undecided-left : (w : WindowView) (group : GroupView) (packages p : ℕ) (named on undecided : List ℕ)
+    → AreListsRight w group packages p named on undecided
+    → (q : ℕ) → Contains undecided q → is_left p on q ≡ true
+undecided-left w group packages p named on undecided right q there =
+    and_from (not (q == p)) (not (is_among on q)) (and_parts (not (q == p)) _ (all-each _ undecided right.undecided_others q there)).0
+    (elim (cases_Bool (is_among on q)) [
+      | inl listed ↦ absurd (false≢true (sym (any-none (is_among undecided) on right.apart q (from-any q on listed)) ∙ any-from q undecided there))
+      | inr out ↦ ap (λ (b : Bool). not b) out
+    ])
+
+-- what is left over of the packages that are in all of the claim's installations
+abbrev pub left_over : WindowView → Option (List ℕ) → ℕ → List ℕ → List ℕ → List ℕ
+left_over w common p named on = filter (λ q. is_left p on q && in_each w named q) (candidates w common named)
+
+true-and : (a b c : Bool) → b ≡ true → (a && (b && c)) ≡ (a && c)
+true-and a b c e = ap (λ (d : Bool). a && (d && c)) e
+
+pub always-all : (w : WindowView) (group : GroupView) (packages p : ℕ) (named on undecided found : List ℕ)
+    → AreListsRight w group packages p named on undecided → found ≡ left_over w group.common p named on
+    → list_all (is_among found) undecided ≡ list_all (is_always w group.common named) undecided
+always-all w group packages p named on undecided found right is =
+    ap (λ (ys : List ℕ). list_all (is_among ys) undecided) is
+    ∙ all-same (is_among (left_over w group.common p named on)) (is_always w group.common named) undecided
+    (λ q there. among-filter (λ n. is_left p on n && in_each w named n) (candidates w group.common named) q
+    ∙ true-and (is_among (candidates w group.common named) q) (is_left p on q) (in_each w named q)
+    (undecided-left w group packages p named on undecided right q there))
+
+swap-and : (a b c : Bool) → (b && (a && c)) ≡ ((a && b) && c)
+swap-and true true c = refl
+swap-and true false c = refl
+swap-and false true c = refl
+swap-and false false c = refl
+
+pub omitted-any : (w : WindowView) (group : GroupView) (p : ℕ) (named on undecided found : List ℕ) → found ≡ left_over w group.common p named on
+    → list_any (λ q. not (is_among undecided q)) found ≡ omits_package w group p named on undecided
 omitted-any w group p named on undecided found is =
-    let test : ℕ → Bool = λ q. not (q == p) && not (is_among on q) && not (is_among undecided q) in
-    ap (λ (ys : List ℕ). list_any test ys) is ∙ any-filter test (in_each w named) (candidates w group.common named)
+    let test : ℕ → Bool = λ q. not (is_among undecided q) in
+    let cands : List ℕ = candidates w group.common named in
+    ap (λ (ys : List ℕ). list_any test ys) is ∙ any-filter test (λ q. is_left p on q && in_each w named q) cands
+    ∙ ap (λ (f : ℕ → Bool). list_any f cands) (fun_ext (λ q. swap-and (is_left p on q) (test q) (in_each w named q)))

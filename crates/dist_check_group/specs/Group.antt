@@ -1,5 +1,5 @@
 -- What is kept of a group, and the tests of a claim on strong dependencies.
-use Rattle.std.specs.Prelude.{◌≡◌, ◌==◌, ◌&&◌, ℕ, Bool, true, false, List, [], ◌∷◌, Option, Some, None, filter, not}
+use Rattle.std.specs.Prelude.{◌≡◌, ◌==◌, ◌&&◌, ℕ, Bool, true, false, List, [], ◌∷◌, Option, Some, None, not}
 use Rattle.std.specs.Prelude.{nat_le, unwrap_or}
 use Rattle.std.specs.List.{list_all, list_any}
 use Rattle.dist_cert.specs.declared.faults.CertCause.{CertCause}
@@ -52,10 +52,6 @@ candidates w None (number ∷ named) = unwrap_or (kept_at w number) []
 -- the package is in all of the claim's installations
 abbrev pub is_always : WindowView → Option (List ℕ) → List ℕ → ℕ → Bool
 is_always w common named q = is_among (candidates w common named) q && in_each w named q
-
--- the packages that are in all of the claim's installations
-abbrev pub always : WindowView → Option (List ℕ) → List ℕ → List ℕ
-always w common named = filter (in_each w named) (candidates w common named)
 
 -- The rules of a claim that p strongly depends on some packages and perhaps on others, as tests of what is kept: those
 -- of its lists alone, and all of them.

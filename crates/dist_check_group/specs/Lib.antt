@@ -5,4 +5,5 @@ pub mod Common
 pub mod Cover
 pub mod Group
 pub mod Challenge
+pub mod MarksPrivate
 pub mod FoundPrivate

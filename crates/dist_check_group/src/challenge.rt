@@ -6,6 +6,7 @@ ghost use Rattle.dist_cert.specs.Rising.{is_among};
 ghost use Rattle.dist_check_group.specs.Group.{in_each};
 ghost use Rattle.dist_check_group.specs.Layout.{at_class, classes_of};
 ghost use Rattle.dist_check_group.specs.Challenge.{ArePairsRight, TellsChallenge, is_pair_for};
+ghost use Rattle.dist_check_group.specs.MarksPrivate.{is_marked};
 ghost use Rattle.dist_check_group.specs.FoundPrivate.{IsFoundFor, is_open, leaves_out};
 
 use crate::found::Found;
@@ -84,7 +85,7 @@ fn is_any_undecided(layout: &Layout, found: &Found, pairs: &[(u32, u32)]) -> boo
 
 /// Whether the installations of a claim have its package, and one of them is of today.
 fn has_installations(window: &Window, found: &Found, claim: &ChallengeClaim<'_>) -> bool
-    ensures { result ≡ (in_each window.now claim.now.named.now claim.now.variable && is_among found.now.held 1) }
+    ensures { result ≡ (in_each window.now claim.now.named.now claim.now.variable && is_marked found.now.held 1) }
 {
     is_in_each(window, claim.named, claim.variable) && found.holds(1)
 }
@@ -97,7 +98,7 @@ fn are_pairs_right(
     claim: &ChallengeClaim<'_>,
     found: &Found,
 ) -> bool
-    requires { IsFoundFor layout.now window.now group.now.cover claim.now.named.now claim.now.by.now claim.now.undecided.now found.now }
+    requires { IsFoundFor layout.now window.now group.now.cover claim.now.variable claim.now.named.now claim.now.by.now claim.now.undecided.now found.now }
     ensures { IsTrue result
         ↔ ArePairsRight layout.now window.now group.now claim.now.variable claim.now.named.now claim.now.by.now claim.now.undecided.now }
 {
@@ -125,14 +126,14 @@ fn are_pairs_right(
 
 /// Whether a pair is covered by one of the claim's installations.
 fn is_covered(layout: &Layout, found: &Found, pair: (u32, u32)) -> bool
-    ensures { result ≡ (not (is_among found.now.used pair.0) || is_among found.now.held (at_class layout.now pair)) }
+    ensures { result ≡ (not (is_among found.now.used pair.0) || is_marked found.now.held (at_class layout.now pair)) }
 {
     !found.uses(pair.0) || found.holds(layout.at_class(pair))
 }
 
 /// Whether one of some pairs is.
 fn is_any_covered(layout: &Layout, found: &Found, pairs: &[(u32, u32)]) -> bool
-    ensures { result ≡ list_any (λ pair. not (is_among found.now.used pair.0) || is_among found.now.held (at_class layout.now pair)) pairs.now }
+    ensures { result ≡ list_any (λ pair. not (is_among found.now.used pair.0) || is_marked found.now.held (at_class layout.now pair)) pairs.now }
 {
     pairs.iter().any(|pair| is_covered(layout, found, *pair))
 }
@@ -155,14 +156,14 @@ fn has_open_class(layout: &Layout, found: &Found, cluster: u32) -> bool
 }
 
 /// Whether a cluster other than the variable's has one.
-fn leaves_out(layout: &Layout, found: &Found, variable: u32, cluster: u32) -> bool
+pub(crate) fn leaves_out(layout: &Layout, found: &Found, variable: u32, cluster: u32) -> bool
     ensures { result ≡ leaves_out layout.now found.now variable cluster }
 {
     1 <= cluster && cluster != layout.cluster_of(variable) && has_open_class(layout, found, cluster)
 }
 
-/// Whether a pair is neither listed nor covered. Only clusters that all installations use are looked at, since all others are
-/// covered.
+/// Whether a pair is neither listed nor covered. Only clusters that all installations use are looked at, since the pairs of
+/// all others are covered.
 fn omits_pair(layout: &Layout, found: &Found, variable: u32) -> bool
     ensures { result ≡ list_any (leaves_out layout.now found.now variable) found.now.used }
 {

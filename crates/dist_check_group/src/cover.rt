@@ -125,11 +125,7 @@ pub(crate) fn used_by(
 }
 
 /// Adds the members of an installation that are no packages.
-pub(crate) fn add_held(
-    layout: &Layout,
-    members: &[u32],
-    held: &mut Vec<u32>,
-) -> Result<(), AllocError>
+fn add_held(layout: &Layout, members: &[u32], held: &mut Vec<u32>) -> Result<(), AllocError>
     ensures { OnOk result (held.new.items ≡ held.old.items ++ non_packages layout.now members.now) }
 {
     for member in members {

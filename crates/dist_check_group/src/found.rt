@@ -1,27 +1,30 @@
-//! What is looked up for a claim on challenges: once for the claim, so that each test of it is a halving.
-ghost use Rattle.std.specs.Prelude.{◌≡◌, ◌||◌, ℕ, IfOk, OnOk, filter, map};
+//! What is looked up for a claim on challenges: once for the claim, so that each test of it is a halving. A claim that is
+//! right lists nearly all that it must, so few clusters are left to be looked for in the installations that it names.
+ghost use Rattle.std.specs.Prelude.{◌≡◌, ◌==◌, ◌&&◌, ◌||◌, ℕ, IfOk, OnOk, filter, length, map, not};
 ghost use Rattle.std.specs.List.{list_any};
 ghost use Rattle.dist_cert.specs.Rising.{AreRising, is_among};
-ghost use Rattle.dist_check_group.specs.Layout.{at_class, non_packages, used};
+ghost use Rattle.dist_check_group.specs.Layout.{at_class, is_package, non_packages, used};
 ghost use Rattle.dist_check_group.specs.Window.{members_at};
-ghost use Rattle.dist_check_group.specs.Challenge.{first_used, is_held, is_used, use_each};
-ghost use Rattle.dist_check_group.specs.FoundPrivate.{FoundView, IsFoundFor};
+ghost use Rattle.dist_check_group.specs.Challenge.{first_used, is_held, use_each};
+ghost use Rattle.dist_check_group.specs.MarksPrivate.{is_marked};
+ghost use Rattle.dist_check_group.specs.FoundPrivate.{FoundView, IsFoundFor, is_asked};
 
-use crate::challenge::ChallengeClaim;
-use crate::cover::{add_held, used_by};
+use crate::challenge::{ChallengeClaim, leaves_out};
+use crate::cover::used_by;
 use crate::group::Group;
 use crate::layout::Layout;
+use crate::marks::Marks;
 use crate::numbers::{has, keep_common, put_in_order};
 use crate::rules::each_once;
 use crate::window::Window;
 use std::alloc::{AllocError, Global};
 use std::marker::Model;
 
-/// What all of a claim's installations use, what one of them holds, and the variables of the claim's pairs.
+/// Clusters that all of a claim's installations use, what one of them holds, and the variables of the claim's pairs.
 #[derive(Debug, Drop)]
 pub(crate) struct Found {
     used: Vec<u32>,
-    held: Vec<u32>,
+    held: Marks,
     by: Vec<u32>,
     undecided: Vec<u32>,
 }
@@ -32,9 +35,9 @@ impl Model for Found {
 
     ghost Value = { FoundView };
 
-    ghost view = { λ f. record { used = f.used.items; held = f.held.items; by = f.by.items; undecided = f.undecided.items } };
+    ghost view = { λ f. record { used = f.used.items; held = f.held; by = f.by.items; undecided = f.undecided.items } };
 
-    ghost invariant = { λ f. AreRising f.used.items × AreRising f.held.items × AreRising f.by.items × AreRising f.undecided.items };
+    ghost invariant = { λ f. AreRising f.used.items × AreRising f.by.items × AreRising f.undecided.items };
 }
 
 impl Found {
@@ -46,29 +49,38 @@ impl Found {
         group: &Group,
         claim: &ChallengeClaim<'_>,
     ) -> Result<Found, AllocError>
-        ensures { IfOk result (IsFoundFor layout.now window.now group.now.cover claim.now.named.now claim.now.by.now claim.now.undecided.now) }
+        ensures { IfOk result (IsFoundFor layout.now window.now group.now.cover claim.now.variable claim.now.named.now claim.now.by.now claim.now.undecided.now) }
     {
         let named = each_once(alloc, claim.named)?;
-        let used = used_by_all(alloc, layout, window, group, &named)?;
-        let held = held_by_one(alloc, layout, window, group, &named)?;
-        let by = variables_of(alloc, layout, claim.by)?;
-        let undecided = variables_of(alloc, layout, claim.undecided)?;
-        Ok(Found {
-            used,
-            held,
-            by,
-            undecided,
-        })
+        let mut found = Found {
+            used: Vec::new(alloc),
+            held: held_by_one(alloc, layout, window, group, &named)?,
+            by: variables_of(alloc, layout, claim.by)?,
+            undecided: variables_of(alloc, layout, claim.undecided)?,
+        };
+        let mut used = first_used(alloc, layout, window, group, &named)?;
+        keep_asked(layout, &found, claim.variable, &mut used);
+        keep_used_by_each(alloc, layout, window, &named, &mut used)?;
+        found.set_used(used);
+        Ok(found)
     }
 
-    /// The clusters that all installations use.
+    /// Sets the clusters.
+    fn set_used(&mut self, used: Vec<u32>)
+        requires { AreRising used.items }
+        ensures { self.new ≡ record self.old { used = used.items } }
+    {
+        self.used = used;
+    }
+
+    /// The clusters that all installations use, of those that a test asks for.
     pub(crate) fn used(&self) -> &[u32]
         ensures { result.now ≡ self.now.used }
     {
         &self.used
     }
 
-    /// Whether all installations use a cluster.
+    /// Whether a cluster is one of these.
     pub(crate) fn uses(&self, cluster: u32) -> bool
         ensures { result ≡ is_among self.now.used cluster }
     {
@@ -77,9 +89,9 @@ impl Found {
 
     /// Whether one of the installations holds a variable.
     pub(crate) fn holds(&self, variable: u32) -> bool
-        ensures { result ≡ is_among self.now.held variable }
+        ensures { result ≡ is_marked self.now.held variable }
     {
-        has(&self.held, variable)
+        self.held.has(variable)
     }
 
     /// Whether a variable is that of a pair that challenges.
@@ -89,12 +101,33 @@ impl Found {
         has(&self.by, variable)
     }
 
+    /// Whether a pair is undecided.
+    fn has_undecided(&self) -> bool
+        ensures { result ≡ not (length self.now.undecided == 0) }
+    {
+        !self.undecided.is_empty()
+    }
+
     /// Whether a variable is that of an undecided pair.
     pub(crate) fn is_undecided(&self, variable: u32) -> bool
         ensures { result ≡ is_among self.now.undecided variable }
     {
         has(&self.undecided, variable)
     }
+}
+
+/// Whether a test asks for a cluster.
+fn is_asked(layout: &Layout, found: &Found, variable: u32, cluster: u32) -> bool
+    ensures { result ≡ is_asked layout.now found.now variable cluster }
+{
+    found.has_undecided() || leaves_out(layout, found, variable, cluster)
+}
+
+/// Keeps the clusters that a test asks for.
+fn keep_asked(layout: &Layout, found: &Found, variable: u32, kept: &mut Vec<u32>)
+    ensures { kept.new.items ≡ filter (is_asked layout.now found.now variable) kept.old.items }
+{
+    kept.retain(|cluster| is_asked(layout, found, variable, *cluster));
 }
 
 /// Keeps the clusters that the installation of a number uses.
@@ -107,6 +140,9 @@ fn keep_used(
 ) -> Result<(), AllocError>
     ensures { OnOk result (kept.new.items ≡ filter (is_among (used layout.now (members_at window.now number))) kept.old.items) }
 {
+    if kept.is_empty() {
+        return Ok(());
+    }
     let used = used_by(alloc, layout, window.members(number))?;
     keep_common(kept, &used);
     Ok(())
@@ -148,34 +184,40 @@ fn first_used(
     }
 }
 
-/// The clusters that all of the claim's installations use. Each installation is named once.
-fn used_by_all(
-    alloc: Global,
-    layout: &Layout,
-    window: &Window,
-    group: &Group,
-    named: &[u32],
-) -> Result<Vec<u32>, AllocError>
-    ensures value { IfOk result (λ found. (c : ℕ) → is_among found.items c ≡ is_used layout.now window.now group.now.cover named.now c) }
-    ensures rising { IfOk result (λ found. AreRising found.items) }
+/// Marks a member, unless it is a package.
+fn mark(layout: &Layout, member: u32, held: &mut Marks) -> Result<(), AllocError>
+    ensures { OnOk result ((v : ℕ) → is_marked held.new v
+        ≡ (((v == member) && not (is_package layout.now member)) || is_marked held.old v)) }
 {
-    let mut found = first_used(alloc, layout, window, group, named)?;
-    keep_used_by_each(alloc, layout, window, named, &mut found)?;
-    Ok(found)
+    if layout.is_package(member) {
+        return Ok(());
+    }
+    held.add(member)?;
+    Ok(())
 }
 
-/// Adds what the installations that are named hold besides packages.
-fn add_named(
+/// Marks the members of an installation that are no packages.
+fn mark_held(layout: &Layout, members: &[u32], held: &mut Marks) -> Result<(), AllocError>
+    ensures { OnOk result ((v : ℕ) → is_marked held.new v ≡ (is_marked held.old v || is_among (non_packages layout.now members.now) v)) }
+{
+    for member in members {
+        mark(layout, *member, held)?;
+    }
+    Ok(())
+}
+
+/// Marks what the installations that are named hold besides packages.
+fn mark_named(
     layout: &Layout,
     window: &Window,
     named: &[u32],
-    held: &mut Vec<u32>,
+    held: &mut Marks,
 ) -> Result<(), AllocError>
-    ensures { OnOk result ((v : ℕ) → is_among held.new.items v
-        ≡ (is_among held.old.items v || list_any (λ number. is_among (non_packages layout.now (members_at window.now number)) v) named.now)) }
+    ensures { OnOk result ((v : ℕ) → is_marked held.new v
+        ≡ (is_marked held.old v || list_any (λ number. is_among (non_packages layout.now (members_at window.now number)) v) named.now)) }
 {
     for number in named {
-        add_held(layout, window.members(*number), held)?;
+        mark_held(layout, window.members(*number), held)?;
     }
     Ok(())
 }
@@ -187,13 +229,12 @@ fn held_by_one(
     window: &Window,
     group: &Group,
     named: &[u32],
-) -> Result<Vec<u32>, AllocError>
-    ensures value { IfOk result (λ found. (v : ℕ) → is_among found.items v ≡ is_held layout.now window.now group.now.cover named.now v) }
-    ensures rising { IfOk result (λ found. AreRising found.items) }
+) -> Result<Marks, AllocError>
+    ensures { IfOk result (λ held. (v : ℕ) → is_marked held v ≡ is_held layout.now window.now group.now.cover named.now v) }
 {
-    let mut held = group.held().to_vec(alloc)?;
-    add_named(layout, window, named, &mut held)?;
-    put_in_order(&mut held);
+    let mut held = Marks::new(alloc, layout.bound())?;
+    held.add_all(group.held())?;
+    mark_named(layout, window, named, &mut held)?;
     Ok(held)
 }
 

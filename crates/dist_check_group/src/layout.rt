@@ -2,7 +2,7 @@
 ghost use Rattle.std.specs.Prelude.{◌≡◌, [], length};
 ghost use Rattle.dist_check_group.specs.Layout.{LayoutView, at_class, classes_of, cluster_of, is_package};
 
-use dist_base::Flat;
+use dist_base::{Flat, MAX_VARIABLES};
 use dist_cert::CertKind;
 use std::alloc::Global;
 use std::marker::Model;
@@ -59,6 +59,11 @@ impl Layout {
         ensures { result ≡ length self.now.classes }
     {
         self.classes.len()
+    }
+
+    /// A number above the variables, for tables that have a place for each.
+    pub(crate) fn bound(&self) -> u32 {
+        self.clusters.len().min(MAX_VARIABLES as usize + 1) as u32
     }
 
     /// The cluster of which a variable is a package, or 0.

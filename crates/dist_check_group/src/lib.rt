@@ -1,9 +1,9 @@
 //! What a checker keeps of the latest installations and of a claim's group, and the rules of a claim on strong
 //! dependencies or on challenges.
 //!
-//! Installations are rising lists, looked up by halving; what all of a claim's installations share is found once. A claim on
-//! challenges costs the members of its installations, its lists, and the classes of the clusters that all of them use: there
-//! is no walk over all clusters, all variables or all packages.
+//! Installations are rising lists, looked up by halving; of what all of a claim's installations share only that is looked for
+//! which the claim does not list. A claim on challenges costs the members of its installations, its lists, the classes of the
+//! clusters that all of them use, and a bit for each variable: there is no other walk over all clusters, variables or packages.
 #![tactic(auto)]
 
 mod challenge;
@@ -12,6 +12,7 @@ mod cover;
 mod found;
 mod group;
 mod layout;
+mod marks;
 mod number_set;
 mod numbers;
 mod rules;

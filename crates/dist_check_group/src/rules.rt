@@ -1,7 +1,7 @@
 //! The rules of a claim on strong dependencies.
 ghost use Rattle.std.specs.Prelude.{◌≡◌, ◌==◌, ◌&&◌, ◌↔◌, ℕ, Contains, IsTrue, IfOk, filter, not};
 ghost use Rattle.std.specs.List.{list_any};
-ghost use Rattle.dist_check_group.specs.Group.{AreListsRight, TellsRules, always, candidates, in_each, omits_package};
+ghost use Rattle.dist_check_group.specs.Group.{AreListsRight, TellsRules, candidates, in_each};
 ghost use Rattle.dist_cert.specs.Rising.{AreRising, is_among};
 ghost use Rattle.dist_check_group.specs.Window.{has_member, kept_at};
 
@@ -70,19 +70,32 @@ fn keep_in_each(window: &Window, named: &[u32], kept: &mut Vec<u32>)
     }
 }
 
-/// The packages that are in all of the claim's installations. However often an installation is named, it is looked at
-/// once.
-fn always(
+/// Leaves out a package and some others.
+fn leave_out(kept: &mut Vec<u32>, own: u32, others: &[u32])
+    requires { AreRising others.now }
+    ensures { kept.new.items ≡ filter (λ q. not (q == own) && not (is_among others.now q)) kept.old.items }
+{
+    kept.retain(|number| *number != own && !has(others, *number));
+}
+
+/// Of the packages that are in all of the claim's installations those that are neither its own nor named by it as
+/// dependencies. Since it names nearly all of them, few are left to be looked for, and few installations have one. However
+/// often an installation is named, it is looked at once.
+fn left_over(
     alloc: Global,
     window: &Window,
     group: &Group,
-    named: &[u32],
+    claim: &StrongClaim<'_>,
 ) -> Result<Vec<u32>, AllocError>
-    ensures value { IfOk result (λ found. found.items ≡ always window.now group.now.common named.now) }
+    requires { AreRising claim.now.on.now }
+    ensures value { IfOk result (λ found. found.items
+        ≡ filter (λ q. not (q == claim.now.package) && not (is_among claim.now.on.now q) && in_each window.now claim.now.named.now q)
+        (candidates window.now group.now.common claim.now.named.now)) }
     ensures rising { IfOk result (λ found. AreRising found.items) }
 {
-    let mut found = candidates(window, group, named).to_vec(alloc)?;
-    let named = each_once(alloc, named)?;
+    let mut found = candidates(window, group, claim.named).to_vec(alloc)?;
+    leave_out(&mut found, claim.package, claim.on);
+    let named = each_once(alloc, claim.named)?;
     keep_in_each(window, &named, &mut found);
     Ok(found)
 }
@@ -110,13 +123,12 @@ fn are_lists_right(window: &Window, group: &Group, packages: u32, claim: &Strong
     group.refuted.without().has_all(on) && group.undecided.without().has_all(undecided)
 }
 
-/// Whether another one of some packages is not listed.
-fn omits(always: &[u32], package: u32, on: &[u32], undecided: &[u32]) -> bool
-    requires on { AreRising on.now }
-    requires undecided { AreRising undecided.now }
-    ensures { result ≡ list_any (λ q. not (q == «package») && not (is_among on.now q) && not (is_among undecided.now q)) always.now }
+/// Whether one of some packages is not listed.
+fn omits(found: &[u32], undecided: &[u32]) -> bool
+    requires { AreRising undecided.now }
+    ensures { result ≡ list_any (λ q. not (is_among undecided.now q)) found.now }
 {
-    always.iter().any(|other| *other != package && !has(on, *other) && !has(undecided, *other))
+    found.iter().any(|other| !has(undecided, *other))
 }
 
 /// Of a claim on the next package the first fault by the rules of strong dependencies, if there is one.
@@ -133,11 +145,11 @@ pub fn judge_rules(
     if !are_lists_right(window, group, packages, claim) {
         return Ok(Some(CertCause::WrongClaim));
     }
-    let always = always(alloc, window, group, claim.named)?;
-    if !has_all(&always, claim.undecided) {
+    let found = left_over(alloc, window, group, claim)?;
+    if !has_all(&found, claim.undecided) {
         return Ok(Some(CertCause::WrongClaim));
     }
-    if omits(&always, claim.package, claim.on, claim.undecided) {
+    if omits(&found, claim.undecided) {
         return Ok(Some(CertCause::Incomplete));
     }
     Ok(None)

@@ -1,12 +1,19 @@
 -- The clauses that say what a future is, by their numbers.
 use Rattle.std.proofs.Common.{◌≡◌, inl, inr, ℕ, ◌+◌, ◌-◌, ◌<◌, ◌≤◌, Bool, List, [], length, get_or, take, drop, min, sym, ap, subst, ◌∙◌, arith}
 use Rattle.std.proofs.lemmas.Bool.{cases_lt}
-use Rattle.std.proofs.lemmas.List.{get_or-take, get_or-drop, length-take, length-drop, length-take-le, take-take, take_all}
+use Rattle.std.proofs.lemmas.List.{get_or-take, get_or-drop, length-take, length-drop, length-take-le, get_or_default, take-take, take_all}
 use Rattle.dist_clause.specs.ClauseList.{clause_at}
 use Rattle.dist_clause.specs.Formula.{Literal, MakesTrue, IsModel}
 use Rattle.dist_check_state.specs.declared.future.FutureClauses.{FutureClauses}
 use Rattle.dist_check_state.specs.Future.{StandsForFuture}
-use Rattle.dist_check_state.proofs.DenialLemmas.{clause-is, front-clause}
+
+-- the clause of a number among the first ones
+front-clause : (clauses : List (List Literal)) (n number : ℕ) → 1 ≤ number → number ≤ n → clause_at (take n clauses) number ≡ clause_at clauses number
+front-clause clauses n number from upto = get_or-take n clauses (number - 1) [] (omega (arith, from, upto))
+
+clause-is : (clauses : List (List Literal)) (k : ℕ) (d : List Literal) → k < length clauses → clause_at clauses (k + 1) ≡ get_or clauses k d
+clause-is clauses k d within =
+    let place : k + 1 - 1 ≡ k = omega arith in ap (λ (n : ℕ). get_or clauses n []) place ∙ get_or_default clauses k [] d within
 
 -- the clauses behind one number, up to another, are true
 abbrev pub AreTrueIn : (ℕ → Bool) → List (List Literal) → ℕ → ℕ → Type 0

@@ -1,5 +1,5 @@
 mod LiteralLemmas
 mod RangeLemmas
-mod DenialLemmas
+mod MemberLemmas
 mod FutureLemmas
 mod Growth

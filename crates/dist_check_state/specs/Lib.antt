@@ -1,4 +1,3 @@
 pub mod Since
-pub mod Denials
 pub mod Future
 pub mod State

@@ -7,6 +7,7 @@ use Rattle.dist_outside.specs.declared.trouble.WorkError.TheVariants.{NoMemory}
 use Rattle.dist_clause.specs.Formula.{negation, IsModel}
 use Rattle.dist_derive.specs.ClauseLog.{ClauseLog, IsWithinLineLimits, inputs_of}
 use Rattle.dist_derive.specs.Follows.{Follows}
+use Rattle.dist_derive.specs.New.{AreNewFrom}
 use Rattle.dist_cert.specs.declared.faults.CertCause.{CertCause}
 use Rattle.dist_cert.specs.declared.faults.CertCause.TheVariants.{OutOfRange, OutOfOrder, UnknownLine, BadLine}
 use Rattle.dist_cert.specs.declared.faults.CertCause.TheVariants.{NotAFuture, NotAnInstallation, LimitNotReached}
@@ -27,7 +28,7 @@ use Rattle.dist_check_group.specs.Window.{WindowView, has_member, kept_at, lates
 use Rattle.dist_check_group.specs.Closed.{Closes}
 use Rattle.dist_check_group.specs.Group.{GroupView, Grows, TellsRules, empty_group}
 use Rattle.dist_check_group.specs.Challenge.{TellsChallenge}
-use Rattle.dist_check_state.specs.Since.{AreNewFrom, IsAppendCause}
+use Rattle.dist_check_state.specs.Since.{IsAppendCause}
 use Rattle.dist_check_state.specs.Future.{StandsForFuture}
 use Rattle.dist_check_state.specs.declared.future.FutureClauses.{FutureClauses}
 

@@ -1,12 +1,12 @@
 //! Whether a set of variables stands for a future. It is asked only where a clause is false, so at most once for a file.
-ghost use Rattle.std.specs.Prelude.{◌↔◌, ◌<◌, ◌≤◌, ℕ, IsTrue};
+ghost use Rattle.std.specs.Prelude.{◌≡◌, ◌↔◌, ◌<◌, ◌≤◌, ℕ, All, Bool, IsTrue};
 ghost use Rattle.dist_clause.specs.ClauseList.{clause_at};
 ghost use Rattle.dist_clause.specs.Formula.{MakesTrue};
 ghost use Rattle.dist_derive.specs.ClauseLog.{inputs_of};
-ghost use Rattle.dist_cert.specs.Rising.{AreRising, is_among};
+ghost use Rattle.dist_derive.specs.VariableSet.{GivesTrue};
 
-use crate::denials::makes_true;
-use dist_derive::Log;
+use dist_clause::Lit;
+use dist_derive::{Log, VariableSet};
 
 /// Which input clauses say what a future is: those up to one number, and those behind another up to a last.
 #[derive(Clone, Copy, Debug, PartialEq, Eq)]
@@ -16,16 +16,25 @@ pub struct FutureClauses {
     pub last: u32,
 }
 
-/// Whether the clauses behind one number, up to another, are true, where the listed variables are.
-fn are_true(log: &Log, behind: u32, upto: u32, variables: &[u32]) -> bool
+/// Whether a clause has a literal that is true where exactly the members of a set are.
+fn makes_true(clause: &[Lit], trues: &VariableSet) -> bool
+    requires { All (λ l. l.variable ≤ trues.now.variables) clause.now }
+    ensures { (value : ℕ → Bool) → GivesTrue value trues.now.members → IsTrue result ↔ MakesTrue value clause.now }
+{
+    clause.iter().any(|l| trues.makes_true(*l))
+}
+
+/// Whether the clauses behind one number, up to another, are true where exactly the members of a set are.
+fn are_true(log: &Log, behind: u32, upto: u32, trues: &VariableSet) -> bool
     requires upto { upto ≤ log.now.inputs }
-    requires rising { AreRising variables.now }
-    ensures { IsTrue result ↔ ((number : ℕ) → behind < number → number ≤ upto
-        → MakesTrue (is_among variables.now) (clause_at log.now.clauses number)) }
+    requires same_variables { trues.now.variables ≡ log.now.variables }
+    ensures { (value : ℕ → Bool) → GivesTrue value trues.now.members
+        → IsTrue result ↔ ((number : ℕ) → behind < number → number ≤ upto
+        → MakesTrue value (clause_at log.now.clauses number)) }
 {
     let _within = log.inputs();
     for before in behind..upto {
-        if !makes_true(log.clause(before + 1), variables) {
+        if !makes_true(log.clause(before + 1), trues) {
             return false;
         }
     }
@@ -35,17 +44,18 @@ fn are_true(log: &Log, behind: u32, upto: u32, variables: &[u32]) -> bool
 impl FutureClauses {
     ghost use Rattle.dist_check_state.specs.Future.{StandsForFuture};
 
-    /// Whether these clauses of the log are true, where the listed variables are.
-    pub(crate) fn are_true(self, log: &Log, variables: &[u32]) -> bool
-        requires rising { AreRising variables.now }
-        ensures { IsTrue result ↔ StandsForFuture self (is_among variables.now) (inputs_of log.now) }
+    /// Whether these clauses of the log are true where exactly the members of a set are.
+    pub(crate) fn are_true(self, log: &Log, trues: &VariableSet) -> bool
+        requires same_variables { trues.now.variables ≡ log.now.variables }
+        ensures { (value : ℕ → Bool) → GivesTrue value trues.now.members
+            → IsTrue result ↔ StandsForFuture self value (inputs_of log.now) }
     {
         let inputs = log.inputs();
         let front = self.upto.min(inputs);
-        if !are_true(log, 0, front, variables) {
+        if !are_true(log, 0, front, trues) {
             return false;
         }
         let last = self.last.min(inputs);
-        are_true(log, self.behind, last, variables)
+        are_true(log, self.behind, last, trues)
     }
 }

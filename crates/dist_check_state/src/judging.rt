@@ -1,15 +1,11 @@
 //! The first fault of a line, by what is kept of the lines before it.
 ghost use Rattle.std.specs.Prelude.{◌≡◌, ◌+◌, ◌≤◌, IfOk, Some, length};
 ghost use Rattle.std.specs.Option.{ForSome};
-ghost use Rattle.dist_derive.specs.ClauseLog.{inputs_of};
-ghost use Rattle.dist_cert.specs.Form.{AreLiterals};
-ghost use Rattle.dist_cert.specs.Rising.{AreRising};
-ghost use Rattle.dist_check_state.specs.Denials.{AreDenialsOf};
+ghost use Rattle.dist_cert.specs.Form.{AreFromOne, AreLiterals};
 ghost use Rattle.dist_check_state.specs.Since.{AreLiteralsOver};
 ghost use Rattle.dist_check_state.specs.State.{TellsClaim, TellsDerived, TellsEnd, TellsInstallation, TellsQuestion, TellsRefuted, TellsUndecided, is_next};
 
 use crate::above::{is_any_above, is_any_variable_above};
-use crate::denials::Denials;
 use crate::future::FutureClauses;
 use crate::question::Question;
 use crate::tools::Tools;
@@ -94,21 +90,22 @@ pub(crate) fn judge_refuted(
 /// Of the line of an installation.
 pub(crate) fn judge_installation(
     log: &Log,
-    denials: &Denials,
+    tools: &mut Tools,
     future: FutureClauses,
     variables: &[u32],
 ) -> Option<CertCause>
-    requires denials { AreDenialsOf (inputs_of log.now) denials.now }
-    requires rising { AreRising variables.now }
-    ensures { TellsInstallation log.now future variables.now result }
+    requires from_one { AreFromOne variables.now }
+    requires tools { tools.old ≡ log.now.variables }
+    ensures told { TellsInstallation log.now future variables.now result }
+    ensures ready { tools.new ≡ tools.old }
 {
     if is_any_above(variables, log.variables()) {
         return Some(CertCause::OutOfRange);
     }
-    if denials.is_model(log, variables) {
+    if tools.is_model(log, variables) {
         return None;
     }
-    if !future.are_true(log, variables) {
+    if !tools.is_future(log, future, variables) {
         return Some(CertCause::NotAFuture);
     }
     Some(CertCause::NotAnInstallation)

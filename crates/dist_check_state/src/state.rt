@@ -11,7 +11,6 @@ ghost use Rattle.dist_check_group.specs.Group.{TellsRules, empty_group};
 ghost use Rattle.dist_check_group.specs.Challenge.{TellsChallenge};
 ghost use Rattle.dist_check_state.specs.State.{Allows, Answers, Becomes, Installs, StopsAt, Tells, TellsClaim, TellsListed, after_claim, holds_alive, holds_outdated, holds_uninstallable, is_challenged, is_next, is_outdated, is_strong};
 
-use crate::denials::Denials;
 use crate::from_zero::{from_zero, pairs_from_zero};
 use crate::future::FutureClauses;
 use crate::judging::{
@@ -37,8 +36,6 @@ pub struct State {
     packages: u32,
     layout: Layout,
     log: Log,
-    /// Of the log's input clauses.
-    denials: Denials,
     future: FutureClauses,
     window: Window,
     question: Option<Question>,
@@ -51,8 +48,6 @@ pub struct State {
 impl Model for State {
     ghost use Rattle.std.specs.Prelude.{◌≡◌, ◌+◌, ◌≤◌, length};
     ghost use Rattle.std.specs.Option.{ForSome};
-    ghost use Rattle.dist_derive.specs.ClauseLog.{inputs_of};
-    ghost use Rattle.dist_check_state.specs.Denials.{AreDenialsOf};
     ghost use Rattle.dist_check_state.specs.Since.{AreLiteralsOver};
     ghost use Rattle.dist_check_state.specs.State.{StateView};
 
@@ -71,7 +66,7 @@ impl Model for State {
       claims = s.claims;
     } };
 
-    ghost invariant = { λ s. (s.packages ≤ s.log.variables) × (s.next ≤ s.packages + 1) × AreDenialsOf (inputs_of s.log) s.denials × ForSome s.question (λ q. AreLiteralsOver s.log.variables q.assumptions) × ForSome s.question (λ q. q.last ≤ length s.log.clauses) };
+    ghost invariant = { λ s. (s.packages ≤ s.log.variables) × (s.next ≤ s.packages + 1) × ForSome s.question (λ q. AreLiteralsOver s.log.variables q.assumptions) × ForSome s.question (λ q. q.last ≤ length s.log.clauses) };
 }
 
 impl State {
@@ -83,10 +78,10 @@ impl State {
         layout: Layout,
         future: FutureClauses,
         log: Log,
-    ) -> Result<State, AllocError>
+    ) -> State
         requires { packages ≤ log.variables }
-        ensures within { IfOk result (λ s. IsWithinLineLimits s.log) }
-        ensures value { IfOk result (λ s. s ≡ record {
+        ensures within { IsWithinLineLimits result.log }
+        ensures value { result ≡ record {
           limit = limit;
           packages = packages;
           layout = layout;
@@ -97,23 +92,21 @@ impl State {
           next = 1;
           group = empty_group;
           claims = [];
-        }) }
+        } }
     {
         let _within = log.len();
-        let denials = Denials::new(alloc, &log)?;
-        Ok(State {
+        State {
             limit,
             packages,
             layout,
             log,
-            denials,
             future,
             window: Window::new(alloc),
             question: None,
             next: 1,
             group: Group::new(alloc),
             claims: Claims::new(alloc),
-        })
+        }
     }
 
     /// What this call tells is that the derived lines keep their limits.
@@ -152,7 +145,7 @@ impl State {
             }
             CertRecord::Installation(variables) => Ok(judge_installation(
                 &self.log,
-                &self.denials,
+                tools,
                 self.future,
                 variables.as_slice(),
             )),
@@ -324,6 +317,7 @@ impl State {
         requires { AreLiteralsOver self.old.log.variables assumptions }
         ensures { self.new ≡ record self.old { question = Some (record { assumptions = assumptions; last = length self.old.log.clauses }) } }
     {
+        self.log.settle();
         self.question = Some(Question::new(assumptions, self.log.len()));
     }
 

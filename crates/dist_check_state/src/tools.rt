@@ -1,14 +1,19 @@
 //! Room for the tests of a log, taken once.
-ghost use Rattle.std.specs.Prelude.{◌≡◌, ◌↔◌, ◌≤◌, [], ◌∷◌, ◌++◌, IfErr, IfOk, IsTrue, OnErr, OnOk, length, map};
-ghost use Rattle.dist_clause.specs.Formula.{negation};
+ghost use Rattle.std.specs.Prelude.{◌≡◌, ◌↔◌, ◌≤◌, [], ◌∷◌, ◌++◌, All, IfErr, IfOk, IsTrue, OnErr, OnOk, length, map};
+ghost use Rattle.dist_clause.specs.Formula.{IsModel, negation};
+ghost use Rattle.dist_derive.specs.ClauseLog.{inputs_of};
 ghost use Rattle.dist_derive.specs.Follows.{Follows};
+ghost use Rattle.dist_derive.specs.New.{AreNewFrom};
 ghost use Rattle.dist_cert.specs.Groups.{clause_of};
-ghost use Rattle.dist_check_state.specs.Since.{AreLiteralsOver, AreNewFrom, IsAppendCause};
+ghost use Rattle.dist_cert.specs.Rising.{is_among};
+ghost use Rattle.dist_check_state.specs.Future.{StandsForFuture};
+ghost use Rattle.dist_check_state.specs.Since.{AreLiteralsOver, IsAppendCause};
 
+use crate::future::FutureClauses;
 use crate::literals::{write_clause, write_negated};
-use crate::newness::are_new;
+use crate::members::fill;
 use dist_clause::Lit;
-use dist_derive::{AppendError, Log, Scratch};
+use dist_derive::{AppendError, Log, Scratch, VariableSet};
 use dist_outside::{What, WorkError};
 use std::alloc::{AllocError, Global};
 use std::marker::Model;
@@ -18,15 +23,19 @@ use std::marker::Model;
 pub struct Tools {
     scratch: Scratch,
     clause: Vec<Lit>,
+    /// The variables of an installation while it is tested, and none in between.
+    trues: VariableSet,
     alloc: Global,
 }
 
 impl Model for Tools {
-    ghost use Rattle.std.specs.Prelude.{ℕ};
+    ghost use Rattle.std.specs.Prelude.{◌≡◌, ℕ, []};
 
     ghost Value = { ℕ };
 
     ghost view = { λ t. t.scratch };
+
+    ghost invariant = { λ t. t.trues ≡ record { variables = t.scratch; members = [] } };
 }
 
 impl Tools {
@@ -37,6 +46,7 @@ impl Tools {
         Ok(Tools {
             scratch: Scratch::new(alloc, variables)?,
             clause: Vec::new(alloc),
+            trues: VariableSet::new(alloc, variables)?,
             alloc,
         })
     }
@@ -92,7 +102,34 @@ impl Tools {
     {
         let _stated = log.variables();
         write_clause(&mut self.clause, assumptions)?;
-        Ok(are_new(log, &mut self.scratch, &self.clause, last))
+        Ok(log.are_new(&mut self.scratch, &self.clause, last))
+    }
+
+    /// Whether the input clauses are true where exactly the listed variables are. It costs these variables and the clauses
+    /// that `Log::holds` looks at.
+    pub(crate) fn is_model(&mut self, log: &Log, variables: &[u32]) -> bool
+        requires in_range { All (λ v. (1 ≤ v) × (v ≤ log.now.variables)) variables.now }
+        requires ready { self.old ≡ log.now.variables }
+        ensures answer { IsTrue result ↔ IsModel (is_among variables.now) (inputs_of log.now) }
+        ensures ready { self.new ≡ self.old }
+    {
+        fill(&mut self.trues, variables);
+        let answer = log.holds(&self.trues);
+        self.trues.clear();
+        answer
+    }
+
+    /// Whether those of them that say what a future is are true where exactly the listed variables are.
+    pub(crate) fn is_future(&mut self, log: &Log, future: FutureClauses, variables: &[u32]) -> bool
+        requires in_range { All (λ v. (1 ≤ v) × (v ≤ log.now.variables)) variables.now }
+        requires ready { self.old ≡ log.now.variables }
+        ensures answer { IsTrue result ↔ StandsForFuture future (is_among variables.now) (inputs_of log.now) }
+        ensures ready { self.new ≡ self.old }
+    {
+        fill(&mut self.trues, variables);
+        let answer = future.are_true(log, &self.trues);
+        self.trues.clear();
+        answer
     }
 
     /// Adds the clause of some literals to the log.

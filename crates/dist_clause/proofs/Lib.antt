@@ -1,2 +1,1 @@
-pub mod BitsLemmas
 pub mod SetLemmas

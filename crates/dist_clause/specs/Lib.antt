@@ -2,7 +2,6 @@ pub mod Formula
 pub mod ClauseList
 pub mod Demands
 pub mod DemandLaws
-pub mod Bits
 pub mod Stored
 pub mod WordsPrivate
 pub mod Examples

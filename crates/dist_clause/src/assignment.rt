@@ -1,32 +1,29 @@
-//! Assignments, 64 truth values in a word, and the test whether one is a model.
+//! Assignments, each a row of truth values, and the test whether one is a model.
 
-ghost use Rattle.std.specs.Prelude.{◌≡◌, ◌+◌, ◌-◌, ◌<◌, ◌≤◌, ◌↔◌, false, ◌*◌, All, length, replicate, IfOk, IsTrue, slice_set};
+ghost use Rattle.std.specs.Prelude.{◌≡◌, ◌&&◌, ◌+◌, ◌-◌, ◌<◌, ◌≤◌, ◌↔◌, ℕ, true, false, All, length, replicate, IfNone, IfOk, IfSome, IsTrue, slice_set};
 ghost use Rattle.dist_clause.specs.Formula.{value_of, MakesTrue, IsModel};
-ghost use Rattle.dist_clause.specs.Bits.{bit, SetsBit};
+ghost use Rattle.dist_lanes.specs.Rows.{both};
 
 use crate::{ClauseSet, Lit};
+use dist_lanes::Row;
 use std::alloc::{AllocError, Global};
 use std::marker::Model;
 
 /// A truth value for each variable, numbered from 1.
 #[derive(Debug, Drop)]
 pub struct Assignment {
-    /// 64 values in a word, the first one in its lowest bit.
-    words: Vec<u64>,
-    variables: u32,
+    /// The value of variable 1 at place 0.
+    values: Row,
 }
 
 impl Model for Assignment {
-    ghost use Rattle.std.specs.Prelude.{◌≤◌, ◌*◌, List, Bool};
+    ghost use Rattle.std.specs.Prelude.{◌^◌, ◌<◌, List, Bool, length};
 
     ghost Value = { List Bool };
 
-    ghost use Rattle.dist_clause.specs.Bits.{bits};
-    ghost use Rattle.std.specs.Vec.{vec_len};
+    ghost view = { λ a. a.values };
 
-    ghost view = { λ a. bits a.words.items a.variables };
-
-    ghost invariant = { λ a. a.variables ≤ 64 * vec_len a.words };
+    ghost invariant = { λ a. length a.values < 2 ^ 32 };
 }
 
 impl Assignment {
@@ -34,8 +31,8 @@ impl Assignment {
     pub fn new(alloc: Global, variables: u32) -> Result<Assignment, AllocError>
         ensures { IfOk result (λ a. a ≡ replicate variables false) }
     {
-        let words = vec![in alloc; 0u64; (variables as usize).div_ceil(64)]?;
-        Ok(Assignment { words, variables })
+        let values = Row::new(alloc, variables as usize)?;
+        Ok(Assignment { values })
     }
 
     pub fn value(&self, variable: u32) -> bool
@@ -43,7 +40,7 @@ impl Assignment {
         requires in_range { variable ≤ length self.now }
         ensures { result ≡ value_of self.now variable }
     {
-        bit(&self.words, variable as usize - 1)
+        self.values.get(variable as usize - 1)
     }
 
     pub fn set(&mut self, variable: u32, value: bool)
@@ -51,7 +48,34 @@ impl Assignment {
         requires in_range { variable ≤ length self.old }
         ensures { self.new ≡ slice_set self.old (variable - 1) value }
     {
-        set_bit(&mut self.words, variable as usize - 1, value);
+        self.values.set(variable as usize - 1, value);
+    }
+
+    /// Every variable gets its value in the other assignment.
+    pub fn copy_from(&mut self, other: &Assignment)
+        requires { length other.now ≡ length self.old }
+        ensures { self.new ≡ other.now }
+    {
+        self.values.copy_from(&other.values);
+    }
+
+    /// A variable stays true where it is true in the other assignment too.
+    pub fn and_into(&mut self, other: &Assignment)
+        requires { length other.now ≡ length self.old }
+        ensures all { self.new ≡ both self.old other.now }
+        ensures len { length self.new ≡ length self.old }
+        ensures each { (v : ℕ) → value_of self.new v ≡ (value_of self.old v && value_of other.now v) }
+    {
+        self.values.and_into(&other.values);
+    }
+
+    /// The first variable that is true, from one on.
+    pub fn next_true(&self, from: u32) -> Option<u32>
+        ensures some { IfSome result (λ v. (1 ≤ v) × (from ≤ v) × (v ≤ length self.now) × (value_of self.now v ≡ true) × ((w : ℕ) → 1 ≤ w → from ≤ w → w < v → value_of self.now w ≡ false)) }
+        ensures none { IfNone result ((w : ℕ) → 1 ≤ w → from ≤ w → w ≤ length self.now → value_of self.now w ≡ false) }
+    {
+        let place = self.values.next_true(from.saturating_sub(1) as usize)?;
+        Some(place as u32 + 1)
     }
 
     /// Whether the assignment is a model of the clauses.
@@ -76,22 +100,4 @@ impl Assignment {
             .iter()
             .any(|l| self.value(l.variable()) == l.positive())
     }
-}
-
-/// The bit at a place.
-fn bit(words: &[u64], place: usize) -> bool
-    requires { place < 64 * length words.now }
-    ensures { result ≡ bit words.now place }
-{
-    words[place / 64] >> (place % 64) & 1 == 1
-}
-
-/// Sets the bit at a place to a value.
-fn set_bit(words: &mut [u64], place: usize, value: bool)
-    requires { place < 64 * length words.old }
-    ensures { SetsBit words.old words.new place value }
-{
-    let mask = 1 << (place % 64);
-    let word = words[place / 64];
-    words[place / 64] = if value { word | mask } else { word & !mask };
 }

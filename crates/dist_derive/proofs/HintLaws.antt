@@ -72,7 +72,7 @@ unset_apart trues l unset m here e = elim (cases_sign m.positive l.positive) [
     cases_sign false true = inr refl
     cases_sign false false = inl refl
 
-over_push : (n : ℕ) (trues : List Literal) (l : Literal) → IsClauseOver n trues → (1 ≤ l.variable) × (l.variable ≤ n) → IsUnset trues l
+pub over_push : (n : ℕ) (trues : List Literal) (l : Literal) → IsClauseOver n trues → (1 ≤ l.variable) × (l.variable ≤ n) → IsUnset trues l
     → IsClauseOver n (trues ++ l ∷ [])
 over_push n trues l over in_range unset = record {
   in_range = All-push (λ m. (1 ≤ m.variable) × (m.variable ≤ n)) trues l over.in_range in_range;
@@ -80,7 +80,7 @@ over_push n trues l over in_range unset = record {
       (λ k d within. unset_apart trues l unset (get_or trues k d) (Contains-get_or trues k d within));
 }
 
-over_few : (n : ℕ) (trues : List Literal) → IsClauseOver n trues → length trues ≤ n
+pub over_few : (n : ℕ) (trues : List Literal) → IsClauseOver n trues → length trues ≤ n
 over_few n trues over =
     let variable : Literal → ℕ = λ l. l.variable in
     let long = length-map trues variable in

@@ -11,12 +11,15 @@ pub mod GrowingLemmas
 pub mod AssumeLemmas
 pub mod WaitLemmas
 pub mod QueueLemmas
+pub mod LayerLemmas
+pub mod LevelLemmas
 pub mod ReachLemmas
 pub mod SweepLemmas
 pub mod NewLemmas
+pub mod NewLinesLemmas
 pub mod ConeLaws
 pub mod FewLemmas
 pub mod SettledLaws
 pub mod HintLaws
 pub mod CountLaws
-pub mod ModelLemmas
+pub mod DenialLemmas

@@ -12,7 +12,7 @@ use Rattle.dist_derive.specs.OccurrencesPrivate.{OccurrenceLists, code_of, link_
 use Rattle.dist_derive.specs.SweepPrivate.{AllOpen, Waits, AllWait, Propagates, Sweeps}
 use Rattle.dist_derive.specs.declared.propagation.Sweep.TheVariants.{Settled}
 use Rattle.dist_derive.proofs.OccurrenceLemmas.{Lists-cases}
-use Rattle.dist_derive.proofs.WaitLemmas.{Waits-start, Waits-end, Waits-next, Propagates-none, Propagates-then}
+use Rattle.dist_derive.proofs.WaitLemmas.{Waits-end, Waits-next, Propagates-none, Propagates-then}
 
 -- a walk along a list has come to a place: each clause of the list waits, or is still to come
 pub record VisitsSoFar (clauses : List (List Literal)) (last : ℕ) (links : List Link) (latest place : ℕ) (start now : LiteralList) : Type 0 where
@@ -46,19 +46,6 @@ pub record TakesSoFar (clauses : List (List Literal)) (last : ℕ) (index : Occu
   pub waiting : AllWait index clauses last now.literals done
 
 module _ (clauses : List (List Literal)) (last : ℕ) (index : OccurrenceLists) (is_index : IsIndexOf index clauses) where
-  -- the clauses with fewer than two literals were visited, and the others wait from the start
-  pub takes_start : (start next : LiteralList) → Propagates (take last clauses) start next
-      → ((number d : ℕ) → Lists index.links (get_or index.heads 0 0) number → number ≤ last → d ≤ length start.literals
-      → Waits next.literals d (clause_at clauses number))
-      → TakesSoFar clauses last index start next 0
-  takes_start start next step visited = record {
-    grows = step;
-    waiting = λ number from covered to. elim (cases_lt (length (clause_at clauses number)) 2) [
-      | inl short ↦ visited number 0 (is_index.complete number 0 from covered (inl (refl, short))) to (omega arith)
-      | inr two ↦ Waits-start next.literals (clause_at clauses number) (is_index.distinct number from covered) two
-    ];
-  }
-
   pub takes_more : (start now next : LiteralList) (done : ℕ) (l : Literal) → TakesSoFar clauses last index start now done → done < length now.literals
       → l ≡ get_or now.literals done l → Propagates (take last clauses) now next
       → ((number d : ℕ) → Lists index.links (get_or index.heads (code_of (negation l)) 0) number → number ≤ last → d ≤ length now.literals

@@ -98,37 +98,34 @@ open_propagated trues clause is_open = λ l here others.
       ]
     ]
 
-module _ (clauses : List (List Literal)) (assumptions : List Literal) (first : Literal) (rest denied assumed ended : List Literal)
-    (start : denied ≡ map negation rest) where
-  holds_denied : (trues : List Literal) → LeavesUnset clauses assumptions first rest trues → ContainsAll trues denied
-  holds_denied trues t = subst (λ ts. ContainsAll trues ts) (sym start) (All-map (Contains trues) negation rest t.denied)
+module _ (clauses : List (List Literal)) (assumptions : List Literal) (first : Literal) (rest assumed ended : List Literal) where
+  holds_denied : (trues : List Literal) → LeavesUnset clauses assumptions first rest trues → ContainsAll trues (map negation rest)
+  holds_denied trues t = All-map (Contains trues) negation rest t.denied
 
-  pub unset_refused : ((trues : List Literal) → ContainsAll trues denied → ContainsAll trues assumptions → ¬ IsConsistent trues) → (trues : List Literal)
-      → ¬ LeavesUnset clauses assumptions first rest trues
-  unset_refused refused trues t = refused trues (holds_denied trues t) t.assumed t.settled.consistent
+  pub unset_refused : ((trues : List Literal) → ContainsAll trues assumptions → ContainsAll trues (map negation rest) → ¬ IsConsistent trues)
+      → (trues : List Literal) → ¬ LeavesUnset clauses assumptions first rest trues
+  unset_refused refused trues t = refused trues t.assumed (holds_denied trues t) t.settled.consistent
 
-  pub unset_refuted : ((trues : List Literal) → ContainsAll trues denied → ContainsAll trues assumptions → ContainsAll trues assumed)
+  pub unset_refuted : ((trues : List Literal) → ContainsAll trues assumptions → ContainsAll trues (map negation rest) → ContainsAll trues assumed)
       → IsRefuted clauses assumed → (trues : List Literal) → ¬ LeavesUnset clauses assumptions first rest trues
-  unset_refuted least refuted trues t = refuted trues (least trues (holds_denied trues t) t.assumed) t.settled.propagated t.settled.no_conflict
+  unset_refuted least refuted trues t = refuted trues (least trues t.assumed (holds_denied trues t)) t.settled.propagated t.settled.no_conflict
 
-  pub unset_at_end : ((trues : List Literal) → ContainsAll trues denied → ContainsAll trues assumptions → ContainsAll trues assumed)
+  pub unset_at_end : ((trues : List Literal) → ContainsAll trues assumptions → ContainsAll trues (map negation rest) → ContainsAll trues assumed)
       → IsForced clauses assumed ended → (trues : List Literal) → LeavesUnset clauses assumptions first rest trues → IsUnset ended first
   unset_at_end least forced trues t =
-      let all = forced trues (least trues (holds_denied trues t) t.assumed) t.settled.propagated in
+      let all = forced trues (least trues t.assumed (holds_denied trues t)) t.settled.propagated in
       (λ h. t.unset.0 (All-contains (Contains trues) ended first all h), λ h. t.unset.1 (All-contains (Contains trues) ended (negation first) all h))
 
-  pub leaves_unset_end : ContainsAll assumed denied → ContainsAll assumed assumptions → ContainsAll ended assumed → AllOpen ended clauses → IsConsistent ended
-      → IsUnset ended first → LeavesUnset clauses assumptions first rest ended
-  leaves_unset_end kept assumptions_in kept_end all_open consistent unset = record {
+  pub leaves_unset_end : ContainsAll assumed assumptions → ContainsAll assumed (map negation rest) → ContainsAll ended assumed → AllOpen ended clauses
+      → IsConsistent ended → IsUnset ended first → LeavesUnset clauses assumptions first rest ended
+  leaves_unset_end assumptions_in denied_in kept_end all_open consistent unset = record {
     settled = record {
       consistent = consistent;
       no_conflict = All-weaker (λ c. HasOutcome ended c Open) (λ c. ¬ AllFalse ended c) (λ c o. o.0) clauses all_open;
       propagated = All-weaker (λ c. HasOutcome ended c Open) (IsPropagated ended) (λ c o. open_propagated ended c o) clauses all_open;
     };
     assumed = ContainsAll-then assumptions assumed ended assumptions_in kept_end;
-    denied =
-        let all = subst (λ ts. ContainsAll ended ts) start (ContainsAll-then denied assumed ended kept kept_end) in
-        map-All (Contains ended) negation rest all;
+    denied = map-All (Contains ended) negation rest (ContainsAll-then (map negation rest) assumed ended denied_in kept_end);
     unset = unset;
   }
     where

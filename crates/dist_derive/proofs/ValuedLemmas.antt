@@ -2,11 +2,11 @@
 use mathlib.Core.Bool.{beq}
 use Rattle.std.proofs.Common.{◌≡◌, ◌≢◌, ℕ, suc, ◌+◌, ◌-◌, ◌<◌, ◌≤◌, Bool, true, false, not, List, [], ◌∷◌, ◌++◌, length, get_or, set, take, refl, ap, sym, ◌∙◌}
 use Rattle.std.proofs.Common.{subst, arith}
-use Rattle.std.specs.List.{All, Contains}
+use Rattle.std.specs.List.{All, AllPairs, Contains}
 use Rattle.std.proofs.lemmas.Bool.{false≢true, true≢false}
 use Rattle.std.proofs.lemmas.List.{length-map, get_or-map, get_or_at, length_push, take_at, take_more, map_push}
-use Rattle.std.proofs.lemmas.List.Elements.{All-take, All-head, All-tail, All-weaker}
-use Rattle.dist_clause.specs.Formula.{Literal, literal, negation, value_of}
+use Rattle.std.proofs.lemmas.List.Elements.{All-take, All-head, All-tail, All-weaker, All-map}
+use Rattle.dist_clause.specs.Formula.{Literal, literal, negation, value_of, IsClauseOver}
 use Rattle.dist_derive.specs.TrueLiterals.{valued}
 use Rattle.dist_derive.specs.Propagation.{IsFalse, IsUnset, IsConsistent}
 use Rattle.dist_derive.proofs.MarkedLemmas.{value_of-set_same, value_of-set_other}
@@ -107,3 +107,17 @@ take_item xs i x within is = take_more xs i x within ∙ ap (λ y. take i xs ++ 
 
 pub All-item : {X : Type 0} (P : X → Type 0) (xs : List X) (i : ℕ) (x : X) → i < length xs → x ≡ get_or xs i x → All P xs → P x
 All-item P xs i x within is all = subst P (sym is) (all i x within)
+
+-- the literals are a clause over the variables
+pub valued-over : (signs : List Bool) (members : List ℕ) (n : ℕ) → All (λ v. (1 ≤ v) × (v ≤ n)) members → AllPairs (λ v w. v ≢ w) members
+    → IsClauseOver n (valued signs members)
+valued-over signs members n within distinct =
+    let f : ℕ → Literal = λ v. literal v (value_of signs v) in
+    let long = length-map members f in
+    record {
+      in_range = All-map (λ (l : Literal). (1 ≤ l.variable) × (l.variable ≤ n)) f members within;
+      distinct = λ i j d before inside e.
+          distinct i j 0 before (omega (arith, long))
+          (ap (λ (l : Literal). l.variable) (sym (get_or-map f members i 0 d (omega (arith, long)))) ∙ (e
+          ∙ ap (λ (l : Literal). l.variable) (get_or-map f members j 0 d (omega (arith, long)))));
+    }

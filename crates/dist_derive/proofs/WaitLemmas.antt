@@ -1,10 +1,10 @@
 -- Clauses that wait while true literals are taken one after another.
-use Rattle.std.proofs.Common.{◌≡◌, ◌≢◌, ℕ, ◌⊎◌, ⊎_elim, inl, inr, suc, ◌+◌, ◌-◌, ◌<◌, ◌≤◌, Bool, true, false, not, List, [], ◌∷◌, ◌++◌, length, get_or}
+use Rattle.std.proofs.Common.{◌≡◌, ℕ, ◌⊎◌, ⊎_elim, inl, inr, ◌+◌, ◌-◌, ◌<◌, ◌≤◌, Bool, true, false, not, List, [], ◌∷◌, ◌++◌, length, get_or}
 use Rattle.std.proofs.Common.{take, refl, ap, sym, subst, ◌∙◌, arith, length-take}
-use Rattle.std.specs.List.{All, AllPairs, Contains}
+use Rattle.std.specs.List.{All, Contains}
 use Rattle.std.proofs.lemmas.Bool.{cases_eq}
 use Rattle.std.proofs.lemmas.List.{length_push, get_or_default, get_or_append_left, get_or_push, get_or-take}
-use Rattle.std.proofs.lemmas.List.Elements.{All-nil, All-cons, All-push, All-get_or, All-from_get_or, All-contains}
+use Rattle.std.proofs.lemmas.List.Elements.{All-push, All-get_or, All-from_get_or, All-contains}
 use Rattle.std.proofs.lemmas.List.Elements.{Contains-get_or, Contains-append_left, Contains-push, Contains-push_cases}
 use Rattle.dist_clause.specs.Formula.{Literal, literal, negation}
 use Rattle.dist_clause.specs.ClauseList.{clause_at}
@@ -78,41 +78,6 @@ module _ (trues clause : List Literal) (l : Literal) (unset : IsUnset trues l) w
           | inr other ↦ not_false (other_false (trues ++ l ∷ []) clause m l v.others u.member other)
         ],
       )
-
--- some literal of a clause is false, or none is
-false_or_none : (trues clause : List Literal) → ((l : Literal) × Contains clause l × IsFalse trues l) ⊎ All (λ l. ¬ IsFalse trues l) clause
-false_or_none trues [] = inr (All-nil (λ l. ¬ IsFalse trues l))
-false_or_none trues (l ∷ ls) = elim (contains_or_not trues (negation l)) [
-  | inl is_false ↦ inl (l, (0, omega arith, refl), is_false)
-  | inr not_false ↦ ⊎_elim (λ x. inl (x.0, (suc x.1.0, omega (arith, x.1.1), x.1.2), x.2))
-      (λ none. inr (All-cons (λ m. ¬ IsFalse trues m) l ls not_false none)) (false_or_none trues ls)
-]
-
--- a clause of two literals, none of them false, is not false or unit
-two_open : (trues clause : List Literal) → AllPairs (λ l m. l.variable ≢ m.variable) clause → 2 ≤ length clause → All (λ l. ¬ IsFalse trues l) clause
-    → HasOutcome trues clause Open
-two_open trues clause distinct two none = (
-  λ all. none 0 (literal 0 true) (omega (arith, two)) (all 0 (literal 0 true) (omega (arith, two))),
-  λ l u. elim (cases_eq u.member.0 0) [
-    | inl first ↦ none 1 l (omega (arith, two)) (u.others 1 l (omega (arith, two)) (λ e. distinct 0 1 l (omega arith) (omega (arith, two))
-        (ap (λ (x : Literal). x.variable) (sym (ap (λ k. get_or clause k l) first) ∙ u.member.2 ∙ sym e))))
-    | inr later ↦ none 0 l (omega (arith, two)) (u.others 0 l (omega (arith, two)) (λ e. distinct 0 u.member.0 l (omega (arith, later)) u.member.1
-        (ap (λ (x : Literal). x.variable) (e ∙ sym u.member.2))))
-  ],
-)
-
-pub Waits-start : (trues clause : List Literal) → AllPairs (λ l m. l.variable ≢ m.variable) clause → 2 ≤ length clause → Waits trues 0 clause
-Waits-start trues clause distinct two = ⊎_elim
-    (λ x. inr (record {
-      false_one = x.0;
-      member = x.1;
-      place = x.2.0;
-      from_first = omega arith;
-      within = x.2.1;
-      there = get_or_default trues x.2.0 x.0 (negation x.0) x.2.1 ∙ x.2.2;
-    }))
-    (λ none. inl (two_open trues clause distinct two none))
-    (false_or_none trues clause)
 
 pub Waits-end : (trues clause : List Literal) (done : ℕ) → length trues ≤ done → Waits trues done clause → HasOutcome trues clause Open
 Waits-end trues clause done all h = ⊎_elim (λ is_open. is_open) (λ f. absurd (omega (arith, f.within, f.from_first))) h

@@ -3,7 +3,6 @@ pub mod ClauseLog
 pub mod Propagation
 pub mod Follows
 pub mod OccurrencesPrivate
-pub mod LogPrivate
 pub mod Cone
 pub mod New
 pub mod VariableSet
@@ -11,6 +10,10 @@ pub mod Marking
 pub mod TrueLiterals
 pub mod HintsPrivate
 pub mod SweepPrivate
+pub mod LayersPrivate
+pub mod LevelPrivate
+pub mod LogPrivate
 pub mod ConePrivate
 pub mod Scratch
+pub mod DenialsPrivate
 pub mod Examples

@@ -1,7 +1,8 @@
 -- When a clause adds to what unit propagation gives under assumptions, and speaks only of variables that the
 -- assumptions reach.
-use Rattle.std.specs.Prelude.{◌≢◌, ℕ, List, [], ◌∷◌, ◌++◌, take, All, AllPairs, Contains}
+use Rattle.std.specs.Prelude.{◌≢◌, ℕ, ◌-◌, ◌<◌, ◌≤◌, List, [], ◌∷◌, ◌++◌, length, take, All, AllPairs, Contains}
 use Rattle.dist_clause.specs.Formula.{Literal}
+use Rattle.dist_clause.specs.ClauseList.{clause_at}
 use Rattle.dist_derive.specs.Propagation.{IsFalse, IsUnset, IsSettled}
 use Rattle.dist_derive.specs.Cone.{IsWithinCone}
 
@@ -31,3 +32,8 @@ abbrev pub EachIsNew : List (List Literal) → ℕ → List Literal → List (Li
 EachIsNew clauses inputs assumptions [] = Unit {0}
 EachIsNew clauses inputs assumptions (line ∷ lines) = IsNew clauses inputs assumptions line
     × EachIsNew (clauses ++ line ∷ []) inputs assumptions lines
+
+-- each clause with a number above the last one was new over those before it
+abbrev pub AreNewFrom : List (List Literal) → ℕ → List Literal → ℕ → Type 0
+AreNewFrom clauses inputs assumptions last = (number : ℕ) → last < number → number ≤ length clauses
+    → IsNew (take (number - 1) clauses) inputs assumptions (clause_at clauses number)

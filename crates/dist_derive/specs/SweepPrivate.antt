@@ -38,6 +38,11 @@ pub record IsFalseFrom (trues : List Literal) (first : ℕ) (clause : List Liter
 abbrev pub Waits : List Literal → ℕ → List Literal → Type 0
 Waits trues done clause = HasOutcome trues clause Open ⊎ IsFalseFrom trues done clause
 
+-- the clauses with numbers up to `last` wait
+abbrev pub WaitUpTo : List (List Literal) → ℕ → List Literal → ℕ → Type 0
+WaitUpTo clauses last trues done = (number : ℕ) → 1 ≤ number → number ≤ last
+    → Waits trues done (clause_at clauses number)
+
 -- the clauses in the index with numbers up to `last` wait
 abbrev pub AllWait : OccurrenceLists → List (List Literal) → ℕ → List Literal → ℕ → Type 0
 AllWait index clauses last trues done = (number : ℕ) → 1 ≤ number → number ≤ index.covered → number ≤ last

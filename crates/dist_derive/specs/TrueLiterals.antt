@@ -1,5 +1,5 @@
 -- True literals, kept as a set of variables and the value of each of them.
-use Rattle.std.specs.Prelude.{◌≡◌, ◌≤◌, ◌⊎◌, ℕ, Bool, true, false, List, [], ◌∷◌, ◌++◌, length, map, All, Contains}
+use Rattle.std.specs.Prelude.{◌≡◌, ◌≤◌, ℕ, Bool, List, length, map, All, Contains}
 use Rattle.dist_clause.specs.Formula.{Literal, literal, value_of}
 use Rattle.dist_base.specs.declared.TheConstants.{MAX_VARIABLES}
 use Rattle.dist_derive.specs.VariableSet.{VariableList}
@@ -34,9 +34,3 @@ abbrev pub HasOutcome : List Literal → List Literal → Outcome → Type 0
 HasOutcome trues clause Conflict = AllFalse trues clause
 HasOutcome trues clause (UnitClause l) = IsUnit trues clause l
 HasOutcome trues clause Open = (¬ AllFalse trues clause) × ((l : Literal) → ¬ IsUnit trues clause l)
-
--- a literal is made true, or is true already, or is false
-abbrev pub Assumes : LiteralList → LiteralList → Literal → Bool → Type 0
-Assumes old new l true = ((new ≡ old) × Contains old.literals l)
-    ⊎ (new ≡ record old { literals = old.literals ++ l ∷ [] })
-Assumes old new l false = (new ≡ old) × IsFalse old.literals l

@@ -1,17 +1,23 @@
 //! The log of derived clauses and the two tests on which certificates rest: whether a clause follows by hints, and
 //! whether it is new. The literals that are true for now are public, so that a search propagates over the same ones.
 //!
-//! `follows` costs the literals of the hinted clauses and takes no memory; `is_new` costs the clauses in which a true literal
-//! or a variable of the cone stands negated, and walks those that the log's index hasn't got (`Log::cover`). What stands here
-//! decides what a certificate proves: a change needs the checker's laws again.
+//! `follows` costs the literals of the hinted clauses and takes no memory. The log keeps what its clauses give by themselves
+//! (`Log::cover`, and `Log::settle` for later lines), and `is_new` begins from there: it costs the clauses in which a literal
+//! that the assumptions or the clause make true stands negated, and those of the cone. `is_new_within` is given the cone, and
+//! `are_new` makes it once for all lines of a question. Clauses that the index hasn't got are walked. What stands here decides
+//! what a certificate proves: a change needs the checker's laws again.
 #![tactic(auto)]
 
 mod cone;
 mod conflicts;
+mod denials;
 mod follows;
+mod inputs;
 mod laws;
+mod layers;
+mod level;
 mod log;
-mod models;
+mod new_lines;
 mod newness;
 mod occurrences;
 mod propagation;

@@ -1,14 +1,21 @@
 //! Input clauses and the lines derived from them, numbered on.
 
-ghost use Rattle.std.specs.Prelude.{◌≡◌, ◌+◌, ◌<◌, ◌≤◌, ◌↔◌, [], ◌∷◌, ◌++◌, length, IfOk, IfSome, OnOk, OnErr, Err};
-ghost use Rattle.dist_clause.specs.Formula.{IsClauseOver};
+ghost use Rattle.std.specs.Prelude.{◌≡◌, ◌+◌, ◌<◌, ◌≤◌, ◌↔◌, ℕ, Bool, [], ◌∷◌, ◌++◌, length, IfOk, IfSome, IsTrue, OnOk, OnErr, Err};
+ghost use Rattle.dist_clause.specs.Formula.{IsClauseOver, IsModel};
 ghost use Rattle.dist_clause.specs.ClauseList.{clause_at, literal_count};
-ghost use Rattle.dist_derive.specs.ClauseLog.{joined, lines_of, IsWithinLineLimits};
+ghost use Rattle.dist_derive.specs.ClauseLog.{inputs_of, joined, lines_of, IsWithinLineLimits};
+ghost use Rattle.dist_derive.specs.VariableSet.{GivesTrue};
 ghost use Rattle.dist_derive.specs.Follows.{IsNumberOf};
 ghost use Rattle.dist_derive.specs.OccurrencesPrivate.{IsIndexOf};
+ghost use Rattle.dist_derive.specs.LevelPrivate.{IsLevelOf};
 ghost use Rattle.dist_derive.specs.LogPrivate.{IsIndexed};
 
+use crate::inputs::Inputs;
+use crate::layers::Layers;
+use crate::level::{Level, Start};
 use crate::occurrences::{Link, Occurrences, code_of};
+use crate::true_literals::TrueLiterals;
+use crate::variable_set::VariableSet;
 use dist_base::{MAX_CLAUSES, MAX_LINE_LITERALS, MAX_LINES, MAX_VARIABLES};
 use dist_clause::{ClauseSet, Lit, PushError};
 use std::alloc::{AllocError, Global};
@@ -27,21 +34,24 @@ pub enum AppendError {
 /// Input clauses, followed by the lines that were derived from them.
 #[derive(Debug, Drop)]
 pub struct Log {
-    inputs: ClauseSet,
+    inputs: Inputs,
     lines: ClauseSet,
     /// The clauses in which each literal stands, of those that are in the index.
     occurrences: Occurrences,
+    /// What the clauses give by themselves. There is none until the clauses are put into the index.
+    level: Option<Level>,
+    alloc: Global,
 }
 
 impl Model for Log {
     ghost use Rattle.dist_derive.specs.ClauseLog.{ClauseLog, joined};
-    ghost use Rattle.dist_derive.specs.LogPrivate.{IsIndexed};
+    ghost use Rattle.dist_derive.specs.LogPrivate.{IsKept};
 
     ghost Value = { ClauseLog };
 
     ghost view = { λ a. joined a.inputs a.lines };
 
-    ghost invariant = { λ a. IsIndexed a.inputs a.lines a.occurrences };
+    ghost invariant = { λ a. IsKept a.inputs a.lines a.occurrences a.level };
 }
 
 impl Log {
@@ -59,9 +69,11 @@ impl Log {
     {
         let lines = ClauseSet::new(alloc, inputs.variables(), lines, line_literals);
         Log {
-            inputs,
+            inputs: Inputs::of(inputs),
             lines,
             occurrences: Occurrences::new(alloc),
+            level: None,
+            alloc,
         }
     }
 
@@ -99,15 +111,91 @@ impl Log {
         ensures value { result.now ≡ clause_at self.now.clauses number }
         ensures over_variables { IsClauseOver self.now.variables result.now }
     {
-        clause_of(&self.inputs, &self.lines, number)
+        clause_of(self.inputs.set(), &self.lines, number)
     }
 
-    /// Puts the clauses that the index hasn't got yet into it. Until then, and after want of memory, calls walk these.
+    /// Puts the clauses that the index hasn't got yet into it, and takes in what all clauses give. Until then, and after
+    /// want of memory, calls walk these.
     pub fn cover(&mut self) -> Result<(), AllocError>
         ensures same { self.new ≡ self.old }
     {
-        self.occurrences.make_lists(self.inputs.variables())?;
-        cover_all(&mut self.occurrences, &self.inputs, &self.lines)
+        let variables = self.inputs.variables();
+        self.occurrences.make_lists(variables)?;
+        cover_all(&mut self.occurrences, self.inputs.set(), &self.lines)?;
+        self.inputs.index(self.alloc)?;
+        if self.level.is_none() {
+            self.level = Some(Level::new(self.alloc, variables)?);
+        }
+        self.settle();
+        Ok(())
+    }
+
+    /// Takes in what the lines give that came since the last call, so that no test has to. A test over fewer clauses than
+    /// are taken in begins from nothing.
+    pub fn settle(&mut self)
+        ensures same { self.new ≡ self.old }
+    {
+        if let Some(level) = self.level.take() {
+            self.level = self.settled(level);
+        }
+    }
+
+    /// A level with all clauses taken in; the same one where they end in a conflict.
+    fn settled(&self, level: Level) -> Option<Level>
+        requires { IsLevelOf self.now.clauses self.now.variables level.literals level.taken }
+        ensures { IfSome result (λ l. IsLevelOf self.now.clauses self.now.variables l.literals l.taken) }
+    {
+        let Level {
+            literals,
+            taken,
+            nothing,
+        } = level;
+        let mut layers = Layers::new(&nothing, literals);
+        let taken = self.take_in(&mut layers, taken);
+        let literals = layers.into_all()?;
+        Some(Level {
+            literals,
+            taken,
+            nothing,
+        })
+    }
+
+    /// Makes true what the clauses give that aren't taken in, and answers how many are taken in then. Where these end in a
+    /// conflict, all is left as it was.
+    fn take_in(&self, literals: &mut Layers<'_>, taken: u32) -> u32
+        requires level { IsLevelOf self.now.clauses self.now.variables literals.old.all taken }
+        requires marked { literals.old.marked ≡ literals.old.all }
+        ensures { IsLevelOf self.now.clauses self.now.variables literals.new.all result }
+    {
+        let last = self.len();
+        let done = literals.len();
+        if self.propagate(literals, done, taken, last) {
+            return last;
+        }
+        literals.take_back();
+        taken
+    }
+
+    /// Literals that the first `last` clauses force, and how many clauses gave them: those of the log's level, unless it
+    /// has more clauses, or else none.
+    pub(crate) fn start<'a>(&'a self, nothing: &'a TrueLiterals, last: u32) -> Start<'a>
+        requires none { nothing.now.literals ≡ [] }
+        requires same_variables { nothing.now.variables ≡ self.now.variables }
+        ensures level { IsLevelOf self.now.clauses self.now.variables result.literals.now result.taken }
+        ensures within { result.taken ≤ last }
+    {
+        if let Some(level) = &self.level {
+            if level.taken <= last {
+                return Start {
+                    literals: &level.literals,
+                    taken: level.taken,
+                };
+            }
+        }
+        Start {
+            literals: nothing,
+            taken: 0,
+        }
     }
 
     /// The place of the latest clause in which a literal stands, of those in the index; 0: there is none.
@@ -120,6 +208,16 @@ impl Log {
         ensures { IfSome result (λ link. IsNumberOf self.now.clauses link.number × (link.next < place)) }
     {
         self.occurrences.link(place)
+    }
+
+    /// Whether the assignment in which exactly the members of a set are true is a model of the input clauses. It costs the
+    /// clauses without a negative literal, and those of which the rarest negative literal is false.
+    pub fn holds(&self, trues: &VariableSet) -> bool
+        requires { trues.now.variables ≡ self.now.variables }
+        ensures { (value : ℕ → Bool) → GivesTrue value trues.now.members
+            → IsTrue result ↔ IsModel value (inputs_of self.now) }
+    {
+        self.inputs.hold(trues)
     }
 
     /// The index of the clauses.

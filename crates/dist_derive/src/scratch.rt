@@ -11,7 +11,10 @@ use std::marker::Model;
 /// Room for the work of one call at a time, over a number of variables. Each call leaves it as it found it.
 #[derive(Debug, Drop)]
 pub struct Scratch {
+    /// No literal is true here between the calls.
     pub(crate) literals: TrueLiterals,
+    /// Room for the literals of a test above those of a log.
+    pub(crate) room: Option<TrueLiterals>,
     pub(crate) cone: VariableSet,
     pub(crate) conflicts: Conflicts,
 }
@@ -24,7 +27,7 @@ impl Model for Scratch {
 
     ghost view = { λ a. a.literals.variables };
 
-    ghost invariant = { λ a. IsReady a.literals a.cone a.conflicts };
+    ghost invariant = { λ a. IsReady a.literals a.room a.cone a.conflicts };
 }
 
 impl Scratch {
@@ -33,10 +36,12 @@ impl Scratch {
         ensures { IfOk result (λ s. s ≡ variables) }
     {
         let literals = TrueLiterals::new(alloc, variables)?;
+        let room = Some(TrueLiterals::new(alloc, variables)?);
         let cone = VariableSet::new(alloc, variables)?;
         let conflicts = Conflicts::new(alloc)?;
         Ok(Scratch {
             literals,
+            room,
             cone,
             conflicts,
         })

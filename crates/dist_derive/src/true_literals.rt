@@ -1,10 +1,11 @@
 //! Literals that are true for now, and what clauses are under them.
 
-ghost use Rattle.std.specs.Prelude.{◌≡◌, ◌≢◌, ◌<◌, ◌≤◌, ◌↔◌, [], ◌∷◌, ◌++◌, false, List, length, map, All, Contains, IfOk, IsTrue, slice_index_or};
+ghost use Rattle.std.specs.Prelude.{◌≡◌, ◌≢◌, ◌<◌, ◌≤◌, ◌↔◌, [], ◌∷◌, ◌++◌, List, length, map, take, All, Contains, IfOk, IsTrue, slice_index_or};
 ghost use Rattle.dist_clause.specs.Formula.{Literal, negation, IsClauseOver};
 ghost use Rattle.dist_derive.specs.Propagation.{IsUnset, IsConsistent};
 
 use crate::variable_set::VariableSet;
+use dist_base::MAX_VARIABLES;
 use dist_clause::{Assignment, Lit};
 use std::alloc::{AllocError, Global};
 use std::marker::Model;
@@ -46,8 +47,7 @@ impl Model for TrueLiterals {
 }
 
 impl TrueLiterals {
-    ghost use Rattle.dist_derive.specs.TrueLiterals.{HasTruth, HasOutcome, Assumes};
-    ghost use Rattle.dist_derive.specs.ContainmentPrivate.{ContainsAll};
+    ghost use Rattle.dist_derive.specs.TrueLiterals.{HasTruth, HasOutcome};
 
     /// No literal is true.
     pub fn new(alloc: Global, variables: u32) -> Result<TrueLiterals, AllocError>
@@ -77,7 +77,10 @@ impl TrueLiterals {
     pub(crate) fn len(&self) -> usize
         ensures value { result ≡ length self.now.literals }
         ensures few { result ≤ self.now.variables }
+        ensures over_variables { IsClauseOver self.now.variables self.now.literals }
+        ensures stated { result ≤ MAX_VARIABLES }
     {
+        let _members = self.touched.members();
         self.touched.len()
     }
 
@@ -113,40 +116,6 @@ impl TrueLiterals {
         }
     }
 
-    /// Makes a literal true, unless it is false; answers whether it is true then.
-    pub(crate) fn assume(&mut self, literal: Lit) -> bool
-        requires { literal.variable ≤ self.old.variables }
-        ensures { Assumes self.old self.new literal result }
-    {
-        match self.status(literal) {
-            Truth::True => true,
-            Truth::False => false,
-            Truth::Unset => {
-                self.make_true(literal);
-                true
-            }
-        }
-    }
-
-    /// Makes literals true, up to one that is false; answers whether all are true then.
-    pub(crate) fn assume_all(&mut self, literals: &[Lit]) -> bool
-        requires { All (λ l. l.variable ≤ self.old.variables) literals.now }
-        ensures same_variables { self.new.variables ≡ self.old.variables }
-        ensures kept { ContainsAll self.new.literals self.old.literals }
-        ensures assumed { IsTrue result → ContainsAll self.new.literals literals.now }
-        ensures least { (trues : List Literal) → ContainsAll trues self.old.literals → ContainsAll trues literals.now
-            → ContainsAll trues self.new.literals }
-        ensures refused { result ≡ false → (trues : List Literal) → ContainsAll trues self.old.literals
-            → ContainsAll trues literals.now → ¬ IsConsistent trues }
-    {
-        for literal in literals {
-            if !self.assume(*literal) {
-                return false;
-            }
-        }
-        true
-    }
-
     /// Whether neither a literal nor its negation is true.
     pub fn is_unset(&self, literal: Lit) -> bool
         requires { literal.variable ≤ self.now.variables }
@@ -171,6 +140,13 @@ impl TrueLiterals {
         outcome
     }
 
+    /// Makes the literals from a place on unset.
+    pub(crate) fn truncate(&mut self, len: usize)
+        ensures { self.new ≡ record self.old { literals = take len self.old.literals } }
+    {
+        self.touched.truncate(len);
+    }
+
     /// Makes all literals unset.
     pub fn clear(&mut self)
         ensures { self.new ≡ record self.old { literals = [] } }
@@ -183,7 +159,7 @@ impl Outcome {
     ghost use Rattle.dist_derive.specs.TrueLiterals.{HasTruth, HasOutcome};
 
     /// What a clause is with one more literal, of a variable that the clause has not.
-    fn with(self, literal: Lit, status: Truth) -> Outcome
+    pub(crate) fn with(self, literal: Lit, status: Truth) -> Outcome
         ensures { (trues clause : List Literal) → All (λ m. m.variable ≢ literal.variable) clause
             → HasOutcome trues clause self → HasTruth trues literal status → HasOutcome trues (clause ++ literal ∷ []) result }
     {

@@ -8,7 +8,7 @@ use std::alloc::Global;
 const LENGTHS: [usize; 9] = [0, 1, 63, 64, 65, 511, 512, 513, 1_027];
 
 /// The first multiple of a step at or behind a place and before an end.
-fn multiple(place: usize, step: usize, end: usize) -> Option<usize>
+pub(crate) fn multiple(place: usize, step: usize, end: usize) -> Option<usize>
     requires { 0 < step }
 {
     let over = place % step;

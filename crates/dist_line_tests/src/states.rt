@@ -16,7 +16,7 @@ fn no_packages_are_claimed_by_an_end_alone(rt: HostRuntime) -> Result<(), Fail> 
         last: 0,
     };
     let log = Log::new(alloc, inputs, 0, 0);
-    let mut state = State::new(alloc, 10, 0, Layout::present(alloc), future, log)?;
+    let mut state = State::new(alloc, 10, 0, Layout::present(alloc), future, log);
     let mut tools = Tools::new(alloc, 0)?;
     let taken = take_line(alloc, &mut state, &mut tools, 2, CertRecord::End);
     assert!(rt; taken.is_ok());

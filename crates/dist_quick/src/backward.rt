@@ -6,11 +6,14 @@ use crate::trail::{Trail, Truth};
 use dist_clause::Lit;
 use dist_derive::Log;
 use std::alloc::{AllocError, Global};
+use std::collections::BinaryHeap;
 
 /// Room for the way back: the variables that are still to be explained, and the hints so far.
 #[derive(Debug, Drop)]
 pub(crate) struct Way {
     asked: Vec<bool>,
+    /// The places of the variables that are asked for, the highest first.
+    waiting: BinaryHeap<u32>,
     /// Assumptions, which need no explanation.
     given: Vec<bool>,
     pub(crate) hints: Vec<u32>,
@@ -31,6 +34,7 @@ impl Way {
         let given = vec![in alloc; false; variables as usize + 1]?;
         Ok(Way {
             asked,
+            waiting: BinaryHeap::new(alloc),
             given,
             hints: Vec::new(alloc),
             chain: Vec::new(alloc),
@@ -45,7 +49,7 @@ impl Way {
     }
 
     /// The hints by which a false clause shows that the assumptions can't all be true, in the order of the trail. Answers
-    /// false where the clause rests on a decision.
+    /// false where the clause rests on a decision. It costs the clauses that it explains, however long the trail is.
     pub(crate) fn trace(
         &mut self,
         log: &Log,
@@ -53,14 +57,18 @@ impl Way {
         conflict: u32,
     ) -> Result<bool, AllocError> {
         self.hints.clear();
+        self.waiting.clear();
         let mut rests = true;
-        self.ask(log, trail, conflict, trail.len());
-        for place in (0..trail.len()).rev() {
-            if let Some(variable) = self.take_asked(trail, place) {
+        self.ask(log, trail, conflict, trail.len())?;
+        for _ in 0..trail.len() {
+            let Some(place) = self.waiting.pop() else {
+                break;
+            };
+            if let Some(variable) = self.take_asked(trail, place as usize) {
                 let reason = trail.reason(variable);
                 rests = rests && reason != 0;
                 self.hints.push(reason)?;
-                self.ask(log, trail, reason, place);
+                self.ask(log, trail, reason, place as usize)?;
             }
         }
         self.hints.reverse();
@@ -69,18 +77,28 @@ impl Way {
     }
 
     /// Asks for the literals of a clause that have places below this one and are no assumptions.
-    fn ask(&mut self, log: &Log, trail: &Trail, number: u32, below: usize) {
+    fn ask(
+        &mut self,
+        log: &Log,
+        trail: &Trail,
+        number: u32,
+        below: usize,
+    ) -> Result<(), AllocError> {
         for literal in clause_of(log, number) {
             let variable = literal.variable();
             let given = self.given.get(variable as usize).copied().unwrap_or(false);
+            let place = trail.place(variable);
             if !given
                 && trail.truth(*literal) == Truth::False
-                && trail.place(variable) < below
+                && (place as usize) < below
                 && let Some(asked) = self.asked.get_mut(variable as usize)
+                && !*asked
             {
                 *asked = true;
+                self.waiting.push(place)?;
             }
         }
+        Ok(())
     }
 
     /// The variable at a place of the trail, where it is asked for; from then on it isn't.
@@ -140,7 +158,7 @@ impl Way {
                 return Ok(true);
             }
             number = trail.reason(variable);
-            below = trail.place(variable);
+            below = trail.place(variable) as usize;
             if number == 0 {
                 return Ok(false);
             }
@@ -153,7 +171,7 @@ impl Way {
 fn only_between(log: &Log, trail: &Trail, number: u32, start: usize, end: usize) -> Option<Lit> {
     let mut only: Option<Lit> = None;
     for literal in clause_of(log, number) {
-        let place = trail.place(literal.variable());
+        let place = trail.place(literal.variable()) as usize;
         if start <= place && place < end && trail.truth(*literal) == Truth::False {
             if only.is_some() {
                 return None;

@@ -76,8 +76,8 @@ impl Trail {
     }
 
     /// The place of a variable that has a value.
-    pub(crate) fn place(&self, variable: u32) -> usize {
-        self.known(variable).place as usize
+    pub(crate) fn place(&self, variable: u32) -> u32 {
+        self.known(variable).place
     }
 
     fn known(&self, variable: u32) -> Known {

@@ -2,6 +2,8 @@
 #![tactic(auto)]
 
 #[cfg(test)]
+mod clause_index;
+#[cfg(test)]
 mod clauses;
 #[cfg(test)]
 mod derived_lines;

@@ -10,48 +10,60 @@ use std::alloc::Global;
 use std::process::Abort;
 
 /// Clauses over 21 variables, and groups of numbers of each of which at most one is true.
-type Puzzle = (&'static [&'static [i32]], &'static [&'static [i32]]);
+#[derive(Clone, Copy)]
+enum Puzzle {
+    /// One conflict with the first variable.
+    Conflict,
+    /// All four clauses over two variables.
+    Four,
+    /// One variable leads to the next, and the last excludes the first.
+    Chain,
+    /// An odd number of three variables is true.
+    Odd,
+    /// Exactly one of three variables is true.
+    One,
+    /// No clause at all.
+    Nothing,
+    /// Four pigeons, each in one of three holes, no two in one.
+    Pigeons,
+    /// A package, variable 21, with five dependencies, each met by one of four, of which no two of one kind stand together.
+    Crowded,
+}
 
-/// One conflict with the first variable.
-const CONFLICT: Puzzle = (&[&[-1, 2], &[-1, -2]], &[]);
+impl Puzzle {
+    fn clauses(self) -> &'static [&'static [i32]] {
+        match self {
+            Puzzle::Conflict => &[&[-1, 2], &[-1, -2]],
+            Puzzle::Four => &[&[1, 2], &[1, -2], &[-1, 2], &[-1, -2]],
+            Puzzle::Chain => &[&[-1, 2], &[-2, 3], &[-3, -1]],
+            Puzzle::Odd => &[&[1, 2, 3], &[1, -2, -3], &[-1, 2, -3], &[-1, -2, 3]],
+            Puzzle::One => &[&[1, 2, 3]],
+            Puzzle::Nothing => &[],
+            Puzzle::Pigeons => &[&[1, 5, 9], &[2, 6, 10], &[3, 7, 11], &[4, 8, 12]],
+            Puzzle::Crowded => &[
+                &[-21, 1, 6, 11, 16],
+                &[-21, 2, 7, 12, 17],
+                &[-21, 3, 8, 13, 18],
+                &[-21, 4, 9, 14, 19],
+                &[-21, 5, 10, 15, 20],
+            ],
+        }
+    }
 
-/// All four clauses over two variables.
-const FOUR: Puzzle = (&[&[1, 2], &[1, -2], &[-1, 2], &[-1, -2]], &[]);
-
-/// One variable leads to the next, and the last excludes the first.
-const CHAIN: Puzzle = (&[&[-1, 2], &[-2, 3], &[-3, -1]], &[]);
-
-/// An odd number of three variables is true.
-const ODD: Puzzle = (&[&[1, 2, 3], &[1, -2, -3], &[-1, 2, -3], &[-1, -2, 3]], &[]);
-
-/// Exactly one of three variables is true.
-const ONE: Puzzle = (&[&[1, 2, 3]], &[&[1, 2, 3]]);
-
-/// No clause at all.
-const NOTHING: Puzzle = (&[], &[]);
-
-/// Four pigeons, each in one of three holes, no two in one.
-const PIGEONS: Puzzle = (
-    &[&[1, 5, 9], &[2, 6, 10], &[3, 7, 11], &[4, 8, 12]],
-    &[&[1, 2, 3, 4], &[5, 6, 7, 8], &[9, 10, 11, 12]],
-);
-
-/// A package, variable 21, with five dependencies, each met by one of four, of which no two of one kind stand together.
-const CROWDED: Puzzle = (
-    &[
-        &[-21, 1, 6, 11, 16],
-        &[-21, 2, 7, 12, 17],
-        &[-21, 3, 8, 13, 18],
-        &[-21, 4, 9, 14, 19],
-        &[-21, 5, 10, 15, 20],
-    ],
-    &[
-        &[1, 2, 3, 4, 5],
-        &[6, 7, 8, 9, 10],
-        &[11, 12, 13, 14, 15],
-        &[16, 17, 18, 19, 20],
-    ],
-);
+    fn groups(self) -> &'static [&'static [i32]] {
+        match self {
+            Puzzle::One => &[&[1, 2, 3]],
+            Puzzle::Pigeons => &[&[1, 2, 3, 4], &[5, 6, 7, 8], &[9, 10, 11, 12]],
+            Puzzle::Crowded => &[
+                &[1, 2, 3, 4, 5],
+                &[6, 7, 8, 9, 10],
+                &[11, 12, 13, 14, 15],
+                &[16, 17, 18, 19, 20],
+            ],
+            _ => &[],
+        }
+    }
+}
 
 /// Adds that a number is not true together with another one.
 fn exclude(alloc: Global, set: &mut ClauseSet, number: i32, others: &[i32]) -> bool
@@ -94,11 +106,13 @@ fn keep_all_apart(alloc: Global, set: &mut ClauseSet, groups: &[&[i32]]) -> bool
 }
 
 /// The clauses of a puzzle.
-fn clauses_of(alloc: Global, puzzle: &Puzzle) -> Option<ClauseSet>
+fn clauses_of(alloc: Global, puzzle: Puzzle) -> Option<ClauseSet>
     ensures { IfSome result (λ s. s.variables ≡ 21) }
 {
     let mut set = ClauseSet::new(alloc, 21, 100, 1000);
-    if push_all(alloc, &mut set, puzzle.0) && keep_all_apart(alloc, &mut set, puzzle.1) {
+    if push_all(alloc, &mut set, puzzle.clauses())
+        && keep_all_apart(alloc, &mut set, puzzle.groups())
+    {
         Some(set)
     } else {
         None
@@ -106,7 +120,7 @@ fn clauses_of(alloc: Global, puzzle: &Puzzle) -> Option<ClauseSet>
 }
 
 /// A solver of a puzzle.
-fn solver_of(alloc: Global, puzzle: &Puzzle, lines: u32, literals: u32) -> Option<Solver>
+fn solver_of(alloc: Global, puzzle: Puzzle, lines: u32, literals: u32) -> Option<Solver>
     requires lines { lines ≤ 1000 }
     requires literals { literals ≤ 10000 }
     ensures { IfSome result (λ s. s.log.variables ≡ 21) }
@@ -168,82 +182,101 @@ fn seen_of(
     }
 }
 
-/// What a question under one assumption, or under none for 0, comes to.
-fn put(alloc: Global, solver: &mut Solver, assumption: i32, limit: u32) -> Option<Seen>
+/// What a question under one assumption, or under none for 0, comes to, with guesses or by the plain descent alone.
+fn put(
+    alloc: Global,
+    solver: &mut Solver,
+    assumption: i32,
+    limit: u32,
+    plainly: bool,
+) -> Option<Seen>
     requires variables { solver.old.log.variables ≡ 21 }
     requires limit { 1 ≤ limit }
     ensures { solver.new.log.variables ≡ 21 }
 {
     let assumed = clause(alloc, 21, &[assumption])?;
-    let answer = solver.ask(&assumed, limit);
+    let answer = if plainly {
+        solver.ask_plainly(&assumed, limit)
+    } else {
+        solver.ask(&assumed, limit)
+    };
     seen_of(alloc, solver, &assumed, &answer)
 }
 
-/// Whether a question about the second variable finds it true, and the first one false.
-fn finds_the_second(alloc: Global) -> Option<bool> {
-    let mut solver = solver_of(alloc, &CONFLICT, 9, 99)?;
-    let assumed = clause(alloc, 21, &[2])?;
-    match solver.ask(&assumed, 1) {
-        Ok(Answer::Found(values)) => Some(!values.value(1) && values.value(2)),
-        _ => None,
-    }
-}
+/// One assumption or 0 for none, a limit, and what the question comes to.
+type Turn = (i32, u32, Seen);
 
-#[test]
-fn a_model_is_found(rt: HostRuntime) {
-    assert_eq!(rt; finds_the_second(rt.alloc()), Some(true));
-}
-
-/// A puzzle, the most lines and literals of a solver, one assumption or 0 for none, a limit, what the question comes to, and
-/// how many lines it adds, where that is told.
-type Asked = (Puzzle, u32, u32, i32, u32, Seen, Option<usize>);
+/// A puzzle, the most lines and literals of a solver, a question, and how many lines it adds, where that is told.
+type Asked = (Puzzle, (u32, u32), Turn, Option<usize>);
 
 const FULL: Seen = Seen::Refused(AskError::TooManyLines);
 
 const LONG: Seen = Seen::Refused(AskError::TooManyLiterals);
 
 const ASKED: [Asked; 11] = [
-    (CONFLICT, 9, 99, 2, 1, Seen::Found, Some(0)),
-    (CONFLICT, 9, 99, 1, 1, Seen::Refuted, Some(0)),
-    (CROWDED, 9, 99, 21, 1, Seen::Undecided, Some(1)),
-    (CROWDED, 0, 99, 21, 1, FULL, Some(0)),
-    (CROWDED, 1, 0, 21, 1, LONG, Some(0)),
-    (CROWDED, 2, 99, 21, 5, FULL, Some(2)),
-    (PIGEONS, 9, 99, 0, 1, Seen::Undecided, Some(1)),
-    (PIGEONS, 9, 99, 0, 2, Seen::Undecided, Some(2)),
+    (Puzzle::Conflict, (9, 99), (2, 1, Seen::Found), Some(0)),
+    (Puzzle::Conflict, (9, 99), (1, 1, Seen::Refuted), Some(0)),
+    (Puzzle::Crowded, (9, 99), (21, 1, Seen::Undecided), Some(1)),
+    (Puzzle::Crowded, (0, 99), (21, 1, FULL), Some(0)),
+    (Puzzle::Crowded, (1, 0), (21, 1, LONG), Some(0)),
+    (Puzzle::Crowded, (2, 99), (21, 5, FULL), Some(2)),
+    (Puzzle::Pigeons, (9, 99), (0, 1, Seen::Undecided), Some(1)),
+    (Puzzle::Pigeons, (9, 99), (0, 2, Seen::Undecided), Some(2)),
     // Enough lines decide.
-    (FOUR, 1000, 10000, 0, 10, Seen::Refuted, None),
-    (PIGEONS, 1000, 10000, 0, 10000, Seen::Refuted, None),
-    (CROWDED, 1000, 10000, 21, 10000, Seen::Refuted, None),
+    (Puzzle::Four, (1000, 10000), (0, 10, Seen::Refuted), None),
+    (
+        Puzzle::Pigeons,
+        (1000, 10000),
+        (0, 10000, Seen::Refuted),
+        None,
+    ),
+    (
+        Puzzle::Crowded,
+        (1000, 10000),
+        (21, 10000, Seen::Refuted),
+        None,
+    ),
 ];
 
-/// Whether a question comes to what its row says.
-fn is_answered(alloc: Global, row: &Asked) -> Option<bool> {
-    let (puzzle, lines, literals, assumption, limit, seen, added) = *row;
-    if lines > 1000 || literals > 10000 || limit == 0 {
+/// Whether a question comes to what it says.
+fn comes_to(alloc: Global, solver: &mut Solver, turn: &Turn, plainly: bool) -> Option<bool>
+    requires { solver.old.log.variables ≡ 21 }
+    ensures { solver.new.log.variables ≡ 21 }
+{
+    if turn.1 == 0 {
         return None;
     }
-    let mut solver = solver_of(alloc, &puzzle, lines, literals)?;
-    let before = solver.log().len() as usize;
-    let found = put(alloc, &mut solver, assumption, limit)?;
+    let seen = put(alloc, solver, turn.0, turn.1, plainly)?;
+    Some(seen == turn.2)
+}
+
+/// Whether the last question added as many lines as it tells, and as many as are wanted, where that is known.
+fn has_grown(solver: &Solver, before: u32, added: Option<usize>) -> bool {
     let count = solver.derived().len();
-    let grown = solver.log().len() as usize == before.saturating_add(count);
-    Some(found == seen && added.unwrap_or(count) == count && grown)
+    let grown = solver.log().len() as usize == (before as usize).saturating_add(count);
+    grown && added.unwrap_or(count) == count
 }
 
-fn hold_asked(rt: &(impl Abort + AllocGlobal), rows: &[Asked]) {
-    for (number, row) in rows.iter().enumerate() {
-        assert_eq!(rt; is_answered(rt.alloc(), row), Some(true), "row {number}");
+/// Whether a question comes to what its row says, and adds as many lines.
+fn is_right(alloc: Global, solver: &mut Solver, row: &Asked, plainly: bool) -> Option<bool>
+    requires { solver.old.log.variables ≡ 21 }
+{
+    let before = solver.log().len();
+    let right = comes_to(alloc, solver, &row.2, plainly)?;
+    Some(right && has_grown(solver, before, row.3))
+}
+
+/// Whether questions come to what they say, one after another.
+fn are_right(alloc: Global, solver: &mut Solver, turns: &[Turn]) -> Option<bool>
+    requires { solver.old.log.variables ≡ 21 }
+{
+    for turn in turns {
+        if !comes_to(alloc, solver, turn, false)? {
+            return Some(false);
+        }
     }
+    Some(true)
 }
-
-#[test]
-fn questions_have_their_answers(rt: HostRuntime) {
-    hold_asked(&rt, &ASKED);
-}
-
-/// One assumption or 0 for none, a limit, and what the question comes to.
-type Turn = (i32, u32, Seen);
 
 /// Questions to one solver of the crowded package: the same again, another one between, the same after lines were added.
 const TURNS: [Turn; 7] = [
@@ -263,25 +296,6 @@ const SHORT_TURNS: [Turn; 4] = [
     (1, 1, Seen::Found),
     (21, 5, FULL),
 ];
-
-/// Whether questions to one solver come to what they say, one after another.
-fn are_answered(alloc: Global, lines: u32, turns: &[Turn]) -> Option<bool>
-    requires { lines ≤ 1000 }
-{
-    let mut solver = solver_of(alloc, &CROWDED, lines, 10000)?;
-    for (assumption, limit, seen) in turns {
-        if *limit == 0 || put(alloc, &mut solver, *assumption, *limit)? != *seen {
-            return Some(false);
-        }
-    }
-    Some(true)
-}
-
-#[test]
-fn questions_in_turn_have_their_answers(rt: HostRuntime) {
-    assert_eq!(rt; are_answered(rt.alloc(), 1000, &TURNS), Some(true));
-    assert_eq!(rt; are_answered(rt.alloc(), 2, &SHORT_TURNS), Some(true));
-}
 
 /// Whether one of the assignments of the first three variables is a model in which the literals are true.
 fn is_possible(alloc: Global, clauses: &ClauseSet, literals: &[Lit]) -> Option<bool>
@@ -344,28 +358,21 @@ fn agrees_always(alloc: Global, clauses: &ClauseSet, solver: &mut Solver) -> Opt
 }
 
 /// Whether a solver of a puzzle answers as trying all assignments does.
-fn is_agreed(alloc: Global, puzzle: &Puzzle) -> Option<bool> {
+fn is_agreed(alloc: Global, puzzle: Puzzle, solver: &mut Solver) -> Option<bool>
+    requires { solver.old.log.variables ≡ 21 }
+{
     let clauses = clauses_of(alloc, puzzle)?;
-    let mut solver = solver_of(alloc, puzzle, 1000, 10000)?;
-    agrees_always(alloc, &clauses, &mut solver)
+    agrees_always(alloc, &clauses, solver)
 }
 
-const SMALL: [Puzzle; 6] = [CONFLICT, FOUR, CHAIN, ODD, ONE, NOTHING];
-
-fn hold_small(rt: &(impl Abort + AllocGlobal), puzzles: &[Puzzle]) {
-    for (number, puzzle) in puzzles.iter().enumerate() {
-        assert_eq!(rt;
-            is_agreed(rt.alloc(), puzzle),
-            Some(true),
-            "puzzle {number}"
-        );
-    }
-}
-
-#[test]
-fn small_sets_are_answered_as_by_trying_all(rt: HostRuntime) {
-    hold_small(&rt, &SMALL);
-}
+const SMALL: [Puzzle; 6] = [
+    Puzzle::Conflict,
+    Puzzle::Four,
+    Puzzle::Chain,
+    Puzzle::Odd,
+    Puzzle::One,
+    Puzzle::Nothing,
+];
 
 /// Whether the question added one line alone, with the number 5 and hints among the four clauses by which it follows.
 fn has_added(alloc: Global, solver: &Solver) -> Option<bool> {
@@ -381,13 +388,118 @@ fn has_added(alloc: Global, solver: &Solver) -> Option<bool> {
 }
 
 /// Whether a question with the limit of one line adds that line, of a solver of the four clauses.
-fn adds_the_line(alloc: Global) -> Option<bool> {
-    let mut solver = solver_of(alloc, &FOUR, 10, 10)?;
-    let seen = put(alloc, &mut solver, 0, 1)?;
-    Some(seen == Seen::Undecided && has_added(alloc, &solver)?)
+fn adds_the_line(alloc: Global, solver: &mut Solver) -> Option<bool>
+    requires { solver.old.log.variables ≡ 21 }
+{
+    let seen = put(alloc, solver, 0, 1, false)?;
+    Some(seen == Seen::Undecided && has_added(alloc, solver)?)
+}
+
+/// Whether a question about the second variable finds it true, and the first one false, where these two exclude each other.
+fn finds_the_second(alloc: Global, solver: &mut Solver) -> Option<bool>
+    requires { solver.old.log.variables ≡ 21 }
+{
+    let assumed = clause(alloc, 21, &[2])?;
+    match solver.ask(&assumed, 1) {
+        Ok(Answer::Found(values)) => Some(!values.value(1) && values.value(2)),
+        _ => None,
+    }
+}
+
+/// What is tried with a solver.
+#[derive(Clone, Copy)]
+enum Trial<'a> {
+    /// A question alone, with guesses or by the plain descent alone.
+    One(&'a Asked, bool),
+    /// Questions one after another.
+    Turns(&'a [Turn]),
+    /// All questions on three variables of this puzzle.
+    All(Puzzle),
+    /// A question for a line.
+    Line,
+    /// A question for a model.
+    Model,
+}
+
+/// Whether a trial comes to what it says.
+fn succeeds(alloc: Global, solver: &mut Solver, trial: &Trial<'_>) -> Option<bool>
+    requires { solver.old.log.variables ≡ 21 }
+{
+    match trial {
+        Trial::One(row, plainly) => is_right(alloc, solver, row, *plainly),
+        Trial::Turns(turns) => are_right(alloc, solver, turns),
+        Trial::All(puzzle) => is_agreed(alloc, *puzzle, solver),
+        Trial::Line => adds_the_line(alloc, solver),
+        Trial::Model => finds_the_second(alloc, solver),
+    }
+}
+
+/// The same with a new solver of a puzzle, which may have so many lines and literals.
+fn holds(alloc: Global, puzzle: Puzzle, limits: (u32, u32), trial: &Trial<'_>) -> Option<bool> {
+    let (lines, literals) = limits;
+    if lines > 1000 || literals > 10000 {
+        return None;
+    }
+    let mut solver = solver_of(alloc, puzzle, lines, literals)?;
+    succeeds(alloc, &mut solver, trial)
+}
+
+const MANY: (u32, u32) = (1000, 10000);
+
+fn hold_asked(rt: &(impl Abort + AllocGlobal), rows: &[Asked], plainly: bool) {
+    for (number, row) in rows.iter().enumerate() {
+        assert_eq!(rt;
+            holds(rt.alloc(), row.0, row.1, &Trial::One(row, plainly)),
+            Some(true),
+            "row {number}"
+        );
+    }
 }
 
 #[test]
-fn a_derived_line_has_its_number_and_hints(rt: HostRuntime) {
-    assert_eq!(rt; adds_the_line(rt.alloc()), Some(true));
+fn questions_have_their_answers(rt: HostRuntime) {
+    hold_asked(&rt, &ASKED, false);
+}
+
+#[test]
+fn a_plain_descent_has_the_same_answers(rt: HostRuntime) {
+    hold_asked(&rt, &ASKED, true);
+}
+
+fn hold_small(rt: &(impl Abort + AllocGlobal), puzzles: &[Puzzle]) {
+    for (number, puzzle) in puzzles.iter().enumerate() {
+        assert_eq!(rt;
+            holds(rt.alloc(), *puzzle, MANY, &Trial::All(*puzzle)),
+            Some(true),
+            "puzzle {number}"
+        );
+    }
+}
+
+#[test]
+fn small_sets_are_answered_as_by_trying_all(rt: HostRuntime) {
+    hold_small(&rt, &SMALL);
+}
+
+/// Trials with a solver of a puzzle.
+const TRIALS: [(Puzzle, (u32, u32), Trial<'static>); 4] = [
+    (Puzzle::Crowded, MANY, Trial::Turns(&TURNS)),
+    (Puzzle::Crowded, (2, 10000), Trial::Turns(&SHORT_TURNS)),
+    (Puzzle::Four, (10, 10), Trial::Line),
+    (Puzzle::Conflict, (9, 99), Trial::Model),
+];
+
+fn hold_trials(rt: &(impl Abort + AllocGlobal), trials: &[(Puzzle, (u32, u32), Trial<'static>)]) {
+    for (number, row) in trials.iter().enumerate() {
+        assert_eq!(rt;
+            holds(rt.alloc(), row.0, row.1, &row.2),
+            Some(true),
+            "trial {number}"
+        );
+    }
+}
+
+#[test]
+fn trials_succeed(rt: HostRuntime) {
+    hold_trials(&rt, &TRIALS);
 }

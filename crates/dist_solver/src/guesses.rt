@@ -1,15 +1,17 @@
 //! The searches that guess, and how their guesses become answers.
 
-ghost use Rattle.std.specs.Prelude.{◌≡◌, IfOk, IfSome};
+ghost use Rattle.std.specs.Prelude.{◌≡◌, ◌↔◌, ℕ, Contains, IfOk, IfSome};
 ghost use Rattle.dist_clause.specs.Formula.{IsClauseOver};
+ghost use Rattle.dist_derive.specs.ClauseLog.{inputs_of};
+ghost use Rattle.dist_derive.specs.Cone.{InCone};
 ghost use Rattle.dist_derive.specs.Follows.{EachLineFollows};
 ghost use Rattle.dist_solver.specs.DescentPrivate.{IsShown, IsEnd};
 
 use crate::answers::Answer;
 use crate::descent::Descent;
-use crate::tested::Tests;
+use crate::tested::{Tests, lesson};
 use dist_clause::Lit;
-use dist_derive::Log;
+use dist_derive::{Log, VariableSet};
 use dist_quick::{Guess, Quick};
 use dist_watched::{Turn, Watched};
 use std::alloc::{AllocError, Global};
@@ -20,6 +22,8 @@ use std::marker::Model;
 pub(crate) struct Guesses {
     quick: Quick,
     watched: Watched,
+    /// Whether the search by watched literals may guess at this question.
+    guessing: bool,
     /// Whether the watched search stands where this question's last line left it.
     stands: bool,
     tests: Tests,
@@ -43,6 +47,7 @@ impl Guesses {
         Ok(Guesses {
             quick,
             watched: Watched::new(alloc, variables),
+            guessing: true,
             stands: false,
             tests,
         })
@@ -78,25 +83,30 @@ impl Guesses {
         }
     }
 
-    /// The next end that the search by watched literals guesses, where it passes its test. The cone is given by its variables.
+    /// The next end that the search by watched literals guesses, where it passes its test.
     pub(crate) fn next(
         &mut self,
         alloc: Global,
         log: &Log,
-        cone: &[u32],
+        cone: &VariableSet,
         assumptions: &[Lit],
     ) -> Result<Option<Descent>, AllocError>
         requires same_variables { self.old ≡ log.now.variables }
         requires assumptions { IsClauseOver log.now.variables assumptions.now }
+        requires cone_variables { cone.now.variables ≡ log.now.variables }
+        requires cone { (v : ℕ) → Contains cone.now.members v ↔ InCone (inputs_of log.now) assumptions.now v }
         requires lines_follow { EachLineFollows log.now.inputs log.now.clauses }
         ensures ends { IfOk result (λ r. IfSome r (IsEnd log.now assumptions.now)) }
         ensures same_variables { self.new ≡ self.old }
     {
+        if !self.guessing {
+            return Ok(None);
+        }
         if !self.stands {
-            self.watched.start(log, cone, assumptions)?;
+            self.watched.start(log, cone.members(), assumptions)?;
         }
         let turn = self.watched.go()?;
-        let end = self.tested(alloc, log, assumptions, turn)?;
+        let end = self.tested(alloc, log, cone, assumptions, turn)?;
         self.stands = end.is_some();
         Ok(end)
     }
@@ -106,11 +116,14 @@ impl Guesses {
         &mut self,
         alloc: Global,
         log: &Log,
+        cone: &VariableSet,
         assumptions: &[Lit],
         turn: Turn,
     ) -> Result<Option<Descent>, AllocError>
         requires same_variables { self.old ≡ log.now.variables }
         requires assumptions { IsClauseOver log.now.variables assumptions.now }
+        requires cone_variables { cone.now.variables ≡ log.now.variables }
+        requires cone { (v : ℕ) → Contains cone.now.members v ↔ InCone (inputs_of log.now) assumptions.now v }
         requires lines_follow { EachLineFollows log.now.inputs log.now.clauses }
         ensures ends { IfOk result (λ r. IfSome r (IsEnd log.now assumptions.now)) }
         ensures same_variables { self.new ≡ self.old }
@@ -126,9 +139,13 @@ impl Guesses {
                 let hints = self.tests.refutation(alloc, log, assumptions, hints)?;
                 Ok(hints.map(Descent::Refutation))
             }
-            Turn::Lesson => self
-                .tests
-                .lesson(alloc, log, assumptions, self.watched.clause(), hints),
+            Turn::Lesson => {
+                let clause = self.watched.clause();
+                if !self.tests.is_lesson(log, cone, assumptions, clause, hints) {
+                    return Ok(None);
+                }
+                Ok(Some(lesson(alloc, clause, hints)?))
+            }
             Turn::Nothing => Ok(None),
         }
     }
@@ -140,10 +157,11 @@ impl Guesses {
         self.stands = self.stands && self.watched.learned(number).is_ok();
     }
 
-    /// Another question begins.
-    pub(crate) fn turn_to_another(&mut self)
+    /// Another question begins, at which the search may guess or not.
+    pub(crate) fn turn_to_another(&mut self, guessing: bool)
         ensures { self.new ≡ self.old }
     {
+        self.guessing = guessing;
         self.stands = false;
     }
 }

@@ -1,6 +1,6 @@
 //! A solver, and the question that it is asked.
 
-ghost use Rattle.std.specs.Prelude.{◌≡◌, ◌<◌, ◌≤◌, ◌↔◌, ℕ, [], length, All, Contains, IfOk};
+ghost use Rattle.std.specs.Prelude.{◌≡◌, ◌<◌, ◌≤◌, ◌↔◌, ℕ, [], length, Contains, IfOk};
 ghost use Rattle.dist_clause.specs.Formula.{IsClauseOver};
 ghost use Rattle.dist_derive.specs.ClauseLog.{inputs_of};
 ghost use Rattle.dist_derive.specs.Follows.{EachLineFollows};
@@ -92,15 +92,36 @@ impl Solver {
         if let Some(answer) = self.guesses.first(self.alloc, &self.entries, assumptions)? {
             return Ok(answer);
         }
+        self.look(assumptions, limit, true)
+    }
+
+    /// The same by the plain descent alone, with no guess: slow, and what the answers of `ask` are compared with.
+    pub fn ask_plainly(&mut self, assumptions: &[Lit], limit: u32) -> Result<Answer, AskError>
+        requires limit { 1 ≤ limit }
+        requires assumptions { IsClauseOver self.old.log.variables assumptions.now }
+        ensures adds { Adds self.old.log self.new.log self.new.derived assumptions.now limit }
+        ensures answer { IsAnswer self.old.log self.new.log assumptions.now limit result }
+    {
+        self.look(assumptions, limit, false)
+    }
+
+    /// Looks for an answer within the cone of the assumptions, by guesses or without.
+    fn look(&mut self, assumptions: &[Lit], limit: u32, guessing: bool) -> Result<Answer, AskError>
+        requires limit { 1 ≤ limit }
+        requires assumptions { IsClauseOver self.old.log.variables assumptions.now }
+        ensures adds { Adds self.old.log self.new.log self.new.derived assumptions.now limit }
+        ensures answer { IsAnswer self.old.log self.new.log assumptions.now limit result }
+    {
+        self.added.clear();
         self.entries.mark_cone(&mut self.cone, assumptions);
-        self.guesses.turn_to_another();
+        self.guesses.turn_to_another(guessing);
         search(
             self.alloc,
             &mut self.entries,
             &mut self.added,
             &mut self.guesses,
             &mut self.trail,
-            self.cone.members(),
+            &self.cone,
             assumptions,
             limit,
         )
@@ -122,22 +143,22 @@ impl Solver {
     }
 }
 
-/// Descends until an answer comes, at most `limit` times; each descent without one adds a line. The cone is given by its
-/// variables.
+/// Descends until an answer comes, at most `limit` times; each descent without one adds a line. The cone of the
+/// assumptions is given.
 fn search(
     alloc: Global,
     log: &mut Log,
     derived: &mut Derived,
     guesses: &mut Guesses,
     trail: &mut Trail,
-    cone: &[u32],
+    cone: &VariableSet,
     assumptions: &[Lit],
     limit: u32,
 ) -> Result<Answer, AskError>
     requires guesses { guesses.old ≡ log.old.variables }
     requires assumptions { IsClauseOver log.old.variables assumptions.now }
-    requires in_range { All (λ v. (1 ≤ v) × (v ≤ log.old.variables)) cone.now }
-    requires cone { (v : ℕ) → Contains cone.now v ↔ InCone (inputs_of log.old) assumptions.now v }
+    requires cone_variables { cone.now.variables ≡ log.old.variables }
+    requires cone { (v : ℕ) → Contains cone.now.members v ↔ InCone (inputs_of log.old) assumptions.now v }
     requires trail { trail.old.variables ≡ log.old.variables }
     requires none { derived.old ≡ [] }
     requires lines_follow { EachLineFollows log.old.inputs log.old.clauses }
@@ -169,13 +190,13 @@ fn next_end(
     log: &Log,
     guesses: &mut Guesses,
     trail: &mut Trail,
-    cone: &[u32],
+    cone: &VariableSet,
     assumptions: &[Lit],
 ) -> Result<Descent, AllocError>
     requires guesses { guesses.old ≡ log.now.variables }
     requires assumptions { IsClauseOver log.now.variables assumptions.now }
-    requires in_range { All (λ v. (1 ≤ v) × (v ≤ log.now.variables)) cone.now }
-    requires cone { (v : ℕ) → Contains cone.now v ↔ InCone (inputs_of log.now) assumptions.now v }
+    requires cone_variables { cone.now.variables ≡ log.now.variables }
+    requires cone { (v : ℕ) → Contains cone.now.members v ↔ InCone (inputs_of log.now) assumptions.now v }
     requires trail { trail.old.variables ≡ log.now.variables }
     requires lines_follow { EachLineFollows log.now.inputs log.now.clauses }
     ensures ends { IfOk result (IsEnd log.now assumptions.now) }
@@ -185,7 +206,7 @@ fn next_end(
     if let Some(end) = guesses.next(alloc, log, cone, assumptions)? {
         return Ok(end);
     }
-    descend(alloc, log, trail, cone, assumptions)
+    descend(alloc, log, trail, cone.members(), assumptions)
 }
 
 /// Adds a line to the log, and to the derived lines its number and hints; or to neither.
@@ -204,5 +225,6 @@ fn learn(
         derived.pop();
         return Err(AskError::from(cause));
     }
+    log.settle();
     Ok(())
 }

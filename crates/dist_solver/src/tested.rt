@@ -1,7 +1,9 @@
 //! Guesses at an answer, each tested before it leaves: nothing is believed of the search that made it.
 
-ghost use Rattle.std.specs.Prelude.{◌≡◌, ◌≤◌, ◌↔◌, IfOk, IfSome, IsTrue, length, map, All, Bool, ℕ};
-ghost use Rattle.dist_clause.specs.Formula.{IsClauseOver, negation, value_of, IsTrueLiteral};
+ghost use Rattle.std.specs.Prelude.{◌≡◌, ◌≤◌, ◌↔◌, IfOk, IfSome, IsTrue, List, length, map, All, Bool, Contains, ℕ};
+ghost use Rattle.dist_clause.specs.Formula.{Literal, IsClauseOver, negation, value_of, IsTrueLiteral};
+ghost use Rattle.dist_derive.specs.ClauseLog.{ClauseLog, inputs_of};
+ghost use Rattle.dist_derive.specs.Cone.{InCone};
 ghost use Rattle.dist_derive.specs.Follows.{EachLineFollows};
 ghost use Rattle.dist_derive.specs.VariableSet.{GivesTrue};
 ghost use Rattle.dist_solver.specs.Evidence.{IsShort};
@@ -87,40 +89,37 @@ impl Tests {
         Ok(Some(Hints::of(Vec::from_slice(alloc, hints)?)))
     }
 
-    /// A lesson, where its clause follows by the hints, not too many, and is new.
-    pub(crate) fn lesson(
+    /// Whether a clause follows by hints, not too many, and is new. The cone of the assumptions is given.
+    pub(crate) fn is_lesson(
         &mut self,
-        alloc: Global,
         log: &Log,
+        cone: &VariableSet,
         assumptions: &[Lit],
         clause: &[Lit],
         hints: &[u32],
-    ) -> Result<Option<Descent>, AllocError>
+    ) -> bool
         requires same_variables { self.old ≡ log.now.variables }
         requires assumptions { IsClauseOver log.now.variables assumptions.now }
-        ensures ends { IfOk result (λ r. IfSome r (IsEnd log.now assumptions.now)) }
-        ensures same_variables { self.new ≡ self.old }
-    {
-        if !self.is_lesson(log, assumptions, clause, hints) {
-            return Ok(None);
-        }
-        let clause = Vec::from_slice(alloc, clause)?;
-        let hints = Vec::from_slice(alloc, hints)?;
-        Ok(Some(Descent::Lesson(clause, Hints::of(hints))))
-    }
-
-    /// Whether a clause follows by hints, not too many, and is new.
-    fn is_lesson(&mut self, log: &Log, assumptions: &[Lit], clause: &[Lit], hints: &[u32]) -> bool
-        requires same_variables { self.old ≡ log.now.variables }
-        requires assumptions { IsClauseOver log.now.variables assumptions.now }
+        requires cone_variables { cone.now.variables ≡ log.now.variables }
+        requires cone { (v : ℕ) → Contains cone.now.members v ↔ InCone (inputs_of log.now) assumptions.now v }
         ensures lesson { IsTrue result → IsLesson log.now assumptions.now clause.now hints.now }
         ensures same_variables { self.new ≡ self.old }
     {
         is_clause(&mut self.variables, log.variables(), clause)
             && is_short(log, hints)
             && log.follows(&mut self.scratch, clause, hints)
-            && log.is_new(&mut self.scratch, assumptions, clause, log.len() + 1)
+            && log.is_new_within(&mut self.scratch, cone, assumptions, clause)
     }
+}
+
+/// A lesson of a clause and hints.
+pub(crate) fn lesson(alloc: Global, clause: &[Lit], hints: &[u32]) -> Result<Descent, AllocError>
+    ensures { (log : ClauseLog) (assumed : List Literal) → IsLesson log assumed clause.now hints.now
+        → IfOk result (IsEnd log assumed) }
+{
+    let clause = Vec::from_slice(alloc, clause)?;
+    let hints = Vec::from_slice(alloc, hints)?;
+    Ok(Descent::Lesson(clause, Hints::of(hints)))
 }
 
 /// Makes a set that of the listed variables; answers whether all are in range.

@@ -1,9 +1,9 @@
 -- What the lines of a question make of what is kept of a group.
-use Rattle.std.proofs.Common.{◌≡◌, ◌≢◌, ◌⊎◌, ⊎_elim, inl, inr, ℕ, ◌+◌, ◌-◌, ◌<◌, ◌≤◌, ◌==◌, ◌&&◌, ◌↔◌, Bool, true}
+use Rattle.std.proofs.Common.{◌≡◌, ◌≢◌, ◌⊎◌, ⊎_elim, inl, inr, ℕ, ◌+◌, ◌-◌, ◌<◌, ◌≤◌, ◌↔◌, Bool, true}
 use Rattle.std.proofs.Common.{false, List, [], ◌∷◌, ◌++◌, length, slice_set, refl, ap, sym, subst, ◌∙◌, append-nil}
-use Rattle.std.proofs.Common.{arith, length-append, length-set, get_or-set_same, get_or-set_other, not}
+use Rattle.std.proofs.Common.{arith, length-append, length-set}
 use Rattle.std.specs.List.{All, Contains}
-use Rattle.std.proofs.lemmas.Bool.{and_from, and_parts, cases_eq, eq-eqb, ne_eqb, true≢false, false≢true}
+use Rattle.std.proofs.lemmas.Bool.{and_from, and_parts, cases_eq, true≢false}
 use Rattle.std.proofs.lemmas.List.{get_or_append_left, get_or_at}
 use Rattle.std.proofs.lemmas.List.Elements.{All-append, All-nil, All-cons}
 use Rattle.dist_clause.specs.Formula.{value_of}
@@ -15,66 +15,14 @@ use Rattle.dist_cert.specs.Form.{Word}
 use Rattle.dist_cert.specs.Groups.{claim_count, group, installations, IsClosedBy, IsRefutedIn, IsUndecidedIn}
 use Rattle.dist_cert.specs.Part.{IsNextQuestion, IsQuestionOn}
 use Rattle.dist_sweep.specs.Asking.{AskerView}
-use Rattle.dist_strong.specs.Group.{GroupView, IsCandidate, IsNarrowed, is_open}
+use Rattle.dist_strong.specs.Group.{GroupView, IsCandidate, IsNarrowed}
 use Rattle.dist_sweep.specs.Script.{Setting, matter_in}
 use Rattle.dist_strong.specs.SettlingPrivate.{AreNoted, IsGroupAt, IsSettling, without}
 use Rattle.dist_sweep.specs.Window.{WindowView}
 use Rattle.dist_sweep.specs.Words.{true_variables}
 use Rattle.dist_sweep.specs.QuestionLinesLaws.{questions-of, AreAsked, group-after, count-after, in-group-after, closed-after, closed-here}
 use Rattle.dist_sweep.specs.TrueOnesLaws.{true-ones}
-
--- ---- values that are set
-
-pub value-same : (xs : List Bool) (q : ℕ) → 1 ≤ q → q ≤ length xs → value_of (slice_set xs (q - 1) true) q ≡ true
-value-same xs q from upto = let within : q - 1 < length xs = omega arith in get_or-set_same xs (q - 1) true false within
-
-pub value-other : (xs : List Bool) (q r : ℕ) → 1 ≤ q → 1 ≤ r → r ≢ q → value_of (slice_set xs (q - 1) true) r ≡ value_of xs r
-value-other xs q r from low other = get_or-set_other xs (q - 1) (r - 1) true false (λ e. other (omega (arith, e)))
-
--- ---- what is open
-
-pub record OpenParts (group : GroupView) (q : ℕ) : Type 0 where
-  pub other : q ≢ group.claimed
-  pub common : value_of group.common q ≡ true
-  pub refuted : value_of group.refuted q ≡ false
-  pub undecided : value_of group.undecided q ≡ false
-
-not-true : (b : Bool) → not b ≡ true → b ≡ false
-not-true true e = absurd (false≢true e)
-not-true false e = refl
-
-true-not : (b : Bool) → b ≡ false → not b ≡ true
-true-not b e = ap not e
-
-pub open-parts : (group : GroupView) (q : ℕ) → is_open group q ≡ true → OpenParts group q
-open-parts group q opens =
-    let a = and_parts ((not (q == group.claimed) && value_of group.common q) && not (value_of group.refuted q)) (not (value_of group.undecided q)) opens in
-    let b = and_parts (not (q == group.claimed) && value_of group.common q) (not (value_of group.refuted q)) a.0 in
-    let d = and_parts (not (q == group.claimed)) (value_of group.common q) b.0 in
-    record {
-      other = λ e. true≢false (sym (eq-eqb q group.claimed e) ∙ not-true (q == group.claimed) d.0);
-      common = d.1;
-      refuted = not-true (value_of group.refuted q) b.1;
-      undecided = not-true (value_of group.undecided q) a.1;
-    }
-
-pub open-from : (group : GroupView) (q : ℕ) → OpenParts group q → is_open group q ≡ true
-open-from group q parts =
-    and_from ((not (q == group.claimed) && value_of group.common q) && not (value_of group.refuted q)) (not (value_of group.undecided q))
-    (and_from (not (q == group.claimed) && value_of group.common q) (not (value_of group.refuted q))
-    (and_from (not (q == group.claimed)) (value_of group.common q) (true-not (q == group.claimed) (ne_eqb q group.claimed parts.other)) parts.common)
-    (true-not (value_of group.refuted q) parts.refuted)) (true-not (value_of group.undecided q) parts.undecided)
-
-pub never-open : (group : GroupView) (q : ℕ) → ¬ OpenParts group q → is_open group q ≡ false
-never-open group q never = by (is_open group q) refl
-  where
-    by : (b : Bool) → is_open group q ≡ b → b ≡ false
-    by true e = absurd (never (open-parts group q e))
-    by false e = refl
-
--- what is open in one is open in the other
-still-closed : (old new : GroupView) (r : ℕ) → (OpenParts new r → OpenParts old r) → is_open old r ≡ false → is_open new r ≡ false
-still-closed old new r back closed = never-open new r (λ parts. true≢false (sym (open-from old r (back parts)) ∙ closed))
+use Rattle.dist_strong.proofs.Opens.{OpenParts, never-open, open-parts, still-closed, value-other, value-same}
 
 -- ---- the question may be asked
 

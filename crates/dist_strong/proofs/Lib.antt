@@ -1,3 +1,5 @@
+mod Opens
+mod CandidateSteps
 mod GroupSteps
 mod Counting
 mod SettleSteps

@@ -25,13 +25,21 @@ use Rattle.dist_sweep.specs.Window.{WindowView}
 use Rattle.dist_sweep.specs.Words.{true_variables}
 use Rattle.dist_sweep.specs.declared.asker.Reply.{Reply}
 use Rattle.dist_sweep.specs.QuestionLinesLaws.{any-join, question-claims, reply-line, AreAsked}
-use Rattle.dist_strong.proofs.GroupSteps.{found-step, never-open, open-from, open-parts, question-on, refuted-step}
-use Rattle.dist_strong.proofs.GroupSteps.{value-other, value-same, undecided-step}
+use Rattle.dist_strong.proofs.GroupSteps.{found-step, question-on, refuted-step, undecided-step}
+use Rattle.dist_strong.proofs.Opens.{never-open, open-from, open-parts, value-other, value-same}
 use Rattle.dist_sweep.specs.WindowLaws.{window-more, window-same}
 use Rattle.dist_sweep.specs.ScriptLaws.{BeginsLaw, TwiceLaw, lines-more, stops-after, stops-for-memory}
 use Rattle.dist_sweep.specs.declared.asker.Reply.TheVariants as replies
 
 -- ---- one after another
+
+pub settle-none : BeginsLaw → (first : DeskView) (a : AskerView) (w : WindowView) (group : GroupView) → SettleMore first first a a w w group group
+settle-none begins first a w group g before at = record {
+  added = [];
+  grew = begins first;
+  no_claims = refl;
+  settling = subst (λ (ls : List CertRecord). IsSettling g ls a w group) (sym (append-nil before)) at;
+}
 
 pub settle-join : TwiceLaw → (first mid last : DeskView) (a b d : AskerView) (w v u : WindowView) (group later kept : GroupView)
     → SettleMore first mid a b w v group later → SettleMore mid last b d v u later kept

@@ -24,7 +24,7 @@ use Rattle.dist_sweep.specs.Window.{HasEach, IsWindowAt, WindowView, numbers_of}
 use Rattle.dist_sweep.specs.Words.{true_variables}
 use Rattle.dist_sweep.specs.WindowLaws.{each-named, latest-named, named-each, numbers-named, numbers-rising}
 use Rattle.dist_sweep.specs.ClaimLinesLaws.{next-claim}
-use Rattle.dist_strong.proofs.GroupSteps.{open-from}
+use Rattle.dist_strong.proofs.Opens.{open-from}
 use Rattle.dist_sweep.specs.LineLaws.{no-future, none-in, plains-small}
 use Rattle.dist_sweep.specs.TrueOnesLaws.{contained, true-low, true-ones, true-rising, true-upto}
 use Rattle.dist_cert.specs.declared.faults.CertCause.TheVariants as causes

@@ -1,3 +1,4 @@
 pub mod Group
+pub mod Candidates
 pub mod SettlingPrivate
 pub mod ClaimingPrivate

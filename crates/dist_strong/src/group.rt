@@ -1,22 +1,21 @@
 //! What is kept of the group of a claim.
-ghost use Rattle.std.specs.Prelude.{◌≡◌, ◌-◌, ◌<◌, ◌≤◌, ◌&&◌, ◌↔◌, ℕ, IfOk, IfSome, IsTrue, None, length, slice_set, true};
-ghost use Rattle.dist_clause.specs.Formula.{value_of};
-ghost use Rattle.dist_strong.specs.Group.{AreLeft, GroupView, IsCandidate, IsLeft, IsNarrowed, is_open, new_group};
+ghost use Rattle.std.specs.Prelude.{◌≡◌, ◌-◌, ◌≤◌, ◌↔◌, IfOk, IsTrue, length, slice_set, true};
+ghost use Rattle.dist_strong.specs.Group.{AreLeft, GroupView, IsLeft, IsNarrowed, new_group};
 ghost use Rattle.dist_sweep.specs.Words.{true_variables};
 
 use dist_clause::Assignment;
-use dist_sweep::{Window, true_variables};
+use dist_sweep::{Window, and_into, copy_from, next_true, true_variables};
 use std::alloc::{AllocError, Global};
 use std::marker::Model;
 
 /// The package of the claim, what all installations of its group have, and the packages without which it was asked for.
 #[derive(Debug, Drop)]
 pub(crate) struct Group {
-    claimed: u32,
-    variables: u32,
-    common: Assignment,
-    refuted: Assignment,
-    undecided: Assignment,
+    pub(crate) claimed: u32,
+    pub(crate) variables: u32,
+    pub(crate) common: Assignment,
+    pub(crate) refuted: Assignment,
+    pub(crate) undecided: Assignment,
 }
 
 impl Model for Group {
@@ -30,31 +29,6 @@ impl Model for Group {
     ghost invariant = { λ g. (length g.common ≡ g.variables) × (length g.refuted ≡ g.variables) × (length g.undecided ≡ g.variables) };
 }
 
-/// The same truth values once more.
-fn copy_of(alloc: Global, values: &Assignment, variables: u32) -> Result<Assignment, AllocError>
-    requires { length values.now ≡ variables }
-    ensures { IfOk result (λ copy. copy ≡ values.now) }
-{
-    let mut copy = Assignment::new(alloc, variables)?;
-    for place in 0..variables {
-        copy.set(place + 1, values.value(place + 1));
-    }
-    Ok(copy)
-}
-
-/// Leaves true what is true in both.
-fn narrow(common: &mut Assignment, values: &Assignment, variables: u32)
-    requires common { length common.old ≡ variables }
-    requires values { length values.now ≡ variables }
-    ensures same { length common.new ≡ variables }
-    ensures both { IsNarrowed variables common.old values.now common.new }
-{
-    for place in 0..variables {
-        let both = common.value(place + 1) && values.value(place + 1);
-        common.set(place + 1, both);
-    }
-}
-
 impl Group {
     /// The group of a claim on a package, with its first installation.
     pub(crate) fn new(
@@ -66,10 +40,12 @@ impl Group {
         requires { length values.now ≡ variables }
         ensures { IfOk result (λ g. g ≡ new_group «package» variables values.now) }
     {
+        let mut common = Assignment::new(alloc, variables)?;
+        copy_from(&mut common, values, variables);
         Ok(Group {
             claimed: package,
             variables,
-            common: copy_of(alloc, values, variables)?,
+            common,
             refuted: Assignment::new(alloc, variables)?,
             undecided: Assignment::new(alloc, variables)?,
         })
@@ -82,18 +58,6 @@ impl Group {
         self.claimed
     }
 
-    /// Whether another package is in all installations of the group and was not asked for.
-    fn is_open(&self, other: u32) -> bool
-        requires from_one { 1 ≤ other }
-        requires upto { other ≤ self.now.variables }
-        ensures { result ≡ is_open self.now other }
-    {
-        other != self.claimed
-            && self.common.value(other)
-            && !self.refuted.value(other)
-            && !self.undecided.value(other)
-    }
-
     /// Adds an installation.
     pub(crate) fn add(&mut self, values: &Assignment)
         requires { length values.now ≡ self.old.variables }
@@ -101,7 +65,7 @@ impl Group {
         ensures size { length self.new.common ≡ self.old.variables }
         ensures both { IsNarrowed self.old.variables self.old.common values.now self.new.common }
     {
-        narrow(&mut self.common, values, self.variables);
+        and_into(&mut self.common, values, self.variables);
     }
 
     /// Notes that the package is refuted without another one.
@@ -129,40 +93,6 @@ impl Group {
         true_variables(alloc, &self.refuted, self.variables)
     }
 
-    /// A package that is in all installations of the claim and was not asked for, if there is one. Those behind the one that was
-    /// asked for last come first: few of those before it are open again.
-    pub(crate) fn candidate(&self, window: &Window, last: u32) -> Option<u32>
-        requires from_one { 1 ≤ self.now.claimed }
-        requires upto { self.now.claimed ≤ self.now.variables }
-        requires variables { window.now.variables ≡ self.now.variables }
-        ensures some { IfSome result (IsCandidate window.now self.now) }
-        ensures none { result ≡ None → (q : ℕ) → ¬ IsCandidate window.now self.now q }
-    {
-        let last = last.min(self.variables);
-        let behind = self.candidate_between(window, last, self.variables);
-        if behind.is_some() {
-            return behind;
-        }
-        self.candidate_between(window, 0, last)
-    }
-
-    /// The first candidate above a number and up to another one.
-    fn candidate_between(&self, window: &Window, above: u32, upto: u32) -> Option<u32>
-        requires from_one { 1 ≤ self.now.claimed }
-        requires claimed { self.now.claimed ≤ self.now.variables }
-        requires variables { window.now.variables ≡ self.now.variables }
-        requires upto { upto ≤ self.now.variables }
-        ensures some { IfSome result (IsCandidate window.now self.now) }
-        ensures none { result ≡ None → (q : ℕ) → above < q → q ≤ upto → ¬ IsCandidate window.now self.now q }
-    {
-        for place in above..upto {
-            if self.is_open(place + 1) && window.each_has(self.claimed, place + 1) {
-                return Some(place + 1);
-            }
-        }
-        None
-    }
-
     /// The packages that stayed undecided and are in all installations of the claim, rising.
     pub(crate) fn left(&self, alloc: Global, window: &Window) -> Result<Vec<u32>, AllocError>
         requires from_one { 1 ≤ self.now.claimed }
@@ -171,9 +101,16 @@ impl Group {
         ensures { IfOk result (λ left. AreLeft window.now self.now left.items) }
     {
         let mut left = Vec::new(alloc);
-        for place in 0..self.variables {
-            if self.is_left(window, place + 1) {
-                left.push(place + 1)?;
+        let mut last = 0;
+        'others: while last < self.variables {
+            match next_true(&self.undecided, self.variables, last + 1) {
+                Some(other) => {
+                    if self.is_left(window, other) {
+                        left.push(other)?;
+                    }
+                    last = other;
+                }
+                None => last = self.variables,
             }
         }
         Ok(left)

@@ -2,9 +2,10 @@
 //!
 //! `sweep.rt` takes the input clauses from dist_subject and writes the file by dist_sweep. `claiming.rt` makes the claim on one
 //! package: after its own question `settling.rt` asks for the package without each candidate that is left. Each installation that
-//! is found strikes candidates (`group.rt`), so that few questions are asked.
+//! is found strikes candidates (`candidates.rt`, by whole words), so that few questions are asked.
 #![tactic(auto)]
 
+mod candidates;
 mod claimant;
 mod claiming;
 mod group;

@@ -1,4 +1,5 @@
 mod Lists
+mod Later
 mod Opened
 mod Lines
 mod OneLine

@@ -1,5 +1,6 @@
 -- What is kept of the installations before a line.
-use Rattle.std.specs.Prelude.{◌≡◌, ℕ, ◌+◌, ◌-◌, Bool, true, List, [], All, filter, length, map, slice_index_or}
+use Rattle.std.specs.Prelude.{◌≡◌, ℕ, ◌+◌, ◌-◌, Bool, true, List, [], ◌∷◌, ◌++◌, All, filter, length, map}
+use Rattle.std.specs.Prelude.{slice_index_or}
 use Rattle.std.specs.List.{range_with_len}
 use Rattle.circular_buffer.specs.Buffer.{keep_last}
 use Rattle.dist_clause.specs.Formula.{value_of}
@@ -26,6 +27,10 @@ numbers_of w p = filter (λ number. value_of (kept_at w number) p)
 -- each kept installation with the first variable has the second one
 abbrev pub HasEach : WindowView → ℕ → ℕ → Type 0
 HasEach w p q = All (λ v. value_of v p ≡ true → value_of v q ≡ true) w.kept
+
+-- one installation more, as the latest one
+abbrev pub added : WindowView → List Bool → WindowView
+added w values = record w { kept = keep_last REACH (w.kept ++ values ∷ []); count = w.count + 1 }
 
 -- What is kept are the latest installations of these lines.
 pub record IsWindowAt (before : List CertRecord) (w : WindowView) : Type 0 where

@@ -6,6 +6,7 @@
 #![tactic(auto)]
 
 mod asker;
+mod bits;
 mod claimant;
 mod file;
 mod putting;
@@ -14,6 +15,7 @@ mod window;
 mod words;
 
 pub use asker::{Asker, Reply};
+pub use bits::{and_into, copy_from, next_true};
 pub use claimant::Claimant;
 pub use sweep::{SweepInputs, write_sweep};
 pub use window::Window;

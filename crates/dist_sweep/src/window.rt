@@ -1,9 +1,10 @@
 //! The latest installations, by their numbers.
-ghost use Rattle.std.specs.Prelude.{◌≡◌, ◌+◌, ◌^◌, ◌<◌, ◌≤◌, ◌↔◌, [], ◌∷◌, ◌++◌, All, IfOk, IsTrue, OnOk, length, slice_index_or, true};
+ghost use Rattle.std.specs.Prelude.{◌≡◌, ◌+◌, ◌^◌, ◌<◌, ◌≤◌, ◌↔◌, [], ◌∷◌, ◌++◌, All, IfOk, IsTrue, List, Bool, OnOk, ℕ, false, length, slice_index_or, true};
 ghost use Rattle.circular_buffer.specs.Buffer.{keep_last};
 ghost use Rattle.dist_clause.specs.Formula.{value_of};
-ghost use Rattle.dist_sweep.specs.Window.{WindowView, kept_at, numbers_of};
+ghost use Rattle.dist_sweep.specs.Window.{HasEach, WindowView, added, kept_at, numbers_of};
 
+use crate::bits::and_into;
 use circular_buffer::HeapCircularBuffer;
 use dist_cert::REACH;
 use dist_clause::Assignment;
@@ -106,6 +107,33 @@ impl Window {
             }
         }
         true
+    }
+
+    /// Leaves true what is true in each installation with a variable, too.
+    pub fn narrow(&self, variable: u32, common: &mut Assignment)
+        requires from_one { 1 ≤ variable }
+        requires upto { variable ≤ self.now.variables }
+        requires size { length common.old ≡ self.now.variables }
+        ensures size { length common.new ≡ self.now.variables }
+        ensures each { (q : ℕ) → 1 ≤ q → q ≤ self.now.variables
+            → (value_of common.new q ≡ true) ↔ ((value_of common.old q ≡ true) × HasEach self.now variable q) }
+    {
+        for place in 0..self.kept.len() {
+            if let Some(values) = self.kept.get(place) {
+                if values.value(variable) {
+                    and_into(common, values, self.variables);
+                }
+            }
+        }
+    }
+
+    /// Whether an installation with a variable is given up for the next one that is added.
+    pub fn gives_up(&self, variable: u32) -> bool
+        requires from_one { 1 ≤ variable }
+        requires upto { variable ≤ self.now.variables }
+        ensures { result ≡ false → (values : List Bool) (other : ℕ) → HasEach (added self.now values) variable other → HasEach self.now variable other }
+    {
+        self.kept.len() >= REACH && self.has_at(0, variable)
     }
 
     /// The numbers of the installations with a variable, rising.

@@ -4,6 +4,7 @@ ghost use Rattle.dist_base.specs.declared.TheConstants.{MAX_VARIABLES};
 ghost use Rattle.dist_cert.specs.Groups.{clause_of};
 ghost use Rattle.dist_sweep.specs.Words.{true_variables, words_of};
 
+use crate::bits::next_true;
 use dist_base::MAX_VARIABLES;
 use dist_clause::{Assignment, Lit};
 use std::alloc::{AllocError, Global};
@@ -41,9 +42,14 @@ pub fn true_variables(
     ensures { IfOk result (λ members. members.items ≡ true_variables values.now) }
 {
     let mut members = Vec::new(alloc);
-    for place in 0..variables {
-        if values.value(place + 1) {
-            members.push(place + 1)?;
+    let mut last = 0;
+    'members: while last < variables {
+        match next_true(values, variables, last + 1) {
+            Some(variable) => {
+                members.push(variable)?;
+                last = variable;
+            }
+            None => last = variables,
         }
     }
     Ok(members)

@@ -34,18 +34,52 @@ pub(crate) fn ask(
     requires assumptions { IsClauseOver log.old.variables assumptions.now }
     ensures { log.new.variables ≡ log.old.variables }
 {
+    start(alloc, log, watched, assumptions)?;
     let mut scratch = Scratch::new(alloc, log.variables()).ok()?;
+    take_turns(
+        alloc,
+        clauses,
+        log,
+        &mut scratch,
+        watched,
+        assumptions,
+        limit,
+    )
+}
+
+/// Starts a search within the cone of the assumptions.
+fn start(alloc: Global, log: &Log, watched: &mut Watched, assumptions: &[Lit]) -> Option<()>
+    requires { IsClauseOver log.now.variables assumptions.now }
+{
     let mut cone = VariableSet::new(alloc, log.variables()).ok()?;
     log.mark_cone(&mut cone, assumptions);
-    watched.start(log, cone.members(), assumptions).ok()?;
+    watched.start(log, cone.members(), assumptions).ok()
+}
+
+/// Takes turn after turn, up to an end or to as many lessons as are allowed.
+fn take_turns(
+    alloc: Global,
+    clauses: &ClauseSet,
+    log: &mut Log,
+    scratch: &mut Scratch,
+    watched: &mut Watched,
+    assumptions: &[Lit],
+    limit: u32,
+) -> Option<End>
+    requires few { log.old.variables ≤ 1000 }
+    requires clauses { clauses.now.variables ≡ log.old.variables }
+    requires scratch { scratch.old ≡ log.old.variables }
+    requires assumptions { IsClauseOver log.old.variables assumptions.now }
+    ensures { log.new.variables ≡ log.old.variables }
+{
     'lessons: for _ in 0..limit {
         match watched.go().ok()? {
             Turn::Model => return found(alloc, clauses, assumptions, watched.trues()),
             Turn::Refutation => {
-                return refuted(alloc, log, &mut scratch, assumptions, watched.hints());
+                return refuted(alloc, log, scratch, assumptions, watched.hints());
             }
             Turn::Lesson => {
-                if !learn(alloc, log, &mut scratch, assumptions, watched)? {
+                if !learn(alloc, log, scratch, assumptions, watched)? {
                     return Some(End::Wrong);
                 }
             }

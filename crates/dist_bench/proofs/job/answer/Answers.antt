@@ -1,5 +1,14 @@
 use Rattle.dist_bench.proofs.job.answer.Goals as goal
 
+pub returns-in-AskEssentialPackages : goal.returns-in-AskEssentialPackages
+returns-in-AskEssentialPackages c = rw (c.in-AskEssentialPackages.is, ← c.as_bytes-bytes.ensures.value) c.asked_text.ensures
+
+pub returns-in-AskLastPackage : goal.returns-in-AskLastPackage
+returns-in-AskLastPackage c = rw (c.in-AskLastPackage.is, ← c.as_bytes-bytes.ensures.value) c.last_text.ensures
+
+pub returns-in-AskPackages : goal.returns-in-AskPackages
+returns-in-AskPackages c = rw (c.in-AskPackages.is, ← c.as_bytes-bytes.ensures.value) c.asked_text-in-AskPackages.ensures
+
 pub returns-in-CountClasses : goal.returns-in-CountClasses
 returns-in-CountClasses c = rw (c.in-CountClasses.is, ← c.as_bytes-bytes.ensures.value) c.classes_text.ensures
 

@@ -1,5 +1,12 @@
+use Rattle.std.proofs.Common.{◌-◌, ◌≤◌, length}
 use Rattle.dist_challenge.specs.UsedPrivate.{AreFlags}
 use Rattle.dist_challenge.proofs.used.used_flags.Given as goal
 
-abbrev pub invariant-loop-place : goal.invariant-loop-place
-invariant-loop-place l = AreFlags l.space l.values l.place l.flags
+abbrev pub invariant-variables : goal.invariant-variables
+invariant-variables l = record {
+  within : l.last ≤ length l.space.meanings;
+  flags : AreFlags l.space l.values l.last l.flags;
+}
+
+abbrev pub decreases-variables : goal.decreases-variables
+decreases-variables l = length l.space.meanings - l.last

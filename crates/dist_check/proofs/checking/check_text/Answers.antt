@@ -8,12 +8,13 @@ use Rattle.dist_outside.specs.Reading.{bytes_left}
 use Rattle.dist_outside.specs.declared.trouble.WorkError.TheVariants.{NoMemory}
 use Rattle.dist_cert.specs.declared.faults.ReadCertError.{ReadCertError}
 use Rattle.dist_cert.specs.declared.faults.ReadCertError.TheVariants.{Work}
+use Rattle.dist_cert.specs.declared.records.Claim.{Claim}
 use Rattle.dist_cert.specs.Reading.{text_left}
 use Rattle.dist_check.specs.declared.checking.Checked.{Checked}
 use Rattle.dist_check.specs.Checking.{LargeCause, TextAnswers, TextCause, OfText}
 use Rattle.dist_check.proofs.CheckSteps.{by-exit, header-stops, start-stops, starts-checked}
 use Rattle.dist_subject.specs.Completed.{IsCompleted}
-use Rattle.dist_check.proofs.CheckText.{accepted-means, nothing-read, stops-alike, completed-alike, later-cause, no-memory}
+use Rattle.dist_check.proofs.CheckText.{accepted-means, nothing-read, stops-alike, completed-alike, later-cause}
 use Rattle.dist_check.proofs.LargeCauses.{header-large, start-large}
 use Rattle.dist_check.proofs.checking.check_text.Goals as goal
 
@@ -45,27 +46,17 @@ returns-in_err-state-clause-text g c =
     (λ (x : Checked). x.header) (λ (x : Checked). x.claims) c.in_err-state.field-0.0
     c.in_ok-header.ensures.text c.in_err-state.ensures)
 
-pub returns-in_err-tools-clause-text : goal.returns-in_err-tools-clause-text
-returns-in_err-tools-clause-text g c =
-    let old : DeskView = g.D.Desk.view c.args.desk.now in
-    let told : Option (List ℕ) = bytes_left old.files old.mode in
-    by-exit (λ (r : Result Checked ReadCertError). OfText told
-    (λ text. TextAnswers (λ (x : Checked). x.header) (λ (x : Checked). x.claims) c.args.repo.now c.args.limits.now text r))
-    c.from_residual-in_err-tools.result (Work NoMemory)
-    c.from_residual-in_err-tools.ensures.1 (no-memory (λ (x : Checked). x.header) (λ (x : Checked). x.claims) c.args.repo.now c.args.limits.now told)
+pub claims_behind-requires-clause-variables : goal.claims_behind-requires-clause-variables
+claims_behind-requires-clause-variables g c = c.in_ok-state.ensures.fits.variables ∙ sym c.in_ok-state.ensures.variables
 
-pub take_lines-requires-clause-start : goal.take_lines-requires-clause-start
-take_lines-requires-clause-start g c =
+pub claims_behind-requires-clause-start : goal.claims_behind-requires-clause-start
+claims_behind-requires-clause-start g c =
     starts-checked c.forms_are_clear.ensures c.models_are_healthy.ensures c.args.repo.now c.len-in_order.ensures.in_order
     c.args.limits.now c.new-reader.result c.header.new.self None None None
     c.in_ok-header.header c.in_ok-state.state c.new-reader.ensures refl refl c.in_ok-header.ensures.some c.in_ok-header.ensures.gives c.in_ok-state.ensures
 
-pub take_lines-requires-clause-tools : goal.take_lines-requires-clause-tools
-take_lines-requires-clause-tools g c =
-    c.in_ok-tools.ensures ∙ c.in_ok-state.ensures.fits.variables ∙ sym c.in_ok-state.ensures.variables
-
-pub returns-in_err-take_lines-clause-text : goal.returns-in_err-take_lines-clause-text
-returns-in_err-take_lines-clause-text g c =
+pub returns-in_err-claims-clause-text : goal.returns-in_err-claims-clause-text
+returns-in_err-claims-clause-text g c =
     let old : DeskView = g.D.Desk.view c.args.desk.now in
     let new : DeskView = g.D.Desk.view c.header.new.desk in
     let told : Option (List ℕ) = bytes_left old.files old.mode in
@@ -76,20 +67,20 @@ returns-in_err-take_lines-clause-text g c =
     c.in_ok-header.ensures.some c.in_ok-header.ensures.gives c.in_ok-state.ensures in
     by-exit (λ (r : Result Checked ReadCertError). OfText told
     (λ text. TextAnswers (λ (x : Checked). x.header) (λ (x : Checked). x.claims) c.args.repo.now c.args.limits.now text r))
-    c.from_residual-in_err-take_lines.result
-    c.in_err-take_lines.field-0.0 c.from_residual-in_err-take_lines.ensures.1
-    (stops-alike (λ (u : Unit {0}). c.in_ok-header.header) (λ (u : Unit {0}). c.take_lines.new.state.claims) (λ (x : Checked). x.header)
-    (λ (x : Checked). x.claims) c.args.repo.now c.args.limits.now told c.in_err-take_lines.field-0.0
-    (c.in_err-take_lines.ensures.text told checked))
+    c.from_residual-in_err-claims.result
+    c.in_err-claims.field-0.0 c.from_residual-in_err-claims.ensures.1
+    (stops-alike (λ (made : List Claim). c.in_ok-header.header) (λ (made : List Claim). made) (λ (x : Checked). x.header)
+    (λ (x : Checked). x.claims) c.args.repo.now c.args.limits.now told c.in_err-claims.field-0.0
+    (c.in_err-claims.ensures.text told checked))
 
-pub returns-in_err-take_lines-clause-cause : goal.returns-in_err-take_lines-clause-cause
-returns-in_err-take_lines-clause-cause g c =
+pub returns-in_err-claims-clause-cause : goal.returns-in_err-claims-clause-cause
+returns-in_err-claims-clause-cause g c =
     let old : DeskView = g.D.Desk.view c.args.desk.now in
     let middle : DeskView = g.D.Desk.view c.header.new.desk in
-    let new : DeskView = g.D.Desk.view c.take_lines.new.desk in
-    by-exit (λ (r : Result Checked ReadCertError). IfErr r (TextCause old new)) c.from_residual-in_err-take_lines.result c.in_err-take_lines.field-0.0
-    c.from_residual-in_err-take_lines.ensures.1
-    (later-cause old middle new c.in_err-take_lines.field-0.0 c.header.ensures.only_reads c.take_lines.ensures.only_reads c.in_err-take_lines.ensures.cause)
+    let new : DeskView = g.D.Desk.view c.claims_behind.new.desk in
+    by-exit (λ (r : Result Checked ReadCertError). IfErr r (TextCause old new)) c.from_residual-in_err-claims.result c.in_err-claims.field-0.0
+    c.from_residual-in_err-claims.ensures.1
+    (later-cause old middle new c.in_err-claims.field-0.0 c.header.ensures.only_reads c.claims_behind.ensures.only_reads c.in_err-claims.ensures.cause)
 
 pub returns-clause-text : goal.returns-clause-text
 returns-clause-text g c =
@@ -102,15 +93,14 @@ returns-clause-text g c =
     (nothing-read c.args.limits.now c.new-reader.result old c.new-reader.ensures) c.in_ok-header.ensures.text
     c.in_ok-header.ensures.some c.in_ok-header.ensures.gives c.in_ok-state.ensures in
     completed-alike (λ (x : Checked). x.header) (λ (x : Checked). x.claims) c.args.repo.now c.args.limits.now told c.in_ok-header.header
-    c.take_lines.new.state.claims
-    (record { header = c.in_ok-header.header; claims = c.into_claims.result }) refl c.into_claims.ensures (c.in_ok-take_lines.ensures.text told checked)
+    c.in_ok-claims.claims
+    (record { header = c.in_ok-header.header; claims = c.in_ok-claims.claims }) refl refl (c.in_ok-claims.ensures.text told checked)
 
 pub returns-clause-means : goal.returns-clause-means
 returns-clause-means g c =
-    let some = c.in_ok-take_lines.ensures.some in
-    accepted-means c.accepted_claims_hold.ensures c.args.repo.now c.args.limits.now some.0 c.in_ok-header.header c.into_claims.result c.in_ok-state.state
-    c.len-in_order.ensures.in_order c.in_ok-state.ensures
-    (subst (λ made. IsCompleted c.args.repo.now c.args.limits.now some.0 c.in_ok-header.header made) (sym c.into_claims.ensures) some.1)
+    let some = c.in_ok-claims.ensures.some in
+    accepted-means c.accepted_claims_hold.ensures c.args.repo.now c.args.limits.now some.0 c.in_ok-header.header c.in_ok-claims.claims c.in_ok-state.state
+    c.len-in_order.ensures.in_order c.in_ok-state.ensures some.1
 
 pub returns-in_err-header-clause-large : goal.returns-in_err-header-clause-large
 returns-in_err-header-clause-large g c =
@@ -125,23 +115,11 @@ returns-in_err-state-clause-large g c =
     c.in_err-state.field-0.0 c.from_residual-in_err-state.ensures.1
     (start-large c.args.repo.now c.args.limits.now c.in_ok-header.header c.in_err-state.field-0.0 c.in_err-state.ensures)
 
-pub returns-in_err-tools-clause-cause : goal.returns-in_err-tools-clause-cause
-returns-in_err-tools-clause-cause g c =
-    let old : DeskView = g.D.Desk.view c.args.desk.now in
-    let new : DeskView = g.D.Desk.view c.header.new.desk in
-    by-exit (λ (r : Result Checked ReadCertError). IfErr r (TextCause old new)) c.from_residual-in_err-tools.result (Work NoMemory)
-    c.from_residual-in_err-tools.ensures.1 tt
-
-pub returns-in_err-tools-clause-large : goal.returns-in_err-tools-clause-large
-returns-in_err-tools-clause-large g c =
-    by-exit (λ (r : Result Checked ReadCertError). IfErr r (LargeCause c.args.repo.now c.args.limits.now)) c.from_residual-in_err-tools.result (Work NoMemory)
-    c.from_residual-in_err-tools.ensures.1 tt
-
-pub returns-in_err-take_lines-clause-large : goal.returns-in_err-take_lines-clause-large
-returns-in_err-take_lines-clause-large g c =
-    by-exit (λ (r : Result Checked ReadCertError). IfErr r (LargeCause c.args.repo.now c.args.limits.now)) c.from_residual-in_err-take_lines.result
-    c.in_err-take_lines.field-0.0 c.from_residual-in_err-take_lines.ensures.1
-    c.in_err-take_lines.ensures.large
+pub returns-in_err-claims-clause-large : goal.returns-in_err-claims-clause-large
+returns-in_err-claims-clause-large g c =
+    by-exit (λ (r : Result Checked ReadCertError). IfErr r (LargeCause c.args.repo.now c.args.limits.now)) c.from_residual-in_err-claims.result
+    c.in_err-claims.field-0.0 c.from_residual-in_err-claims.ensures.1
+    c.in_err-claims.ensures.large
 
 -- ---- some text, whatever is told
 
@@ -170,25 +148,21 @@ returns-in_err-state-clause-some g c =
           (λ (x : Checked). x.header) (λ (x : Checked). x.claims) c.in_err-state.field-0.0 ([], refl, c.in_ok-header.ensures.some []) c.in_err-state.ensures,
     )
 
-pub returns-in_err-tools-clause-some : goal.returns-in_err-tools-clause-some
-returns-in_err-tools-clause-some g c =
-    by-exit (Some_text c.args.repo.now c.args.limits.now) c.from_residual-in_err-tools.result (Work NoMemory) c.from_residual-in_err-tools.ensures.1 ([], tt)
-
-pub returns-in_err-take_lines-clause-some : goal.returns-in_err-take_lines-clause-some
-returns-in_err-take_lines-clause-some g c =
-    let some = c.in_err-take_lines.ensures.some in
-    by-exit (Some_text c.args.repo.now c.args.limits.now) c.from_residual-in_err-take_lines.result c.in_err-take_lines.field-0.0
-    c.from_residual-in_err-take_lines.ensures.1 (
+pub returns-in_err-claims-clause-some : goal.returns-in_err-claims-clause-some
+returns-in_err-claims-clause-some g c =
+    let some = c.in_err-claims.ensures.some in
+    by-exit (Some_text c.args.repo.now c.args.limits.now) c.from_residual-in_err-claims.result c.in_err-claims.field-0.0
+    c.from_residual-in_err-claims.ensures.1 (
       some.0,
-      stops-alike (λ (u : Unit {0}). c.in_ok-header.header) (λ (u : Unit {0}). c.take_lines.new.state.claims) (λ (x : Checked). x.header)
-          (λ (x : Checked). x.claims) c.args.repo.now c.args.limits.now (Some some.0) c.in_err-take_lines.field-0.0 some.1,
+      stops-alike (λ (made : List Claim). c.in_ok-header.header) (λ (made : List Claim). made) (λ (x : Checked). x.header)
+          (λ (x : Checked). x.claims) c.args.repo.now c.args.limits.now (Some some.0) c.in_err-claims.field-0.0 some.1,
     )
 
 pub returns-clause-some : goal.returns-clause-some
 returns-clause-some g c =
-    let some = c.in_ok-take_lines.ensures.some in (
+    let some = c.in_ok-claims.ensures.some in (
       some.0,
       completed-alike (λ (x : Checked). x.header) (λ (x : Checked). x.claims) c.args.repo.now c.args.limits.now (Some some.0) c.in_ok-header.header
-          c.take_lines.new.state.claims
-          (record { header = c.in_ok-header.header; claims = c.into_claims.result }) refl c.into_claims.ensures some.1,
+          c.in_ok-claims.claims
+          (record { header = c.in_ok-header.header; claims = c.in_ok-claims.claims }) refl refl some.1,
     )

@@ -9,11 +9,11 @@ pub returns : goal.returns
 returns c =
     let h = c.args.header.now in
     let subject = c.in_ok-subject.subject in
-    begins c.args.repo.now c.args.limits.now h subject.packages subject.inputs subject.layout subject.future c.in_ok-new.field-0
+    begins c.args.repo.now c.args.limits.now h subject.packages subject.inputs subject.layout subject.future c.new.result
     c.in_ok-subject.ensures.ok (c.has_numbers.ensures.0 c.if-not-has_numbers.false)
-    (c.in_ok-new.ensures.value
+    (c.new.ensures.value
     ∙ ap (λ (log : ClauseLog). begun h.limit subject.packages subject.layout subject.future log) (c.cover.ensures.same ∙ c.new-log.ensures))
-    c.in_ok-new.ensures.within
+    c.new.ensures.within
 
 pub returns-then-not-has_numbers : goal.returns-then-not-has_numbers
 returns-then-not-has_numbers c =

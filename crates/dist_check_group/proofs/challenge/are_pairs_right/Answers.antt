@@ -3,6 +3,7 @@ use Rattle.std.specs.List.{list_all}
 use Rattle.std.proofs.lemmas.Bool.{and_parts}
 use Rattle.dist_cert.specs.Rising.{is_among}
 use Rattle.dist_check_group.specs.Layout.{at_class}
+use Rattle.dist_check_group.specs.MarksPrivate.{is_marked}
 use Rattle.dist_check_group.specs.Group.{GroupView, in_each}
 use Rattle.dist_check_group.proofs.ChallengeLemmas.{listed-is}
 use Rattle.dist_check_group.proofs.challenge.are_pairs_right.Goals as goal
@@ -15,7 +16,7 @@ returns-then-are_closed c =
     let by : List (ℕ × ℕ) = claim.by.now in
     let undecided : List (ℕ × ℕ) = claim.undecided.now in
     let found = c.args.found.now in
-    let has = and_parts (in_each w claim.named.now claim.variable) (is_among found.held 1)
+    let has = and_parts (in_each w claim.named.now claim.variable) (is_marked found.held 1)
     (sym c.has_installations.ensures ∙ c.if-not-has_installations.false) in
     let refuted : c.together.result.now ≡ c.args.group.now.refuted.together
     = c.together.ensures ∙ ap (λ (g : GroupView). g.refuted.together) c.group.view_is in
@@ -26,7 +27,7 @@ returns-then-are_closed c =
         today = sym (c.requires.held_is 1) ∙ has.1;
         rising = c.are_rising_pairs.ensures.0 c.if-not-are_rising_pairs.false;
         undecided_rising = c.are_rising_pairs-else-not-are_rising_pairs.ensures.0 c.if-not-are_rising_pairs-2.false;
-        apart = sym (listed-is layout w c.args.group.now.cover claim.named.now by undecided found c.requires by) ∙ sym c.is_any_undecided.ensures
+        apart = sym (listed-is layout w c.args.group.now.cover claim.variable claim.named.now by undecided found c.requires by) ∙ sym c.is_any_undecided.ensures
             ∙ c.if-is_any_undecided.false;
         pairs = sym c.are_pairs_for.ensures ∙ c.if-not-are_pairs_for.false;
         undecided_pairs = sym c.are_pairs_for-else-not-are_pairs_for.ensures ∙ c.if-not-are_pairs_for-2.false;

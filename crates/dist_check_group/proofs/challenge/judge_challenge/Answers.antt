@@ -7,8 +7,8 @@ pub returns-then-is_any_covered : goal.returns-then-is_any_covered
 returns-then-is_any_covered c = λ passes.
     let claim = c.args.claim.now in
     false≢true (sym passes.uncovered
-    ∙ sym (covered-is c.args.layout.now c.args.window.now c.args.group.now.cover claim.named.now claim.by.now claim.undecided.now c.in_ok-found.found
-    c.in_ok-found.ensures claim.undecided.now)
+    ∙ sym (covered-is c.args.layout.now c.args.window.now c.args.group.now.cover claim.variable claim.named.now claim.by.now
+    claim.undecided.now c.in_ok-found.found c.in_ok-found.ensures)
     ∙ sym c.is_any_covered.ensures ∙ c.if-is_any_covered.true)
 
 pub returns-then-omits_pair : goal.returns-then-omits_pair
@@ -16,8 +16,8 @@ returns-then-omits_pair c =
     let claim = c.args.claim.now in (
       record {
         lists = c.are_pairs_right.ensures.0 c.if-not-are_pairs_right.false;
-        uncovered = sym (covered-is c.args.layout.now c.args.window.now c.args.group.now.cover claim.named.now claim.by.now claim.undecided.now
-            c.in_ok-found.found c.in_ok-found.ensures claim.undecided.now)
+        uncovered = sym (covered-is c.args.layout.now c.args.window.now c.args.group.now.cover claim.variable claim.named.now claim.by.now claim.undecided.now
+            c.in_ok-found.found c.in_ok-found.ensures)
             ∙ sym c.is_any_covered.ensures ∙ c.if-is_any_covered.false;
       },
       omits-from c.args.layout.now c.args.window.now c.args.group.now claim.variable claim.named.now claim.by.now claim.undecided.now
@@ -29,8 +29,8 @@ returns c =
     let claim = c.args.claim.now in (
       record {
         lists = c.are_pairs_right.ensures.0 c.if-not-are_pairs_right.false;
-        uncovered = sym (covered-is c.args.layout.now c.args.window.now c.args.group.now.cover claim.named.now claim.by.now claim.undecided.now
-            c.in_ok-found.found c.in_ok-found.ensures claim.undecided.now)
+        uncovered = sym (covered-is c.args.layout.now c.args.window.now c.args.group.now.cover claim.variable claim.named.now claim.by.now claim.undecided.now
+            c.in_ok-found.found c.in_ok-found.ensures)
             ∙ sym c.is_any_covered.ensures ∙ c.if-is_any_covered.false;
       },
       λ omits. false≢true (sym c.if-omits_pair.false ∙ c.omits_pair.ensures

@@ -10,7 +10,8 @@ returns-then-not-has_all c = λ passes.
     let claim = c.args.claim.now in
     let undecided : List ℕ = claim.undecided.now in
     false≢true (sym c.if-not-has_all.true ∙ c.has_all.ensures ∙ ap (λ (xs : List ℕ). list_all (is_among xs) undecided) c.deref.ensures.value
-    ∙ always-all c.args.window.now c.args.group.now.common claim.named.now c.in_ok-always.always.items undecided c.in_ok-always.ensures.value
+    ∙ always-all c.args.window.now c.args.group.now c.args.packages claim.package claim.named.now claim.on.now undecided c.in_ok-found.found.items
+    (c.are_lists_right.ensures.0 c.if-not-are_lists_right.false) c.in_ok-found.ensures.value
     ∙ passes.always)
 
 pub returns-then-omits : goal.returns-then-omits
@@ -20,11 +21,12 @@ returns-then-omits c =
     let undecided : List ℕ = claim.undecided.now in (
       record {
         lists = c.are_lists_right.ensures.0 c.if-not-are_lists_right.false;
-        always = sym (always-all w c.args.group.now.common claim.named.now c.in_ok-always.always.items undecided c.in_ok-always.ensures.value)
+        always = sym (always-all w c.args.group.now c.args.packages claim.package claim.named.now claim.on.now undecided c.in_ok-found.found.items
+            (c.are_lists_right.ensures.0 c.if-not-are_lists_right.false) c.in_ok-found.ensures.value)
             ∙ sym (ap (λ (xs : List ℕ). list_all (is_among xs) undecided) c.deref.ensures.value) ∙ sym c.has_all.ensures ∙ c.if-not-has_all.false;
       },
       sym (omitted-any w c.args.group.now claim.package claim.named.now claim.on.now undecided c.deref-2.result.now
-          (c.deref-2.ensures.value ∙ c.in_ok-always.ensures.value)) ∙ sym c.omits.ensures ∙ c.if-omits.true,
+          (c.deref-2.ensures.value ∙ c.in_ok-found.ensures.value)) ∙ sym c.omits.ensures ∙ c.if-omits.true,
     )
 
 pub returns : goal.returns
@@ -34,9 +36,10 @@ returns c =
     let undecided : List ℕ = claim.undecided.now in (
       record {
         lists = c.are_lists_right.ensures.0 c.if-not-are_lists_right.false;
-        always = sym (always-all w c.args.group.now.common claim.named.now c.in_ok-always.always.items undecided c.in_ok-always.ensures.value)
+        always = sym (always-all w c.args.group.now c.args.packages claim.package claim.named.now claim.on.now undecided c.in_ok-found.found.items
+            (c.are_lists_right.ensures.0 c.if-not-are_lists_right.false) c.in_ok-found.ensures.value)
             ∙ sym (ap (λ (xs : List ℕ). list_all (is_among xs) undecided) c.deref.ensures.value) ∙ sym c.has_all.ensures ∙ c.if-not-has_all.false;
       },
       sym (omitted-any w c.args.group.now claim.package claim.named.now claim.on.now undecided c.deref-2.result.now
-          (c.deref-2.ensures.value ∙ c.in_ok-always.ensures.value)) ∙ sym c.omits.ensures ∙ c.if-omits.false,
+          (c.deref-2.ensures.value ∙ c.in_ok-found.ensures.value)) ∙ sym c.omits.ensures ∙ c.if-omits.false,
     )

@@ -13,7 +13,7 @@ next_end-requires-clause-cone c =
     let old = c.args.log.now in
     let same = inputs_same old c.loop.log c.loop.derived c.args.assumptions.now c.loop.counter c.loop.invariant.adds
     c.len-clauses.ensures.within.inputs_within in
-    subst (λ cs. (v : ℕ) → Contains c.args.cone.now v ↔ InCone cs c.args.assumptions.now v) (sym same) c.requires.cone
+    subst (λ cs. (v : ℕ) → Contains c.args.cone.now.members v ↔ InCone cs c.args.assumptions.now v) (sym same) c.requires.cone
 
 pub returns-in-Model-clause-answer : goal.returns-in-Model-clause-answer
 returns-in-Model-clause-answer c =

@@ -1,9 +1,10 @@
-use Rattle.std.proofs.Common.{◌-◌, ◌∙◌, List, ℕ, Result, IfErr, ap, length-set, refl, subst, sym, true}
+use Rattle.std.proofs.Common.{◌-◌, ◌∙◌, Bool, List, ℕ, Result, IfErr, ap, length-set, refl, subst, sym, true}
 use Rattle.dist_outside.specs.DeskView.{DeskView}
 use Rattle.dist_outside.specs.declared.trouble.WorkError.{WorkError}
 use Rattle.dist_outside.specs.declared.trouble.WorkError.TheVariants.{NoMemory}
 use Rattle.dist_cert.specs.Form.{Word}
 use Rattle.dist_sweep.specs.Asking.{Holds}
+use Rattle.dist_strong.specs.Candidates.{AreCandidates}
 use Rattle.dist_strong.specs.Group.{GroupView}
 use Rattle.dist_strong.specs.SettlingPrivate.{HasSizes, SettleStops, without}
 use Rattle.dist_sweep.specs.Window.{WindowView}
@@ -12,6 +13,7 @@ use Rattle.dist_sweep.specs.declared.asker.Reply.TheVariants as replies
 use Rattle.dist_sweep.specs.ScriptLaws.{by-exit}
 use Rattle.dist_strong.proofs.SettleSteps.{added-some, ask-stops, has-claimed, fits-after, found-further, found-stops, lacks-other, leave-further, memory-stops}
 use Rattle.dist_strong.proofs.SettleSteps.{refute-further, settled-found, settled-refuted, settled-undecided}
+use Rattle.dist_strong.proofs.CandidateSteps.{struck-refuted, struck-undecided}
 use Rattle.dist_strong.proofs.settling.ask_without.Goals as goal
 
 pub returns-in_err-question-clause-err : goal.returns-in_err-question-clause-err
@@ -50,9 +52,9 @@ returns-in-Found-clause-ok g c =
     let holds = subst (λ (n : ℕ). Holds n (without kept.claimed c.args.other) (replies.Found c.in-Found.values)) c.requires.fits.variables
     (subst (λ (ws : List Word). Holds c.args.asker.now.log.variables ws (replies.Found c.in-Found.values)) words
     (subst (λ (r : Reply). Holds c.args.asker.now.log.variables c.deref.result.now r) c.in-Found.is c.in_ok-values.ensures.holds)) in
-    settled-found old new c.args.asker.now c.ask.new.self c.args.window.now c.add-in-Found.new.self kept c.add.new.self c.args.other c.in-Found.values
+    settled-found old new c.args.asker.now c.ask.new.self c.args.window.now c.add.new.window kept c.add.new.group c.args.other c.in-Found.values
     c.deref.result.now c.in_ok-values.field-0 words c.in-Found.is c.in_ok-values.ensures.ok
-    c.requires.candidate holds c.add.ensures.rest c.add.ensures.size c.add.ensures.both c.in_ok-add-in-Found.ensures c.requires.fits.window
+    c.requires.candidate holds c.add.ensures.rest c.add.ensures.size c.add.ensures.both c.in_ok-add-in-Found.ensures.window c.requires.fits.window
 
 pub returns-in-Found-clause-further : goal.returns-in-Found-clause-further
 returns-in-Found-clause-further g c =
@@ -60,18 +62,19 @@ returns-in-Found-clause-further g c =
     let words = c.deref.ensures.value ∙ c.in_ok-question.ensures ∙ ap (λ (p : ℕ). without p c.args.other) c.claimed.ensures in
     let holds = subst (λ (ws : List Word). Holds c.args.asker.now.log.variables ws (replies.Found c.in-Found.values)) words
     (subst (λ (r : Reply). Holds c.args.asker.now.log.variables c.deref.result.now r) c.in-Found.is c.in_ok-values.ensures.holds) in
-    found-further c.args.window.now kept c.add.new.self c.args.other c.in-Found.values c.requires.candidate c.add.ensures.rest c.add.ensures.both
+    found-further c.args.window.now kept c.add.new.group c.args.other c.in-Found.values c.requires.candidate c.add.ensures.rest c.add.ensures.both
     (lacks-other c.args.asker.now.log.variables kept.claimed c.args.other c.in-Found.values holds)
 
 pub returns-in-Found-clause-fits : goal.returns-in-Found-clause-fits
 returns-in-Found-clause-fits g c =
     let kept : GroupView = c.args.group.now in
     let rest = c.add.ensures.rest in
-    fits-after c.args.asker.now c.ask.new.self c.args.window.now c.add-in-Found.new.self kept c.add.new.self c.requires.fits c.ask.ensures.limit
+    fits-after c.args.asker.now c.ask.new.self c.args.window.now c.add.new.window kept c.add.new.group c.requires.fits c.ask.ensures.limit
     c.ask.ensures.variables
-    (ap (λ (w : WindowView). w.variables) c.in_ok-add-in-Found.ensures) (ap (λ (k : GroupView). k.claimed) rest) (ap (λ (k : GroupView). k.variables) rest)
+    (ap (λ (w : WindowView). w.variables) c.in_ok-add-in-Found.ensures.window) (ap (λ (k : GroupView). k.claimed) rest)
+    (ap (λ (k : GroupView). k.variables) rest)
     (subst HasSizes (sym rest) (record { common = c.add.ensures.size; refuted = c.requires.fits.sizes.refuted; undecided = c.requires.fits.sizes.undecided }))
-    (added-some c.args.window.now c.add-in-Found.new.self kept.claimed c.in-Found.values c.in_ok-add-in-Found.ensures
+    (added-some c.args.window.now c.add.new.window kept.claimed c.in-Found.values c.in_ok-add-in-Found.ensures.window
     (has-claimed c.args.asker.now.log.variables kept.claimed c.args.other c.in-Found.values
     (subst (λ (ws : List Word). Holds c.args.asker.now.log.variables ws (replies.Found c.in-Found.values))
     (c.deref.ensures.value ∙ c.in_ok-question.ensures ∙ ap (λ (p : ℕ). without p c.args.other) c.claimed.ensures)
@@ -126,3 +129,26 @@ returns-clause-fits g c =
       refuted = c.requires.fits.sizes.refuted;
       undecided = length-set kept.undecided (c.args.other - 1) true ∙ c.requires.fits.sizes.undecided;
     })) c.requires.fits.some
+
+pub add-requires-clause-has : goal.add-requires-clause-has
+add-requires-clause-has g c =
+    has-claimed c.args.asker.now.log.variables c.args.group.now.claimed c.args.other c.in-Found.values
+    (subst (λ (ws : List Word). Holds c.args.asker.now.log.variables ws (replies.Found c.in-Found.values))
+    (c.deref.ensures.value ∙ c.in_ok-question.ensures ∙ ap (λ (p : ℕ). without p c.args.other) c.claimed.ensures)
+    (subst (λ (r : Reply). Holds c.args.asker.now.log.variables c.deref.result.now r) c.in-Found.is c.in_ok-values.ensures.holds))
+
+pub returns-in-Refuted-clause-candidates : goal.returns-in-Refuted-clause-candidates
+returns-in-Refuted-clause-candidates g c =
+    let kept : GroupView = c.args.group.now in
+    let closed = (refute-further c.args.window.now kept c.refute.new.self c.args.other c.requires.candidate c.requires.fits.sizes c.refute.ensures).closed in
+    subst (λ (row : List Bool). AreCandidates c.args.window.now c.refute.new.self row) (sym c.strike.ensures)
+    (struck-refuted c.args.window.now kept c.refute.new.self c.args.candidates.now c.args.other c.requires.candidate c.refute.ensures closed
+    c.requires.candidates)
+
+pub returns-clause-candidates : goal.returns-clause-candidates
+returns-clause-candidates g c =
+    let kept : GroupView = c.args.group.now in
+    let closed = (leave-further c.args.window.now kept c.leave.new.self c.args.other c.requires.candidate c.requires.fits.sizes c.leave.ensures).closed in
+    subst (λ (row : List Bool). AreCandidates c.args.window.now c.leave.new.self row) (sym c.strike-in-Undecided.ensures)
+    (struck-undecided c.args.window.now kept c.leave.new.self c.args.candidates.now c.args.other c.requires.candidate c.leave.ensures closed
+    c.requires.candidates)

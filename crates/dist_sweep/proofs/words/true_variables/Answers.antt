@@ -1,17 +1,24 @@
-use Rattle.std.proofs.Common.{◌+◌, ◌∙◌, ◌++◌, [], ◌∷◌, ap, sym, append-nil, filter, true, false, List, ℕ}
-use Rattle.std.specs.List.{range_with_len}
+use Rattle.std.proofs.Common.{◌∙◌, ◌++◌, [], ◌∷◌, ap, arith, sym, List, ℕ}
 use Rattle.dist_clause.specs.Formula.{value_of}
-use Rattle.dist_sweep.proofs.Lists.{filter-next}
+use Rattle.dist_sweep.proofs.Lists.{filter-found, filter-none}
 use Rattle.dist_sweep.proofs.words.true_variables.Goals as goal
-use Rattle.dist_sweep.proofs.words.true_variables.Goals.{then-value+in_ok-push, else-value}
 
-pub loop-place-preserved : goal.loop-place-preserved
-loop-place-preserved c =
+pub members-preserved-in-Some : goal.members-preserved-in-Some
+members-preserved-in-Some c =
     let values = c.args.values.now in
-    let place = c.loop-place.place in
-    elim c.if-value.branch [
-      | then-value+in_ok-push w ↦ let e = filter-next (λ v. value_of values v) place true (sym c.value.ensures ∙ w.if-value.true) in
-          rw w.members-is (w.in_ok-push.ensures.items ∙ ap (λ (ms : List ℕ). ms ++ (place + 1) ∷ []) c.loop-place.invariant ∙ sym e)
-      | else-value w ↦ let e = filter-next (λ v. value_of values v) place false (sym c.value.ensures ∙ w.if-value.false) in
-          rw w.members-is (c.loop-place.invariant ∙ sym (e ∙ append-nil (filter (λ v. value_of values v) (range_with_len 1 place))))
-    ]
+    let last = c.members.last in
+    let some = c.in-Some.ensures.some in
+    record {
+      within = omega (arith, some.2, c.requires);
+      are = c.in_ok-push-in-Some.ensures.items ∙ ap (λ (ms : List ℕ). ms ++ c.in-Some.variable ∷ []) c.members.invariant.are
+          ∙ sym (filter-found (λ v. value_of values v) last c.in-Some.variable (omega (arith, some.1)) some.3
+          (λ w above within. some.4 w (omega (arith, above)) (omega (arith, above)) within));
+    }
+
+pub members-preserved : goal.members-preserved
+members-preserved c =
+    record {
+      within = omega arith;
+      are = c.members.invariant.are ∙ sym (filter-none (λ v. value_of c.args.values.now v) c.members.last c.args.variables c.members.invariant.within
+          (λ w above within. c.in-None.ensures.none w (omega (arith, above)) (omega (arith, above)) (omega (arith, within, c.requires))));
+    }

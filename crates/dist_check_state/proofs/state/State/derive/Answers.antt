@@ -1,8 +1,6 @@
-use Rattle.std.proofs.Common.{List, ℕ, arith, subst, sym}
+use Rattle.std.proofs.Common.{ℕ, arith, subst, sym}
 use Rattle.std.specs.Option.{ForSome}
-use Rattle.dist_clause.specs.Formula.{Literal}
 use Rattle.dist_cert.specs.Groups.{clause_of}
-use Rattle.dist_check_state.specs.Denials.{AreDenialsOf}
 use Rattle.dist_check_state.specs.Since.{AreLiteralsOver}
 use Rattle.dist_check_state.proofs.Growth.{grown}
 use Rattle.dist_check_state.proofs.state.State.derive.Goals as goal
@@ -13,7 +11,6 @@ invariant_of-self c =
     (omega (arith, c.inputs-within.ensures.value, c.inputs-within.ensures.within)) c.append.ensures.ok c.append.ensures.stays in (
       (let low = c.self.invariant.0 in omega (arith, low, is.variables)),
       c.self.invariant.1,
-      subst (λ (cs : List (List Literal)). AreDenialsOf cs c.self.inside.denials) (sym is.inputs) c.self.invariant.2,
-      subst (λ (n : ℕ). ForSome c.self.inside.question (λ q. AreLiteralsOver n q.assumptions)) (sym is.variables) c.self.invariant.3,
-      λ q there. let low = c.self.invariant.4 q there in omega (arith, low, is.more),
+      subst (λ (n : ℕ). ForSome c.self.inside.question (λ q. AreLiteralsOver n q.assumptions)) (sym is.variables) c.self.invariant.2,
+      λ q there. let low = c.self.invariant.3 q there in omega (arith, low, is.more),
     )

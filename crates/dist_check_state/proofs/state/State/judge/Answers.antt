@@ -18,7 +18,7 @@ returns-in-Installation-clause-told c =
     subst (λ (step : CertRecord). Tells c.args.self.now step found) (sym c.in-Installation.is)
     (subst (λ (s : StateView). TellsInstallation s.log s.future c.in-Installation.variables found) c.self.view_is
     (subst (λ (variables : List ℕ). TellsInstallation c.self.inside.log c.self.inside.future variables found) c.as_slice-in-Installation.ensures
-    c.judge_installation.ensures))
+    c.judge_installation.ensures.told))
 
 pub returns-in-NotInstallable-clause-told : goal.returns-in-NotInstallable-clause-told
 returns-in-NotInstallable-clause-told c =

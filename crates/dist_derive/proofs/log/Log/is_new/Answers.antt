@@ -19,6 +19,6 @@ returns-clause-answer c =
     let few : c.min-inputs.result ≡ min c.min-last.result c.args.self.now.inputs = cc in
     let new = IsNew-computed c.args.self.now.variables clauses c.args.self.now.inputs c.args.before c.min-last.result c.min-inputs.result c.args.assumptions.now
     c.args.clause.now c.requires.clause last few in (
-      λ e. new.1 (c.reaches-reached.ensures.answer.0 c.if-not-reached.false, c.leaves_unset-unset.ensures.answer.0 e),
-      λ h. c.leaves_unset-unset.ensures.answer.1 (new.0 h).1,
+      λ e. new.1 (c.reaches-reached.ensures.answer.0 c.if-not-reached.false, c.adds.ensures.answer.0 e),
+      λ h. c.adds.ensures.answer.1 (new.0 h).1,
     )

@@ -5,6 +5,6 @@ use Rattle.dist_derive.proofs.log.Log.len.Goals as goal
 
 pub returns-clause-within : goal.returns-clause-within
 returns-clause-within c =
-    subst IsWithinLineLimits c.self.view_is (IsWithinLineLimits-joined c.self.inside.inputs c.self.inside.lines c.self.invariant.same_variables
+    subst IsWithinLineLimits c.self.view_is (IsWithinLineLimits-joined c.self.inside.inputs c.self.inside.lines c.self.invariant.indexed.same_variables
     c.len.ensures.within
     c.len-2.ensures.within)

@@ -1,0 +1,84 @@
+use Rattle.std.proofs.Common.{List, [], ℕ, Option, Some, Result, IfErr, refl, ◌∙◌}
+use Rattle.dist_outside.specs.declared.limits.Limits.{Limits}
+use Rattle.dist_outside.specs.declared.trouble.WorkError.TheVariants.{NoMemory}
+use Rattle.dist_outside.specs.DeskView.{DeskView}
+use Rattle.dist_repo.specs.PackageList.{PackageList}
+use Rattle.dist_cert.specs.declared.faults.ReadCertError.{ReadCertError}
+use Rattle.dist_cert.specs.declared.faults.ReadCertError.TheVariants.{Work}
+use Rattle.dist_cert.specs.declared.records.Claim.{Claim}
+use Rattle.dist_cert.specs.declared.records.Header.{Header}
+use Rattle.dist_check.specs.Checking.{LargeCause, TextAnswers, TextCause, OfText}
+use Rattle.dist_check.proofs.CheckSteps.{by-exit}
+use Rattle.dist_check.proofs.CheckText.{stops-alike, completed-alike, no-memory}
+use Rattle.dist_check.proofs.checking.claims_behind.Goals as goal
+
+-- the answer of a text, where it is told
+abbrev Of_text : Header → PackageList → Limits → Option (List ℕ) → Result (List Claim) ReadCertError → Type 0
+Of_text h r limits told result = OfText told (λ text. TextAnswers (λ (made : List Claim). h) (λ (made : List Claim). made) r limits text result)
+
+-- the answer of some text, whatever is told
+abbrev Some_text : Header → PackageList → Limits → Result (List Claim) ReadCertError → Type 0
+Some_text h r limits result = (text : List ℕ) × TextAnswers (λ (made : List Claim). h) (λ (made : List Claim). made) r limits text result
+
+pub take_lines-requires-clause-tools : goal.take_lines-requires-clause-tools
+take_lines-requires-clause-tools g c = c.in_ok-tools.ensures ∙ c.requires.variables
+
+pub returns-in_err-tools-clause-text : goal.returns-in_err-tools-clause-text
+returns-in_err-tools-clause-text g c = λ told x.
+    by-exit (Of_text c.args.header.now c.args.repo.now c.args.limits.now told) c.from_residual.result (Work NoMemory) c.from_residual.ensures.1
+    (no-memory (λ (made : List Claim). c.args.header.now) (λ (made : List Claim). made) c.args.repo.now c.args.limits.now told)
+
+pub returns-in_err-tools-clause-some : goal.returns-in_err-tools-clause-some
+returns-in_err-tools-clause-some g c =
+    by-exit (Some_text c.args.header.now c.args.repo.now c.args.limits.now) c.from_residual.result (Work NoMemory) c.from_residual.ensures.1 ([], tt)
+
+pub returns-in_err-tools-clause-cause : goal.returns-in_err-tools-clause-cause
+returns-in_err-tools-clause-cause g c =
+    let old : DeskView = g.D.Desk.view c.args.desk.now in
+    by-exit (λ (r : Result (List Claim) ReadCertError). IfErr r (TextCause old old)) c.from_residual.result (Work NoMemory) c.from_residual.ensures.1 tt
+
+pub returns-in_err-tools-clause-large : goal.returns-in_err-tools-clause-large
+returns-in_err-tools-clause-large g c =
+    by-exit (λ (r : Result (List Claim) ReadCertError). IfErr r (LargeCause c.args.repo.now c.args.limits.now)) c.from_residual.result (Work NoMemory)
+    c.from_residual.ensures.1 tt
+
+pub returns-in_err-take_lines-clause-text : goal.returns-in_err-take_lines-clause-text
+returns-in_err-take_lines-clause-text g c = λ told x.
+    by-exit (Of_text c.args.header.now c.args.repo.now c.args.limits.now told) c.from_residual-in_err-take_lines.result
+    c.in_err-take_lines.field-0.0 c.from_residual-in_err-take_lines.ensures.1
+    (stops-alike (λ (u : Unit {0}). c.args.header.now) (λ (u : Unit {0}). c.take_lines.new.state.claims) (λ (made : List Claim). c.args.header.now)
+    (λ (made : List Claim). made) c.args.repo.now c.args.limits.now told c.in_err-take_lines.field-0.0
+    (c.in_err-take_lines.ensures.text told x))
+
+pub returns-in_err-take_lines-clause-some : goal.returns-in_err-take_lines-clause-some
+returns-in_err-take_lines-clause-some g c =
+    let some = c.in_err-take_lines.ensures.some in
+    by-exit (Some_text c.args.header.now c.args.repo.now c.args.limits.now) c.from_residual-in_err-take_lines.result c.in_err-take_lines.field-0.0
+    c.from_residual-in_err-take_lines.ensures.1 (
+      some.0,
+      stops-alike (λ (u : Unit {0}). c.args.header.now) (λ (u : Unit {0}). c.take_lines.new.state.claims) (λ (made : List Claim). c.args.header.now)
+          (λ (made : List Claim). made) c.args.repo.now c.args.limits.now (Some some.0) c.in_err-take_lines.field-0.0 some.1,
+    )
+
+pub returns-in_err-take_lines-clause-cause : goal.returns-in_err-take_lines-clause-cause
+returns-in_err-take_lines-clause-cause g c =
+    by-exit (λ (r : Result (List Claim) ReadCertError). IfErr r (TextCause (g.D.Desk.view c.args.desk.now) (g.D.Desk.view c.take_lines.new.desk)))
+    c.from_residual-in_err-take_lines.result c.in_err-take_lines.field-0.0 c.from_residual-in_err-take_lines.ensures.1 c.in_err-take_lines.ensures.cause
+
+pub returns-in_err-take_lines-clause-large : goal.returns-in_err-take_lines-clause-large
+returns-in_err-take_lines-clause-large g c =
+    by-exit (λ (r : Result (List Claim) ReadCertError). IfErr r (LargeCause c.args.repo.now c.args.limits.now)) c.from_residual-in_err-take_lines.result
+    c.in_err-take_lines.field-0.0 c.from_residual-in_err-take_lines.ensures.1 c.in_err-take_lines.ensures.large
+
+pub returns-clause-text : goal.returns-clause-text
+returns-clause-text g c = λ told x.
+    completed-alike (λ (made : List Claim). c.args.header.now) (λ (made : List Claim). made) c.args.repo.now c.args.limits.now told c.args.header.now
+    c.take_lines.new.state.claims c.into_claims.result refl c.into_claims.ensures (c.in_ok-take_lines.ensures.text told x)
+
+pub returns-clause-some : goal.returns-clause-some
+returns-clause-some g c =
+    let some = c.in_ok-take_lines.ensures.some in (
+      some.0,
+      completed-alike (λ (made : List Claim). c.args.header.now) (λ (made : List Claim). made) c.args.repo.now c.args.limits.now (Some some.0)
+          c.args.header.now c.take_lines.new.state.claims c.into_claims.result refl c.into_claims.ensures some.1,
+    )

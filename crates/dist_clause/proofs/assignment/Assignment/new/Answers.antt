@@ -1,9 +1,0 @@
-use Rattle.std.proofs.Common.{◌≡◌, ℕ, List, replicate, ap, ◌∙◌}
-use Rattle.dist_clause.specs.Bits.{bits}
-use Rattle.dist_clause.proofs.BitsLemmas.{bits-replicate}
-use Rattle.dist_clause.proofs.assignment.Assignment.new.Goals as goal
-
-pub returns : goal.returns
-returns c = ap (λ (words : List ℕ). bits words c.args.variables)
-    (let e : c.in_ok-words.words.items ≡ replicate c.div_ceil.result 0 = c.in_ok-words.ensures.items_if_clones_equal (λ y e. e) in e)
-    ∙ bits-replicate c.div_ceil.result c.args.variables

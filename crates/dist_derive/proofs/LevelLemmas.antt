@@ -1,0 +1,132 @@
+-- What the first clauses of a log give by themselves, and where a test begins from it.
+use Rattle.std.proofs.Common.{◌≡◌, ℕ, ◌≤◌, Option, Some, inl, true, false, List, [], ◌∷◌, ◌++◌, length, take, refl, ap, sym, subst, ◌∙◌, arith}
+use Rattle.std.specs.List.{All, Contains}
+use Rattle.std.proofs.lemmas.List.{length_push, take-append-le, append-nil}
+use Rattle.std.proofs.lemmas.List.Elements.{All-nil}
+use Rattle.dist_clause.specs.Formula.{Literal}
+use Rattle.dist_derive.specs.ContainmentPrivate.{ContainsAll}
+use Rattle.dist_derive.specs.Propagation.{IsPropagated}
+use Rattle.dist_derive.specs.New.{LeavesFirstUnset}
+use Rattle.dist_derive.specs.TrueLiterals.{LiteralList, HasOutcome}
+use Rattle.dist_derive.specs.declared.true_literals.Outcome.TheVariants.{Open}
+use Rattle.dist_derive.specs.SweepPrivate.{IsForced, AllOpen, WaitUpTo, Propagates}
+use Rattle.dist_derive.specs.LayersPrivate.{AssumesAll}
+use Rattle.dist_derive.specs.LevelPrivate.{IsLevelOf}
+use Rattle.dist_derive.proofs.AssumeLemmas.{ContainsAll-then}
+use Rattle.dist_derive.proofs.WaitLemmas.{All-number, All-from_numbers}
+
+-- true literals that hold the assumptions, and no more than these force
+pub record Begins (clauses : List (List Literal)) (assumptions trues : List Literal) : Type 0 where
+  pub assumed : ContainsAll trues assumptions
+  pub forced : (more : List Literal) → ContainsAll more assumptions → All (IsPropagated more) clauses → ContainsAll more trues
+
+some_is : (a b : LiteralList) → Some a ≡ Some b → a ≡ b
+some_is a b e = cc
+
+pub grown_begins : (clauses : List (List Literal)) (old new : LiteralList) → Propagates clauses old new → Begins clauses old.literals new.literals
+grown_begins clauses old new grows = record { assumed = grows.kept; forced = λ more all propagated. grows.forced more all propagated }
+
+pub begins_grown : (clauses : List (List Literal)) (assumptions : List Literal) (old new : LiteralList) → Begins clauses assumptions old.literals
+    → Propagates clauses old new → Begins clauses assumptions new.literals
+begins_grown clauses assumptions old new b grows = record {
+  assumed = ContainsAll-then assumptions old.literals new.literals b.assumed grows.kept;
+  forced = λ more all propagated. grows.forced more (b.forced more all propagated) propagated;
+}
+
+-- what holds of the first clauses holds of fewer
+pub All-fewer : (P : List Literal → Type 0) (clauses : List (List Literal)) (few many : ℕ) → few ≤ many → many ≤ length clauses
+    → All P (take many clauses) → All P (take few clauses)
+All-fewer P clauses few many less within all = All-from_numbers P clauses few (λ number from to.
+    All-number P clauses many number within from (omega arith) all)
+
+pub begins_fewer : (clauses : List (List Literal)) (few many : ℕ) (assumptions trues : List Literal) → few ≤ many → many ≤ length clauses
+    → Begins (take few clauses) assumptions trues → Begins (take many clauses) assumptions trues
+begins_fewer clauses few many assumptions trues less within b = record {
+  assumed = b.assumed;
+  forced = λ more all propagated. b.forced more all (All-fewer (IsPropagated more) clauses few many less within propagated);
+}
+
+module _ (clauses : List (List Literal)) where
+  -- clauses that are not false or unit wait, wherever the queue is
+  pub open_waits : (last : ℕ) (trues : List Literal) (done : ℕ) → last ≤ length clauses → AllOpen trues (take last clauses)
+      → WaitUpTo clauses last trues done
+  open_waits last trues done within all_open = λ number from to.
+      inl (All-number (λ c. HasOutcome trues c Open) clauses last number within from to all_open)
+
+  pub level_none : (variables : ℕ) (s : LiteralList) → s.literals ≡ [] → s.variables ≡ variables → IsLevelOf clauses variables s 0
+  level_none variables s none same = record {
+    same_variables = same;
+    within = omega arith;
+    forced = λ trues _ _. subst (λ ts. ContainsAll trues ts) (sym none) (All-nil (Contains trues));
+    all_open = All-nil (λ c. HasOutcome s.literals c Open);
+  }
+
+  -- over room for others, which has no literal
+  pub level_over : (variables taken : ℕ) (s all : LiteralList) (room : Option LiteralList) (taken_room literals : LiteralList)
+      → IsLevelOf clauses variables s taken → all ≡ record taken_room { literals = s.literals ++ taken_room.literals } → room ≡ Some taken_room
+      → room ≡ Some literals → literals.literals ≡ [] → literals.variables ≡ variables → IsLevelOf clauses variables all taken
+  level_over variables taken s all room taken_room literals level is first second none same =
+      let e : taken_room ≡ literals = some_is taken_room literals (sym first ∙ second) in
+      let no_literal : taken_room.literals ≡ [] = ap (λ (t : LiteralList). t.literals) e ∙ none in
+      let joined : s.literals ++ taken_room.literals ≡ s.literals = ap (λ ts. s.literals ++ ts) no_literal ∙ append-nil s.literals in
+      let variables_are : taken_room.variables ≡ s.variables = ap (λ (t : LiteralList). t.variables) e ∙ (same ∙ sym level.same_variables) in
+      let all_is : all ≡ s = is ∙ both (s.literals ++ taken_room.literals) s.literals taken_room.variables s.variables joined variables_are in
+      subst (λ t. IsLevelOf clauses variables t taken) (sym all_is) level
+    where
+      both : (ls ms : List Literal) (n m : ℕ) → ls ≡ ms → n ≡ m
+          → ◌≡◌ {A = LiteralList} (record { variables = n; literals = ls }) (record { variables = m; literals = ms })
+      both ls ms n m h g = cc
+
+  module _ (variables taken last : ℕ) (old new : LiteralList) (level : IsLevelOf clauses variables old taken) (less : taken ≤ last)
+      (within : last ≤ length clauses) where
+    pub level_more : Propagates (take last clauses) old new → AllOpen new.literals (take last clauses) → IsLevelOf clauses variables new last
+    level_more grows all_open = record {
+      same_variables = grows.same_variables ∙ level.same_variables;
+      within = within;
+      forced = λ trues none propagated. grows.forced trues
+          (level.forced trues none (All-fewer (IsPropagated trues) clauses taken last less within propagated)) propagated;
+      all_open = all_open;
+    }
+
+    pub level_begins : (assumptions : List Literal) → AssumesAll old new assumptions true → Begins (take last clauses) assumptions new.literals
+    level_begins assumptions assumes = record {
+      assumed = assumes.assumed refl;
+      forced = λ trues all propagated. assumes.least trues
+          (level.forced trues (All-nil (Contains trues)) (All-fewer (IsPropagated trues) clauses taken last less within propagated)) all;
+    }
+
+    -- where an assumption is false, nothing is new
+    pub level_refuses : (assumptions clause : List Literal) → AssumesAll old new assumptions false
+        → ¬ LeavesFirstUnset (take last clauses) assumptions clause
+    level_refuses assumptions [] assumes h = h
+    level_refuses assumptions (first ∷ rest) assumes h =
+        let settled = h.1.settled in
+        assumes.refused refl h.0
+        (level.forced h.0 (All-nil (Contains h.0)) (All-fewer (IsPropagated h.0) clauses taken last less within settled.propagated))
+        h.1.assumed settled.consistent
+
+  pub level_appended : (variables taken : ℕ) (s : LiteralList) (clause : List Literal) → IsLevelOf clauses variables s taken
+      → IsLevelOf (clauses ++ clause ∷ []) variables s taken
+  level_appended variables taken s clause level =
+      let within = level.within in
+      let same = sym (take-append-le taken clauses (clause ∷ []) within) in
+      record {
+        same_variables = level.same_variables;
+        within = omega (arith, within, length_push clauses clause);
+        forced = subst (λ cs. IsForced cs [] s.literals) same level.forced;
+        all_open = subst (λ cs. AllOpen s.literals cs) same level.all_open;
+      }
+
+pub begins_unset : (clauses : List (List Literal)) (assumptions trues clause : List Literal) → Begins clauses assumptions trues
+    → LeavesFirstUnset clauses assumptions clause → LeavesFirstUnset clauses trues clause
+begins_unset clauses assumptions trues [] b h = h
+begins_unset clauses assumptions trues (first ∷ rest) b h =
+    let t = h.1 in
+    (h.0, record { settled = t.settled; assumed = b.forced h.0 t.assumed t.settled.propagated; denied = t.denied; unset = t.unset })
+
+pub unset_begins : (clauses : List (List Literal)) (assumptions trues clause : List Literal) → Begins clauses assumptions trues
+    → LeavesFirstUnset clauses trues clause → LeavesFirstUnset clauses assumptions clause
+unset_begins clauses assumptions trues [] b h = h
+unset_begins clauses assumptions trues (first ∷ rest) b h =
+    let t = h.1 in
+    (h.0, record { settled = t.settled; assumed = ContainsAll-then assumptions trues h.0 b.assumed t.assumed; denied = t.denied; unset = t.unset })

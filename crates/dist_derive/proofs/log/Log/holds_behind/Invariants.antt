@@ -1,9 +1,0 @@
-use Rattle.std.proofs.Common.{ℕ, Bool, ◌<◌, ◌≤◌}
-use Rattle.dist_clause.specs.Formula.{MakesTrue}
-use Rattle.dist_clause.specs.ClauseList.{clause_at}
-use Rattle.dist_derive.specs.VariableSet.{GivesTrue}
-use Rattle.dist_derive.proofs.log.Log.holds_behind.Given as goal
-
-abbrev pub invariant-loop-place : goal.invariant-loop-place
-invariant-loop-place l = (value : ℕ → Bool) → GivesTrue value l.trues.members → (number : ℕ) → l.first < number → number ≤ l.place
-    → MakesTrue value (clause_at l.self.clauses number)

@@ -1,6 +1,0 @@
-use Rattle.std.proofs.Common.{take}
-use Rattle.dist_derive.proofs.AssumeLemmas.{AssumesSoFar}
-use Rattle.dist_derive.proofs.true_literals.TrueLiterals.assume_all.Given as goal
-
-abbrev pub invariant-loop-literal : goal.invariant-loop-literal
-invariant-loop-literal l = AssumesSoFar l.initial.self l.self (take l.literal-index l.literals)

@@ -1,0 +1,139 @@
+//! Where clauses can be false: only where all variables that they negate are true. So a clause is looked at with one of the
+//! variables that it negates, and it is the rarest of them, so that a variable that very many clauses negate costs little.
+
+ghost use Rattle.std.specs.Prelude.{◌≡◌, ◌↔◌, ℕ, Bool, Contains, IfOk, IsTrue};
+ghost use Rattle.dist_clause.specs.ClauseList.{clause_at};
+ghost use Rattle.dist_clause.specs.Formula.{IsModel, MakesTrue};
+ghost use Rattle.dist_derive.specs.DenialsPrivate.{AreDenialsOf, IsDenied};
+ghost use Rattle.dist_derive.specs.VariableSet.{GivesTrue};
+
+use crate::variable_set::VariableSet;
+use dist_clause::{ClauseSet, Lit};
+use std::alloc::{AllocError, Global};
+use std::marker::Model;
+
+/// For each clause the variable of its rarest negative literal, or 0 where it has none, and its number, in the order of the
+/// variables.
+#[derive(Debug, Drop)]
+pub(crate) struct Denials {
+    pairs: Vec<(u32, u32)>,
+}
+
+impl Model for Denials {
+    ghost use Rattle.std.specs.Prelude.{ℕ, List};
+    ghost use Rattle.std.specs.List.Sorted.{IsNonDecreasingBy};
+
+    ghost Value = { List (ℕ × ℕ) };
+
+    ghost view = { λ d. d.pairs.items };
+
+    ghost invariant = { λ d. IsNonDecreasingBy (λ (pair : ℕ × ℕ). pair.0) d.pairs.items };
+}
+
+/// Counts the negative literals of a clause, each by its variable.
+fn count_denials(counts: &mut [u32], clause: &[Lit]) {
+    for literal in clause {
+        if literal.positive() {
+            continue;
+        }
+        if let Some(count) = counts.get_mut(literal.variable() as usize) {
+            *count = count.saturating_add(1);
+        }
+    }
+}
+
+/// How often the negative literal of each variable stands in the clauses.
+fn denial_counts(alloc: Global, clauses: &ClauseSet) -> Result<Vec<u32>, AllocError> {
+    let mut counts = vec![in alloc; 0u32; clauses.variables() as usize + 1]?;
+    for place in 0..clauses.len() {
+        count_denials(&mut counts, clauses.clause(place + 1));
+    }
+    Ok(counts)
+}
+
+/// How often the negative literal of a variable was counted.
+fn count_of(counts: &[u32], variable: u32) -> u32 {
+    match counts.get(variable as usize) {
+        Some(count) => *count,
+        None => 0,
+    }
+}
+
+/// The variable of the rarest negative literal, or 0 where there is none.
+fn rarest_denied(clause: &[Lit], counts: &[u32]) -> u32
+    ensures { IsDenied clause.now result }
+{
+    let mut rarest = 0;
+    let mut least = 0;
+    for literal in clause {
+        let count = count_of(counts, literal.variable());
+        if !literal.positive() && (rarest == 0 || count < least) {
+            rarest = literal.variable();
+            least = count;
+        }
+    }
+    rarest
+}
+
+/// The pairs of the clauses, in the order of these.
+fn pairs_of(alloc: Global, clauses: &ClauseSet) -> Result<Vec<(u32, u32)>, AllocError>
+    ensures { IfOk result (λ pairs. AreDenialsOf clauses.now.clauses pairs.items) }
+{
+    let counts = denial_counts(alloc, clauses)?;
+    let mut pairs = Vec::with_capacity(alloc, clauses.len() as usize)?;
+    for place in 0..clauses.len() {
+        let number = place + 1;
+        pairs.push((rarest_denied(clauses.clause(number), &counts), number))?;
+    }
+    Ok(pairs)
+}
+
+impl Denials {
+    /// The denials of some clauses.
+    pub(crate) fn new(alloc: Global, clauses: &ClauseSet) -> Result<Denials, AllocError>
+        ensures { IfOk result (AreDenialsOf clauses.now.clauses) }
+    {
+        let mut pairs = pairs_of(alloc, clauses)?;
+        pairs.sort_unstable_by_key(|pair| pair.0);
+        Ok(Denials { pairs })
+    }
+
+    /// Whether the clauses are true where exactly the members of a set are.
+    pub(crate) fn hold(&self, clauses: &ClauseSet, trues: &VariableSet) -> bool
+        requires denials { AreDenialsOf clauses.now.clauses self.now }
+        requires variables { trues.now.variables ≡ clauses.now.variables }
+        ensures { (value : ℕ → Bool) → GivesTrue value trues.now.members
+            → IsTrue result ↔ IsModel value clauses.now.clauses }
+    {
+        if !self.are_true(clauses, 0, trues) {
+            return false;
+        }
+        for variable in trues.members() {
+            if !self.are_true(clauses, *variable, trues) {
+                return false;
+            }
+        }
+        true
+    }
+
+    /// Whether those clauses are true that are looked at with this variable, or at 0 those that have no negative literal.
+    fn are_true(&self, clauses: &ClauseSet, variable: u32, trues: &VariableSet) -> bool
+        requires denials { AreDenialsOf clauses.now.clauses self.now }
+        requires variables { trues.now.variables ≡ clauses.now.variables }
+        ensures { (value : ℕ → Bool) → GivesTrue value trues.now.members
+            → IsTrue result ↔ ((number : ℕ) → Contains self.now (variable, number)
+            → MakesTrue value (clause_at clauses.now.clauses number)) }
+    {
+        let start = self.pairs.partition_point(|pair| pair.0 < variable);
+        for place in start..self.pairs.len() {
+            let (denied, number) = self.pairs[place];
+            if denied != variable {
+                return true;
+            }
+            if !trues.makes_clause_true(clauses.clause(number)) {
+                return false;
+            }
+        }
+        true
+    }
+}

@@ -1,9 +1,0 @@
-use Rattle.std.proofs.Common.{◌≡◌, ◌≤◌, ℕ, length}
-use Rattle.dist_clause.specs.Formula.{value_of}
-use Rattle.dist_strong.proofs.group.copy_of.Given as goal
-
-abbrev pub invariant-loop-place : goal.invariant-loop-place
-invariant-loop-place l = record {
-  size : length l.copy ≡ l.variables;
-  done : (v : ℕ) → 1 ≤ v → v ≤ l.place → value_of l.copy v ≡ value_of l.values v;
-}
