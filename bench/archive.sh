@@ -22,7 +22,7 @@ for part in "$@"; do
     if [ "$part" = 1 ]; then
         cp "$packages" "$folder/packages"
     else
-        python3 "$top/bench/closed-part.py" "$packages" "$name" "$count" >"$folder/packages"
+        python3 "$top/bench/closed-part.py" "$packages" "$name" "$count" fill >"$folder/packages"
     fi
     python3 - "$program" "$folder" <<'PYTHON'
 import os, subprocess, sys, time

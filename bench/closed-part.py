@@ -3,12 +3,13 @@
 many stanzas. On standard error it tells how many stanzas the part has and how many it leaves out, and how many of the part lack
 something by that: an item of their Pre-Depends or Depends that the file can meet and the part cannot.
 
-Usage: closed-part.py PACKAGES NAME COUNT
+Usage: closed-part.py PACKAGES NAME COUNT [fill]
 
 Breadth first: Pre-Depends and Depends, each alternative, each package of the name and each that provides it. The essential
 packages and what they lead to are taken whole, whatever COUNT is, since every installation has them at mode essential.
 """
 
+import math
 import re
 import sys
 from collections import deque
@@ -53,6 +54,12 @@ def lead(found, begin, most):
 found = set()
 lead(found, essential, len(stanzas) + 1)
 lead(found, by_name.get(start.encode(), []), count)
+if sys.argv[4:] == ["fill"]:
+    stride = next(n for n in range(len(stanzas) * 618 // 1000, len(stanzas) + 1) if math.gcd(n, len(stanzas)) == 1)
+    for turn in range(len(stanzas)):
+        if len(found) >= count:
+            break
+        lead(found, [turn * stride % len(stanzas)], len(stanzas) + 1)
 can_be_met = lambda item, among: any(number in among for name in item for number in by_name.get(name, []))
 everything = range(len(stanzas))
 lacking = sum(any(can_be_met(item, everything) and not can_be_met(item, found) for item in items[number]) for number in found)

@@ -50,7 +50,7 @@ def run(program, job, path):
 def asked(program, told, path):
     reading, packages = min(run(program, "count-packages", path) for _ in range(3))
     count = int(packages.split()[0])
-    for job in ("ask-packages", "ask-packages-essential"):
+    for job in ("ask-packages", "ask-essential-packages"):
         seconds, answer = run(program, job, path)
         numbers = [int(word) for word in answer.replace(",", "").split() if word.isdigit()]
         each = (seconds - reading) / max(1, sum(numbers[:3]))
@@ -66,7 +66,7 @@ def main(program, packages=None):
             for told, share in (("a quarter", 4), ("a half", 2)):
                 path = f"{folder}/part"
                 with open(path, "wb") as part:
-                    subprocess.run([sys.executable, f"{HERE}/closed-part.py", packages, "gnome", str(count // share)], stdout=part, check=True)
+                    subprocess.run([sys.executable, f"{HERE}/closed-part.py", packages, "gnome", str(count // share), "fill"], stdout=part, check=True)
                 asked(program, told, path)
             asked(program, "the whole", packages)
         made = [(f"{n} pigeons", pigeons(n)) for n in (9, 10, 11, 12)]
