@@ -24,7 +24,7 @@ IsRight log assumptions (Refuted hints) = (value : ℕ → Bool) → IsModel val
     → ¬ All (IsTrueLiteral value) assumptions
 IsRight log assumptions Undecided = Unit {0}
 
--- ---- the answer of `ask-packages` and `ask-packages-essential`
+-- ---- the answer of `ask-packages` and `ask-essential-packages`
 
 -- how many questions were answered
 abbrev pub total : QuestionCounts → ℕ

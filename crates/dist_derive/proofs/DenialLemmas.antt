@@ -7,7 +7,7 @@ use Rattle.std.proofs.lemmas.List.{get_or_default}
 use Rattle.std.proofs.lemmas.List.Elements.{Contains-append_left, Contains-push, Contains-push_cases}
 use Rattle.std.proofs.lemmas.List.Sorted.{Contains-permutation, IsPermutation-sym}
 use Rattle.dist_clause.specs.ClauseList.{clause_at}
-use Rattle.dist_clause.specs.Formula.{Literal, literal, IsTrueLiteral, MakesTrue, IsModel}
+use Rattle.dist_clause.specs.Formula.{Literal, literal, MakesTrue, IsModel}
 use Rattle.dist_derive.specs.VariableSet.{GivesTrue}
 use Rattle.dist_derive.specs.DenialsPrivate.{IsDenied, AreDenialsOf}
 

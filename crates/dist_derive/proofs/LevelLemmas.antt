@@ -4,6 +4,7 @@ use Rattle.std.specs.List.{All, Contains}
 use Rattle.std.proofs.lemmas.List.{length_push, take-append-le, append-nil}
 use Rattle.std.proofs.lemmas.List.Elements.{All-nil}
 use Rattle.dist_clause.specs.Formula.{Literal}
+use Rattle.dist_derive.specs.ClauseLog.{ClauseLog}
 use Rattle.dist_derive.specs.ContainmentPrivate.{ContainsAll}
 use Rattle.dist_derive.specs.Propagation.{IsPropagated}
 use Rattle.dist_derive.specs.New.{LeavesFirstUnset}
@@ -53,8 +54,9 @@ module _ (clauses : List (List Literal)) where
   open_waits last trues done within all_open = λ number from to.
       inl (All-number (λ c. HasOutcome trues c Open) clauses last number within from to all_open)
 
-  pub level_none : (variables : ℕ) (s : LiteralList) → s.literals ≡ [] → s.variables ≡ variables → IsLevelOf clauses variables s 0
-  level_none variables s none same = record {
+  pub level_none : (variables : ℕ) (assumptions : List Literal) (s : LiteralList) → s.literals ≡ [] → s.variables ≡ variables
+      → IsLevelOf clauses variables assumptions s 0
+  level_none variables assumptions s none same = record {
     same_variables = same;
     within = omega arith;
     forced = λ trues _ _. subst (λ ts. ContainsAll trues ts) (sym none) (All-nil (Contains trues));
@@ -62,60 +64,95 @@ module _ (clauses : List (List Literal)) where
   }
 
   -- over room for others, which has no literal
-  pub level_over : (variables taken : ℕ) (s all : LiteralList) (room : Option LiteralList) (taken_room literals : LiteralList)
-      → IsLevelOf clauses variables s taken → all ≡ record taken_room { literals = s.literals ++ taken_room.literals } → room ≡ Some taken_room
-      → room ≡ Some literals → literals.literals ≡ [] → literals.variables ≡ variables → IsLevelOf clauses variables all taken
-  level_over variables taken s all room taken_room literals level is first second none same =
+  -- what fewer assumptions force, more of them do
+  pub level_under : (variables taken : ℕ) (few many : List Literal) (s : LiteralList) → IsLevelOf clauses variables few s taken → ContainsAll many few
+      → IsLevelOf clauses variables many s taken
+  level_under variables taken few many s level among = record {
+    same_variables = level.same_variables;
+    within = level.within;
+    forced = λ trues all propagated. level.forced trues (ContainsAll-then few many trues among all) propagated;
+    all_open = level.all_open;
+  }
+
+  pub level_over : (variables taken : ℕ) (assumptions : List Literal) (s all : LiteralList) (room : Option LiteralList) (taken_room literals : LiteralList)
+      → IsLevelOf clauses variables assumptions s taken → all ≡ record taken_room { literals = s.literals ++ taken_room.literals } → room ≡ Some taken_room
+      → room ≡ Some literals → literals.literals ≡ [] → literals.variables ≡ variables → IsLevelOf clauses variables assumptions all taken
+  level_over variables taken assumptions s all room taken_room literals level is first second none same =
       let e : taken_room ≡ literals = some_is taken_room literals (sym first ∙ second) in
       let no_literal : taken_room.literals ≡ [] = ap (λ (t : LiteralList). t.literals) e ∙ none in
       let joined : s.literals ++ taken_room.literals ≡ s.literals = ap (λ ts. s.literals ++ ts) no_literal ∙ append-nil s.literals in
       let variables_are : taken_room.variables ≡ s.variables = ap (λ (t : LiteralList). t.variables) e ∙ (same ∙ sym level.same_variables) in
       let all_is : all ≡ s = is ∙ both (s.literals ++ taken_room.literals) s.literals taken_room.variables s.variables joined variables_are in
-      subst (λ t. IsLevelOf clauses variables t taken) (sym all_is) level
+      subst (λ t. IsLevelOf clauses variables assumptions t taken) (sym all_is) level
     where
       both : (ls ms : List Literal) (n m : ℕ) → ls ≡ ms → n ≡ m
           → ◌≡◌ {A = LiteralList} (record { variables = n; literals = ls }) (record { variables = m; literals = ms })
       both ls ms n m h g = cc
 
-  module _ (variables taken last : ℕ) (old new : LiteralList) (level : IsLevelOf clauses variables old taken) (less : taken ≤ last)
-      (within : last ≤ length clauses) where
-    pub level_more : Propagates (take last clauses) old new → AllOpen new.literals (take last clauses) → IsLevelOf clauses variables new last
+  module _ (variables taken last : ℕ) (assumptions : List Literal) (old new : LiteralList) (level : IsLevelOf clauses variables assumptions old taken)
+      (less : taken ≤ last) (within : last ≤ length clauses) where
+    -- true literals that hold the assumptions and are closed hold the level
+    held : (trues : List Literal) → ContainsAll trues assumptions → All (IsPropagated trues) (take last clauses) → ContainsAll trues old.literals
+    held trues all propagated = level.forced trues all (All-fewer (IsPropagated trues) clauses taken last less within propagated)
+
+    pub level_more : Propagates (take last clauses) old new → AllOpen new.literals (take last clauses)
+        → IsLevelOf clauses variables assumptions new last
     level_more grows all_open = record {
       same_variables = grows.same_variables ∙ level.same_variables;
       within = within;
-      forced = λ trues none propagated. grows.forced trues
-          (level.forced trues none (All-fewer (IsPropagated trues) clauses taken last less within propagated)) propagated;
+      forced = λ trues all propagated. grows.forced trues (held trues all propagated) propagated;
       all_open = all_open;
     }
 
-    pub level_begins : (assumptions : List Literal) → AssumesAll old new assumptions true → Begins (take last clauses) assumptions new.literals
-    level_begins assumptions assumes = record {
+    pub level_begins : AssumesAll old new assumptions true → Begins (take last clauses) assumptions new.literals
+    level_begins assumes = record {
       assumed = assumes.assumed refl;
-      forced = λ trues all propagated. assumes.least trues
-          (level.forced trues (All-nil (Contains trues)) (All-fewer (IsPropagated trues) clauses taken last less within propagated)) all;
+      forced = λ trues all propagated. assumes.least trues (held trues all propagated) all;
     }
 
     -- where an assumption is false, nothing is new
-    pub level_refuses : (assumptions clause : List Literal) → AssumesAll old new assumptions false
+    pub level_refuses : (clause : List Literal) → AssumesAll old new assumptions false
         → ¬ LeavesFirstUnset (take last clauses) assumptions clause
-    level_refuses assumptions [] assumes h = h
-    level_refuses assumptions (first ∷ rest) assumes h =
+    level_refuses [] assumes h = h
+    level_refuses (first ∷ rest) assumes h =
         let settled = h.1.settled in
-        assumes.refused refl h.0
-        (level.forced h.0 (All-nil (Contains h.0)) (All-fewer (IsPropagated h.0) clauses taken last less within settled.propagated))
-        h.1.assumed settled.consistent
+        assumes.refused refl h.0 (held h.0 h.1.assumed settled.propagated) h.1.assumed settled.consistent
 
-  pub level_appended : (variables taken : ℕ) (s : LiteralList) (clause : List Literal) → IsLevelOf clauses variables s taken
-      → IsLevelOf (clauses ++ clause ∷ []) variables s taken
-  level_appended variables taken s clause level =
+  -- with assumptions, and what the clauses give then
+  pub level_grown : (variables taken last : ℕ) (assumptions : List Literal) (old middle new : LiteralList)
+      → IsLevelOf clauses variables assumptions old taken → taken ≤ last → last ≤ length clauses → AssumesAll old middle assumptions true
+      → Propagates (take last clauses) middle new → AllOpen new.literals (take last clauses) → IsLevelOf clauses variables assumptions new last
+  level_grown variables taken last assumptions old middle new level less within assumes grows all_open =
+      let begins = begins_grown (take last clauses) assumptions middle new
+      (level_begins variables taken last assumptions old middle level less within assumes) grows in
+      record {
+        same_variables = grows.same_variables ∙ assumes.same_variables ∙ level.same_variables;
+        within = within;
+        forced = λ trues all propagated. begins.forced trues all propagated;
+        all_open = all_open;
+      }
+
+  pub level_appended : (variables taken : ℕ) (assumptions : List Literal) (s : LiteralList) (clause : List Literal)
+      → IsLevelOf clauses variables assumptions s taken → IsLevelOf (clauses ++ clause ∷ []) variables assumptions s taken
+  level_appended variables taken assumptions s clause level =
       let within = level.within in
       let same = sym (take-append-le taken clauses (clause ∷ []) within) in
       record {
         same_variables = level.same_variables;
         within = omega (arith, within, length_push clauses clause);
-        forced = subst (λ cs. IsForced cs [] s.literals) same level.forced;
+        forced = subst (λ cs. IsForced cs assumptions s.literals) same level.forced;
         all_open = subst (λ cs. AllOpen s.literals cs) same level.all_open;
       }
+
+-- what is kept of a log's clauses is a level of the log, under more assumptions too
+pub kept_start : (inside log : ClauseLog) (few many : List Literal) (s start : LiteralList) (taken n : ℕ)
+    → IsLevelOf inside.clauses inside.variables few s taken → inside ≡ log → ContainsAll many few → start ≡ s → n ≡ taken
+    → IsLevelOf log.clauses log.variables many start n
+kept_start inside log few many s start taken n level here among is number =
+    subst (λ k. IsLevelOf log.clauses log.variables many start k) (sym number)
+    (subst (λ t. IsLevelOf log.clauses log.variables many t taken) (sym is)
+    (level_under log.clauses log.variables taken few many s
+    (subst (λ (l : ClauseLog). IsLevelOf l.clauses l.variables few s taken) here level) among))
 
 pub begins_unset : (clauses : List (List Literal)) (assumptions trues clause : List Literal) → Begins clauses assumptions trues
     → LeavesFirstUnset clauses assumptions clause → LeavesFirstUnset clauses trues clause

@@ -137,9 +137,9 @@ module _ (old : OccurrenceLists) (code number : ℕ) (within : code < length old
 pub IsIndexOf-covered : (index : OccurrenceLists) (clauses : List (List Literal)) (number : ℕ) (clause : List Literal) → IsIndexOf index clauses
     → number ≡ index.covered + 1 → number ≤ length clauses → clause ≡ clause_at clauses number
     → AllPairs (λ l m. l.variable ≢ m.variable) clause
-    → (length clause < 2 → IsListed index 0 number) → (All (λ l. l.positive ≡ true) clause → IsListed index 1 number)
+    → (All (λ l. l.positive ≡ true) clause → IsListed index 0 number)
     → All (λ l. IsListed index (code_of l) number) clause → IsIndexOf (record index { covered = number }) clauses
-IsIndexOf-covered index clauses number clause h next within is distinct short positive literals = record {
+IsIndexOf-covered index clauses number clause h next within is distinct positive literals = record {
   covered = within;
   heads = h.heads;
   links = h.links;
@@ -155,9 +155,8 @@ IsIndexOf-covered index clauses number clause h next within is distinct short po
 }
   where
     here : (code : ℕ) → HasCode clause code → IsListed index code number
-    here code (inl a) = subst (λ n. IsListed index n number) (sym a.0) (short a.1)
-    here code (inr (inl a)) = subst (λ n. IsListed index n number) (sym a.0) (positive a.1)
-    here code (inr (inr a)) = subst (λ n. IsListed index n number) (sym a.2) (All-contains (λ l. IsListed index (code_of l) number) clause a.0 literals a.1)
+    here code (inl a) = subst (λ n. IsListed index n number) (sym a.0) (positive a.1)
+    here code (inr a) = subst (λ n. IsListed index n number) (sym a.2) (All-contains (λ l. IsListed index (code_of l) number) clause a.0 literals a.1)
 
 -- an index without lists, and empty lists in place of none
 pub IsIndexOf-none : (clauses : List (List Literal)) → IsIndexOf (record { heads = []; links = []; covered = 0 }) clauses

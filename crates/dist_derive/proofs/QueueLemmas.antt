@@ -56,7 +56,7 @@ module _ (clauses : List (List Literal)) (last : ℕ) (index : OccurrenceLists) 
     waiting = λ number from covered to. ⊎_elim
         (λ w. step.waiting (done + 1) (clause_at clauses number) (omega arith) w)
         (λ here. visited number (done + 1)
-        (is_index.complete number (code_of (negation l)) from covered (inr (inr (negation l, here, refl)))) to (omega arith))
+        (is_index.complete number (code_of (negation l)) from covered (inr (negation l, here, refl))) to (omega arith))
         (Waits-next now.literals (clause_at clauses number) done l within is (h.waiting number from covered to));
   }
 

@@ -184,12 +184,12 @@ pub record MembersSoFar (clauses : List (List Literal)) (inputs : ℕ) (index : 
 
 module _ (clauses : List (List Literal)) (inputs : ℕ) (index : OccurrenceLists) (is_index : IsIndexOf index clauses) where
   pub members_start : (start next : VariableList) → Reaches (take inputs clauses) start next
-      → ((number d : ℕ) → Lists index.links (get_or index.heads 1 0) number → number ≤ inputs → d ≤ length start.members
+      → ((number d : ℕ) → Lists index.links (get_or index.heads 0 0) number → number ≤ inputs → d ≤ length start.members
       → WaitsIn next.members d (clause_at clauses number))
       → AllWaitIn index clauses inputs next.members 0
   members_start start next step visited = λ number from covered to. ⊎_elim
       (λ out. inr out)
-      (λ positive. visited number 0 (is_index.complete number 1 from covered (inr (inl (refl, positive)))) to (omega arith))
+      (λ positive. visited number 0 (is_index.complete number 0 from covered (inl (refl, positive))) to (omega arith))
       (negative_or_positive (clause_at clauses number))
 
   pub members_more : (start now next : VariableList) (done : ℕ) → MembersSoFar clauses inputs index start now done → done < length now.members
@@ -202,7 +202,7 @@ module _ (clauses : List (List Literal)) (inputs : ℕ) (index : OccurrenceLists
     waiting = λ number from covered to. ⊎_elim
         (λ w. WaitsIn-more (take inputs clauses) now next (clause_at clauses number) (done + 1) step (omega arith) w)
         (λ here. let l = literal (get_or now.members done 0) false in
-        visited number (done + 1) (is_index.complete number (code_of l) from covered (inr (inr (l, here, refl)))) to (omega arith))
+        visited number (done + 1) (is_index.complete number (code_of l) from covered (inr (l, here, refl))) to (omega arith))
         (WaitsIn-next now.members (clause_at clauses number) done within (h.waiting number from covered to));
   }
 

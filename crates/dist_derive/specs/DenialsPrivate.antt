@@ -1,5 +1,5 @@
 -- Where a clause can be false: only where the variables of all its negative literals are true.
-use Rattle.std.specs.Prelude.{◌≡◌, ◌⊎◌, ℕ, List, Contains, false}
+use Rattle.std.specs.Prelude.{◌≡◌, ◌⊎◌, ℕ, ◌<◌, ◌≤◌, List, Contains, false, length, slice_index_or}
 use Rattle.dist_clause.specs.ClauseList.{clause_at}
 use Rattle.dist_clause.specs.Formula.{Literal, literal}
 use Rattle.dist_derive.specs.Follows.{IsNumberOf}
@@ -14,3 +14,8 @@ pub record AreDenialsOf (clauses : List (List Literal)) (pairs : List (ℕ × �
   pub numbers : (variable number : ℕ) → Contains pairs (variable, number) → IsNumberOf clauses number
   pub each : (number : ℕ) → IsNumberOf clauses number
       → (variable : ℕ) × Contains pairs (variable, number) × IsDenied (clause_at clauses number) variable
+
+-- the pairs before a place have lower variables, and those from there on have none
+pub record StartsAt (pairs : List (ℕ × ℕ)) (variable place : ℕ) : Type 0 where
+  pub before : (k : ℕ) (d : ℕ × ℕ) → k < place → (slice_index_or pairs k d).0 < variable
+  pub behind : (k : ℕ) (d : ℕ × ℕ) → place ≤ k → k < length pairs → variable ≤ (slice_index_or pairs k d).0

@@ -14,9 +14,10 @@ pub record HasNothing (nothing literals : LiteralList) : Type 0 where
   pub none : nothing.literals ≡ []
   pub same_variables : nothing.variables ≡ literals.variables
 
--- the literals are forced by the first clauses alone, and none of these is false or unit under them
-pub record IsLevelOf (clauses : List (List Literal)) (variables : ℕ) (literals : LiteralList) (taken : ℕ) : Type 0 where
+-- the literals are forced by the assumptions under the first clauses, and none of these is false or unit then
+pub record IsLevelOf (clauses : List (List Literal)) (variables : ℕ) (assumptions : List Literal)
+    (literals : LiteralList) (taken : ℕ) : Type 0 where
   pub same_variables : literals.variables ≡ variables
   pub within : taken ≤ length clauses
-  pub forced : IsForced (take taken clauses) [] literals.literals
+  pub forced : IsForced (take taken clauses) assumptions literals.literals
   pub all_open : AllOpen literals.literals (take taken clauses)

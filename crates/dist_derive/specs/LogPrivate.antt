@@ -1,8 +1,9 @@
 -- What a log keeps beside its clauses: an index of them, and what they give.
-use Rattle.std.specs.Prelude.{◌≡◌, Option, IfSome}
+use Rattle.std.specs.Prelude.{◌≡◌, [], ◌∷◌, Option, IfSome}
 use Rattle.dist_clause.specs.ClauseList.{ClauseList}
 use Rattle.dist_derive.specs.ClauseLog.{joined}
 use Rattle.dist_derive.specs.LevelPrivate.{LevelState, IsLevelOf}
+use Rattle.dist_derive.specs.declared.level.Under.{Under}
 use Rattle.dist_derive.specs.OccurrencesPrivate.{OccurrenceLists, IsIndexOf}
 
 -- input clauses and lines are over the same variables, and the index is one of both
@@ -10,7 +11,10 @@ pub record IsIndexed (inputs lines : ClauseList) (index : OccurrenceLists) : Typ
   pub same_variables : lines.variables ≡ inputs.variables
   pub is_index : IsIndexOf index (joined inputs lines).clauses
 
--- the index, and where there is one the level, are those of the clauses
-pub record IsKept (inputs lines : ClauseList) (index : OccurrenceLists) (level : Option LevelState) : Type 0 where
+-- the index, and where there are such the levels, are those of the clauses
+pub record IsKept (inputs lines : ClauseList) (index : OccurrenceLists) (level : Option LevelState)
+    (under : Option Under) : Type 0 where
   pub indexed : IsIndexed inputs lines index
-  pub level_of : IfSome level (λ l. IsLevelOf (joined inputs lines).clauses inputs.variables l.literals l.taken)
+  pub level_of : IfSome level (λ l. IsLevelOf (joined inputs lines).clauses inputs.variables [] l.literals l.taken)
+  pub under_of : IfSome under (λ u. IsLevelOf (joined inputs lines).clauses inputs.variables (u.literal ∷ [])
+      u.level.literals u.level.taken)

@@ -15,11 +15,10 @@ pub record OccurrenceLists : Type 0 where
 abbrev pub code_of : Literal → ℕ
 code_of l = 2 * l.variable + (if l.positive then 1 else 0)
 
--- a clause has the codes of its literals, 0 where it has fewer than two literals, and 1 where none is negative
+-- a clause has the codes of its literals, and 0 where none is negative
 abbrev pub HasCode : List Literal → ℕ → Type 0
-HasCode clause code = ((code ≡ 0) × (length clause < 2))
-    ⊎ (((code ≡ 1) × All (λ l. l.positive ≡ true) clause)
-    ⊎ ((l : Literal) × Contains clause l × (code ≡ code_of l)))
+HasCode clause code = ((code ≡ 0) × All (λ l. l.positive ≡ true) clause)
+    ⊎ ((l : Literal) × Contains clause l × (code ≡ code_of l))
 
 abbrev pub link_at : List Link → ℕ → Link
 link_at links place = slice_index_or links (place - 1) (record { number = 0; next = 0 })

@@ -1,10 +1,10 @@
 //! Where clauses can be false: only where all variables that they negate are true. So a clause is looked at with one of the
 //! variables that it negates, and it is the rarest of them, so that a variable that very many clauses negate costs little.
 
-ghost use Rattle.std.specs.Prelude.{◌≡◌, ◌↔◌, ℕ, Bool, Contains, IfOk, IsTrue};
+ghost use Rattle.std.specs.Prelude.{◌≡◌, ◌↔◌, ◌<◌, ◌≤◌, ℕ, Bool, Contains, IfOk, IsTrue, length, slice_index_or};
 ghost use Rattle.dist_clause.specs.ClauseList.{clause_at};
 ghost use Rattle.dist_clause.specs.Formula.{IsModel, MakesTrue};
-ghost use Rattle.dist_derive.specs.DenialsPrivate.{AreDenialsOf, IsDenied};
+ghost use Rattle.dist_derive.specs.DenialsPrivate.{AreDenialsOf, IsDenied, StartsAt};
 ghost use Rattle.dist_derive.specs.VariableSet.{GivesTrue};
 
 use crate::variable_set::VariableSet;
@@ -17,6 +17,8 @@ use std::marker::Model;
 #[derive(Debug, Drop)]
 pub(crate) struct Denials {
     pairs: Vec<(u32, u32)>,
+    /// For each variable a guess at the place of its first pair.
+    starts: Vec<usize>,
 }
 
 impl Model for Denials {
@@ -88,6 +90,31 @@ fn pairs_of(alloc: Global, clauses: &ClauseSet) -> Result<Vec<(u32, u32)>, Alloc
     Ok(pairs)
 }
 
+/// Counts a pair behind the place of its variable.
+fn count_behind(counts: &mut [usize], variable: u32) {
+    if let Some(count) = counts.get_mut(variable as usize + 1) {
+        *count = count.saturating_add(1);
+    }
+}
+
+/// For each variable, and for 0, how many pairs have a lower one.
+fn starts_of(
+    alloc: Global,
+    variables: u32,
+    pairs: &[(u32, u32)],
+) -> Result<Vec<usize>, AllocError> {
+    let mut starts = vec![in alloc; 0usize; variables as usize + 2]?;
+    for pair in pairs {
+        count_behind(&mut starts, pair.0);
+    }
+    let mut lower = 0usize;
+    for start in starts.iter_mut() {
+        lower = lower.saturating_add(*start);
+        *start = lower;
+    }
+    Ok(starts)
+}
+
 impl Denials {
     /// The denials of some clauses.
     pub(crate) fn new(alloc: Global, clauses: &ClauseSet) -> Result<Denials, AllocError>
@@ -95,7 +122,8 @@ impl Denials {
     {
         let mut pairs = pairs_of(alloc, clauses)?;
         pairs.sort_unstable_by_key(|pair| pair.0);
-        Ok(Denials { pairs })
+        let starts = starts_of(alloc, clauses.variables(), &pairs)?;
+        Ok(Denials { pairs, starts })
     }
 
     /// Whether the clauses are true where exactly the members of a set are.
@@ -124,7 +152,7 @@ impl Denials {
             → IsTrue result ↔ ((number : ℕ) → Contains self.now (variable, number)
             → MakesTrue value (clause_at clauses.now.clauses number)) }
     {
-        let start = self.pairs.partition_point(|pair| pair.0 < variable);
+        let start = self.start_of(variable);
         for place in start..self.pairs.len() {
             let (denied, number) = self.pairs[place];
             if denied != variable {
@@ -135,5 +163,41 @@ impl Denials {
             }
         }
         true
+    }
+
+    /// The place of the first pair with this variable, or with a higher one. A guess that fits spares the search.
+    fn start_of(&self, variable: u32) -> usize
+        ensures { StartsAt self.now variable result }
+    {
+        if let Some(start) = self.starts.get(variable as usize) {
+            if self.ends_before(*start, variable) && self.begins_at(*start, variable) {
+                return *start;
+            }
+        }
+        self.pairs.partition_point(|pair| pair.0 < variable)
+    }
+
+    /// Whether the pair before a place has a lower variable, so that all before have.
+    fn ends_before(&self, place: usize, variable: u32) -> bool
+        ensures { IsTrue result → (k : ℕ) (d : ℕ × ℕ) → k < place → (slice_index_or self.now k d).0 < variable }
+    {
+        if place == 0 {
+            return true;
+        }
+        if place > self.pairs.len() {
+            return false;
+        }
+        self.pairs[place - 1].0 < variable
+    }
+
+    /// Whether the pair at a place has no lower variable, so that none from there on has.
+    fn begins_at(&self, place: usize, variable: u32) -> bool
+        ensures { IsTrue result → (k : ℕ) (d : ℕ × ℕ) → place ≤ k → k < length self.now
+            → variable ≤ (slice_index_or self.now k d).0 }
+    {
+        if place >= self.pairs.len() {
+            return true;
+        }
+        self.pairs[place].0 >= variable
     }
 }

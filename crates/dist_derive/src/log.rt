@@ -1,6 +1,6 @@
 //! Input clauses and the lines derived from them, numbered on.
 
-ghost use Rattle.std.specs.Prelude.{◌≡◌, ◌+◌, ◌<◌, ◌≤◌, ◌↔◌, ℕ, Bool, [], ◌∷◌, ◌++◌, length, IfOk, IfSome, IsTrue, OnOk, OnErr, Err};
+ghost use Rattle.std.specs.Prelude.{◌≡◌, ◌+◌, ◌<◌, ◌≤◌, ◌↔◌, ℕ, Bool, [], ◌∷◌, ◌++◌, length, All, IfOk, IfSome, IsTrue, OnOk, OnErr, Err};
 ghost use Rattle.dist_clause.specs.Formula.{IsClauseOver, IsModel};
 ghost use Rattle.dist_clause.specs.ClauseList.{clause_at, literal_count};
 ghost use Rattle.dist_derive.specs.ClauseLog.{inputs_of, joined, lines_of, IsWithinLineLimits};
@@ -12,7 +12,7 @@ ghost use Rattle.dist_derive.specs.LogPrivate.{IsIndexed};
 
 use crate::inputs::Inputs;
 use crate::layers::Layers;
-use crate::level::{Level, Start};
+use crate::level::{Level, Start, Under, begin_with};
 use crate::occurrences::{Link, Occurrences, code_of};
 use crate::true_literals::TrueLiterals;
 use crate::variable_set::VariableSet;
@@ -40,6 +40,8 @@ pub struct Log {
     occurrences: Occurrences,
     /// What the clauses give by themselves. There is none until the clauses are put into the index.
     level: Option<Level>,
+    /// What they give under a literal too, where that was asked for.
+    under: Option<Under>,
     alloc: Global,
 }
 
@@ -51,7 +53,7 @@ impl Model for Log {
 
     ghost view = { λ a. joined a.inputs a.lines };
 
-    ghost invariant = { λ a. IsKept a.inputs a.lines a.occurrences a.level };
+    ghost invariant = { λ a. IsKept a.inputs a.lines a.occurrences a.level a.under };
 }
 
 impl Log {
@@ -73,6 +75,7 @@ impl Log {
             lines,
             occurrences: Occurrences::new(alloc),
             level: None,
+            under: None,
             alloc,
         }
     }
@@ -135,15 +138,83 @@ impl Log {
     pub fn settle(&mut self)
         ensures same { self.new ≡ self.old }
     {
+        self.settle_level();
+        self.settle_kept();
+    }
+
+    /// The same for what the clauses give by themselves.
+    fn settle_level(&mut self)
+        ensures { self.new ≡ self.old }
+    {
         if let Some(level) = self.level.take() {
-            self.level = self.settled(level);
+            self.level = self.settled(&[], level);
         }
     }
 
-    /// A level with all clauses taken in; the same one where they end in a conflict.
-    fn settled(&self, level: Level) -> Option<Level>
-        requires { IsLevelOf self.now.clauses self.now.variables level.literals level.taken }
-        ensures { IfSome result (λ l. IsLevelOf self.now.clauses self.now.variables l.literals l.taken) }
+    /// The same for what they give under a literal.
+    fn settle_kept(&mut self)
+        ensures { self.new ≡ self.old }
+    {
+        if let Some(under) = self.under.take() {
+            self.under = self.settled_under(under);
+        }
+    }
+
+    /// Takes in what the clauses give under a literal too, so that tests under assumptions that begin with it cost less.
+    /// Of the literals of all calls the one that makes the most others true stays, as far as memory allows.
+    pub fn settle_under(&mut self, literal: Lit)
+        requires { literal.variable ≤ self.old.variables }
+        ensures same { self.new ≡ self.old }
+    {
+        if let Some(under) = &self.under {
+            if under.literal == literal {
+                return;
+            }
+        }
+        if let Some(under) = self.taken_under(literal) {
+            self.keep_under(under);
+        }
+    }
+
+    /// What the clauses give under a literal; nothing, where that is a conflict, or memory is wanting.
+    fn taken_under(&self, literal: Lit) -> Option<Under>
+        requires { literal.variable ≤ self.now.variables }
+        ensures { IfSome result (λ u. IsLevelOf self.now.clauses self.now.variables (u.literal ∷ []) u.level.literals u.level.taken) }
+    {
+        let level = self.level.as_ref()?;
+        let copy = Level::copy(self.alloc, self.inputs.variables(), level).ok()?;
+        let level = self.grown(&[literal], copy)?;
+        Some(Under { literal, level })
+    }
+
+    /// Keeps it, unless the one that is there makes more literals true.
+    fn keep_under(&mut self, under: Under)
+        requires { IsLevelOf self.old.clauses self.old.variables (under.literal ∷ []) under.level.literals under.level.taken }
+        ensures { self.new ≡ self.old }
+    {
+        let has_more = match &self.under {
+            Some(kept) => kept.level.literals.len() >= under.level.literals.len(),
+            None => false,
+        };
+        if !has_more {
+            self.under = Some(under);
+        }
+    }
+
+    /// The same one with all clauses taken in.
+    fn settled_under(&self, under: Under) -> Option<Under>
+        requires { IsLevelOf self.now.clauses self.now.variables (under.literal ∷ []) under.level.literals under.level.taken }
+        ensures { IfSome result (λ u. IsLevelOf self.now.clauses self.now.variables (u.literal ∷ []) u.level.literals u.level.taken) }
+    {
+        let Under { literal, level } = under;
+        let level = self.settled(&[literal], level)?;
+        Some(Under { literal, level })
+    }
+
+    /// A level under assumptions with all clauses taken in; the same one where they end in a conflict.
+    fn settled(&self, assumptions: &[Lit], level: Level) -> Option<Level>
+        requires { IsLevelOf self.now.clauses self.now.variables assumptions.now level.literals level.taken }
+        ensures { IfSome result (λ l. IsLevelOf self.now.clauses self.now.variables assumptions.now l.literals l.taken) }
     {
         let Level {
             literals,
@@ -151,7 +222,7 @@ impl Log {
             nothing,
         } = level;
         let mut layers = Layers::new(&nothing, literals);
-        let taken = self.take_in(&mut layers, taken);
+        let taken = self.take_in(assumptions, &mut layers, taken);
         let literals = layers.into_all()?;
         Some(Level {
             literals,
@@ -162,10 +233,10 @@ impl Log {
 
     /// Makes true what the clauses give that aren't taken in, and answers how many are taken in then. Where these end in a
     /// conflict, all is left as it was.
-    fn take_in(&self, literals: &mut Layers<'_>, taken: u32) -> u32
-        requires level { IsLevelOf self.now.clauses self.now.variables literals.old.all taken }
+    fn take_in(&self, assumptions: &[Lit], literals: &mut Layers<'_>, taken: u32) -> u32
+        requires level { IsLevelOf self.now.clauses self.now.variables assumptions.now literals.old.all taken }
         requires marked { literals.old.marked ≡ literals.old.all }
-        ensures { IsLevelOf self.now.clauses self.now.variables literals.new.all result }
+        ensures { IsLevelOf self.now.clauses self.now.variables assumptions.now literals.new.all result }
     {
         let last = self.len();
         let done = literals.len();
@@ -176,26 +247,89 @@ impl Log {
         taken
     }
 
-    /// Literals that the first `last` clauses force, and how many clauses gave them: those of the log's level, unless it
-    /// has more clauses, or else none.
-    pub(crate) fn start<'a>(&'a self, nothing: &'a TrueLiterals, last: u32) -> Start<'a>
+    /// A level with assumptions taken in, and all clauses; nothing, where these end in a conflict.
+    fn grown(&self, assumptions: &[Lit], level: Level) -> Option<Level>
+        requires level { IsLevelOf self.now.clauses self.now.variables [] level.literals level.taken }
+        requires assumptions { All (λ l. l.variable ≤ self.now.variables) assumptions.now }
+        ensures { IfSome result (λ l. IsLevelOf self.now.clauses self.now.variables assumptions.now l.literals l.taken) }
+    {
+        let Level {
+            literals,
+            taken,
+            nothing,
+        } = level;
+        let mut layers = Layers::new(&nothing, literals);
+        if !self.grow(&mut layers, assumptions, taken) {
+            return None;
+        }
+        let literals = layers.into_all()?;
+        Some(Level {
+            literals,
+            taken: self.len(),
+            nothing,
+        })
+    }
+
+    /// Makes assumptions true and what all clauses give then; answers whether that is no conflict.
+    fn grow(&self, literals: &mut Layers<'_>, assumptions: &[Lit], taken: u32) -> bool
+        requires level { IsLevelOf self.now.clauses self.now.variables [] literals.old.all taken }
+        requires assumptions { All (λ l. l.variable ≤ self.now.variables) assumptions.now }
+        ensures { IsTrue result → IsLevelOf self.now.clauses self.now.variables assumptions.now literals.new.all (length self.now.clauses) }
+    {
+        let last = self.len();
+        let done = literals.len();
+        literals.assume_all(assumptions) && self.propagate(literals, done, taken, last)
+    }
+
+    /// Literals that the assumptions force by the first `last` clauses, and how many clauses gave them: those of the log's
+    /// levels, unless these have more clauses, or else none.
+    pub(crate) fn start<'a>(
+        &'a self,
+        nothing: &'a TrueLiterals,
+        assumptions: &[Lit],
+        last: u32,
+    ) -> Start<'a>
         requires none { nothing.now.literals ≡ [] }
         requires same_variables { nothing.now.variables ≡ self.now.variables }
-        ensures level { IsLevelOf self.now.clauses self.now.variables result.literals.now result.taken }
+        ensures level { IsLevelOf self.now.clauses self.now.variables assumptions.now result.literals.now result.taken }
         ensures within { result.taken ≤ last }
     {
-        if let Some(level) = &self.level {
-            if level.taken <= last {
-                return Start {
-                    literals: &level.literals,
-                    taken: level.taken,
-                };
-            }
+        if let Some(start) = self.start_under(assumptions, last) {
+            return start;
+        }
+        if let Some(start) = self.start_alone(assumptions, last) {
+            return start;
         }
         Start {
             literals: nothing,
             taken: 0,
         }
+    }
+
+    /// The start from what the clauses give under a literal, where the assumptions begin with it.
+    fn start_under(&self, assumptions: &[Lit], last: u32) -> Option<Start<'_>>
+        ensures level { IfSome result (λ s. IsLevelOf self.now.clauses self.now.variables assumptions.now s.literals.now s.taken) }
+        ensures within { IfSome result (λ s. s.taken ≤ last) }
+    {
+        if let Some(under) = &self.under {
+            if under.level.taken <= last && begin_with(assumptions, under.literal) {
+                return Some(start_of(&under.level));
+            }
+        }
+        None
+    }
+
+    /// The start from what the clauses give by themselves, which they give under any assumptions.
+    fn start_alone(&self, assumptions: &[Lit], last: u32) -> Option<Start<'_>>
+        ensures level { IfSome result (λ s. IsLevelOf self.now.clauses self.now.variables assumptions.now s.literals.now s.taken) }
+        ensures within { IfSome result (λ s. s.taken ≤ last) }
+    {
+        if let Some(level) = &self.level {
+            if level.taken <= last {
+                return Some(start_of(level));
+            }
+        }
+        None
     }
 
     /// The place of the latest clause in which a literal stands, of those in the index; 0: there is none.
@@ -250,6 +384,17 @@ impl Log {
             Err(PushError::TooManyLiterals) => Err(AppendError::TooManyLiterals),
             Err(PushError::NoMemory) => Err(AppendError::NoMemory),
         }
+    }
+}
+
+/// Where a test begins from a level.
+fn start_of(level: &Level) -> Start<'_>
+    ensures literals { result.literals.now ≡ level.now.literals }
+    ensures taken { result.taken ≡ level.now.taken }
+{
+    Start {
+        literals: &level.literals,
+        taken: level.taken,
     }
 }
 

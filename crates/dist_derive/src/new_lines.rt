@@ -36,7 +36,7 @@ impl Log {
             return false;
         };
         self.mark_cone(&mut scratch.cone, assumptions);
-        let start = self.start(&scratch.literals, last);
+        let start = self.start(&scratch.literals, assumptions, last);
         let mut literals = Layers::new(start.literals, room);
         let cone = &scratch.cone;
         let answer = self.lines_are_new(&mut literals, cone, assumptions, start.taken, last);
@@ -72,7 +72,7 @@ impl Log {
         taken: u32,
         last: u32,
     ) -> bool
-        requires level { IsLevelOf self.now.clauses self.now.variables literals.old.all taken }
+        requires level { IsLevelOf self.now.clauses self.now.variables assumptions.now literals.old.all taken }
         requires within { taken ≤ last }
         requires last { last < length self.now.clauses }
         requires inputs { self.now.inputs ≤ last }

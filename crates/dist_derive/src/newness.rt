@@ -80,14 +80,14 @@ impl Log {
         let Some(room) = scratch.room.take() else {
             return false;
         };
-        let start = self.start(&scratch.literals, last);
+        let start = self.start(&scratch.literals, assumptions, last);
         let mut literals = Layers::new(start.literals, room);
         let answer = self.leaves_unset(&mut literals, assumptions, clause, start.taken, last);
         scratch.room = Some(literals.into_room());
         answer
     }
 
-    /// The same, begun with the literals that the first `taken` clauses force.
+    /// The same, begun with literals that the assumptions force by the first `taken` clauses.
     fn leaves_unset(
         &self,
         literals: &mut Layers<'_>,
@@ -96,7 +96,7 @@ impl Log {
         taken: u32,
         last: u32,
     ) -> bool
-        requires level { IsLevelOf self.now.clauses self.now.variables literals.old.all taken }
+        requires level { IsLevelOf self.now.clauses self.now.variables assumptions.now literals.old.all taken }
         requires within { taken ≤ last }
         requires last { last ≤ length self.now.clauses }
         requires assumptions { All (λ l. l.variable ≤ self.now.variables) assumptions.now }

@@ -22,11 +22,8 @@ pub struct Link {
     pub next: u32,
 }
 
-/// The code of the clauses with fewer than two literals. No literal has it, since variables are numbered from 1.
-pub(crate) const SHORT: u32 = 0;
-
-/// The code of the clauses without a negative literal.
-pub(crate) const POSITIVE: u32 = 1;
+/// The code of the clauses without a negative literal. No literal has it, since variables are numbered from 1.
+pub(crate) const POSITIVE: u32 = 0;
 
 /// For each code a list of clauses: for a literal's code those in which it stands.
 #[derive(Debug, Drop)]
@@ -110,8 +107,7 @@ impl Occurrences {
             → clause.now ≡ clause_at clauses number → IsIndexOf self.new clauses }
         ensures covered { OnOk result (self.new.covered ≡ number) }
     {
-        self.put_where(clause.len() < 2, SHORT, number)?;
-        self.put_where(is_positive(clause), POSITIVE, number)?;
+        self.put_positive(clause, number)?;
         self.put_literals(clause, number)?;
         self.covered = number;
         Ok(())
@@ -128,6 +124,18 @@ impl Occurrences {
         }
     }
 
+    /// Puts a clause without a negative literal into the list of such clauses.
+    fn put_positive(&mut self, clause: &[Lit], number: u32) -> Result<(), AllocError>
+        ensures extends { Extends self.old self.new number }
+        ensures listed { All (λ l. l.positive ≡ true) clause.now → OnOk result (IsListed self.new POSITIVE number) }
+    {
+        if is_positive(clause) {
+            self.put(POSITIVE, number)
+        } else {
+            Ok(())
+        }
+    }
+
     /// Puts a clause into the lists of its literals.
     fn put_literals(&mut self, clause: &[Lit], number: u32) -> Result<(), AllocError>
         ensures extends { Extends self.old self.new number }
@@ -137,18 +145,6 @@ impl Occurrences {
             self.put(code_of(*literal), number)?;
         }
         Ok(())
-    }
-
-    /// Puts a clause into a code's list, where it has that code.
-    fn put_where(&mut self, has_code: bool, code: u32, number: u32) -> Result<(), AllocError>
-        ensures extends { Extends self.old self.new number }
-        ensures listed { IsTrue has_code → OnOk result (IsListed self.new code number) }
-    {
-        if has_code {
-            self.put(code, number)
-        } else {
-            Ok(())
-        }
     }
 
     /// Puts a clause into a code's list. Where the lists aren't made, it is want of memory too.

@@ -58,6 +58,21 @@ impl TrueLiterals {
         Ok(TrueLiterals { touched, signs })
     }
 
+    /// The same literals, in room of their own.
+    pub(crate) fn copy(
+        alloc: Global,
+        variables: u32,
+        other: &TrueLiterals,
+    ) -> Result<TrueLiterals, AllocError>
+        requires { variables ≡ other.now.variables }
+        ensures { IfOk result (λ t. t ≡ other.now) }
+    {
+        let touched = VariableSet::copy(alloc, variables, &other.touched)?;
+        let mut signs = Assignment::new(alloc, variables)?;
+        signs.copy_from(&other.signs);
+        Ok(TrueLiterals { touched, signs })
+    }
+
     /// What a literal is under the true ones.
     pub fn status(&self, literal: Lit) -> Truth
         requires { literal.variable ≤ self.now.variables }

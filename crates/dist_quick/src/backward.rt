@@ -1,6 +1,6 @@
 //! Back from a false clause to what it rests on.
 
-use crate::clauses::clause_of;
+use crate::clauses::{Look, clause_of, look_at};
 use crate::forward::{Mark, State};
 use crate::trail::{Trail, Truth};
 use dist_clause::Lit;
@@ -17,16 +17,12 @@ pub(crate) struct Way {
     /// Assumptions, which need no explanation.
     given: Vec<bool>,
     pub(crate) hints: Vec<u32>,
-    /// Unit clauses, each with what it gives, from a conflict back to the decision behind it.
-    chain: Vec<Given>,
+    /// The clauses that led from a decision to a conflict, the latest first.
+    chain: Vec<u32>,
 }
 
-/// A clause that gives a literal.
-#[derive(Clone, Copy, Debug)]
-struct Given {
-    literal: Lit,
-    number: u32,
-}
+/// How often the clauses that led to a conflict are looked at for what they give without the decision.
+const PASSES: u32 = 4;
 
 impl Way {
     pub(crate) fn new(alloc: Global, variables: u32) -> Result<Way, AllocError> {
@@ -112,9 +108,9 @@ impl Way {
         Some(variable)
     }
 
-    /// Takes a decision back that led to a false clause. Where unit clauses lead from the false clause back to the decision,
-    /// each with one literal of the decision's level, they show what follows instead; else the decision is set false without
-    /// a reason.
+    /// Takes a decision back that led to a false clause; answers the number of a clause that is false even so. What the clauses
+    /// that led there give without the decision stays, with reasons. Where the decision isn't false by that, it is set false
+    /// without a reason.
     pub(crate) fn retract(
         &mut self,
         log: &Log,
@@ -122,62 +118,45 @@ impl Way {
         start: Mark,
         decision: Lit,
         conflict: u32,
-    ) -> Result<(), AllocError> {
-        let explained = self.lead_back(log, &state.trail, start.literals, decision, conflict)?;
+    ) -> Result<Option<u32>, AllocError> {
+        self.note_chain(&state.trail, start.literals, conflict)?;
         state.undo_to(start);
-        if !explained {
-            return state.trail.set(decision.negated(), 0);
+        for _ in 0..PASSES {
+            let before = state.trail.len();
+            for number in &self.chain {
+                match look_at(log, &state.trail, *number) {
+                    Look::Conflict => return Ok(Some(*number)),
+                    Look::Unit(literal) => state.trail.set(literal, *number)?,
+                    Look::Open | Look::Rests => {}
+                }
+            }
+            if state.trail.len() == before || state.trail.truth(decision) != Truth::Unset {
+                break;
+            }
         }
-        for given in &self.chain {
-            if state.trail.truth(given.literal) == Truth::Unset {
-                state.trail.set(given.literal, given.number)?;
+        if state.trail.truth(decision) == Truth::Unset {
+            state.trail.set(decision.negated(), 0)?;
+        }
+        Ok(None)
+    }
+
+    /// Notes a false clause and the reasons behind a place of the trail, from its end.
+    fn note_chain(&mut self, trail: &Trail, start: usize, conflict: u32) -> Result<(), AllocError> {
+        self.chain.clear();
+        self.note(conflict)?;
+        for place in (start..trail.len()).rev() {
+            if let Some(literal) = trail.literal(place) {
+                self.note(trail.reason(literal.variable()))?;
             }
         }
         Ok(())
     }
 
-    /// Follows the unit clauses from a false clause back to a decision; answers whether they lead there.
-    fn lead_back(
-        &mut self,
-        log: &Log,
-        trail: &Trail,
-        start: usize,
-        decision: Lit,
-        conflict: u32,
-    ) -> Result<bool, AllocError> {
-        self.chain.clear();
-        let mut number = conflict;
-        let mut below = trail.len();
-        for _ in start..trail.len() {
-            let Some(literal) = only_between(log, trail, number, start, below) else {
-                return Ok(false);
-            };
-            self.chain.push(Given { literal, number })?;
-            let variable = literal.variable();
-            if variable == decision.variable() {
-                return Ok(true);
-            }
-            number = trail.reason(variable);
-            below = trail.place(variable) as usize;
-            if number == 0 {
-                return Ok(false);
-            }
+    /// Notes a clause; 0 is none.
+    fn note(&mut self, number: u32) -> Result<(), AllocError> {
+        if number != 0 {
+            self.chain.push(number)?;
         }
-        Ok(false)
+        Ok(())
     }
-}
-
-/// The only literal of a clause with a place from `start` to below `end`.
-fn only_between(log: &Log, trail: &Trail, number: u32, start: usize, end: usize) -> Option<Lit> {
-    let mut only: Option<Lit> = None;
-    for literal in clause_of(log, number) {
-        let place = trail.place(literal.variable()) as usize;
-        if start <= place && place < end && trail.truth(*literal) == Truth::False {
-            if only.is_some() {
-                return None;
-            }
-            only = Some(*literal);
-        }
-    }
-    only
 }

@@ -9,7 +9,7 @@ use dist_derive::Log;
 use std::alloc::{AllocError, Global};
 
 /// How many decisions of a question may fail before it is given up.
-const TRIES: u32 = 24;
+const TRIES: u32 = 100;
 
 /// What is guessed.
 #[derive(Clone, Copy, Debug, PartialEq, Eq)]
@@ -232,7 +232,10 @@ impl Quick {
         level: Level,
         conflict: u32,
     ) -> Result<Option<u32>, AllocError> {
-        self.way.retract(log, &mut self.state, level.start, level.decision, conflict)?;
+        let still = self.way.retract(log, &mut self.state, level.start, level.decision, conflict)?;
+        if still.is_some() {
+            return Ok(still);
+        }
         self.state.propagate(log)
     }
 

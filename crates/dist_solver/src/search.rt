@@ -176,7 +176,7 @@ fn search(
             Descent::Model(values) => return Ok(Answer::Found(values)),
             Descent::Refutation(hints) => return Ok(Answer::Refuted(hints)),
             Descent::Lesson(clause, hints) => {
-                learn(log, derived, &clause, hints.as_slice())?;
+                learn(log, derived, assumptions, &clause, hints.as_slice())?;
                 guesses.learned(log.len());
             }
         }
@@ -213,10 +213,12 @@ fn next_end(
 fn learn(
     log: &mut Log,
     derived: &mut Derived,
+    assumptions: &[Lit],
     clause: &[Lit],
     hints: &[u32],
 ) -> Result<(), AskError>
-    requires { IsClauseOver log.old.variables clause.now }
+    requires assumptions { IsClauseOver log.old.variables assumptions.now }
+    requires clause { IsClauseOver log.old.variables clause.now }
     ensures { Learns log.old log.new derived.old derived.new clause.now hints.now result }
 {
     let number = log.len() + 1;
@@ -225,6 +227,17 @@ fn learn(
         derived.pop();
         return Err(AskError::from(cause));
     }
-    log.settle();
+    settle(log, assumptions);
     Ok(())
+}
+
+/// Takes in what the lines give, by themselves and under the first assumption, from which the next test of a lesson begins.
+fn settle(log: &mut Log, assumptions: &[Lit])
+    requires { IsClauseOver log.old.variables assumptions.now }
+    ensures { log.new ≡ log.old }
+{
+    log.settle();
+    if let Some(first) = assumptions.first() {
+        log.settle_under(*first);
+    }
 }

@@ -8,30 +8,39 @@ use dist_derive::{Log, Truth};
 use std::alloc::AllocError;
 
 impl Watched {
-    /// Begins a question. The cone is given by its variables, each once. What stood of the last question is undone.
+    /// Begins a question. The cone is given by its variables, each once. What stood of the last question is undone, but the
+    /// clauses that were copied stay where the cone and the log are the same.
     pub fn start(
         &mut self,
         log: &Log,
         cone: &[u32],
         assumptions: &[Lit],
     ) -> Result<(), AllocError> {
-        self.forget();
-        self.make_room()?;
-        self.enter(cone)?;
-        self.copy_clauses(log)?;
+        self.take_all_back();
+        self.order.clear(&self.cone);
+        self.restarts = Restarts::new();
+        if self.copied == 0 || self.copied != log.len() || self.cone.as_slice() != cone {
+            self.copy_anew(log, cone)?;
+        }
+        for variable in cone {
+            self.order.begin(*variable);
+        }
         self.assume(assumptions);
         self.take_units();
         Ok(())
     }
 
-    /// Undoes all that stands of the last question.
-    fn forget(&mut self) {
-        self.take_all_back();
+    /// Copies the clauses of a cone in place of those of the last question.
+    fn copy_anew(&mut self, log: &Log, cone: &[u32]) -> Result<(), AllocError> {
+        self.copied = 0;
         self.clauses.clear(&self.cone);
-        self.order.clear(&self.cone);
         self.units.clear();
-        self.restarts = Restarts::new();
         self.leave();
+        self.make_room()?;
+        self.enter(cone)?;
+        self.copy_clauses(log)?;
+        self.copied = log.len();
+        Ok(())
     }
 
     /// Takes all values back.
@@ -61,7 +70,6 @@ impl Watched {
             if let Some(inside) = self.inside.get_mut(*variable as usize) {
                 *inside = true;
             }
-            self.order.begin(*variable);
         }
         Ok(())
     }

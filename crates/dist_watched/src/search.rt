@@ -32,6 +32,8 @@ pub struct Watched {
     pub(crate) positives: Vec<u32>,
     pub(crate) noted: u32,
     pub(crate) clauses: Clauses,
+    /// How many clauses the log had when those of the cone were copied; 0: they are not.
+    pub(crate) copied: u32,
     /// The clauses of fewer than two literals.
     pub(crate) units: Vec<u32>,
     pub(crate) values: Values,
@@ -53,6 +55,7 @@ impl Watched {
             positives: Vec::new(alloc),
             noted: 0,
             clauses: Clauses::new(alloc),
+            copied: 0,
             units: Vec::new(alloc),
             values: Values::new(alloc),
             conflict: None,
@@ -81,7 +84,9 @@ impl Watched {
         let Some(first) = clause.first().copied() else {
             return Ok(());
         };
+        self.copied = 0;
         let name = self.clauses.add(clause, number)?;
+        self.copied = number;
         if self.values.is_unset(first) {
             self.values.make_true(first, name);
         }

@@ -1,41 +1,26 @@
-use Rattle.std.proofs.Common.{◌≡◌, ◌∙◌, ◌<◌, ◌≤◌, List, ℕ, true, false, ap, arith, get_or, length, nat_lt, refl, rules, subst, sym}
+use Rattle.std.proofs.Common.{◌≡◌, ◌∙◌, ◌<◌, ◌≤◌, List, ℕ, ap, arith, get_or, length, refl, subst, sym}
 use Rattle.std.specs.List.{Contains}
-use Rattle.std.specs.List.Sorted.{IsNonDecreasingBy, IsPartitionPoint}
-use Rattle.std.proofs.lemmas.Bool.{false≢true, ltb-true, ltb-false}
-use Rattle.std.proofs.lemmas.List.Sorted.{IsPartitionPoint-from_clause, IsPartitionedBy-ltb}
+use Rattle.std.proofs.lemmas.Bool.{false≢true}
 use Rattle.dist_clause.specs.Formula.{Literal, MakesTrue}
-use Rattle.dist_derive.specs.DenialsPrivate.{AreDenialsOf}
+use Rattle.dist_derive.specs.DenialsPrivate.{AreDenialsOf, StartsAt}
 use Rattle.dist_derive.proofs.DenialLemmas.{AreTrue, none-before, true-all, true-at-end, true-more}
 use Rattle.dist_derive.proofs.denials.Denials.are_true.Goals as goal
 
 pub loop-place-init : goal.loop-place-init
 loop-place-init c = λ value gives.
-    let pairs : List (ℕ × ℕ) = c.self.inside.pairs.items in
-    let clauses : List (List Literal) = c.args.clauses.now.clauses in
-    let rising = subst (IsNonDecreasingBy (λ (x : ℕ × ℕ). x.0)) (sym c.deref.ensures.value) c.self.invariant in
-    let part = subst (λ (xs : List (ℕ × ℕ)). IsPartitionPoint (λ y. nat_lt y.0 c.args.variable ≡ true) (λ y. nat_lt y.0 c.args.variable ≡ false) xs
-    c.partition_point-start.result) c.deref.ensures.value
-    (IsPartitionPoint-from_clause (λ (x : ℕ × ℕ). nat_lt x.0 c.args.variable) c.deref.result.now c.partition_point-start.result
-    c.partition_point-start.ensures.partitioned
-    (IsPartitionedBy-ltb (λ (x : ℕ × ℕ). x.0) c.deref.result.now c.args.variable rising) (λ a r f' k. search rules)) in
-    none-before value clauses pairs c.args.variable c.partition_point-start.result
-    (λ k d before. ltb-true (get_or pairs k d).0 c.args.variable (part.0 k d (omega arith) before))
+    let starts = subst (λ (ps : List (ℕ × ℕ)). StartsAt ps c.args.variable c.start_of-start.result) (sym c.self.view_is) c.start_of-start.ensures in
+    none-before value c.args.clauses.now.clauses c.self.inside.pairs.items c.args.variable c.start_of-start.result starts.before
 
 pub returns-then-denied-variable : goal.returns-then-denied-variable
 returns-then-denied-variable c = λ value gives.
     let pairs : List (ℕ × ℕ) = c.self.inside.pairs.items in
     let clauses : List (List Literal) = c.args.clauses.now.clauses in
-    let rising = subst (IsNonDecreasingBy (λ (x : ℕ × ℕ). x.0)) (sym c.deref.ensures.value) c.self.invariant in
-    let part = subst (λ (xs : List (ℕ × ℕ)). IsPartitionPoint (λ y. nat_lt y.0 c.args.variable ≡ true) (λ y. nat_lt y.0 c.args.variable ≡ false) xs
-    c.partition_point-start.result) c.deref.ensures.value
-    (IsPartitionPoint-from_clause (λ (x : ℕ × ℕ). nat_lt x.0 c.args.variable) c.deref.result.now c.partition_point-start.result
-    c.partition_point-start.ensures.partitioned
-    (IsPartitionedBy-ltb (λ (x : ℕ × ℕ). x.0) c.deref.result.now c.args.variable rising) (λ a r f' k. search rules)) in
+    let starts = subst (λ (ps : List (ℕ × ℕ)). StartsAt ps c.args.variable c.start_of-start.result) (sym c.self.view_is) c.start_of-start.ensures in
     let place = c.loop-place.place in
     let x : ℕ × ℕ = c.index.result.now in
     let here : get_or pairs place x ≡ x = sym c.index.ensures in
     let within : place < length pairs = omega (arith, c.loop-place-test.true, c.len-place-end.ensures) in
-    let low : c.args.variable ≤ (get_or pairs place x).0 = ltb-false (get_or pairs place x).0 c.args.variable (part.1 place x (omega arith) within) in
+    let low : c.args.variable ≤ (get_or pairs place x).0 = starts.behind place x (omega arith) within in
     let same : (get_or pairs place x).0 ≡ x.0 = ap (λ (y : ℕ × ℕ). y.0) here in
     let past : c.args.variable < x.0 = omega (arith, low, same, c.if-denied-variable.true) in (
       (λ yes. subst (λ (ps : List (ℕ × ℕ)). AreTrue value clauses ps c.args.variable) c.self.view_is

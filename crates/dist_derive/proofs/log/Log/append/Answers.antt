@@ -16,11 +16,14 @@ invariant_of-self c =
     omega (arith, ap (λ (s : ClauseList). length s.clauses) c.in-Ok.ensures.ok, length_push lines.clauses c.args.clause.now) in
     let both : (inputs.clauses ++ lines.clauses) ++ c.args.clause.now ∷ [] ≡ inputs.clauses ++ (lines.clauses ++ c.args.clause.now ∷ []) =
     append_assoc inputs.clauses lines.clauses (c.args.clause.now ∷ []) in
-    subst (λ (more : ClauseList). IsKept inputs more c.add_next.new.self c.self.inside.level) (sym c.in-Ok.ensures.ok)
+    subst (λ (more : ClauseList). IsKept inputs more c.add_next.new.self c.self.inside.level c.self.inside.under) (sym c.in-Ok.ensures.ok)
     (record {
       indexed = IsIndexed-line c.self.inside.inputs lines c.self.inside.occurrences c.add_next.new.self c.args.clause.now (c.len.result + c.len-in-Ok.result)
           c.self.invariant.indexed number c.add_next.ensures;
       level_of = IfSome_then c.self.inside.level c.self.invariant.level_of (λ l is.
-          subst (λ cs. IsLevelOf cs inputs.variables l.literals l.taken) both
-          (level_appended (inputs.clauses ++ lines.clauses) inputs.variables l.taken l.literals c.args.clause.now is));
+          subst (λ cs. IsLevelOf cs inputs.variables [] l.literals l.taken) both
+          (level_appended (inputs.clauses ++ lines.clauses) inputs.variables l.taken [] l.literals c.args.clause.now is));
+      under_of = IfSome_then c.self.inside.under c.self.invariant.under_of (λ u is.
+          subst (λ cs. IsLevelOf cs inputs.variables (u.literal ∷ []) u.level.literals u.level.taken) both
+          (level_appended (inputs.clauses ++ lines.clauses) inputs.variables u.level.taken (u.literal ∷ []) u.level.literals c.args.clause.now is));
     })

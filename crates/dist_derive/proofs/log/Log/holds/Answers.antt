@@ -1,4 +1,4 @@
-use Rattle.std.proofs.Common.{◌≡◌, ◌↔◌, Bool, IsTrue, List, ◌++◌, length, sym, subst, take}
+use Rattle.std.proofs.Common.{◌≡◌, ◌↔◌, IsTrue, List, ◌++◌, length, sym, subst, take}
 use Rattle.std.proofs.Math.Seq.{take-append_seam}
 use Rattle.dist_clause.specs.Formula.{Literal, IsModel}
 use Rattle.dist_derive.specs.ClauseLog.{ClauseLog, inputs_of}

@@ -14,8 +14,8 @@ is_left_unset-requires-clause-waiting c = λ number from to.
 pub returns-then-not-assume_all-clause-answer : goal.returns-then-not-assume_all-clause-answer
 returns-then-not-assume_all-clause-answer c = (
   λ e. absurd (false≢true e),
-  λ h. absurd (level_refuses c.args.self.now.clauses c.args.self.now.variables c.args.taken c.args.last c.args.literals.now.all c.assume_all.new.self.all
-      c.requires.level c.requires.within c.requires.last c.args.assumptions.now c.args.clause.now
+  λ h. absurd (level_refuses c.args.self.now.clauses c.args.self.now.variables c.args.taken c.args.last c.args.assumptions.now c.args.literals.now.all
+      c.assume_all.new.self.all c.requires.level c.requires.within c.requires.last c.args.clause.now
       (subst (λ b. AssumesAll c.args.literals.now.all c.assume_all.new.self.all c.args.assumptions.now b) c.if-not-assume_all.true
       c.assume_all.ensures.assumes) h),
 )
@@ -24,8 +24,8 @@ pub returns-clause-answer : goal.returns-clause-answer
 returns-clause-answer c =
     let clauses = take c.args.last c.args.self.now.clauses in
     let now = c.assume_all.new.self.all.literals in
-    let begins = level_begins c.args.self.now.clauses c.args.self.now.variables c.args.taken c.args.last c.args.literals.now.all c.assume_all.new.self.all
-    c.requires.level c.requires.within c.requires.last c.args.assumptions.now
+    let begins = level_begins c.args.self.now.clauses c.args.self.now.variables c.args.taken c.args.last c.args.assumptions.now c.args.literals.now.all
+    c.assume_all.new.self.all c.requires.level c.requires.within c.requires.last
     (subst (λ b. AssumesAll c.args.literals.now.all c.assume_all.new.self.all c.args.assumptions.now b) c.if-not-assume_all.false
     c.assume_all.ensures.assumes) in (
       λ e. unset_begins clauses c.args.assumptions.now now c.args.clause.now begins (c.is_left_unset.ensures.answer.0 e),

@@ -16,8 +16,8 @@ returns-then-not-assume_all-clause-answer c = (
       let place : last + 1 - 1 ≡ last = omega arith in
       let new = subst (λ k. IsNew (take k log.clauses) log.inputs c.args.assumptions.now (clause_at log.clauses (last + 1))) place
       (h (last + 1) (omega arith) (omega (arith, c.requires.last))) in
-      absurd (level_refuses log.clauses log.variables c.args.taken last c.args.literals.now.all c.assume_all.new.self.all c.requires.level
-      c.requires.within (omega (arith, c.requires.last)) c.args.assumptions.now (clause_at log.clauses (last + 1))
+      absurd (level_refuses log.clauses log.variables c.args.taken last c.args.assumptions.now c.args.literals.now.all c.assume_all.new.self.all
+      c.requires.level c.requires.within (omega (arith, c.requires.last)) (clause_at log.clauses (last + 1))
       (subst (λ b. AssumesAll c.args.literals.now.all c.assume_all.new.self.all c.args.assumptions.now b) c.if-not-assume_all.true
       c.assume_all.ensures.assumes) new.adds),
 )
@@ -29,8 +29,8 @@ loop-before-init c =
     c.assume_all.ensures.assumes in
     let level = c.requires.level in
     record {
-      begins = level_begins log.clauses log.variables c.args.taken c.args.taken c.args.literals.now.all c.assume_all.new.self.all level (omega arith)
-          level.within c.args.assumptions.now assumes;
+      begins = level_begins log.clauses log.variables c.args.taken c.args.taken c.args.assumptions.now c.args.literals.now.all
+          c.assume_all.new.self.all level (omega arith) level.within assumes;
       same_variables = assumes.same_variables ∙ level.same_variables;
       taken = omega (arith, c.len-done.ensures.value, assumes.longer);
       waiting = λ number from to. assumes.waiting c.len-done.result (clause_at log.clauses number) (omega (arith, c.len-done.ensures.value))

@@ -7,6 +7,7 @@ propagate-requires-clause-waiting c = open_waits c.args.self.now.clauses c.args.
     c.requires.level.within c.requires.level.all_open
 
 pub returns-then-propagate : goal.returns-then-propagate
-returns-then-propagate c = level_more c.args.self.now.clauses c.args.self.now.variables c.args.taken c.len-last.result c.args.literals.now.all
+returns-then-propagate c = level_more c.args.self.now.clauses c.args.self.now.variables c.args.taken c.len-last.result c.args.assumptions.now
+    c.args.literals.now.all
     c.propagate.new.literals.all c.requires.level (omega (arith, c.len-last.ensures.value, c.requires.level.within)) (omega (arith, c.len-last.ensures.value))
     c.propagate.ensures.grows (c.propagate.ensures.settled c.if-propagate.true)
