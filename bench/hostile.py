@@ -60,17 +60,36 @@ def futures(packages):
 # ---- the files
 
 def asked_by_many(n):
-    """Packages that ask for one version each of a name that as many provide, each at another version."""
-    asks = "".join(stanza(f"p{k:06}", more=f"Depends: a (= {k})\n") for k in range(n // 2))
-    offers = "".join(stanza(f"q{k:06}", more=f"Provides: a (= {k})\n") for k in range(n // 2))
+    """Packages that ask for one version each of a name that as many provide, each at another version, which is not its own."""
+    asks = "".join(stanza(f"p{k:06}", more=f"Depends: a (= {k + 2})\n") for k in range(n // 2))
+    offers = "".join(stanza(f"q{k:06}", more=f"Provides: a (= {k + 2})\n") for k in range(n // 2))
     return asks + offers, "".join(f"{letter}{k:06} 1\n" for letter in "pq" for k in range(n // 2))
 
 
 def rejecting_many(n):
     """Packages that conflict with one version each of a name that as many provide, each at a version between theirs."""
-    rejects = "".join(stanza(f"p{k:06}", more=f"Conflicts: a (= {k}.5)\n") for k in range(n // 2))
-    offers = "".join(stanza(f"q{k:06}", more=f"Provides: a (= {k})\n") for k in range(n // 2))
+    rejects = "".join(stanza(f"p{k:06}", more=f"Conflicts: a (= {k + 2}.5)\n") for k in range(n // 2))
+    offers = "".join(stanza(f"q{k:06}", more=f"Provides: a (= {k + 2})\n") for k in range(n // 2))
     return rejects + offers, "".join(f"{letter}{k:06} 1\n" for letter in "pq" for k in range(n // 2))
+
+
+def one_rejecting_many(n):
+    """A package in conflict with versions of a name that as many others provide, each at a version between them."""
+    rejects = ", ".join(f"a (= {k + 2}.5)" for k in range(n // 2))
+    return stanza("p", more=f"Conflicts: {rejects}\n") + "".join(stanza(f"q{k:06}", more=f"Provides: a (= {k + 2})\n") for k in range(n // 2))
+
+
+def many_rejecting_one(n):
+    """A package that provides versions of a name, and as many others in conflict with one version each between them."""
+    entries = ", ".join(f"a (= {k + 2})" for k in range(n // 2))
+    return stanza("p", more=f"Provides: {entries}\n") + "".join(stanza(f"q{k:06}", more=f"Conflicts: a (= {k + 2}.5)\n") for k in range(n // 2))
+
+
+def one_rejecting_one(n):
+    """A package that provides versions of a name, and one in conflict with versions between them."""
+    entries = ", ".join(f"a (= {k + 2})" for k in range(n // 2))
+    rejects = ", ".join(f"a (= {k + 2}.5)" for k in range(n // 2))
+    return stanza("p", more=f"Provides: {entries}\n") + stanza("q", more=f"Conflicts: {rejects}\n")
 
 
 def hints(n):
@@ -160,6 +179,11 @@ ROWS = {
     "the classes of one entry told again and again": (8_000, lambda n: classes(
         stanza("libx", more="Provides: " + ", ".join(["a (= 1)"] * n) + "\n") + stanza("p", more="Conflicts: " + ", ".join(f"a (>= {k})" for k in range(n)) + "\n"))),
     "the clauses of futures of so many entries": (8_000, lambda n: futures(many_entries(n))),
+    "the clauses of futures of so many packages that ask for a version of one name": (40_000, lambda n: futures(asked_by_many(n)[0])),
+    "the clauses of futures of so many packages in conflict with a version of one name": (40_000, lambda n: futures(rejecting_many(n)[0])),
+    "the clauses of futures of one package in conflict with so many versions of a name": (40_000, lambda n: futures(one_rejecting_many(n))),
+    "the clauses of futures of so many packages in conflict with a version that one provides": (40_000, lambda n: futures(many_rejecting_one(n))),
+    "the clauses of futures of one package in conflict with so many versions that one provides": (40_000, lambda n: futures(one_rejecting_one(n))),
     "the clauses of futures of one alternative told again and again": (20_000, lambda n: futures(
         "".join(stanza(f"p{k}", more="Provides: x\n") for k in range(n)) + stanza("q", more="Depends: " + " | ".join(["x"] * (n // 20)) + "\n"))),
     "the clauses of futures of one conflict told again and again": (20_000, lambda n: futures(

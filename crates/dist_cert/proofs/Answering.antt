@@ -19,6 +19,7 @@ use Rattle.dist_cert.specs.declared.records.Header.{Header}
 use Rattle.dist_cert.specs.Refusal.{IsOneLine, BeginsWith, IsTooLong}
 use Rattle.dist_cert.specs.Reading.{ReaderView, in_front, text_left, WhereTold, PassesWhole, KeepsLimits, HeaderAnswers, RecordAnswers}
 use Rattle.dist_cert.specs.Reading.{HeaderOfSome, RecordOfSome}
+use Rattle.dist_cert.specs.FirstLine.{IsLineNext, FirstAnswers, FirstOfSome}
 use Rattle.dist_cert.specs.Held.{Held}
 use Rattle.dist_cert.specs.LineReadingPrivate.{unread, held_text, text_held, Ends, EndsAt, EndsAtSome, HasFeed, HasEnd, AtFileEnd}
 use Rattle.dist_cert.specs.LooseHeaderPrivate.{IsReadAs, IsReadAsHeader}
@@ -116,6 +117,24 @@ module _ (limits : Limits) (given lines : ℕ) (ended : Bool) (old new : Held) (
       (passed limits given new (feed limits given new reached at end) (text_held old left) (unread after) _ (reached_as Feed at)
       (λ rest more keeps line_is. record { limits = keeps; line = new.line; begins = line_is; form = form })))
 
+  -- ---- the first line, whatever its form
+
+  pub first_cut : reached ≡ File → (line : ℕ) (error : ReadCertError) → error ≡ Bad (record { line = line; cause = causes.Truncated })
+      → WhereTold (text_left r left) (text_held new after) (λ rest more. FirstAnswers r rest more (Err error))
+  first_cut at line error e =
+      subst (λ x. WhereTold (text_left r left) (text_held new after) (λ rest more. FirstAnswers r rest more (Err x))) (sym e)
+      (opened (λ v rest more. FirstAnswers v rest more (Err (Bad (record { line = line; cause = causes.Truncated })))) (text_held new after)
+      (told_weaker (text_held old left) (text_held new after) _ _
+      (λ rest more h. ((h.1.0, subst IsOneLine (sym h.1.1) (subst (HasEnd limits given new) at end)), h.0)) (reached_as File at)))
+
+  pub first_ok : reached ≡ Feed → (line : List ℕ) → line ≡ new.line → (next : Held) → next ≡ record { line = []; behind = drop 1 new.behind }
+      → WhereTold (text_left r left) (text_held next after) (λ rest more. FirstAnswers r rest more (Ok line))
+  first_ok at line same next on =
+      subst (λ n. WhereTold (text_left r left) (text_held n after) (λ rest more. FirstAnswers r rest more (Ok line))) (sym on)
+      (opened (λ v rest more. FirstAnswers v rest more (Ok line)) (in_front ([] ++ drop 1 new.behind) (unread after))
+      (passed limits given new (feed limits given new reached at end) (text_held old left) (unread after) _ (reached_as Feed at)
+      (λ rest more keeps line_is. record { limits = keeps; begins = subst (λ l. BeginsWith rest l more) (sym same) line_is })))
+
   -- ---- a later line
 
   record_end : reached ≡ File → ended ≡ true → new.line ≡ []
@@ -205,6 +224,12 @@ module _ (limits : Limits) (given lines : ℕ) (ended : Bool) (old new : Held) (
         subst (λ line. HeaderAnswers r (line ++ line_feed ∷ more) more (Ok h)) form.text
         (subst (λ v. HeaderAnswers v (new.line ++ line_feed ∷ more) more (Ok h)) is
         (record { limits = feed_some at more; line = new.line; begins = line_begins at more; form = form }))
+
+    pub first_ok_some : reached ≡ Feed → (line : List ℕ) → line ≡ new.line → FirstOfSome r (Ok line)
+    first_ok_some at line same = λ more.
+        subst (λ l. IsLineNext r (l ++ line_feed ∷ more) more l) (sym same)
+        (subst (λ v. IsLineNext v (new.line ++ line_feed ∷ more) more new.line) is
+        (record { limits = feed_some at more; begins = line_begins at more }))
 
     pub record_long_some : reached ≡ Within → (line : ℕ) (error : ReadCertError) → error ≡ Bad (record { line = line; cause = causes.LineTooLong })
         → RecordOfSome r (Err error)

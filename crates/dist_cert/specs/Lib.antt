@@ -9,6 +9,7 @@ pub mod ClaimRules
 pub mod LineRules
 pub mod Refusal
 pub mod Reading
+pub mod FirstLine
 pub mod Held
 pub mod LineReadingPrivate
 pub mod LooseWords

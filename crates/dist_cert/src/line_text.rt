@@ -175,6 +175,14 @@ pub(crate) fn add_header(text: &mut Vec<u8>, header: &Header) -> Result<(), Allo
     end_line(text)
 }
 
+/// Adds a line, with its line feed.
+pub(crate) fn add_line(text: &mut Vec<u8>, line: &[u8]) -> Result<(), AllocError>
+    ensures { OnOk result (text.new.items ≡ text.old.items ++ ended line.now) }
+{
+    text.extend_from_slice(line)?;
+    end_line(text)
+}
+
 /// Adds the line feed.
 fn end_line(text: &mut Vec<u8>) -> Result<(), AllocError>
     ensures { OnOk result (text.new.items ≡ text.old.items ++ 10 ∷ []) }

@@ -62,6 +62,13 @@ impl Lines {
         &self.line
     }
 
+    /// A copy of the line, as far as it came.
+    pub(crate) fn line_copy(&self) -> Result<Vec<u8>, AllocError>
+        ensures { IfOk result (λ line. line.items ≡ self.now.line) }
+    {
+        Ok(self.line.clone()?)
+    }
+
     /// Leaves the line behind, once its line feed is next.
     pub(crate) fn pass_line(&mut self)
         requires { 0 < length self.old.behind }

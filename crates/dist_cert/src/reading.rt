@@ -3,6 +3,7 @@ ghost use Rattle.std.specs.Prelude.{◌≡◌, ◌+◌, ◌-◌, ◌^◌, ◌<�
 ghost use Rattle.dist_outside.specs.Files.{IsReading};
 ghost use Rattle.dist_outside.specs.DeskView.{OnlyReads};
 ghost use Rattle.dist_cert.specs.LineReadingPrivate.{AtFileEnd};
+ghost use Rattle.dist_cert.specs.FirstLine.{bytes_of, FirstAnswers, FirstCause, FirstOfSome, GivesFirst};
 ghost use Rattle.dist_cert.specs.Reading.{text_left, WhereTold, HeaderAnswers, HeaderCause, HeaderOfSome, GivesHeader, RecordAnswers, RecordCause, RecordOfSome, GivesRecord};
 
 use crate::faults::{CertCause, CertFault, ReadCertError};
@@ -75,8 +76,8 @@ impl Model for Reader {
 
     ghost view = { λ r. record { limits = r.limits; held = r.text.line ++ r.text.behind; given = r.done.given; lines = r.done.lines; ended = r.done.ended } };
 
-    // A line that is given has a byte and its line feed, so that lines can be counted.
-    ghost invariant = { λ r. (r.done.given ≤ r.limits.certificate) × (2 * r.done.lines ≤ r.done.given) };
+    // A line that is given has a byte and its line feed, but perhaps the first, so that lines can be counted.
+    ghost invariant = { λ r. (r.done.given ≤ r.limits.certificate) × (2 * r.done.lines ≤ r.done.given + 1) };
 }
 
 impl Reader {
@@ -127,6 +128,31 @@ impl Reader {
                     Ok(header)
                 }
             },
+        }
+    }
+
+    /// The first line without its line feed, whatever its form. It is asked for in place of the header.
+    pub fn first<D: Desk>(&mut self, desk: &mut D) -> Result<Vec<u8>, ReadCertError>
+        requires reading { IsReading (D.view desk.old).mode }
+        requires nothing { self.old.lines ≡ 0 }
+        ensures text { WhereTold (text_left self.old (D.view desk.old)) (text_left self.new (D.view desk.new))
+            (λ rest more. FirstAnswers self.old rest more (bytes_of (λ line. line.items) result)) }
+        ensures cause { FirstCause self.old self.new (D.view desk.old) (D.view desk.new) (bytes_of (λ line. line.items) result) }
+        ensures some { FirstOfSome self.old (bytes_of (λ line. line.items) result) }
+        ensures gives { GivesFirst self.old self.new (bytes_of (λ line. line.items) result) }
+        ensures reading { IsReading (D.view desk.new).mode }
+        ensures only_reads { OnlyReads (D.view desk.old) (D.view desk.new) }
+    {
+        let reached = self.text.read_line(desk, &self.limits, self.done.given)?;
+        match reached {
+            Reached::Within => Err(self.done.bad(CertCause::LineTooLong)),
+            Reached::File => Err(self.done.bad(CertCause::Truncated)),
+            Reached::Feed => {
+                let line = self.text.line_copy()?;
+                self.done.pass(self.text.line());
+                self.text.pass_line();
+                Ok(line)
+            }
         }
     }
 

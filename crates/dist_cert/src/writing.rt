@@ -3,9 +3,10 @@ ghost use Rattle.std.specs.Prelude.{◌≡◌, ◌+◌, ◌≤◌, length, IfOk,
 ghost use Rattle.dist_outside.specs.Files.{IsWriting};
 ghost use Rattle.dist_outside.specs.DeskView.{FileGrew, FileGrewByFront};
 ghost use Rattle.dist_cert.specs.Form.{record_text, header_text, KeepsRules, KeepsLimit};
+ghost use Rattle.dist_cert.specs.Refusal.{IsOneLine};
 ghost use Rattle.dist_cert.specs.Writing.{WriterView, PutAnswers, WritesNothing, ended, after_line};
 
-use crate::line_text::{add_header, add_record};
+use crate::line_text::{add_header, add_line, add_record};
 use crate::records::{CertRecord, Header};
 use dist_outside::{Desk, Limits, What, WorkError, desk_write_whole, file_grows};
 use std::alloc::Global;
@@ -59,6 +60,32 @@ impl Writer {
         file_grows();
         self.line.clear();
         add_header(&mut self.line, header)?;
+        self.written = write_line(
+            desk,
+            &self.line,
+            self.line_limit,
+            self.whole_limit,
+            self.written,
+        )?;
+        Ok(())
+    }
+
+    /// Writes a first line of another form in place of a header, without its line feed, to the end of the file that is being
+    /// written.
+    pub fn put_first<D: Desk>(&mut self, desk: &mut D, line: &[u8]) -> Result<(), WorkError>
+        requires writing { IsWriting (D.view desk.old).mode }
+        requires nothing { self.old.written ≡ 0 }
+        requires one_line { IsOneLine line.now }
+        ensures appended { OnOk result (FileGrew (ended line.now) (D.view desk.old) (D.view desk.new)) }
+        ensures counted { OnOk result (self.new ≡ after_line self.old (ended line.now)) }
+        ensures answers { PutAnswers self.old (ended line.now) (D.view desk.old) (D.view desk.new) result }
+        ensures nothing { WritesNothing (D.view desk.old) (D.view desk.new) result }
+        ensures front { OnErr result (FileGrewByFront (ended line.now) (D.view desk.old) (D.view desk.new)) }
+        ensures stays { OnErr result (self.new ≡ self.old) }
+    {
+        file_grows();
+        self.line.clear();
+        add_line(&mut self.line, line)?;
         self.written = write_line(
             desk,
             &self.line,

@@ -208,14 +208,20 @@ const MANY: [Many; 4] = [
     ),
 ];
 
-/// The text of a row of many installations.
-fn text_of(alloc: Global, row: &Many) -> Option<Vec<u8>> {
+/// A first line, and behind it so many times the installation of variables 1 and 2.
+pub(crate) fn installed_again(alloc: Global, first: &str, times: usize) -> Option<Vec<u8>> {
     let mut text = Vec::new(alloc);
-    text.extend_from_slice(b"distfuture-certificate 1 strong plain 10000 2 2 1\n")
-        .ok()?;
-    for _ in 0..row.0 {
+    text.extend_from_slice(first.as_bytes()).ok()?;
+    for _ in 0..times {
         text.extend_from_slice(b"m 1 2\n").ok()?;
     }
+    Some(text)
+}
+
+/// The text of a row of many installations.
+fn text_of(alloc: Global, row: &Many) -> Option<Vec<u8>> {
+    let first = "distfuture-certificate 1 strong plain 10000 2 2 1\n";
+    let mut text = installed_again(alloc, first, row.0)?;
     text.extend_from_slice(b"q 1 -2\nf 1\n").ok()?;
     text.extend_from_slice(row.1.as_bytes()).ok()?;
     text.extend_from_slice(b"q 2\nm 2\n").ok()?;

@@ -1,13 +1,16 @@
 //! Certificates that are judged by futures and refused, each at the line and for the cause of its first fault.
-use crate::faults::{Edit, Text, hold_edits, hold_texts};
+use crate::faults::{Edit, Text, hold_edits, hold_texts, installed_again};
 use crate::future_certificates::{
     BROKEN, CROWDED, ESSENTIAL, FOUR, MARKED, MOVING, OLD, SHUT_OUT, STALE,
 };
 use dist_cert::CertCause::{
-    BadHeader, BadLine, Incomplete, LimitNotReached, NotAFuture, NotAnInstallation, NotNew,
+    self, BadHeader, BadLine, Incomplete, LimitNotReached, NotAFuture, NotAnInstallation, NotNew,
     OutOfOrder, OutOfRange, UnknownLine, WrongClaim,
 };
+use dist_outside::Limits;
 use dist_samples::LIBRARY;
+use dist_verdicts::{at, fault_of, is_accepted};
+use std::alloc::Global;
 use std::process::Abort;
 
 /// Of the certificate of outdated packages.
@@ -197,4 +200,58 @@ const TEXTS: [Text; 2] = [
 #[test]
 fn texts_on_futures_are_refused(rt: HostRuntime) {
     hold_texts(&rt, &TEXTS);
+}
+
+/// A package without relations.
+const ONE: &str = "Package: a\nVersion: 1\n";
+
+/// First lines over it: variable 1 says that the archive is as it is, and 2 that the package is there.
+const IF_OUTDATED: &str = "distfuture-certificate 1 outdated plain 10000 1 4 3\n";
+
+const IF_CHALLENGED: &str = "distfuture-certificate 1 challenged plain 10000 1 4 3\n";
+
+/// A first line, how many installations stand behind it, the last lines, and the line and the cause of the refusal, where there is
+/// one.
+type Many = (&'static str, usize, &'static str, Option<(u64, CertCause)>);
+
+/// The latest 1,024 installations may be named.
+const MANY: [Many; 6] = [
+    (IF_OUTDATED, 1024, "a 1 1\ne\n", None),
+    (IF_OUTDATED, 1025, "a 1 1\ne\n", Some((1027, WrongClaim))),
+    (IF_OUTDATED, 1025, "a 1 2\ne\n", None),
+    (IF_CHALLENGED, 1024, "c 1 1 0 0\ne\n", None),
+    (
+        IF_CHALLENGED,
+        1025,
+        "c 1 1 0 0\ne\n",
+        Some((1027, WrongClaim)),
+    ),
+    (IF_CHALLENGED, 1025, "c 1 2 0 0\ne\n", None),
+];
+
+/// Whether a row is refused as it says, or is accepted where it says so.
+fn is_judged(alloc: Global, row: &Many) -> Option<bool> {
+    let mut text = installed_again(alloc, row.0, row.1)?;
+    text.extend_from_slice(row.2.as_bytes()).ok()?;
+    Some(match row.3 {
+        Some((line, cause)) => fault_of(alloc, ONE, &text, &Limits::stated()) == at(line, cause),
+        None => is_accepted(alloc, ONE, &text),
+    })
+}
+
+fn hold_many(rt: &(impl Abort + AllocGlobal), rows: &[Many]) {
+    for row in rows {
+        assert_eq!(rt;
+            is_judged(rt.alloc(), row),
+            Some(true),
+            "{}, {}",
+            row.1,
+            row.2
+        );
+    }
+}
+
+#[test]
+fn the_latest_1024_installations_of_futures_may_be_named(rt: HostRuntime) {
+    hold_many(&rt, &MANY);
 }

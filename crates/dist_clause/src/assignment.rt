@@ -1,6 +1,6 @@
 //! Assignments, each a row of truth values, and the test whether one is a model.
 
-ghost use Rattle.std.specs.Prelude.{◌≡◌, ◌&&◌, ◌+◌, ◌-◌, ◌<◌, ◌≤◌, ◌↔◌, ℕ, true, false, All, length, replicate, IfNone, IfOk, IfSome, IsTrue, slice_set};
+ghost use Rattle.std.specs.Prelude.{◌≡◌, ◌&&◌, ◌+◌, ◌-◌, ◌<◌, ◌≤◌, ◌↔◌, [], ℕ, true, false, All, length, replicate, IfNone, IfOk, IfSome, IsTrue, slice_set};
 ghost use Rattle.dist_clause.specs.Formula.{value_of, MakesTrue, IsModel};
 ghost use Rattle.dist_lanes.specs.Rows.{both};
 
@@ -33,6 +33,15 @@ impl Assignment {
     {
         let values = Row::new(alloc, variables as usize)?;
         Ok(Assignment { values })
+    }
+
+    /// No variable. It takes no memory.
+    pub fn empty(alloc: Global) -> Assignment
+        ensures { result ≡ [] }
+    {
+        Assignment {
+            values: Row::empty(alloc),
+        }
     }
 
     pub fn value(&self, variable: u32) -> bool

@@ -1,5 +1,5 @@
 -- What the first clauses of a log give by themselves, and where a test begins from it.
-use Rattle.std.proofs.Common.{◌≡◌, ℕ, ◌≤◌, Option, Some, inl, true, false, List, [], ◌∷◌, ◌++◌, length, take, refl, ap, sym, subst, ◌∙◌, arith}
+use Rattle.std.proofs.Common.{◌≡◌, ℕ, ◌≤◌, inl, true, false, List, [], ◌∷◌, ◌++◌, length, take, refl, ap, sym, subst, ◌∙◌, append_assoc, None, IsTrue, arith}
 use Rattle.std.specs.List.{All, Contains}
 use Rattle.std.proofs.lemmas.List.{length_push, take-append-le, append-nil}
 use Rattle.std.proofs.lemmas.List.Elements.{All-nil}
@@ -12,7 +12,7 @@ use Rattle.dist_derive.specs.TrueLiterals.{LiteralList, HasOutcome}
 use Rattle.dist_derive.specs.declared.true_literals.Outcome.TheVariants.{Open}
 use Rattle.dist_derive.specs.SweepPrivate.{IsForced, AllOpen, WaitUpTo, Propagates}
 use Rattle.dist_derive.specs.LayersPrivate.{AssumesAll}
-use Rattle.dist_derive.specs.LevelPrivate.{IsLevelOf}
+use Rattle.dist_derive.specs.LevelPrivate.{LevelState, assumed, IsLevelOf, IsMadeOf}
 use Rattle.dist_derive.proofs.AssumeLemmas.{ContainsAll-then}
 use Rattle.dist_derive.proofs.WaitLemmas.{All-number, All-from_numbers}
 
@@ -20,9 +20,6 @@ use Rattle.dist_derive.proofs.WaitLemmas.{All-number, All-from_numbers}
 pub record Begins (clauses : List (List Literal)) (assumptions trues : List Literal) : Type 0 where
   pub assumed : ContainsAll trues assumptions
   pub forced : (more : List Literal) → ContainsAll more assumptions → All (IsPropagated more) clauses → ContainsAll more trues
-
-some_is : (a b : LiteralList) → Some a ≡ Some b → a ≡ b
-some_is a b e = cc
 
 pub grown_begins : (clauses : List (List Literal)) (old new : LiteralList) → Propagates clauses old new → Begins clauses old.literals new.literals
 grown_begins clauses old new grows = record { assumed = grows.kept; forced = λ more all propagated. grows.forced more all propagated }
@@ -63,7 +60,6 @@ module _ (clauses : List (List Literal)) where
     all_open = All-nil (λ c. HasOutcome s.literals c Open);
   }
 
-  -- over room for others, which has no literal
   -- what fewer assumptions force, more of them do
   pub level_under : (variables taken : ℕ) (few many : List Literal) (s : LiteralList) → IsLevelOf clauses variables few s taken → ContainsAll many few
       → IsLevelOf clauses variables many s taken
@@ -74,15 +70,22 @@ module _ (clauses : List (List Literal)) where
     all_open = level.all_open;
   }
 
-  pub level_over : (variables taken : ℕ) (assumptions : List Literal) (s all : LiteralList) (room : Option LiteralList) (taken_room literals : LiteralList)
-      → IsLevelOf clauses variables assumptions s taken → all ≡ record taken_room { literals = s.literals ++ taken_room.literals } → room ≡ Some taken_room
-      → room ≡ Some literals → literals.literals ≡ [] → literals.variables ≡ variables → IsLevelOf clauses variables assumptions all taken
-  level_over variables taken assumptions s all room taken_room literals level is first second none same =
-      let e : taken_room ≡ literals = some_is taken_room literals (sym first ∙ second) in
-      let no_literal : taken_room.literals ≡ [] = ap (λ (t : LiteralList). t.literals) e ∙ none in
-      let joined : s.literals ++ taken_room.literals ≡ s.literals = ap (λ ts. s.literals ++ ts) no_literal ∙ append-nil s.literals in
-      let variables_are : taken_room.variables ≡ s.variables = ap (λ (t : LiteralList). t.variables) e ∙ (same ∙ sym level.same_variables) in
-      let all_is : all ≡ s = is ∙ both (s.literals ++ taken_room.literals) s.literals taken_room.variables s.variables joined variables_are in
+  -- above no literal
+  pub level_above : (variables taken : ℕ) (assumptions : List Literal) (s all nothing : LiteralList)
+      → IsLevelOf clauses variables assumptions s taken → all ≡ record s { literals = nothing.literals ++ s.literals }
+      → nothing.literals ≡ [] → IsLevelOf clauses variables assumptions all taken
+  level_above variables taken assumptions s all nothing level is none =
+      subst (λ t. IsLevelOf clauses variables assumptions t taken) (sym (is ∙ ap (λ ts. record s { literals = ts ++ s.literals }) none)) level
+
+  -- over room for others, which has no literal
+  pub level_over : (variables taken : ℕ) (assumptions : List Literal) (s all room literals : LiteralList)
+      → IsLevelOf clauses variables assumptions s taken → all ≡ record room { literals = s.literals ++ room.literals }
+      → room ≡ literals → literals.literals ≡ [] → literals.variables ≡ variables → IsLevelOf clauses variables assumptions all taken
+  level_over variables taken assumptions s all room literals level is e none same =
+      let no_literal : room.literals ≡ [] = ap (λ (t : LiteralList). t.literals) e ∙ none in
+      let joined : s.literals ++ room.literals ≡ s.literals = ap (λ ts. s.literals ++ ts) no_literal ∙ append-nil s.literals in
+      let variables_are : room.variables ≡ s.variables = ap (λ (t : LiteralList). t.variables) e ∙ (same ∙ sym level.same_variables) in
+      let all_is : all ≡ s = is ∙ both (s.literals ++ room.literals) s.literals room.variables s.variables joined variables_are in
       subst (λ t. IsLevelOf clauses variables assumptions t taken) (sym all_is) level
     where
       both : (ls ms : List Literal) (n m : ℕ) → ls ≡ ms → n ≡ m
@@ -144,15 +147,31 @@ module _ (clauses : List (List Literal)) where
         all_open = subst (λ cs. AllOpen s.literals cs) same level.all_open;
       }
 
+-- a level, where there is one, stays one when a line comes
+pub made_appended : (inputs lines : List (List Literal)) (variables : ℕ) (clause : List Literal) (level : LevelState)
+    → IsMadeOf (inputs ++ lines) variables level → IsMadeOf (inputs ++ (lines ++ clause ∷ [])) variables level
+made_appended inputs lines variables clause level is made =
+    subst (λ cs. IsLevelOf cs variables (assumed level.under) level.literals level.taken) (append_assoc inputs lines (clause ∷ []))
+    (level_appended (inputs ++ lines) variables level.taken (assumed level.under) level.literals clause (is made))
+
 -- what is kept of a log's clauses is a level of the log, under more assumptions too
-pub kept_start : (inside log : ClauseLog) (few many : List Literal) (s start : LiteralList) (taken n : ℕ)
-    → IsLevelOf inside.clauses inside.variables few s taken → inside ≡ log → ContainsAll many few → start ≡ s → n ≡ taken
-    → IsLevelOf log.clauses log.variables many start n
-kept_start inside log few many s start taken n level here among is number =
+pub kept_start : (inside log : ClauseLog) (many : List Literal) (level : LevelState) (start : LiteralList) (n : ℕ)
+    → IsMadeOf inside.clauses inside.variables level → IsTrue level.is_made → inside ≡ log → ContainsAll many (assumed level.under)
+    → start ≡ level.literals → n ≡ level.taken → IsLevelOf log.clauses log.variables many start n
+kept_start inside log many level start n is made here among literals number =
     subst (λ k. IsLevelOf log.clauses log.variables many start k) (sym number)
-    (subst (λ t. IsLevelOf log.clauses log.variables many t taken) (sym is)
-    (level_under log.clauses log.variables taken few many s
-    (subst (λ (l : ClauseLog). IsLevelOf l.clauses l.variables few s taken) here level) among))
+    (subst (λ t. IsLevelOf log.clauses log.variables many t level.taken) (sym literals)
+    (level_under log.clauses log.variables level.taken (assumed level.under) many level.literals
+    (subst (λ (l : ClauseLog). IsMadeOf l.clauses l.variables level) here is made) among))
+
+-- what is kept without an assumption, and a copy of it
+pub alone_level : (inside log : ClauseLog) (level copy : LevelState) → IsMadeOf inside.clauses inside.variables level → level.under ≡ None
+    → IsTrue level.is_made → inside ≡ log → copy ≡ level → IsLevelOf log.clauses log.variables [] copy.literals copy.taken
+unfolding assumed
+alone_level inside log level copy is alone made here copied =
+    subst (λ (l : LevelState). IsLevelOf log.clauses log.variables [] l.literals l.taken) (sym copied)
+    (subst (λ a. IsLevelOf log.clauses log.variables (assumed a) level.literals level.taken) alone
+    (subst (λ (l : ClauseLog). IsMadeOf l.clauses l.variables level) here is made))
 
 pub begins_unset : (clauses : List (List Literal)) (assumptions trues clause : List Literal) → Begins clauses assumptions trues
     → LeavesFirstUnset clauses assumptions clause → LeavesFirstUnset clauses trues clause

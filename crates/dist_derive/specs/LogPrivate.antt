@@ -1,9 +1,8 @@
 -- What a log keeps beside its clauses: an index of them, and what they give.
-use Rattle.std.specs.Prelude.{◌≡◌, [], ◌∷◌, Option, IfSome}
+use Rattle.std.specs.Prelude.{◌≡◌, None}
 use Rattle.dist_clause.specs.ClauseList.{ClauseList}
 use Rattle.dist_derive.specs.ClauseLog.{joined}
-use Rattle.dist_derive.specs.LevelPrivate.{LevelState, IsLevelOf}
-use Rattle.dist_derive.specs.declared.level.Under.{Under}
+use Rattle.dist_derive.specs.LevelPrivate.{LevelState, IsMadeOf}
 use Rattle.dist_derive.specs.OccurrencesPrivate.{OccurrenceLists, IsIndexOf}
 
 -- input clauses and lines are over the same variables, and the index is one of both
@@ -12,9 +11,8 @@ pub record IsIndexed (inputs lines : ClauseList) (index : OccurrenceLists) : Typ
   pub is_index : IsIndexOf index (joined inputs lines).clauses
 
 -- the index, and where there are such the levels, are those of the clauses
-pub record IsKept (inputs lines : ClauseList) (index : OccurrenceLists) (level : Option LevelState)
-    (under : Option Under) : Type 0 where
+pub record IsKept (inputs lines : ClauseList) (index : OccurrenceLists) (alone assuming : LevelState) : Type 0 where
   pub indexed : IsIndexed inputs lines index
-  pub level_of : IfSome level (λ l. IsLevelOf (joined inputs lines).clauses inputs.variables [] l.literals l.taken)
-  pub under_of : IfSome under (λ u. IsLevelOf (joined inputs lines).clauses inputs.variables (u.literal ∷ [])
-      u.level.literals u.level.taken)
+  pub alone_of : IsMadeOf (joined inputs lines).clauses inputs.variables alone
+  pub no_assumption : alone.under ≡ None
+  pub assuming_of : IsMadeOf (joined inputs lines).clauses inputs.variables assuming

@@ -116,6 +116,14 @@ fn starts_of(
 }
 
 impl Denials {
+    /// Those of no clauses. It takes no memory.
+    pub(crate) fn empty(alloc: Global) -> Denials {
+        Denials {
+            pairs: Vec::new(alloc),
+            starts: Vec::new(alloc),
+        }
+    }
+
     /// The denials of some clauses.
     pub(crate) fn new(alloc: Global, clauses: &ClauseSet) -> Result<Denials, AllocError>
         ensures { IfOk result (AreDenialsOf clauses.now.clauses) }

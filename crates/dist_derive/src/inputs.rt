@@ -16,12 +16,13 @@ use std::marker::Model;
 #[derive(Debug, Drop)]
 pub(crate) struct Inputs {
     clauses: ClauseSet,
-    /// There are none until the clauses are indexed.
-    denials: Option<Denials>,
+    /// Those of the clauses, once these are indexed.
+    denials: Denials,
+    is_indexed: bool,
 }
 
 impl Model for Inputs {
-    ghost use Rattle.std.specs.Prelude.{IfSome};
+    ghost use Rattle.std.specs.Prelude.{IsTrue};
     ghost use Rattle.dist_clause.specs.ClauseList.{ClauseList};
     ghost use Rattle.dist_derive.specs.DenialsPrivate.{AreDenialsOf};
 
@@ -29,17 +30,18 @@ impl Model for Inputs {
 
     ghost view = { λ a. a.clauses };
 
-    ghost invariant = { λ a. IfSome a.denials (AreDenialsOf a.clauses.clauses) };
+    ghost invariant = { λ a. IsTrue a.is_indexed → AreDenialsOf a.clauses.clauses a.denials };
 }
 
 impl Inputs {
     /// Clauses that are not indexed.
-    pub(crate) fn of(clauses: ClauseSet) -> Inputs
+    pub(crate) fn of(alloc: Global, clauses: ClauseSet) -> Inputs
         ensures { result ≡ clauses }
     {
         Inputs {
             clauses,
-            denials: None,
+            denials: Denials::empty(alloc),
+            is_indexed: false,
         }
     }
 
@@ -47,8 +49,9 @@ impl Inputs {
     pub(crate) fn index(&mut self, alloc: Global) -> Result<(), AllocError>
         ensures { self.new ≡ self.old }
     {
-        if self.denials.is_none() {
-            self.denials = Some(Denials::new(alloc, &self.clauses)?);
+        if !self.is_indexed {
+            self.denials = Denials::new(alloc, &self.clauses)?;
+            self.is_indexed = true;
         }
         Ok(())
     }
@@ -82,9 +85,10 @@ impl Inputs {
         ensures { (value : ℕ → Bool) → GivesTrue value trues.now.members
             → IsTrue result ↔ IsModel value self.now.clauses }
     {
-        match &self.denials {
-            Some(denials) => denials.hold(&self.clauses, trues),
-            None => hold(&self.clauses, trues),
+        if self.is_indexed {
+            self.denials.hold(&self.clauses, trues)
+        } else {
+            hold(&self.clauses, trues)
         }
     }
 }

@@ -16,6 +16,7 @@ mod inputs;
 mod laws;
 mod layers;
 mod level;
+mod levels;
 mod log;
 mod new_lines;
 mod newness;

@@ -11,10 +11,8 @@ ghost use Rattle.dist_derive.specs.LevelPrivate.{IsLevelOf};
 ghost use Rattle.dist_derive.specs.LogPrivate.{IsIndexed};
 
 use crate::inputs::Inputs;
-use crate::layers::Layers;
-use crate::level::{Level, Start, Under, begin_with};
+use crate::level::Level;
 use crate::occurrences::{Link, Occurrences, code_of};
-use crate::true_literals::TrueLiterals;
 use crate::variable_set::VariableSet;
 use dist_base::{MAX_CLAUSES, MAX_LINE_LITERALS, MAX_LINES, MAX_VARIABLES};
 use dist_clause::{ClauseSet, Lit, PushError};
@@ -34,15 +32,15 @@ pub enum AppendError {
 /// Input clauses, followed by the lines that were derived from them.
 #[derive(Debug, Drop)]
 pub struct Log {
-    inputs: Inputs,
+    pub(crate) inputs: Inputs,
     lines: ClauseSet,
     /// The clauses in which each literal stands, of those that are in the index.
     occurrences: Occurrences,
-    /// What the clauses give by themselves. There is none until the clauses are put into the index.
-    level: Option<Level>,
+    /// What the clauses give by themselves, once they are put into the index.
+    pub(crate) alone: Level,
     /// What they give under a literal too, where that was asked for.
-    under: Option<Under>,
-    alloc: Global,
+    pub(crate) assuming: Level,
+    pub(crate) alloc: Global,
 }
 
 impl Model for Log {
@@ -53,7 +51,7 @@ impl Model for Log {
 
     ghost view = { λ a. joined a.inputs a.lines };
 
-    ghost invariant = { λ a. IsKept a.inputs a.lines a.occurrences a.level a.under };
+    ghost invariant = { λ a. IsKept a.inputs a.lines a.occurrences a.alone a.assuming };
 }
 
 impl Log {
@@ -71,11 +69,11 @@ impl Log {
     {
         let lines = ClauseSet::new(alloc, inputs.variables(), lines, line_literals);
         Log {
-            inputs: Inputs::of(inputs),
+            inputs: Inputs::of(alloc, inputs),
             lines,
             occurrences: Occurrences::new(alloc),
-            level: None,
-            under: None,
+            alone: Level::empty(alloc),
+            assuming: Level::empty(alloc),
             alloc,
         }
     }
@@ -126,210 +124,11 @@ impl Log {
         self.occurrences.make_lists(variables)?;
         cover_all(&mut self.occurrences, self.inputs.set(), &self.lines)?;
         self.inputs.index(self.alloc)?;
-        if self.level.is_none() {
-            self.level = Some(Level::new(self.alloc, variables)?);
+        if !self.alone.is_made {
+            self.alone = Level::new(self.alloc, variables)?;
         }
         self.settle();
         Ok(())
-    }
-
-    /// Takes in what the lines give that came since the last call, so that no test has to. A test over fewer clauses than
-    /// are taken in begins from nothing.
-    pub fn settle(&mut self)
-        ensures same { self.new ≡ self.old }
-    {
-        self.settle_level();
-        self.settle_kept();
-    }
-
-    /// The same for what the clauses give by themselves.
-    fn settle_level(&mut self)
-        ensures { self.new ≡ self.old }
-    {
-        if let Some(level) = self.level.take() {
-            self.level = self.settled(&[], level);
-        }
-    }
-
-    /// The same for what they give under a literal.
-    fn settle_kept(&mut self)
-        ensures { self.new ≡ self.old }
-    {
-        if let Some(under) = self.under.take() {
-            self.under = self.settled_under(under);
-        }
-    }
-
-    /// Takes in what the clauses give under a literal too, so that tests under assumptions that begin with it cost less.
-    /// Of the literals of all calls the one that makes the most others true stays, as far as memory allows.
-    pub fn settle_under(&mut self, literal: Lit)
-        requires { literal.variable ≤ self.old.variables }
-        ensures same { self.new ≡ self.old }
-    {
-        if let Some(under) = &self.under {
-            if under.literal == literal {
-                return;
-            }
-        }
-        if let Some(under) = self.taken_under(literal) {
-            self.keep_under(under);
-        }
-    }
-
-    /// What the clauses give under a literal; nothing, where that is a conflict, or memory is wanting.
-    fn taken_under(&self, literal: Lit) -> Option<Under>
-        requires { literal.variable ≤ self.now.variables }
-        ensures { IfSome result (λ u. IsLevelOf self.now.clauses self.now.variables (u.literal ∷ []) u.level.literals u.level.taken) }
-    {
-        let level = self.level.as_ref()?;
-        let copy = Level::copy(self.alloc, self.inputs.variables(), level).ok()?;
-        let level = self.grown(&[literal], copy)?;
-        Some(Under { literal, level })
-    }
-
-    /// Keeps it, unless the one that is there makes more literals true.
-    fn keep_under(&mut self, under: Under)
-        requires { IsLevelOf self.old.clauses self.old.variables (under.literal ∷ []) under.level.literals under.level.taken }
-        ensures { self.new ≡ self.old }
-    {
-        let has_more = match &self.under {
-            Some(kept) => kept.level.literals.len() >= under.level.literals.len(),
-            None => false,
-        };
-        if !has_more {
-            self.under = Some(under);
-        }
-    }
-
-    /// The same one with all clauses taken in.
-    fn settled_under(&self, under: Under) -> Option<Under>
-        requires { IsLevelOf self.now.clauses self.now.variables (under.literal ∷ []) under.level.literals under.level.taken }
-        ensures { IfSome result (λ u. IsLevelOf self.now.clauses self.now.variables (u.literal ∷ []) u.level.literals u.level.taken) }
-    {
-        let Under { literal, level } = under;
-        let level = self.settled(&[literal], level)?;
-        Some(Under { literal, level })
-    }
-
-    /// A level under assumptions with all clauses taken in; the same one where they end in a conflict.
-    fn settled(&self, assumptions: &[Lit], level: Level) -> Option<Level>
-        requires { IsLevelOf self.now.clauses self.now.variables assumptions.now level.literals level.taken }
-        ensures { IfSome result (λ l. IsLevelOf self.now.clauses self.now.variables assumptions.now l.literals l.taken) }
-    {
-        let Level {
-            literals,
-            taken,
-            nothing,
-        } = level;
-        let mut layers = Layers::new(&nothing, literals);
-        let taken = self.take_in(assumptions, &mut layers, taken);
-        let literals = layers.into_all()?;
-        Some(Level {
-            literals,
-            taken,
-            nothing,
-        })
-    }
-
-    /// Makes true what the clauses give that aren't taken in, and answers how many are taken in then. Where these end in a
-    /// conflict, all is left as it was.
-    fn take_in(&self, assumptions: &[Lit], literals: &mut Layers<'_>, taken: u32) -> u32
-        requires level { IsLevelOf self.now.clauses self.now.variables assumptions.now literals.old.all taken }
-        requires marked { literals.old.marked ≡ literals.old.all }
-        ensures { IsLevelOf self.now.clauses self.now.variables assumptions.now literals.new.all result }
-    {
-        let last = self.len();
-        let done = literals.len();
-        if self.propagate(literals, done, taken, last) {
-            return last;
-        }
-        literals.take_back();
-        taken
-    }
-
-    /// A level with assumptions taken in, and all clauses; nothing, where these end in a conflict.
-    fn grown(&self, assumptions: &[Lit], level: Level) -> Option<Level>
-        requires level { IsLevelOf self.now.clauses self.now.variables [] level.literals level.taken }
-        requires assumptions { All (λ l. l.variable ≤ self.now.variables) assumptions.now }
-        ensures { IfSome result (λ l. IsLevelOf self.now.clauses self.now.variables assumptions.now l.literals l.taken) }
-    {
-        let Level {
-            literals,
-            taken,
-            nothing,
-        } = level;
-        let mut layers = Layers::new(&nothing, literals);
-        if !self.grow(&mut layers, assumptions, taken) {
-            return None;
-        }
-        let literals = layers.into_all()?;
-        Some(Level {
-            literals,
-            taken: self.len(),
-            nothing,
-        })
-    }
-
-    /// Makes assumptions true and what all clauses give then; answers whether that is no conflict.
-    fn grow(&self, literals: &mut Layers<'_>, assumptions: &[Lit], taken: u32) -> bool
-        requires level { IsLevelOf self.now.clauses self.now.variables [] literals.old.all taken }
-        requires assumptions { All (λ l. l.variable ≤ self.now.variables) assumptions.now }
-        ensures { IsTrue result → IsLevelOf self.now.clauses self.now.variables assumptions.now literals.new.all (length self.now.clauses) }
-    {
-        let last = self.len();
-        let done = literals.len();
-        literals.assume_all(assumptions) && self.propagate(literals, done, taken, last)
-    }
-
-    /// Literals that the assumptions force by the first `last` clauses, and how many clauses gave them: those of the log's
-    /// levels, unless these have more clauses, or else none.
-    pub(crate) fn start<'a>(
-        &'a self,
-        nothing: &'a TrueLiterals,
-        assumptions: &[Lit],
-        last: u32,
-    ) -> Start<'a>
-        requires none { nothing.now.literals ≡ [] }
-        requires same_variables { nothing.now.variables ≡ self.now.variables }
-        ensures level { IsLevelOf self.now.clauses self.now.variables assumptions.now result.literals.now result.taken }
-        ensures within { result.taken ≤ last }
-    {
-        if let Some(start) = self.start_under(assumptions, last) {
-            return start;
-        }
-        if let Some(start) = self.start_alone(assumptions, last) {
-            return start;
-        }
-        Start {
-            literals: nothing,
-            taken: 0,
-        }
-    }
-
-    /// The start from what the clauses give under a literal, where the assumptions begin with it.
-    fn start_under(&self, assumptions: &[Lit], last: u32) -> Option<Start<'_>>
-        ensures level { IfSome result (λ s. IsLevelOf self.now.clauses self.now.variables assumptions.now s.literals.now s.taken) }
-        ensures within { IfSome result (λ s. s.taken ≤ last) }
-    {
-        if let Some(under) = &self.under {
-            if under.level.taken <= last && begin_with(assumptions, under.literal) {
-                return Some(start_of(&under.level));
-            }
-        }
-        None
-    }
-
-    /// The start from what the clauses give by themselves, which they give under any assumptions.
-    fn start_alone(&self, assumptions: &[Lit], last: u32) -> Option<Start<'_>>
-        ensures level { IfSome result (λ s. IsLevelOf self.now.clauses self.now.variables assumptions.now s.literals.now s.taken) }
-        ensures within { IfSome result (λ s. s.taken ≤ last) }
-    {
-        if let Some(level) = &self.level {
-            if level.taken <= last {
-                return Some(start_of(level));
-            }
-        }
-        None
     }
 
     /// The place of the latest clause in which a literal stands, of those in the index; 0: there is none.
@@ -384,17 +183,6 @@ impl Log {
             Err(PushError::TooManyLiterals) => Err(AppendError::TooManyLiterals),
             Err(PushError::NoMemory) => Err(AppendError::NoMemory),
         }
-    }
-}
-
-/// Where a test begins from a level.
-fn start_of(level: &Level) -> Start<'_>
-    ensures literals { result.literals.now ≡ level.now.literals }
-    ensures taken { result.taken ≡ level.now.taken }
-{
-    Start {
-        literals: &level.literals,
-        taken: level.taken,
     }
 }
 

@@ -32,15 +32,13 @@ impl Log {
         if last < self.inputs() {
             return self.each_is_new(scratch, assumptions, last);
         }
-        let Some(room) = scratch.room.take() else {
-            return false;
-        };
+        let room = scratch.room.take(scratch.alloc);
         self.mark_cone(&mut scratch.cone, assumptions);
         let start = self.start(&scratch.literals, assumptions, last);
         let mut literals = Layers::new(start.literals, room);
         let cone = &scratch.cone;
         let answer = self.lines_are_new(&mut literals, cone, assumptions, start.taken, last);
-        scratch.room = Some(literals.into_room());
+        scratch.room = literals.into_room();
         scratch.cone.clear();
         answer
     }

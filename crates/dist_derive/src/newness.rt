@@ -77,13 +77,11 @@ impl Log {
         ensures answer { IsTrue result ↔ LeavesFirstUnset (take last self.now.clauses) assumptions.now clause.now }
         ensures ready { scratch.new ≡ scratch.old }
     {
-        let Some(room) = scratch.room.take() else {
-            return false;
-        };
+        let room = scratch.room.take(scratch.alloc);
         let start = self.start(&scratch.literals, assumptions, last);
         let mut literals = Layers::new(start.literals, room);
         let answer = self.leaves_unset(&mut literals, assumptions, clause, start.taken, last);
-        scratch.room = Some(literals.into_room());
+        scratch.room = literals.into_room();
         answer
     }
 

@@ -14,9 +14,10 @@ pub struct Scratch {
     /// No literal is true here between the calls.
     pub(crate) literals: TrueLiterals,
     /// Room for the literals of a test above those of a log.
-    pub(crate) room: Option<TrueLiterals>,
+    pub(crate) room: TrueLiterals,
     pub(crate) cone: VariableSet,
     pub(crate) conflicts: Conflicts,
+    pub(crate) alloc: Global,
 }
 
 impl Model for Scratch {
@@ -36,7 +37,7 @@ impl Scratch {
         ensures { IfOk result (λ s. s ≡ variables) }
     {
         let literals = TrueLiterals::new(alloc, variables)?;
-        let room = Some(TrueLiterals::new(alloc, variables)?);
+        let room = TrueLiterals::new(alloc, variables)?;
         let cone = VariableSet::new(alloc, variables)?;
         let conflicts = Conflicts::new(alloc)?;
         Ok(Scratch {
@@ -44,6 +45,7 @@ impl Scratch {
             room,
             cone,
             conflicts,
+            alloc,
         })
     }
 

@@ -9,6 +9,7 @@ use dist_base::MAX_VARIABLES;
 use dist_clause::{Assignment, Lit};
 use std::alloc::{AllocError, Global};
 use std::marker::Model;
+use std::mem;
 
 /// What a literal is under the true ones.
 #[derive(Clone, Copy, Debug)]
@@ -56,6 +57,23 @@ impl TrueLiterals {
         let touched = VariableSet::new(alloc, variables)?;
         let signs = Assignment::new(alloc, variables)?;
         Ok(TrueLiterals { touched, signs })
+    }
+
+    /// No literal, over no variables. It takes no memory.
+    pub(crate) fn empty(alloc: Global) -> TrueLiterals
+        ensures { result ≡ record { variables = 0; literals = [] } }
+    {
+        TrueLiterals {
+            touched: VariableSet::empty(alloc),
+            signs: Assignment::empty(alloc),
+        }
+    }
+
+    /// Takes them out. Those of no variables stay.
+    pub(crate) fn take(&mut self, alloc: Global) -> TrueLiterals
+        ensures { result ≡ self.old }
+    {
+        mem::replace(self, TrueLiterals::empty(alloc))
     }
 
     /// The same literals, in room of their own.

@@ -40,6 +40,16 @@ impl VariableSet {
         Ok(VariableSet { marks, members })
     }
 
+    /// A set of no variables. It takes no memory.
+    pub(crate) fn empty(alloc: Global) -> VariableSet
+        ensures { result ≡ record { variables = 0; members = [] } }
+    {
+        VariableSet {
+            marks: Assignment::empty(alloc),
+            members: Vec::new(alloc),
+        }
+    }
+
     /// The same set, in room of its own.
     pub(crate) fn copy(
         alloc: Global,

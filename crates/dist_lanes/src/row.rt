@@ -1,6 +1,6 @@
 //! Rows: a truth value at each place.
 
-ghost use Rattle.std.specs.Prelude.{◌≡◌, ◌&&◌, ◌+◌, ◌<◌, ◌≤◌, ◌↔◌, ℕ, true, false, count_by, length, replicate, IfNone, IfOk, IfSome, IsTrue, slice_index_or};
+ghost use Rattle.std.specs.Prelude.{◌≡◌, ◌&&◌, ◌+◌, ◌<◌, ◌≤◌, ◌↔◌, [], ℕ, true, false, count_by, length, replicate, IfNone, IfOk, IfSome, IsTrue, slice_index_or};
 ghost use Rattle.std.specs.Prelude.{slice_set};
 ghost use Rattle.dist_lanes.specs.Rows.{value_at, both, IsSubset, Meets, IsAllFalse, AreFalseUpTo};
 
@@ -39,6 +39,16 @@ impl Row {
             words,
             places: bits,
         })
+    }
+
+    /// No place. It takes no memory.
+    pub fn empty(alloc: Global) -> Row
+        ensures { result ≡ [] }
+    {
+        Row {
+            words: Vec::new(alloc),
+            places: 0,
+        }
     }
 
     pub fn len(&self) -> usize

@@ -4,8 +4,10 @@ ghost use Rattle.std.specs.Prelude.{◌≡◌, ◌<◌, IfSome, length};
 use dist_lanes::Row;
 use std::alloc::Global;
 
-/// Lengths round the end of a word and of eight words, and one with words behind the last eight.
-const LENGTHS: [usize; 9] = [0, 1, 63, 64, 65, 511, 512, 513, 1_027];
+/// Lengths round the end of a word, of seven, eight, nine and sixteen words, and one with a word behind the last eight.
+const LENGTHS: [usize; 18] = [
+    0, 1, 63, 64, 65, 447, 448, 449, 511, 512, 513, 575, 576, 577, 1_023, 1_024, 1_025, 1_027,
+];
 
 /// The first multiple of a step at or behind a place and before an end.
 pub(crate) fn multiple(place: usize, step: usize, end: usize) -> Option<usize>

@@ -21,5 +21,6 @@ pub mod FrontLemmas
 pub mod ClauseShape
 pub mod NameFronts
 pub mod PairFronts
+pub mod KeptPairs
 pub mod PushLemmas
 pub mod SomeClauses

@@ -13,6 +13,7 @@ use Rattle.dist_repo.specs.Order.{IsInOrder}
 use Rattle.dist_repo.specs.PackageList.{PackageList, IsPackageAnd}
 use Rattle.dist_repo.specs.declared.package.Package.{Package}
 use Rattle.dist_now.specs.GatheringPrivate.{Adds, IsFront, IsPairWith, IsRejectingPair, Rejects}
+use Rattle.dist_now.specs.Partners.{IsPartner}
 use Rattle.dist_now.specs.PresentClauses.{Apart, IsDemand, not_installed}
 use Rattle.dist_now.proofs.AddsLemmas.{adds-exact}
 use Rattle.dist_now.proofs.ConflictLemmas.{never-same}
@@ -97,8 +98,8 @@ pairs-done r first seconds count limits set are past of =
 
 -- ---- which they are
 
-rejecting-conflict : (r : PackageList) (first second : ℕ) → IsInOrder r.packages → IsRejectingPair r (first, second) → IsDemand r false (Apart first second)
-rejecting-conflict r first second ordered rejecting =
+pub rejecting-partner : (r : PackageList) (first second : ℕ) → IsInOrder r.packages → IsRejectingPair r (first, second) → IsPartner r first second
+rejecting-partner r first second ordered rejecting =
     let n = rejecting.0 in
     let With : Package → Type 0 = λ p. IsPairWith r n (Rejects r p) (first, second) in
     let p = some-element With r.packages n rejecting.1 in
@@ -108,22 +109,46 @@ rejecting-conflict r first second ordered rejecting =
     let is_q = element-is (Rejects r p) r.packages with.other with.has in
     let rejects : Rejects r p q = has-at (Rejects r p) r.packages with.other q is_q with.has in
     let less : first < second = with.is_pair.rising in
-    let Either : Package → Package → Type 0 = λ x y. (x.name ≡ y.name) ⊎ AreInConflict r.architecture x y in
+    let Apart : Package → Package → Type 0 = AreInConflict r.architecture in
     elim with.is_pair.are [
       | inl h ↦
           let at_p : slice_get r.packages first ≡ Some p = ap (λ (i : ℕ). slice_get r.packages i) h.0 ∙ is_p in
           let at_q : slice_get r.packages second ≡ Some q = ap (λ (i : ℕ). slice_get r.packages i) h.1 ∙ is_q in (
             less,
-            at-has (λ (x : Package). IsPackageAnd r.packages second (Either x)) r.packages first p at_p (at-has (Either p) r.packages second q at_q
-                (inr (record { different = never-same r.packages first second p q ordered less at_p at_q; matched = inl rejects }))),
+            at-has (λ (x : Package). IsPackageAnd r.packages second (Apart x)) r.packages first p at_p (at-has (Apart p) r.packages second q at_q
+                (record { different = never-same r.packages first second p q ordered less at_p at_q; matched = inl rejects })),
           )
       | inr h ↦
           let at_q : slice_get r.packages first ≡ Some q = ap (λ (i : ℕ). slice_get r.packages i) h.0 ∙ is_q in
           let at_p : slice_get r.packages second ≡ Some p = ap (λ (i : ℕ). slice_get r.packages i) h.1 ∙ is_p in (
             less,
-            at-has (λ (x : Package). IsPackageAnd r.packages second (Either x)) r.packages first q at_q (at-has (Either q) r.packages second p at_p
-                (inr (record { different = never-same r.packages first second q p ordered less at_q at_p; matched = inr rejects }))),
+            at-has (λ (x : Package). IsPackageAnd r.packages second (Apart x)) r.packages first q at_q (at-has (Apart q) r.packages second p at_p
+                (record { different = never-same r.packages first second q p ordered less at_q at_p; matched = inr rejects })),
           )
+    ]
+
+pub partner-rejects : (r : PackageList) (first second : ℕ) (p q : Package) → first < second → slice_get r.packages first ≡ Some p
+    → slice_get r.packages second ≡ Some q → AreInConflict r.architecture p q → IsRejectingPair r (first, second)
+partner-rejects r first second p q less is_p is_q conflict =
+    elim conflict.matched [
+      | inl rejects ↦ (
+        first,
+        at-has (λ (x : Package). IsPairWith r first (Rejects r x) (first, second)) r.packages first p is_p
+            (record {
+              other = second;
+              is_pair = record { are = inl (refl, refl); rising = less };
+              has = at-has (Rejects r p) r.packages second q is_q rejects;
+            }),
+      )
+      | inr rejects ↦ (
+        second,
+        at-has (λ (x : Package). IsPairWith r second (Rejects r x) (first, second)) r.packages second q is_q
+            (record {
+              other = first;
+              is_pair = record { are = inr (refl, refl); rising = less };
+              has = at-has (Rejects r q) r.packages first p is_p rejects;
+            }),
+      )
     ]
 
 abbrev Apart-either : PackageList → Package → Package → Type 0
@@ -136,7 +161,7 @@ pub seconds-are : (r : PackageList) (first : ℕ) (p : Package) (pairs : List (�
 seconds-are r first p pairs mid old new ordered is_p exact versions partners same second = (
   (λ there. elim ((partners second).0 ((same second).0 there)) [
     | inl version ↦ from-version ((adds-exact mid (IsVersion r first p.name) versions second).0 version)
-    | inr pair ↦ rejecting-conflict r first second ordered ((exact second).0 pair)
+    | inr pair ↦ from-partner (rejecting-partner r first second ordered ((exact second).0 pair))
   ]),
   λ demand. (same second).1 (to demand),
 )
@@ -146,6 +171,15 @@ seconds-are r first p pairs mid old new ordered is_p exact versions partners sam
       version.0,
       at-has (λ (x : Package). IsPackageAnd r.packages second (Apart-either r x)) r.packages first p is_p
           (at-more (λ (q : Package). p.name ≡ q.name) (Apart-either r p) (λ q named. inl named) r.packages second version.1),
+    )
+
+    from-partner : IsPartner r first second → IsDemand r false (Apart first second)
+    from-partner partner = (
+      partner.0,
+      at-more (λ (x : Package). IsPackageAnd r.packages second (AreInConflict r.architecture x))
+          (λ (x : Package). IsPackageAnd r.packages second (Apart-either r x))
+          (λ x inner. at-more (AreInConflict r.architecture x) (Apart-either r x) (λ y conflict. inr conflict) r.packages second inner)
+          r.packages first partner.1,
     )
 
     to : IsDemand r false (Apart first second) → Contains old second
@@ -158,26 +192,7 @@ seconds-are r first p pairs mid old new ordered is_p exact versions partners sam
         elim either [
           | inl named ↦ (partners second).1 (inl ((adds-exact mid (IsVersion r first p.name) versions second).1
               (demand.0, at-has (λ (z : Package). p.name ≡ z.name) r.packages second q is_q named)))
-          | inr conflict ↦ (partners second).1 (inr ((exact second).1 (elim conflict.matched [
-            | inl rejects ↦ (
-              first,
-              at-has (λ (x : Package). IsPairWith r first (Rejects r x) (first, second)) r.packages first p is_p
-                  (record {
-                    other = second;
-                    is_pair = record { are = inl (refl, refl); rising = demand.0 };
-                    has = at-has (Rejects r p) r.packages second q is_q rejects;
-                  }),
-            )
-            | inr rejects ↦ (
-              second,
-              at-has (λ (x : Package). IsPairWith r second (Rejects r x) (first, second)) r.packages second q is_q
-                  (record {
-                    other = first;
-                    is_pair = record { are = inr (refl, refl); rising = demand.0 };
-                    has = at-has (Rejects r q) r.packages first p is_p rejects;
-                  }),
-            )
-          ])))
+          | inr conflict ↦ (partners second).1 (inr ((exact second).1 (partner-rejects r first second p q demand.0 is_p is_q conflict)))
         ]
 
 pub pair-within : (r : PackageList) (first second : ℕ) → IsDemand r false (Apart first second) → second < length r.packages

@@ -2,6 +2,7 @@
 use Rattle.std.specs.Prelude.{◌≡◌, ◌⊎◌, ◌↔◌, ℕ, ◌+◌, ◌<◌, ◌≤◌, Bool, true, false, List, Any, Contains, MatchOption}
 use Rattle.std.specs.Prelude.{Option, length}
 use Rattle.std.specs.Prelude.{IsSomeAnd, slice_get, slice_index_or}
+use Rattle.std.specs.List.Sorted.{IsNonDecreasingBy}
 use Rattle.dist_clause.specs.ClauseList.{ClauseList}
 use Rattle.dist_clause.specs.declared.clause_set.PushError.{PushError}
 use Rattle.dist_relation.specs.declared.atom.Atom.{Atom}
@@ -58,6 +59,11 @@ IsRejectingPair r pair = (n : ℕ) × IsPackageAnd r.packages n (λ p. IsPairWit
 pub record AreSplitAt (pairs : List (ℕ × ℕ)) (number place : ℕ) : Type 0 where
   pub before : (k : ℕ) (d : ℕ × ℕ) → k < place → k < length pairs → (slice_index_or pairs k d).0 < number
   pub behind : (k : ℕ) (d : ℕ × ℕ) → place ≤ k → k < length pairs → number ≤ (slice_index_or pairs k d).0
+
+-- the pairs of packages of which one rejects the other, with first numbers from one up to another and in their order
+pub record ArePairsIn (r : PackageList) (start end : ℕ) (pairs : List (ℕ × ℕ)) : Type 0 where
+  pub exact : (pair : ℕ × ℕ) → Contains pairs pair ↔ (IsPairIn start end pair × IsRejectingPair r pair)
+  pub in_order : IsNonDecreasingBy (λ pair. pair.0) pairs
 
 -- the set has a variable for each package and the limits of another set, and holds the clauses before a demand's at
 -- mode plain

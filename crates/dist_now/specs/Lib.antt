@@ -5,6 +5,7 @@ pub mod RowsPrivate
 pub mod RejectedPrivate
 pub mod PresentClauses
 pub mod PresentSet
+pub mod Partners
 pub mod PresentLaws
 pub mod GatheringPrivate
 pub mod PresentExamples

@@ -14,6 +14,7 @@ mod kinds;
 mod laws;
 mod members;
 mod numbers;
+mod partners;
 mod present_clauses;
 mod present_laws;
 mod rejections;
@@ -21,6 +22,7 @@ mod rejections;
 pub use judging::health;
 pub use kinds::Health;
 pub use laws::one_health;
+pub use partners::Partners;
 pub use present_clauses::clauses_of;
 pub use present_laws::{
     health_is_of_sets, models_are_installations, present_clauses_are_one,

@@ -14,7 +14,7 @@ pub(crate) struct Way {
     asked: Vec<bool>,
     /// The places of the variables that are asked for, the highest first.
     waiting: BinaryHeap<u32>,
-    /// Assumptions, which need no explanation.
+    /// Assumptions, which need no explanation: for each variable whether it is assumed false, and whether true.
     given: Vec<bool>,
     pub(crate) hints: Vec<u32>,
     /// The clauses that led from a decision to a conflict, the latest first.
@@ -27,7 +27,7 @@ const PASSES: u32 = 4;
 impl Way {
     pub(crate) fn new(alloc: Global, variables: u32) -> Result<Way, AllocError> {
         let asked = vec![in alloc; false; variables as usize + 1]?;
-        let given = vec![in alloc; false; variables as usize + 1]?;
+        let given = vec![in alloc; false; 2 * variables as usize + 2]?;
         Ok(Way {
             asked,
             waiting: BinaryHeap::new(alloc),
@@ -37,11 +37,16 @@ impl Way {
         })
     }
 
-    /// Takes a variable for an assumption's, or takes that back.
-    pub(crate) fn give(&mut self, variable: u32, given: bool) {
-        if let Some(place) = self.given.get_mut(variable as usize) {
+    /// Takes a literal for an assumption, or takes that back.
+    pub(crate) fn give(&mut self, literal: Lit, given: bool) {
+        if let Some(place) = self.given.get_mut(slot(literal)) {
             *place = given;
         }
+    }
+
+    /// Whether a literal is an assumption.
+    fn is_given(&self, literal: Lit) -> bool {
+        self.given.get(slot(literal)).copied().unwrap_or(false)
     }
 
     /// The hints by which a false clause shows that the assumptions can't all be true, in the order of the trail. Answers
@@ -72,7 +77,7 @@ impl Way {
         Ok(rests)
     }
 
-    /// Asks for the literals of a clause that have places below this one and are no assumptions.
+    /// Asks for the literals of a clause that have places below this one and negate no assumption.
     fn ask(
         &mut self,
         log: &Log,
@@ -82,7 +87,7 @@ impl Way {
     ) -> Result<(), AllocError> {
         for literal in clause_of(log, number) {
             let variable = literal.variable();
-            let given = self.given.get(variable as usize).copied().unwrap_or(false);
+            let given = self.is_given(literal.negated());
             let place = trail.place(variable);
             if !given
                 && trail.truth(*literal) == Truth::False
@@ -159,4 +164,9 @@ impl Way {
         }
         Ok(())
     }
+}
+
+/// The place of a literal among those of all variables.
+fn slot(literal: Lit) -> usize {
+    2 * literal.variable() as usize + usize::from(literal.positive())
 }

@@ -1,6 +1,7 @@
 //! What follows from the true literals, and which alternatives are open.
 
-use crate::clauses::{Look, look_at};
+use crate::clauses::{Look, clause_of, look_at};
+use crate::open::Open;
 use crate::trail::Trail;
 use dist_clause::Lit;
 use dist_derive::Log;
@@ -17,18 +18,20 @@ pub(crate) struct Mark {
 #[derive(Debug, Drop)]
 pub(crate) struct State {
     pub(crate) trail: Trail,
-    /// Numbers of clauses with alternatives.
-    open: Vec<u32>,
+    open: Open,
     /// How many literals of the trail have had their clauses looked at.
     looked: usize,
+    /// Of how many of them the open clauses that they concern have been looked at again.
+    settled: usize,
 }
 
 impl State {
     pub(crate) fn new(alloc: Global, variables: u32) -> Result<State, AllocError> {
         Ok(State {
             trail: Trail::new(alloc, variables)?,
-            open: Vec::new(alloc),
+            open: Open::new(alloc, variables)?,
             looked: 0,
+            settled: 0,
         })
     }
 
@@ -44,11 +47,12 @@ impl State {
         self.trail.undo_to(mark.literals);
         self.open.truncate(mark.open);
         self.looked = mark.literals;
+        self.settled = self.settled.min(mark.literals);
     }
 
     /// The number of an open clause, by its place.
     pub(crate) fn open_clause(&self, place: usize) -> Option<u32> {
-        self.open.get(place).copied()
+        self.open.number(place)
     }
 
     /// Looks at a clause, and answers whether it is false.
@@ -92,31 +96,134 @@ impl State {
         Ok(None)
     }
 
-    /// Looks at the open clauses once more, until they give nothing; answers the number of one that is false.
+    /// Looks at the open clauses that came, and again at those of which an alternative became false, until nothing follows;
+    /// answers the number of one that is false. No decision stands meanwhile.
     pub(crate) fn settle(&mut self, log: &Log) -> Result<Option<u32>, AllocError> {
-        for _ in 0..=log.variables() {
-            let conflict = self.propagate(log)?;
-            if conflict.is_some() {
-                return Ok(conflict);
+        for _ in 0..u32::MAX {
+            let mut conflict = self.propagate(log)?;
+            if conflict.is_none() {
+                conflict = self.look_at_new(log)?;
             }
-            let before = self.trail.len();
-            let conflict = self.look_again(log)?;
-            if conflict.is_some() || self.trail.len() == before {
+            if conflict.is_none() {
+                conflict = self.look_again(log)?;
+            }
+            if conflict.is_some() || self.is_settled() {
                 return Ok(conflict);
             }
         }
         Ok(None)
     }
 
-    /// Looks at the open clauses once more; answers the number of one that is false.
-    fn look_again(&mut self, log: &Log) -> Result<Option<u32>, AllocError> {
-        for number in &self.open {
-            match look_at(log, &self.trail, *number) {
-                Look::Conflict => return Ok(Some(*number)),
-                Look::Unit(literal) => self.trail.set(literal, *number)?,
-                Look::Open | Look::Rests => {}
+    fn is_settled(&self) -> bool {
+        let all = self.trail.len();
+        self.looked >= all && self.settled >= all && self.open.waiting().is_none()
+    }
+
+    /// Enters the open clauses that came; answers the number of one that is false.
+    fn look_at_new(&mut self, log: &Log) -> Result<Option<u32>, AllocError> {
+        for _ in 0..self.open.len() {
+            let Some(number) = self.open.waiting() else {
+                break;
+            };
+            self.open.enter(clause_of(log, number))?;
+            if self.look_once_more(log, number)? {
+                return Ok(Some(number));
             }
         }
         Ok(None)
+    }
+
+    /// Looks again at the open clauses that the literals concern that became true; answers the number of one that is false.
+    fn look_again(&mut self, log: &Log) -> Result<Option<u32>, AllocError> {
+        for _ in 0..=log.variables() {
+            let Some(literal) = self.trail.literal(self.settled) else {
+                break;
+            };
+            self.settled = self.settled.saturating_add(1);
+            let conflict = self.look_at_uses(log, literal)?;
+            if conflict.is_some() {
+                return Ok(conflict);
+            }
+        }
+        Ok(None)
+    }
+
+    /// Looks at the open clauses of which a true literal's variable is an alternative.
+    fn look_at_uses(&mut self, log: &Log, literal: Lit) -> Result<Option<u32>, AllocError> {
+        if literal.positive() {
+            return Ok(None);
+        }
+        let mut place = self.open.latest(literal.variable());
+        for _ in 0..place {
+            let Some(entry) = self.open.use_at(place) else {
+                break;
+            };
+            place = entry.next;
+            if self.look_once_more(log, entry.number)? {
+                return Ok(Some(entry.number));
+            }
+        }
+        Ok(None)
+    }
+
+    /// Looks also at the clauses in which variables stand that became false behind a place of the trail, at so many at most;
+    /// answers the number of one that is false.
+    pub(crate) fn look_back(
+        &mut self,
+        log: &Log,
+        start: usize,
+        most: usize,
+    ) -> Result<Option<u32>, AllocError> {
+        let mut place = start;
+        let mut left = most;
+        for _ in 0..=log.variables() {
+            let conflict = self.settle(log)?;
+            if conflict.is_some() || left == 0 {
+                return Ok(conflict);
+            }
+            let Some(literal) = self.trail.literal(place) else {
+                break;
+            };
+            place = place.saturating_add(1);
+            let conflict = self.visit_denied(log, literal, &mut left)?;
+            if conflict.is_some() {
+                return Ok(conflict);
+            }
+        }
+        Ok(None)
+    }
+
+    /// Looks at clauses in which a variable stands that is false.
+    fn visit_denied(
+        &mut self,
+        log: &Log,
+        literal: Lit,
+        left: &mut usize,
+    ) -> Result<Option<u32>, AllocError> {
+        if literal.positive() {
+            return Ok(None);
+        }
+        let mut place = log.latest_with(literal.negated());
+        for _ in 0..*left {
+            let Some(link) = log.link(place) else {
+                break;
+            };
+            place = link.next;
+            *left = left.saturating_sub(1);
+            if self.look_once_more(log, link.number)? {
+                return Ok(Some(link.number));
+            }
+        }
+        Ok(None)
+    }
+
+    /// Looks at a clause that is open already, or is not to be; answers whether it is false.
+    fn look_once_more(&mut self, log: &Log, number: u32) -> Result<bool, AllocError> {
+        match look_at(log, &self.trail, number) {
+            Look::Conflict => return Ok(true),
+            Look::Unit(literal) => self.trail.set(literal, number)?,
+            Look::Open | Look::Rests => {}
+        }
+        Ok(false)
     }
 }

@@ -25,5 +25,5 @@ pub use builder::{AddError, Added, Builder};
 pub use laws::{each_stands_once, latest_is_one};
 pub use name_key::NameKey;
 pub use offers::Offer;
-pub use package::Package;
+pub use package::{Package, same};
 pub use repository::Repository;

@@ -40,6 +40,13 @@ impl Package {
     }
 }
 
+/// Whether two packages are equal in all fields, texts as bytes. It takes no memory.
+pub fn same(first: &Package, second: &Package) -> bool
+    ensures { IsTrue result ↔ (first.now ≡ second.now) }
+{
+    first == second
+}
+
 /// Equality of all fields, with names and versions as bytes. Packages of one name and of versions that are equal in the
 /// order of versions may differ.
 impl PartialEq for Package {

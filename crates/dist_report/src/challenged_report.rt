@@ -139,7 +139,7 @@ pub(crate) fn challenged_text(
     ensures { IfOk result (λ text. IsChallengedText repo.now limit claims.now text.items) }
 {
     let table = class_table(alloc, repo)?;
-    let mut out = opened(alloc, repo, b"challenged", limit)?;
+    let mut out = opened(alloc, repo, b"challenged", limit, 0)?;
     write_part(
         alloc,
         &mut out,

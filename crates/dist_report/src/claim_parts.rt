@@ -75,16 +75,17 @@ pub(crate) fn told(alloc: Global, claims: &Claims, part: Part) -> Result<Vec<u32
     Ok(numbers)
 }
 
-/// The lines before the first list of a report of this kind.
+/// The lines before the first list of a report of this kind, in a vector with so much room.
 pub(crate) fn opened(
     alloc: Global,
     repo: &Repository,
     kind: &[u8],
     limit: u32,
+    room: usize,
 ) -> Result<Vec<u8>, AllocError>
     ensures { IfOk result (λ out. out.items ≡ opening_lines kind.now repo.now.packages limit) }
 {
-    let mut out = Vec::new(alloc);
+    let mut out = Vec::with_capacity(alloc, room)?;
     let mut buffer = Buffer::new();
     write_string(&mut out, b"report: ", kind)?;
     out.extend_from_slice(b"limit: ")?;

@@ -14,6 +14,7 @@ mod lines;
 mod marks;
 mod outdated_report;
 mod report_text;
+mod room;
 mod strong_report;
 
 pub use classes_report::classes_text;

@@ -17,7 +17,7 @@ pub(crate) fn outdated_text(
     requires { length claims.now < 2 ^ 32 }
     ensures { IfOk result (λ text. text.items ≡ outdated_lines repo.now.packages limit claims.now) }
 {
-    let mut out = opened(alloc, repo, b"outdated", limit)?;
+    let mut out = opened(alloc, repo, b"outdated", limit, 0)?;
     write_part(alloc, &mut out, repo, claims, b"outdated:", Part::OutOfDate)?;
     write_part(alloc, &mut out, repo, claims, b"undecided:", Part::NotKnown)?;
     Ok(out)

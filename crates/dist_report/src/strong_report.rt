@@ -9,6 +9,7 @@ ghost use Rattle.dist_report.specs.StrongReport.{entry_lines, impact_at, strong_
 use crate::claim_parts::{Listing, Part, claim_list, opened, told, write_part};
 use crate::impact::{numbers_at, turned, with_some};
 use crate::lines::{write_key, write_numbered, write_packages};
+use crate::room::strong_room;
 use dist_cert::{Claims, Numbers};
 use dist_repo::Repository;
 use std::alloc::{AllocError, Global};
@@ -109,7 +110,8 @@ pub(crate) fn strong_text(
     requires { length claims.now < 2 ^ 32 }
     ensures { IfOk result (λ text. text.items ≡ strong_lines repo.now.packages limit claims.now) }
 {
-    let mut out = opened(alloc, repo, b"strong", limit)?;
+    let room = strong_room(alloc, repo, claims)?;
+    let mut out = opened(alloc, repo, b"strong", limit, room)?;
     write_part(
         alloc,
         &mut out,

@@ -37,19 +37,25 @@ fn stands_in(log: &Log, literal: Lit, numbers: &[u32]) -> bool {
     log.link(place).is_none()
 }
 
-/// Whether literals are found where they stand, in a line that came later too.
-fn literals_are_found(alloc: Global) -> Option<bool> {
-    let mut log = log_of(alloc, true)?;
-    let before = stands_in(&log, Lit::new(3, true), &[2, 1])
-        && stands_in(&log, Lit::new(1, false), &[1])
-        && stands_in(&log, Lit::new(4, true), &[]);
+/// Whether literals are found where they stand in a log, in a line that came later too.
+fn are_found(alloc: Global, log: &mut Log) -> Option<bool>
+    requires { log.old.variables ≡ 5 }
+{
+    let before = stands_in(log, Lit::new(3, true), &[2, 1])
+        && stands_in(log, Lit::new(1, false), &[1])
+        && stands_in(log, Lit::new(4, true), &[]);
     let line = clause(alloc, 5, &[3, -1])?;
     let number = log.append(&line).ok()?;
     Some(
         before
-            && stands_in(&log, Lit::new(3, true), &[number, 2, 1])
-            && stands_in(&log, Lit::new(1, false), &[number, 1]),
+            && stands_in(log, Lit::new(3, true), &[number, 2, 1])
+            && stands_in(log, Lit::new(1, false), &[number, 1]),
     )
+}
+
+fn literals_are_found(alloc: Global) -> Option<bool> {
+    let mut log = log_of(alloc, true)?;
+    are_found(alloc, &mut log)
 }
 
 #[test]
@@ -100,10 +106,17 @@ const NEW: [New; 4] = [
     (&[-4, -1], false),
 ];
 
-/// Whether a row is told as it says.
+/// Whether a row is told of a log as it says.
+fn is_told_of(alloc: Global, log: &Log, row: &New) -> Option<bool>
+    requires { log.now.variables ≡ 5 }
+{
+    Some(is_new_and_reached(alloc, log, row.0)? == (row.1, row.1, true))
+}
+
+/// The same of a log with its index or without.
 fn is_told(alloc: Global, row: &New, is_covered: bool) -> Option<bool> {
     let log = log_of(alloc, is_covered)?;
-    Some(is_new_and_reached(alloc, &log, row.0)? == (row.1, row.1, true))
+    is_told_of(alloc, &log, row)
 }
 
 fn tell_all(rt: &(impl Abort + AllocGlobal), rows: &[New], is_covered: bool) {
@@ -122,9 +135,10 @@ fn an_index_answers_as_a_walk_does(rt: HostRuntime) {
     tell_all(&rt, &NEW, false);
 }
 
-/// Whether all lines are new under the assumption of the first variable, each when it came.
-fn lines_are_new(alloc: Global, lines: &[&[i32]]) -> Option<bool> {
-    let mut log = log_of(alloc, true)?;
+/// Whether all lines are new in a log under the assumption of the first variable, each when it came.
+fn are_new_in(alloc: Global, log: &mut Log, lines: &[&[i32]]) -> Option<bool>
+    requires { log.old.variables ≡ 5 }
+{
     log.settle();
     for line in lines {
         log.append(&clause(alloc, 5, line)?).ok()?;
@@ -135,6 +149,11 @@ fn lines_are_new(alloc: Global, lines: &[&[i32]]) -> Option<bool> {
     let assumption = clause(alloc, 5, &[1])?;
     let mut scratch = Scratch::new(alloc, 5).ok()?;
     Some(log.are_new(&mut scratch, &assumption, 3))
+}
+
+fn lines_are_new(alloc: Global, lines: &[&[i32]]) -> Option<bool> {
+    let mut log = log_of(alloc, true)?;
+    are_new_in(alloc, &mut log, lines)
 }
 
 #[test]
@@ -164,6 +183,13 @@ fn hold(alloc: Global, log: &Log, variables: &[u32]) -> Option<bool>
     Some(log.holds(&trues))
 }
 
+/// Whether a row holds of a log as it says.
+fn is_held_by(alloc: Global, log: &Log, row: &Trues) -> Option<bool>
+    requires { log.now.variables ≡ 5 }
+{
+    Some(hold(alloc, log, row.0)? == row.1)
+}
+
 /// True variables, and whether they are a model.
 type Trues = (&'static [u32], bool);
 
@@ -178,7 +204,7 @@ const TRUES: [Trues; 5] = [
 /// Whether a row holds as it says.
 fn is_held(alloc: Global, row: &Trues, is_covered: bool) -> Option<bool> {
     let log = log_of(alloc, is_covered)?;
-    Some(hold(alloc, &log, row.0)? == row.1)
+    is_held_by(alloc, &log, row)
 }
 
 fn hold_all(rt: &(impl Abort + AllocGlobal), rows: &[Trues], is_covered: bool) {

@@ -182,11 +182,11 @@ fn seen_of(
     }
 }
 
-/// What a question under one assumption, or under none for 0, comes to, with guesses or by the plain descent alone.
+/// What a question under some assumptions comes to, with guesses or by the plain descent alone.
 fn put(
     alloc: Global,
     solver: &mut Solver,
-    assumption: i32,
+    assumptions: &[i32],
     limit: u32,
     plainly: bool,
 ) -> Option<Seen>
@@ -194,7 +194,7 @@ fn put(
     requires limit { 1 ≤ limit }
     ensures { solver.new.log.variables ≡ 21 }
 {
-    let assumed = clause(alloc, 21, &[assumption])?;
+    let assumed = clause(alloc, 21, assumptions)?;
     let answer = if plainly {
         solver.ask_plainly(&assumed, limit)
     } else {
@@ -203,8 +203,8 @@ fn put(
     seen_of(alloc, solver, &assumed, &answer)
 }
 
-/// One assumption or 0 for none, a limit, and what the question comes to.
-type Turn = (i32, u32, Seen);
+/// Assumptions, a limit, and what the question comes to.
+type Turn = (&'static [i32], u32, Seen);
 
 /// A puzzle, the most lines and literals of a solver, a question, and how many lines it adds, where that is told.
 type Asked = (Puzzle, (u32, u32), Turn, Option<usize>);
@@ -213,27 +213,45 @@ const FULL: Seen = Seen::Refused(AskError::TooManyLines);
 
 const LONG: Seen = Seen::Refused(AskError::TooManyLiterals);
 
-const ASKED: [Asked; 11] = [
-    (Puzzle::Conflict, (9, 99), (2, 1, Seen::Found), Some(0)),
-    (Puzzle::Conflict, (9, 99), (1, 1, Seen::Refuted), Some(0)),
-    (Puzzle::Crowded, (9, 99), (21, 1, Seen::Undecided), Some(1)),
-    (Puzzle::Crowded, (0, 99), (21, 1, FULL), Some(0)),
-    (Puzzle::Crowded, (1, 0), (21, 1, LONG), Some(0)),
-    (Puzzle::Crowded, (2, 99), (21, 5, FULL), Some(2)),
-    (Puzzle::Pigeons, (9, 99), (0, 1, Seen::Undecided), Some(1)),
-    (Puzzle::Pigeons, (9, 99), (0, 2, Seen::Undecided), Some(2)),
+const ASKED: [Asked; 13] = [
+    (Puzzle::Conflict, (9, 99), (&[2], 1, Seen::Found), Some(0)),
+    (Puzzle::Conflict, (9, 99), (&[1], 1, Seen::Refuted), Some(0)),
+    (
+        Puzzle::Crowded,
+        (9, 99),
+        (&[21], 1, Seen::Undecided),
+        Some(1),
+    ),
+    (
+        Puzzle::Crowded,
+        (9, 99),
+        (&[21], 2, Seen::Undecided),
+        Some(2),
+    ),
+    // The first assumption alone reaches nothing.
+    (
+        Puzzle::Crowded,
+        (9, 99),
+        (&[1, 21], 1, Seen::Undecided),
+        Some(1),
+    ),
+    (Puzzle::Crowded, (0, 99), (&[21], 1, FULL), Some(0)),
+    (Puzzle::Crowded, (1, 0), (&[21], 1, LONG), Some(0)),
+    (Puzzle::Crowded, (2, 99), (&[21], 5, FULL), Some(2)),
+    (Puzzle::Pigeons, (9, 99), (&[], 1, Seen::Undecided), Some(1)),
+    (Puzzle::Pigeons, (9, 99), (&[], 2, Seen::Undecided), Some(2)),
     // Enough lines decide.
-    (Puzzle::Four, (1000, 10000), (0, 10, Seen::Refuted), None),
+    (Puzzle::Four, (1000, 10000), (&[], 10, Seen::Refuted), None),
     (
         Puzzle::Pigeons,
         (1000, 10000),
-        (0, 10000, Seen::Refuted),
+        (&[], 10000, Seen::Refuted),
         None,
     ),
     (
         Puzzle::Crowded,
         (1000, 10000),
-        (21, 10000, Seen::Refuted),
+        (&[21], 10000, Seen::Refuted),
         None,
     ),
 ];
@@ -278,23 +296,40 @@ fn are_right(alloc: Global, solver: &mut Solver, turns: &[Turn]) -> Option<bool>
     Some(true)
 }
 
-/// Questions to one solver of the crowded package: the same again, another one between, the same after lines were added.
-const TURNS: [Turn; 7] = [
-    (21, 1, Seen::Undecided),
-    (21, 1, Seen::Undecided),
-    (1, 1, Seen::Found),
-    (21, 10000, Seen::Refuted),
-    (21, 1, Seen::Refuted),
-    (-21, 1, Seen::Found),
-    (0, 1, Seen::Found),
+/// Questions to one solver of the crowded package: the same again, with the same first assumption and another behind it, with
+/// another first one, and the same after the lines that refute it were added.
+const TURNS: [Turn; 12] = [
+    (&[21], 1, Seen::Undecided),
+    (&[21], 1, Seen::Undecided),
+    (&[21, -1], 1, Seen::Undecided),
+    (&[1], 1, Seen::Found),
+    (&[1, -21], 1, Seen::Found),
+    (&[1, 2], 1, Seen::Refuted),
+    (&[21], 10000, Seen::Refuted),
+    (&[21], 1, Seen::Refuted),
+    (&[21, -1], 1, Seen::Refuted),
+    (&[1, 21], 1, Seen::Refuted),
+    (&[-21], 1, Seen::Found),
+    (&[], 1, Seen::Found),
 ];
 
 /// Questions to a solver that may add two lines.
-const SHORT_TURNS: [Turn; 4] = [
-    (21, 5, FULL),
-    (21, 5, FULL),
-    (1, 1, Seen::Found),
-    (21, 5, FULL),
+const SHORT_TURNS: [Turn; 5] = [
+    (&[21], 5, FULL),
+    (&[21], 5, FULL),
+    (&[1], 1, Seen::Found),
+    (&[1, -21], 1, Seen::Found),
+    (&[21], 5, FULL),
+];
+
+/// Questions to a solver whose lines may have twelve literals together: the first line fits.
+const LONG_TURNS: [Turn; 6] = [
+    (&[21], 1, Seen::Undecided),
+    (&[21], 50, LONG),
+    (&[21], 50, LONG),
+    (&[1], 1, Seen::Found),
+    (&[1, -21], 1, Seen::Found),
+    (&[21], 50, LONG),
 ];
 
 /// Whether one of the assignments of the first three variables is a model in which the literals are true.
@@ -340,17 +375,23 @@ fn agrees(alloc: Global, clauses: &ClauseSet, solver: &mut Solver, numbers: &[i3
     Some(!possible && seen == Seen::Refuted)
 }
 
-/// Whether a solver answers all 27 lists of assumptions on three variables as trying all assignments does.
+/// Whether a solver answers all 27 lists of assumptions on three variables as trying all assignments does. They come in two orders:
+/// in the first one each question has another first assumption than the one before, in the second one most have the same.
 fn agrees_always(alloc: Global, clauses: &ClauseSet, solver: &mut Solver) -> Option<bool>
     requires clauses { clauses.now.variables ≡ 21 }
     requires solver { solver.old.log.variables ≡ 21 }
 {
     let signs = [0, 1, -1i32];
-    for code in 0..27usize {
+    for code in 0..54usize {
         let first = signs[code % 3];
         let second = signs[code / 3 % 3].wrapping_mul(2);
         let third = signs[code / 9 % 3].wrapping_mul(3);
-        if !agrees(alloc, clauses, solver, &[first, second, third])? {
+        let numbers = if code < 27 {
+            [first, second, third]
+        } else {
+            [third, second, first]
+        };
+        if !agrees(alloc, clauses, solver, &numbers)? {
             return Some(false);
         }
     }
@@ -391,7 +432,7 @@ fn has_added(alloc: Global, solver: &Solver) -> Option<bool> {
 fn adds_the_line(alloc: Global, solver: &mut Solver) -> Option<bool>
     requires { solver.old.log.variables ≡ 21 }
 {
-    let seen = put(alloc, solver, 0, 1, false)?;
+    let seen = put(alloc, solver, &[], 1, false)?;
     Some(seen == Seen::Undecided && has_added(alloc, solver)?)
 }
 
@@ -441,7 +482,9 @@ fn holds(alloc: Global, puzzle: Puzzle, limits: (u32, u32), trial: &Trial<'_>) -
         return None;
     }
     let mut solver = solver_of(alloc, puzzle, lines, literals)?;
-    succeeds(alloc, &mut solver, trial)
+    let answer = succeeds(alloc, &mut solver, trial);
+    drop(solver);
+    answer
 }
 
 const MANY: (u32, u32) = (1000, 10000);
@@ -482,9 +525,10 @@ fn small_sets_are_answered_as_by_trying_all(rt: HostRuntime) {
 }
 
 /// Trials with a solver of a puzzle.
-const TRIALS: [(Puzzle, (u32, u32), Trial<'static>); 4] = [
+const TRIALS: [(Puzzle, (u32, u32), Trial<'static>); 5] = [
     (Puzzle::Crowded, MANY, Trial::Turns(&TURNS)),
     (Puzzle::Crowded, (2, 10000), Trial::Turns(&SHORT_TURNS)),
+    (Puzzle::Crowded, (1000, 12), Trial::Turns(&LONG_TURNS)),
     (Puzzle::Four, (10, 10), Trial::Line),
     (Puzzle::Conflict, (9, 99), Trial::Model),
 ];

@@ -1,15 +1,16 @@
 -- What a package must be apart from, meaning by meaning.
-use Rattle.std.proofs.Common.{◌≡◌, ◌≢◌, ◌⊎◌, ℕ, ◌<◌, List, Some, Option, length, refl, sym, ap, subst, ◌∙◌, inl, inr, slice_get}
+use Rattle.std.proofs.Common.{◌≡◌, ◌≢◌, ◌⊎◌, ℕ, ◌<◌, List, [], Some, Option, length, refl, sym, ap, subst, ◌∙◌, inl, inr, arith, slice_get}
 use Rattle.std.specs.Prelude.{All, Any, Contains, IsSomeAnd}
 use Rattle.std.specs.Option.{option_map}
-use Rattle.dist_base.specs.ListLaws.{all-contained, any-contained, any-more, any-there, at-has, here-at, within-from}
+use Rattle.dist_base.specs.ListLaws.{all-contained, any-contained, any-more, any-there, at-has, has-at, here-at, within-from}
+use Rattle.dist_asked.specs.Asked.{Adds}
 use Rattle.dist_relation.specs.declared.atom.Atom.{Atom}
-use Rattle.dist_relation.specs.declared.atom.Provide.{Provide}
+use Rattle.dist_now.specs.Partners.{IsPartner}
 use Rattle.dist_repo.specs.Conflict.{AreInConflict}
-use Rattle.dist_repo.specs.Match.{IsUsable, Matches}
+use Rattle.dist_repo.specs.Match.{IsUsable}
+use Rattle.dist_repo.specs.PackageList.{IsPackageAnd}
 use Rattle.dist_repo.specs.declared.package.Package.{Package}
-use Rattle.dist_space_clauses.specs.GatheringPrivate.{IsFresh, IsLaterOf}
-use Rattle.dist_space_clauses.specs.Rejecting.{AreRejecting, Entries, numbers_at}
+use Rattle.dist_space_clauses.specs.GatheringPrivate.{IsFresh, IsLater, IsLaterOf, IsPartnerOf}
 use Rattle.dist_space.specs.Space.{IsMatched, IsMetBy, SpaceView, name_of}
 use Rattle.dist_space_clauses.specs.SpaceClauses.{Excludes}
 use Rattle.dist_space.specs.declared.meaning.Meaning.{Meaning}
@@ -20,10 +21,6 @@ module _ (s : SpaceView) (number : ℕ) (p : Package) where
   -- the meaning is of another name
   abbrev pub IsNamedOther : Meaning → Type 0
   IsNamedOther m = IsSomeAnd (name_of s m) (λ name. name ≢ p.name)
-
-  pub partner : (other : ℕ) (q : Package) → slice_get s.repository.packages other ≡ Some q → number < other → AreInConflict s.repository.architecture p q
-      → Excludes s number p (Present other)
-  partner other q is_q behind conflict = (behind, at-has (AreInConflict s.repository.architecture p) s.repository.packages other q is_q conflict)
 
   -- what later versions of another package have as their name
   named-as : (r other : ℕ) (q : Package) → r ≡ other → slice_get s.repository.packages other ≡ Some q
@@ -98,58 +95,68 @@ module _ (s : SpaceView) (number : ℕ) (p : Package) where
   apart-fresh atom (Kept r k j) both excluded = absurd both.0
   apart-fresh atom (Fresh x k) both excluded = excluded.0
 
-  -- ---- by whose atoms
+  -- ---- all that it must be apart from
+
+  pub partner-excluded : (m : Meaning) → slice_get s.repository.packages number ≡ Some p → IsPartnerOf s number m → Excludes s number p m
+  partner-excluded Now is partner = absurd partner
+  partner-excluded (Present other) is partner = (
+    partner.0,
+    has-at (λ (q : Package). IsPackageAnd s.repository.packages other (AreInConflict s.repository.architecture q)) s.repository.packages number p is partner.1,
+  )
+  partner-excluded (At c k) is partner = absurd partner
+  partner-excluded (New r k) is partner = absurd partner
+  partner-excluded (Kept r k j) is partner = absurd partner
+  partner-excluded (Fresh x k) is partner = absurd partner
 
   -- a conflict atom of the package matches it
   abbrev pub ByOwn : Meaning → Type 0
-  ByOwn m = Any (λ atom. IsMatched s atom m × Excludes s number p m) p.conflicts
+  ByOwn m = Any (λ atom. IsLater m × IsMatched s atom m × Excludes s number p m) p.conflicts
 
-  -- it is one of some packages as they are
-  abbrev pub IsOneOf : List ℕ → Meaning → Type 0
-  IsOneOf others m = Any (λ other. (m ≡ Present other) × Excludes s number p m) others
+  own : (m : Meaning) → IsLater m → Excludes s number p m → IsMetBy s p.conflicts m → ByOwn m
+  own m later excluded met = any-more (λ (atom : Atom). IsMatched s atom m) (λ (atom : Atom). IsLater m × IsMatched s atom m × Excludes s number p m)
+      (λ atom matched. (later, matched, excluded)) p.conflicts met
 
-  abbrev pub ByEntry : Entries → Meaning → Type 0
-  ByEntry entries m = Any (λ entry. IsOneOf (numbers_at entries entry.name) m) p.provides
+  pub excluded-cases : (m : Meaning) → slice_get s.repository.packages number ≡ Some p → Excludes s number p m → IsPartnerOf s number m ⊎ ByOwn m
+  excluded-cases Now is excluded = absurd excluded.0
+  excluded-cases (At c k) is excluded = absurd excluded.0
+  excluded-cases (New r k) is excluded = inr (own (New r k) tt excluded excluded.1)
+  excluded-cases (Kept r k j) is excluded = inr (own (Kept r k j) tt excluded excluded.1)
+  excluded-cases (Fresh x k) is excluded = inr (own (Fresh x k) tt excluded excluded.1)
+  excluded-cases (Present other) is excluded = inl (
+    excluded.0,
+    at-has (λ (q : Package). IsPackageAnd s.repository.packages other (AreInConflict s.repository.architecture q)) s.repository.packages number p is excluded.1,
+  )
 
-  own : (m : Meaning) → Excludes s number p m → IsMetBy s p.conflicts m → ByOwn m
-  own m excluded met = any-more (λ (atom : Atom). IsMatched s atom m) (λ (atom : Atom). IsMatched s atom m × Excludes s number p m)
-      (λ atom matched. (matched, excluded)) p.conflicts met
+-- ---- the packages behind one that are in conflict with it
 
-  rejected : (entries : Entries) (other : ℕ) (q : Package) (atom : Atom) (name : List ℕ) → AreRejecting s.repository entries
-      → slice_get s.repository.packages other ≡ Some q → Contains q.conflicts atom → name ≡ atom.name → Excludes s number p (Present other)
-      → IsOneOf (numbers_at entries name) (Present other)
-  rejected entries other q atom name are is_q there same excluded =
-      any-contained (λ (o : ℕ). (Present other ≡ Present o) × Excludes s number p (Present other)) (numbers_at entries name) other
-      ((are name other).1 (at-has (λ (x : Package). Any (λ (a : Atom). a.name ≡ name) x.conflicts) s.repository.packages other q is_q
-      (any-contained (λ (a : Atom). a.name ≡ name) q.conflicts atom there (sym same))))
-      (refl, excluded)
+module _ (s : SpaceView) (number : ℕ) where
+  -- some numbers are theirs
+  abbrev pub ArePartners : List ℕ → Type 0
+  ArePartners others = Adds [] others (IsPartner s.repository number)
 
-  pub excluded-cases : (entries : Entries) (m : Meaning) → AreRejecting s.repository entries → Excludes s number p m → ByOwn m
-      ⊎ IsOneOf (numbers_at entries p.name) m ⊎ ByEntry entries m
-  excluded-cases entries Now are excluded = absurd excluded.0
-  excluded-cases entries (At c k) are excluded = absurd excluded.0
-  excluded-cases entries (New r k) are excluded = inl (own (New r k) excluded excluded.1)
-  excluded-cases entries (Kept r k j) are excluded = inl (own (Kept r k j) excluded excluded.1)
-  excluded-cases entries (Fresh x k) are excluded = inl (own (Fresh x k) excluded excluded.1)
-  excluded-cases entries (Present other) are excluded =
-      let here = here-at (AreInConflict s.repository.architecture p) s.repository.packages other excluded.1 in
-      let q = here.element in
-      elim here.holds.matched [
-        | inl mine ↦ inl (any-more (λ (atom : Atom). Matches s.repository.architecture atom q)
-            (λ (atom : Atom). IsMatched s atom (Present other) × Excludes s number p (Present other))
-            (λ atom matches. ((matches.usable, at-has (Matches s.repository.architecture atom) s.repository.packages other q here.is matches), excluded))
-            p.conflicts mine)
-        | inr theirs ↦
-            let there = any-there (λ (atom : Atom). Matches s.repository.architecture atom p) q.conflicts theirs in
-            elim theirs.4.matched [
-              | inl name ↦ inr (inl (rejected entries other q theirs.1 p.name are here.is there name.name excluded))
-              | inr entry ↦ inr (inr (any-contained (λ (e : Provide). IsOneOf (numbers_at entries e.name) (Present other)) p.provides entry.1
-                  (entry.0, entry.2, entry.3) (rejected entries other q theirs.1 entry.1.name are here.is there entry.4.name excluded)))
-            ]
-      ]
+  pub partners-within : (others : List ℕ) → ArePartners others → All (λ other. other < length s.repository.packages) others
+  partners-within others are =
+      all-contained (λ (other : ℕ). other < length s.repository.packages) others
+      (λ other there. elim ((are other).0 there) [
+        | inl none ↦ absurd (omega (arith, none.1))
+        | inr partner ↦
+            let Second : Package → Type 0 = λ p. IsPackageAnd s.repository.packages other (AreInConflict s.repository.architecture p) in
+            let here = here-at Second s.repository.packages number partner.1 in
+            within-from (AreInConflict s.repository.architecture here.element) s.repository.packages other here.holds
+      ])
 
-  pub all-within : (entries : Entries) (name : List ℕ) → AreRejecting s.repository entries
-      → All (λ other. other < length s.repository.packages) (numbers_at entries name)
-  all-within entries name are =
-      all-contained (λ (other : ℕ). other < length s.repository.packages) (numbers_at entries name)
-      (λ other there. within-from (λ (x : Package). Any (λ (a : Atom). a.name ≡ name) x.conflicts) s.repository.packages other ((are name other).0 there))
+  pub listed-partner : (others : List ℕ) (m : Meaning) → ArePartners others → Any (λ other. m ≡ Present other) others → IsPartnerOf s number m
+  listed-partner others m are any =
+      subst (IsPartnerOf s number) (sym any.4) (elim ((are any.1).0 (any-there (λ (other : ℕ). m ≡ Present other) others any)) [
+        | inl none ↦ absurd (omega (arith, none.1))
+        | inr partner ↦ partner
+      ])
+
+  pub partner-listed : (others : List ℕ) (m : Meaning) → ArePartners others → IsPartnerOf s number m → Any (λ other. m ≡ Present other) others
+  partner-listed others Now are partner = absurd partner
+  partner-listed others (Present other) are partner =
+      any-contained (λ (o : ℕ). Present other ≡ Present o) others other ((are other).1 (inr partner)) refl
+  partner-listed others (At c k) are partner = absurd partner
+  partner-listed others (New r k) are partner = absurd partner
+  partner-listed others (Kept r k j) are partner = absurd partner
+  partner-listed others (Fresh x k) are partner = absurd partner

@@ -1,4 +1,5 @@
 pub mod Bearers
+pub mod CandidateLemmas
 pub mod ConflictLemmas
 pub mod DemandOrder
 pub mod FoundIn
@@ -7,9 +8,10 @@ pub mod Gathered
 pub mod GroupFronts
 pub mod LedFronts
 pub mod MatchLemmas
+pub mod MovingLemmas
 pub mod NameFronts
 pub mod PairClauses
-pub mod RejectingLemmas
+pub mod PresentLemmas
 pub mod SomeSpaceClauses
 pub mod SortedNames
 pub mod ThreeEnds

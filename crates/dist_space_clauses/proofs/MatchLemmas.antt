@@ -8,7 +8,7 @@ use Rattle.dist_relation.specs.declared.atom.Provide.{Provide}
 use Rattle.dist_repo.specs.Match.{IsUsable, Matches, MatchesByEntry}
 use Rattle.dist_repo.specs.Providers.{AreProviders, IsProvider}
 use Rattle.dist_repo.specs.declared.package.Package.{Package}
-use Rattle.dist_space_clauses.specs.GatheringPrivate.{IsFresh, IsKeptOf, IsLaterOf, IsOf, IsOfVersion}
+use Rattle.dist_space_clauses.specs.GatheringPrivate.{IsFresh, IsKeptOf, IsLaterOf, IsOfVersion}
 use Rattle.dist_space.specs.EntryOrder.{IsEntryNamed}
 use Rattle.dist_space.specs.Space.{IsMatchedBy, IsMeaning, MeetsBound, SpaceView, example_at, fresh_classes, member_classes, moved_entry}
 use Rattle.dist_space.specs.declared.meaning.Meaning.{Meaning}
@@ -150,39 +150,3 @@ module _ (s : SpaceView) (atom : Atom) where
   fresh-named (New n l) both = absurd both.0
   fresh-named (Kept n l j) both = absurd both.0
   fresh-named (Fresh y l) both = (y, matched-name y l both.1)
-
-  -- ---- all of them
-
-  -- what is matched is of a package that has or provides the name, or of a new name
-  pub matched-cases : (providers : List ℕ) (m : Meaning) → AreProviders s.repository atom.name providers → IsMatchedBy s atom m
-      → Any (λ number. MatchedAnd (IsOf number) m) providers ⊎ MatchedAnd IsFresh m
-  matched-cases providers Now are matched = absurd matched
-  matched-cases providers (Present r) are matched =
-      inl (any-contained (λ (number : ℕ). MatchedAnd (IsOf number) (Present r)) providers r
-      ((are.exact r).1 (at-more (Matches s.repository.architecture atom) (IsProvider s.repository.architecture atom.name) provides s.repository.packages r
-      matched)) (inl refl, matched))
-    where
-      provides : (p : Package) → Matches s.repository.architecture atom p → IsProvider s.repository.architecture atom.name p
-      provides p matches = elim matches.matched [
-        | inl name ↦ inl name.name
-        | inr entry ↦ inr (entry.0, entry.1, entry.2, entry.3, (entry.4.usable, entry.4.name))
-      ]
-  matched-cases providers (At c k) are matched = absurd matched
-  matched-cases providers (New r k) are matched =
-      inl (any-contained (λ (number : ℕ). MatchedAnd (IsOf number) (New r k)) providers r
-      ((are.exact r).1 (at-more (NameMeets r k) (IsProvider s.repository.architecture atom.name) (λ p both. inl both.0) s.repository.packages r matched))
-      (inr refl, matched))
-  matched-cases providers (Kept r k j) are matched =
-      inl (any-contained (λ (number : ℕ). MatchedAnd (IsOf number) (Kept r k j)) providers r
-      ((are.exact r).1 (at-more (λ (p : Package). IsSomeAnd (slice_get p.provides j) (EntryMatches r k p)) (IsProvider s.repository.architecture atom.name)
-      provides s.repository.packages r matched)) (inr refl, matched))
-    where
-      provides : (p : Package) → IsSomeAnd (slice_get p.provides j) (EntryMatches r k p) → IsProvider s.repository.architecture atom.name p
-      provides p here = let entry = here-at (EntryMatches r k p) p.provides j here in
-          inr (any-at _ p.provides j entry.element entry.is (entry.holds.usable, entry.holds.name))
-  matched-cases providers (Fresh x k) are matched = inr (tt, matched)
-
-  pub provider-within : (providers : List ℕ) (number : ℕ) → AreProviders s.repository atom.name providers → Contains providers number
-      → number < length s.repository.packages
-  provider-within providers number are there = within-from (IsProvider s.repository.architecture atom.name) s.repository.packages number
-      ((are.exact number).0 there)

@@ -8,6 +8,8 @@ use Rattle.dist_clause.specs.ClauseList.{ClauseList}
 use Rattle.dist_clause.specs.Formula.{Literal, literal}
 use Rattle.dist_clause.specs.declared.clause_set.PushError.{PushError}
 use Rattle.dist_relation.specs.declared.atom.Atom.{Atom}
+use Rattle.dist_now.specs.Partners.{IsPartner}
+use Rattle.dist_repo.specs.Match.{Matches}
 use Rattle.dist_repo.specs.PackageList.{IsPackageAnd}
 use Rattle.dist_repo.specs.declared.package.Package.{Package}
 use Rattle.dist_space.specs.declared.meaning.Meaning.{Meaning}
@@ -126,10 +128,6 @@ IsLaterOf number (New r k) = r ≡ number
 IsLaterOf number (Kept r k j) = r ≡ number
 IsLaterOf number (Fresh x k) = ⊥
 
--- a package as it is today, a new version of it, or a kept entry of one
-abbrev pub IsOf : ℕ → Meaning → Type 0
-IsOf number m = (m ≡ Present number) ⊎ IsLaterOf number m
-
 -- a package of a new name
 abbrev pub IsFresh : Meaning → Type 0
 IsFresh Now = ⊥
@@ -138,6 +136,25 @@ IsFresh (At c k) = ⊥
 IsFresh (New r k) = ⊥
 IsFresh (Kept r k j) = ⊥
 IsFresh (Fresh x k) = Unit {0}
+
+-- a new version, a kept entry of one, or a package of a new name
+abbrev pub IsLater : Meaning → Type 0
+IsLater Now = ⊥
+IsLater (Present r) = ⊥
+IsLater (At c k) = ⊥
+IsLater (New r k) = Unit {0}
+IsLater (Kept r k j) = Unit {0}
+IsLater (Fresh x k) = Unit {0}
+
+-- a package as it is today that an atom matches
+abbrev pub IsPresentMatched : SpaceView → Atom → Meaning → Type 0
+IsPresentMatched s atom (Present r) = IsPackageAnd s.repository.packages r (Matches s.repository.architecture atom)
+IsPresentMatched s atom m = ⊥
+
+-- a package as it is today that stands behind another one and is in conflict with it
+abbrev pub IsPartnerOf : SpaceView → ℕ → Meaning → Type 0
+IsPartnerOf s number (Present other) = IsPartner s.repository number other
+IsPartnerOf s number m = ⊥
 
 -- a kept entry of that new version
 abbrev pub IsKeptOf : (number class : ℕ) → Meaning → Type 0

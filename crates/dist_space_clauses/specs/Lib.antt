@@ -3,9 +3,9 @@ pub mod SpaceSet
 pub mod ClauseLaws
 pub mod GatheringPrivate
 pub mod GroupsPrivate
-pub mod Rejecting
 pub mod DecidedLaws
 pub mod ItemLaws
 pub mod Ends
 pub mod EndLaws
 pub use Rattle.dist_space.specs.Space
+pub mod Moving

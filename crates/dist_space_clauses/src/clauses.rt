@@ -1,12 +1,12 @@
 //! The clauses of a space, made in their order, so that the first limit that they pass ends the work.
-ghost use Rattle.std.specs.Prelude.{◌≤◌, IfErr, IfOk, OnOk};
+ghost use Rattle.std.specs.Prelude.{◌≡◌, ◌≤◌, IfErr, IfOk, OnOk};
 ghost use Rattle.dist_base.specs.declared.TheConstants.{MAX_CLAUSES, MAX_LITERALS};
 ghost use Rattle.dist_base.specs.Answers.{IsExactly};
 ghost use Rattle.dist_clause.specs.ClauseList.{IsWithinLimits};
 ghost use Rattle.dist_clause.specs.declared.clause_set.PushError.TheVariants.{TooManyClauses, TooManyLiterals, NoMemory};
 ghost use Rattle.dist_space_clauses.specs.Ends.{AreEndsOf};
 ghost use Rattle.dist_space_clauses.specs.GatheringPrivate.{HaveCounts, IsCauseAt, IsGroupsFront, IsWholeSet};
-ghost use Rattle.dist_space_clauses.specs.Rejecting.{AreRejecting};
+ghost use Rattle.dist_space_clauses.specs.Moving.{AreMovers};
 ghost use Rattle.dist_space_clauses.specs.SpaceClauses.{IsDemand};
 ghost use Rattle.dist_space_clauses.specs.SpaceSet.{IsCause, IsSetOf, PassesClauses, PassesLiterals};
 
@@ -14,63 +14,73 @@ use crate::clause_text::Scratch;
 use crate::ends::FutureEnds;
 use crate::essential::push_names;
 use crate::groups::{Group, push_group};
-use crate::rejecting::{Rejecting, rejecting_of};
+use crate::movers::{Movers, movers_of};
 use dist_base::{MAX_CLAUSES, MAX_LITERALS};
 use dist_clause::{ClauseSet, PushError};
+use dist_now::Partners;
 use dist_space::Space;
 use std::alloc::{AllocError, Global};
 
 /// Adds the clauses that say what a future is, but for those of the archive of today.
 fn push_future<'a>(
     space: &'a Space,
-    rejecting: &Rejecting<'a>,
+    movers: &Movers<'a>,
+    partners: &mut Partners,
     scratch: &mut Scratch,
     set: &mut ClauseSet,
 ) -> Result<(), PushError>
-    requires rejecting { AreRejecting space.now.repository rejecting.now }
+    requires movers { AreMovers space.now.repository movers.now }
+    requires partners { partners.old ≡ space.now.repository }
     requires front { IsGroupsFront space.now 1 set.old set.old }
+    ensures partners { partners.new ≡ partners.old }
     ensures ok { OnOk result (IsGroupsFront space.now 4 set.old set.new) }
     ensures err { IfErr result (IsCauseAt space.now set.old) }
 {
-    push_group(space, Group::Classes, rejecting, scratch, set)?;
-    push_group(space, Group::Versions, rejecting, scratch, set)?;
-    push_group(space, Group::Names, rejecting, scratch, set)
+    push_group(space, Group::Classes, movers, partners, scratch, set)?;
+    push_group(space, Group::Versions, movers, partners, scratch, set)?;
+    push_group(space, Group::Names, movers, partners, scratch, set)
 }
 
 /// Adds the clauses that say what a healthy installation is, but for essential names.
 fn push_healthy<'a>(
     space: &'a Space,
-    rejecting: &Rejecting<'a>,
+    movers: &Movers<'a>,
+    partners: &mut Partners,
     scratch: &mut Scratch,
     set: &mut ClauseSet,
 ) -> Result<(), PushError>
-    requires rejecting { AreRejecting space.now.repository rejecting.now }
+    requires movers { AreMovers space.now.repository movers.now }
+    requires partners { partners.old ≡ space.now.repository }
     requires front { IsGroupsFront space.now 4 set.old set.old }
+    ensures partners { partners.new ≡ partners.old }
     ensures ok { OnOk result (IsGroupsFront space.now 6 set.old set.new) }
     ensures err { IfErr result (IsCauseAt space.now set.old) }
 {
-    push_group(space, Group::Items, rejecting, scratch, set)?;
-    push_group(space, Group::Conflicts, rejecting, scratch, set)
+    push_group(space, Group::Items, movers, partners, scratch, set)?;
+    push_group(space, Group::Conflicts, movers, partners, scratch, set)
 }
 
 /// Adds the clauses of mode plain, and tells where their groups end.
 fn push_plain<'a>(
     space: &'a Space,
-    rejecting: &Rejecting<'a>,
+    movers: &Movers<'a>,
+    partners: &mut Partners,
     scratch: &mut Scratch,
     set: &mut ClauseSet,
 ) -> Result<FutureEnds, PushError>
-    requires rejecting { AreRejecting space.now.repository rejecting.now }
+    requires movers { AreMovers space.now.repository movers.now }
+    requires partners { partners.old ≡ space.now.repository }
     requires front { IsGroupsFront space.now 1 set.old set.old }
+    ensures partners { partners.new ≡ partners.old }
     ensures ok { OnOk result (IsGroupsFront space.now 7 set.old set.new) }
     ensures ends { IfOk result (HaveCounts space.now) }
     ensures err { IfErr result (IsCauseAt space.now set.old) }
 {
-    push_future(space, rejecting, scratch, set)?;
+    push_future(space, movers, partners, scratch, set)?;
     let early = set.len();
-    push_healthy(space, rejecting, scratch, set)?;
+    push_healthy(space, movers, partners, scratch, set)?;
     let today = set.len();
-    push_group(space, Group::Today, rejecting, scratch, set)?;
+    push_group(space, Group::Today, movers, partners, scratch, set)?;
     let after = set.len();
     Ok(FutureEnds {
         early,
@@ -79,7 +89,7 @@ fn push_plain<'a>(
     })
 }
 
-/// Adds the clauses of mode plain, for which it finds who rejects which name.
+/// Adds the clauses of mode plain, for which it finds what may match by new versions.
 fn push_found(
     alloc: Global,
     space: &Space,
@@ -91,8 +101,12 @@ fn push_found(
     ensures ends { IfOk result (HaveCounts space.now) }
     ensures err { IfErr result (IsCauseAt space.now set.old) }
 {
-    match rejecting_of(alloc, space.repo()) {
-        Ok(rejecting) => push_plain(space, &rejecting, scratch, set),
+    let repo = space.repo();
+    match movers_of(alloc, repo) {
+        Ok(movers) => {
+            let mut partners = Partners::new(alloc, repo);
+            push_plain(space, &movers, &mut partners, scratch, set)
+        }
         Err(AllocError) => Err(PushError::NoMemory),
     }
 }

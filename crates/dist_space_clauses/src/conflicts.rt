@@ -3,41 +3,25 @@
 ghost use Rattle.std.specs.Prelude.{◌≡◌, ◌≢◌, ◌+◌, ◌≤◌, ◌<◌, All, Any, Contains, IsSomeAnd, IfErr, OnOk, Some, length, slice_get};
 ghost use Rattle.dist_repo.specs.Match.{IsUsable};
 ghost use Rattle.dist_repo.specs.PackageList.{IsPackageAnd};
-ghost use Rattle.dist_repo.specs.Providers.{AreProviders};
-ghost use Rattle.dist_space_clauses.specs.GatheringPrivate.{Adds, AreVariablesOf, Gathers, IsCauseAt, IsFresh, IsFront, IsOf};
-ghost use Rattle.dist_space_clauses.specs.Rejecting.{AreRejecting, numbers_at};
+ghost use Rattle.dist_space_clauses.specs.Moving.{AreCandidates, AreMovers};
+ghost use Rattle.dist_space_clauses.specs.GatheringPrivate.{Adds, AreVariablesOf, Gathers, IsCauseAt, IsFresh, IsFront, IsLater, IsLaterOf, IsPartnerOf};
 ghost use Rattle.dist_space.specs.Space.{IsMatched, IsMatchedBy, name_of, variable_of};
 ghost use Rattle.dist_space_clauses.specs.SpaceClauses.{Excludes};
 ghost use Rattle.dist_space.specs.declared.meaning.Meaning.TheVariants as meaning;
 
+use crate::candidates::gather_candidates;
 use crate::clause_text::{Scratch, add_pair};
 use crate::matched::{add_fresh, add_later, add_variable, put_in_order};
-use crate::rejecting::Rejecting;
+use crate::movers::Movers;
 use dist_asked::AskedAtoms;
 use dist_clause::{ClauseSet, Lit, PushError};
+use dist_now::Partners;
 use dist_relation::{Atom, Name};
 use dist_repo::Package;
 use dist_space::{Meaning, Space};
 use std::alloc::AllocError;
 
-/// Adds another package as it is, if it stands behind a package and is in conflict with it.
-fn add_partner(
-    space: &Space,
-    number: u32,
-    package: &Package,
-    other: u32,
-    variables: &mut Vec<u32>,
-) -> Result<(), AllocError>
-    requires other { other < length space.now.repository.packages }
-    ensures { OnOk result (Adds space.now variables.old.items variables.new.items (λ m. (m ≡ meaning.Present other) × Excludes space.now number «package».now m)) }
-{
-    if number < other && space.repo().conflict(package, space.package(other)) {
-        return add_variable(space, Meaning::Present(other), variables);
-    }
-    Ok(())
-}
-
-/// Adds what a conflict atom of a package matches of another one.
+/// Adds what a conflict atom of a package matches of the new versions of another one.
 fn add_rejected(
     space: &Space,
     number: u32,
@@ -49,9 +33,8 @@ fn add_rejected(
     requires other { other < length space.now.repository.packages }
     requires usable { IsUsable space.now.repository.architecture atom.now.qualifier }
     requires atom { Contains «package».now.conflicts atom.now }
-    ensures { OnOk result (Gathers space.now variables.old.items variables.new.items (Excludes space.now number «package».now) (λ m. (IsOf other m × IsMatchedBy space.now atom.now m) × Excludes space.now number «package».now m)) }
+    ensures { OnOk result (Gathers space.now variables.old.items variables.new.items (Excludes space.now number «package».now) (λ m. (IsLaterOf other m × IsMatchedBy space.now atom.now m) × Excludes space.now number «package».now m)) }
 {
-    add_partner(space, number, package, other, variables)?;
     let rejected = space.package(other);
     if rejected.name == package.name {
         return Ok(());
@@ -59,21 +42,21 @@ fn add_rejected(
     add_later(space, atom, other, variables)
 }
 
-/// Adds what a conflict atom of a package matches of the packages that have or provide its name.
+/// Adds what a conflict atom of a package matches of the new versions of some packages.
 fn add_packages(
     space: &Space,
     number: u32,
     package: &Package,
     atom: &Atom,
-    providers: &[u32],
+    numbers: &[u32],
     variables: &mut Vec<u32>,
 ) -> Result<(), AllocError>
     requires usable { IsUsable space.now.repository.architecture atom.now.qualifier }
     requires atom { Contains «package».now.conflicts atom.now }
-    requires providers { AreProviders space.now.repository atom.now.name providers.now }
-    ensures { OnOk result (Gathers space.now variables.old.items variables.new.items (Excludes space.now number «package».now) (λ m. Any (λ other. (IsOf other m × IsMatchedBy space.now atom.now m) × Excludes space.now number «package».now m) providers.now)) }
+    requires candidates { AreCandidates space.now atom.now numbers.now }
+    ensures { OnOk result (Gathers space.now variables.old.items variables.new.items (Excludes space.now number «package».now) (λ m. Any (λ other. (IsLaterOf other m × IsMatchedBy space.now atom.now m) × Excludes space.now number «package».now m) numbers.now)) }
 {
-    for other in providers {
+    for other in numbers {
         add_rejected(space, number, package, atom, *other, variables)?;
     }
     Ok(())
@@ -94,79 +77,76 @@ fn add_new_names(
     add_fresh(space, atom, variables)
 }
 
-/// Adds what a conflict atom of a package matches.
-fn add_atom(
-    space: &Space,
+/// Adds what a conflict atom of a package matches of new versions and new names.
+fn add_atom<'a>(
+    space: &'a Space,
     number: u32,
     package: &Package,
-    atom: &Atom,
+    atom: &'a Atom,
+    movers: &Movers<'a>,
     variables: &mut Vec<u32>,
 ) -> Result<(), AllocError>
     requires atom { Contains «package».now.conflicts atom.now }
-    ensures { OnOk result (Gathers space.now variables.old.items variables.new.items (Excludes space.now number «package».now) (λ m. IsMatched space.now atom.now m × Excludes space.now number «package».now m)) }
+    requires movers { AreMovers space.now.repository movers.now }
+    ensures { OnOk result (Gathers space.now variables.old.items variables.new.items (Excludes space.now number «package».now) (λ m. IsLater m × IsMatched space.now atom.now m × Excludes space.now number «package».now m)) }
 {
-    let repo = space.repo();
-    if !repo.usable(&atom.qualifier) {
+    if !space.repo().usable(&atom.qualifier) {
         return Ok(());
     }
-    let providers = repo.providers(atom.name.bytes());
-    add_packages(space, number, package, atom, providers, variables)?;
+    let mut numbers = Vec::new(*variables.allocator());
+    gather_candidates(space, atom, movers, &mut numbers)?;
+    add_packages(space, number, package, atom, &numbers, variables)?;
     add_new_names(space, package, atom, variables)
 }
 
-/// Adds what the conflict atoms of a package match.
-fn add_atoms(
-    space: &Space,
+/// Adds what the conflict atoms of a package match of new versions and new names.
+fn add_atoms<'a>(
+    space: &'a Space,
     number: u32,
-    package: &Package,
+    package: &'a Package,
+    movers: &Movers<'a>,
     variables: &mut Vec<u32>,
 ) -> Result<(), AllocError>
-    ensures { OnOk result (Gathers space.now variables.old.items variables.new.items (Excludes space.now number «package».now) (λ m. Any (λ atom. IsMatched space.now atom m × Excludes space.now number «package».now m) «package».now.conflicts)) }
+    requires { AreMovers space.now.repository movers.now }
+    ensures { OnOk result (Gathers space.now variables.old.items variables.new.items (Excludes space.now number «package».now) (λ m. Any (λ atom. IsLater m × IsMatched space.now atom m × Excludes space.now number «package».now m) «package».now.conflicts)) }
 {
     let mut asked = AskedAtoms::new(*variables.allocator());
     for place in 0..package.conflicts.len() {
         let atom = package.conflicts.get(place);
         let is_repeated = asked.note(atom, package.conflicts.len())?;
         if !is_repeated {
-            add_atom(space, number, package, atom, variables)?;
+            add_atom(space, number, package, atom, movers, variables)?;
         }
     }
     Ok(())
 }
 
-/// Adds the packages behind a package that are in conflict with it, of those with a conflict atom on a name.
-fn add_rejecting(
-    space: &Space,
-    number: u32,
-    package: &Package,
-    others: &[u32],
-    variables: &mut Vec<u32>,
-) -> Result<(), AllocError>
-    requires others { All (λ other. other < length space.now.repository.packages) others.now }
-    ensures { OnOk result (Gathers space.now variables.old.items variables.new.items (Excludes space.now number «package».now) (λ m. Any (λ other. (m ≡ meaning.Present other) × Excludes space.now number «package».now m) others.now)) }
+/// Adds packages as they are.
+fn add_present(space: &Space, others: &[u32], variables: &mut Vec<u32>) -> Result<(), AllocError>
+    requires { All (λ other. other < length space.now.repository.packages) others.now }
+    ensures { OnOk result (Adds space.now variables.old.items variables.new.items (λ m. Any (λ other. m ≡ meaning.Present other) others.now)) }
 {
     for other in others {
-        add_partner(space, number, package, *other, variables)?;
+        add_variable(space, Meaning::Present(*other), variables)?;
     }
     Ok(())
 }
 
-/// Adds the packages behind a package that are in conflict with it, of those with a conflict atom on what it provides.
-fn add_rejecting_entries<'a>(
-    space: &'a Space,
+/// Adds the packages behind a package that are in conflict with it.
+fn add_partners(
+    space: &Space,
     number: u32,
-    package: &'a Package,
-    rejecting: &Rejecting<'a>,
+    partners: &mut Partners,
     variables: &mut Vec<u32>,
 ) -> Result<(), AllocError>
-    requires rejecting { AreRejecting space.now.repository rejecting.now }
-    ensures { OnOk result (Gathers space.now variables.old.items variables.new.items (Excludes space.now number «package».now) (λ m. Any (λ entry. Any (λ other. (m ≡ meaning.Present other) × Excludes space.now number «package».now m) (numbers_at rejecting.now entry.name)) «package».now.provides)) }
+    requires number { number < length space.now.repository.packages }
+    requires partners { partners.old ≡ space.now.repository }
+    ensures partners { partners.new ≡ partners.old }
+    ensures adds { OnOk result (Adds space.now variables.old.items variables.new.items (IsPartnerOf space.now number)) }
 {
-    for place in 0..package.provides.len() {
-        let others = rejecting.of(&package.provides.get(place).name);
-        add_rejecting(space, number, package, others, variables)?;
-    }
-    Ok(())
+    let mut others = Vec::new(*variables.allocator());
+    partners.add_behind(number, &mut others)?;
+    add_present(space, &others, variables)
 }
 
 /// Gathers what stands behind a package and is in conflict with it.
@@ -174,23 +154,19 @@ fn gather_apart<'a>(
     space: &'a Space,
     number: u32,
     package: &'a Package,
-    rejecting: &Rejecting<'a>,
+    movers: &Movers<'a>,
+    partners: &mut Partners,
     variables: &mut Vec<u32>,
 ) -> Result<(), AllocError>
     requires package { slice_get space.now.repository.packages number ≡ Some «package».now }
-    requires rejecting { AreRejecting space.now.repository rejecting.now }
-    ensures { OnOk result (AreVariablesOf space.now (Excludes space.now number «package».now) variables.new.items) }
+    requires movers { AreMovers space.now.repository movers.now }
+    requires partners { partners.old ≡ space.now.repository }
+    ensures partners { partners.new ≡ partners.old }
+    ensures are { OnOk result (AreVariablesOf space.now (Excludes space.now number «package».now) variables.new.items) }
 {
     variables.clear();
-    add_atoms(space, number, package, variables)?;
-    add_rejecting(
-        space,
-        number,
-        package,
-        rejecting.of(&package.name),
-        variables,
-    )?;
-    add_rejecting_entries(space, number, package, rejecting, variables)?;
+    add_partners(space, number, partners, variables)?;
+    add_atoms(space, number, package, movers, variables)?;
     put_in_order(variables);
     Ok(())
 }
@@ -222,18 +198,21 @@ fn push_conflicts<'a>(
     space: &'a Space,
     number: u32,
     package: &'a Package,
-    rejecting: &Rejecting<'a>,
+    movers: &Movers<'a>,
+    partners: &mut Partners,
     scratch: &mut Scratch,
     set: &mut ClauseSet,
 ) -> Result<(), PushError>
     requires package { slice_get space.now.repository.packages number ≡ Some «package».now }
-    requires rejecting { AreRejecting space.now.repository rejecting.now }
+    requires movers { AreMovers space.now.repository movers.now }
+    requires partners { partners.old ≡ space.now.repository }
     requires front { IsFront space.now 5 (variable_of space.now (meaning.Present number)) 0 set.old set.old }
+    ensures partners { partners.new ≡ partners.old }
     ensures ok { OnOk result (IsFront space.now 5 (variable_of space.now (meaning.Present number) + 1) 0 set.old set.new) }
     ensures err { IfErr result (IsCauseAt space.now set.old) }
 {
     let variables = &mut scratch.variables;
-    if let Err(AllocError) = gather_apart(space, number, package, rejecting, variables) {
+    if let Err(AllocError) = gather_apart(space, number, package, movers, partners, variables) {
         return Err(PushError::NoMemory);
     }
     push_pairs(space, number, &scratch.variables, set)
@@ -243,14 +222,17 @@ fn push_conflicts<'a>(
 pub(crate) fn push_conflicts_of<'a>(
     space: &'a Space,
     variable: u32,
-    rejecting: &Rejecting<'a>,
+    movers: &Movers<'a>,
+    partners: &mut Partners,
     scratch: &mut Scratch,
     set: &mut ClauseSet,
 ) -> Result<(), PushError>
     requires from_one { 1 ≤ variable }
     requires in_range { variable ≤ length space.now.meanings }
-    requires rejecting { AreRejecting space.now.repository rejecting.now }
+    requires movers { AreMovers space.now.repository movers.now }
+    requires partners { partners.old ≡ space.now.repository }
     requires front { IsFront space.now 5 variable 0 set.old set.old }
+    ensures partners { partners.new ≡ partners.old }
     ensures ok { OnOk result (IsFront space.now 5 (variable + 1) 0 set.old set.new) }
     ensures err { IfErr result (IsCauseAt space.now set.old) }
 {
@@ -260,7 +242,8 @@ pub(crate) fn push_conflicts_of<'a>(
                 space,
                 number,
                 space.package(number),
-                rejecting,
+                movers,
+                partners,
                 scratch,
                 set,
             )

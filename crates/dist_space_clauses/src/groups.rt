@@ -1,16 +1,17 @@
 //! The groups of clauses that variables lead, each by going through the variables.
-ghost use Rattle.std.specs.Prelude.{◌+◌, ◌≤◌, IfErr, OnOk, length};
+ghost use Rattle.std.specs.Prelude.{◌≡◌, ◌+◌, ◌≤◌, IfErr, OnOk, length};
 ghost use Rattle.dist_space_clauses.specs.GatheringPrivate.{IsCauseAt, IsFront, IsGroupsFront};
 ghost use Rattle.dist_space_clauses.specs.GroupsPrivate.{number_of};
-ghost use Rattle.dist_space_clauses.specs.Rejecting.{AreRejecting};
+ghost use Rattle.dist_space_clauses.specs.Moving.{AreMovers};
 
 use crate::classed::Classed;
 use crate::clause_text::Scratch;
 use crate::conflicts::push_conflicts_of;
 use crate::items::push_items_of;
 use crate::led_clauses::{push_moves, push_one_class, push_today};
-use crate::rejecting::Rejecting;
+use crate::movers::Movers;
 use dist_clause::{ClauseSet, PushError};
+use dist_now::Partners;
 use dist_space::Space;
 
 /// What the clauses of a group say.
@@ -35,14 +36,17 @@ fn push_led<'a>(
     space: &'a Space,
     group: Group,
     variable: u32,
-    rejecting: &Rejecting<'a>,
+    movers: &Movers<'a>,
+    partners: &mut Partners,
     scratch: &mut Scratch,
     set: &mut ClauseSet,
 ) -> Result<(), PushError>
     requires from_one { 1 ≤ variable }
     requires in_range { variable ≤ length space.now.meanings }
-    requires rejecting { AreRejecting space.now.repository rejecting.now }
+    requires movers { AreMovers space.now.repository movers.now }
+    requires partners { partners.old ≡ space.now.repository }
     requires front { IsFront space.now (number_of group) variable 0 set.old set.old }
+    ensures partners { partners.new ≡ partners.old }
     ensures ok { OnOk result (IsFront space.now (number_of group) (variable + 1) 0 set.old set.new) }
     ensures err { IfErr result (IsCauseAt space.now set.old) }
 {
@@ -50,8 +54,8 @@ fn push_led<'a>(
         Group::Classes => push_one_class(space, Classed::Cluster, variable, set),
         Group::Versions => push_moves(space, variable, set),
         Group::Names => push_one_class(space, Classed::Name, variable, set),
-        Group::Items => push_items_of(space, variable, scratch, set),
-        Group::Conflicts => push_conflicts_of(space, variable, rejecting, scratch, set),
+        Group::Items => push_items_of(space, variable, movers, scratch, set),
+        Group::Conflicts => push_conflicts_of(space, variable, movers, partners, scratch, set),
         Group::Today => push_today(space, variable, set),
     }
 }
@@ -60,17 +64,20 @@ fn push_led<'a>(
 pub(crate) fn push_group<'a>(
     space: &'a Space,
     group: Group,
-    rejecting: &Rejecting<'a>,
+    movers: &Movers<'a>,
+    partners: &mut Partners,
     scratch: &mut Scratch,
     set: &mut ClauseSet,
 ) -> Result<(), PushError>
-    requires rejecting { AreRejecting space.now.repository rejecting.now }
+    requires movers { AreMovers space.now.repository movers.now }
+    requires partners { partners.old ≡ space.now.repository }
     requires front { IsGroupsFront space.now (number_of group) set.old set.old }
+    ensures partners { partners.new ≡ partners.old }
     ensures ok { OnOk result (IsGroupsFront space.now (number_of group + 1) set.old set.new) }
     ensures err { IfErr result (IsCauseAt space.now set.old) }
 {
     for variable in 1..space.variables() + 1 {
-        push_led(space, group, variable, rejecting, scratch, set)?;
+        push_led(space, group, variable, movers, partners, scratch, set)?;
     }
     Ok(())
 }

@@ -1,83 +1,115 @@
 //! The clauses of the items of packages.
-ghost use Rattle.std.specs.Prelude.{◌≡◌, ◌+◌, ◌<◌, ◌≤◌, Any, IfErr, OnOk, Some, length, slice_get};
+ghost use Rattle.std.specs.Prelude.{◌≡◌, ◌+◌, ◌<◌, ◌≤◌, Any, IfErr, None, OnOk, Some, length, slice_get};
+ghost use Rattle.dist_repo.specs.Match.{IsUsable};
+ghost use Rattle.dist_repo.specs.Offers.{AreMatched};
 ghost use Rattle.dist_repo.specs.Providers.{AreProviders};
-ghost use Rattle.dist_space_clauses.specs.GatheringPrivate.{Adds, AreVariablesOf, Gathers, IsCauseAt, IsFront, IsItemAt, IsOf};
+ghost use Rattle.dist_space_clauses.specs.GatheringPrivate.{Adds, AreVariablesOf, Gathers, IsCauseAt, IsFront, IsItemAt, IsLaterOf, IsPresentMatched};
+ghost use Rattle.dist_space_clauses.specs.Moving.{AreCandidates, AreMovers};
 ghost use Rattle.dist_space.specs.Space.{IsMatched, IsMatchedBy, IsMetBy, variable_of};
 ghost use Rattle.dist_space.specs.declared.meaning.Meaning.TheVariants as meaning;
 
+use crate::candidates::gather_candidates;
 use crate::clause_text::Scratch;
 use crate::matched::{add_fresh, add_later, add_variable, put_in_order};
+use crate::movers::Movers;
 use dist_asked::AskedAtoms;
 use dist_clause::{ClauseSet, PushError};
 use dist_relation::{Alternatives, Atom};
-use dist_repo::Package;
+use dist_repo::{Offer, Package};
 use dist_space::{Meaning, Space};
 use std::alloc::AllocError;
 
-/// Adds a package as it is, if the atom matches it.
-fn add_present(
+/// Adds the packages of some offers as they are.
+fn add_offered(
     space: &Space,
     atom: &Atom,
-    number: u32,
+    offers: &[Offer],
     variables: &mut Vec<u32>,
 ) -> Result<(), AllocError>
-    requires { number < length space.now.repository.packages }
-    ensures { OnOk result (Adds space.now variables.old.items variables.new.items (λ m. (m ≡ meaning.Present number) × IsMatchedBy space.now atom.now m)) }
+    requires { AreMatched space.now.repository atom.now offers.now }
+    ensures { OnOk result (Adds space.now variables.old.items variables.new.items (IsPresentMatched space.now atom.now)) }
 {
-    if space.repo().matches(atom, space.package(number)) {
-        return add_variable(space, Meaning::Present(number), variables);
+    for offer in offers {
+        add_variable(space, Meaning::Present(offer.number), variables)?;
     }
     Ok(())
 }
 
-/// Adds what the atom matches of a package, as it is and later.
-fn add_package(
-    space: &Space,
-    atom: &Atom,
-    number: u32,
-    variables: &mut Vec<u32>,
-) -> Result<(), AllocError>
-    requires { number < length space.now.repository.packages }
-    ensures { OnOk result (Adds space.now variables.old.items variables.new.items (λ m. IsOf number m × IsMatchedBy space.now atom.now m)) }
-{
-    add_present(space, atom, number, variables)?;
-    add_later(space, atom, number, variables)
-}
-
-/// Adds what an atom matches of the packages that have or provide its name.
-fn add_packages(
+/// Adds the providers of a name as they are.
+fn add_provided(
     space: &Space,
     atom: &Atom,
     providers: &[u32],
     variables: &mut Vec<u32>,
 ) -> Result<(), AllocError>
-    requires { AreProviders space.now.repository atom.now.name providers.now }
-    ensures { OnOk result (Gathers space.now variables.old.items variables.new.items (IsMatchedBy space.now atom.now) (λ m. Any (λ number. IsOf number m × IsMatchedBy space.now atom.now m) providers.now)) }
+    requires usable { IsUsable space.now.repository.architecture atom.now.qualifier }
+    requires unbounded { atom.now.bound ≡ None }
+    requires providers { AreProviders space.now.repository atom.now.name providers.now }
+    ensures { OnOk result (Adds space.now variables.old.items variables.new.items (IsPresentMatched space.now atom.now)) }
 {
     for number in providers {
-        add_package(space, atom, *number, variables)?;
+        add_variable(space, Meaning::Present(*number), variables)?;
+    }
+    Ok(())
+}
+
+/// Adds the packages that an atom matches as they are. Where it has no bound these are the providers of its name, each of which
+/// stands once.
+fn add_present(space: &Space, atom: &Atom, variables: &mut Vec<u32>) -> Result<(), AllocError>
+    requires { IsUsable space.now.repository.architecture atom.now.qualifier }
+    ensures { OnOk result (Adds space.now variables.old.items variables.new.items (IsPresentMatched space.now atom.now)) }
+{
+    let repo = space.repo();
+    if atom.bound.is_some() {
+        return add_offered(space, atom, repo.matched(atom), variables);
+    }
+    add_provided(space, atom, repo.providers(atom.name.bytes()), variables)
+}
+
+/// Adds what an atom matches of the new versions of some packages.
+fn add_packages(
+    space: &Space,
+    atom: &Atom,
+    numbers: &[u32],
+    variables: &mut Vec<u32>,
+) -> Result<(), AllocError>
+    requires { AreCandidates space.now atom.now numbers.now }
+    ensures { OnOk result (Gathers space.now variables.old.items variables.new.items (IsMatchedBy space.now atom.now) (λ m. Any (λ number. IsLaterOf number m × IsMatchedBy space.now atom.now m) numbers.now)) }
+{
+    for number in numbers {
+        add_later(space, atom, *number, variables)?;
     }
     Ok(())
 }
 
 /// Adds what an atom matches.
-fn add_matched(space: &Space, atom: &Atom, variables: &mut Vec<u32>) -> Result<(), AllocError>
+fn add_matched<'a>(
+    space: &'a Space,
+    atom: &'a Atom,
+    movers: &Movers<'a>,
+    variables: &mut Vec<u32>,
+) -> Result<(), AllocError>
+    requires { AreMovers space.now.repository movers.now }
     ensures { OnOk result (Adds space.now variables.old.items variables.new.items (IsMatched space.now atom.now)) }
 {
-    let repo = space.repo();
-    if !repo.usable(&atom.qualifier) {
+    if !space.repo().usable(&atom.qualifier) {
         return Ok(());
     }
-    add_packages(space, atom, repo.providers(atom.name.bytes()), variables)?;
+    let mut numbers = Vec::new(*variables.allocator());
+    gather_candidates(space, atom, movers, &mut numbers)?;
+    add_present(space, atom, variables)?;
+    add_packages(space, atom, &numbers, variables)?;
     add_fresh(space, atom, variables)
 }
 
 /// Gathers what an item is met by.
-fn gather_meeting(
-    space: &Space,
-    alternatives: &Alternatives,
+fn gather_meeting<'a>(
+    space: &'a Space,
+    alternatives: &'a Alternatives,
+    movers: &Movers<'a>,
     variables: &mut Vec<u32>,
 ) -> Result<(), AllocError>
+    requires { AreMovers space.now.repository movers.now }
     ensures { OnOk result (AreVariablesOf space.now (IsMetBy space.now alternatives.now) variables.new.items) }
 {
     variables.clear();
@@ -86,7 +118,7 @@ fn gather_meeting(
         let atom = alternatives.get(place);
         let is_repeated = asked.note(atom, alternatives.len())?;
         if !is_repeated {
-            add_matched(space, atom, variables)?;
+            add_matched(space, atom, movers, variables)?;
         }
     }
     put_in_order(variables);
@@ -94,14 +126,16 @@ fn gather_meeting(
 }
 
 /// Adds the clause of the item at a place of a package, unless the package meets it itself.
-fn push_item(
-    space: &Space,
+fn push_item<'a>(
+    space: &'a Space,
     number: u32,
     place: usize,
-    alternatives: &Alternatives,
+    alternatives: &'a Alternatives,
+    movers: &Movers<'a>,
     scratch: &mut Scratch,
     set: &mut ClauseSet,
 ) -> Result<(), PushError>
+    requires movers { AreMovers space.now.repository movers.now }
     requires item { IsItemAt space.now.repository.packages number place alternatives.now }
     requires front { IsFront space.now 4 (variable_of space.now (meaning.Present number)) place set.old set.old }
     ensures ok { OnOk result (IsFront space.now 4 (variable_of space.now (meaning.Present number)) (place + 1) set.old set.new) }
@@ -109,7 +143,7 @@ fn push_item(
 {
     // What this call tells is that variables are those of a space.
     let _variables = space.variables();
-    if let Err(AllocError) = gather_meeting(space, alternatives, &mut scratch.variables) {
+    if let Err(AllocError) = gather_meeting(space, alternatives, movers, &mut scratch.variables) {
         return Err(PushError::NoMemory);
     }
     let variable = space.variable(&Meaning::Present(number));
@@ -123,13 +157,15 @@ fn push_item(
 }
 
 /// Adds the clauses of the items of a package.
-fn push_items(
-    space: &Space,
+fn push_items<'a>(
+    space: &'a Space,
     number: u32,
-    package: &Package,
+    package: &'a Package,
+    movers: &Movers<'a>,
     scratch: &mut Scratch,
     set: &mut ClauseSet,
 ) -> Result<(), PushError>
+    requires movers { AreMovers space.now.repository movers.now }
     requires package { slice_get space.now.repository.packages number ≡ Some «package».now }
     requires front { IsFront space.now 4 (variable_of space.now (meaning.Present number)) 0 set.old set.old }
     ensures ok { OnOk result (IsFront space.now 4 (variable_of space.now (meaning.Present number) + 1) 0 set.old set.new) }
@@ -141,6 +177,7 @@ fn push_items(
             number,
             place,
             package.depends.get(place),
+            movers,
             scratch,
             set,
         )?;
@@ -151,20 +188,24 @@ fn push_items(
 }
 
 /// The clauses of the items of the package that a variable means as it is.
-pub(crate) fn push_items_of(
-    space: &Space,
+pub(crate) fn push_items_of<'a>(
+    space: &'a Space,
     variable: u32,
+    movers: &Movers<'a>,
     scratch: &mut Scratch,
     set: &mut ClauseSet,
 ) -> Result<(), PushError>
     requires from_one { 1 ≤ variable }
     requires in_range { variable ≤ length space.now.meanings }
+    requires movers { AreMovers space.now.repository movers.now }
     requires front { IsFront space.now 4 variable 0 set.old set.old }
     ensures ok { OnOk result (IsFront space.now 4 (variable + 1) 0 set.old set.new) }
     ensures err { IfErr result (IsCauseAt space.now set.old) }
 {
     match space.meaning(variable) {
-        Meaning::Present(number) => push_items(space, number, space.package(number), scratch, set),
+        Meaning::Present(number) => {
+            push_items(space, number, space.package(number), movers, scratch, set)
+        }
         _ => Ok(()),
     }
 }

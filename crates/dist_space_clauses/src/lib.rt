@@ -1,10 +1,11 @@
 //! The clauses of the space of futures, made in their order: their models stand for the futures and the healthy installations
 //! in them.
 //!
-//! A row of clauses is made for each demand from what the atoms of its package match; the work is that of the literals that
-//! are written. The words for lists of clauses are dist_clause's.
+//! A row of clauses is made for each demand from what the atoms of its package match: packages as they are by the order of versions,
+//! new versions of those and of packages that may match more when they move. The words for lists of clauses are dist_clause's.
 #![tactic(auto)]
 
+mod candidates;
 mod classed;
 mod clause_laws;
 mod clause_text;
@@ -16,7 +17,7 @@ mod groups;
 mod items;
 mod led_clauses;
 mod matched;
-mod rejecting;
+mod movers;
 
 pub use clause_laws::{
     one_limit_is_passed, space_clauses_are_one, space_clauses_are_there, space_clauses_go_on,

@@ -57,41 +57,40 @@ const ON_LAST: Said = Said::Strong(&[3], &[]);
 /// An uninstallable package.
 const LOST: Said = Said::Uninstallable;
 
-const CLAIMED: [Claimed; 10] = [
+/// What is claimed of the packages of four names, and of p where that is undecided.
+const CROWDED: [Said; 21] = [
+    NONE,
+    NONE,
+    NONE,
+    NONE,
+    NONE,
+    NONE,
+    NONE,
+    NONE,
+    NONE,
+    NONE,
+    NONE,
+    NONE,
+    NONE,
+    NONE,
+    NONE,
+    NONE,
+    NONE,
+    NONE,
+    NONE,
+    NONE,
+    Said::Unknown,
+];
+
+const CLAIMED: [Claimed; 11] = [
     ("", false, 10000, &[]),
     (ONE, false, 10000, &[NONE]),
     (DIAMOND, false, 10000, &[ON_LAST, ON_LAST, ON_LAST, NONE]),
     (APART, false, 10000, &[LOST, NONE]),
     (VERSIONS, false, 10000, &[NONE, NONE, NONE]),
-    // After one line the question of the last package is undecided.
-    (
-        PIGEONS,
-        false,
-        1,
-        &[
-            NONE,
-            NONE,
-            NONE,
-            NONE,
-            NONE,
-            NONE,
-            NONE,
-            NONE,
-            NONE,
-            NONE,
-            NONE,
-            NONE,
-            NONE,
-            NONE,
-            NONE,
-            NONE,
-            NONE,
-            NONE,
-            NONE,
-            NONE,
-            Said::Unknown,
-        ],
-    ),
+    // After one line, or two, the question of the last package is undecided.
+    (PIGEONS, false, 1, &CROWDED),
+    (PIGEONS, false, 2, &CROWDED),
     // With lines enough it is uninstallable.
     (
         PIGEONS,

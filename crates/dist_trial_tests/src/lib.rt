@@ -1,6 +1,10 @@
-//! Trials, each twice: the three sweeps and checks of an archive. Those of larger archives take some 20 seconds as the gate builds
-//! them; `rt try`, which builds with checks, is hundreds of times slower, so they stand apart from the other tests.
+//! Trials, each twice: the three sweeps and checks of an archive; and a package with more installations than a claim may name. Those
+//! of larger archives take some 20 seconds as the gate builds them; `rt try`, which builds with checks, is hundreds of times slower,
+//! so they stand apart from the other tests.
 #![tactic(auto)]
+
+#[cfg(test)]
+mod many_installations;
 
 ghost use Rattle.std.specs.Prelude.{◌≤◌};
 ghost use Rattle.dist_base.specs.declared.TheConstants.{MAX_SIZE};
@@ -48,5 +52,11 @@ fn archives_of_three_hundred_packages(rt: HostRuntime) -> Result<(), Fail> {
     for seed in [0, 1, 5] {
         assert_eq!(rt; is_told_twice(rt.alloc(), 300, seed), Ok(true));
     }
+    Ok(())
+}
+
+#[test]
+fn an_archive_of_a_thousand_packages(rt: HostRuntime) -> Result<(), Fail> {
+    assert_eq!(rt; is_told_twice(rt.alloc(), 1000, 1), Ok(true));
     Ok(())
 }

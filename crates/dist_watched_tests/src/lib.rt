@@ -1,11 +1,15 @@
-//! The search by watched literals, each of its answers tested: pigeons in holes, and small clause sets compared with trying all
-//! assignments. Tests alone.
+//! The search by watched literals, the quick phase and the solver above them, each of their answers tested: pigeons in holes, and
+//! small clause sets compared with trying all assignments. Tests alone.
 #![tactic(auto)]
 
+#[cfg(test)]
+mod answers;
 #[cfg(test)]
 mod literals;
 #[cfg(test)]
 mod pigeons;
+#[cfg(test)]
+mod quick;
 #[cfg(test)]
 mod small_sets;
 #[cfg(test)]

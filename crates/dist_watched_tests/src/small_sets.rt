@@ -12,19 +12,19 @@ use std::process::Abort;
 
 /// Numbers that are drawn one after another, the same ones for each seed.
 #[derive(Drop)]
-struct Draws {
+pub(crate) struct Draws {
     state: u64,
 }
 
 impl Draws {
-    fn new(seed: u64) -> Draws {
+    pub(crate) fn new(seed: u64) -> Draws {
         Draws {
             state: seed.wrapping_mul(2).wrapping_add(1),
         }
     }
 
     /// A number below a bound, or 0.
-    fn draw(&mut self, bound: u32) -> u32 {
+    pub(crate) fn draw(&mut self, bound: u32) -> u32 {
         self.state = self
             .state
             .wrapping_mul(6364136223846793005)
@@ -37,7 +37,12 @@ impl Draws {
 }
 
 /// A clause of at most so many literals.
-fn draw_clause(alloc: Global, draws: &mut Draws, variables: u32, width: u32) -> Option<Vec<Lit>>
+pub(crate) fn draw_clause(
+    alloc: Global,
+    draws: &mut Draws,
+    variables: u32,
+    width: u32,
+) -> Option<Vec<Lit>>
     requires { variables ≤ 1000 }
     ensures { IfSome result (λ c. IsClauseOver variables c.items) }
 {
@@ -50,7 +55,12 @@ fn draw_clause(alloc: Global, draws: &mut Draws, variables: u32, width: u32) -> 
 }
 
 /// So many clauses over so many variables.
-fn draw_set(alloc: Global, draws: &mut Draws, variables: u32, clauses: u32) -> Option<ClauseSet>
+pub(crate) fn draw_set(
+    alloc: Global,
+    draws: &mut Draws,
+    variables: u32,
+    clauses: u32,
+) -> Option<ClauseSet>
     requires { variables ≤ 1000 }
     ensures { IfSome result (λ s. s.variables ≡ variables) }
 {
@@ -64,7 +74,7 @@ fn draw_set(alloc: Global, draws: &mut Draws, variables: u32, clauses: u32) -> O
 }
 
 /// Whether one of the assignments of five variables is a model in which the literals are true.
-fn is_possible(alloc: Global, clauses: &ClauseSet, literals: &[Lit]) -> Option<bool>
+pub(crate) fn is_possible(alloc: Global, clauses: &ClauseSet, literals: &[Lit]) -> Option<bool>
     requires clauses { clauses.now.variables ≡ 5 }
     requires literals { IsClauseOver 5 literals.now }
 {
@@ -83,7 +93,7 @@ fn is_possible(alloc: Global, clauses: &ClauseSet, literals: &[Lit]) -> Option<b
 }
 
 /// Whether a question is answered as by trying all assignments.
-fn agrees(
+pub(crate) fn agrees(
     alloc: Global,
     draws: &mut Draws,
     clauses: &ClauseSet,
@@ -105,24 +115,46 @@ fn agrees(
     Some(end == expected)
 }
 
-/// Whether six questions to one search over the clauses of a seed are answered as by trying all assignments. Every other log
-/// has its index.
-fn is_agreed(alloc: Global, seed: u64) -> Option<bool> {
-    let number = Draws::new(seed).draw(21);
-    let clauses = draw_set(alloc, &mut Draws::new(seed), 5, number)?;
-    let same = draw_set(alloc, &mut Draws::new(seed), 5, number)?;
-    let mut log = Log::new(alloc, same, 1000, 10000);
-    if seed % 2 == 0 {
+/// A log of clauses over five variables, with its index or without.
+pub(crate) fn log_of(alloc: Global, clauses: ClauseSet, is_covered: bool) -> Option<Log>
+    requires { clauses.variables ≡ 5 }
+    ensures { IfSome result (λ log. log.variables ≡ 5) }
+{
+    let mut log = Log::new(alloc, clauses, 1000, 10000);
+    if is_covered {
         log.cover().ok()?;
     }
-    let mut watched = Watched::new(alloc, 5);
-    let mut draws = Draws::new(seed.wrapping_add(1000));
+    Some(log)
+}
+
+/// Whether six questions to one search are answered as by trying all assignments.
+fn all_agree(
+    alloc: Global,
+    draws: &mut Draws,
+    clauses: &ClauseSet,
+    log: &mut Log,
+    watched: &mut Watched,
+) -> Option<bool>
+    requires clauses { clauses.now.variables ≡ 5 }
+    requires log { log.old.variables ≡ 5 }
+{
     'questions: for _ in 0..6 {
-        if !agrees(alloc, &mut draws, &clauses, &mut log, &mut watched)? {
+        if !agrees(alloc, draws, clauses, log, watched)? {
             return Some(false);
         }
     }
     Some(true)
+}
+
+/// The same over the clauses of a seed. Every other log has its index.
+fn is_agreed(alloc: Global, seed: u64) -> Option<bool> {
+    let number = Draws::new(seed).draw(21);
+    let clauses = draw_set(alloc, &mut Draws::new(seed), 5, number)?;
+    let same = draw_set(alloc, &mut Draws::new(seed), 5, number)?;
+    let mut log = log_of(alloc, same, seed % 2 == 0)?;
+    let mut draws = Draws::new(seed.wrapping_add(1000));
+    let mut watched = Watched::new(alloc, 5);
+    all_agree(alloc, &mut draws, &clauses, &mut log, &mut watched)
 }
 
 fn hold_small(rt: &(impl Abort + AllocGlobal), seeds: u64) {

@@ -90,7 +90,12 @@ fn take_turns(
 }
 
 /// What a model comes to of which the true variables are given.
-fn found(alloc: Global, clauses: &ClauseSet, assumptions: &[Lit], trues: &[u32]) -> Option<End>
+pub(crate) fn found(
+    alloc: Global,
+    clauses: &ClauseSet,
+    assumptions: &[Lit],
+    trues: &[u32],
+) -> Option<End>
     requires { IsClauseOver clauses.now.variables assumptions.now }
 {
     let mut values = Assignment::new(alloc, clauses.variables()).ok()?;
@@ -128,7 +133,7 @@ pub(crate) fn are_true(values: &Assignment, literals: &[Lit]) -> bool
 }
 
 /// What hints come to by which the negated assumptions are to follow.
-fn refuted(
+pub(crate) fn refuted(
     alloc: Global,
     log: &Log,
     scratch: &mut Scratch,

@@ -2,6 +2,7 @@ use Rattle.std.proofs.Common.{List, arith, subst, sym}
 use Rattle.dist_base.specs.ListLaws.{contains-at}
 use Rattle.dist_asked.specs.AskedLaws.{AreAsked, asked-earlier, asked-more, asked-none}
 use Rattle.dist_relation.specs.declared.atom.Atom.{Atom}
+use Rattle.dist_space_clauses.specs.GatheringPrivate.{IsLater}
 use Rattle.dist_space.specs.Space.{IsMatched}
 use Rattle.dist_space_clauses.specs.SpaceClauses.{Excludes}
 use Rattle.dist_space.specs.declared.meaning.Meaning.{Meaning}
@@ -10,13 +11,16 @@ use Rattle.dist_space_clauses.proofs.conflicts.add_atoms.Goals.{then-not-is_repe
 use Rattle.dist_space_clauses.proofs.conflicts.add_atoms.Goals as goal
 
 pub add_atom-requires : goal.add_atom-requires
-add_atom-requires c = record { atom = contains-at c.args.package.now.conflicts c.loop-place.place c.get-atom.result.now c.get-atom.ensures }
+add_atom-requires c = record {
+  atom = contains-at c.args.package.now.conflicts c.loop-place.place c.get-atom.result.now c.get-atom.ensures;
+  movers = c.requires;
+}
 
 pub loop-place-init : goal.loop-place-init
 loop-place-init c =
     let s = c.args.space.now in
     let Excluded = Excludes s c.args.number c.args.package.now in
-    let Of : Atom → Meaning → Type 0 = λ atom m. IsMatched s atom m × Excluded m in
+    let Of : Atom → Meaning → Type 0 = λ atom m. IsLater m × IsMatched s atom m × Excluded m in
     let atoms = c.args.package.now.conflicts in
     record {
       added = each-none s Excluded Of atoms c.args.variables.now.items;
@@ -27,7 +31,7 @@ pub loop-place-preserved : goal.loop-place-preserved
 loop-place-preserved c =
     let s = c.args.space.now in
     let Excluded = Excludes s c.args.number c.args.package.now in
-    let Of : Atom → Meaning → Type 0 = λ atom m. IsMatched s atom m × Excluded m in
+    let Of : Atom → Meaning → Type 0 = λ atom m. IsLater m × IsMatched s atom m × Excluded m in
     let atoms = c.args.package.now.conflicts in
     let first = c.args.variables.now.items in
     let old = c.loop-place.variables.items in
@@ -53,6 +57,6 @@ pub returns : goal.returns
 returns c =
     let s = c.args.space.now in
     let Excluded = Excludes s c.args.number c.args.package.now in
-    let Of : Atom → Meaning → Type 0 = λ atom m. IsMatched s atom m × Excluded m in
+    let Of : Atom → Meaning → Type 0 = λ atom m. IsLater m × IsMatched s atom m × Excluded m in
     each-whole s Excluded Of c.args.package.now.conflicts c.args.variables.now.items c.loop-place.variables.items c.loop-place.place
     (let e = c.len-place-end.ensures in omega (arith, e, c.loop-place-test.false)) c.loop-place.invariant.added

@@ -3,9 +3,9 @@ use Rattle.dist_clause.specs.ClauseList.{ClauseList}
 use Rattle.dist_clause.specs.Formula.{IsModel}
 use Rattle.dist_derive.proofs.inputs.Inputs.hold.Goals as goal
 
-pub returns-in-Some : goal.returns-in-Some
-returns-in-Some c = λ value gives. subst (λ (s : ClauseList). IsTrue c.hold.result ↔ IsModel value s.clauses) c.self.view_is (c.hold.ensures value gives)
+pub returns-then-self : goal.returns-then-self
+returns-then-self c = λ value gives. subst (λ (s : ClauseList). IsTrue c.hold.result ↔ IsModel value s.clauses) c.self.view_is (c.hold.ensures value gives)
 
-pub returns-in-None : goal.returns-in-None
-returns-in-None c = λ value gives. subst (λ (s : ClauseList). IsTrue c.hold-in-None.result ↔ IsModel value s.clauses) c.self.view_is
-    (c.hold-in-None.ensures value gives)
+pub returns-else-self : goal.returns-else-self
+returns-else-self c = λ value gives. subst (λ (s : ClauseList). IsTrue c.hold-else-self.result ↔ IsModel value s.clauses) c.self.view_is
+    (c.hold-else-self.ensures value gives)

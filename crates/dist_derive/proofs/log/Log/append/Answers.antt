@@ -1,11 +1,9 @@
-use Rattle.std.proofs.Common.{◌≡◌, ◌+◌, ◌++◌, ◌∷◌, [], length, ap, sym, subst, append_assoc, arith}
+use Rattle.std.proofs.Common.{◌≡◌, ◌+◌, length, ap, sym, subst, arith}
 use Rattle.std.proofs.lemmas.List.{length_push}
 use Rattle.dist_clause.specs.ClauseList.{ClauseList}
-use Rattle.dist_derive.specs.LevelPrivate.{IsLevelOf}
 use Rattle.dist_derive.specs.LogPrivate.{IsKept}
-use Rattle.std.proofs.lemmas.Option.{IfSome_then}
 use Rattle.dist_derive.proofs.LogLemmas.{IsIndexed-line}
-use Rattle.dist_derive.proofs.LevelLemmas.{level_appended}
+use Rattle.dist_derive.proofs.LevelLemmas.{made_appended}
 use Rattle.dist_derive.proofs.log.Log.append.Goals as goal
 
 pub invariant_of-self : goal.invariant_of-self
@@ -14,16 +12,12 @@ invariant_of-self c =
     let lines = c.self.inside.lines in
     let number : c.len.result + c.len-in-Ok.result ≡ length c.self.inside.inputs.clauses + length lines.clauses + 1 =
     omega (arith, ap (λ (s : ClauseList). length s.clauses) c.in-Ok.ensures.ok, length_push lines.clauses c.args.clause.now) in
-    let both : (inputs.clauses ++ lines.clauses) ++ c.args.clause.now ∷ [] ≡ inputs.clauses ++ (lines.clauses ++ c.args.clause.now ∷ []) =
-    append_assoc inputs.clauses lines.clauses (c.args.clause.now ∷ []) in
-    subst (λ (more : ClauseList). IsKept inputs more c.add_next.new.self c.self.inside.level c.self.inside.under) (sym c.in-Ok.ensures.ok)
+    subst (λ (more : ClauseList). IsKept inputs more c.add_next.new.self c.self.inside.alone c.self.inside.assuming) (sym c.in-Ok.ensures.ok)
     (record {
       indexed = IsIndexed-line c.self.inside.inputs lines c.self.inside.occurrences c.add_next.new.self c.args.clause.now (c.len.result + c.len-in-Ok.result)
           c.self.invariant.indexed number c.add_next.ensures;
-      level_of = IfSome_then c.self.inside.level c.self.invariant.level_of (λ l is.
-          subst (λ cs. IsLevelOf cs inputs.variables [] l.literals l.taken) both
-          (level_appended (inputs.clauses ++ lines.clauses) inputs.variables l.taken [] l.literals c.args.clause.now is));
-      under_of = IfSome_then c.self.inside.under c.self.invariant.under_of (λ u is.
-          subst (λ cs. IsLevelOf cs inputs.variables (u.literal ∷ []) u.level.literals u.level.taken) both
-          (level_appended (inputs.clauses ++ lines.clauses) inputs.variables u.level.taken (u.literal ∷ []) u.level.literals c.args.clause.now is));
+      alone_of = made_appended inputs.clauses lines.clauses inputs.variables c.args.clause.now c.self.inside.alone c.self.invariant.alone_of;
+      no_assumption = c.self.invariant.no_assumption;
+      assuming_of = made_appended inputs.clauses lines.clauses inputs.variables c.args.clause.now c.self.inside.assuming
+          c.self.invariant.assuming_of;
     })

@@ -1,0 +1,14 @@
+pub mod FutureLemmas
+pub mod CarriedLemmas
+pub mod SlotLemmas
+pub mod SearchLemmas
+pub mod EntryLemmas
+pub mod HeldLemmas
+pub mod KeptLemmas
+pub mod ChangeLemmas
+pub mod NameLemmas
+pub mod ClusterLemmas
+pub mod OrderLemmas
+pub mod UploadLemmas
+pub mod MadeLemmas
+pub mod RefusalLemmas

@@ -1,0 +1,9 @@
+pub mod Steps
+pub mod Refusals
+pub mod Archive
+pub mod AnswersPrivate
+pub mod UploadsPrivate
+pub mod BringingPrivate
+pub mod SlotsPrivate
+pub mod CarriedPrivate
+pub mod StepExamples

@@ -1,0 +1,21 @@
+//! Archives that change by steps, one after another, from a flat repository on: uploads of source clusters, removals, and
+//! packages of new names.
+//!
+//! The steps are defined in `specs/Steps.antt`, and the reasons to refuse one in `specs/Refusals.antt`. What an archive holds is
+//! always a future of its repository. Names are found by halving and in an ordered map; a step costs what it brings and the
+//! cluster that it names, whatever the archive's size. Packages that stay are not copied.
+#![tactic(auto)]
+
+mod archive;
+mod bringing;
+mod carried;
+mod finding;
+mod laws;
+mod new_names;
+mod slots;
+mod step;
+mod uploads;
+
+pub use archive::{Archive, start};
+pub use laws::{challenges_hold_after_steps, steps_reach_futures};
+pub use step::{Step, StepError};
