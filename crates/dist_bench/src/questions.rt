@@ -157,7 +157,12 @@ fn asked_of(alloc: Global, repository: &Repository, essential: bool) -> Result<V
         (λ error. (error ≡ JobError.TooManyClauses) × PassesPresentLimits repository.now essential) JobError.NoMemory result }
 {
     let mut solver = solver_of(alloc, repository, essential)?;
-    Ok(counts_of(alloc, &mut solver)?)
+    let counts = counts_of(alloc, &mut solver);
+    drop(solver);
+    match counts {
+        Ok(text) => Ok(text),
+        Err(AllocError) => Err(JobError::NoMemory),
+    }
 }
 
 /// How the questions for the newest packages of the file were answered.
@@ -219,7 +224,12 @@ fn last_of(alloc: Global, repository: &Repository) -> Result<Vec<u8>, JobError>
         (λ error. (error ≡ JobError.TooManyClauses) × PassesPresentLimits repository.now false) JobError.NoMemory result }
 {
     let mut solver = solver_of(alloc, repository, false)?;
-    Ok(last_by(alloc, repository, &mut solver)?)
+    let answer = last_by(alloc, repository, &mut solver);
+    drop(solver);
+    match answer {
+        Ok(text) => Ok(text),
+        Err(AllocError) => Err(JobError::NoMemory),
+    }
 }
 
 /// Whether the last of the newest packages of the file is installable, at mode plain.

@@ -19,10 +19,11 @@ fn log_of(alloc: Global, is_covered: bool) -> Option<Log>
         return None;
     }
     let mut log = Log::new(alloc, inputs, 2, 8);
-    if is_covered {
-        log.cover().ok()?;
+    if !is_covered || log.cover().is_ok() {
+        return Some(log);
     }
-    Some(log)
+    drop(log);
+    None
 }
 
 /// Whether the clauses in which a literal stands have these numbers, the latest first.
@@ -55,7 +56,9 @@ fn are_found(alloc: Global, log: &mut Log) -> Option<bool>
 
 fn literals_are_found(alloc: Global) -> Option<bool> {
     let mut log = log_of(alloc, true)?;
-    are_found(alloc, &mut log)
+    let found = are_found(alloc, &mut log);
+    drop(log);
+    found
 }
 
 #[test]
@@ -91,9 +94,11 @@ fn is_new_and_reached(alloc: Global, log: &Log, numbers: &[i32]) -> Option<(bool
 {
     let assumption = clause(alloc, 5, &[1])?;
     let line = clause(alloc, 5, numbers)?;
-    let mut scratch = Scratch::new(alloc, 5).ok()?;
     let mut cone = VariableSet::new(alloc, 5).ok()?;
-    Some(is_new_by_both(log, &mut scratch, &mut cone, &assumption, &line))
+    let mut scratch = Scratch::new(alloc, 5).ok()?;
+    let told = is_new_by_both(log, &mut scratch, &mut cone, &assumption, &line);
+    drop(scratch);
+    Some(told)
 }
 
 /// A clause, and whether it is new.
@@ -116,7 +121,9 @@ fn is_told_of(alloc: Global, log: &Log, row: &New) -> Option<bool>
 /// The same of a log with its index or without.
 fn is_told(alloc: Global, row: &New, is_covered: bool) -> Option<bool> {
     let log = log_of(alloc, is_covered)?;
-    is_told_of(alloc, &log, row)
+    let told = is_told_of(alloc, &log, row);
+    drop(log);
+    told
 }
 
 fn tell_all(rt: &(impl Abort + AllocGlobal), rows: &[New], is_covered: bool) {
@@ -148,12 +155,16 @@ fn are_new_in(alloc: Global, log: &mut Log, lines: &[&[i32]]) -> Option<bool>
     }
     let assumption = clause(alloc, 5, &[1])?;
     let mut scratch = Scratch::new(alloc, 5).ok()?;
-    Some(log.are_new(&mut scratch, &assumption, 3))
+    let new = log.are_new(&mut scratch, &assumption, 3);
+    drop(scratch);
+    Some(new)
 }
 
 fn lines_are_new(alloc: Global, lines: &[&[i32]]) -> Option<bool> {
     let mut log = log_of(alloc, true)?;
-    are_new_in(alloc, &mut log, lines)
+    let new = are_new_in(alloc, &mut log, lines);
+    drop(log);
+    new
 }
 
 #[test]
@@ -204,7 +215,9 @@ const TRUES: [Trues; 5] = [
 /// Whether a row holds as it says.
 fn is_held(alloc: Global, row: &Trues, is_covered: bool) -> Option<bool> {
     let log = log_of(alloc, is_covered)?;
-    is_held_by(alloc, &log, row)
+    let held = is_held_by(alloc, &log, row);
+    drop(log);
+    held
 }
 
 fn hold_all(rt: &(impl Abort + AllocGlobal), rows: &[Trues], is_covered: bool) {

@@ -74,16 +74,25 @@ fn has_clause(alloc: Global, log: &Log, number: u32, numbers: &[i32]) -> Option<
 }
 
 /// Whether a log of two clauses answers as the rows say, and has the two lines that it took.
-fn are_numbered_on(alloc: Global, rows: &[Appended]) -> Option<bool> {
-    let mut log = log_of(alloc, CONFLICT)?;
+fn is_numbered_on(alloc: Global, log: &mut Log, rows: &[Appended]) -> Option<bool>
+    requires { log.old.variables ≡ 5 }
+{
     Some(
         log.variables() == 5
-            && are_appended(alloc, &mut log, rows)
+            && are_appended(alloc, log, rows)
             && log.inputs() == 2
             && log.len() == 4
-            && has_clause(alloc, &log, 2, &[-1, -2])?
-            && has_clause(alloc, &log, 3, &[-1])?,
+            && has_clause(alloc, log, 2, &[-1, -2])?
+            && has_clause(alloc, log, 3, &[-1])?,
     )
+}
+
+/// The same of a new one.
+fn are_numbered_on(alloc: Global, rows: &[Appended]) -> Option<bool> {
+    let mut log = log_of(alloc, CONFLICT)?;
+    let numbered = is_numbered_on(alloc, &mut log, rows);
+    drop(log);
+    numbered
 }
 
 #[test]
@@ -119,12 +128,23 @@ fn follow(log: &Log, scratch: &mut Scratch, line: &[Lit], rows: &[Following]) ->
     true
 }
 
-/// Whether the negated first variable follows of a conflict as each row says.
-fn follow_as_told(alloc: Global, rows: &[Following]) -> Option<bool> {
-    let log = log_of(alloc, CONFLICT)?;
+/// Whether the negated first variable follows in a log as each row says.
+fn follow_in(alloc: Global, log: &Log, rows: &[Following]) -> Option<bool>
+    requires { log.now.variables ≡ 5 }
+{
     let line = clause(alloc, 5, &[-1])?;
     let mut scratch = Scratch::new(alloc, 5).ok()?;
-    Some(follow(&log, &mut scratch, &line, rows))
+    let told = follow(log, &mut scratch, &line, rows);
+    drop(scratch);
+    Some(told)
+}
+
+/// The same of a conflict.
+fn follow_as_told(alloc: Global, rows: &[Following]) -> Option<bool> {
+    let log = log_of(alloc, CONFLICT)?;
+    let told = follow_in(alloc, &log, rows);
+    drop(log);
+    told
 }
 
 #[test]
@@ -171,7 +191,9 @@ fn is_judged(alloc: Global, log: &Log, row: &New) -> Option<bool>
     let assumption = clause(alloc, 5, &[1])?;
     let line = clause(alloc, 5, row.2)?;
     let mut scratch = Scratch::new(alloc, 5).ok()?;
-    Some(is_new(log, &mut scratch, &assumption, &line, row))
+    let told = is_new(log, &mut scratch, &assumption, &line, row);
+    drop(scratch);
+    Some(told)
 }
 
 /// The log of a row, with its line.
@@ -179,15 +201,20 @@ fn log_of_row(alloc: Global, row: &New) -> Option<Log>
     ensures { IfSome result (λ log. log.variables ≡ 5) }
 {
     let mut log = log_of(alloc, row.0)?;
-    if !row.1.is_empty() && !append(alloc, &mut log, row.1)?.is_ok() {
-        return None;
+    if row.1.is_empty() || matches!(append(alloc, &mut log, row.1), Some(Ok(_))) {
+        Some(log)
+    } else {
+        drop(log);
+        None
     }
-    Some(log)
 }
 
 /// Whether the clause of a row is new or not, as the row says.
 fn is_told(alloc: Global, row: &New) -> Option<bool> {
-    is_judged(alloc, &log_of_row(alloc, row)?, row)
+    let log = log_of_row(alloc, row)?;
+    let told = is_judged(alloc, &log, row);
+    drop(log);
+    told
 }
 
 fn hold_new(rt: &(impl Abort + AllocGlobal), rows: &[New]) {
@@ -219,9 +246,18 @@ fn reaches(alloc: Global, log: &Log, numbers: &[i32], expected: &[u32]) -> Optio
 }
 
 /// Whether two cones have the variables that their assumptions reach.
+fn are_marked(alloc: Global, log: &Log) -> Option<bool>
+    requires { log.now.variables ≡ 5 }
+{
+    Some(reaches(alloc, log, &[1], &[1, 2, 3])? && reaches(alloc, log, &[-4], &[4, 5])?)
+}
+
+/// The same in a log of a choice.
 fn cones_are_marked(alloc: Global) -> Option<bool> {
     let log = log_of(alloc, CHOICE)?;
-    Some(reaches(alloc, &log, &[1], &[1, 2, 3])? && reaches(alloc, &log, &[-4], &[4, 5])?)
+    let marked = are_marked(alloc, &log);
+    drop(log);
+    marked
 }
 
 /// Whether a set of no variables is empty, and stays so.
@@ -257,7 +293,9 @@ fn is_settled(trues: &mut TrueLiterals, line: &[Lit]) -> bool
 fn literals_settle(alloc: Global) -> Option<bool> {
     let line = clause(alloc, 5, &[-1, 2])?;
     let mut trues = TrueLiterals::new(alloc, 5).ok()?;
-    Some(is_settled(&mut trues, &line))
+    let settled = is_settled(&mut trues, &line);
+    drop(trues);
+    Some(settled)
 }
 
 #[test]

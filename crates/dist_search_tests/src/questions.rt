@@ -156,9 +156,11 @@ fn negated(alloc: Global, assumptions: &[Lit]) -> Option<Vec<Lit>>
 fn refuted(alloc: Global, solver: &Solver, assumptions: &[Lit], hints: &[u32]) -> Option<Seen>
     requires { solver.now.log.variables ≡ 21 }
 {
-    let mut scratch = Scratch::new(alloc, 21).ok()?;
     let negated = negated(alloc, assumptions)?;
-    if solver.log().follows(&mut scratch, &negated, hints) {
+    let mut scratch = Scratch::new(alloc, 21).ok()?;
+    let follows = solver.log().follows(&mut scratch, &negated, hints);
+    drop(scratch);
+    if follows {
         Some(Seen::Refuted)
     } else {
         Some(Seen::NotRefuted)
@@ -425,7 +427,9 @@ fn has_added(alloc: Global, solver: &Solver) -> Option<bool> {
     let mut scratch = Scratch::new(alloc, log.variables()).ok()?;
     let hints = derived.hints(0);
     let of_four = hints.iter().all(|number| *number <= 4);
-    Some(of_four && log.follows(&mut scratch, log.clause(5), hints))
+    let follows = log.follows(&mut scratch, log.clause(5), hints);
+    drop(scratch);
+    Some(of_four && follows)
 }
 
 /// Whether a question with the limit of one line adds that line, of a solver of the four clauses.
