@@ -47,7 +47,9 @@ pub fn outdated<D: Desk>(
         clauses: inputs.clauses,
     };
     let mut claimant = OutdatedClaimant::new(alloc, inputs.space)?;
-    write_sweep(alloc, &mut claimant, over, desk, name, limits)
+    let claims = write_sweep(alloc, &mut claimant, over, desk, name, limits);
+    drop(claimant);
+    claims
 }
 
 /// Writes a certificate of the classes of later versions that challenge each of the newest packages to the file of that name, and
@@ -81,5 +83,7 @@ pub fn challenged<D: Desk>(
         clauses: inputs.clauses,
     };
     let mut claimant = ChallengedClaimant::new(alloc, inputs.space)?;
-    write_sweep(alloc, &mut claimant, over, desk, name, limits)
+    let claims = write_sweep(alloc, &mut claimant, over, desk, name, limits);
+    drop(claimant);
+    claims
 }

@@ -80,10 +80,19 @@ fn claims_behind<D: Desk>(
 {
     let mut state = state;
     let mut tools = Tools::new(alloc, header.variables)?;
-    take_lines(
+    match take_lines(
         alloc, repo, desk, limits, header, reader, &mut state, &mut tools,
-    )?;
-    Ok(state.into_claims())
+    ) {
+        Ok(()) => {
+            drop(tools);
+            Ok(state.into_claims())
+        }
+        Err(error) => {
+            drop(tools);
+            drop(state);
+            Err(error)
+        }
+    }
 }
 
 /// Checks the text that a desk is reading.

@@ -13,11 +13,11 @@ use dist_check_state::{FutureClauses, State};
 use dist_clause::ClauseSet;
 use dist_derive::Log;
 use dist_future::future_clauses_are_two_parts;
-use dist_outside::Limits;
+use dist_outside::{Limits, WorkError};
 use dist_repo::Repository;
 use dist_space::packages_come_first;
 use dist_subject::{later_inputs, present_inputs};
-use std::alloc::Global;
+use std::alloc::{AllocError, Global};
 
 /// What certificates of a kind and mode are judged by.
 #[derive(Drop)]
@@ -152,6 +152,11 @@ pub(crate) fn start(
         return Err(bad_header());
     }
     let mut log = Log::new(alloc, inputs, limits.lines, limits.line_literals);
-    log.cover()?;
-    Ok(State::new(alloc, header.limit, packages, layout, future, log))
+    match log.cover() {
+        Ok(()) => Ok(State::new(alloc, header.limit, packages, layout, future, log)),
+        Err(AllocError) => {
+            drop(log);
+            Err(ReadCertError::Work(WorkError::NoMemory))
+        }
+    }
 }

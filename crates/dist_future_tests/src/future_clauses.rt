@@ -185,11 +185,18 @@ const CLAUSES: [Clauses; 8] = [
     ),
 ];
 
-/// Whether the space of some stanzas has exactly these clauses.
+/// Whether a space has exactly these clauses.
+fn has_clauses(alloc: Global, space: &Space, clauses: &[&[i32]]) -> Option<bool> {
+    let set = clauses_of(alloc, space, MAX_CLAUSES, MAX_LITERALS).ok()?;
+    Some(has(&set, clauses) && set.variables() == space.variables())
+}
+
+/// The same of the space of some stanzas.
 fn is_made(alloc: Global, stanzas: &str, essential: bool, clauses: &[&[i32]]) -> Option<bool> {
     let space = small_space(alloc, stanzas, essential)?;
-    let set = clauses_of(alloc, &space, MAX_CLAUSES, MAX_LITERALS).ok()?;
-    Some(has(&set, clauses) && set.variables() == space.variables())
+    let made = has_clauses(alloc, &space, clauses);
+    drop(space);
+    made
 }
 
 fn hold_clauses(rt: &(impl Abort + AllocGlobal), rows: &[Clauses]) {
@@ -229,10 +236,17 @@ const ENDS: [Ends; 7] = [
 ];
 
 /// Where the groups of a space's clauses end, and how many clauses there are.
+fn ends_in(alloc: Global, space: &Space) -> Option<(u32, u32, u32, u32)> {
+    let (set, ends) = clauses_with_ends(alloc, space, MAX_CLAUSES, MAX_LITERALS).ok()?;
+    Some((ends.early, ends.today, ends.after, set.len()))
+}
+
+/// The same of the space of some stanzas.
 fn ends_of(alloc: Global, stanzas: &str, essential: bool) -> Option<(u32, u32, u32, u32)> {
     let space = small_space(alloc, stanzas, essential)?;
-    let (set, ends) = clauses_with_ends(alloc, &space, MAX_CLAUSES, MAX_LITERALS).ok()?;
-    Some((ends.early, ends.today, ends.after, set.len()))
+    let ends = ends_in(alloc, &space);
+    drop(space);
+    ends
 }
 
 fn hold_ends(rt: &(impl Abort + AllocGlobal), rows: &[Ends]) {
@@ -273,7 +287,10 @@ fn hold_limits(rt: &(impl Abort + AllocGlobal), space: &Space, rows: &[ClauseLim
 #[test]
 fn the_limits_of_clauses(rt: HostRuntime) -> Result<(), Fail> {
     match small_space(rt.alloc(), LIBRARY, false) {
-        Some(space) => hold_limits(&rt, &space, &LIMITS),
+        Some(space) => {
+            hold_limits(&rt, &space, &LIMITS);
+            drop(space);
+        }
         None => Err("no space")?,
     }
     Ok(())

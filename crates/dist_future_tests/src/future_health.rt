@@ -82,7 +82,9 @@ const ASSIGNMENTS: [Assignments; 5] = [
 /// Whether the assignments of a row have their health.
 fn has_health(alloc: Global, row: &Assignments) -> Option<bool> {
     let space = small_space(alloc, row.1, row.2)?;
-    have_health(alloc, &space, row.3)
+    let told = have_health(alloc, &space, row.3);
+    drop(space);
+    told
 }
 
 fn hold_assignments(rt: &(impl Abort + AllocGlobal), rows: &[Assignments]) {
@@ -237,7 +239,9 @@ const MODELS: [Models; 12] = [
 /// Whether the meanings of a row have models, as told.
 fn has_models(alloc: Global, row: &Models) -> Option<bool> {
     let space = small_space(alloc, row.1, row.2)?;
-    are_models(alloc, &space, row.3)
+    let told = are_models(alloc, &space, row.3);
+    drop(space);
+    told
 }
 
 fn hold_models(rt: &(impl Abort + AllocGlobal), rows: &[Models]) {

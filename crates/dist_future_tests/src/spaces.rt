@@ -34,10 +34,12 @@ pub(crate) fn space_within(
     requires { variables ≤ 1000 }
 {
     let repo = repository(alloc, stanzas)?;
-    if !repo.is_flat() || !repo.is_within_size() {
-        return None;
+    if repo.is_flat() && repo.is_within_size() {
+        Some(space_of(alloc, repo, essential, variables))
+    } else {
+        drop(repo);
+        None
     }
-    Some(space_of(alloc, repo, essential, variables))
 }
 
 /// The space of some stanzas, which is not large.

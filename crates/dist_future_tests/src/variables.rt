@@ -88,7 +88,11 @@ fn is_there(alloc: Global, row: &Variables, variables: u32) -> bool
     requires { variables ≤ 1000 }
 {
     match space_within(alloc, row.1, false, variables) {
-        Some(Ok(space)) => has_meanings(&space, row.2),
+        Some(Ok(space)) => {
+            let told = has_meanings(&space, row.2);
+            drop(space);
+            told
+        }
         _ => false,
     }
 }

@@ -29,29 +29,55 @@ fn install(
     window.add(Items::from_vec(members.to_vec(alloc)?))
 }
 
-/// What is said of a claim of the first of three packages, of which the second one was refuted and the third one left
-/// undecided. Of two installations the second one has no third package.
+/// Of two installations of the first of three packages the second one has no third package. The second package is refuted,
+/// and the third one left undecided.
+fn fill(
+    alloc: Global,
+    layout: &Layout,
+    window: &mut Window,
+    group: &mut Group,
+) -> Result<(), AllocError>
+    requires { window.old.count < 90 }
+{
+    install(alloc, layout, window, group, 1, &[1, 2, 3])?;
+    group.clear();
+    install(alloc, layout, window, group, 1, &[1, 2])?;
+    group.add_refuted(CertKind::Strong, 1, &[(1, true), (2, false)])?;
+    group.add_undecided(CertKind::Strong, 1, &[(1, true), (3, false)])
+}
+
+/// What is said of a claim of the first package then.
+fn judge_filled(
+    alloc: Global,
+    window: &mut Window,
+    group: &mut Group,
+    claim: &StrongClaim<'_>,
+) -> Result<Option<CertCause>, AllocError>
+    requires { window.old.count < 90 }
+{
+    fill(alloc, &Layout::present(alloc), window, group)?;
+    judge_rules(alloc, window, group, 3, claim)
+}
+
+/// The same of a new window and group.
 fn judged(
     alloc: Global,
     named: &[u32],
     on: &[u32],
     undecided: &[u32],
 ) -> Result<Option<CertCause>, AllocError> {
-    let layout = Layout::present(alloc);
     let mut window = Window::new(alloc);
     let mut group = Group::new(alloc);
-    install(alloc, &layout, &mut window, &mut group, 1, &[1, 2, 3])?;
-    group.clear();
-    install(alloc, &layout, &mut window, &mut group, 1, &[1, 2])?;
-    group.add_refuted(CertKind::Strong, 1, &[(1, true), (2, false)])?;
-    group.add_undecided(CertKind::Strong, 1, &[(1, true), (3, false)])?;
     let claim = StrongClaim {
         package: 1,
         named,
         on,
         undecided,
     };
-    judge_rules(alloc, &window, &group, 3, &claim)
+    let verdict = judge_filled(alloc, &mut window, &mut group, &claim);
+    drop(window);
+    drop(group);
+    verdict
 }
 
 #[test]
@@ -65,11 +91,12 @@ fn claims_are_judged(rt: HostRuntime) -> Result<(), Fail> {
 }
 
 #[test]
-fn questions_of_the_package_are_kept(rt: HostRuntime) -> Result<(), Fail> {
+fn questions_of_the_package_are_kept(rt: HostRuntime) {
     let mut group = Group::new(rt.alloc());
-    group.add_refuted(CertKind::Strong, 1, &[(1, true)])?;
-    assert!(rt; group.is_refuted() && !group.is_undecided());
-    Ok(())
+    let added = group.add_refuted(CertKind::Strong, 1, &[(1, true)]);
+    let kept = added.is_ok() && group.is_refuted() && !group.is_undecided();
+    drop(group);
+    assert!(rt; kept);
 }
 
 /// Of two packages, each a cluster of its own with one class: variables 2 and 3 are the packages as they are, 4 and 5 put the
@@ -82,7 +109,24 @@ fn two_clusters(alloc: Global) -> Result<Layout, AllocError> {
     Ok(Layout::new(CertKind::Challenged, clusters, classes))
 }
 
-/// What is said of a claim on challenges of the first package, where the second cluster's class was refuted.
+/// What is said of a claim on challenges of the first package, once the second cluster's class was refuted.
+fn judge_refuted(
+    alloc: Global,
+    layout: &Layout,
+    window: &mut Window,
+    group: &mut Group,
+    claim: &ChallengeClaim<'_>,
+) -> Result<Option<CertCause>, AllocError>
+    requires { window.old.count < 90 }
+{
+    install(alloc, layout, window, group, 2, &[2, 5])?;
+    group.clear();
+    install(alloc, layout, window, group, 2, &[1, 2, 3])?;
+    group.add_refuted(CertKind::Challenged, 2, &[(2, true), (5, true)])?;
+    judge_challenge(alloc, layout, window, group, claim)
+}
+
+/// The same of a new window and group.
 fn challenged(
     alloc: Global,
     named: &[u32],
@@ -91,17 +135,16 @@ fn challenged(
     let layout = two_clusters(alloc)?;
     let mut window = Window::new(alloc);
     let mut group = Group::new(alloc);
-    install(alloc, &layout, &mut window, &mut group, 2, &[2, 5])?;
-    group.clear();
-    install(alloc, &layout, &mut window, &mut group, 2, &[1, 2, 3])?;
-    group.add_refuted(CertKind::Challenged, 2, &[(2, true), (5, true)])?;
     let claim = ChallengeClaim {
         variable: 2,
         named,
         by,
         undecided: &[],
     };
-    judge_challenge(alloc, &layout, &window, &group, &claim)
+    let verdict = judge_refuted(alloc, &layout, &mut window, &mut group, &claim);
+    drop(window);
+    drop(group);
+    verdict
 }
 
 #[test]

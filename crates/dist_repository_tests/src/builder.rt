@@ -53,7 +53,10 @@ fn first_package(repository: &Repository) -> Option<Package> {
 
 /// The package of a stanza.
 fn package(alloc: Global, stanza: &str) -> Option<Package> {
-    first_package(&repository(alloc, stanza)?)
+    let repository = repository(alloc, stanza)?;
+    let package = first_package(&repository);
+    drop(repository);
+    package
 }
 
 /// The line of the package that another clashes with, or 0 for want of memory.
@@ -101,10 +104,15 @@ fn are_answered(alloc: Global, builder: &mut Builder, rows: &[Coming; 5]) -> boo
 fn held(alloc: Global, rows: &[Coming; 5]) -> Option<u32> {
     let mut builder = Builder::new(alloc);
     if !are_answered(alloc, &mut builder, rows) {
+        drop(builder);
         return None;
     }
     match builder.finish(None) {
-        Ok(repository) => Some(repository.len()),
+        Ok(repository) => {
+            let packages = repository.len();
+            drop(repository);
+            Some(packages)
+        }
         Err(_) => None,
     }
 }

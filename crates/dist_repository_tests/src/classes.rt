@@ -81,7 +81,9 @@ fn print_cluster(
     requires cluster { cluster < length clusters.now.members }
 {
     let classes = finder.classes_of_cluster(clusters, cluster).ok()?;
-    print_classes(alloc, &classes, out)?;
+    let printed = print_classes(alloc, &classes, out);
+    drop(classes);
+    printed?;
     out.push(b'|').ok()
 }
 
@@ -106,7 +108,10 @@ fn print_all(alloc: Global, repo: &Repository, out: &mut Vec<u8>) -> Option<()>
 {
     let clusters = repository_clusters(alloc, repo).ok()?;
     let finder = CutFinder::new(alloc, repo).ok()?;
-    print_clusters(alloc, &finder, &clusters, out)
+    let printed = print_clusters(alloc, &finder, &clusters, out);
+    drop(finder);
+    drop(clusters);
+    printed
 }
 
 /// Adds a new name and its classes.
@@ -114,7 +119,9 @@ fn print_name(alloc: Global, repo: &Repository, name: &Name, out: &mut Vec<u8>) 
     out.extend_from_slice(name.bytes()).ok()?;
     out.push(b':').ok()?;
     let classes = classes_of_new_name(alloc, repo, name).ok()?;
-    print_classes(alloc, &classes, out)
+    let printed = print_classes(alloc, &classes, out);
+    drop(classes);
+    printed
 }
 
 /// Adds all new names.
@@ -138,7 +145,11 @@ fn are(alloc: Global, repo: &Repository, expected: &str) -> bool {
 /// Whether a case is as expected.
 fn holds(alloc: Global, case: &Case) -> bool {
     match repository(alloc, case.0) {
-        Some(repo) => are(alloc, &repo, case.1),
+        Some(repo) => {
+            let told = are(alloc, &repo, case.1);
+            drop(repo);
+            told
+        }
         None => false,
     }
 }
@@ -184,7 +195,9 @@ fn have_numbers(
     rows: &[(&'static str, Option<u32>)],
 ) -> Option<bool> {
     let repo = repository(alloc, stanzas)?;
-    let classes = classes_above_first(alloc, &repo)?;
+    let classes = classes_above_first(alloc, &repo);
+    drop(repo);
+    let classes = classes?;
     Some(rows.iter().all(|row| has_number(alloc, &classes, row)))
 }
 

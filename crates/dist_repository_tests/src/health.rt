@@ -33,7 +33,10 @@ fn health_of_first(alloc: Global, repository: &Repository, essential: bool) -> O
 
 /// The health of the first package of some stanzas alone, at a mode.
 fn health_of(alloc: Global, stanzas: &str, essential: bool) -> Option<Health> {
-    health_of_first(alloc, &repository(alloc, stanzas)?, essential)
+    let repository = repository(alloc, stanzas)?;
+    let health = health_of_first(alloc, &repository, essential);
+    drop(repository);
+    health
 }
 
 fn hold(rt: &(impl Abort + AllocGlobal), rows: &[Row]) {

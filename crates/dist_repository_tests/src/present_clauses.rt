@@ -55,7 +55,9 @@ fn has_clauses(
 fn is_made(alloc: Global, row: &Clauses) -> Option<bool> {
     let (stanzas, packages, essential, clauses) = *row;
     let repository = repository(alloc, stanzas)?;
-    Some(repository.len() == packages && has_clauses(alloc, &repository, essential, clauses))
+    let made = repository.len() == packages && has_clauses(alloc, &repository, essential, clauses);
+    drop(repository);
+    Some(made)
 }
 
 fn hold_clauses(rt: &(impl Abort + AllocGlobal), rows: &[Clauses]) {
@@ -97,7 +99,10 @@ fn hold_limits(rt: &(impl Abort + AllocGlobal), repository: &Repository, rows: &
 #[test]
 fn the_limits_of_clauses(rt: HostRuntime) -> Result<(), Fail> {
     match repository(rt.alloc(), NEEDS_ENEMY) {
-        Some(repository) => hold_limits(&rt, &repository, &LIMITS),
+        Some(repository) => {
+            hold_limits(&rt, &repository, &LIMITS);
+            drop(repository);
+        }
         None => Err("no repository")?,
     }
     Ok(())

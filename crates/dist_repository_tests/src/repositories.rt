@@ -93,7 +93,11 @@ fn has_shape(repository: &Repository, packages: u32, flat: bool) -> bool {
 /// Whether a package and the copy of another are equal.
 fn is_copy(package: &Package, other: &Package) -> bool {
     match other.try_clone() {
-        Ok(copy) => copy == *package,
+        Ok(copy) => {
+            let same = copy == *package;
+            drop(copy);
+            same
+        }
         Err(_) => false,
     }
 }
@@ -109,7 +113,11 @@ fn begins_with(newest: &Repository, packages: u32, all: &Repository, number: u32
 /// Whether there are so many newest versions, and the first of them is the package of a number.
 fn has_newest(repository: &Repository, packages: u32, number: u32) -> bool {
     match repository.latest() {
-        Ok(newest) => begins_with(&newest, packages, repository, number),
+        Ok(newest) => {
+            let begins = begins_with(&newest, packages, repository, number);
+            drop(newest);
+            begins
+        }
         Err(_) => false,
     }
 }
@@ -204,7 +212,11 @@ fn holds(alloc: Global, repository: &Repository, fact: Fact) -> bool {
 /// Whether a fact holds of the repository of a file.
 fn holds_of(alloc: Global, text: &str, fact: Fact) -> bool {
     match repository(alloc, text) {
-        Some(repository) => holds(alloc, &repository, fact),
+        Some(repository) => {
+            let told = holds(alloc, &repository, fact);
+            drop(repository);
+            told
+        }
         None => false,
     }
 }

@@ -69,5 +69,7 @@ pub fn write_sweep<C: Claimant, D: Desk>(
     models_are_healthy();
     let header = first_line(&over);
     let mut asker = Asker::new(alloc, over.clauses, over.limit, limits)?;
-    write_file(alloc, claimant, &mut asker, desk, name, &header)
+    let claims = write_file(alloc, claimant, &mut asker, desk, name, &header);
+    drop(asker);
+    claims
 }

@@ -16,7 +16,9 @@ fn shown(alloc: Global, solver: &Solver, assumptions: &[Lit], hints: &[u32]) -> 
     requires { solver.now.log.variables ≡ 5 }
 {
     let mut scratch = Scratch::new(alloc, 5).ok()?;
-    refuted(alloc, solver.log(), &mut scratch, assumptions, hints)
+    let end = refuted(alloc, solver.log(), &mut scratch, assumptions, hints);
+    drop(scratch);
+    end
 }
 
 /// What a question comes to, once its answer was tested.

@@ -28,7 +28,9 @@ fn guess(
         Guess::Model => found(alloc, clauses, assumptions, quick.trues()),
         Guess::Refutation => {
             let mut scratch = Scratch::new(alloc, log.variables()).ok()?;
-            refuted(alloc, log, &mut scratch, assumptions, quick.hints())
+            let end = refuted(alloc, log, &mut scratch, assumptions, quick.hints());
+            drop(scratch);
+            end
         }
         Guess::Nothing => Some(End::Undecided),
     }
@@ -131,7 +133,9 @@ fn seen_in(alloc: Global, clauses: &ClauseSet, log: &Log, assumptions: &[Lit]) -
     requires assumptions { IsClauseOver 5 assumptions.now }
 {
     let mut quick = Quick::new(alloc, 5).ok()?;
-    guess(alloc, clauses, log, &mut quick, assumptions)
+    let end = guess(alloc, clauses, log, &mut quick, assumptions);
+    drop(quick);
+    end
 }
 
 /// What the quick phase finds of a row.
@@ -140,7 +144,9 @@ fn seen_of(alloc: Global, row: &Asked) -> Option<End> {
     let same = numbered_set(alloc, row.0)?;
     let assumptions = numbered(alloc, row.1)?;
     let log = log_of(alloc, same, true)?;
-    seen_in(alloc, &clauses, &log, &assumptions)
+    let end = seen_in(alloc, &clauses, &log, &assumptions);
+    drop(log);
+    end
 }
 
 fn hold_asked(rt: &(impl Abort + AllocGlobal), rows: &[Asked]) {
@@ -187,7 +193,10 @@ fn are_right_by(alloc: Global, seed: u64, clauses: &ClauseSet, log: &mut Log) ->
     let mut quick = Quick::new(alloc, 5).ok()?;
     let mut watched = Watched::new(alloc, 5);
     let mut draws = Draws::new(seed);
-    rounds_are_right(alloc, &mut draws, clauses, log, &mut quick, &mut watched)
+    let right = rounds_are_right(alloc, &mut draws, clauses, log, &mut quick, &mut watched);
+    drop(quick);
+    drop(watched);
+    right
 }
 
 /// The same over the clauses of a seed.
@@ -196,7 +205,9 @@ fn stays_right(alloc: Global, seed: u64) -> Option<bool> {
     let clauses = draw_set(alloc, &mut Draws::new(seed), 5, number)?;
     let same = draw_set(alloc, &mut Draws::new(seed), 5, number)?;
     let mut log = log_of(alloc, same, true)?;
-    are_right_by(alloc, seed.wrapping_add(1000), &clauses, &mut log)
+    let right = are_right_by(alloc, seed.wrapping_add(1000), &clauses, &mut log);
+    drop(log);
+    right
 }
 
 fn hold_small(rt: &(impl Abort + AllocGlobal), seeds: u64) {

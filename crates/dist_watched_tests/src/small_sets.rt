@@ -121,10 +121,11 @@ pub(crate) fn log_of(alloc: Global, clauses: ClauseSet, is_covered: bool) -> Opt
     ensures { IfSome result (λ log. log.variables ≡ 5) }
 {
     let mut log = Log::new(alloc, clauses, 1000, 10000);
-    if is_covered {
-        log.cover().ok()?;
+    if !is_covered || log.cover().is_ok() {
+        return Some(log);
     }
-    Some(log)
+    drop(log);
+    None
 }
 
 /// Whether six questions to one search are answered as by trying all assignments.
@@ -154,7 +155,10 @@ fn is_agreed(alloc: Global, seed: u64) -> Option<bool> {
     let mut log = log_of(alloc, same, seed % 2 == 0)?;
     let mut draws = Draws::new(seed.wrapping_add(1000));
     let mut watched = Watched::new(alloc, 5);
-    all_agree(alloc, &mut draws, &clauses, &mut log, &mut watched)
+    let agreed = all_agree(alloc, &mut draws, &clauses, &mut log, &mut watched);
+    drop(log);
+    drop(watched);
+    agreed
 }
 
 fn hold_small(rt: &(impl Abort + AllocGlobal), seeds: u64) {

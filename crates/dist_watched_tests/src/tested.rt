@@ -36,7 +36,7 @@ pub(crate) fn ask(
 {
     start(alloc, log, watched, assumptions)?;
     let mut scratch = Scratch::new(alloc, log.variables()).ok()?;
-    take_turns(
+    let end = take_turns(
         alloc,
         clauses,
         log,
@@ -44,7 +44,9 @@ pub(crate) fn ask(
         watched,
         assumptions,
         limit,
-    )
+    );
+    drop(scratch);
+    end
 }
 
 /// Starts a search within the cone of the assumptions.

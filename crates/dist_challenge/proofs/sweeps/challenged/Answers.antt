@@ -8,8 +8,8 @@ use Rattle.dist_challenge.proofs.Starts.{challenged-starts}
 use Rattle.dist_challenge.proofs.LaterKinds.{challenged-is-later}
 use Rattle.dist_challenge.proofs.sweeps.challenged.Goals as goal
 
-pub write_sweep-requires-clause-fits : goal.write_sweep-requires-clause-fits
-write_sweep-requires-clause-fits g c = λ p from upto.
+pub write_sweep-claims-requires-clause-fits : goal.write_sweep-claims-requires-clause-fits
+write_sweep-claims-requires-clause-fits g c = λ p from upto.
     let inputs = c.in_ok-inputs.inputs in
     let are = c.in_ok-inputs.ensures.ok Challenged challenged-is-later in
     let count = c.package_count.ensures in
@@ -22,7 +22,7 @@ returns-clause-answers g c =
     let space = inputs.space in
     let basis = Later space inputs.clauses.clauses in
     let setting = setting_of c.args.repo.now Challenged c.args.essential c.args.limit c.args.limits.now basis in
-    c.write_sweep.ensures c.args.repo.now basis c.len-packages.ensures.in_order
+    c.write_sweep-claims.ensures c.args.repo.now basis c.len-packages.ensures.in_order
     (c.in_ok-inputs.ensures.ok Challenged challenged-is-later) c.package_count.ensures
     (subst (λ (view : ChallengedView). KeepsChallenged setting [] view) (sym c.in_ok-claimant.ensures)
     (challenged-starts setting space (record { kind_is = refl; inputs = inputs.clauses.clauses; later = refl })))

@@ -42,42 +42,27 @@ returns-in_err-tools-clause-large g c =
     by-exit (λ (r : Result (List Claim) ReadCertError). IfErr r (LargeCause c.args.repo.now c.args.limits.now)) c.from_residual.result (Work NoMemory)
     c.from_residual.ensures.1 tt
 
-pub returns-in_err-take_lines-clause-text : goal.returns-in_err-take_lines-clause-text
-returns-in_err-take_lines-clause-text g c = λ told x.
-    by-exit (Of_text c.args.header.now c.args.repo.now c.args.limits.now told) c.from_residual-in_err-take_lines.result
-    c.in_err-take_lines.field-0.0 c.from_residual-in_err-take_lines.ensures.1
-    (stops-alike (λ (u : Unit {0}). c.args.header.now) (λ (u : Unit {0}). c.take_lines.new.state.claims) (λ (made : List Claim). c.args.header.now)
-    (λ (made : List Claim). made) c.args.repo.now c.args.limits.now told c.in_err-take_lines.field-0.0
-    (c.in_err-take_lines.ensures.text told x))
+pub returns-in-Err-clause-text : goal.returns-in-Err-clause-text
+returns-in-Err-clause-text g c = λ told x.
+    stops-alike (λ (u : Unit {0}). c.args.header.now) (λ (u : Unit {0}). c.take_lines.new.state.claims) (λ (made : List Claim). c.args.header.now)
+    (λ (made : List Claim). made) c.args.repo.now c.args.limits.now told c.in-Err.error (c.in-Err.ensures.text told x)
 
-pub returns-in_err-take_lines-clause-some : goal.returns-in_err-take_lines-clause-some
-returns-in_err-take_lines-clause-some g c =
-    let some = c.in_err-take_lines.ensures.some in
-    by-exit (Some_text c.args.header.now c.args.repo.now c.args.limits.now) c.from_residual-in_err-take_lines.result c.in_err-take_lines.field-0.0
-    c.from_residual-in_err-take_lines.ensures.1 (
+pub returns-in-Err-clause-some : goal.returns-in-Err-clause-some
+returns-in-Err-clause-some g c =
+    let some = c.in-Err.ensures.some in (
       some.0,
       stops-alike (λ (u : Unit {0}). c.args.header.now) (λ (u : Unit {0}). c.take_lines.new.state.claims) (λ (made : List Claim). c.args.header.now)
-          (λ (made : List Claim). made) c.args.repo.now c.args.limits.now (Some some.0) c.in_err-take_lines.field-0.0 some.1,
+          (λ (made : List Claim). made) c.args.repo.now c.args.limits.now (Some some.0) c.in-Err.error some.1,
     )
 
-pub returns-in_err-take_lines-clause-cause : goal.returns-in_err-take_lines-clause-cause
-returns-in_err-take_lines-clause-cause g c =
-    by-exit (λ (r : Result (List Claim) ReadCertError). IfErr r (TextCause (g.D.Desk.view c.args.desk.now) (g.D.Desk.view c.take_lines.new.desk)))
-    c.from_residual-in_err-take_lines.result c.in_err-take_lines.field-0.0 c.from_residual-in_err-take_lines.ensures.1 c.in_err-take_lines.ensures.cause
-
-pub returns-in_err-take_lines-clause-large : goal.returns-in_err-take_lines-clause-large
-returns-in_err-take_lines-clause-large g c =
-    by-exit (λ (r : Result (List Claim) ReadCertError). IfErr r (LargeCause c.args.repo.now c.args.limits.now)) c.from_residual-in_err-take_lines.result
-    c.in_err-take_lines.field-0.0 c.from_residual-in_err-take_lines.ensures.1 c.in_err-take_lines.ensures.large
-
-pub returns-clause-text : goal.returns-clause-text
-returns-clause-text g c = λ told x.
+pub returns-in-Ok-clause-text : goal.returns-in-Ok-clause-text
+returns-in-Ok-clause-text g c = λ told x.
     completed-alike (λ (made : List Claim). c.args.header.now) (λ (made : List Claim). made) c.args.repo.now c.args.limits.now told c.args.header.now
-    c.take_lines.new.state.claims c.into_claims.result refl c.into_claims.ensures (c.in_ok-take_lines.ensures.text told x)
+    c.take_lines.new.state.claims c.into_claims.result refl c.into_claims.ensures (c.in-Ok.ensures.text told x)
 
-pub returns-clause-some : goal.returns-clause-some
-returns-clause-some g c =
-    let some = c.in_ok-take_lines.ensures.some in (
+pub returns-in-Ok-clause-some : goal.returns-in-Ok-clause-some
+returns-in-Ok-clause-some g c =
+    let some = c.in-Ok.ensures.some in (
       some.0,
       completed-alike (λ (made : List Claim). c.args.header.now) (λ (made : List Claim). made) c.args.repo.now c.args.limits.now (Some some.0)
           c.args.header.now c.take_lines.new.state.claims c.into_claims.result refl c.into_claims.ensures some.1,

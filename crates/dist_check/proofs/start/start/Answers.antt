@@ -1,13 +1,12 @@
 use Rattle.std.proofs.Common.{◌∙◌, ap, sym}
 use Rattle.std.proofs.lemmas.Bool.{true≢false}
-use Rattle.std.proofs.lemmas.Result.{err_from_is_err_and}
 use Rattle.dist_derive.specs.ClauseLog.{ClauseLog}
 use Rattle.dist_check.specs.StartPrivate.{HasNumbers}
 use Rattle.dist_check.proofs.Begun.{begins, begun, fits-numbers}
 use Rattle.dist_check.proofs.start.start.Goals as goal
 
-pub returns : goal.returns
-returns c =
+pub returns-in-Ok : goal.returns-in-Ok
+returns-in-Ok c =
     let h = c.args.header.now in
     let subject = c.in_ok-subject.subject in
     begins c.args.repo.now c.args.limits.now h subject.packages subject.inputs subject.layout subject.future c.new.result
@@ -24,8 +23,3 @@ returns-then-not-has_numbers c =
     rw c.bad_header.ensures
     (fits-numbers c.args.repo.now c.args.limits.now c.args.header.now subject.packages subject.inputs subject.layout subject.future
     c.in_ok-subject.ensures.ok wrong)
-
-pub returns-in_err-cover : goal.returns-in_err-cover
-returns-in_err-cover c =
-    let p = err_from_is_err_and c.from_residual-in_err-cover.result c.from_residual-in_err-cover.ensures.1 in
-    rw (p.1, p.2) tt
