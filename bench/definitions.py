@@ -148,6 +148,7 @@ CHAPTERS = [
     ("LIST, and the health of a set", ["dist_list", "dist_now"]),
     ("Source clusters, and classes of later versions", ["dist_cluster", "dist_classes"]),
     ("Futures, and the space that stands for them", ["dist_future", "dist_space", "dist_space_clauses"]),
+    ("Archives that change by steps", ["dist_archive"]),
     ("Clauses, what follows, and what is new", ["dist_clause", "dist_derive"]),
     ("Certificates", ["dist_cert"]),
     ("What certificates speak of, and what their claims mean", ["dist_subject", "dist_check"]),
