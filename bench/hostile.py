@@ -145,6 +145,37 @@ def many_entries(n):
     return stanza("libx", more=f"Provides: {entries}\n") + bounds + atoms
 
 
+def spelled(k):
+    """Another spelling of one version for each number."""
+    return ".".join("01" if k >> place & 1 else "1" for place in range(20))
+
+
+# Bounds on versions that all providers of a name meet.
+BOUNDS = {
+    "rising": lambda n: [f">= {k + 1}" for k in range(n)],
+    "falling": lambda n: [f">= {n - k}" for k in range(n)],
+    "shuffled": lambda n: [f">= {k + 1}" for k in shuffled(range(n))],
+    "differently spelled": lambda n: [f"= {spelled(k)}" for k in range(n)],
+}
+
+
+def wide_list(n, field, kind):
+    """A package with a list of n / 2 atoms on a name that as many provide, each of which matches all of these."""
+    version = spelled(0) if kind == "differently spelled" else n
+    asks = {"Depends": " | ", "Conflicts": ", "}[field].join(f"a ({bound})" for bound in BOUNDS[kind](n // 2))
+    return stanza("p", more=f"{field}: {asks}\n") + "".join(stanza(f"q{k:06}", more=f"Provides: a (= {version})\n") for k in range(n // 2))
+
+
+def wide_rows():
+    """Such a list in each field: its clauses, those of futures, and whether the package alone is healthy."""
+    for field in ("Depends", "Conflicts"):
+        for kind in BOUNDS:
+            told = f"one list of so many {kind} versions of a name in {field}"
+            yield f"the clauses of {told}", (40_000, lambda n, f=field, k=kind: clauses(wide_list(n, f, k)))
+            yield f"the clauses of futures of {told}", (40_000, lambda n, f=field, k=kind: futures(wide_list(n, f, k)))
+            yield f"the health of {told}", (40_000, lambda n, f=field, k=kind: judged(wide_list(n, f, k), "p 1\n"))
+
+
 ROWS = {
     "one stanza of so many different fields": (1_000_000, lambda n: read(stanza("a", more="".join(f"F{k}: \n" for k in shuffled(range(n)))))),
     "one field of so many lines": (1_000_000, lambda n: read(stanza("a", more="Description: a\n" + " b\n" * n))),
@@ -188,6 +219,7 @@ ROWS = {
         "".join(stanza(f"p{k}", more="Provides: x\n") for k in range(n)) + stanza("q", more="Depends: " + " | ".join(["x"] * (n // 20)) + "\n"))),
     "the clauses of futures of one conflict told again and again": (20_000, lambda n: futures(
         "".join(stanza(f"p{k}", more="Provides: x\n") for k in range(n)) + stanza("q", more="Conflicts: " + ", ".join(["x"] * (n // 20)) + "\n"))),
+    **dict(wide_rows()),
 }
 
 

@@ -38,7 +38,7 @@ clustered-join a b c f g = record {
   version = alike-left (without_rebuild_text a.version) (without_rebuild_text b.version) (without_rebuild_text c.version) f.version ∙ g.version;
 }
 
-clustered-decided : (a b : Member) → IsDecided (AreClustered a b)
+pub clustered-decided : (a b : Member) → IsDecided (AreClustered a b)
 clustered-decided a b =
     same-as (λ h. record { source = h.0; source_version = h.1.0; version = h.1.1 }) (λ h. (h.source, (h.source_version, h.version)))
     (both-decided (text-decided a.source b.source)
@@ -55,7 +55,7 @@ one-named packages p q flat first second same =
     same-at packages b.place p q (subst (λ (n : ℕ). slice_get packages n ≡ Some p) at a.is) b.is
 
 -- in the same cluster
-in-same : (r : PackageList) (c d q : Package) → AreClustered (member_of c) (member_of d) → IsInClusterOf r d q → IsInClusterOf r c q
+pub in-same : (r : PackageList) (c d q : Package) → AreClustered (member_of c) (member_of d) → IsInClusterOf r d q → IsInClusterOf r c q
 in-same r c d q same inside = record {
   there = inside.there;
   clustered = clustered-join (member_of c) (member_of d) (member_of q) same inside.clustered;

@@ -12,3 +12,11 @@ pub mod OrderLemmas
 pub mod UploadLemmas
 pub mod MadeLemmas
 pub mod RefusalLemmas
+pub mod FitLemmas
+pub mod LeadLemmas
+pub mod StageLemmas
+pub mod PlanLemmas
+pub mod FoundLemmas
+pub mod PlanningLemmas
+pub mod TakenLemmas
+pub mod ReachLemmas

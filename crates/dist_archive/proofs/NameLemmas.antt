@@ -1,7 +1,8 @@
 -- Names in use.
-use Rattle.std.proofs.Common.{◌≡◌, ◌⊎◌, ◌↔◌, ℕ, ◌≤◌, Bool, false, List, [], ◌∷◌, Option, Some, None, Bor, length, refl, sym, ap, subst, ◌∙◌, inl, inr}
+use Rattle.std.proofs.Common.{◌≡◌, ◌⊎◌, ◌↔◌, ℕ, ◌≤◌, Bool, false, true, List, [], ◌∷◌, Option, Some, None, Bor, length, refl, sym, ap, subst, ◌∙◌, inl, inr}
 use Rattle.std.proofs.Common.{arith, slice_get}
 use Rattle.std.specs.Prelude.{Any, IsTrue, MatchResult, Result, Ok, Err, is_some}
+use Rattle.std.specs.Bool.{OnFalse, OnTrue}
 use Rattle.std.specs.Option.{option_copied}
 use Rattle.std.proofs.lemmas.Bool.{false≢true}
 use Rattle.dist_base.specs.ListLaws.{any-at, any-contained, at-has, contains-at, found-at, here-at}
@@ -57,6 +58,14 @@ neither b both is = ((λ p. false≢true (sym is ∙ both.1 (inl p))), λ q. fal
 
 pub not-so : {P : Type 0} (b : Bool) → (IsTrue b ↔ P) → b ≡ false → ¬ P
 not-so b both is p = false≢true (sym is ∙ both.1 p)
+
+pub on-true : (b : Bool) (P : Type 0) → (IsTrue b → P) → OnTrue b P
+on-true true P holds = holds refl
+on-true false P holds = tt
+
+pub on-false : (b : Bool) (P : Type 0) → (b ≡ false → P) → OnFalse b P
+on-false true P holds = tt
+on-false false P holds = holds refl
 
 pub no-elements : {X : Type 0} (xs : List X) → length xs ≤ 0 → xs ≡ []
 no-elements [] short = refl

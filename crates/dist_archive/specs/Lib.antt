@@ -7,3 +7,7 @@ pub mod BringingPrivate
 pub mod SlotsPrivate
 pub mod CarriedPrivate
 pub mod StepExamples
+pub mod Reach
+pub mod FoundPrivate
+pub mod PlanningPrivate
+pub mod ReachExamples

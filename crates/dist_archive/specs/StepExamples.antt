@@ -15,14 +15,14 @@ use Rattle.dist_archive.specs.Steps.{IsAboveAll, IsClusterName, IsUploaded, Remo
 
 -- ---- lists of one
 
-only : (p x : Package) → Contains (p ∷ []) x → p ≡ x
+pub only : (p x : Package) → Contains (p ∷ []) x → p ≡ x
 only p x (zero, short, is) = is
 only p x (suc k, short, is) = absurd (omega (arith, short))
 
-alone : (p : Package) → IsFlat (p ∷ [])
+pub alone : (p : Package) → IsFlat (p ∷ [])
 alone p i j d less short = absurd (omega (arith, less, short))
 
-a_is_not_b : codes "a" ≢ codes "b"
+pub a_is_not_b : codes "a" ≢ codes "b"
 a_is_not_b e = let differ : 97 ≡ 98 = ap (λ (s : List ℕ). slice_index_or s 0 0) e in omega (arith, differ)
 
 in-cluster : (q : Package) → Contains two.packages q → q.source ≡ codes "s" → q.source_version ≡ codes "1"
@@ -38,10 +38,10 @@ in-cluster q there source source_version version = record {
   };
 }
 
-a-in : IsInClusterOf two a a
+pub a-in : IsInClusterOf two a a
 a-in = in-cluster a (0, lit< tt, refl) refl refl refl
 
-b-in : IsInClusterOf two a b
+pub b-in : IsInClusterOf two a b
 b-in = in-cluster b (1, lit< tt, refl) refl refl refl
 
 -- ---- a removal
@@ -67,26 +67,26 @@ a_removed = record {
 
 -- ---- an upload
 
-below-two : (n : Package) → Contains two.packages n → IsBelow n.version (codes "2")
+pub below-two : (n : Package) → Contains two.packages n → IsBelow n.version (codes "2")
 below-two n there = elim (one-of a b n there) [
   | inl is ↦ subst (λ (x : Package). IsBelow x.version (codes "2")) is one-below-two
   | inr is ↦ subst (λ (x : Package). IsBelow x.version (codes "2")) is one-below-two
 ]
 
-two-is-above : IsAboveAll two two.packages a (codes "2")
+pub two-is-above : IsAboveAll two two.packages a (codes "2")
 two-is-above = record {
   top = record { is_version = two-is-version; above = λ q inside. below-two q inside.there };
   held = λ n there name. below-two n there;
 }
 
-a-is-new : IsNewOf a later_a
+pub a-is-new : IsNewOf a later_a
 a-is-new = ([], record { name = refl; version = two-is-version; provides = refl })
 
 a-uploaded : IsUploaded two a (codes "2") later_a
 a-uploaded = ((a, a-in, a-is-new), two-is-two)
 
 -- Both names are those of the cluster.
-all-names : (n : Package) → Contains two.packages n → IsClusterName two a n.name
+pub all-names : (n : Package) → Contains two.packages n → IsClusterName two a n.name
 all-names n there = elim (one-of a b n there) [
   | inl is ↦ (a, a-in, ap (λ (x : Package). x.name) is)
   | inr is ↦ (b, b-in, ap (λ (x : Package). x.name) is)

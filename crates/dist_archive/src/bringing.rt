@@ -16,7 +16,7 @@ use crate::uploads::has_other_architecture;
 use dist_repo::{Package, Repository};
 
 /// Whether an entry of the repository provides a name that no package of it has.
-fn is_provided(repo: &Repository, name: &[u8]) -> bool
+pub(crate) fn is_provided(repo: &Repository, name: &[u8]) -> bool
     requires { ¬ IsTaken repo.now name.now }
     ensures { IsTrue result ↔ IsProvided repo.now name.now }
 {

@@ -1,9 +1,12 @@
 //! Laws of steps, apart from the work. The functions do nothing.
-ghost use Rattle.std.specs.Prelude.{Bool, ℕ, List};
+ghost use Rattle.std.specs.Prelude.{◌↔◌, ◌<◌, Bool, ℕ, List, length};
 ghost use Rattle.dist_repo.specs.declared.package.Package.{Package};
+ghost use Rattle.dist_repo.specs.Order.{IsFlat};
+ghost use Rattle.dist_repo.specs.PackageList.{IsPackageAnd};
 ghost use Rattle.dist_space.specs.Space.{IsSpace, SpaceView};
 ghost use Rattle.dist_future.specs.Future.{IsFuture};
 ghost use Rattle.dist_future.specs.Outdated.{Challenges, HoldsCluster, IsInstallableIn};
+ghost use Rattle.dist_archive.specs.Reach.{AreTaken, Fits, IsPlan};
 ghost use Rattle.dist_archive.specs.Steps.{IsReached, Lead, Makes};
 ghost use Rattle.dist_archive.specs.declared.step.Step.{Step};
 
@@ -13,6 +16,19 @@ pub fn steps_reach_futures()
     ensures step { (s : SpaceView) (step : Step) (old new : List Package) → IsSpace s → IsFuture s.repository old → Makes s step old new → IsFuture s.repository new }
     ensures steps { (s : SpaceView) (steps : List Step) (old new : List Package) → IsSpace s → IsFuture s.repository old → Lead s steps old new → IsFuture s.repository new }
     ensures reached { (s : SpaceView) (archive : List Package) → IsSpace s → IsReached s archive → IsFuture s.repository archive }
+{}
+
+/// The archives that steps reach from a repository are exactly its futures: each future has a plan, which leads to it, and of which
+/// no step is refused. A list of packages under different names is a future exactly where each of them fits.
+pub fn futures_are_reached()
+    ensures exactly { (s : SpaceView) (archive : List Package) → IsSpace s → IsReached s archive ↔ IsFuture s.repository archive }
+    ensures plan { (s : SpaceView) (later : List Package) → IsSpace s → IsFuture s.repository later → (steps : List Step) × IsPlan s later steps }
+    ensures leads { (s : SpaceView) (later : List Package) (steps : List Step) → IsSpace s → IsFuture s.repository later → IsPlan s later steps
+        → Lead s steps s.repository.packages later }
+    ensures taken { (s : SpaceView) (later : List Package) (steps : List Step) → IsSpace s → IsFuture s.repository later → IsPlan s later steps
+        → AreTaken s steps s.repository.packages later }
+    ensures fits { (s : SpaceView) (later : List Package) → IsSpace s → IsFlat later → IsFuture s.repository later
+        ↔ ((number : ℕ) → number < length later → IsPackageAnd later number (Fits s.repository later number)) }
 {}
 
 /// A version that challenges a package breaks it after every further list of steps at whose end the archive holds the cluster at

@@ -99,7 +99,7 @@ fn check_packages(
 }
 
 /// Whether a version is above the top of a cluster.
-fn is_above_top(space: &Space, cluster: u32, version: &Version) -> bool
+pub(crate) fn is_above_top(space: &Space, cluster: u32, version: &Version) -> bool
     requires { cluster < length space.now.clusters.members }
     ensures { (c : Package) → IsOfCluster space.now cluster c → IsTrue result ↔ IsAboveCluster space.now.repository c version.now }
 {

@@ -7,7 +7,7 @@ use dist_archive::{Archive, Step, StepError, start};
 use dist_relation::Name;
 use dist_repo::same;
 use dist_samples::repository;
-use dist_space::space_of;
+use dist_space::{Space, space_of};
 use dist_version::Version;
 use std::alloc::Global;
 use std::process::Abort;
@@ -29,19 +29,17 @@ pub(crate) type Row = (
     &'static [(&'static str, &'static str)],
 );
 
-/// The archive of some stanzas.
-fn archive_of(alloc: Global, stanzas: &str) -> Option<Archive> {
+/// The space of some stanzas.
+pub(crate) fn space_of_stanzas(alloc: Global, stanzas: &str) -> Option<Space> {
     let repo = repository(alloc, stanzas)?;
     if !repo.is_flat() || !repo.is_within_size() {
         return None;
     }
-    let space = space_of(alloc, repo, false, 1000).ok()?;
-    start(alloc, space).ok()
+    space_of(alloc, repo, false, 1000).ok()
 }
 
 /// The number of the cluster of the package of a name.
-fn cluster_named(archive: &Archive, name: &str) -> Option<u32> {
-    let space = archive.space();
+fn cluster_named(space: &Space, name: &str) -> Option<u32> {
     for number in 0..space.package_count() {
         if space.package(number).name.bytes() == name.as_bytes() {
             return Some(space.cluster_of(number));
@@ -51,10 +49,10 @@ fn cluster_named(archive: &Archive, name: &str) -> Option<u32> {
 }
 
 /// The step that is told.
-fn step_of(alloc: Global, archive: &Archive, told: &Told) -> Option<Step> {
+pub(crate) fn step_of(alloc: Global, space: &Space, told: &Told) -> Option<Step> {
     match told {
         Told::Upload(name, version, stanzas) => Some(Step::Upload(
-            cluster_named(archive, name)?,
+            cluster_named(space, name)?,
             Version::read(alloc, version.as_bytes()).ok()?,
             repository(alloc, stanzas)?,
         )),
@@ -81,13 +79,13 @@ fn can_take(archive: &Archive, step: &Step) -> bool
 }
 
 /// Whether the step that is told is refused so, or taken.
-fn is_answered(
+pub(crate) fn is_answered(
     alloc: Global,
     archive: &mut Archive,
     told: &Told,
     refusal: Option<StepError>,
 ) -> Option<bool> {
-    let step = step_of(alloc, archive, told)?;
+    let step = step_of(alloc, archive.space(), told)?;
     if !can_take(archive, &step) {
         return None;
     }
@@ -109,7 +107,7 @@ fn has_exactly(archive: &Archive, packages: &[(&str, &str)]) -> bool {
 
 /// Whether a row's steps are answered so, and leave these packages.
 fn is_so(alloc: Global, row: &Row) -> Option<bool> {
-    let mut archive = archive_of(alloc, row.1)?;
+    let mut archive = start(alloc, space_of_stanzas(alloc, row.1)?).ok()?;
     for (told, refusal) in row.2 {
         if !is_answered(alloc, &mut archive, told, *refusal)? {
             return Some(false);

@@ -1,6 +1,6 @@
 //! Worked rows: steps that are taken, and what they leave.
 use crate::archives::{Row, Told, hold};
-use dist_archive::{challenges_hold_after_steps, steps_reach_futures};
+use dist_archive::{challenges_hold_after_steps, futures_are_reached, steps_reach_futures};
 
 /// Two packages of one source, and one that stands alone.
 const PAIR: &str =
@@ -132,5 +132,6 @@ fn steps_are_taken(rt: HostRuntime) {
 #[test]
 fn the_laws_hold() {
     challenges_hold_after_steps();
+    futures_are_reached();
     steps_reach_futures();
 }

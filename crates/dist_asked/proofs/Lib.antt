@@ -1,1 +1,2 @@
-pub mod AskedLemmas
+pub mod WithinLemmas
+pub mod MarkLemmas

@@ -1,31 +1,43 @@
--- What was asked of a list, and where it stands. No public clause cites these laws; proofs of the crates above do.
-use Rattle.std.proofs.Common.{◌≡◌, inl, inr, ℕ, ◌+◌, ◌<◌, List, [], Some, ap, ◌∙◌, sym, arith, slice_get}
-use Rattle.std.specs.Prelude.{Contains}
-use Rattle.dist_asked.specs.Asked.{Adds}
+-- What the places that are asked give is what all give. No public clause cites these laws; proofs above do.
+use Rattle.std.proofs.Common.{ℕ, ◌<◌, Bool, List, length, slice_get}
+use Rattle.std.specs.Prelude.{IsSomeAnd}
+use Rattle.std.proofs.lemmas.Option.{slice_get_within}
+use Rattle.dist_base.specs.ListLaws.{at-has, contains-at, here-at}
 use Rattle.dist_relation.specs.declared.atom.Atom.{Atom}
+use Rattle.dist_asked.specs.AskedPlaces.{AreEnough, IsPlaceAsked}
+use Rattle.dist_asked.specs.Within.{IsWithin}
 
--- an atom stands at one of the first places
-abbrev pub StandsBefore : List Atom → ℕ → Atom → Type 0
-StandsBefore atoms count a = (k : ℕ) × (k < count) × (slice_get atoms k ≡ Some a)
+-- what the atom at a place gives
+abbrev pub GivesAt : {X : Type 0} → (Atom → X → Type 0) → List Atom → ℕ → X → Type 0
+GivesAt Gives atoms place x = IsSomeAnd (slice_get atoms place) (λ atom. Gives atom x)
 
--- all that were asked stand there
-abbrev pub AreAsked : (atoms asked : List Atom) → ℕ → Type 0
-AreAsked atoms asked count = (a : Atom) → Contains asked a → StandsBefore atoms count a
+-- the place is asked, and has a property
+pub record IsAskedAnd {X : Type 0} (marks : List Bool) (P : ℕ → X → Type 0) (place : ℕ) (x : X) : Type 0 where
+  pub is_asked : IsPlaceAsked marks place
+  pub has : P place x
 
-pub asked-none : (atoms : List Atom) (count : ℕ) → AreAsked atoms [] count
-asked-none atoms count a there = absurd (omega (arith, there.1))
+-- a wider atom gives no less
+abbrev pub IsByWidth : {X : Type 0} → (Atom → X → Type 0) → Type 0
+IsByWidth {X} Gives = (atom other : Atom) (x : X) → IsWithin atom other → Gives atom x → Gives other x
 
-pub asked-more : (atoms old new : List Atom) (P : Type 0) (place : ℕ) (atom : Atom) → slice_get atoms place ≡ Some atom
-    → Adds old new (λ other. P × (atom ≡ other)) → AreAsked atoms old place → AreAsked atoms new (place + 1)
-asked-more atoms old new P place atom is adds asked a there = elim ((adds a).0 there) [
-  | inl earlier ↦ let stands = asked a earlier in (stands.0, omega (arith, stands.1), stands.2)
-  | inr here ↦ (place, omega arith, is ∙ ap (λ (x : Atom). Some x) here.1)
-]
+-- a place of the list that is asked gives it
+pub record IsGivenBy {X : Type 0} (Gives : Atom → X → Type 0) (atoms : List Atom) (marks : List Bool) (x : X) : Type 0
+  where
+    pub place : ℕ
+    pub short : place < length atoms
+    pub given : IsAskedAnd marks (GivesAt Gives atoms) place x
 
--- a repeated atom has an equal one at an earlier place
-pub asked-earlier : (atoms asked : List Atom) (place : ℕ) (atom : Atom) → slice_get atoms place ≡ Some atom
-    → AreAsked atoms asked place → Contains asked atom
-    → (earlier : ℕ) × (earlier < place) × (slice_get atoms earlier ≡ slice_get atoms place)
-asked-earlier atoms asked place atom is are there =
-    let stands = are atom there in
-    (stands.0, stands.1, stands.2 ∙ sym is)
+pub given-by : {X : Type 0} (Gives : Atom → X → Type 0) (atoms : List Atom) (marks : List Bool) → IsByWidth Gives
+    → AreEnough atoms marks → (place : ℕ) (x : X) → GivesAt Gives atoms place x → IsGivenBy Gives atoms marks x
+given-by {X} Gives atoms marks by enough place x here =
+    let Of : Atom → Type 0 = λ atom. Gives atom x in
+    let at = here-at Of atoms place here in
+    let wide = enough at.element (contains-at atoms place at.element at.is) in
+    record {
+      place = wide.place;
+      short = slice_get_within atoms wide.place wide.wider wide.is_wider;
+      given = record {
+        is_asked = wide.is_asked;
+        has = at-has Of atoms wide.place wide.wider wide.is_wider (by at.element wide.wider x wide.within at.holds);
+      };
+    }

@@ -1,3 +1,5 @@
 pub mod Asked
-pub mod AtomOrderPrivate
+pub mod Within
+pub mod AskedPlaces
+pub mod PlacedPrivate
 pub mod AskedLaws

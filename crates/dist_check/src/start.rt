@@ -13,11 +13,11 @@ use dist_check_state::{FutureClauses, State};
 use dist_clause::ClauseSet;
 use dist_derive::Log;
 use dist_future::future_clauses_are_two_parts;
-use dist_outside::{Limits, WorkError};
+use dist_outside::Limits;
 use dist_repo::Repository;
 use dist_space::packages_come_first;
 use dist_subject::{later_inputs, present_inputs};
-use std::alloc::{AllocError, Global};
+use std::alloc::Global;
 
 /// What certificates of a kind and mode are judged by.
 #[derive(Drop)]
@@ -151,12 +151,6 @@ pub(crate) fn start(
     if !has_numbers(packages, &inputs, header) {
         return Err(bad_header());
     }
-    let mut log = Log::new(alloc, inputs, limits.lines, limits.line_literals);
-    match log.cover() {
-        Ok(()) => Ok(State::new(alloc, header.limit, packages, layout, future, log)),
-        Err(AllocError) => {
-            drop(log);
-            Err(ReadCertError::Work(WorkError::NoMemory))
-        }
-    }
+    let log = Log::covered(alloc, inputs, limits.lines, limits.line_literals)?;
+    Ok(State::new(alloc, header.limit, packages, layout, future, log))
 }

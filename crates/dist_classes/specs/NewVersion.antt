@@ -12,7 +12,8 @@ use Rattle.dist_repo.specs.declared.package.Package.{Package}
 abbrev pub IsAt : Provide → List ℕ → Type 0
 IsAt entry version = IsSomeAnd entry.version (λ v. version_cmp v version ≡ Equal)
 
--- A usable entry at the package's own version is moving: it goes with the package to a new version.
+-- A usable entry at the package's own version is moving: it goes with the package to a new version, and makes cuts. One
+-- that is not usable goes with it too, but nothing matches it.
 abbrev pub IsMoving : Option (List ℕ) → Package → Provide → Type 0
 IsMoving architecture p entry = IsUsable architecture entry.qualifier × IsAt entry p.version
 

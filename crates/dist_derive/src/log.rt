@@ -1,13 +1,12 @@
 //! Input clauses and the lines derived from them, numbered on.
 
-ghost use Rattle.std.specs.Prelude.{◌≡◌, ◌+◌, ◌<◌, ◌≤◌, ◌↔◌, ℕ, Bool, [], ◌∷◌, ◌++◌, length, All, IfOk, IfSome, IsTrue, OnOk, OnErr, Err};
+ghost use Rattle.std.specs.Prelude.{◌≡◌, ◌+◌, ◌<◌, ◌≤◌, ◌↔◌, ℕ, Bool, [], ◌∷◌, ◌++◌, length, IfOk, IfSome, IsTrue, OnOk, OnErr, Err};
 ghost use Rattle.dist_clause.specs.Formula.{IsClauseOver, IsModel};
 ghost use Rattle.dist_clause.specs.ClauseList.{clause_at, literal_count};
 ghost use Rattle.dist_derive.specs.ClauseLog.{inputs_of, joined, lines_of, IsWithinLineLimits};
 ghost use Rattle.dist_derive.specs.VariableSet.{GivesTrue};
 ghost use Rattle.dist_derive.specs.Follows.{IsNumberOf};
 ghost use Rattle.dist_derive.specs.OccurrencesPrivate.{IsIndexOf};
-ghost use Rattle.dist_derive.specs.LevelPrivate.{IsLevelOf};
 ghost use Rattle.dist_derive.specs.LogPrivate.{IsIndexed};
 
 use crate::inputs::Inputs;
@@ -78,6 +77,49 @@ impl Log {
         }
     }
 
+    /// Puts the clauses that the index hasn't got yet into it, and takes in what all clauses give. Until then, and after
+    /// want of memory, calls walk these.
+    fn cover(&mut self) -> Result<(), AllocError>
+        ensures same { self.new ≡ self.old }
+    {
+        let variables = self.inputs.variables();
+        self.occurrences.make_lists(variables)?;
+        cover_all(&mut self.occurrences, self.inputs.set(), &self.lines)?;
+        self.inputs.index(self.alloc)?;
+        if !self.alone.is_made {
+            self.alone = Level::new(self.alloc, variables)?;
+        }
+        self.settle();
+        Ok(())
+    }
+
+    /// A log without lines, with its clauses in the index. Without an index calls walk all clauses.
+    pub fn covered(
+        alloc: Global,
+        inputs: ClauseSet,
+        lines: u32,
+        line_literals: u32,
+    ) -> Result<Log, AllocError>
+        requires lines { lines ≤ MAX_LINES }
+        requires line_literals { line_literals ≤ MAX_LINE_LITERALS }
+        ensures { IfOk result (λ log. log ≡ record {
+          clauses = inputs.clauses;
+          inputs = length inputs.clauses;
+          variables = inputs.variables;
+          line_limit = lines;
+          line_literal_limit = line_literals;
+        }) }
+    {
+        let mut log = Log::new(alloc, inputs, lines, line_literals);
+        match log.cover() {
+            Ok(()) => Ok(log),
+            Err(error) => {
+                drop(log);
+                Err(error)
+            }
+        }
+    }
+
     /// The number of clauses, derived lines included.
     pub fn len(&self) -> u32
         ensures value { result ≡ length self.now.clauses }
@@ -113,22 +155,6 @@ impl Log {
         ensures over_variables { IsClauseOver self.now.variables result.now }
     {
         clause_of(self.inputs.set(), &self.lines, number)
-    }
-
-    /// Puts the clauses that the index hasn't got yet into it, and takes in what all clauses give. Until then, and after
-    /// want of memory, calls walk these.
-    pub fn cover(&mut self) -> Result<(), AllocError>
-        ensures same { self.new ≡ self.old }
-    {
-        let variables = self.inputs.variables();
-        self.occurrences.make_lists(variables)?;
-        cover_all(&mut self.occurrences, self.inputs.set(), &self.lines)?;
-        self.inputs.index(self.alloc)?;
-        if !self.alone.is_made {
-            self.alone = Level::new(self.alloc, variables)?;
-        }
-        self.settle();
-        Ok(())
     }
 
     /// The place of the latest clause in which a literal stands, of those in the index; 0: there is none.

@@ -118,6 +118,18 @@ lanes-meet words others at a b = (
       some.3 (sym (get_or-anded words others at some.0 a b some.1 some.2) ∙ (lane-all (anded_lanes words others at) 0 e).1 (some.0 - at)))),
 )
 
+-- each word from one place up to another is zero
+abbrev pub AreZero : List ℕ → ℕ → ℕ → Type 0
+AreZero words from to = (k : ℕ) → from ≤ k → k < to → get_or words k 0 ≡ 0
+
+pub lanes-zero : (words : List ℕ) (at : ℕ) → at + 8 ≤ length words
+    → IsTrue (eqb (fold_l bit_or 0 (chunk at 8 words)) 0) → AreZero words at (at + 8)
+lanes-zero words at a none k low high =
+    let all = lane-all (chunk at 8 words) 0 (eqb-true (fold_l bit_or 0 (chunk at 8 words)) 0 none) in
+    let inside : k - at < 8 = omega arith in
+    let place : at + (k - at) ≡ k = omega arith in
+    ap (λ j. get_or words j 0) (sym place) ∙ (sym (get_or-chunk at 8 words (k - at) 0 inside) ∙ all.1 (k - at))
+
 -- ---- and their bits
 
 pub bit-past : (words : List ℕ) (k : ℕ) → length words ≤ k / 64 → bit words k ≡ false

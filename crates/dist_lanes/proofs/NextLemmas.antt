@@ -8,7 +8,7 @@ use Rattle.std.specs.Int.Bits.{and_lt}
 use Rattle.std.specs.Int.{bit_at, trailing_zeros}
 use Rattle.dist_lanes.specs.Bits.{bit}
 use Rattle.dist_lanes.specs.BitsPrivate.{AreClear}
-use Rattle.dist_lanes.proofs.LanesLemmas.{bit-in-word, bit-past}
+use Rattle.dist_lanes.proofs.LanesLemmas.{AreZero, bit-in-word, bit-past}
 
 -- a word without its bits below a place
 abbrev masked : ℕ → ℕ → ℕ
@@ -94,6 +94,13 @@ word-is-clear words from j clear none k low high = elim (cases_lt k (64 * j)) [
       let same : k / 64 ≡ j = omega arith in
       ap (λ j. eqb (bit_at (get_or words j 0) (k % 64)) 1) same
       ∙ ap (λ b. eqb b 1) (ap (λ w. bit_at w (k % 64)) none ∙ bit_at-zero (k % 64))
+]
+
+pub zeros-are-clear : (words : List ℕ) (from j n : ℕ) → AreClear words from (64 * j) → AreZero words j n → AreClear words from (64 * n)
+zeros-are-clear words from j n clear zeros k low high = elim (cases_lt k (64 * j)) [
+  | inl before ↦ clear k low before
+  | inr here ↦
+      ap (λ w. eqb (bit_at w (k % 64)) 1) (zeros (k / 64) (omega arith) (omega arith)) ∙ ap (λ b. eqb b 1) (bit_at-zero (k % 64))
 ]
 
 pub all-clear : (words : List ℕ) (from n : ℕ) → length words ≤ n → AreClear words from (64 * n) → (k : ℕ) → from ≤ k → bit words k ≡ false

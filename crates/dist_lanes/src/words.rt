@@ -151,6 +151,28 @@ fn set_places(words: &mut [u64], places: usize)
     }
 }
 
+fn lanes_are_zero(words: &[u64], at: usize) -> bool
+    requires { at + 8 ≤ length words.now }
+    ensures { IsTrue result → (k : ℕ) → at ≤ k → k < at + 8 → slice_index words.now k ≡ 0 }
+{
+    u64x8::from_slice(&words[at..]).reduce_or() == 0
+}
+
+/// Passes over words that are zero, from one on, as long as eight at a time are. Few bits are set in a long row.
+fn pass_zeros(words: &[u64], from: usize) -> usize
+    requires { from ≤ length words.now }
+    ensures behind { from ≤ result }
+    ensures zeros { (k : ℕ) → from ≤ k → k < result → slice_index words.now k ≡ 0 }
+{
+    let groups = (words.len() - from) / LANES;
+    for group in 0..groups {
+        if !lanes_are_zero(words, from + LANES * group) {
+            return from + LANES * group;
+        }
+    }
+    from + LANES * groups
+}
+
 /// The first bit that is set at or behind a place.
 pub(crate) fn next_bit(words: &[u64], from: usize) -> Option<usize>
     requires { 64 * length words.now ≤ 2 ^ 64 }
@@ -165,7 +187,7 @@ pub(crate) fn next_bit(words: &[u64], from: usize) -> Option<usize>
     if rest != 0 {
         return Some(64 * first + rest.trailing_zeros() as usize);
     }
-    for number in first + 1..words.len() {
+    for number in pass_zeros(words, first + 1)..words.len() {
         let word = words[number];
         if word != 0 {
             return Some(64 * number + word.trailing_zeros() as usize);

@@ -1,8 +1,11 @@
 -- Lists to which those with a property are added, one after another.
-use Rattle.std.proofs.Common.{◌≡◌, ◌↔◌, ℕ, ◌+◌, ◌<◌, ◌≤◌, List, [], ◌∷◌, ◌++◌, subst, arith, inl, inr}
+use Rattle.std.proofs.Common.{◌≡◌, ◌↔◌, ℕ, ◌+◌, ◌<◌, ◌≤◌, Bool, List, [], ◌∷◌, ◌++◌, length, subst, arith, inl, inr}
 use Rattle.std.specs.Prelude.{Contains}
 use Rattle.std.proofs.lemmas.Bool.{cases_lt}
 use Rattle.std.proofs.lemmas.List.Elements.{Contains-append_left, Contains-push, Contains-push_cases}
+use Rattle.dist_asked.specs.AskedLaws.{GivesAt, IsAskedAnd, IsByWidth, given-by}
+use Rattle.dist_asked.specs.AskedPlaces.{AreEnough, IsPlaceAsked}
+use Rattle.dist_relation.specs.declared.atom.Atom.{Atom}
 use Rattle.dist_now.specs.GatheringPrivate.{Adds}
 
 -- those that have the property of one of the first places
@@ -83,18 +86,6 @@ adds-exact new P adds x = (
   λ p. (adds x).1 (inr p),
 )
 
--- what a place adds is there from an earlier one
-pub adds-repeated : {X : Type 0} (old new : List X) (P : ℕ → X → Type 0) (count earlier : ℕ) → earlier < count
-    → ((x : X) → P count x → P earlier x) → AddsUpTo old new P count → AddsUpTo old new P (count + 1)
-adds-repeated old new P count earlier less same adds =
-    adds-more old new new P count adds (λ x. (
-      (λ there. inl there),
-      λ either. elim either [
-        | inl there ↦ there
-        | inr here ↦ (adds x).1 (inr (earlier, less, same x here))
-      ],
-    ))
-
 -- the same ones in another list
 pub adds-moved : {X : Type 0} (old mid new : List X) (P : X → Type 0) → ((x : X) → Contains new x ↔ Contains mid x) → Adds old mid P → Adds old new P
 adds-moved old mid new P same adds x = ((λ there. (adds x).0 ((same x).0 there)), λ either. (same x).1 ((adds x).1 either))
@@ -110,3 +101,27 @@ adds-rest {X} old new P count more up none adds =
       | inl less ↦ (here.0, less, here.2)
       | inr past ↦ absurd (none here.0 x past here.1 here.2)
     ]
+
+-- ---- by the places of a list that are asked
+
+pub adds-asked : {X : Type 0} (old mid new : List X) (marks : List Bool) (P : ℕ → X → Type 0) (count : ℕ) → IsPlaceAsked marks count
+    → AddsUpTo old mid (IsAskedAnd marks P) count → Adds mid new (P count) → AddsUpTo old new (IsAskedAnd marks P) (count + 1)
+adds-asked old mid new marks P count is_asked before step =
+    adds-more old mid new (IsAskedAnd marks P) count before
+    (adds-same mid new (P count) (IsAskedAnd marks P count) (λ x here. record { is_asked = is_asked; has = here }) (λ x here. here.has) step)
+
+pub adds-passed : {X : Type 0} (old new : List X) (marks : List Bool) (P : ℕ → X → Type 0) (count : ℕ) → ¬ IsPlaceAsked marks count
+    → AddsUpTo old new (IsAskedAnd marks P) count → AddsUpTo old new (IsAskedAnd marks P) (count + 1)
+adds-passed old new marks P count passed before =
+    adds-more old new new (IsAskedAnd marks P) count before (adds-nothing new (IsAskedAnd marks P count) (λ x here. passed here.is_asked))
+
+-- what they give is what all give
+pub adds-enough : {X : Type 0} (old new : List X) (Gives : Atom → X → Type 0) (atoms : List Atom) (marks : List Bool) (count : ℕ) → length atoms ≤ count
+    → IsByWidth Gives → AreEnough atoms marks → AddsUpTo old new (IsAskedAnd marks (GivesAt Gives atoms)) count → AddsUpTo old new (GivesAt Gives atoms) count
+adds-enough old new Gives atoms marks count past wide enough adds =
+    adds-same old new (UpTo (IsAskedAnd marks (GivesAt Gives atoms)) count) (UpTo (GivesAt Gives atoms) count)
+    (λ x up. (up.0, up.1, up.2.has))
+    (λ x up.
+    let by = given-by Gives atoms marks wide enough up.0 x up.2 in
+    (by.place, omega (arith, by.short, past), by.given))
+    adds

@@ -7,6 +7,7 @@ use Rattle.std.proofs.lemmas.List.{get_or_default}
 use Rattle.std.proofs.lemmas.List.Kept.{AllPairs-from_increasing}
 use Rattle.std.proofs.lemmas.Option.{slice_get-get_or}
 use Rattle.dist_base.specs.ListLaws.{any-at, at-has, at-more, element-is, has-at, some-element, within-from}
+use Rattle.dist_asked.specs.AskedLaws.{IsByWidth}
 use Rattle.dist_relation.specs.declared.atom.Atom.{Atom}
 use Rattle.dist_repo.specs.Match.{Matches}
 use Rattle.dist_repo.specs.PackageList.{PackageList, IsPackageAnd}
@@ -14,6 +15,7 @@ use Rattle.dist_repo.specs.Providers.{AreProviders, IsProvider}
 use Rattle.dist_repo.specs.declared.package.Package.{Package}
 use Rattle.dist_now.specs.GatheringPrivate.{Adds, IsMatchedAt}
 use Rattle.dist_now.specs.PresentClauses.{AreNumbersOf, IsMetBy}
+use Rattle.dist_now.specs.WithinLaws.{matches-within}
 use Rattle.dist_now.proofs.AddsLemmas.{UpTo, AddsUpTo, adds-exact, adds-nothing, adds-one, adds-same}
 
 pub contains-index : (xs : List ℕ) (k : ℕ) → k < length xs → Contains xs (get_or xs k 0)
@@ -88,16 +90,11 @@ matched-at r item i atom old new is adds =
     (λ k here. at-has (λ (a : Atom). IsPackageAnd r.packages k (Matches r.architecture a)) item i atom is here)
     (λ k here. has-at (λ (a : Atom). IsPackageAnd r.packages k (Matches r.architecture a)) item i atom is here) adds
 
-pub meeting-all : (r : PackageList) (item : List Atom) (count : ℕ) (old new : List ℕ) → length item ≤ count → IsStrictlyIncreasing new
-    → ((k : ℕ) → Contains new k ↔ Contains old k) → AddsUpTo [] old (IsMatchedAt r item) count
-    → AreNumbersOf r (IsMetBy r.architecture item) new
-meeting-all r item count old new past rising same adds = record {
-  rising = rising;
-  exact = λ k. (
-    (λ there. to k ((adds-exact old (UpTo (IsMatchedAt r item) count) adds k).0 ((same k).0 there))),
-    λ here. (same k).1 ((adds-exact old (UpTo (IsMatchedAt r item) count) adds k).1 (from k here)),
-  );
-}
+-- all alternatives were gone through
+pub meeting-all : (r : PackageList) (item : List Atom) (count : ℕ) (old new : List ℕ) → length item ≤ count
+    → AddsUpTo old new (IsMatchedAt r item) count → Adds old new (λ k. IsPackageAnd r.packages k (IsMetBy r.architecture item))
+meeting-all r item count old new past adds =
+    adds-same old new (UpTo (IsMatchedAt r item) count) (λ k. IsPackageAnd r.packages k (IsMetBy r.architecture item)) to from adds
   where
     to : (k : ℕ) → UpTo (IsMatchedAt r item) count k → IsPackageAnd r.packages k (IsMetBy r.architecture item)
     to k up =
@@ -120,6 +117,12 @@ meeting-all r item count old new past rising same adds = record {
           at-has (λ (a : Atom). IsPackageAnd r.packages k (Matches r.architecture a)) item any.0 atom is
               (at-has (Matches r.architecture atom) r.packages k q is_q any.4),
         )
+
+-- a wider atom matches no fewer packages
+pub matched-wider : (r : PackageList) → IsByWidth (λ (atom : Atom) (k : ℕ). IsPackageAnd r.packages k (Matches r.architecture atom))
+matched-wider r atom other k within here =
+    at-more (Matches r.architecture atom) (Matches r.architecture other) (λ p matches. matches-within r.architecture atom other p within matches)
+    r.packages k here
 
 -- ---- the packages of a name
 

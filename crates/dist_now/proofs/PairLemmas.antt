@@ -5,6 +5,7 @@ use Rattle.std.proofs.lemmas.Bool.{cases_lt}
 use Rattle.std.proofs.lemmas.List.{get_or_default}
 use Rattle.std.proofs.lemmas.Option.{slice_get-get_or}
 use Rattle.dist_base.specs.ListLaws.{any-at, at-has, at-more, element-is, found-at, has-at, here-at, some-element, within-from}
+use Rattle.dist_asked.specs.AskedLaws.{IsByWidth}
 use Rattle.dist_relation.specs.declared.atom.Atom.{Atom}
 use Rattle.dist_repo.specs.Match.{IsUsable, Matches}
 use Rattle.dist_repo.specs.Offers.{AreMatched}
@@ -13,6 +14,7 @@ use Rattle.dist_repo.specs.Providers.{AreProviders}
 use Rattle.dist_repo.specs.declared.offers.Offer.{Offer}
 use Rattle.dist_repo.specs.declared.package.Package.{Package}
 use Rattle.dist_now.specs.GatheringPrivate.{Adds, IsPairFor, IsPairIn, IsPairOf, IsPairWithin, IsPairWith, IsRejectingPair, Rejects}
+use Rattle.dist_now.specs.WithinLaws.{matches-within}
 use Rattle.dist_now.proofs.AddsLemmas.{UpTo, AddsUpTo, adds-exact, adds-nothing, adds-one, adds-same}
 use Rattle.dist_now.proofs.MatchedLemmas.{matched-at}
 use Rattle.dist_now.proofs.MemberLemmas.{matched-provides}
@@ -183,6 +185,19 @@ rejected-at r start end number atoms i atom old new is adds =
     adds-same old new (IsWith r start end number (Matches r.architecture atom)) (IsRejectedAt r start end number atoms i)
     (λ x here. at-has (λ (a : Atom). IsWith r start end number (Matches r.architecture a) x) atoms i atom is here)
     (λ x here. has-at (λ (a : Atom). IsWith r start end number (Matches r.architecture a) x) atoms i atom is here) adds
+
+-- a wider atom gives no fewer
+pub with-wider : (r : PackageList) (start end number : ℕ)
+    → IsByWidth (λ (atom : Atom) (pair : ℕ × ℕ). IsWith r start end number (Matches r.architecture atom) pair)
+with-wider r start end number atom other pair within here = (
+  here.0,
+  record {
+    other = here.1.other;
+    is_pair = here.1.is_pair;
+    has = at-more (Matches r.architecture atom) (Matches r.architecture other) (λ p matches. matches-within r.architecture atom other p within matches)
+        r.packages here.1.other here.1.has;
+  },
+)
 
 pub rejected-all : (r : PackageList) (start end number : ℕ) (p : Package) (count : ℕ) (old new : List (ℕ × ℕ)) → length p.conflicts ≤ count
     → AddsUpTo old new (IsRejectedAt r start end number p.conflicts) count

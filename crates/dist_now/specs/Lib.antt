@@ -10,3 +10,4 @@ pub mod PresentLaws
 pub mod GatheringPrivate
 pub mod PresentExamples
 pub mod HealthExamples
+pub mod WithinLaws

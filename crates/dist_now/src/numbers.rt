@@ -1,13 +1,14 @@
 //! Numbers of packages that a clause speaks of, gathered into one vector that is used again and again.
 ghost use Rattle.std.specs.Prelude.{◌≡◌, ◌≢◌, ◌<◌, ◌≤◌, ◌↔◌, ℕ, Any, Contains, IsTrue, OnOk, Some, length, slice_get, slice_index_or};
 ghost use Rattle.std.specs.List.Sorted.{IsStrictlyIncreasing};
+ghost use Rattle.dist_asked.specs.AskedPlaces.{AreEnough};
 ghost use Rattle.dist_repo.specs.Match.{IsUsable, Matches};
 ghost use Rattle.dist_repo.specs.PackageList.{IsPackageAnd};
 ghost use Rattle.dist_repo.specs.Providers.{AreProviders, IsProvider};
 ghost use Rattle.dist_now.specs.GatheringPrivate.{Adds};
 ghost use Rattle.dist_now.specs.PresentClauses.{AreNumbersOf, IsMetBy};
 
-use dist_asked::AskedAtoms;
+use dist_asked::AskedPlaces;
 use dist_relation::{Alternatives, Atom, Name};
 use dist_repo::{Package, Repository};
 use std::alloc::AllocError;
@@ -112,6 +113,27 @@ fn thin(numbers: &mut Vec<u32>, limit: usize) -> usize
     numbers.len().saturating_mul(2).max(limit)
 }
 
+/// Adds the packages that meet an item, by the places that are asked.
+fn add_asked(
+    repo: &Repository,
+    alternatives: &Alternatives,
+    asked: &AskedPlaces,
+    numbers: &mut Vec<u32>,
+) -> Result<(), AllocError>
+    requires { AreEnough alternatives.now asked.now }
+    ensures { OnOk result (Adds numbers.old.items numbers.new.items (λ k. IsPackageAnd repo.now.packages k (IsMetBy repo.now.architecture alternatives.now))) }
+{
+    let mut limit = MANY;
+    for place in 0..alternatives.len() {
+        let atom = alternatives.get(place);
+        if asked.has(place) {
+            add_matched(repo, atom, numbers)?;
+            limit = thin(numbers, limit);
+        }
+    }
+    Ok(())
+}
+
 /// Gathers the packages that meet an item.
 pub(crate) fn gather_meeting(
     repo: &Repository,
@@ -121,16 +143,8 @@ pub(crate) fn gather_meeting(
     ensures { OnOk result (AreNumbersOf repo.now (IsMetBy repo.now.architecture alternatives.now) numbers.new.items) }
 {
     numbers.clear();
-    let mut asked = AskedAtoms::new(*numbers.allocator());
-    let mut limit = MANY;
-    for place in 0..alternatives.len() {
-        let atom = alternatives.get(place);
-        let is_repeated = asked.note(atom, alternatives.len())?;
-        if !is_repeated {
-            add_matched(repo, atom, numbers)?;
-            limit = thin(numbers, limit);
-        }
-    }
+    let asked = AskedPlaces::in_item(*numbers.allocator(), alternatives)?;
+    add_asked(repo, alternatives, &asked, numbers)?;
     put_in_order(numbers);
     Ok(())
 }

@@ -3,13 +3,14 @@
 //! than the clauses themselves may take.
 ghost use Rattle.std.specs.Prelude.{◌≡◌, ◌≢◌, ◌<◌, ◌≤◌, ◌+◌, ◌↔◌, ◌⊎◌, ℕ, false, Any, Contains, IfOk, IfSome, IsTrue, None, OnOk, Some, length, slice_get, slice_index_or};
 ghost use Rattle.std.specs.List.Sorted.{IsNonDecreasingBy};
+ghost use Rattle.dist_asked.specs.AskedPlaces.{AreEnough};
 ghost use Rattle.dist_repo.specs.Match.{IsUsable, Matches};
 ghost use Rattle.dist_repo.specs.PackageList.{IsPackageAnd};
 ghost use Rattle.dist_repo.specs.Providers.{IsProvider};
 ghost use Rattle.dist_now.specs.GatheringPrivate.{Adds, AreSplitAt, IsPairFor, IsPairIn, IsPairOf, IsPairWithin, IsPairWith, IsRejectingPair, Rejects};
 
 use crate::numbers::{matches_provider, place_from};
-use dist_asked::AskedAtoms;
+use dist_asked::AskedPlaces;
 use dist_relation::Atom;
 use dist_repo::{Offer, Package, Repository};
 use std::alloc::{AllocError, Global};
@@ -146,6 +147,32 @@ fn add_matched(
     Ok(())
 }
 
+/// Adds the pairs of a package and the others that it rejects, by the places of its conflict atoms that are asked. Answers whether
+/// there was room for them.
+fn add_asked(
+    repo: &Repository,
+    number: u32,
+    package: &Package,
+    asked: &AskedPlaces,
+    span: Span,
+    pairs: &mut Vec<(u32, u32)>,
+) -> Result<bool, AllocError>
+    requires { AreEnough «package».now.conflicts asked.now }
+    ensures whole { IfOk result (λ whole. IsTrue whole → Adds pairs.old.items pairs.new.items (λ pair. IsPairIn span.start span.end pair × IsPairWith repo.now number (Rejects repo.now «package».now) pair)) }
+    ensures wide { IfOk result (λ whole. whole ≡ false → span.start + 1 < span.end) }
+{
+    for place in 0..package.conflicts.len() {
+        let atom = package.conflicts.get(place);
+        if asked.has(place) {
+            add_matched(repo, number, atom, span, pairs)?;
+        }
+        if pairs.len() > ROOM && span.is_wide() {
+            return Ok(false);
+        }
+    }
+    Ok(true)
+}
+
 /// Adds the pairs of a package and the others that it rejects. Answers whether there was room for them.
 fn add_rejected(
     repo: &Repository,
@@ -158,18 +185,8 @@ fn add_rejected(
     ensures whole { IfOk result (λ whole. IsTrue whole → Adds pairs.old.items pairs.new.items (λ pair. IsPairIn span.start span.end pair × IsPairWith repo.now number (Rejects repo.now «package».now) pair)) }
     ensures wide { IfOk result (λ whole. whole ≡ false → span.start + 1 < span.end) }
 {
-    let mut asked = AskedAtoms::new(*pairs.allocator());
-    for place in 0..package.conflicts.len() {
-        let atom = package.conflicts.get(place);
-        let is_repeated = asked.note(atom, package.conflicts.len())?;
-        if !is_repeated {
-            add_matched(repo, number, atom, span, pairs)?;
-        }
-        if pairs.len() > ROOM && span.is_wide() {
-            return Ok(false);
-        }
-    }
-    Ok(true)
+    let asked = AskedPlaces::in_field(*pairs.allocator(), &package.conflicts)?;
+    add_asked(repo, number, package, &asked, span, pairs)
 }
 
 /// The pairs of all packages that reject one another, with first numbers of a span and in their order; none where there

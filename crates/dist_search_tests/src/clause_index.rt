@@ -18,12 +18,10 @@ fn log_of(alloc: Global, is_covered: bool) -> Option<Log>
     if !push_all(alloc, &mut inputs, CLAUSES) {
         return None;
     }
-    let mut log = Log::new(alloc, inputs, 2, 8);
-    if !is_covered || log.cover().is_ok() {
-        return Some(log);
+    if is_covered {
+        return Log::covered(alloc, inputs, 2, 8).ok();
     }
-    drop(log);
-    None
+    Some(Log::new(alloc, inputs, 2, 8))
 }
 
 /// Whether the clauses in which a literal stands have these numbers, the latest first.

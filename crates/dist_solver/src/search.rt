@@ -68,7 +68,7 @@ impl Solver {
         let trail = Trail::new(alloc, clauses.variables())?;
         let cone = VariableSet::new(alloc, clauses.variables())?;
         let guesses = Guesses::new(alloc, clauses.variables())?;
-        let entries = covered(alloc, clauses, lines, line_literals)?;
+        let entries = Log::covered(alloc, clauses, lines, line_literals)?;
         Ok(Solver {
             entries,
             added: Derived::new(alloc),
@@ -140,28 +140,6 @@ impl Solver {
     {
         &self.added
     }
-}
-
-/// A log without lines, with its clauses in the index.
-fn covered(
-    alloc: Global,
-    clauses: ClauseSet,
-    lines: u32,
-    line_literals: u32,
-) -> Result<Log, AllocError>
-    requires lines { lines ≤ MAX_LINES }
-    requires line_literals { line_literals ≤ MAX_LINE_LITERALS }
-    ensures { IfOk result (λ log. log ≡ record {
-      clauses = clauses.clauses;
-      inputs = length clauses.clauses;
-      variables = clauses.variables;
-      line_limit = lines;
-      line_literal_limit = line_literals;
-    }) }
-{
-    let mut log = Log::new(alloc, clauses, lines, line_literals);
-    log.cover()?;
-    Ok(log)
 }
 
 /// Descends until an answer comes, at most `limit` times; each descent without one adds a line. The cone of the

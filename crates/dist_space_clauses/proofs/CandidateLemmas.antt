@@ -1,18 +1,16 @@
 -- The packages that may offer what an atom matches by new versions.
 use Rattle.std.proofs.Common.{◌≡◌, ◌⊎◌, ℕ, ◌+◌, ◌<◌, ◌≤◌, List, [], ◌∷◌, ◌++◌, length, take, None, Some, Option, Ordering, Less, Equal}
-use Rattle.std.proofs.Common.{Greater, is_eq, refl, sym, subst, if◌then◌else◌, inl, inr, arith, slice_get}
+use Rattle.std.proofs.Common.{Greater, is_eq, refl, subst, if◌then◌else◌, inl, inr, arith, slice_get}
 use Rattle.std.specs.Prelude.{◌↔◌, Any, Contains, IfSome, IsSomeAnd}
 use Rattle.std.proofs.lemmas.List.Elements.{Contains-append_cases, Contains-append_left, Contains-append_right, Contains-push, Contains-push_cases}
 use Rattle.dist_asked.specs.Asked.{Adds}
-use Rattle.dist_base.specs.ListLaws.{all-contained, any-at, any-contained, any-there, at-has, here-at, within-from}
+use Rattle.dist_base.specs.ListLaws.{all-contained, any-at, at-has, here-at, within-from}
 use Rattle.dist_version.specs.Order.{version_cmp}
 use Rattle.dist_relation.specs.Satisfies.{Satisfies}
 use Rattle.dist_relation.specs.declared.atom.Atom.{Atom}
-use Rattle.dist_relation.specs.declared.atom.Bound.{Bound}
 use Rattle.dist_relation.specs.declared.atom.Provide.{Provide}
 use Rattle.dist_repo.specs.Match.{IsUsable, Matches, MatchesByEntry}
 use Rattle.dist_repo.specs.Offers.{AreMatched}
-use Rattle.dist_repo.specs.PackageList.{IsPackageAnd}
 use Rattle.dist_repo.specs.declared.offers.Offer.{Offer}
 use Rattle.dist_repo.specs.declared.package.Package.{Package}
 use Rattle.dist_space_clauses.specs.GatheringPrivate.{IsLaterOf}

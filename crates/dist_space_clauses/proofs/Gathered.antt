@@ -1,14 +1,16 @@
 -- Lists of variables to which those of meanings with a property are added, one after another.
-use Rattle.std.proofs.Common.{◌≡◌, ◌⊎◌, ℕ, ◌+◌, ◌<◌, ◌≤◌, List, [], ◌∷◌, ◌++◌, length, get_or, take, drop, Some, refl, sym, ap, subst, ◌∙◌, inl, inr, arith}
-use Rattle.std.proofs.Common.{slice_get}
+use Rattle.std.proofs.Common.{◌≡◌, ◌⊎◌, ℕ, ◌+◌, ◌<◌, ◌≤◌, Bool, List, [], ◌∷◌, ◌++◌, length, get_or, take, drop, Some, refl, sym, ap, subst}
+use Rattle.std.proofs.Common.{◌∙◌, inl, inr, arith, slice_get}
 use Rattle.std.specs.Prelude.{◌↔◌, Any, Contains}
 use Rattle.std.specs.List.Sorted.{IsStrictlyIncreasing}
 use Rattle.std.proofs.lemmas.Bool.{cases_lt}
 use Rattle.std.proofs.lemmas.List.{take-append-drop, take_all, take_more}
 use Rattle.std.proofs.lemmas.List.Elements.{Contains-append_left, Contains-push, Contains-push_cases}
 use Rattle.std.proofs.lemmas.Option.{get_or_from_slice_get, slice_get_within}
-use Rattle.dist_base.specs.ListLaws.{any-at, any-contained}
-use Rattle.dist_space_clauses.specs.EndLaws.{at-take}
+use Rattle.dist_asked.specs.AskedLaws.{GivesAt, IsAskedAnd, IsByWidth, given-by}
+use Rattle.dist_asked.specs.AskedPlaces.{AreEnough, IsPlaceAsked}
+use Rattle.dist_base.specs.ListLaws.{any-contained, at-has, found-at, has-at}
+use Rattle.dist_relation.specs.declared.atom.Atom.{Atom}
 use Rattle.dist_space_clauses.specs.GatheringPrivate.{Adds, AreVariablesOf, Gathers}
 use Rattle.dist_space.specs.Space.{IsMeaning, SpaceView, variable_of}
 use Rattle.dist_space.specs.declared.meaning.Meaning.{Meaning}
@@ -135,16 +137,6 @@ module _ (s : SpaceView) where
         gathers-both old mid new P (λ m. Any (λ y. Q y m) (take k xs)) (Q x) (λ m. Any (λ y. Q y m) (take (k + 1) xs)) first second
         (λ m meaning any. any-take (λ y. Q y m) xs k x is any)
 
-    -- an element that stands before too
-    pub each-repeated : (old new : List ℕ) (k earlier : ℕ) (x : X) → slice_get xs k ≡ Some x → earlier < k → slice_get xs earlier ≡ slice_get xs k
-        → Gathers s old new P (λ m. Any (λ y. Q y m) (take k xs)) → Gathers s old new P (λ m. Any (λ y. Q y m) (take (k + 1) xs))
-    each-repeated old new k earlier x is less same of =
-        gathers-weaker old new P P (λ m. Any (λ y. Q y m) (take k xs)) (λ m. Any (λ y. Q y m) (take (k + 1) xs)) (λ m is p. p)
-        (λ m meaning any. elim (any-take (λ y. Q y m) xs k x is any) [
-          | inl there ↦ there
-          | inr here ↦ any-at (λ y. Q y m) (take k xs) earlier x (at-take xs k earlier x less (same ∙ is)) here
-        ]) of
-
     pub each-whole : (old new : List ℕ) (k : ℕ) → length xs ≤ k → Gathers s old new P (λ m. Any (λ y. Q y m) (take k xs))
         → Gathers s old new P (λ m. Any (λ y. Q y m) xs)
     each-whole old new k past of = gathers-weaker old new P P (λ m. Any (λ y. Q y m) (take k xs)) (λ m. Any (λ y. Q y m) xs) (λ m is p. p)
@@ -165,6 +157,38 @@ module _ (s : SpaceView) where
         | inl less ↦ inl (up.0, less, up.2)
         | inr most ↦ let same : up.0 ≡ k = omega (arith, up.1) in inr (subst (λ (i : ℕ). Q i m) same up.2)
       ])
+
+  -- ---- for each atom of a list at a place that is asked
+
+  -- what those at the first places give
+  abbrev pub AskedUpTo : (Atom → Property) → List Atom → List Bool → ℕ → Property
+  AskedUpTo Gives atoms marks = UpTo (IsAskedAnd marks (GivesAt Gives atoms))
+
+  module _ (P : Property) (Gives : Atom → Property) (atoms : List Atom) (marks : List Bool) where
+    pub asked-more : (old mid new : List ℕ) (k : ℕ) (atom : Atom) → slice_get atoms k ≡ Some atom → IsPlaceAsked marks k
+        → Gathers s old mid P (AskedUpTo Gives atoms marks k) → Gathers s mid new P (Gives atom)
+        → Gathers s old new P (AskedUpTo Gives atoms marks (k + 1))
+    asked-more old mid new k atom is is_asked first second =
+        count-more old mid new P (IsAskedAnd marks (GivesAt Gives atoms)) k first
+        (gathers-weaker mid new P P (Gives atom) (IsAskedAnd marks (GivesAt Gives atoms) k) (λ m meaning p. p)
+        (λ m meaning here. has-at (λ (a : Atom). Gives a m) atoms k atom is here.has) second)
+
+    pub asked-passed : (old new : List ℕ) (k : ℕ) → ¬ IsPlaceAsked marks k → Gathers s old new P (AskedUpTo Gives atoms marks k)
+        → Gathers s old new P (AskedUpTo Gives atoms marks (k + 1))
+    asked-passed old new k passed first =
+        count-more old new new P (IsAskedAnd marks (GivesAt Gives atoms)) k first
+        (gathers-nothing new P (IsAskedAnd marks (GivesAt Gives atoms) k) (λ m meaning here. passed here.is_asked))
+
+    -- all were gone through: what those that are asked give is what all give
+    pub asked-whole : (old new : List ℕ) (k : ℕ) → length atoms ≤ k → IsByWidth Gives → AreEnough atoms marks
+        → Gathers s old new P (AskedUpTo Gives atoms marks k) → Gathers s old new P (λ m. Any (λ atom. Gives atom m) atoms)
+    asked-whole old new k past wide enough of =
+        gathers-weaker old new P P (AskedUpTo Gives atoms marks k) (λ m. Any (λ atom. Gives atom m) atoms) (λ m meaning p. p)
+        (λ m meaning any.
+        let found = found-at (λ (atom : Atom). Gives atom m) atoms any in
+        let by = given-by Gives atoms marks wide enough found.place m
+        (at-has (λ (atom : Atom). Gives atom m) atoms found.place found.element found.is found.holds) in
+        (by.place, omega (arith, by.short, past), by.given)) of
 
   -- ---- in order
 

@@ -16,3 +16,4 @@ pub mod SomeSpaceClauses
 pub mod SortedNames
 pub mod ThreeEnds
 pub mod VariableLists
+pub mod WithinLemmas

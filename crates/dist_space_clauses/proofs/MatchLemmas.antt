@@ -2,11 +2,10 @@
 use Rattle.std.proofs.Common.{◌≡◌, ◌⊎◌, ◌↔◌, ℕ, ◌<◌, List, Some, length, refl, sym, ap, subst, ◌∙◌, inl, inr, slice_get}
 use Rattle.std.specs.Prelude.{Any, Contains, IsSomeAnd}
 use Rattle.std.proofs.lemmas.Option.{same_Some}
-use Rattle.dist_base.specs.ListLaws.{any-at, any-contained, at-has, at-more, has-at, here-at, within-from}
+use Rattle.dist_base.specs.ListLaws.{any-contained, at-has, at-more, has-at, here-at}
 use Rattle.dist_relation.specs.declared.atom.Atom.{Atom}
 use Rattle.dist_relation.specs.declared.atom.Provide.{Provide}
-use Rattle.dist_repo.specs.Match.{IsUsable, Matches, MatchesByEntry}
-use Rattle.dist_repo.specs.Providers.{AreProviders, IsProvider}
+use Rattle.dist_repo.specs.Match.{IsUsable, MatchesByEntry}
 use Rattle.dist_repo.specs.declared.package.Package.{Package}
 use Rattle.dist_space_clauses.specs.GatheringPrivate.{IsFresh, IsKeptOf, IsLaterOf, IsOfVersion}
 use Rattle.dist_space.specs.EntryOrder.{IsEntryNamed}

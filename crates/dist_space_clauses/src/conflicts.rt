@@ -1,6 +1,7 @@
 //! The clauses of packages in conflict. Of two packages as they are today the one that stands first has the clause, so both
 //! its own conflict atoms count and those of the packages behind it.
 ghost use Rattle.std.specs.Prelude.{◌≡◌, ◌≢◌, ◌+◌, ◌≤◌, ◌<◌, All, Any, Contains, IsSomeAnd, IfErr, OnOk, Some, length, slice_get};
+ghost use Rattle.dist_asked.specs.AskedPlaces.{AreEnough};
 ghost use Rattle.dist_repo.specs.Match.{IsUsable};
 ghost use Rattle.dist_repo.specs.PackageList.{IsPackageAnd};
 ghost use Rattle.dist_space_clauses.specs.Moving.{AreCandidates, AreMovers};
@@ -13,7 +14,7 @@ use crate::candidates::gather_candidates;
 use crate::clause_text::{Scratch, add_pair};
 use crate::matched::{add_fresh, add_later, add_variable, put_in_order};
 use crate::movers::Movers;
-use dist_asked::AskedAtoms;
+use dist_asked::AskedPlaces;
 use dist_clause::{ClauseSet, Lit, PushError};
 use dist_now::Partners;
 use dist_relation::{Atom, Name};
@@ -99,6 +100,28 @@ fn add_atom<'a>(
     add_new_names(space, package, atom, variables)
 }
 
+/// Adds what the conflict atoms of a package match of new versions and new names, by the places that are asked.
+fn add_asked<'a>(
+    space: &'a Space,
+    number: u32,
+    package: &'a Package,
+    asked: &AskedPlaces,
+    movers: &Movers<'a>,
+    variables: &mut Vec<u32>,
+) -> Result<(), AllocError>
+    requires enough { AreEnough «package».now.conflicts asked.now }
+    requires movers { AreMovers space.now.repository movers.now }
+    ensures { OnOk result (Gathers space.now variables.old.items variables.new.items (Excludes space.now number «package».now) (λ m. Any (λ atom. IsLater m × IsMatched space.now atom m × Excludes space.now number «package».now m) «package».now.conflicts)) }
+{
+    for place in 0..package.conflicts.len() {
+        let atom = package.conflicts.get(place);
+        if asked.has(place) {
+            add_atom(space, number, package, atom, movers, variables)?;
+        }
+    }
+    Ok(())
+}
+
 /// Adds what the conflict atoms of a package match of new versions and new names.
 fn add_atoms<'a>(
     space: &'a Space,
@@ -110,15 +133,8 @@ fn add_atoms<'a>(
     requires { AreMovers space.now.repository movers.now }
     ensures { OnOk result (Gathers space.now variables.old.items variables.new.items (Excludes space.now number «package».now) (λ m. Any (λ atom. IsLater m × IsMatched space.now atom m × Excludes space.now number «package».now m) «package».now.conflicts)) }
 {
-    let mut asked = AskedAtoms::new(*variables.allocator());
-    for place in 0..package.conflicts.len() {
-        let atom = package.conflicts.get(place);
-        let is_repeated = asked.note(atom, package.conflicts.len())?;
-        if !is_repeated {
-            add_atom(space, number, package, atom, movers, variables)?;
-        }
-    }
-    Ok(())
+    let asked = AskedPlaces::in_field(*variables.allocator(), &package.conflicts)?;
+    add_asked(space, number, package, &asked, movers, variables)
 }
 
 /// Adds packages as they are.

@@ -1,5 +1,6 @@
 //! The clauses of the items of packages.
 ghost use Rattle.std.specs.Prelude.{◌≡◌, ◌+◌, ◌<◌, ◌≤◌, Any, IfErr, None, OnOk, Some, length, slice_get};
+ghost use Rattle.dist_asked.specs.AskedPlaces.{AreEnough};
 ghost use Rattle.dist_repo.specs.Match.{IsUsable};
 ghost use Rattle.dist_repo.specs.Offers.{AreMatched};
 ghost use Rattle.dist_repo.specs.Providers.{AreProviders};
@@ -12,7 +13,7 @@ use crate::candidates::gather_candidates;
 use crate::clause_text::Scratch;
 use crate::matched::{add_fresh, add_later, add_variable, put_in_order};
 use crate::movers::Movers;
-use dist_asked::AskedAtoms;
+use dist_asked::AskedPlaces;
 use dist_clause::{ClauseSet, PushError};
 use dist_relation::{Alternatives, Atom};
 use dist_repo::{Offer, Package};
@@ -102,6 +103,27 @@ fn add_matched<'a>(
     add_fresh(space, atom, variables)
 }
 
+/// Adds what an item is met by, by the places that are asked.
+fn add_asked<'a>(
+    space: &'a Space,
+    alternatives: &'a Alternatives,
+    asked: &AskedPlaces,
+    movers: &Movers<'a>,
+    variables: &mut Vec<u32>,
+) -> Result<(), AllocError>
+    requires enough { AreEnough alternatives.now asked.now }
+    requires movers { AreMovers space.now.repository movers.now }
+    ensures { OnOk result (Adds space.now variables.old.items variables.new.items (IsMetBy space.now alternatives.now)) }
+{
+    for place in 0..alternatives.len() {
+        let atom = alternatives.get(place);
+        if asked.has(place) {
+            add_matched(space, atom, movers, variables)?;
+        }
+    }
+    Ok(())
+}
+
 /// Gathers what an item is met by.
 fn gather_meeting<'a>(
     space: &'a Space,
@@ -113,14 +135,8 @@ fn gather_meeting<'a>(
     ensures { OnOk result (AreVariablesOf space.now (IsMetBy space.now alternatives.now) variables.new.items) }
 {
     variables.clear();
-    let mut asked = AskedAtoms::new(*variables.allocator());
-    for place in 0..alternatives.len() {
-        let atom = alternatives.get(place);
-        let is_repeated = asked.note(atom, alternatives.len())?;
-        if !is_repeated {
-            add_matched(space, atom, movers, variables)?;
-        }
-    }
+    let asked = AskedPlaces::in_item(*variables.allocator(), alternatives)?;
+    add_asked(space, alternatives, &asked, movers, variables)?;
     put_in_order(variables);
     Ok(())
 }

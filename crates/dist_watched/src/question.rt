@@ -8,8 +8,9 @@ use dist_derive::{Log, Truth};
 use std::alloc::AllocError;
 
 impl Watched {
-    /// Begins a question. The cone is given by its variables, each once. What stood of the last question is undone, but the
-    /// clauses that were copied stay where the cone and the log are the same.
+    /// Begins a question. The cone is given by its variables, each once, and the log is that of the last question, which may
+    /// have grown. What stood of that question is undone, but the clauses that were copied stay where the cone is the same and
+    /// no line came. Over another log guesses are worse, and no answer is wrong.
     pub fn start(
         &mut self,
         log: &Log,

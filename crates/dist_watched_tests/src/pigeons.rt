@@ -85,23 +85,10 @@ fn crowd(alloc: Global, variables: u32, pigeons: u32) -> Option<ClauseSet>
     Some(set)
 }
 
-/// A log of clauses over a hundred variables, with its index.
-fn log_of(alloc: Global, clauses: ClauseSet) -> Option<Log>
-    requires { clauses.variables ≡ 100 }
-    ensures { IfSome result (λ log. log.variables ≡ 100) }
-{
-    let mut log = Log::new(alloc, clauses, 10000, 1000000);
-    if log.cover().is_ok() {
-        return Some(log);
-    }
-    drop(log);
-    None
-}
-
 /// What the question comes to whether so many pigeons have each a hole of its own.
 fn crowd_ends(alloc: Global, pigeons: u32) -> Option<End> {
     let clauses = crowd(alloc, 100, pigeons)?;
-    let mut log = log_of(alloc, crowd(alloc, 100, pigeons)?)?;
+    let mut log = Log::covered(alloc, crowd(alloc, 100, pigeons)?, 10000, 1000000).ok()?;
     let mut watched = Watched::new(alloc, 100);
     let end = ask(alloc, &clauses, &mut log, &mut watched, &[], 10000);
     drop(log);

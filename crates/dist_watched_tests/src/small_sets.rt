@@ -120,12 +120,10 @@ pub(crate) fn log_of(alloc: Global, clauses: ClauseSet, is_covered: bool) -> Opt
     requires { clauses.variables ≡ 5 }
     ensures { IfSome result (λ log. log.variables ≡ 5) }
 {
-    let mut log = Log::new(alloc, clauses, 1000, 10000);
-    if !is_covered || log.cover().is_ok() {
-        return Some(log);
+    if is_covered {
+        return Log::covered(alloc, clauses, 1000, 10000).ok();
     }
-    drop(log);
-    None
+    Some(Log::new(alloc, clauses, 1000, 10000))
 }
 
 /// Whether six questions to one search are answered as by trying all assignments.

@@ -5,14 +5,14 @@ use Rattle.dist_check.specs.StartPrivate.{HasNumbers}
 use Rattle.dist_check.proofs.Begun.{begins, begun, fits-numbers}
 use Rattle.dist_check.proofs.start.start.Goals as goal
 
-pub returns-in-Ok : goal.returns-in-Ok
-returns-in-Ok c =
+pub returns : goal.returns
+returns c =
     let h = c.args.header.now in
     let subject = c.in_ok-subject.subject in
     begins c.args.repo.now c.args.limits.now h subject.packages subject.inputs subject.layout subject.future c.new.result
     c.in_ok-subject.ensures.ok (c.has_numbers.ensures.0 c.if-not-has_numbers.false)
     (c.new.ensures.value
-    ∙ ap (λ (log : ClauseLog). begun h.limit subject.packages subject.layout subject.future log) (c.cover.ensures.same ∙ c.new-log.ensures))
+    ∙ ap (λ (log : ClauseLog). begun h.limit subject.packages subject.layout subject.future log) c.in_ok-log.ensures)
     c.new.ensures.within
 
 pub returns-then-not-has_numbers : goal.returns-then-not-has_numbers

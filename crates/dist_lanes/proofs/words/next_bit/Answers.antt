@@ -1,5 +1,5 @@
-use Rattle.std.proofs.Common.{◌*◌, ◌/◌, ◌≤◌, arith}
-use Rattle.dist_lanes.proofs.NextLemmas.{next-behind-mask, clear-behind-mask, next-in-word}
+use Rattle.std.proofs.Common.{◌+◌, ◌*◌, ◌/◌, ◌≤◌, arith}
+use Rattle.dist_lanes.proofs.NextLemmas.{next-behind-mask, clear-behind-mask, next-in-word, zeros-are-clear}
 use Rattle.dist_lanes.proofs.words.next_bit.Goals as goal
 
 pub returns-then-rest-ne0-clause-some : goal.returns-then-rest-ne0-clause-some
@@ -8,7 +8,9 @@ returns-then-rest-ne0-clause-some c =
     (next.behind, next.set, next.clear)
 
 pub loop-number-init : goal.loop-number-init
-loop-number-init c = clear-behind-mask c.args.words.now c.args.from c.if-rest-ne0.false
+loop-number-init c =
+    zeros-are-clear c.args.words.now c.args.from (c.args.from / 64 + 1) c.pass_zeros-number.result
+    (clear-behind-mask c.args.words.now c.args.from c.if-rest-ne0.false) c.pass_zeros-number.ensures.zeros
 
 pub returns-then-word-ne0-clause-some : goal.returns-then-word-ne0-clause-some
 returns-then-word-ne0-clause-some c =

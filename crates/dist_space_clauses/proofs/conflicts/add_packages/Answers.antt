@@ -1,5 +1,4 @@
 use Rattle.std.proofs.Common.{ℕ, get_or, arith}
-use Rattle.std.proofs.lemmas.List.{get_or_default}
 use Rattle.std.proofs.lemmas.Option.{slice_get-get_or}
 use Rattle.dist_space_clauses.specs.GatheringPrivate.{IsLaterOf}
 use Rattle.dist_space.specs.Space.{IsMatchedBy}
