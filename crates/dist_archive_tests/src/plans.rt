@@ -191,40 +191,65 @@ fn holds_exactly(archive: &Archive, later: &Repository) -> bool {
     archive.len() == later.len()
 }
 
-/// Whether steps lead from a repository to a later archive.
-fn is_led(alloc: Global, space: Space, told: &[Told], later: &Repository) -> Option<bool> {
-    let mut archive = start(alloc, space).ok()?;
+/// Whether an archive answers steps by taking them.
+fn are_taken(alloc: Global, archive: &mut Archive, told: &[Told]) -> Option<bool> {
     for step in told {
-        if !is_answered(alloc, &mut archive, step, None)? {
+        if !is_answered(alloc, archive, step, None)? {
             return Some(false);
         }
     }
-    Some(holds_exactly(&archive, later))
+    Some(true)
+}
+
+/// Whether steps lead from a repository to a later archive.
+fn is_led(alloc: Global, space: Space, told: &[Told], later: &Repository) -> bool {
+    let Ok(mut archive) = start(alloc, space) else {
+        return false;
+    };
+    let led = are_taken(alloc, &mut archive, told) == Some(true) && holds_exactly(&archive, later);
+    drop(archive);
+    led
+}
+
+/// Whether a later archive has this plan, or this is the first package that does not fit.
+fn is_planned(
+    alloc: Global,
+    space: &Space,
+    later: &Repository,
+    wanted: Result<&[Told], u32>,
+) -> bool {
+    match (reach(alloc, space, later), wanted) {
+        (Ok(plan), Ok(told)) => {
+            let planned = is_plan(alloc, space, &plan, told) == Some(true);
+            drop(plan);
+            planned
+        }
+        (Err(ReachError::NotAFuture(number)), Err(first)) => number == first,
+        _ => false,
+    }
 }
 
 /// Whether a row is answered so.
-fn is_so(alloc: Global, row: &Row) -> Option<bool> {
-    let space = space_of_stanzas(alloc, row.1)?;
-    let later = repository(alloc, row.2)?;
-    if !later.is_flat() {
-        return None;
+fn is_so(alloc: Global, row: &Row) -> bool {
+    let (Some(space), Some(later)) = (space_of_stanzas(alloc, row.1), repository(alloc, row.2))
+    else {
+        return false;
+    };
+    if !later.is_flat() || !is_planned(alloc, &space, &later, row.3) {
+        return false;
     }
-    match (reach(alloc, &space, &later), row.3) {
-        (Ok(plan), Ok(told)) => {
-            if !is_plan(alloc, &space, &plan, told)? {
-                return Some(false);
-            }
-            is_led(alloc, space, told, &later)
-        }
-        (Err(ReachError::NotAFuture(number)), Err(wanted)) => Some(number == wanted),
-        _ => Some(false),
-    }
+    let led = match row.3 {
+        Ok(told) => is_led(alloc, space, told, &later),
+        Err(_) => true,
+    };
+    drop(later);
+    led
 }
 
 /// Runs rows.
 fn hold(rt: &(impl Abort + AllocGlobal), rows: &[Row]) {
     for row in rows {
-        assert!(rt; is_so(rt.alloc(), row) == Some(true), "{}", row.0);
+        assert!(rt; is_so(rt.alloc(), row), "{}", row.0);
     }
 }
 
