@@ -24,3 +24,4 @@ pub mod PairFronts
 pub mod KeptPairs
 pub mod PushLemmas
 pub mod SomeClauses
+pub mod RelationLemmas

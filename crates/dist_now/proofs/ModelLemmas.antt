@@ -55,10 +55,10 @@ installed-from values n holds = flag-from values n (sym (value-at values n) ∙ 
 installed-true : (values : List Bool) (n : ℕ) → slice_get values n ≡ Some true → IsTrueLiteral (value_of values) (installed n)
 installed-true values n is = value-at values n ∙ flag-at values n is
 
-absent-not : (values : List Bool) (n : ℕ) → IsTrueLiteral (value_of values) (not_installed n) → ¬ (slice_get values n ≡ Some true)
+pub absent-not : (values : List Bool) (n : ℕ) → IsTrueLiteral (value_of values) (not_installed n) → ¬ (slice_get values n ≡ Some true)
 absent-not values n holds is = false≢true (sym holds ∙ installed-true values n is)
 
-absent-true : (values : List Bool) (n : ℕ) → ¬ (slice_get values n ≡ Some true) → IsTrueLiteral (value_of values) (not_installed n)
+pub absent-true : (values : List Bool) (n : ℕ) → ¬ (slice_get values n ≡ Some true) → IsTrueLiteral (value_of values) (not_installed n)
 absent-true values n none = by (get_or values n false) refl
   where
     by : (b : Bool) → get_or values n false ≡ b → IsTrueLiteral (value_of values) (not_installed n)
@@ -66,15 +66,15 @@ absent-true values n none = by (get_or values n false) refl
     by false is = value-at values n ∙ is
 
 -- one of the numbers whose package is installed
-record SomeInstalled (values : List Bool) (numbers : List ℕ) : Type 0 where
-  number : ℕ
-  there : Contains numbers number
-  is : slice_get values number ≡ Some true
+pub record SomeInstalled (values : List Bool) (numbers : List ℕ) : Type 0 where
+  pub number : ℕ
+  pub there : Contains numbers number
+  pub is : slice_get values number ≡ Some true
 
 contains-later : (xs : List ℕ) (x k : ℕ) → Contains xs k → Contains (x ∷ xs) k
 contains-later xs x k there = (suc there.0, omega (arith, there.1), there.2)
 
-some-installed : (values : List Bool) (numbers : List ℕ) → MakesTrue (value_of values) (map installed numbers) → SomeInstalled values numbers
+pub some-installed : (values : List Bool) (numbers : List ℕ) → MakesTrue (value_of values) (map installed numbers) → SomeInstalled values numbers
 some-installed values [] any = absurd (omega (arith, any.2))
 some-installed values (n ∷ numbers) any =
     elim (any-cases (IsTrueLiteral (value_of values)) (installed n) (map installed numbers) any) [
@@ -90,7 +90,7 @@ contains-cases xs x k there = at there.0 there.1 there.2
     at zero short is = inl is
     at (suc i) short is = inr (i, omega arith, is)
 
-true-installed : (values : List Bool) (numbers : List ℕ) (n : ℕ) → Contains numbers n → slice_get values n ≡ Some true
+pub true-installed : (values : List Bool) (numbers : List ℕ) (n : ℕ) → Contains numbers n → slice_get values n ≡ Some true
     → MakesTrue (value_of values) (map installed numbers)
 true-installed values [] n there is = absurd (omega (arith, there.1))
 true-installed values (k ∷ numbers) n there is =
@@ -177,7 +177,7 @@ none-apart r essential clauses values are model R apart n k members =
     never-both values n k (subst (MakesTrue (value_of values)) made.is_clause made.holds) members.related.member members.second_member
 
 -- a member meets an item that is met by one of some installed packages
-met-by-installed : (r : PackageList) (values : List Bool) (numbers : List ℕ) (item : List Atom) → AreNumbersOf r (IsMetBy r.architecture item) numbers
+pub met-by-installed : (r : PackageList) (values : List Bool) (numbers : List ℕ) (item : List Atom) → AreNumbersOf r (IsMetBy r.architecture item) numbers
     → SomeInstalled values numbers
     → IsMet r.architecture (members_of r.packages values) item
 met-by-installed r values numbers item are some =
@@ -246,7 +246,7 @@ model-healthy r essential clauses are values model =
 has : List Package → Package → Bool
 has members p = list_any (package_eq p) members
 
-values_for : List Package → List Package → List Bool
+pub values_for : List Package → List Package → List Bool
 unfolding has
 values_for packages members = map (has members) packages
 
@@ -296,7 +296,7 @@ some-true : (r : PackageList) (members : List Package) (P : Package → Type 0) 
 some-true r members P numbers are at = true-installed (values_for r.packages members) numbers at.number ((are.exact at.number).1 at.has) at.is
 
 -- whether a package is installed is decided
-installed-decided : (values : List Bool) (n : ℕ) → (slice_get values n ≡ Some true) ⊎ (¬ (slice_get values n ≡ Some true))
+pub installed-decided : (values : List Bool) (n : ℕ) → (slice_get values n ≡ Some true) ⊎ (¬ (slice_get values n ≡ Some true))
 installed-decided [] n = inr (λ h. cc)
 installed-decided (true ∷ values) zero = inl refl
 installed-decided (false ∷ values) zero = inr (λ h. cc)
@@ -397,7 +397,7 @@ model-from r essential clauses members ordered are healthy =
     demand-true r essential members a.0 a.1 ordered healthy ((are.exact a.0).0 (there.0, a, there.1, there.2, refl))
     (All-contains (λ (b : Row). IsClauseFor r b.0 b.1) are.rows a are.each there))))
 
-same-members : (r : PackageList) (members : List Package) → All (Contains r.packages) members
+pub same-members : (r : PackageList) (members : List Package) → All (Contains r.packages) members
     → AreSamePackages members (members_of r.packages (values_for r.packages members))
 same-members r members chosen p = (
   (λ there.
@@ -412,7 +412,7 @@ same-members r members chosen p = (
       (all-members (Contains members) r.packages (values_for r.packages members) (λ k q m. from-value r.packages members k q m.there m.member)) there,
 )
 
-values-length : (packages members : List Package) → length (values_for packages members) ≡ length packages
+pub values-length : (packages members : List Package) → length (values_for packages members) ≡ length packages
 unfolding values_for
 values-length packages members = length-map packages (has members)
 

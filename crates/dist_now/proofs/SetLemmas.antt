@@ -36,7 +36,7 @@ names-back p q apart = λ same. apart (sym same)
 
 -- ---- health depends on which packages are members
 
-met-more : (architecture : Option (List ℕ)) (members others : List Package) → ((p : Package) → Contains members p → Contains others p) → (item : List Atom)
+pub met-more : (architecture : Option (List ℕ)) (members others : List Package) → ((p : Package) → Contains members p → Contains others p) → (item : List Atom)
     → IsMet architecture members item → IsMet architecture others item
 met-more architecture members others to item met =
     any-more (λ atom. Any (Matches architecture atom) members) (λ atom. Any (Matches architecture atom) others)

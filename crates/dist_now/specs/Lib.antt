@@ -7,6 +7,7 @@ pub mod PresentClauses
 pub mod PresentSet
 pub mod Partners
 pub mod PresentLaws
+pub mod Relations
 pub mod GatheringPrivate
 pub mod PresentExamples
 pub mod HealthExamples

@@ -25,6 +25,6 @@ pub use laws::one_health;
 pub use partners::Partners;
 pub use present_clauses::clauses_of;
 pub use present_laws::{
-    health_is_of_sets, models_are_installations, present_clauses_are_one,
-    present_clauses_are_there, present_clauses_go_on,
+    demands_tell_health, health_is_of_sets, models_are_installations, present_clauses_are_one,
+    present_clauses_are_there, present_clauses_go_on, relations_have_clauses,
 };
