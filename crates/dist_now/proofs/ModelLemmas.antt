@@ -49,10 +49,10 @@ flag-from (b ∷ values) (suc n) is = flag-from values n is
 flag-at : (values : List Bool) (n : ℕ) → slice_get values n ≡ Some true → get_or values n false ≡ true
 flag-at values n is = get_or_from_slice_get values n true false is
 
-installed-from : (values : List Bool) (n : ℕ) → IsTrueLiteral (value_of values) (installed n) → slice_get values n ≡ Some true
+pub installed-from : (values : List Bool) (n : ℕ) → IsTrueLiteral (value_of values) (installed n) → slice_get values n ≡ Some true
 installed-from values n holds = flag-from values n (sym (value-at values n) ∙ holds)
 
-installed-true : (values : List Bool) (n : ℕ) → slice_get values n ≡ Some true → IsTrueLiteral (value_of values) (installed n)
+pub installed-true : (values : List Bool) (n : ℕ) → slice_get values n ≡ Some true → IsTrueLiteral (value_of values) (installed n)
 installed-true values n is = value-at values n ∙ flag-at values n is
 
 pub absent-not : (values : List Bool) (n : ℕ) → IsTrueLiteral (value_of values) (not_installed n) → ¬ (slice_get values n ≡ Some true)

@@ -2,7 +2,7 @@
 use Rattle.std.proofs.Common.{◌≡◌, ◌≢◌, ◌⊎◌, ℕ, zero, suc, ◌<◌, Bool, true, false, List, [], ◌∷◌, length, get_or, map, map-id, Some, Equal, refl, sym, ap, subst, ◌∙◌, arith, inl, inr}
 use Rattle.std.proofs.Common.{slice_get}
 use Rattle.std.specs.Prelude.{All, AllPairs, Any, Contains, IsSomeAnd}
-use Rattle.std.proofs.lemmas.Bool.{cases_lt}
+use Rattle.std.proofs.lemmas.Bool.{cases_lt, false≢true}
 use Rattle.std.proofs.lemmas.List.{get_or_default, length-map}
 use Rattle.std.proofs.lemmas.List.Elements.{All-contains, All-nil, All-tail}
 use Rattle.dist_base.specs.ListLaws.{all-contained, any-cases, any-contained, any-head, any-later, any-more, any-there, at-has, at-more, contains-at, element-is, has-at, pair-from}
@@ -11,7 +11,8 @@ use Rattle.dist_base.specs.RowLaws.{rows-same}
 use Rattle.dist_clause.specs.Formula.{Literal, IsTrueLiteral, MakesTrue, value_of}
 use Rattle.dist_relation.specs.declared.atom.Atom.{Atom}
 use Rattle.dist_repo.specs.Conflict.{AreInConflict}
-use Rattle.dist_repo.specs.DecidedLaws.{any-decided, met-decided, text-decided}
+use Rattle.dist_repo.specs.DecidedLaws.{IsDecided, any-decided, at-decided, both-decided, met-decided, not-decided, same-as, text-decided}
+use Rattle.dist_repo.specs.EqualityPrivate.{package_eq, packages_decide}
 use Rattle.dist_repo.specs.Healthy.{IsMet}
 use Rattle.dist_repo.specs.Match.{Matches}
 use Rattle.dist_repo.specs.Order.{IsInOrder}
@@ -20,14 +21,15 @@ use Rattle.dist_repo.specs.Strong.{IsInstallation}
 use Rattle.dist_repo.specs.declared.package.Package.{Package}
 use Rattle.dist_version.specs.Order.{version_cmp}
 use Rattle.dist_version.specs.OrderLaws.{version_cmp-same}
-use Rattle.dist_now.specs.Relations.{AreOf, AreRelations, AreValuesOf, Fails, HaveClauses, IsHealthyByDemands, IsTrueByDemand}
+use Rattle.dist_now.specs.Relations.{AreMembersByValues, AreOf, AreRelations, AreValuesOf, Fails, HaveClauses, IsHealthyByDemands, IsTrueByDemand}
 use Rattle.dist_now.specs.Members.{members_of}
 use Rattle.dist_now.specs.PresentClauses.{Demand, Item, Apart, Required, AreNumbersOf, ArePresentClauses, IsBefore, IsClauseFor, IsDemand, IsMetBy, installed, not_installed}
 use Rattle.dist_now.specs.PresentLaws.{AreSamePackages, HasNoRepeats}
 use Rattle.dist_now.proofs.ConflictLemmas.{never-same}
 use Rattle.dist_now.proofs.DemandLists.{FoundItem, Row, demands-asymmetric, found-item, one-item}
+use Rattle.dist_now.proofs.HealthyLemmas.{all-members}
 use Rattle.dist_now.proofs.MemberLemmas.{any-member, member-any}
-use Rattle.dist_now.proofs.ModelLemmas.{absent-not, absent-true, installed-decided, met-by-installed, same-members, some-installed}
+use Rattle.dist_now.proofs.ModelLemmas.{absent-not, absent-true, installed-decided, installed-from, installed-true, met-by-installed, same-members, some-installed}
 use Rattle.dist_now.proofs.ModelLemmas.{true-installed, values-length, values_for}
 use Rattle.dist_now.proofs.SomeClauses.{some-clauses}
 use Rattle.dist_now.proofs.SetLemmas.{apart-back, conflict-back, met-more, names-back}
@@ -215,6 +217,39 @@ true-by-demand r essential (Apart n k) clause values ordered demand is = apart-t
 true-by-demand r essential (Required name) clause values ordered demand is = name-true r name clause values is
 
 -- ---- sets
+
+-- whether a list has a package is decided
+there-decided : (members : List Package) (p : Package) → IsDecided (Contains members p)
+there-decided members p = same-as (λ any. subst (Contains members) any.4 (any-there (λ q. q ≡ p) members any))
+    (λ there. any-contained (λ q. q ≡ p) members p there refl)
+    (any-decided (λ q. q ≡ p) (λ q. package-decided q p) members)
+  where
+    package-decided : (q p : Package) → IsDecided (q ≡ p)
+    package-decided q p = by (package_eq q p) refl
+      where
+        by : (b : Bool) → package_eq q p ≡ b → IsDecided (q ≡ p)
+        by true is = inl ((packages_decide q p).0 is)
+        by false is = inr (λ same. false≢true (sym is ∙ (packages_decide q p).1 same))
+
+pub fails-decided : (r : PackageList) (members : List Package) (d : Demand) → IsDecided (Fails r members d)
+fails-decided r members (Item n k) =
+    let Missed : Package → List Atom → Type 0 = λ p item. Contains members p × (¬ IsMet r.architecture members item) in
+    at-decided (λ p. IsSomeAnd (slice_get p.depends k) (Missed p))
+    (λ p. at-decided (Missed p) (λ item. both-decided (there-decided members p) (not-decided (met-decided r.architecture members item))) p.depends k) r.packages n
+fails-decided r members (Apart n k) =
+    at-decided (λ p. IsPackageAnd r.packages k (λ q. Contains members p × Contains members q))
+    (λ p. at-decided (λ q. Contains members p × Contains members q) (λ q. both-decided (there-decided members p) (there-decided members q)) r.packages k)
+    r.packages n
+fails-decided r members (Required name) = not-decided (any-decided (λ p. p.name ≡ name) (λ p. text-decided p.name name) members)
+
+pub members-by-values : (r : PackageList) (values : List Bool) → IsInOrder r.packages → AreMembersByValues r values
+members-by-values r values ordered = record {
+  of = all-members (Contains r.packages) r.packages values (λ k p m. contains-at r.packages k p m.there);
+  exact = λ number p is. (
+    (λ there. installed-true values number (member-from r values number p ordered is there)),
+    λ holds. from-member r values number p is (installed-from values number holds),
+  );
+}
 
 pub values-of : (r : PackageList) (members : List Package) → AreOf r members → (values : List Bool) × AreValuesOf r members values
 values-of r members of = (

@@ -2,14 +2,14 @@
 -- packages fails.
 use Rattle.std.specs.Prelude.{◌≡◌, ◌↔◌, false, ℕ, Bool, List, All, AllPairs, Any, Contains, Some, length, slice_get}
 use Rattle.std.specs.Prelude.{IsSomeAnd}
-use Rattle.dist_clause.specs.Formula.{Literal, MakesTrue, value_of}
+use Rattle.dist_clause.specs.Formula.{Literal, IsTrueLiteral, MakesTrue, value_of}
 use Rattle.dist_repo.specs.Healthy.{IsMet}
 use Rattle.dist_repo.specs.PackageList.{PackageList, IsPackageAnd}
 use Rattle.dist_repo.specs.Strong.{IsInstallation}
 use Rattle.dist_repo.specs.declared.package.Package.{Package}
 use Rattle.dist_now.specs.Members.{members_of}
 use Rattle.dist_now.specs.PresentClauses.{Demand, Item, Apart, Required, IsBefore, IsClauseFor}
-use Rattle.dist_now.specs.PresentClauses.{IsDemand, IsItemAnd}
+use Rattle.dist_now.specs.PresentClauses.{IsDemand, IsItemAnd, installed}
 use Rattle.dist_now.specs.PresentLaws.{AreSamePackages, HasNoRepeats}
 
 -- The demands at mode plain, each once, in their order: items, and then pairs of packages that must be apart.
@@ -31,6 +31,12 @@ abbrev pub AreOf : PackageList → List Package → Type 0
 AreOf r members = All (Contains r.packages) members
 
 -- ---- what is told of it
+
+-- The packages whose values are true are packages of the repository: those whose variables are true.
+pub record AreMembersByValues (r : PackageList) (values : List Bool) : Type 0 where
+  pub of : AreOf r (members_of r.packages values)
+  pub exact : (number : ℕ) (p : Package) → slice_get r.packages number ≡ Some p
+      → Contains (members_of r.packages values) p ↔ IsTrueLiteral (value_of values) (installed number)
 
 -- Packages of the repository, each once, are a healthy installation at mode plain exactly where they fail no demand.
 abbrev pub IsHealthyByDemands : PackageList → List Package → Type 0

@@ -1,11 +1,11 @@
 //! What the clauses of the present mean, apart from the work. These functions do nothing.
-ghost use Rattle.std.specs.Prelude.{◌≡◌, Bool, false, List};
+ghost use Rattle.std.specs.Prelude.{◌≡◌, ◌⊎◌, Bool, false, List};
 ghost use Rattle.dist_clause.specs.Formula.{Literal};
 ghost use Rattle.dist_repo.specs.Order.{IsInOrder};
 ghost use Rattle.dist_repo.specs.PackageList.{PackageList};
 ghost use Rattle.dist_repo.specs.Strong.{IsInstallation};
 ghost use Rattle.dist_repo.specs.declared.package.Package.{Package};
-ghost use Rattle.dist_now.specs.Relations.{AreOf, AreRelations, AreValuesOf, Fails, HaveClauses, IsHealthyByDemands, IsTrueByDemand};
+ghost use Rattle.dist_now.specs.Relations.{AreMembersByValues, AreOf, AreRelations, AreValuesOf, Fails, HaveClauses, IsHealthyByDemands, IsTrueByDemand};
 ghost use Rattle.dist_now.specs.PresentClauses.{ArePresentClauses, AreClausesBefore, Demand, IsClauseFor, IsDemand};
 ghost use Rattle.dist_now.specs.PresentLaws.{AreModelsInstallations, AreSamePackages, GoesOn, HasNoRepeats};
 
@@ -44,8 +44,10 @@ pub fn demands_tell_health()
     ensures healthy { (r : PackageList) (members : List Package) → IsInOrder r.packages → IsHealthyByDemands r members }
     ensures clauses { (r : PackageList) (essential : Bool) (d : Demand) (clause : List Literal) (values : List Bool) → IsInOrder r.packages
         → IsDemand r essential d → IsClauseFor r d clause → IsTrueByDemand r d clause values }
+    ensures members { (r : PackageList) (values : List Bool) → IsInOrder r.packages → AreMembersByValues r values }
     ensures values { (r : PackageList) (members : List Package) → AreOf r members → (values : List Bool) × AreValuesOf r members values }
     ensures same { (r : PackageList) (members others : List Package) (d : Demand) → AreSamePackages members others → Fails r members d → Fails r others d }
+    ensures decided { (r : PackageList) (members : List Package) (d : Demand) → Fails r members d ⊎ (¬ Fails r members d) }
 {}
 
 /// The relations of a repository are one list, and each has its clause among those of the present at mode plain.
