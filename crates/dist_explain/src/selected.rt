@@ -1,0 +1,81 @@
+//! The clauses of the present, each with its selector.
+ghost use Rattle.std.specs.Prelude.{◌≡◌, ◌+◌, ◌++◌, ◌<◌, ◌≤◌, ◌∷◌, [], IfErr, IfOk, OnErr, OnOk, false, length, take};
+ghost use Rattle.dist_base.specs.Answers.{IsExactly};
+ghost use Rattle.dist_base.specs.declared.TheConstants.{MAX_LITERALS, MAX_VARIABLES};
+ghost use Rattle.dist_clause.specs.ClauseList.{clause_at};
+ghost use Rattle.dist_clause.specs.Formula.{literal};
+ghost use Rattle.dist_outside.specs.declared.trouble.What.{What};
+ghost use Rattle.dist_outside.specs.declared.trouble.WorkError.TheVariants.{NoMemory, TooLarge};
+ghost use Rattle.dist_explain.specs.SelectedPrivate.{IsFront, IsFullAt};
+ghost use Rattle.dist_explain.specs.Selectors.{IsSelectedSet, PassesSelected, selected};
+
+use dist_clause::{ClauseSet, Lit, PushError};
+use dist_outside::{Limits, What, WorkError};
+use std::alloc::{AllocError, Global};
+
+/// Writes a clause with the negation of its selector at its end.
+fn write_selected(clause: &mut Vec<Lit>, literals: &[Lit], selector: u32) -> Result<(), AllocError>
+    requires from_one { 1 ≤ selector }
+    requires in_range { selector ≤ MAX_VARIABLES }
+    ensures { OnOk result (clause.new.items ≡ literals.now ++ literal selector false ∷ []) }
+{
+    clause.clear();
+    clause.extend_from_slice(literals)?;
+    clause.push(Lit::new(selector, false))?;
+    Ok(())
+}
+
+/// Adds the clause at a place, from 0, with its selector.
+fn push_selected(
+    clauses: &ClauseSet,
+    place: u32,
+    clause: &mut Vec<Lit>,
+    set: &mut ClauseSet,
+) -> Result<(), WorkError>
+    requires place { place < length clauses.now.clauses }
+    requires front { IsFront clauses.now place set.old }
+    ensures ok { OnOk result (IsFront clauses.now (place + 1) set.new) }
+    ensures limit { OnOk result (set.new.literal_limit ≡ set.old.literal_limit) }
+    ensures err { IfErr result (IsFullAt clauses.now set.old.literal_limit) }
+{
+    // What this call tells is that there may be so many variables.
+    let _stated = set.variables();
+    let selector = clauses.variables() + place + 1;
+    if let Err(AllocError) = write_selected(clause, clauses.clause(place + 1), selector) {
+        return Err(WorkError::NoMemory);
+    }
+    match set.push(clause) {
+        Ok(()) => Ok(()),
+        Err(PushError::NoMemory) => Err(WorkError::NoMemory),
+        Err(PushError::TooManyLiterals) => Err(WorkError::TooLarge(What::Literals)),
+        // This does not come: there is room for as many clauses as there are.
+        Err(PushError::TooManyClauses) => Err(WorkError::TooLarge(What::Clauses)),
+    }
+}
+
+/// Clauses, each with its negated selector at its end. The selectors are the variables behind those of the clauses, in the same
+/// order.
+pub fn with_selectors(
+    alloc: Global,
+    clauses: &ClauseSet,
+    limits: &Limits,
+) -> Result<ClauseSet, WorkError>
+    requires variables { limits.now.variables ≤ MAX_VARIABLES }
+    requires literals { limits.now.literals ≤ MAX_LITERALS }
+    ensures ok { IfOk result (IsSelectedSet limits.now clauses.now) }
+    ensures exact { (what : What) → IsExactly NoMemory result (TooLarge what) (PassesSelected limits.now clauses.now what) }
+{
+    let count = clauses.len();
+    let variables = clauses.variables() + count;
+    if variables > limits.variables {
+        return Err(WorkError::TooLarge(What::Variables));
+    }
+    let mut set = ClauseSet::new(alloc, variables, count, limits.literals);
+    let mut clause = Vec::new(alloc);
+    for place in 0..count {
+        push_selected(clauses, place, &mut clause, &mut set)?;
+    }
+    // What this call tells is that the set is within its limits.
+    let _count = set.len();
+    Ok(set)
+}
