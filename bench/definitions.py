@@ -150,6 +150,7 @@ CHAPTERS = [
     ("Futures, and the space that stands for them", ["dist_future", "dist_space", "dist_space_clauses"]),
     ("Archives that change by steps", ["dist_archive"]),
     ("Clauses, what follows, and what is new", ["dist_clause", "dist_derive"]),
+    ("Explanations", ["dist_explain"]),
     ("Certificates", ["dist_cert"]),
     ("What certificates speak of, and what their claims mean", ["dist_subject", "dist_check"]),
     ("What a question answers", ["dist_solver"]),

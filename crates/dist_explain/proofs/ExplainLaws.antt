@@ -1,6 +1,6 @@
 -- What clauses with selectors mean, by what the clauses of the present mean.
-use Rattle.std.proofs.Common.{◌≡◌, ◌⊎◌, ℕ, zero, suc, ◌+◌, ◌-◌, ◌<◌, ◌≤◌, Bool, true, false, List, [], ◌∷◌, ◌++◌, length, length-append, get_or, Option, None, Some, refl}
-use Rattle.std.proofs.Common.{sym, ap, subst, ◌∙◌, arith, inl, inr, slice_get}
+use Rattle.std.proofs.Common.{◌≡◌, ◌⊎◌, ℕ, zero, suc, ◌+◌, ◌-◌, ◌<◌, ◌≤◌, Bool, true, false, List, [], ◌∷◌, ◌++◌, length, length-append, get_or}
+use Rattle.std.proofs.Common.{Option, None, Some, refl, sym, ap, subst, ◌∙◌, arith, inl, inr, slice_get}
 use Rattle.std.specs.Prelude.{All, Any, Contains, ◌↔◌}
 use Rattle.std.proofs.lemmas.Bool.{cases_lt, false≢true}
 use Rattle.std.proofs.lemmas.List.{get_or-append-add, get_or_append_left, get_or_push}
@@ -161,7 +161,8 @@ some-flags P each (suc count) =
       flags = all;
       size = omega (arith, size, total);
       exact = λ i short. elim (cases_lt i count) [
-        | inl less ↦ subst (λ (b : Bool). (b ≡ true) ↔ P i) (sym (get_or_append_left before.flags (last ∷ []) false i (omega (arith, size)))) (before.exact i less)
+        | inl less ↦ subst (λ (b : Bool). (b ≡ true) ↔ P i) (sym (get_or_append_left before.flags (last ∷ []) false i (omega (arith, size))))
+            (before.exact i less)
         | inr more ↦
             let same : count ≡ i = omega arith in
             subst (λ (k : ℕ). (get_or all k false ≡ true) ↔ P k) same
@@ -250,7 +251,8 @@ no-model-fails r relations clauses number p numbers members present is within of
     selected-on n inside =
         let range = All-contains (λ k. (1 ≤ k) × (k ≤ length relations)) numbers n within inside in
         let back : n - 1 + 1 ≡ n = omega (arith, range.0) in
-        let flagged : get_or on.flags (n - 1) false ≡ true = (on.exact (n - 1) (omega (arith, range.0, range.1))).1 (subst (Contains numbers) (sym back) inside) in
+        let flagged : get_or on.flags (n - 1) false ≡ true = (on.exact (n - 1) (omega (arith, range.0, range.1))).1
+        (subst (Contains numbers) (sym back) inside) in
         ap (λ (k : ℕ). value_of all (length r.packages + k)) (sym back) ∙ flag-of (n - 1) ∙ flagged
 
     stand : (k : ℕ) (d : Demand) → IsRelation relations k d → value_of all (selector r k) ≡ true → ¬ Fails r (members_of r.packages all) d
@@ -259,8 +261,10 @@ no-model-fails r relations clauses number p numbers members present is within of
         let same : value_of all (length r.packages + (place + 1)) ≡ true = ap (λ (j : ℕ). value_of all (length r.packages + j)) (sym at) ∙ flagged in
         let picked : Contains numbers (place + 1) = (on.exact place short).0 (sym (flag-of place) ∙ same) in
         let also : Fails r members d = present.same (members_of r.packages all) members d
-        (λ q. ((λ inside. (named.1.same q).1 (subst (λ (ms : List Package). Contains ms q) same-ones inside)),
-        (λ inside. subst (λ (ms : List Package). Contains ms q) (sym same-ones) ((named.1.same q).0 inside)))) fails in
+        (λ q. (
+          (λ inside. (named.1.same q).1 (subst (λ (ms : List Package). Contains ms q) same-ones inside)),
+          (λ inside. subst (λ (ms : List Package). Contains ms q) (sym same-ones) ((named.1.same q).0 inside)),
+        )) fails in
         never (any-contained (FailsNumber r relations members) numbers (place + 1) picked (d, (place, refl, there), also))
 
 pub explained-by-no-model : (r : PackageList) (relations : List Demand) (clauses : List (List Literal)) → Present r relations clauses

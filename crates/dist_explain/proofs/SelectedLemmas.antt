@@ -85,12 +85,12 @@ over-more n k clause less over = record {
 pub front-next : (clauses set : ClauseList) (k : ℕ) (clause : List Literal) → k < length clauses.clauses → IsFront clauses k set
     → clause ≡ clause_at clauses.clauses (k + 1) ++ literal (clauses.variables + k + 1) false ∷ []
     → IsFront clauses (k + 1) (record set { clauses = set.clauses ++ clause ∷ [] })
-front-next clauses set k clause short front is = record {
+front-next clauses set k clause short front is = let last = clause_at clauses.clauses (k + 1) in record {
   clauses_are = sym (ap (selected clauses.variables) (take-next clauses.clauses k short)
       ∙ selected-push clauses.variables (take k clauses.clauses) (clause_at clauses.clauses (k + 1))
-      ∙ ap (λ (n : ℕ). selected clauses.variables (take k clauses.clauses) ++ (clause_at clauses.clauses (k + 1) ++ literal (clauses.variables + n + 1) false ∷ []) ∷ [])
+      ∙ ap (λ (n : ℕ). selected clauses.variables (take k clauses.clauses) ++ (last ++ literal (clauses.variables + n + 1) false ∷ []) ∷ [])
       (length-front clauses.clauses k (omega arith))
-      ∙ ap (λ (xs : List (List Literal)). xs ++ (clause_at clauses.clauses (k + 1) ++ literal (clauses.variables + k + 1) false ∷ []) ∷ []) (sym front.clauses_are)
+      ∙ ap (λ (xs : List (List Literal)). xs ++ (last ++ literal (clauses.variables + k + 1) false ∷ []) ∷ []) (sym front.clauses_are)
       ∙ ap (λ (c : List Literal). set.clauses ++ c ∷ []) (sym is));
   variables = front.variables;
   clause_limit = front.clause_limit;

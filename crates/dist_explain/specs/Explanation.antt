@@ -15,8 +15,8 @@ IsRelation relations number d = (place : ℕ) × (number ≡ place + 1) × (slic
 abbrev pub FailsNumber : PackageList → (relations : List Demand) → List Package → (number : ℕ) → Type 0
 FailsNumber r relations members number = (d : Demand) × IsRelation relations number d × Fails r members d
 
--- Relations, by their numbers, explain a package: all packages of the repository that have it among them fail one of the
--- relations.
+-- Relations, by their numbers, explain a package: any packages of the repository that have it among them fail one of
+-- these relations.
 abbrev pub Explain : PackageList → (relations : List Demand) → Package → (numbers : List ℕ) → Type 0
 Explain r relations p numbers = (members : List Package) → AreOf r members → Contains members p
     → Any (FailsNumber r relations members) numbers

@@ -1,3 +1,4 @@
 pub mod Explanation
 pub mod Selectors
 pub mod SelectedPrivate
+pub mod Examples

@@ -1,6 +1,7 @@
 -- Selectors: a variable for each clause, which makes it count where it is true. With those of some relations a package
 -- can't be true exactly where these explain it.
-use Rattle.std.specs.Prelude.{◌≡◌, ◌↔◌, ℕ, ◌+◌, ◌≤◌, ◌<◌, Bool, true, false, List, [], ◌∷◌, ◌++◌, All, Some, length, slice_get}
+use Rattle.std.specs.Prelude.{◌≡◌, ◌↔◌, ℕ, ◌+◌, ◌≤◌, ◌<◌, Bool, true, false, List, [], ◌∷◌, ◌++◌, All}
+use Rattle.std.specs.Prelude.{Some, length, slice_get}
 use Rattle.dist_clause.specs.ClauseList.{ClauseList, literal_count}
 use Rattle.dist_clause.specs.Formula.{Literal, IsModel, IsTrueLiteral, literal, value_of}
 use Rattle.dist_outside.specs.declared.limits.Limits.{Limits}

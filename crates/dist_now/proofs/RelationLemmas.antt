@@ -1,12 +1,12 @@
 -- What a set of packages fails, by its health and by the clauses of demands.
-use Rattle.std.proofs.Common.{◌≡◌, ◌≢◌, ◌⊎◌, ℕ, zero, suc, ◌<◌, Bool, true, false, List, [], ◌∷◌, length, get_or, map, map-id, Some, Equal, refl, sym, ap, subst, ◌∙◌, arith, inl, inr}
-use Rattle.std.proofs.Common.{slice_get}
+use Rattle.std.proofs.Common.{◌≡◌, ◌≢◌, ◌⊎◌, ℕ, zero, suc, ◌<◌, Bool, true, false, List, [], ◌∷◌, length, get_or, map, map-id}
+use Rattle.std.proofs.Common.{Some, Equal, refl, sym, ap, subst, ◌∙◌, arith, inl, inr, slice_get}
 use Rattle.std.specs.Prelude.{All, AllPairs, Any, Contains, IsSomeAnd}
 use Rattle.std.proofs.lemmas.Bool.{cases_lt, false≢true}
 use Rattle.std.proofs.lemmas.List.{get_or_default, length-map}
 use Rattle.std.proofs.lemmas.List.Elements.{All-contains, All-nil, All-tail}
-use Rattle.dist_base.specs.ListLaws.{all-contained, any-cases, any-contained, any-head, any-later, any-more, any-there, at-has, at-more, contains-at, element-is, has-at, pair-from}
-use Rattle.dist_base.specs.ListLaws.{place-of, same-at, some-element}
+use Rattle.dist_base.specs.ListLaws.{all-contained, any-cases, any-contained, any-head, any-later, any-more, any-there, at-has, at-more}
+use Rattle.dist_base.specs.ListLaws.{contains-at, element-is, has-at, pair-from, place-of, same-at, some-element}
 use Rattle.dist_base.specs.RowLaws.{rows-same}
 use Rattle.dist_clause.specs.Formula.{Literal, IsTrueLiteral, MakesTrue, value_of}
 use Rattle.dist_relation.specs.declared.atom.Atom.{Atom}
@@ -23,14 +23,15 @@ use Rattle.dist_version.specs.Order.{version_cmp}
 use Rattle.dist_version.specs.OrderLaws.{version_cmp-same}
 use Rattle.dist_now.specs.Relations.{AreMembersByValues, AreOf, AreRelations, AreValuesOf, Fails, HaveClauses, IsHealthyByDemands, IsTrueByDemand}
 use Rattle.dist_now.specs.Members.{members_of}
-use Rattle.dist_now.specs.PresentClauses.{Demand, Item, Apart, Required, AreNumbersOf, ArePresentClauses, IsBefore, IsClauseFor, IsDemand, IsMetBy, installed, not_installed}
+use Rattle.dist_now.specs.PresentClauses.{Demand, Item, Apart, Required, AreNumbersOf, ArePresentClauses, IsBefore, IsClauseFor}
+use Rattle.dist_now.specs.PresentClauses.{IsDemand, IsMetBy, installed, not_installed}
 use Rattle.dist_now.specs.PresentLaws.{AreSamePackages, HasNoRepeats}
 use Rattle.dist_now.proofs.ConflictLemmas.{never-same}
 use Rattle.dist_now.proofs.DemandLists.{FoundItem, Row, demands-asymmetric, found-item, one-item}
 use Rattle.dist_now.proofs.HealthyLemmas.{all-members}
 use Rattle.dist_now.proofs.MemberLemmas.{any-member, member-any}
-use Rattle.dist_now.proofs.ModelLemmas.{absent-not, absent-true, installed-decided, installed-from, installed-true, met-by-installed, same-members, some-installed}
-use Rattle.dist_now.proofs.ModelLemmas.{true-installed, values-length, values_for}
+use Rattle.dist_now.proofs.ModelLemmas.{absent-not, absent-true, installed-decided, installed-from, installed-true, met-by-installed}
+use Rattle.dist_now.proofs.ModelLemmas.{same-members, some-installed, true-installed, values-length, values_for}
 use Rattle.dist_now.proofs.SomeClauses.{some-clauses}
 use Rattle.dist_now.proofs.SetLemmas.{apart-back, conflict-back, met-more, names-back}
 
@@ -235,7 +236,8 @@ pub fails-decided : (r : PackageList) (members : List Package) (d : Demand) → 
 fails-decided r members (Item n k) =
     let Missed : Package → List Atom → Type 0 = λ p item. Contains members p × (¬ IsMet r.architecture members item) in
     at-decided (λ p. IsSomeAnd (slice_get p.depends k) (Missed p))
-    (λ p. at-decided (Missed p) (λ item. both-decided (there-decided members p) (not-decided (met-decided r.architecture members item))) p.depends k) r.packages n
+    (λ p. at-decided (Missed p) (λ item. both-decided (there-decided members p) (not-decided (met-decided r.architecture members item))) p.depends k)
+    r.packages n
 fails-decided r members (Apart n k) =
     at-decided (λ p. IsPackageAnd r.packages k (λ q. Contains members p × Contains members q))
     (λ p. at-decided (λ q. Contains members p × Contains members q) (λ q. both-decided (there-decided members p) (there-decided members q)) r.packages k)
@@ -293,8 +295,8 @@ healthy-fails-none r members ordered healthy (Apart n k) demand fails =
     let apart = apart-at r.packages n k at.first at.second ordered demand.0 at.is_first at.is_second in
     elim either [
       | inl same ↦ pair-from (λ x y. x.name ≢ y.name) names-back members at.first at.second healthy.one_of_a_name at.holds.0 at.holds.1 apart same
-      | inr conflict ↦ pair-from (λ x y. ¬ AreInConflict r.architecture x y) (apart-back r.architecture) members at.first at.second healthy.no_conflict at.holds.0
-          at.holds.1 apart conflict
+      | inr conflict ↦ pair-from (λ x y. ¬ AreInConflict r.architecture x y) (apart-back r.architecture) members at.first at.second healthy.no_conflict
+          at.holds.0 at.holds.1 apart conflict
     ]
 healthy-fails-none r members ordered healthy (Required name) demand fails = absurd (omega (arith, demand.1))
 

@@ -1,5 +1,5 @@
-//! What is answered of small repositories: matches, conflicts, providers, health, the clauses of the present, clusters and classes.
-//! Tests alone.
+//! What is answered of small repositories: matches, conflicts, providers, health, the clauses of the present and their
+//! selectors, clusters and classes. Tests alone.
 #![tactic(auto)]
 
 #[cfg(test)]
@@ -14,3 +14,5 @@ mod health;
 mod present_clauses;
 #[cfg(test)]
 mod repositories;
+#[cfg(test)]
+mod selectors;

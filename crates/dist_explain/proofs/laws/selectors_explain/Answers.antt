@@ -19,7 +19,8 @@ present c r relations clauses ordered are of = record {
 }
 
 pub returns-clause-models : goal.returns-clause-models
-returns-clause-models c = λ r relations clauses values ordered are of. models-by-selectors r relations clauses values (present c r relations clauses ordered are of)
+returns-clause-models c = λ r relations clauses values ordered are of.
+    models-by-selectors r relations clauses values (present c r relations clauses ordered are of)
 
 pub returns-clause-explained : goal.returns-clause-explained
 returns-clause-explained c = λ r relations clauses ordered are of. explained-by-no-model r relations clauses (present c r relations clauses ordered are of)

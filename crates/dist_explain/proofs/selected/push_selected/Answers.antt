@@ -5,6 +5,12 @@ use Rattle.dist_explain.specs.SelectedPrivate.{IsFront}
 use Rattle.dist_explain.proofs.SelectedLemmas.{front-clauses, front-next, full-front, over-more, over-selected}
 use Rattle.dist_explain.proofs.selected.push_selected.Goals as goal
 
+-- the clause with its selector
+written : (n v p : ℕ) (clauses : List (List Literal)) (items clause now : List Literal) → now ≡ items → items ≡ clause ++ literal (n + p + 1) false ∷ []
+    → clause ≡ clause_at clauses (p + 1) → n ≡ v → now ≡ clause_at clauses (p + 1) ++ literal (v + p + 1) false ∷ []
+written n v p clauses items clause now a b c d = a ∙ b ∙ ap (λ (x : List Literal). x ++ literal (n + p + 1) false ∷ []) c
+    ∙ ap (λ (m : ℕ). clause_at clauses (p + 1) ++ literal (m + p + 1) false ∷ []) d
+
 pub overflow_add-selector : goal.overflow_add-selector
 overflow_add-selector c = let h = c.variables.ensures.value in let v = c.requires.front.variables in let m = c.variables-stated.ensures.value in
     let s = c.variables-stated.ensures.stated in let p = c.requires.place in omega (arith, h, v, m, s, p)
@@ -18,7 +24,8 @@ overflow_add-place c = let h = c.variables.ensures.value in let v = c.requires.f
     let s = c.variables-stated.ensures.stated in let p = c.requires.place in omega (arith, h, v, m, s, p)
 
 pub write_selected-requires-clause-in_range : goal.write_selected-requires-clause-in_range
-write_selected-requires-clause-in_range c = let h = c.variables.ensures.value in let v = c.requires.front.variables in let m = c.variables-stated.ensures.value in
+write_selected-requires-clause-in_range c =
+    let h = c.variables.ensures.value in let v = c.requires.front.variables in let m = c.variables-stated.ensures.value in
     let s = c.variables-stated.ensures.stated in let p = c.requires.place in omega (arith, h, v, m, s, p)
 
 pub push-requires : goal.push-requires
@@ -30,21 +37,15 @@ push-requires c =
     let less : c.args.clauses.now.variables < k = omega (arith, n) in
     let over = over-selected c.args.clauses.now.variables k c.clause.result.now less c.clause.ensures.over_variables in
     let is : c.deref.result.now ≡ c.clause.result.now ++ literal k false ∷ [] = c.deref.ensures.value ∙ c.in_default.ensures in
-    subst (IsClauseOver c.args.set.now.variables) (sym is) (over-more k c.args.set.now.variables (c.clause.result.now ++ literal k false ∷ []) (omega (arith, n, v, p)) over)
+    subst (IsClauseOver c.args.set.now.variables) (sym is)
+    (over-more k c.args.set.now.variables (c.clause.result.now ++ literal k false ∷ []) (omega (arith, n, v, p)) over)
 
 pub returns-in-Ok-clause-ok : goal.returns-in-Ok-clause-ok
 returns-in-Ok-clause-ok c =
-    let is : c.deref.result.now ≡ clause_at c.args.clauses.now.clauses (c.args.place + 1) ++ literal (c.args.clauses.now.variables + c.args.place + 1) false ∷ [] =
-    c.deref.ensures.value ∙ c.in_default.ensures ∙ ap (λ (x : List Literal). x ++ literal (c.variables.result + c.args.place + 1) false ∷ []) c.clause.ensures.value
-    ∙ ap (λ (n : ℕ). clause_at c.args.clauses.now.clauses (c.args.place + 1) ++ literal (n + c.args.place + 1) false ∷ []) c.variables.ensures.value in
+    let is = written c.variables.result c.args.clauses.now.variables c.args.place c.args.clauses.now.clauses c.write_selected.new.clause.items
+    c.clause.result.now c.deref.result.now c.deref.ensures.value c.in_default.ensures c.clause.ensures.value c.variables.ensures.value in
     subst (IsFront c.args.clauses.now (c.args.place + 1)) (sym c.in-Ok.ensures.ok)
     (front-next c.args.clauses.now c.args.set.now c.args.place c.deref.result.now c.requires.place c.requires.front is)
-
--- the clause with its selector
-written : (n v p : ℕ) (clauses : List (List Literal)) (items clause now : List Literal) → now ≡ items → items ≡ clause ++ literal (n + p + 1) false ∷ []
-    → clause ≡ clause_at clauses (p + 1) → n ≡ v → now ≡ clause_at clauses (p + 1) ++ literal (v + p + 1) false ∷ []
-written n v p clauses items clause now a b c d = a ∙ b ∙ ap (λ (x : List Literal). x ++ literal (n + p + 1) false ∷ []) c
-    ∙ ap (λ (m : ℕ). clause_at clauses (p + 1) ++ literal (m + p + 1) false ∷ []) d
 
 pub returns-in-Err-TooManyClauses : goal.returns-in-Err-TooManyClauses
 returns-in-Err-TooManyClauses c =

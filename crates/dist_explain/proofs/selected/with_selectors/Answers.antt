@@ -7,8 +7,7 @@ use Rattle.dist_explain.proofs.selected.with_selectors.Goals as goal
 pub loop-place-init : goal.loop-place-init
 loop-place-init c =
     let variables = c.variables.ensures.value in
-    let count = c.len-count.ensures.value in
-    (
+    let count = c.len-count.ensures.value in (
       subst (IsFront c.args.clauses.now 0) (sym c.new-set.ensures)
           (front-start c.args.clauses.now (c.variables.result + c.len-count.result) c.len-count.result c.args.limits.now.literals
           (ap₂ (λ (a b : ℕ). a + b) variables count) count),
