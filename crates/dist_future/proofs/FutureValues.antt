@@ -81,19 +81,20 @@ package-decided p q = by (package_eq p q) refl
     by true is = inl ((packages_decide p q).0 is)
     by false is = inr (λ h. let other = (packages_decide p q).1 h in cc)
 
-contains-decided : (xs : List Package) (p : Package) → IsDecided (Contains xs p)
+pub contains-decided : (xs : List Package) (p : Package) → IsDecided (Contains xs p)
 contains-decided xs p =
     same-as (λ any. subst (λ (x : Package). Contains xs x) any.4 (any.0, any.2, any.3)) (λ there. any-contained (λ (q : Package). q ≡ p) xs p there refl)
     (any-decided (λ (q : Package). q ≡ p) (λ q. package-decided q p) xs)
 
 -- ---- the model of what meets the demands
 
--- a model of the clauses that makes true what holds
+-- a model of the clauses that makes true exactly what holds
 pub record ModelOf (s : SpaceView) (clauses : List (List Literal)) (T : Meaning → Type 0) : Type 0 where
   pub values : List Bool
   pub one_each : length values ≡ length s.meanings
   pub model : IsModel (value_of values) clauses
   pub holds : (m : Meaning) → IsMeaning s m → T m → IsTrueMeaning s values m
+  pub only : (m : Meaning) → IsMeaning s m → IsTrueMeaning s values m → T m
 
 module _ (s : SpaceView) (space : IsSpace s) (T : Meaning → Type 0) (decided : (m : Meaning) → IsDecided (T m)) where
   value : Meaning → Bool
@@ -112,6 +113,7 @@ module _ (s : SpaceView) (space : IsSpace s) (T : Meaning → Type 0) (decided :
         one_each = length-map s.meanings value;
         model = model-from-met s values clauses are (met-alike s T (IsTrueMeaning s values) to back met);
         holds = to;
+        only = back;
       }
 
 -- ---- that of a future

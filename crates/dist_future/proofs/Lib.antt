@@ -10,6 +10,7 @@ pub mod HealthMeaning
 pub mod Leasts
 pub mod MissingLemmas
 pub mod ModelToFuture
+pub mod MoveLemmas
 pub mod NoFutureLemmas
 pub mod PairMeaning
 pub mod Parts

@@ -81,11 +81,11 @@ module _ (laws : ClassLaws) (s : SpaceView) (space : IsSpace s) (holds : Meaning
 
   -- ---- new versions
 
-  chosen-short : (c k : ℕ) → class_chosen s holds c ≡ Some k → (k < length (cluster_classes s c)) × (holds (At c k) ≡ true)
+  pub chosen-short : (c k : ℕ) → class_chosen s holds c ≡ Some k → (k < length (cluster_classes s c)) × (holds (At c k) ≡ true)
   chosen-short c k is = first-some (λ k. holds (At c k)) (length (cluster_classes s c)) k is
 
   -- where a class holds, it is the one that is chosen
-  chosen-is : (c k : ℕ) → k < length (cluster_classes s c) → holds (At c k) ≡ true → class_chosen s holds c ≡ Some k
+  pub chosen-is : (c k : ℕ) → k < length (cluster_classes s c) → holds (At c k) ≡ true → class_chosen s holds c ≡ Some k
   chosen-is c k short at = elim (option-cases (class_chosen s holds c)) [
     | inl none ↦ absurd (false≢true (sym (first-none (λ k. holds (At c k)) (length (cluster_classes s c)) none k short) ∙ at))
     | inr some ↦
@@ -114,7 +114,7 @@ module _ (laws : ClassLaws) (s : SpaceView) (space : IsSpace s) (holds : Meaning
             (length-flags s.repository.architecture (λ j. holds (Kept r k j)) p.provides);
       }
 
-  class-of-new : (r k : ℕ) (p : Package) → k < length (member_classes s r) → IsOfClassAt (member_classes s r) k (new_version s holds version r k p).version
+  pub class-of-new : (r k : ℕ) (p : Package) → k < length (member_classes s r) → IsOfClassAt (member_classes s r) k (new_version s holds version r k p).version
   class-of-new r k p short = (versions (slice_index s.cluster_of r) k short).1
 
   unprovided : (x : ℕ) (name : List ℕ) → slice_get s.names x ≡ Some name → ¬ IsProvided s.repository name
@@ -185,7 +185,7 @@ module _ (laws : ClassLaws) (s : SpaceView) (space : IsSpace s) (holds : Meaning
   place-of-meaning : (m : Meaning) → IsMeaning s m → PlaceOf s.meanings m
   place-of-meaning m is_meaning = place-of s.meanings m ((space.meanings.exact m).1 (is_meaning, tt))
 
-  in-future : (r : ℕ) (q : Package) → slice_get s.repository.packages r ≡ Some q
+  pub in-future : (r : ℕ) (q : Package) → slice_get s.repository.packages r ≡ Some q
       → Contains (future_of s holds version) (moved_package s holds version r q (class_chosen s holds (slice_index s.cluster_of r)))
   in-future r q is =
       let at = place-of-meaning (Present r) (slice_get_within s.repository.packages r q is) in
@@ -257,7 +257,7 @@ module _ (laws : ClassLaws) (s : SpaceView) (space : IsSpace s) (holds : Meaning
   -- ---- clusters of the future
 
   -- a package of the future that has the name of a package of the repository
-  named-later : (j : ℕ) (q n : Package) → slice_get s.repository.packages j ≡ Some q → Contains (future_of s holds version) n → n.name ≡ q.name
+  pub named-later : (j : ℕ) (q n : Package) → slice_get s.repository.packages j ≡ Some q → Contains (future_of s holds version) n → n.name ≡ q.name
       → n ≡ moved_package s holds version j q (class_chosen s holds (slice_index s.cluster_of j))
   named-later j q n is there name = let g = future-given n there in at g.meaning g.given
     where

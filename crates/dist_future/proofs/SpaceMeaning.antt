@@ -60,7 +60,7 @@ module _ (laws : ClassLaws) (s : SpaceView) (space : IsSpace s) where
             (h.0, class_at-same (cluster_classes s c) class.class moves.version x.version (equal-back x.version moves.version h.1) class.is),
       )
 
-  fate-of : (future : List Package) → IsFuture s.repository future → (c : ℕ) → (o : Option ℕ) × (c < length s.clusters.members → IsFate s future c o)
+  pub fate-of : (future : List Package) → IsFuture s.repository future → (c : ℕ) → (o : Option ℕ) × (c < length s.clusters.members → IsFate s future c o)
   fate-of future is_future c = elim (cases_lt c (length s.clusters.members)) [
     | inr past ↦ (None, λ short. absurd (omega (arith, past, short)))
     | inl short ↦

@@ -8,6 +8,7 @@ pub mod FutureHealth
 pub mod MatchingPrivate
 pub mod HealthLaws
 pub mod Pairs
+pub mod Moved
 pub mod FutureClauses
 pub use Rattle.dist_space.specs.Space
 pub use Rattle.dist_space.specs.SpaceOf

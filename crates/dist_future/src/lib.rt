@@ -23,7 +23,7 @@ pub use health_laws::{
     future_clauses_are_two_parts, futures_meet_their_clauses, healthy_are_models,
     healthy_stand_for_futures, one_future_health,
 };
-pub use laws::{each_model_is_a_future, models_stand_for_futures};
+pub use laws::{each_model_is_a_future, models_stand_for_futures, models_tell_of_moves};
 pub use pair_laws::{
     clusters_and_classes_are_numbered, covered_pairs_have_models, models_tell_of_packages,
 };
