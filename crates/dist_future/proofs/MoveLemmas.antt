@@ -22,7 +22,7 @@ use Rattle.dist_future.proofs.ClassMatch.{ClassLaws}
 use Rattle.dist_future.proofs.DemandLemmas.{met-from-model}
 use Rattle.dist_future.proofs.FutureToModel.{IsFate, IsSeen, option-cases}
 use Rattle.dist_future.proofs.FutureValues.{contains-decided, future-model}
-use Rattle.dist_future.proofs.ModelToFuture.{chosen-is, chosen-short, class-of-new, in-future, named-later}
+use Rattle.dist_future.proofs.ModelToFuture.{chosen-is, chosen-short, class-of-new, in-future, named-later, old-member}
 use Rattle.dist_future.proofs.SpaceLemmas.{in-its-cluster, never-at, one-of-name}
 use Rattle.dist_future.proofs.SpaceMeaning.{fate-of}
 
@@ -188,5 +188,8 @@ module _ (laws : ClassLaws) (s : SpaceView) (space : IsSpace s) where
   pub tell-of-moves : (clauses : List (List Literal)) → AreSpaceClauses s clauses → TellOfMoves s clauses
   tell-of-moves clauses are = record {
     there = λ future members is_future healthy. model-for future is_future members healthy clauses are;
+    member = λ values model n p is holds.
+        let met = met-from-model s values clauses are model in
+        old-member laws s space (holds_under s values) (examples_of s) space.frame.examples met.future n p is holds;
     exact = λ values model c short. (moved-at clauses are values model c, at-moved clauses are values model c short);
   }

@@ -5,7 +5,7 @@ use Rattle.dist_repo.specs.PackageList.{PackageList, IsPackageAnd}
 use Rattle.dist_repo.specs.declared.package.Package.{Package}
 use Rattle.dist_future.specs.Future.{IsFuture}
 use Rattle.dist_future.specs.Outdated.{IsInstallationOf}
-use Rattle.dist_future.specs.SpaceLaws.{future_under, holds_under}
+use Rattle.dist_future.specs.SpaceLaws.{future_under, holds_under, installation_under}
 use Rattle.dist_space.specs.Space.{SpaceView, cluster_classes}
 use Rattle.dist_space.specs.declared.meaning.Meaning.TheVariants.{Present, At}
 
@@ -35,10 +35,14 @@ pub record HasModelFor (s : SpaceView) (clauses : List (List Literal)) (future m
       → holds_under s values (Present n) ≡ true
   pub moved : (cluster : ℕ) → IsAtClass s values cluster → IsMoved s future cluster
 
--- What the models of the clauses tell of clusters that move: each healthy installation of a future has a model, and in
--- the future that a model stands for exactly the clusters at a class have moved.
+-- What the models of the clauses tell of clusters that move: each healthy installation of a future has a model; in the
+-- future that a model stands for exactly the clusters at a class have moved; and the installation that it stands for
+-- has the packages of the repository that hold.
 pub record TellOfMoves (s : SpaceView) (clauses : List (List Literal)) : Type 0 where
   pub there : (future members : List Package) → IsFuture s.repository future
       → IsInstallationOf s.essential s.repository future members → HasModelFor s clauses future members
   pub exact : (values : List Bool) → IsModel (value_of values) clauses → (cluster : ℕ)
       → cluster < length s.clusters.members → IsMoved s (future_under s values) cluster ↔ IsAtClass s values cluster
+  pub member : (values : List Bool) → IsModel (value_of values) clauses → (n : ℕ) (p : Package)
+      → slice_get s.repository.packages n ≡ Some p → holds_under s values (Present n) ≡ true
+      → Contains (installation_under s values) p
