@@ -1,0 +1,4 @@
+pub mod BelowLemmas
+pub mod CountLemmas
+pub mod GatherLemmas
+pub mod ModelLemmas
