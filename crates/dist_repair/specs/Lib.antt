@@ -1,2 +1,3 @@
 pub mod Repair
 pub mod Counters
+pub mod CountedPrivate

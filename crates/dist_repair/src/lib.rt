@@ -4,6 +4,12 @@
 //! some number of clusters that move.
 #![tactic(auto)]
 
+mod counted;
+mod counter;
 mod laws;
 
+pub use counted::with_counter;
 pub use laws::counters_count_moves;
+
+/// The most clusters that a counter counts to.
+pub const MAX_MOST: u32 = 64;

@@ -1,8 +1,12 @@
 -- The input clauses of what certificates are judged by, made within the limits, and why there are none.
 use Rattle.std.specs.Prelude.{◌≡◌, Bool}
 use Rattle.dist_clause.specs.ClauseList.{ClauseList}
+use Rattle.dist_clause.specs.declared.clause_set.PushError.{PushError}
+use Rattle.dist_clause.specs.declared.clause_set.PushError.TheVariants.{TooManyClauses, TooManyLiterals}
+use Rattle.dist_clause.specs.declared.clause_set.PushError.TheVariants as push
 use Rattle.dist_outside.specs.declared.limits.Limits.{Limits}
 use Rattle.dist_outside.specs.declared.trouble.What.{What}
+use Rattle.dist_outside.specs.declared.trouble.What.TheVariants.{Clauses, Literals}
 use Rattle.dist_outside.specs.declared.trouble.WorkError.{WorkError}
 use Rattle.dist_outside.specs.declared.trouble.WorkError.TheVariants.{NoMemory, TooLarge}
 use Rattle.dist_repo.specs.PackageList.{PackageList}
@@ -23,3 +27,9 @@ abbrev pub IsLarge : (What → Type 0) → WorkError → Type 0
 IsLarge Passes (TooLarge what) = Passes what
 IsLarge Passes NoMemory = Unit {0}
 IsLarge Passes error = ⊥
+
+-- why work stops where clauses pass a limit
+abbrev pub large_by : PushError → WorkError
+large_by TooManyClauses = TooLarge Clauses
+large_by TooManyLiterals = TooLarge Literals
+large_by push.NoMemory = NoMemory

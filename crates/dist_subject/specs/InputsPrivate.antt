@@ -1,24 +1,13 @@
 -- Serves private contracts: the steps by which the input clauses are made.
 use Rattle.std.specs.Prelude.{◌≤◌, Bool, length}
-use Rattle.dist_clause.specs.declared.clause_set.PushError.{PushError}
-use Rattle.dist_clause.specs.declared.clause_set.PushError.TheVariants.{TooManyClauses, TooManyLiterals}
-use Rattle.dist_clause.specs.declared.clause_set.PushError.TheVariants as push
 use Rattle.dist_outside.specs.declared.limits.Limits.{Limits}
 use Rattle.dist_outside.specs.declared.trouble.What.{What}
-use Rattle.dist_outside.specs.declared.trouble.What.TheVariants.{Variables, Clauses, Literals}
-use Rattle.dist_outside.specs.declared.trouble.WorkError.{WorkError}
-use Rattle.dist_outside.specs.declared.trouble.WorkError.TheVariants.{NoMemory, TooLarge}
+use Rattle.dist_outside.specs.declared.trouble.What.TheVariants.{Clauses, Literals}
 use Rattle.dist_repo.specs.Order.{IsLatestOf}
 use Rattle.dist_repo.specs.PackageList.{PackageList}
 use Rattle.dist_space.specs.Space.{SpaceView}
 use Rattle.dist_space.specs.SpaceOf.{IsSpaceOf}
 use Rattle.dist_space_clauses.specs.SpaceSet as futures
-
--- why work stops where there are no clauses
-abbrev pub large_by : PushError → WorkError
-large_by TooManyClauses = TooLarge Clauses
-large_by TooManyLiterals = TooLarge Literals
-large_by push.NoMemory = NoMemory
 
 -- the space of the newest packages at a mode, within the limit of variables
 pub record IsSpaceWithin (r : PackageList) (essential : Bool) (limits : Limits) (space : SpaceView) : Type 0 where

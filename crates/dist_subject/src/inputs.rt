@@ -11,8 +11,8 @@ ghost use Rattle.dist_space_clauses.specs.Ends.{AreEndsOf};
 ghost use Rattle.dist_space_clauses.specs.SpaceClauses.{IsDemand};
 ghost use Rattle.dist_space_clauses.specs.SpaceSet.{IsSetOf};
 ghost use Rattle.dist_subject.specs.Basis.{Later, Today};
-ghost use Rattle.dist_subject.specs.Inputs.{AreInputsOf, IsLarge};
-ghost use Rattle.dist_subject.specs.InputsPrivate.{IsSpaceWithin, PassesSpace, large_by};
+ghost use Rattle.dist_subject.specs.Inputs.{AreInputsOf, IsLarge, large_by};
+ghost use Rattle.dist_subject.specs.InputsPrivate.{IsSpaceWithin, PassesSpace};
 ghost use Rattle.dist_subject.specs.Limited.{AreStated, OfSpace, PassesLater, PassesPresent};
 
 use crate::limit_laws::first_numbers_are_one;
@@ -34,8 +34,8 @@ pub struct LaterInputs {
     pub ends: FutureEnds,
 }
 
-/// Why there are no clauses.
-fn too_large(error: PushError) -> WorkError
+/// What it comes to that clauses pass a limit.
+pub fn too_large(error: PushError) -> WorkError
     ensures { result ≡ large_by error }
 {
     match error {
