@@ -151,6 +151,7 @@ CHAPTERS = [
     ("Archives that change by steps", ["dist_archive"]),
     ("Clauses, what follows, and what is new", ["dist_clause", "dist_derive"]),
     ("Explanations", ["dist_explain"]),
+    ("Repairs", ["dist_repair"]),
     ("Certificates", ["dist_cert"]),
     ("What certificates speak of, and what their claims mean", ["dist_subject", "dist_check"]),
     ("What a question answers", ["dist_solver"]),

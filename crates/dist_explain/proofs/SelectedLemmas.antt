@@ -7,11 +7,14 @@ use Rattle.std.proofs.lemmas.List.Quantifiers.{all_pairs_push}
 use Rattle.std.proofs.lemmas.List.Sums.{sum_by-cons}
 use Rattle.dist_clause.specs.ClauseList.{ClauseList, IsWithinLimits, clause_at, literal_count}
 use Rattle.dist_clause.specs.Formula.{Literal, IsClauseOver, literal}
+use Rattle.dist_clause.specs.Demands.{IsRefused}
+use Rattle.dist_clause.specs.declared.clause_set.PushError.{PushError}
+use Rattle.dist_clause.specs.declared.clause_set.PushError.TheVariants.{TooManyClauses, TooManyLiterals, NoMemory}
 use Rattle.dist_outside.specs.declared.limits.Limits.{Limits}
 use Rattle.dist_outside.specs.declared.trouble.What.{What}
 use Rattle.dist_outside.specs.declared.trouble.What.TheVariants.{Bytes, Stanzas, Variables, Clauses, Literals, Lines, LineLiterals, Certificate, RecordLine}
 use Rattle.dist_explain.specs.Selectors.{PassesSelected, selected}
-use Rattle.dist_explain.specs.SelectedPrivate.{IsFront}
+use Rattle.dist_explain.specs.SelectedPrivate.{IsFront, IsFullAt}
 
 pub selected-push : (last : ℕ) (clauses : List (List Literal)) (clause : List Literal)
     → selected last (clauses ++ clause ∷ []) ≡ selected last clauses ++ (clause ++ literal (last + length clauses + 1) false ∷ []) ∷ []
@@ -136,3 +139,15 @@ all-kept clauses set limits Lines front within limit variables passes = passes
 all-kept clauses set limits LineLiterals front within limit variables passes = passes
 all-kept clauses set limits Certificate front within limit variables passes = passes
 all-kept clauses set limits RecordLine front within limit variables passes = passes
+
+-- why no clause more was added
+pub why-full : (clauses set : ClauseList) (k : ℕ) (clause : List Literal) (error : PushError) → k < length clauses.clauses → IsFront clauses k set
+    → clause ≡ clause_at clauses.clauses (k + 1) ++ literal (clauses.variables + k + 1) false ∷ [] → IsRefused set clause error
+    → IsFullAt clauses set.literal_limit error
+why-full clauses set k clause TooManyClauses short front is refused =
+    let count = front-clauses clauses set k (omega (arith, short)) front in
+    let limit = front.clause_limit in
+    let full = refused.1 in
+    absurd (omega (arith, count, limit, full, short))
+why-full clauses set k clause TooManyLiterals short front is refused = full-front clauses set k clause short front is refused.2
+why-full clauses set k clause NoMemory short front is refused = tt

@@ -11,6 +11,7 @@ ghost use Rattle.dist_explain.specs.Selectors.{IsSelectedSet, PassesSelected, se
 
 use dist_clause::{ClauseSet, Lit, PushError};
 use dist_outside::{Limits, What, WorkError};
+use dist_subject::too_large;
 use std::alloc::{AllocError, Global};
 
 /// Writes a clause with the negation of its selector at its end.
@@ -31,7 +32,7 @@ fn push_selected(
     place: u32,
     clause: &mut Vec<Lit>,
     set: &mut ClauseSet,
-) -> Result<(), WorkError>
+) -> Result<(), PushError>
     requires place { place < length clauses.now.clauses }
     requires front { IsFront clauses.now place set.old }
     ensures ok { OnOk result (IsFront clauses.now (place + 1) set.new) }
@@ -42,15 +43,27 @@ fn push_selected(
     let _stated = set.variables();
     let selector = clauses.variables() + place + 1;
     if let Err(AllocError) = write_selected(clause, clauses.clause(place + 1), selector) {
-        return Err(WorkError::NoMemory);
+        return Err(PushError::NoMemory);
     }
-    match set.push(clause) {
-        Ok(()) => Ok(()),
-        Err(PushError::NoMemory) => Err(WorkError::NoMemory),
-        Err(PushError::TooManyLiterals) => Err(WorkError::TooLarge(What::Literals)),
-        // This does not come: there is room for as many clauses as there are.
-        Err(PushError::TooManyClauses) => Err(WorkError::TooLarge(What::Clauses)),
+    set.push(clause)
+}
+
+/// Adds all clauses with their selectors.
+fn push_all_selected(
+    alloc: Global,
+    clauses: &ClauseSet,
+    set: &mut ClauseSet,
+) -> Result<(), PushError>
+    requires front { IsFront clauses.now 0 set.old }
+    ensures ok { OnOk result (IsFront clauses.now (length clauses.now.clauses) set.new) }
+    ensures limit { OnOk result (set.new.literal_limit ≡ set.old.literal_limit) }
+    ensures err { IfErr result (IsFullAt clauses.now set.old.literal_limit) }
+{
+    let mut clause = Vec::new(alloc);
+    for place in 0..clauses.len() {
+        push_selected(clauses, place, &mut clause, set)?;
     }
+    Ok(())
 }
 
 /// Clauses, each with its negated selector at its end. The selectors are the variables behind those of the clauses, in the same
@@ -71,11 +84,15 @@ pub fn with_selectors(
         return Err(WorkError::TooLarge(What::Variables));
     }
     let mut set = ClauseSet::new(alloc, variables, count, limits.literals);
-    let mut clause = Vec::new(alloc);
-    for place in 0..count {
-        push_selected(clauses, place, &mut clause, &mut set)?;
+    match push_all_selected(alloc, clauses, &mut set) {
+        Ok(()) => {
+            // What this call tells is that the set is within its limits.
+            let _count = set.len();
+            Ok(set)
+        }
+        Err(error) => {
+            drop(set);
+            Err(too_large(error))
+        }
     }
-    // What this call tells is that the set is within its limits.
-    let _count = set.len();
-    Ok(set)
 }

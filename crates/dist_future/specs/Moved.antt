@@ -25,8 +25,8 @@ abbrev pub IsAtClass : SpaceView → List Bool → (cluster : ℕ) → Type 0
 IsAtClass s values cluster = (k : ℕ) × (k < length (cluster_classes s cluster))
     × (holds_under s values (At cluster k) ≡ true)
 
--- Some model of the clauses has the packages of the repository that are among the members, and no cluster at a class but
--- those that have moved in the future.
+-- Some model of the clauses has the packages of the repository that are among the members, and no cluster at a class
+-- but those that have moved in the future.
 pub record HasModelFor (s : SpaceView) (clauses : List (List Literal)) (future members : List Package) : Type 0 where
   pub values : List Bool
   pub one_each : length values ≡ length s.meanings

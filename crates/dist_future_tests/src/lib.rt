@@ -4,6 +4,8 @@
 #[cfg(test)]
 mod assignments;
 #[cfg(test)]
+mod counters;
+#[cfg(test)]
 mod future_clauses;
 #[cfg(test)]
 mod future_health;

@@ -22,8 +22,8 @@ use Rattle.dist_repair.specs.Counters.{counted_variables, counter_clauses, count
 use Rattle.dist_repair.specs.Repair.{IsPossibleWithin}
 use Rattle.dist_repair.proofs.BelowLemmas.{all-below, all-left, all-right, at-below, below-all, length-below}
 use Rattle.dist_repair.proofs.CountLemmas.{count, counted, counting-model, implies, two-cases, true-not}
-use Rattle.dist_repair.proofs.GatherLemmas.{answer, answer-false, answer-from, answer-true, below-decided, count-numbers, count-wider, gathered, less-decided, there-decided}
-use Rattle.dist_repair.proofs.GatherLemmas.{true-decided}
+use Rattle.dist_repair.proofs.GatherLemmas.{answer, answer-false, answer-from, answer-true, below-decided, count-numbers, count-wider}
+use Rattle.dist_repair.proofs.GatherLemmas.{gathered, less-decided, there-decided, true-decided}
 
 -- ---- clusters that are at a class
 
@@ -102,8 +102,11 @@ module _ (s : SpaceView) (space : IsSpace s) (clauses : List (List Literal)) (mo
       } in
       let wider = count-wider (at_test s values) (λ c. value_of values (moved t c)) n
       (λ c short on. class-moved values counter_model c short (answer-from (at-decided s values c) on)) in
-      let size = all.size in
-      (all.numbers, tells values number p all.numbers space_model is has.holds at, fewer values has.last (length all.numbers) has.is_last counter_model has.kept (omega (arith, wider, size)))
+      let size = all.size in (
+        all.numbers,
+        tells values number p all.numbers space_model is has.holds at,
+        fewer values has.last (length all.numbers) has.is_last counter_model has.kept (omega (arith, wider, size)),
+      )
     where
       fewer : (values : List Bool) (last m : ℕ) → n ≡ last + 1 → IsModel (value_of values) (counter_clauses s t)
           → value_of values (more t last within) ≡ false → m ≤ count (λ c. value_of values (moved t c)) n → m ≤ within
@@ -221,16 +224,18 @@ module _ (s : SpaceView) (space : IsSpace s) (clauses : List (List Literal)) (mo
         (λ k less. All-cons (MakesTrue (value_of (all_values values (at_test s values)))) (no (variable_of s (At c k)) ∷ yes (moved t c) ∷ []) []
         (implies (value_of (all_values values (at_test s values))) (variable_of s (At c k)) (moved t c)
         (λ is.
-            let range = variable-range s (At c k) space less in
-            let at : holds_under s values (At c k) ≡ true = sym (front-value values (at_test s values) size (variable_of s (At c k)) range.0 range.1) ∙ is in
-            moved-value values (at_test s values) size c short ∙ answer-true (at-decided s values c) (k, less, at)))
+        let range = variable-range s (At c k) space less in
+        let at : holds_under s values (At c k) ≡ true = sym (front-value values (at_test s values) size (variable_of s (At c k)) range.0 range.1) ∙ is in
+        moved-value values (at_test s values) size c short ∙ answer-true (at-decided s values c) (k, less, at)))
         (All-nil (MakesTrue (value_of (all_values values (at_test s values))))))
 
     same-counts : (c : ℕ) → c ≤ n → count (λ x. value_of whole (moved t x)) c ≡ count test c
     unfolding whole
     same-counts c short = le_antisymm
-        (count-wider (λ x. value_of (all_values values test) (moved t x)) test c (λ x less is. sym (moved-value values test size x (omega (arith, less, short))) ∙ is))
-        (count-wider test (λ x. value_of (all_values values test) (moved t x)) c (λ x less is. moved-value values test size x (omega (arith, less, short)) ∙ is))
+        (count-wider (λ x. value_of (all_values values test) (moved t x)) test c
+        (λ x less is. sym (moved-value values test size x (omega (arith, less, short))) ∙ is))
+        (count-wider test (λ x. value_of (all_values values test) (moved t x)) c
+        (λ x less is. moved-value values test size x (omega (arith, less, short)) ∙ is))
 
     counts-true : (c j : ℕ) → c < n → j ≤ most → IsModel (value_of whole) (count_clauses t c j)
     unfolding whole more_flag

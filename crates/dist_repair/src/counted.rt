@@ -48,10 +48,7 @@ fn push_class(
     // What this call tells is that there may be so many variables.
     let _stated = set.variables();
     let at = space.variable(&Meaning::At(cluster, class));
-    set.push(&[
-        Lit::new(at, false),
-        Lit::new(counter.moved(cluster), true),
-    ])
+    set.push(&[Lit::new(at, false), Lit::new(counter.moved(cluster), true)])
 }
 
 /// Adds the clauses of the classes of a cluster.
@@ -193,11 +190,7 @@ fn push_counts(counter: &Counter, cluster: u32, set: &mut ClauseSet) -> Result<(
 }
 
 /// Adds the clauses of the classes of all clusters.
-fn push_all_classes(
-    space: &Space,
-    counter: &Counter,
-    set: &mut ClauseSet,
-) -> Result<(), PushError>
+fn push_all_classes(space: &Space, counter: &Counter, set: &mut ClauseSet) -> Result<(), PushError>
     requires counter { counter.now ≡ counter_of space.now counter.now.most }
     requires variables { set.old.variables ≡ counted_variables counter.now }
     ensures ok { OnOk result (HasMore set.old set.new (each_below counter.now.clusters (class_clauses space.now counter.now))) }

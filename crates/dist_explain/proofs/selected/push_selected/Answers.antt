@@ -1,8 +1,10 @@
 use Rattle.std.proofs.Common.{◌≡◌, ◌+◌, ◌<◌, ◌++◌, ◌∷◌, [], ℕ, List, Err, false, ap, sym, subst, ◌∙◌, arith}
 use Rattle.dist_clause.specs.ClauseList.{clause_at}
 use Rattle.dist_clause.specs.Formula.{IsClauseOver, Literal, literal}
-use Rattle.dist_explain.specs.SelectedPrivate.{IsFront}
-use Rattle.dist_explain.proofs.SelectedLemmas.{front-clauses, front-next, full-front, over-more, over-selected}
+use Rattle.std.proofs.lemmas.Result.{IfErr-weaker, on_ok_weaker}
+use Rattle.dist_clause.specs.Demands.{IsRefused}
+use Rattle.dist_explain.specs.SelectedPrivate.{IsFront, IsFullAt}
+use Rattle.dist_explain.proofs.SelectedLemmas.{front-next, over-more, over-selected, why-full}
 use Rattle.dist_explain.proofs.selected.push_selected.Goals as goal
 
 -- the clause with its selector
@@ -40,28 +42,17 @@ push-requires c =
     subst (IsClauseOver c.args.set.now.variables) (sym is)
     (over-more k c.args.set.now.variables (c.clause.result.now ++ literal k false ∷ []) (omega (arith, n, v, p)) over)
 
-pub returns-in-Ok-clause-ok : goal.returns-in-Ok-clause-ok
-returns-in-Ok-clause-ok c =
+pub returns-clause-ok : goal.returns-clause-ok
+returns-clause-ok c =
     let is = written c.variables.result c.args.clauses.now.variables c.args.place c.args.clauses.now.clauses c.write_selected.new.clause.items
     c.clause.result.now c.deref.result.now c.deref.ensures.value c.in_default.ensures c.clause.ensures.value c.variables.ensures.value in
-    subst (IsFront c.args.clauses.now (c.args.place + 1)) (sym c.in-Ok.ensures.ok)
-    (front-next c.args.clauses.now c.args.set.now c.args.place c.deref.result.now c.requires.place c.requires.front is)
+    on_ok_weaker c.push.result (λ new. subst (IsFront c.args.clauses.now (c.args.place + 1)) (sym new)
+    (front-next c.args.clauses.now c.args.set.now c.args.place c.deref.result.now c.requires.place c.requires.front is)) c.push.ensures.ok
 
-pub returns-in-Err-TooManyClauses : goal.returns-in-Err-TooManyClauses
-returns-in-Err-TooManyClauses c =
-    let full = c.push.ensures.too_many_clauses.0 (c.in-Err-TooManyClauses.is ∙ ap Err c.in-Err-TooManyClauses.field-0-is) in
-    let count = front-clauses c.args.clauses.now c.args.set.now c.args.place (omega (arith, c.requires.place)) c.requires.front in
-    let limit = c.requires.front.clause_limit in
-    let p = c.requires.place in
-    absurd (omega (arith, full, count, limit, p))
-
-pub returns-in-Err-TooManyLiterals : goal.returns-in-Err-TooManyLiterals
-returns-in-Err-TooManyLiterals c =
-    let full = c.push.ensures.too_many_literals.0 (c.in-Err-TooManyLiterals.is ∙ ap Err c.in-Err-TooManyLiterals.field-0-is) in
+pub returns-clause-err : goal.returns-clause-err
+returns-clause-err c =
     let is = written c.variables.result c.args.clauses.now.variables c.args.place c.args.clauses.now.clauses c.write_selected.new.clause.items
     c.clause.result.now c.deref.result.now c.deref.ensures.value c.in_default.ensures c.clause.ensures.value c.variables.ensures.value in
-    record {
-      ok = tt;
-      limit = tt;
-      err = full-front c.args.clauses.now c.args.set.now c.args.place c.deref.result.now c.requires.place c.requires.front is full.1;
-    }
+    IfErr-weaker c.push.result (IsRefused c.args.set.now c.deref.result.now) (IsFullAt c.args.clauses.now c.args.set.now.literal_limit)
+    (λ e refused. why-full c.args.clauses.now c.args.set.now c.args.place c.deref.result.now e c.requires.place c.requires.front is refused)
+    c.push.ensures.cause

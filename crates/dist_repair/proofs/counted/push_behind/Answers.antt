@@ -25,7 +25,8 @@ returns-then-number-eq0-clause-err c = IfErr-weaker c.push_first.result
     (StopsWith c.args.set.now (count_clauses c.args.counter.now (c.args.before + 1) c.args.number))
     (λ e stops. subst (λ (xs : List (List Literal)). StopsWith c.args.set.now xs e)
     (sym (counts-alone c.args.counter.now c.args.before c.args.number c.if-number-eq0.true))
-    (stops-later c.args.set.now c.push_carried.new.set (carried c.args.counter.now c.args.before c.args.number) (alone c.args.counter.now c.args.before) e c.in_ok-push_carried.ensures.ok stops))
+    (stops-later c.args.set.now c.push_carried.new.set (carried c.args.counter.now c.args.before c.args.number)
+    (alone c.args.counter.now c.args.before) e c.in_ok-push_carried.ensures.ok stops))
     c.push_first.ensures.err
 
 pub returns-else-number-eq0-clause-ok : goal.returns-else-number-eq0-clause-ok
