@@ -13,7 +13,8 @@ returns-in_err-push_classes-clause-err c =
     let p = err_from_is_err_and c.from_residual.result c.from_residual.ensures.1 in
     let e = c.clusters-cluster-end.ensures in
     rw (p.1, p.2) (stops-below c.args.set.now c.loop-cluster.set c.loop-cluster.cluster c.args.counter.now.clusters
-    (class_clauses c.args.space.now c.args.counter.now) c.in_err-push_classes.field-0.0 (omega (arith, e, c.loop-cluster-test.true)) c.loop-cluster.invariant c.in_err-push_classes.ensures.err)
+    (class_clauses c.args.space.now c.args.counter.now)
+    c.in_err-push_classes.field-0.0 (omega (arith, e, c.loop-cluster-test.true)) c.loop-cluster.invariant c.in_err-push_classes.ensures.err)
 
 pub loop-cluster-preserved : goal.loop-cluster-preserved
 loop-cluster-preserved c =

@@ -13,7 +13,8 @@ returns-in_err-push_counts-clause-err c =
     let p = err_from_is_err_and c.from_residual.result c.from_residual.ensures.1 in
     let e = c.clusters-cluster-end.ensures in
     rw (p.1, p.2) (stops-below c.args.set.now c.loop-cluster.set c.loop-cluster.cluster c.args.counter.now.clusters
-    (λ x. each_below (c.args.counter.now.most + 1) (count_clauses c.args.counter.now x)) c.in_err-push_counts.field-0.0 (omega (arith, e, c.loop-cluster-test.true)) c.loop-cluster.invariant c.in_err-push_counts.ensures.err)
+    (λ x. each_below (c.args.counter.now.most + 1) (count_clauses c.args.counter.now x))
+    c.in_err-push_counts.field-0.0 (omega (arith, e, c.loop-cluster-test.true)) c.loop-cluster.invariant c.in_err-push_counts.ensures.err)
 
 pub loop-cluster-preserved : goal.loop-cluster-preserved
 loop-cluster-preserved c =

@@ -13,7 +13,8 @@ returns-in_err-push_count-clause-err c =
     let p = err_from_is_err_and c.from_residual.result c.from_residual.ensures.1 in
     let e = c.most-number-end.ensures in
     rw (p.1, p.2) (stops-below c.args.set.now c.loop-number.set c.loop-number.number (c.args.counter.now.most + 1)
-    (count_clauses c.args.counter.now c.args.cluster) c.in_err-push_count.field-0.0 (omega (arith, e, c.loop-number-test.true)) c.loop-number.invariant c.in_err-push_count.ensures.err)
+    (count_clauses c.args.counter.now c.args.cluster)
+    c.in_err-push_count.field-0.0 (omega (arith, e, c.loop-number-test.true)) c.loop-number.invariant c.in_err-push_count.ensures.err)
 
 pub loop-number-preserved : goal.loop-number-preserved
 loop-number-preserved c =
