@@ -218,6 +218,9 @@ fn is_planned(
     later: &Repository,
     wanted: Result<&[Told], u32>,
 ) -> bool {
+    if !later.is_flat() {
+        return false;
+    }
     match (reach(alloc, space, later), wanted) {
         (Ok(plan), Ok(told)) => {
             let planned = is_plan(alloc, space, &plan, told) == Some(true);
@@ -235,7 +238,7 @@ fn is_so(alloc: Global, row: &Row) -> bool {
     else {
         return false;
     };
-    if !later.is_flat() || !is_planned(alloc, &space, &later, row.3) {
+    if !is_planned(alloc, &space, &later, row.3) {
         return false;
     }
     let led = match row.3 {
