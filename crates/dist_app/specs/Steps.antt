@@ -52,8 +52,8 @@ pub record TellsPlan (files : Option Files) (space : SpaceView) (later : Package
   pub taken : AreTaken space steps space.repository.packages later.packages
   pub is : ending ≡ answered files Done (plan_text space steps)
 
--- What keeps a later archive from being a future, and at which of its packages: at the first one, where it is for another
--- architecture; else at the first that does not fit, and then no list of steps leads to it.
+-- At which package a later archive is kept from being a future: at the first one, where it is for another architecture;
+-- else at the first that does not fit, and then no list of steps leads to it.
 abbrev pub IsKeptAt : SpaceView → (later : PackageList) → (number : ℕ) → Type 0
 IsKeptAt space later number = (IsOfOtherArchitecture space.repository later × (number ≡ 0))
     ⊎ ((¬ IsOfOtherArchitecture space.repository later) × IsFirstMisfit space.repository later.packages number
@@ -81,14 +81,15 @@ Compares files r l ending = (space : SpaceView) × IsSpaceOfFile r space × Tell
 -- ---- the stages
 
 -- PACKAGES is read and taken apart, then the space is made.
-abbrev pub SpaceStages : Option Files → Limits → (packages : List ℕ) → (PackageList → Ending → Type 0) → Ending → Type 0
+abbrev pub SpaceStages : Option Files → Limits → (packages : List ℕ) → (PackageList → Ending → Type 0) → Ending
+    → Type 0
 SpaceStages files limits packages Last =
     Then (PackagesStage files limits packages) (λ r.
     Then (SpaceStage files limits r) (λ _.
     Last r))
 
 -- After these LATER is read and taken apart. The first stage that is refused decides.
-abbrev pub StepsStages : Option Files → Limits → (packages later : List ℕ) → (PackageList → PackageList → Ending → Type 0)
-    → Ending → Type 0
+abbrev pub StepsStages : Option Files → Limits → (packages later : List ℕ)
+    → (PackageList → PackageList → Ending → Type 0) → Ending → Type 0
 StepsStages files limits packages later Last = SpaceStages files limits packages (λ r.
     Then (PackagesStage files limits later) (Last r))

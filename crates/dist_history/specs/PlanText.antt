@@ -1,6 +1,5 @@
--- How the way to a later archive is told: one line for each step of a plan; or, where there is none, one line that names
--- a package that does not fit. A package is `name=version`, and a cluster goes by its member that stands first, both as
--- in reports.
+-- How the way to a later archive is told: one line for each step of a plan; or, where there is none, one line that
+-- names a package. A package is `name=version`, and a cluster goes by its member that stands first, both as in reports.
 use Rattle.std.specs.Prelude.{ℕ, List, [], ◌++◌, codes, slice_get}
 use Rattle.std.specs.List.{flat_map, join_by}
 use Rattle.std.specs.Option.{option_map_or}
