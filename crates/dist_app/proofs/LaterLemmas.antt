@@ -25,7 +25,7 @@ use Rattle.dist_archive.specs.Refusals.{IsOfOtherArchitecture}
 use Rattle.dist_archive.specs.Steps.{Lead}
 use Rattle.dist_archive.specs.declared.step.Step.{Step}
 use Rattle.dist_history.specs.PlanText.{misfit_text, plan_text}
-use Rattle.dist_app.specs.LaterPrivate.{HasSome, IsTold}
+use Rattle.dist_app.specs.LaterPrivate.{HasSome, IsLaterTold}
 use Rattle.dist_app.specs.Steps.{Becomes, IsKeptAt}
 use Rattle.dist_app.specs.declared.status.Status.{Status}
 use Rattle.dist_app.specs.declared.status.Status.TheVariants.{Done, NotAFuture}
@@ -116,7 +116,7 @@ ok-both (Err error) P Q R more p q = tt
 module _ (space : SpaceView) (later : PackageList) (status : Status) (text : List ℕ) where
   pub plan-told : (steps : List Step) → ¬ IsOfOtherArchitecture space.repository later → IsFuture space.repository later.packages
       → IsPlan space later.packages steps → Lead space steps space.repository.packages later.packages
-      → AreTaken space steps space.repository.packages later.packages → status ≡ Done → text ≡ plan_text space steps → IsTold space later status text
+      → AreTaken space steps space.repository.packages later.packages → status ≡ Done → text ≡ plan_text space steps → IsLaterTold space later status text
   plan-told steps same future plan leads taken done told files = inl (record {
     becomes = (same, future);
     steps = steps;
@@ -127,7 +127,7 @@ module _ (space : SpaceView) (later : PackageList) (status : Status) (text : Lis
   })
 
   pub misfit-told : (number : ℕ) (misfit : Package) → ¬ Becomes space.repository later → IsKeptAt space later number
-      → slice_get later.packages number ≡ Some misfit → status ≡ NotAFuture → text ≡ misfit_text misfit → IsTold space later status text
+      → slice_get later.packages number ≡ Some misfit → status ≡ NotAFuture → text ≡ misfit_text misfit → IsLaterTold space later status text
   misfit-told number misfit becomes_not kept is not told files = inr (record {
     becomes_not = becomes_not;
     number = number;

@@ -9,7 +9,7 @@ use Rattle.dist_space.specs.Space.{SpaceView}
 use Rattle.dist_space.specs.SpaceOf.{HasMoreVariables, IsSpaceOf}
 use Rattle.dist_subject.specs.Limited.{OfSpace}
 use Rattle.dist_app.specs.DuePrivate.{IsDue}
-use Rattle.dist_app.specs.LaterPrivate.{HasNoSpace, HasSome, IsSpaceKept, IsTold}
+use Rattle.dist_app.specs.LaterPrivate.{HasNoSpace, HasSome, IsSpaceKept, IsLaterTold}
 use Rattle.dist_app.specs.PackagesStage.{PackagesStage}
 use Rattle.dist_app.specs.Stages.{Ending, Goes, Ends, Then, answered, refused}
 use Rattle.dist_app.specs.Steps.{Compares, IsNewestIn, IsSpaceOfFile, SpaceStages, StepsStages, TellsLater}
@@ -65,7 +65,7 @@ pub newest-some : (files : Option Files) (limits : Limits) (name : List ℕ) (ne
 newest-some files limits name newest (file, (text, whole, read), latest) = has-some text limits.stanzas file newest read latest
 
 pub later-answers : (files : Option Files) (limits : Limits) (later : List ℕ) (space : SpaceView) (newest : PackageList) (status : Status) (text : List ℕ)
-    → IsNewestIn files limits later newest → IsTold space newest status text
+    → IsNewestIn files limits later newest → IsLaterTold space newest status text
     → Then (PackagesStage files limits later) (TellsLater files space) (answered files status text)
 later-answers files limits later space newest status text (file, read, latest) told =
     inr (file, read, record { later = newest; is_newest = latest; tells = told files })

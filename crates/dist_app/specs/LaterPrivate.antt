@@ -28,6 +28,6 @@ abbrev pub HasSome : (later : PackageList) → Type 0
 HasSome later = IsSome later.architecture → 0 < length later.packages
 
 -- what is told of a later archive, whatever the files: a plan, or a package that keeps it from being a future
-abbrev pub IsTold : SpaceView → (later : PackageList) → Status → (text : List ℕ) → Type 0
-IsTold space later status text = (files : Option Files) → TellsPlan files space later (answered files status text)
+abbrev pub IsLaterTold : SpaceView → (later : PackageList) → Status → (text : List ℕ) → Type 0
+IsLaterTold space later status text = (files : Option Files) → TellsPlan files space later (answered files status text)
     ⊎ TellsMisfit files space later (answered files status text)

@@ -3,7 +3,7 @@ ghost use Rattle.std.specs.Prelude.{◌≡◌, ◌↔◌, IfOk, IsTrue};
 ghost use Rattle.dist_repo.specs.Order.{IsFlat};
 ghost use Rattle.dist_archive.specs.Refusals.{IsOfOtherArchitecture};
 ghost use Rattle.dist_history.specs.PlanText.{misfit_text, plan_text};
-ghost use Rattle.dist_app.specs.LaterPrivate.{HasSome, IsTold};
+ghost use Rattle.dist_app.specs.LaterPrivate.{HasSome, IsLaterTold};
 
 use crate::answer::Answer;
 use crate::status::Status;
@@ -50,7 +50,7 @@ fn tell_misfit(alloc: Global, misfit: &Package) -> Result<Answer, AllocError>
 fn tell_reached(alloc: Global, space: &Space, later: &Repository) -> Result<Answer, AllocError>
     requires flat { IsFlat later.now.packages }
     requires same { ¬ IsOfOtherArchitecture space.now.repository later.now }
-    ensures { IfOk result (λ answer. IsTold space.now later.now answer.status answer.text.items) }
+    ensures { IfOk result (λ answer. IsLaterTold space.now later.now answer.status answer.text.items) }
 {
     // What these calls tell is that it is a space, and that steps reach its futures and nothing else.
     let _variables = space.variables();
@@ -70,7 +70,7 @@ pub(crate) fn tell_later(
 ) -> Result<Answer, AllocError>
     requires flat { IsFlat later.now.packages }
     requires some { HasSome later.now }
-    ensures { IfOk result (λ answer. IsTold space.now later.now answer.status answer.text.items) }
+    ensures { IfOk result (λ answer. IsLaterTold space.now later.now answer.status answer.text.items) }
 {
     if is_of_other_architecture(space.repo(), later) {
         tell_misfit(alloc, later.package(0))
