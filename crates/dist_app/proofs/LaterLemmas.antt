@@ -1,7 +1,7 @@
 -- What is told of a later archive. One that is for an architecture has a package to tell.
 use Rattle.std.proofs.Common.{◌≡◌, ◌≢◌, ◌⊎◌, ℕ, ◌+◌, ◌-◌, ◌<◌, List, [], ◌∷◌, length, get_or, Option, Some, None, Result, Ok, Err, IfOk}
 use Rattle.std.proofs.Common.{refl, ap, sym, ◌∙◌, subst, inl, inr, arith, slice_get}
-use Rattle.std.specs.Prelude.{Contains, IsOk, IsSome}
+use Rattle.std.specs.Prelude.{◌↔◌, Contains, IsOk, IsSome}
 use Rattle.std.specs.Cmp.Lexicographic.{slice_cmp}
 use Rattle.std.specs.Ordering.{nat_cmp, ordering_reverse, ordering_then}
 use Rattle.std.specs.declared.cmp.Ordering.{Ordering}
@@ -9,7 +9,7 @@ use Rattle.std.specs.declared.cmp.Ordering.TheVariants.{Less, Equal}
 use Rattle.std.proofs.lemmas.Bool.{cases_lt, false≢true}
 use Rattle.std.proofs.lemmas.Cmp.{lists_total, nat_cmp_total, tied_itself}
 use Rattle.std.proofs.lemmas.Option.{get_or_from_slice_get, slice_get_within}
-use Rattle.dist_base.specs.ListLaws.{all-contained, contains-at, element-at, place-of, same-at}
+use Rattle.dist_base.specs.ListLaws.{all-contained, contains-at, element-at, place-of, same-at, within-from}
 use Rattle.dist_outside.specs.Files.{Files}
 use Rattle.dist_version.specs.Order.{version_cmp}
 use Rattle.dist_version.specs.OrderLaws.{version_total}
@@ -20,9 +20,11 @@ use Rattle.dist_package.specs.FirstFault.{Read, architecture_of}
 use Rattle.dist_package.specs.RepositoryOf.{IsRepositoryOf}
 use Rattle.dist_space.specs.Space.{SpaceView}
 use Rattle.dist_future.specs.Future.{IsFuture}
-use Rattle.dist_archive.specs.Reach.{AreTaken, IsPlan}
+use Rattle.dist_archive.specs.Reach.{AreTaken, Fits, IsFirstMisfit, IsPlan}
 use Rattle.dist_archive.specs.Refusals.{IsOfOtherArchitecture}
-use Rattle.dist_archive.specs.Steps.{Lead}
+use Rattle.dist_archive.specs.Steps.{IsReached, Lead}
+use Rattle.dist_archive.specs.declared.plan.ReachError.{ReachError}
+use Rattle.dist_archive.specs.declared.plan.ReachError.TheVariants.{NotAFuture as Misfit, NoMemory}
 use Rattle.dist_archive.specs.declared.step.Step.{Step}
 use Rattle.dist_history.specs.PlanText.{misfit_text, plan_text}
 use Rattle.dist_app.specs.LaterPrivate.{HasSome, IsLaterTold}
@@ -136,3 +138,18 @@ module _ (space : SpaceView) (later : PackageList) (status : Status) (text : Lis
     is_misfit = is;
     is = rw (not, told) refl;
   })
+
+-- ---- what `reach` answers
+
+pub misfit-within : (r : PackageList) (later : List Package) (number : ℕ) → IsFirstMisfit r later number → number < length later
+misfit-within r later number misfit = within-from (λ (n : Package). ¬ Fits r later number n) later number misfit.here
+
+-- an answer that is no want of memory, of which this is known, says whether the packages are a future
+abbrev pub Tells : Result (List Step) ReachError → Type 0 → Type 0
+Tells result future = result ≢ Err NoMemory → IsOk result ↔ future
+
+pub told-future : (plan : List Step) (future : Type 0) → Tells (Ok plan) future → future
+told-future plan future tells = (tells (λ e. cc)).0 refl
+
+pub told-none : (number : ℕ) (future : Type 0) → Tells (Err (Misfit number)) future → ¬ future
+told-none number future tells holds = false≢true ((tells (λ e. cc)).1 holds)
