@@ -129,29 +129,29 @@ module _ (limits : Limits) (packages later : List ℕ) (desk desk' : DeskView) (
     later_proves tells =
         elim tells.tells [
           | inl plan ↦ (
-              (λ done. record {
-                compared = pair tells;
-                steps = plan.steps;
-                is_plan = plan.is_plan;
-                leads = plan.leads;
-                taken = plan.taken;
-                printed = subst (λ (e : Ending). Grew e.out out out') plan.is printed;
-                files = files ∙ ap (λ (e : Ending). e.files) plan.is;
-              }),
-              λ misfit. let status = ap (λ (e : Ending). e.status) plan.is in cc,
-            )
+            (λ done. record {
+              compared = pair tells;
+              steps = plan.steps;
+              is_plan = plan.is_plan;
+              leads = plan.leads;
+              taken = plan.taken;
+              printed = subst (λ (e : Ending). Grew e.out out out') plan.is printed;
+              files = files ∙ ap (λ (e : Ending). e.files) plan.is;
+            }),
+            λ misfit. let status = ap (λ (e : Ending). e.status) plan.is in cc,
+          )
           | inr misfit ↦ (
-              (λ done. let status = ap (λ (e : Ending). e.status) misfit.is in cc),
-              λ not. record {
-                compared = pair tells;
-                number = misfit.number;
-                misfit = misfit.misfit;
-                kept = misfit.kept;
-                is_misfit = misfit.is_misfit;
-                printed = subst (λ (e : Ending). Grew e.out out out') misfit.is printed;
-                files = files ∙ ap (λ (e : Ending). e.files) misfit.is;
-              },
-            )
+            (λ done. let status = ap (λ (e : Ending). e.status) misfit.is in cc),
+            λ not. record {
+              compared = pair tells;
+              number = misfit.number;
+              misfit = misfit.misfit;
+              kept = misfit.kept;
+              is_misfit = misfit.is_misfit;
+              printed = subst (λ (e : Ending). Grew e.out out out') misfit.is printed;
+              files = files ∙ ap (λ (e : Ending). e.files) misfit.is;
+            },
+          )
         ]
 
   pub steps_prove : StepsStages desk.files limits packages later (Compares desk.files) ending → Proves

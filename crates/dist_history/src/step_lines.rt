@@ -98,11 +98,7 @@ fn write_new_name(out: &mut Vec<u8>, space: &Space, block: &Repository) -> Resul
 }
 
 /// Adds the line of a step.
-pub(crate) fn write_step(
-    out: &mut Vec<u8>,
-    space: &Space,
-    step: &Step,
-) -> Result<(), AllocError>
+pub(crate) fn write_step(out: &mut Vec<u8>, space: &Space, step: &Step) -> Result<(), AllocError>
     ensures { OnOk result (out.new.items ≡ out.old.items ++ step_text space.now step.now) }
 {
     match step {
