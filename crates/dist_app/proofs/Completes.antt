@@ -245,8 +245,8 @@ told_later : (files : Option Files) (space : SpaceView) (l : PackageList) (endin
     → IsStatusOfLater space.repository tells.later ending.status
 told_later files space l ending tells =
     elim tells.tells [
-      | inl plan ↦ inl (status_from ending (answered files Done (plan_text space plan.steps)) plan.is, plan.becomes)
-      | inr misfit ↦ inr (status_from ending (answered files NotAFuture (misfit_text misfit.misfit)) misfit.is, misfit.becomes_not)
+      | inl plan ↦ inl (status_from ending (answered files Done (plan_text space plan.steps)) plan.is, plan.is_future)
+      | inr misfit ↦ inr (status_from ending (answered files NotAFuture (misfit_text misfit.misfit)) misfit.is, misfit.is_no_future)
     ]
 
 later_comes_to : AreNewestOnce → (files : Option Files) (r l newest newest_later : PackageList) (ending : Ending) → IsLatestOf r newest

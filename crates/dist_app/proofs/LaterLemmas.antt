@@ -28,7 +28,7 @@ use Rattle.dist_archive.specs.declared.plan.ReachError.TheVariants.{NotAFuture a
 use Rattle.dist_archive.specs.declared.step.Step.{Step}
 use Rattle.dist_history.specs.PlanText.{misfit_text, plan_text}
 use Rattle.dist_app.specs.LaterPrivate.{HasSome, IsLaterTold}
-use Rattle.dist_app.specs.Steps.{Becomes, IsKeptAt}
+use Rattle.dist_app.specs.Steps.{IsFutureArchive, IsKeptAt}
 use Rattle.dist_app.specs.declared.status.Status.{Status}
 use Rattle.dist_app.specs.declared.status.Status.TheVariants.{Done, NotAFuture}
 
@@ -120,7 +120,7 @@ module _ (space : SpaceView) (later : PackageList) (status : Status) (text : Lis
       → IsPlan space later.packages steps → Lead space steps space.repository.packages later.packages
       → AreTaken space steps space.repository.packages later.packages → status ≡ Done → text ≡ plan_text space steps → IsLaterTold space later status text
   plan-told steps same future plan leads taken done told files = inl (record {
-    becomes = (same, future);
+    is_future = (same, future);
     steps = steps;
     is_plan = plan;
     leads = leads;
@@ -128,10 +128,10 @@ module _ (space : SpaceView) (later : PackageList) (status : Status) (text : Lis
     is = rw (done, told) refl;
   })
 
-  pub misfit-told : (number : ℕ) (misfit : Package) → ¬ Becomes space.repository later → IsKeptAt space later number
+  pub misfit-told : (number : ℕ) (misfit : Package) → ¬ IsFutureArchive space.repository later → IsKeptAt space later number
       → slice_get later.packages number ≡ Some misfit → status ≡ NotAFuture → text ≡ misfit_text misfit → IsLaterTold space later status text
-  misfit-told number misfit becomes_not kept is not told files = inr (record {
-    becomes_not = becomes_not;
+  misfit-told number misfit is_no_future kept is not told files = inr (record {
+    is_no_future = is_no_future;
     number = number;
     misfit = misfit;
     kept = kept;

@@ -29,7 +29,7 @@ use Rattle.dist_app.specs.Health.{ListStage}
 use Rattle.dist_app.specs.PackagesStage.{PackagesStage}
 use Rattle.dist_app.specs.Run.{TellsFiles}
 use Rattle.dist_app.specs.Stages.{Goes}
-use Rattle.dist_app.specs.Steps.{Becomes, SpaceStage}
+use Rattle.dist_app.specs.Steps.{IsFutureArchive, SpaceStage}
 use Rattle.dist_app.specs.Sweeps.{InputsStage}
 use Rattle.dist_app.specs.TextStage.{TextStage}
 use Rattle.dist_app.specs.Try.{ArchiveStage}
@@ -115,10 +115,10 @@ CheckIsComplete words limits result files = (packages cert : List ℕ) (r : Pack
 
 -- ---- `steps`
 
--- what a later archive comes to: 0 exactly where it becomes of the repository, else 12
+-- what a later archive comes to: 0 exactly where it is a future, else 12
 abbrev pub IsStatusOfLater : (r later : PackageList) → Status → Type 0
-IsStatusOfLater r later status = ((status ≡ Done) × Becomes r later)
-    ⊎ ((status ≡ NotAFuture) × (¬ Becomes r later))
+IsStatusOfLater r later status = ((status ≡ Done) × IsFutureArchive r later)
+    ⊎ ((status ≡ NotAFuture) × (¬ IsFutureArchive r later))
 
 -- The space of PACKAGES keeps its number of variables, and LATER has a repository. The newest versions of both decide.
 abbrev pub StepsAreComplete : List (List ℕ) → Limits → Status → Option Files → Type 0

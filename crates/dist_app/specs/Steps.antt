@@ -39,13 +39,13 @@ SpaceStage files limits r (Ends ending) = OfSpace r false (λ space. limits.vari
 
 -- ---- the later archive
 
--- An archive becomes of a repository: it is for the same architecture, or for none, and its packages are a future.
-abbrev pub Becomes : (r later : PackageList) → Type 0
-Becomes r later = (¬ IsOfOtherArchitecture r later) × IsFuture r later.packages
+-- A later archive is for the same architecture, or for none, and its packages are a future.
+abbrev pub IsFutureArchive : (r later : PackageList) → Type 0
+IsFutureArchive r later = (¬ IsOfOtherArchitecture r later) × IsFuture r later.packages
 
 -- A plan leads to the later archive, each of its steps is taken where it comes, and it is told.
 pub record TellsPlan (files : Option Files) (space : SpaceView) (later : PackageList) (ending : Ending) : Type 0 where
-  pub becomes : Becomes space.repository later
+  pub is_future : IsFutureArchive space.repository later
   pub steps : List ArchiveStep
   pub is_plan : IsPlan space later.packages steps
   pub leads : Lead space steps space.repository.packages later.packages
@@ -61,7 +61,7 @@ IsKeptAt space later number = (IsOfOtherArchitecture space.repository later × (
 
 -- The later archive is no future, which is told at a package.
 pub record TellsMisfit (files : Option Files) (space : SpaceView) (later : PackageList) (ending : Ending) : Type 0 where
-  pub becomes_not : ¬ Becomes space.repository later
+  pub is_no_future : ¬ IsFutureArchive space.repository later
   pub number : ℕ
   pub misfit : Package
   pub kept : IsKeptAt space later number
