@@ -1,14 +1,15 @@
 -- What is told of a later archive. One that is for an architecture has a package to tell.
 use Rattle.std.proofs.Common.{◌≡◌, ◌≢◌, ◌⊎◌, ℕ, ◌+◌, ◌-◌, ◌<◌, List, [], ◌∷◌, length, get_or, Option, Some, None, Result, Ok, Err, IfOk}
 use Rattle.std.proofs.Common.{refl, ap, sym, ◌∙◌, subst, inl, inr, arith, slice_get}
-use Rattle.std.specs.Prelude.{◌↔◌, Contains, IsOk, IsSome}
+use Rattle.std.specs.Prelude.{◌↔◌, Bool, Contains, IsOk, IsSome, IsSomeAnd, IsTrue, false, true}
 use Rattle.std.specs.Cmp.Lexicographic.{slice_cmp}
 use Rattle.std.specs.Ordering.{nat_cmp, ordering_reverse, ordering_then}
 use Rattle.std.specs.declared.cmp.Ordering.{Ordering}
-use Rattle.std.specs.declared.cmp.Ordering.TheVariants.{Less, Equal}
+use Rattle.std.specs.declared.cmp.Ordering.TheVariants.{Less, Equal, Greater}
 use Rattle.std.proofs.lemmas.Bool.{cases_lt, false≢true}
 use Rattle.std.proofs.lemmas.Cmp.{lists_total, nat_cmp_total, tied_itself}
 use Rattle.std.proofs.lemmas.Option.{get_or_from_slice_get, slice_get_within}
+use Rattle.dist_base.specs.Answers.{IsExactly}
 use Rattle.dist_base.specs.ListLaws.{all-contained, contains-at, element-at, place-of, same-at, within-from}
 use Rattle.dist_outside.specs.Files.{Files}
 use Rattle.dist_version.specs.Order.{version_cmp}
@@ -43,7 +44,7 @@ same-name q p same below =
 not-both-below : (a b : List ℕ) → version_cmp a b ≡ Less → version_cmp b a ≡ Less → ⊥
 not-both-below a b first second =
     let back : version_cmp a b ≡ ordering_reverse (version_cmp b a) = version_total.antisymm a b in
-    let turned : Less ≡ ordering_reverse Less = sym first ∙ back ∙ ap ordering_reverse second in cc
+    let turned : Less ≡ Greater = sym first ∙ back ∙ ap ordering_reverse second in cc
 
 not-below-itself : (a : List ℕ) → version_cmp a a ≢ Less
 not-below-itself a below = let tied : version_cmp a a ≡ Equal = tied_itself version_total a in cc
@@ -151,5 +152,34 @@ Tells result future = result ≢ Err NoMemory → IsOk result ↔ future
 pub told-future : (plan : List Step) (future : Type 0) → Tells (Ok plan) future → future
 told-future plan future tells = (tells (λ e. cc)).0 refl
 
-pub told-none : (number : ℕ) (future : Type 0) → Tells (Err (Misfit number)) future → ¬ future
-told-none number future tells holds = false≢true ((tells (λ e. cc)).1 holds)
+-- the refusal that names a package, for an error that is this one
+module _ (space : SpaceView) (later : List Package) (error : ReachError) (number : ℕ) (is : error ≡ Misfit number) where
+  pub told-none : (future : Type 0) → Tells (Err error) future → ¬ future
+  told-none future tells holds =
+      let at : Tells (Err (Misfit number)) future = subst (λ (e : ReachError). Tells (Err e) future) is tells in
+      false≢true ((at (λ e. cc)).1 holds)
+
+  pub told-misfit : ((n : ℕ) → IsExactly {X = List Step} NoMemory (Err error) (Misfit n) (IsFirstMisfit space.repository later n))
+      → IsFirstMisfit space.repository later number
+  told-misfit exact =
+      let at : IsExactly {X = List Step} NoMemory (Err (Misfit number)) (Misfit number) (IsFirstMisfit space.repository later number) =
+      subst (λ (e : ReachError). IsExactly {X = List Step} NoMemory (Err e) (Misfit number) (IsFirstMisfit space.repository later number)) is
+      (exact number) in
+      (at (λ e. cc)).0 refl
+
+-- ---- another architecture
+
+pub other-some : (r later : PackageList) → IsOfOtherArchitecture r later → IsSome later.architecture
+other-some r later other = there later.architecture other
+  where
+    there : (o : Option (List ℕ)) → IsSomeAnd o (λ name. r.architecture ≢ Some name) → IsSome o
+    there None other = absurd other
+    there (Some name) other = refl
+
+-- what a test says of the repository of a space
+module _ (space : SpaceView) (r later : PackageList) (own : r ≡ space.repository) (test : Bool) (says : IsTrue test ↔ IsOfOtherArchitecture r later) where
+  pub is-other : test ≡ true → IsOfOtherArchitecture space.repository later
+  is-other is = subst (λ (x : PackageList). IsOfOtherArchitecture x later) own (says.0 is)
+
+  pub is-same : test ≡ false → ¬ IsOfOtherArchitecture space.repository later
+  is-same is other = false≢true (sym is ∙ says.1 (subst (λ (x : PackageList). IsOfOtherArchitecture x later) (sym own) other))

@@ -3,10 +3,13 @@ use Rattle.std.proofs.Common.{◌≡◌, ◌<◌, ℕ, false, List, length, inl,
 use Rattle.dist_outside.specs.Files.{Files}
 use Rattle.dist_outside.specs.DeskView.{DeskView, OnlyReads}
 use Rattle.dist_outside.specs.declared.limits.Limits.{Limits}
+use Rattle.dist_base.specs.Answers.{IsExactly}
 use Rattle.dist_repo.specs.Order.{IsLatestOf}
 use Rattle.dist_repo.specs.PackageList.{PackageList}
 use Rattle.dist_space.specs.Space.{SpaceView}
 use Rattle.dist_space.specs.SpaceOf.{HasMoreVariables, IsSpaceOf}
+use Rattle.dist_space.specs.declared.errors.SpaceError.{SpaceError}
+use Rattle.dist_space.specs.declared.errors.SpaceError.TheVariants.{TooManyVariables, NoMemory}
 use Rattle.dist_subject.specs.Limited.{OfSpace}
 use Rattle.dist_app.specs.DuePrivate.{IsDue}
 use Rattle.dist_app.specs.LaterPrivate.{HasNoSpace, HasSome, IsSpaceKept, IsLaterTold}
@@ -23,6 +26,13 @@ abbrev pub AreNewestOnce : Type 0
 AreNewestOnce = (r latest other : PackageList) → IsLatestOf r latest → IsLatestOf r other → other ≡ latest
 
 -- ---- the space
+
+pub kept-within : (newest : PackageList) (variables : ℕ) (space : SpaceView)
+    → IsExactly {X = SpaceView} NoMemory (Ok space) TooManyVariables (HasMoreVariables newest false variables) → ¬ HasMoreVariables newest false variables
+kept-within newest variables space exact more = other ((exact (λ e. cc)).1 more)
+  where
+    other : (let result : Result SpaceView SpaceError = Ok space in result ≡ Err TooManyVariables) → ⊥
+    other is = cc
 
 module _ (r newest : PackageList) (latest : IsLatestOf r newest) where
   of-file : (space : SpaceView) → IsSpaceOf newest false space → IsSpaceOfFile r space

@@ -3,6 +3,9 @@ use Rattle.dist_app.proofs.HealthStages.{packages_unread}
 use Rattle.dist_app.proofs.StepsStages.{later-answers, newest-some}
 use Rattle.dist_app.proofs.steps_command.compare_later.Goals as goal
 
+pub tell_later-requires-clause-flat : goal.tell_later-requires-clause-flat
+tell_later-requires-clause-flat g c = c.in-Ok.ensures.goes.2.flat
+
 pub tell_later-requires-clause-some : goal.tell_later-requires-clause-some
 tell_later-requires-clause-some g c =
     newest-some (g.D.Desk.view c.args.desk.now).files c.args.limits.now c.args.later.now c.in-Ok.newest c.in-Ok.ensures.goes

@@ -4,6 +4,9 @@ use Rattle.dist_app.proofs.HealthStages.{packages_unread}
 use Rattle.dist_app.proofs.StepsStages.{space-due, space-goes}
 use Rattle.dist_app.proofs.steps_command.read_space.Goals as goal
 
+pub space_within-requires-clause-flat : goal.space_within-requires-clause-flat
+space_within-requires-clause-flat g c = c.in-Ok.ensures.goes.2.flat
+
 pub returns-in-Ok-clause-goes : goal.returns-in-Ok-clause-goes
 returns-in-Ok-clause-goes g c =
     space-goes c.args.limits.now c.args.packages.now c.in-Ok.newest c.latest_is_one.ensures.one (g.D.Desk.view c.args.desk.now).files c.space_within.result
