@@ -1,12 +1,13 @@
 -- Names and lines that are written one after another, and the member by which a cluster goes.
-use Rattle.std.proofs.Common.{◌≡◌, ℕ, ◌+◌, ◌<◌, ◌≤◌, List, [], ◌∷◌, ◌++◌, append-nil, append_assoc, codes, length, get_or, take, Option, Some}
+use Rattle.std.proofs.Common.{◌≡◌, ℕ, ◌+◌, ◌<◌, ◌≤◌, List, [], ◌∷◌, ◌++◌, append-nil, append_assoc, codes, length, get_or, take, Option, None, Some}
 use Rattle.std.proofs.Common.{arith, sym, ap, ◌∙◌, slice_get, subst}
-use Rattle.std.specs.Prelude.{◌==◌, Contains, if◌then◌else◌}
+use Rattle.std.specs.Prelude.{◌==◌, Bool, Contains, if◌then◌else◌}
 use Rattle.std.specs.List.{flat_map, join_by}
 use Rattle.std.specs.Option.{option_map_or}
 use Rattle.std.proofs.lemmas.List.{flat_map_more, length-take-le, take_all, take_more}
 use Rattle.std.proofs.lemmas.List.Elements.{All-contains}
-use Rattle.std.proofs.lemmas.Option.{slice_get_within, get_or_from_slice_get}
+use Rattle.std.proofs.lemmas.Option.{get_or_from_slice_get, slice_get_past, slice_get_within}
+use Rattle.std.proofs.Math.Dec.{eqb-suc-zero}
 use Rattle.dist_base.specs.ListLaws.{contains-at, element-at}
 use Rattle.dist_cluster.specs.Partition.{least}
 use Rattle.dist_cluster.specs.Top.{ClusterList}
@@ -32,7 +33,9 @@ gap sep before = if before == 0 then [] else sep
 joined-next : {X : Type 0} (f : X → List ℕ) (sep : List ℕ) (xs : List X) (x : X)
     → join_by f sep (xs ++ x ∷ []) ≡ join_by f sep xs ++ (gap sep (length xs) ++ f x)
 joined-next f sep [] x = append-nil (f x)
-joined-next f sep (y ∷ ys) x = sym (flat_map_more (λ z. sep ++ f z) (f y) ys x)
+joined-next f sep (y ∷ ys) x =
+    sym (flat_map_more (λ z. sep ++ f z) (f y) ys x)
+    ∙ ap (λ (b : Bool). (f y ++ flat_map (λ z. sep ++ f z) ys) ++ ((if b then [] else sep) ++ f x)) (sym (eqb-suc-zero (length ys)))
 
 pub names-more : (packages : List Package) (k : ℕ) (p : Package) (bs old new : List ℕ) → slice_get packages k ≡ Some p
     → old ≡ bs ++ names_text (take k packages) → new ≡ old ++ (gap (codes ", ") k ++ p.name) → new ≡ bs ++ names_text (take (k + 1) packages)
@@ -86,7 +89,11 @@ module _ (s : SpaceView) (frame : IsFrame s) (clusters : ClusterList) (same : cl
       let first : get_or members 0 0 ≡ at.element = get_or_from_slice_get members 0 at.element 0 at.is in
       subst (λ (n : ℕ). n < length s.repository.packages) (sym first) within
 
-  pub first-told : (p : Package) → slice_get s.repository.packages (get_or members 0 0) ≡ Some p → label p ≡ cluster_text s cluster
-  first-told p is =
-      let told : List ℕ → List ℕ = λ list. option_map_or label (slice_get s.repository.packages (least list)) [] in
-      sym (ap (λ (o : Option (List ℕ)). option_map_or told o []) own ∙ ap (λ (o : Option Package). option_map_or label o []) is)
+-- no cluster has the number
+pub no-cluster : (s : SpaceView) (clusters : ClusterList) → clusters ≡ s.clusters → (cluster : ℕ) (bs : List ℕ) → length clusters.members ≤ cluster
+    → bs ≡ bs ++ cluster_text s cluster
+no-cluster s clusters same cluster bs past =
+    let none : slice_get s.clusters.members cluster ≡ None =
+    slice_get_past s.clusters.members cluster (subst (λ (c : ClusterList). length c.members ≤ cluster) same past) in
+    let told : List ℕ → List ℕ = λ list. option_map_or label (slice_get s.repository.packages (least list)) [] in
+    sym (ap (λ (o : Option (List ℕ)). bs ++ option_map_or told o []) none ∙ append-nil bs)
