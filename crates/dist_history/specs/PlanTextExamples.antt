@@ -1,6 +1,6 @@
 -- Worked examples: the lines of a plan for the archive of the examples of futures, where a and b come from one source,
 -- and the line of a package that does not fit. The text goes by the repository and its clusters alone.
-use Rattle.std.specs.Prelude.{◌≡◌, false, [], ◌∷◌, ◌++◌, None, codes, refl}
+use Rattle.std.specs.Prelude.{◌≡◌, false, [], ◌∷◌, None, codes, refl}
 use Rattle.dist_future.specs.FutureExamples.{later_a, later_b, two}
 use Rattle.dist_space.specs.Space.{SpaceView}
 use Rattle.dist_archive.specs.declared.step.Step.TheVariants.{Upload, Removal, NewName}
