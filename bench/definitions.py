@@ -157,7 +157,7 @@ CHAPTERS = [
     ("What a question answers", ["dist_solver"]),
     ("What a sweep may write", ["dist_sweep", "dist_strong"]),
     ("What the checker keeps", ["dist_check_group", "dist_check_state"]),
-    ("Reports", ["dist_report"]),
+    ("Reports", ["dist_report", "dist_history"]),
     ("Made archives, and trials on them", ["dist_generate", "dist_trial"]),
     ("Files and streams", ["dist_base", "dist_outside"]),
     ("The command line", ["dist_words"]),

@@ -10,7 +10,7 @@ use Rattle.dist_package.specs.declared.error.PackagesError.{PackagesError}
 use Rattle.dist_package.specs.declared.error.PackagesError.TheVariants as packages_error
 use Rattle.dist_repo.specs.PackageList.{PackageList}
 use Rattle.dist_repo.specs.declared.package.Package.{Package}
-use Rattle.dist_words.specs.CommandLine.{CommandLine, Health, Classes, Sweep, Check, Try}
+use Rattle.dist_words.specs.CommandLine.{CommandLine, Health, Classes, Sweep, Check, Try, Steps}
 use Rattle.dist_words.specs.Table.{command_of}
 use Rattle.dist_outside.specs.declared.trouble.What.{What}
 use Rattle.dist_outside.specs.declared.trouble.WorkError.{WorkError}
@@ -32,6 +32,7 @@ use Rattle.dist_app.specs.PackagesStage.{PackagesStage}
 use Rattle.dist_app.specs.RepositoryStage.{IsEndOf, RepositoryStage}
 use Rattle.dist_app.specs.Run.{Decides, Refuses, IsRunGivenUp}
 use Rattle.dist_app.specs.Stages.{Ending, Goes, Ends, IsDetermined, Excludes, refused}
+use Rattle.dist_app.specs.Steps.{Compares, SpaceStage}
 use Rattle.dist_app.specs.Sweeps.{InputsStage, SweepStages, Sweeps}
 use Rattle.dist_app.specs.TextStage.{TextStage}
 use Rattle.dist_app.specs.Try.{ArchiveStage, Tries}
@@ -127,6 +128,12 @@ inputs_determined one files limits kind essential r order (Goes a) (Ends e) none
 inputs_determined one files limits kind essential r order (Ends e) (Goes b) (number, passes, is) none = absurd (none number passes)
 inputs_determined one files limits kind essential r order (Ends e) (Ends o) (number, passes, is) (other, passes', is') =
     ap Ends (is' ∙ ap (λ (n : What). refused files (refusal.TooLarge n)) (one r kind essential limits number other order passes passes') ∙ sym is)
+
+pub space_determined : (files : Option Files) (limits : Limits) (r : PackageList) → IsDetermined (SpaceStage files limits r)
+space_determined files limits r (Goes a) (Goes b) f g = refl
+space_determined files limits r (Goes a) (Ends e) none (more, is) = absurd (none more)
+space_determined files limits r (Ends e) (Goes b) (more, is) none = absurd (none more)
+space_determined files limits r (Ends e) (Ends o) (more, is) (more', is') = ap Ends (is' ∙ sym is)
 
 -- a repository of packages is in order
 pub in_order : (files : Option Files) (limits : Limits) (name : List ℕ) (r : PackageList) → PackagesStage files limits name (Goes r) → IsInOrder r.packages
@@ -232,6 +239,11 @@ command_excludes exact (Check packages cert) files limits =
 command_excludes exact (Try size seed) files limits =
     then_excludes (ArchiveStage (Some files) limits size seed) _ _ (archive_determined exact (Some files) limits size seed)
     (λ r goes end ending refuses tries. tries.first end refuses)
+command_excludes exact (Steps packages later) files limits =
+    then_excludes (PackagesStage (Some files) limits packages) _ _ (packages_determined exact files limits packages) (λ r goes.
+    then_excludes (SpaceStage (Some files) limits r) _ _ (space_determined (Some files) limits r) (λ _ kept.
+    then_excludes (PackagesStage (Some files) limits later) _ _ (packages_determined exact files limits later) (λ l goes'.
+    nothing_excludes (Compares (Some files) r l))))
 
 -- nor is a fault of writing the end
 given_up_excludes : AreExact → (line : CommandLine) (files : Files) (limits : Limits)
@@ -243,6 +255,7 @@ given_up_excludes exact (Sweep kind packages cert essential limit) files limits 
     (inr (given_up.repository, given_up.read, inr (tt, given_up.kept refl, tt)))
 given_up_excludes exact (Check packages cert) files limits end ending refuses given_up = absurd given_up
 given_up_excludes exact (Try size seed) files limits end ending refuses given_up = absurd given_up
+given_up_excludes exact (Steps packages later) files limits end ending refuses given_up = absurd given_up
 
 pub one_line : (line other : CommandLine) (found : Option CommandLine) → found ≡ Some line → found ≡ Some other → other ≡ line
 one_line line other found is is' = cc

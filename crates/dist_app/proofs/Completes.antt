@@ -10,7 +10,10 @@ use Rattle.dist_outside.specs.declared.limits.Limits.{Limits}
 use Rattle.dist_outside.specs.declared.trouble.What.{What}
 use Rattle.dist_outside.specs.declared.trouble.WorkError.{WorkError}
 use Rattle.dist_outside.specs.declared.trouble.WorkError.TheVariants as work
+use Rattle.dist_repo.specs.Order.{IsLatestOf}
 use Rattle.dist_repo.specs.PackageList.{PackageList}
+use Rattle.dist_space.specs.Space.{SpaceView}
+use Rattle.dist_history.specs.PlanText.{misfit_text, plan_text}
 use Rattle.dist_now.specs.Health.{IsHealth}
 use Rattle.dist_now.specs.declared.kinds.Health.{Health as Judgement}
 use Rattle.dist_now.specs.declared.kinds.Health.TheVariants as health
@@ -25,30 +28,33 @@ use Rattle.dist_trial.specs.Trial.{IsStoppedAt}
 use Rattle.dist_check.specs.Answers.{IsOfText}
 use Rattle.dist_check.specs.declared.verdict.Verdict.{Verdict}
 use Rattle.dist_check.specs.declared.verdict.Verdict.TheVariants as verdict
-use Rattle.dist_words.specs.CommandLine.{CommandLine, Health, Classes, Sweep, Check, Try}
+use Rattle.dist_words.specs.CommandLine.{CommandLine, Health, Classes, Sweep, Check, Try, Steps}
 use Rattle.dist_words.specs.Table.{command_of}
 use Rattle.dist_app.specs.Check.{CertificateStage, IsEndOfCertificate, IsJudged, Reports}
 use Rattle.dist_app.specs.Claims.{has_mark, marked_status}
 use Rattle.dist_app.specs.Classes.{TellsClasses}
 use Rattle.dist_app.specs.Command.{CommandDecides, CommandIsGivenUp, IsApart}
-use Rattle.dist_app.specs.Complete.{Completes, IsComplete, IsStatusOfSet, IsUndisturbed, StopsBelowBudget, TrialIsComplete, verdict_status}
+use Rattle.dist_app.specs.Complete.{Completes, IsComplete, IsStatusOfLater, IsStatusOfSet, IsUndisturbed, StopsBelowBudget, TrialIsComplete}
+use Rattle.dist_app.specs.Complete.{verdict_status}
 use Rattle.dist_app.specs.Headline.{IsCarriedOut}
 use Rattle.dist_app.specs.Health.{Judges, ListStage, ListStages, Tells}
 use Rattle.dist_app.specs.PackagesStage.{PackagesStage}
 use Rattle.dist_app.specs.Run.{Comes, Decides, IsRunGivenUp, Runs}
 use Rattle.dist_app.specs.Stages.{Ending, Goes, Then, answered}
+use Rattle.dist_app.specs.Steps.{Compares, SpaceStage, TellsLater}
 use Rattle.dist_app.specs.Sweeps.{InputsStage, Sweeps}
 use Rattle.dist_app.specs.TextStage.{TextStage}
 use Rattle.dist_app.specs.Try.{ArchiveStage, Tries}
 use Rattle.dist_app.specs.declared.refusal.Refusal.{Refusal}
 use Rattle.dist_app.specs.declared.refusal.Refusal.TheVariants as refusal
 use Rattle.dist_app.specs.declared.status.Status.{Status}
-use Rattle.dist_app.specs.declared.status.Status.TheVariants.{Done, WriteFault, NoMemory, TooLarge}
+use Rattle.dist_app.specs.declared.status.Status.TheVariants.{Done, WriteFault, NoMemory, TooLarge, NotAFuture}
 use Rattle.dist_app.proofs.CommandLaws.{AreExact, one_line, archive_determined, inputs_determined, end_of_text, in_order, list_determined, one_judgement}
-use Rattle.dist_app.proofs.CommandLaws.{packages_determined, text_determined}
+use Rattle.dist_app.proofs.CommandLaws.{packages_determined, space_determined, text_determined}
 use Rattle.dist_app.proofs.Headlines.{of_line}
 use Rattle.dist_app.proofs.Refused.{mark_carried_out}
 use Rattle.dist_app.proofs.StageLaws.{then_goes}
+use Rattle.dist_app.proofs.StepsStages.{AreNewestOnce}
 
 -- a set has one health
 abbrev pub HaveOneHealth : Type 0
@@ -66,6 +72,7 @@ pub record Laws : Type 0 where
   pub texts : AreExact
   pub health : HaveOneHealth
   pub budgets : BudgetsSuffice
+  pub newest : AreNewestOnce
 
 -- the status of an end
 status_from : (e f : Ending) → e ≡ f → e.status ≡ f.status
@@ -233,6 +240,36 @@ check_ends laws files limits packages cert r ending read decides =
     (packages_determined laws.texts files limits packages)
     r read ending decides)
 
+-- what the newest versions of LATER come to, by those of PACKAGES
+told_later : (files : Option Files) (space : SpaceView) (l : PackageList) (ending : Ending) (tells : TellsLater files space l ending)
+    → IsStatusOfLater space.repository tells.later ending.status
+told_later files space l ending tells =
+    elim tells.tells [
+      | inl plan ↦ inl (status_from ending (answered files Done (plan_text space plan.steps)) plan.is, plan.is_future)
+      | inr misfit ↦ inr (status_from ending (answered files NotAFuture (misfit_text misfit.misfit)) misfit.is, misfit.is_no_future)
+    ]
+
+later_comes_to : AreNewestOnce → (files : Option Files) (r l newest newest_later : PackageList) (ending : Ending) → IsLatestOf r newest
+    → IsLatestOf l newest_later → Compares files r l ending → IsStatusOfLater newest newest_later ending.status
+later_comes_to once files r l newest newest_later ending latest latest_later (space, is, tells) =
+    subst (λ (x : PackageList). IsStatusOfLater x newest_later ending.status) (once r newest space.repository latest is.0)
+    (subst (λ (x : PackageList). IsStatusOfLater space.repository x ending.status) (once l newest_later tells.later latest_later tells.is_newest)
+    (told_later files space l ending tells))
+
+steps_end : Laws → (files : Files) (limits : Limits) (packages later : List ℕ) (r l newest newest_later : PackageList) (ending : Ending)
+    → PackagesStage (Some files) limits packages (Goes r) → SpaceStage (Some files) limits r (Goes tt)
+    → PackagesStage (Some files) limits later (Goes l)
+    → IsLatestOf r newest → IsLatestOf l newest_later → CommandDecides (Steps packages later) (Some files) limits ending
+    → IsStatusOfLater newest newest_later ending.status
+steps_end laws files limits packages later r l newest newest_later ending read kept read_later latest latest_later decides =
+    later_comes_to laws.newest (Some files) r l newest newest_later ending latest latest_later
+    (then_goes (PackagesStage (Some files) limits later) (Compares (Some files) r) (packages_determined laws.texts files limits later) l read_later ending
+    (then_goes (SpaceStage (Some files) limits r) (λ _. Then (PackagesStage (Some files) limits later) (Compares (Some files) r))
+    (space_determined (Some files) limits r) tt kept ending
+    (then_goes (PackagesStage (Some files) limits packages)
+    (λ x. Then (SpaceStage (Some files) limits x) (λ _. Then (PackagesStage (Some files) limits later) (Compares (Some files) x)))
+    (packages_determined laws.texts files limits packages) r read ending decides)))
+
 -- ---- all
 
 -- the end of an undisturbed run, of files that are told
@@ -245,6 +282,9 @@ module _ (laws : Laws) (words : List (List ℕ)) (limits : Limits) (files : File
     sweep = λ kind packages cert essential limit r is read kept.
         inr (sweep_ends laws files limits kind packages cert essential limit r ending read kept (of (Sweep kind packages cert essential limit) is));
     check = λ packages cert r is read. inr (check_ends laws files limits packages cert r ending read (of (Check packages cert) is));
+    steps = λ packages later r l newest newest_later is read kept read_later latest latest_later.
+        inr (steps_end laws files limits packages later r l newest newest_later ending read kept read_later latest latest_later
+        (of (Steps packages later) is));
   }
     where
       of : (line : CommandLine) → command_of words ≡ Some line → CommandDecides line (Some files) limits ending
@@ -258,6 +298,7 @@ stored_out words limits result files left memory = record {
   classes = λ packages r is read. inl memory;
   sweep = λ kind packages cert essential limit r is read kept. inl memory;
   check = λ packages cert r is read. inl memory;
+  steps = λ packages later r l newest newest_later is read kept read_later latest latest_later. inl memory;
 }
 
 module _ (laws : Laws) (words : List (List ℕ)) (limits : Limits) (result : Status) (desk desk' : DeskView) (out out' err err' : SinkView)

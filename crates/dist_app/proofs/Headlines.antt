@@ -1,27 +1,32 @@
--- What a run that sweeps and one of `check` prove, from the end that they come to.
-use Rattle.std.proofs.Common.{◌≡◌, ℕ, Bool, List, inl, inr, Option, Some, None, ap, ◌∙◌, subst}
+-- What a run that sweeps, one of `check` and one of `steps` prove, from the end that they come to.
+use Rattle.std.proofs.Common.{◌≡◌, ℕ, Bool, List, inl, inr, Option, Some, None, ap, ◌∙◌, subst, sym}
 use Rattle.dist_outside.specs.DeskView.{DeskView}
 use Rattle.dist_outside.specs.Files.{Files}
 use Rattle.dist_outside.specs.SinkView.{SinkView, Grew}
 use Rattle.dist_outside.specs.declared.limits.Limits.{Limits}
 use Rattle.dist_repo.specs.PackageList.{PackageList}
+use Rattle.dist_space.specs.Space.{SpaceView}
 use Rattle.dist_cert.specs.declared.records.CertKind.{CertKind}
 use Rattle.dist_cert.specs.declared.records.Claim.{Claim}
 use Rattle.dist_cert.specs.declared.records.Header.{Header}
-use Rattle.dist_words.specs.CommandLine.{CommandLine, Sweep, Check}
+use Rattle.dist_words.specs.CommandLine.{CommandLine, Sweep, Check, Steps}
 use Rattle.dist_words.specs.Table.{command_of}
 use Rattle.dist_app.specs.CarriedPrivate.{IsAnswered}
 use Rattle.dist_app.specs.Check.{CertificateStage, CheckStages, Reports}
 use Rattle.dist_app.specs.Command.{CommandDecides}
-use Rattle.dist_app.specs.Headline.{CheckIsProved, IsCarriedOut, ProvesCheck, ProvesSweep, SweepIsProved}
+use Rattle.dist_app.specs.Headline.{CheckIsProved, IsCarriedOut, ProvesCheck, ProvesMisfit, ProvesPlan, ProvesSweep}
+use Rattle.dist_app.specs.Headline.{AreCompared, StepsAreProved, SweepIsProved}
 use Rattle.dist_app.specs.PackagesStage.{PackagesStage}
 use Rattle.dist_app.specs.Refusal.{status_of}
 use Rattle.dist_app.specs.Run.{Decides}
 use Rattle.dist_app.specs.Stages.{Ending, Goes}
+use Rattle.dist_app.specs.Steps.{Compares, IsSpaceOfFile, StepsStages, TellsLater}
 use Rattle.dist_app.specs.Sweeps.{IsSwept, SweepStages, Sweeps}
 use Rattle.dist_app.specs.declared.refusal.Refusal.{Refusal}
 use Rattle.dist_app.specs.declared.status.Status.{Status}
-use Rattle.dist_app.proofs.Refused.{certificate_refuses, inputs_refuse, not_carried_out, packages_refuses, refusal_not_carried_out}
+use Rattle.dist_app.specs.declared.status.Status.TheVariants.{Done, NotAFuture}
+use Rattle.dist_app.proofs.Refused.{IsRefusal, certificate_refuses, inputs_refuse, not_a_misfit, not_carried_out, packages_refuses, refusal_not_a_misfit}
+use Rattle.dist_app.proofs.Refused.{refusal_not_carried_out, space_refuses}
 use Rattle.dist_app.proofs.Sweeping.{ClaimsHold, sweep_means}
 
 -- words of a command decide by it
@@ -93,6 +98,68 @@ module _ (limits : Limits) (packages cert : List ℕ) (result : Status) (desk de
   check_proves (inr (r, goes, inl ends)) = absurd (refusal_not_carried_out desk.files ending (certificate_refuses desk.files limits cert r ending ends) carried)
   check_proves (inr (r, goes, inr (accepted, judged, reports))) = accepted_proves r accepted goes judged reports
 
+-- ---- `steps`
+
+module _ (limits : Limits) (packages later : List ℕ) (desk desk' : DeskView) (out out' : SinkView) (ending : Ending)
+    (files : desk'.files ≡ ending.files) (printed : Grew ending.out out out') where
+  abbrev Proves : Type 0
+  Proves = (ending.status ≡ Done → ProvesPlan limits packages later desk desk' out out')
+      × (ending.status ≡ NotAFuture → ProvesMisfit limits packages later desk desk' out out')
+
+  refusal_proves : IsRefusal desk.files ending → Proves
+  refusal_proves r = (
+    (λ done. absurd (refusal_not_carried_out desk.files ending r (subst IsCarriedOut (sym done) tt))),
+    λ misfit. absurd (refusal_not_a_misfit desk.files ending r misfit),
+  )
+
+  module _ (r l : PackageList) (space : SpaceView) (read : PackagesStage desk.files limits packages (Goes r))
+      (read_later : PackagesStage desk.files limits later (Goes l)) (is_space : IsSpaceOfFile r space) where
+    pair : (tells : TellsLater desk.files space l ending) → AreCompared limits packages later desk
+    pair tells = record {
+      newest = space.repository;
+      newest_later = tells.later;
+      space = space;
+      read = (r, read, is_space.0);
+      read_later = (l, read_later, tells.is_newest);
+      is_space = is_space.1;
+    }
+
+    later_proves : TellsLater desk.files space l ending → Proves
+    unfolding pair
+    later_proves tells =
+        elim tells.tells [
+          | inl plan ↦ (
+            (λ done. record {
+              compared = pair tells;
+              steps = plan.steps;
+              is_plan = plan.is_plan;
+              leads = plan.leads;
+              taken = plan.taken;
+              printed = subst (λ (e : Ending). Grew e.out out out') plan.is printed;
+              files = files ∙ ap (λ (e : Ending). e.files) plan.is;
+            }),
+            λ misfit. let status = ap (λ (e : Ending). e.status) plan.is in cc,
+          )
+          | inr misfit ↦ (
+            (λ done. let status = ap (λ (e : Ending). e.status) misfit.is in cc),
+            λ not. record {
+              compared = pair tells;
+              number = misfit.number;
+              misfit = misfit.misfit;
+              kept = misfit.kept;
+              is_misfit = misfit.is_misfit;
+              printed = subst (λ (e : Ending). Grew e.out out out') misfit.is printed;
+              files = files ∙ ap (λ (e : Ending). e.files) misfit.is;
+            },
+          )
+        ]
+
+  pub steps_prove : StepsStages desk.files limits packages later (Compares desk.files) ending → Proves
+  steps_prove (inl ends) = refusal_proves (packages_refuses desk.files limits packages ending ends)
+  steps_prove (inr (r, goes, inl ends)) = refusal_proves (space_refuses desk.files limits r ending ends)
+  steps_prove (inr (r, goes, inr (_, kept, inl ends))) = refusal_proves (packages_refuses desk.files limits later ending ends)
+  steps_prove (inr (r, goes, inr (_, kept, inr (l, goes', (space, is, tells))))) = later_proves r l space goes goes' is tells
+
 -- ---- runs
 
 pub sweep_proved : ClaimsHold → (words : List (List ℕ)) (limits : Limits) (result : Status) (desk desk' : DeskView) (out out' : SinkView)
@@ -116,3 +183,15 @@ sweep_refused words limits r desk desk' out out' kind packages cert essential li
 pub check_refused : (words : List (List ℕ)) (limits : Limits) (r : Refusal) (desk desk' : DeskView) (out out' : SinkView)
     → CheckIsProved words limits (status_of r) desk desk' out out'
 check_refused words limits r desk desk' out out' packages cert is carried = absurd (not_carried_out r carried)
+
+pub steps_proved : (words : List (List ℕ)) (limits : Limits) (result : Status) (desk desk' : DeskView) (out out' : SinkView)
+    → IsAnswered words limits desk desk' out out' result → StepsAreProved words limits result desk desk' out out'
+steps_proved words limits result desk desk' out out' a packages later is =
+    let proves = steps_prove limits packages later desk desk' out out' a.ending a.files a.printed
+    (of_line words desk.files limits (Steps packages later) a.ending is a.decides) in
+    ((λ done. proves.0 (sym a.status_is ∙ done)), λ misfit. proves.1 (sym a.status_is ∙ misfit))
+
+pub steps_refused : (words : List (List ℕ)) (limits : Limits) (r : Refusal) (desk desk' : DeskView) (out out' : SinkView)
+    → StepsAreProved words limits (status_of r) desk desk' out out'
+steps_refused words limits r desk desk' out out' packages later is =
+    ((λ done. absurd (not_carried_out r (subst IsCarriedOut (sym done) tt))), λ misfit. absurd (not_a_misfit r misfit))

@@ -7,10 +7,12 @@ pub mod Headlines
 pub mod HealthStages
 pub mod HealthTexts
 pub mod KindText
+pub mod LaterLemmas
 pub mod NewestLemmas
 pub mod Refused
 pub mod Runs
 pub mod StageLaws
+pub mod StepsStages
 pub mod Sweeping
 pub mod Writing
 mod Trying

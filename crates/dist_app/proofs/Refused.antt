@@ -12,13 +12,15 @@ use Rattle.dist_now.specs.declared.kinds.Health.{Health as Judgement}
 use Rattle.dist_now.specs.declared.kinds.Health.TheVariants as health
 use Rattle.dist_repo.specs.PackageList.{PackageList}
 use Rattle.dist_repo.specs.declared.package.Package.{Package}
+use Rattle.dist_space.specs.Space.{SpaceView}
+use Rattle.dist_history.specs.PlanText.{misfit_text, plan_text}
 use Rattle.dist_cert.specs.declared.records.CertKind.{CertKind}
 use Rattle.dist_cert.specs.declared.records.CertKind.TheVariants as kinds
 use Rattle.dist_cert.specs.declared.records.Claim.{Claim}
 use Rattle.dist_check.specs.declared.verdict.Verdict.{Verdict}
 use Rattle.dist_check.specs.declared.verdict.Verdict.TheVariants as verdict
 use Rattle.dist_trial.specs.Summary.{has_marks}
-use Rattle.dist_words.specs.CommandLine.{CommandLine, Health, Classes, Sweep, Check, Try}
+use Rattle.dist_words.specs.CommandLine.{CommandLine, Health, Classes, Sweep, Check, Try, Steps}
 use Rattle.dist_app.specs.Check.{CertificateStage, IsEndOfCertificate}
 use Rattle.dist_app.specs.Claims.{has_mark, marked_status}
 use Rattle.dist_app.specs.Command.{CommandDecides, CommandRefuses, CommandIsGivenUp}
@@ -29,6 +31,7 @@ use Rattle.dist_app.specs.Refusal.{status_of, refusal_text}
 use Rattle.dist_app.specs.RepositoryStage.{IsEndOf}
 use Rattle.dist_app.specs.Run.{Decides, Refuses}
 use Rattle.dist_app.specs.Stages.{Ending, Ends, answered, refused}
+use Rattle.dist_app.specs.Steps.{SpaceStage, TellsLater}
 use Rattle.dist_app.specs.Sweeps.{InputsStage}
 use Rattle.dist_app.specs.TextStage.{TextStage}
 use Rattle.dist_app.specs.Try.{ArchiveStage}
@@ -36,7 +39,7 @@ use Rattle.dist_app.specs.declared.refusal.Refusal.{Refusal}
 use Rattle.dist_app.specs.declared.refusal.Refusal.TheVariants as refusal
 use Rattle.dist_app.specs.declared.status.Status.{Status}
 use Rattle.dist_app.specs.declared.status.Status.TheVariants.{Done, BadWords, BadPackages, CertificateRefused, ReadFault, WriteFault, NoMemory, TooLarge}
-use Rattle.dist_app.specs.declared.status.Status.TheVariants.{BadList}
+use Rattle.dist_app.specs.declared.status.Status.TheVariants.{BadList, NotAFuture}
 
 -- the statuses that the files and the limits may decide
 abbrev pub IsOfFiles : Status → Type 0
@@ -72,6 +75,20 @@ not_carried_out refusal.WriteFault out = out
 not_carried_out refusal.NoMemory out = out
 not_carried_out (refusal.TooLarge limit) out = out
 not_carried_out (refusal.BadList line) out = out
+
+-- nor does it end as a later archive does that is no future
+pub not_a_misfit : (r : Refusal) → ¬ (status_of r ≡ NotAFuture)
+not_a_misfit refusal.BadWords is = cc
+not_a_misfit (refusal.BadPackages fault) is = cc
+not_a_misfit (refusal.CertificateRefused fault) is = cc
+not_a_misfit refusal.ReadFault is = cc
+not_a_misfit refusal.WriteFault is = cc
+not_a_misfit refusal.NoMemory is = cc
+not_a_misfit (refusal.TooLarge limit) is = cc
+not_a_misfit (refusal.BadList line) is = cc
+
+pub refusal_not_a_misfit : (files : Option Files) (ending : Ending) → IsRefusal files ending → ¬ (ending.status ≡ NotAFuture)
+refusal_not_a_misfit files ending r is = not_a_misfit r.why (sym (ap (λ (e : Ending). e.status) r.is) ∙ is)
 
 pub refusal_not_carried_out : (files : Option Files) (ending : Ending) → IsRefusal files ending → ¬ IsCarriedOut ending.status
 refusal_not_carried_out files ending r out = not_carried_out r.why (subst (λ (e : Ending). IsCarriedOut e.status) r.is out)
@@ -112,6 +129,10 @@ pub certificate_refuses : (files : Option Files) (limits : Limits) (cert : List 
     → CertificateStage files limits cert r (Ends ending) → IsRefusal files ending
 certificate_refuses files limits cert r ending (result, judged, end) = certificate_end_refuses files result ending end
 
+pub space_refuses : (files : Option Files) (limits : Limits) (r : PackageList) (ending : Ending) → SpaceStage files limits r (Ends ending)
+    → IsRefusal files ending
+space_refuses files limits r ending (more, is) = record { why = refusal.TooLarge what.Variables; of_files = tt; is = is }
+
 archive_refuses : (files : Option Files) (limits : Limits) (size seed : ℕ) (ending : Ending) → ArchiveStage files limits size seed (Ends ending)
     → IsRefusal files ending
 archive_refuses files limits size seed ending (inl (longer, is)) = record { why = refusal.TooLarge what.Bytes; of_files = tt; is = is }
@@ -136,6 +157,10 @@ command_refuses (Check packages cert) files limits ending (inr (r, goes, inl c))
 command_refuses (Check packages cert) files limits ending (inr (r, goes, inr (accepted, judged, none))) = absurd none
 command_refuses (Try size seed) files limits ending (inl a) = archive_refuses files limits size seed ending a
 command_refuses (Try size seed) files limits ending (inr (r, goes, c)) = inputs_refuse files limits kinds.Strong false r ending c
+command_refuses (Steps packages later) files limits ending (inl p) = packages_refuses files limits packages ending p
+command_refuses (Steps packages later) files limits ending (inr (r, goes, inl s)) = space_refuses files limits r ending s
+command_refuses (Steps packages later) files limits ending (inr (r, goes, inr (_, kept, inl p))) = packages_refuses files limits later ending p
+command_refuses (Steps packages later) files limits ending (inr (r, goes, inr (_, kept, inr (l, goes', none)))) = absurd none
 
 pub refuses_told : (words : List (List ℕ)) (files : Option Files) (limits : Limits) (ending : Ending) → Refuses words files limits ending → ¬ (ending.err ≡ [])
 refuses_told words files limits ending (inl (bad, is)) empty = told_not_empty refusal.BadWords (sym (ap (λ (e : Ending). e.err) is) ∙ empty)
@@ -160,6 +185,13 @@ mark_carried_out false = tt
 
 with_status : (ending other : Ending) → ending ≡ other → IsOfFiles other.status → IsOfFiles ending.status
 with_status ending other is of = subst (λ (e : Ending). IsOfFiles e.status) (sym is) of
+
+later_status : (files : Option Files) (space : SpaceView) (l : PackageList) (ending : Ending) → TellsLater files space l ending → IsOfFiles ending.status
+later_status files space l ending told =
+    elim told.tells [
+      | inl plan ↦ with_status ending (answered files Done (plan_text space plan.steps)) plan.is tt
+      | inr misfit ↦ with_status ending (answered files NotAFuture (misfit_text misfit.misfit)) misfit.is tt
+    ]
 
 pub command_status : (line : CommandLine) (files : Option Files) (limits : Limits) (ending : Ending) → CommandDecides line files limits ending
     → IsOfFiles ending.status
@@ -189,6 +221,12 @@ command_status (Try size seed) files limits ending (inr (r, goes, tries)) =
       | inl told ↦ subst (λ (e : Ending). IsOfFiles e.status) (sym told.is) (mark_of_files (has_marks told.strong told.outdated told.challenged))
       | inr stopped ↦ subst (λ (e : Ending). IsOfFiles e.status) (sym stopped.is) tt
     ]
+command_status (Steps packages later) files limits ending (inl p) = refusal_status files ending (packages_refuses files limits packages ending p)
+command_status (Steps packages later) files limits ending (inr (r, goes, inl s)) = refusal_status files ending (space_refuses files limits r ending s)
+command_status (Steps packages later) files limits ending (inr (r, goes, inr (_, kept, inl p))) =
+    refusal_status files ending (packages_refuses files limits later ending p)
+command_status (Steps packages later) files limits ending (inr (r, goes, inr (_, kept, inr (l, goes', (space, is, told))))) =
+    later_status files space l ending told
 
 -- a command that was given up while it wrote ends with the status of why
 pub given_up_status : (line : CommandLine) (files : Option Files) (limits : Limits) (why : Refusal) (ending : Ending)
@@ -198,6 +236,7 @@ given_up_status (Classes packages) files limits why ending given_up = absurd giv
 given_up_status (Sweep kind packages cert essential limit) files limits why ending given_up = ap (λ (e : Ending). e.status) given_up.is
 given_up_status (Check packages cert) files limits why ending given_up = absurd given_up
 given_up_status (Try size seed) files limits why ending given_up = absurd given_up
+given_up_status (Steps packages later) files limits why ending given_up = absurd given_up
 
 not_of_files : (status other : Status) → IsOfFiles status → status ≡ other → IsOfFiles other
 not_of_files status other of is = subst IsOfFiles is of

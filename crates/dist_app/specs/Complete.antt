@@ -8,6 +8,7 @@ use Rattle.dist_outside.specs.SinkView.{SinkView}
 use Rattle.dist_outside.specs.declared.limits.Limits.{Limits}
 use Rattle.dist_outside.specs.declared.trouble.What.{What}
 use Rattle.dist_outside.specs.declared.trouble.WorkError.{WorkError}
+use Rattle.dist_repo.specs.Order.{IsLatestOf}
 use Rattle.dist_repo.specs.PackageList.{PackageList}
 use Rattle.dist_now.specs.Health.{IsHealth}
 use Rattle.dist_now.specs.declared.kinds.Health.TheVariants.{Healthy}
@@ -19,7 +20,7 @@ use Rattle.dist_sweep.specs.Sweep.{OfSweep}
 use Rattle.dist_check.specs.Answers.{IsOfText}
 use Rattle.dist_check.specs.declared.verdict.Verdict.{Verdict}
 use Rattle.dist_check.specs.declared.verdict.Verdict.TheVariants.{Accepted, Refused}
-use Rattle.dist_words.specs.CommandLine.{Health, Classes, Sweep, Check, Try}
+use Rattle.dist_words.specs.CommandLine.{Health, Classes, Sweep, Check, Try, Steps}
 use Rattle.dist_words.specs.Table.{command_of}
 use Rattle.dist_app.specs.Check.{IsJudged}
 use Rattle.dist_app.specs.Claims.{claims_status}
@@ -28,11 +29,13 @@ use Rattle.dist_app.specs.Health.{ListStage}
 use Rattle.dist_app.specs.PackagesStage.{PackagesStage}
 use Rattle.dist_app.specs.Run.{TellsFiles}
 use Rattle.dist_app.specs.Stages.{Goes}
+use Rattle.dist_app.specs.Steps.{IsFutureArchive, SpaceStage}
 use Rattle.dist_app.specs.Sweeps.{InputsStage}
 use Rattle.dist_app.specs.TextStage.{TextStage}
 use Rattle.dist_app.specs.Try.{ArchiveStage}
 use Rattle.dist_app.specs.declared.status.Status.{Status}
 use Rattle.dist_app.specs.declared.status.Status.TheVariants.{Done, CertificateRefused, NoMemory, TooLarge, NotHealthy}
+use Rattle.dist_app.specs.declared.status.Status.TheVariants.{NotAFuture}
 
 -- The desk tells its files, and no fault of the desk or of `out` was counted.
 pub record IsUndisturbed (desk desk' : DeskView) (out out' : SinkView) : Type 0 where
@@ -110,6 +113,22 @@ CheckIsComplete words limits result files = (packages cert : List ℕ) (r : Pack
     × (result ≡ verdict_status answer)
     × ((other : Result Verdict WorkError) → IsOfText other → IsJudged files limits cert r other → other ≡ answer))
 
+-- ---- `steps`
+
+-- what a later archive comes to: 0 exactly where it is a future, else 12
+abbrev pub IsStatusOfLater : (r later : PackageList) → Status → Type 0
+IsStatusOfLater r later status = ((status ≡ Done) × IsFutureArchive r later)
+    ⊎ ((status ≡ NotAFuture) × (¬ IsFutureArchive r later))
+
+-- The space of PACKAGES keeps its number of variables, and LATER has a repository. The newest versions of both decide.
+abbrev pub StepsAreComplete : List (List ℕ) → Limits → Status → Option Files → Type 0
+StepsAreComplete words limits result files =
+    (packages later : List ℕ) (r l newest newest_later : PackageList)
+    → command_of words ≡ Some (Steps packages later)
+    → PackagesStage files limits packages (Goes r) → SpaceStage files limits r (Goes tt)
+    → PackagesStage files limits later (Goes l) → IsLatestOf r newest → IsLatestOf l newest_later
+    → (result ≡ NoMemory) ⊎ IsStatusOfLater newest newest_later result
+
 -- ---- all
 
 -- the commands that read files
@@ -119,6 +138,7 @@ pub record Completes (words : List (List ℕ)) (limits : Limits) (result : Statu
     pub classes : ClassesAreComplete words limits result files
     pub sweep : SweepIsComplete words limits result files left
     pub check : CheckIsComplete words limits result files
+    pub steps : StepsAreComplete words limits result files
 
 -- where nothing outside fails, a run comes to what the files and the limits decide
 pub record IsComplete (words : List (List ℕ)) (limits : Limits) (result : Status) (desk desk' : DeskView)

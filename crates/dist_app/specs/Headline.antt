@@ -1,11 +1,17 @@
--- What a run that sweeps and one of `check` prove.
-use Rattle.std.specs.Prelude.{◌≡◌, ◌↔◌, ◌≤◌, ◌^◌, ℕ, Bool, List, [], Some, Contains, length}
+-- What a run that sweeps, one of `check` and one of `steps` prove.
+use Rattle.std.specs.Prelude.{◌≡◌, ◌↔◌, ◌≤◌, ◌^◌, ℕ, Bool, false, List, [], Some, Contains, length, slice_get}
 use Rattle.dist_outside.specs.DeskView.{DeskView}
 use Rattle.dist_outside.specs.Files.{IsPresent, file_bytes, with_file}
 use Rattle.dist_outside.specs.SinkView.{SinkView, Grew}
 use Rattle.dist_outside.specs.declared.limits.Limits.{Limits}
 use Rattle.dist_derive.specs.Cone.{InCone}
 use Rattle.dist_repo.specs.PackageList.{PackageList}
+use Rattle.dist_repo.specs.declared.package.Package.{Package}
+use Rattle.dist_space.specs.Space.{SpaceView}
+use Rattle.dist_space.specs.SpaceOf.{IsSpaceOf}
+use Rattle.dist_archive.specs.Reach.{AreTaken, IsPlan}
+use Rattle.dist_archive.specs.Steps.{Lead}
+use Rattle.dist_archive.specs.declared.step.Step.{Step}
 use Rattle.dist_cert.specs.Accepted.{IsAcceptedAs}
 use Rattle.dist_cert.specs.Form.{Word}
 use Rattle.dist_cert.specs.Groups.{clause_of, IsUndecidedIn}
@@ -20,13 +26,15 @@ use Rattle.dist_sweep.specs.Sweep.{IsSweep}
 use Rattle.dist_check.specs.Answers.{AcceptedMeans}
 use Rattle.dist_check.specs.Checking.{OfText}
 use Rattle.dist_check.specs.Means.{Means}
-use Rattle.dist_words.specs.CommandLine.{Sweep, Check}
+use Rattle.dist_history.specs.PlanText.{misfit_text, plan_text}
+use Rattle.dist_words.specs.CommandLine.{Sweep, Check, Steps}
 use Rattle.dist_words.specs.Table.{command_of}
 use Rattle.dist_app.specs.Claims.{IsReportOf, claims_status}
 use Rattle.dist_app.specs.PackagesStage.{PackagesStage}
 use Rattle.dist_app.specs.Stages.{Goes}
+use Rattle.dist_app.specs.Steps.{IsKeptAt, IsNewestIn}
 use Rattle.dist_app.specs.declared.status.Status.{Status}
-use Rattle.dist_app.specs.declared.status.Status.TheVariants.{Done, DoneWithUndecided}
+use Rattle.dist_app.specs.declared.status.Status.TheVariants.{Done, DoneWithUndecided, NotAFuture}
 
 -- the command was carried out
 abbrev pub IsCarriedOut : Status → Type 0
@@ -68,6 +76,39 @@ pub record ProvesCheck (limits : Limits) (packages cert : List ℕ) (result : St
   pub printed : Grew report out out'
   pub status : result ≡ claims_status made
 
+-- The newest versions of PACKAGES and of LATER, and the space of the first ones.
+pub record AreCompared (limits : Limits) (packages later : List ℕ) (desk : DeskView) : Type 0 where
+  pub newest : PackageList
+  pub newest_later : PackageList
+  pub space : SpaceView
+  pub read : IsNewestIn desk.files limits packages newest
+  pub read_later : IsNewestIn desk.files limits later newest_later
+  pub is_space : IsSpaceOf newest false space
+
+-- A plan was printed. Its steps lead from the newest versions of PACKAGES to exactly those of LATER, and each is taken
+-- where it comes. All files are as before.
+pub record ProvesPlan (limits : Limits) (packages later : List ℕ) (desk desk' : DeskView) (out out' : SinkView) : Type 0
+  where
+    pub compared : AreCompared limits packages later desk
+    pub steps : List Step
+    pub is_plan : IsPlan compared.space compared.newest_later.packages steps
+    pub leads : Lead compared.space steps compared.newest.packages compared.newest_later.packages
+    pub taken : AreTaken compared.space steps compared.newest.packages compared.newest_later.packages
+    pub printed : Grew (plan_text compared.space steps) out out'
+    pub files : desk'.files ≡ desk.files
+
+-- A package of the newest versions of LATER was printed: the first one, where LATER is for another architecture; else
+-- the first that does not fit, and no list of steps leads there. All files are as before.
+pub record ProvesMisfit (limits : Limits) (packages later : List ℕ) (desk desk' : DeskView) (out out' : SinkView)
+    : Type 0 where
+  pub compared : AreCompared limits packages later desk
+  pub number : ℕ
+  pub misfit : Package
+  pub kept : IsKeptAt compared.space compared.newest_later number
+  pub is_misfit : slice_get compared.newest_later.packages number ≡ Some misfit
+  pub printed : Grew (misfit_text misfit) out out'
+  pub files : desk'.files ≡ desk.files
+
 -- the same of a run with these words
 abbrev pub SweepIsProved : List (List ℕ) → Limits → Status → DeskView → DeskView → SinkView → SinkView → Type 0
 SweepIsProved words limits result desk desk' out out' =
@@ -80,6 +121,13 @@ abbrev pub CheckIsProved : List (List ℕ) → Limits → Status → DeskView �
 CheckIsProved words limits result desk desk' out out' = (packages cert : List ℕ)
     → command_of words ≡ Some (Check packages cert) → IsCarriedOut result
     → ProvesCheck limits packages cert result desk desk' out out'
+
+-- and of one of `steps`: with status 0 a plan, with status 12 a package that keeps LATER from being a future
+abbrev pub StepsAreProved : List (List ℕ) → Limits → Status → DeskView → DeskView → SinkView → SinkView → Type 0
+StepsAreProved words limits result desk desk' out out' = (packages later : List ℕ)
+    → command_of words ≡ Some (Steps packages later)
+    → (result ≡ Done → ProvesPlan limits packages later desk desk' out out')
+    × (result ≡ NotAFuture → ProvesMisfit limits packages later desk desk' out out')
 
 -- A question that an accepted text leaves undecided is hard: its limit is at most 3 to the power of the number of
 -- variables that it reaches.

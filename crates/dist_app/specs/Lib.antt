@@ -9,12 +9,14 @@ pub mod DuePrivate
 pub mod FaultText
 pub mod Headline
 pub mod Health
+pub mod LaterPrivate
 pub mod PackagesStage
 pub mod Refusal
 pub mod RepositoryStage
 pub mod Run
 pub mod Stages
 pub mod Status
+pub mod Steps
 pub mod Sweeps
 pub mod TextStage
 pub mod Try

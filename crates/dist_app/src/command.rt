@@ -13,6 +13,7 @@ use crate::check_command::run_check;
 use crate::classes_command::run_classes;
 use crate::health_command::run_health;
 use crate::refusal::Refusal;
+use crate::steps_command::run_steps;
 use crate::sweep_command::run_sweep;
 use crate::try_command::run_try;
 use dist_outside::{Desk, Limits};
@@ -42,5 +43,6 @@ pub(crate) fn run_command<D: Desk>(
         Command::Sweep(words) => run_sweep(alloc, desk, words, limits),
         Command::Check(files) => run_check(alloc, desk, files, limits),
         Command::Try(words) => run_try(alloc, words, limits),
+        Command::Steps(files) => run_steps(alloc, desk, files, limits),
     }
 }

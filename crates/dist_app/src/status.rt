@@ -16,6 +16,7 @@ pub enum Status {
     TooLarge,
     NotHealthy,
     BadList,
+    NotAFuture = 12,
 }
 
 impl Status {

@@ -2,7 +2,7 @@
 ghost use Rattle.std.specs.Prelude.{◌≡◌, ℕ, List, map, string_bytes, MatchResult};
 ghost use Rattle.dist_outside.specs.Files.{IsNotWriting};
 ghost use Rattle.dist_app.specs.Complete.{IsComplete};
-ghost use Rattle.dist_app.specs.Headline.{CheckIsProved, MarksAreTried, SweepIsProved, UndecidedAreHard};
+ghost use Rattle.dist_app.specs.Headline.{CheckIsProved, MarksAreTried, StepsAreProved, SweepIsProved, UndecidedAreHard};
 ghost use Rattle.dist_app.specs.Run.{IsWithinStated, Leaves, Runs, stated_limits};
 ghost use Rattle.dist_app.specs.CarriedPrivate.{IsAnswered, IsRefused, Prints};
 
@@ -19,6 +19,7 @@ use dist_list::lists_are_exact;
 use dist_now::one_health;
 use dist_outside::{Desk, Limits, Sink, sink_grows, write_whole};
 use dist_package::packages_are_exact;
+use dist_repo::latest_is_one;
 use dist_subject::first_numbers_are_one;
 use dist_words::{WordsError, command_of};
 use std::alloc::Global;
@@ -39,6 +40,8 @@ pub fn run<D: Desk, W: Sink, E: Sink>(
     ensures sweep { SweepIsProved (map string_bytes words.now) stated_limits result (D.view desk.old) (D.view desk.new)
         (W.view out.old) (W.view out.new) }
     ensures check { CheckIsProved (map string_bytes words.now) stated_limits result (D.view desk.old) (D.view desk.new)
+        (W.view out.old) (W.view out.new) }
+    ensures steps { StepsAreProved (map string_bytes words.now) stated_limits result (D.view desk.old) (D.view desk.new)
         (W.view out.old) (W.view out.new) }
     ensures complete { IsComplete (map string_bytes words.now) stated_limits result (D.view desk.old) (D.view desk.new)
         (W.view out.old) (W.view out.new) }
@@ -65,6 +68,8 @@ pub fn run_with<D: Desk, W: Sink, E: Sink>(
         (W.view out.old) (W.view out.new) }
     ensures check { CheckIsProved (map string_bytes words.now) limits.now result (D.view desk.old) (D.view desk.new)
         (W.view out.old) (W.view out.new) }
+    ensures steps { StepsAreProved (map string_bytes words.now) limits.now result (D.view desk.old) (D.view desk.new)
+        (W.view out.old) (W.view out.new) }
     ensures complete { IsComplete (map string_bytes words.now) limits.now result (D.view desk.old) (D.view desk.new)
         (W.view out.old) (W.view out.new) }
     ensures hard { UndecidedAreHard limits.now }
@@ -76,6 +81,7 @@ pub fn run_with<D: Desk, W: Sink, E: Sink>(
     texts_have_one_answer();
     first_numbers_are_one();
     lists_are_exact();
+    latest_is_one();
     accepted_claims_hold();
     undecided_questions_are_hard();
     marks_are_tried();

@@ -56,6 +56,10 @@ fn files_are_read(rt: HostRuntime) -> Result<(), Fail> {
     assert!(rt;
         matches!(command_of(alloc, &words), Ok(Command::Check(files)) if files.packages == "f" && files.cert == "g")
     );
+    let words = words_of(alloc, &["steps", "f", "g"])?;
+    assert!(rt;
+        matches!(command_of(alloc, &words), Ok(Command::Steps(files)) if files.packages == "f" && files.later == "g")
+    );
     let words = words_of(alloc, &["try", "--seed", "0", "--size", "2"])?;
     assert!(rt;
         matches!(command_of(alloc, &words), Ok(Command::Try(sizes)) if sizes.size == 2 && sizes.seed == 0)
@@ -66,7 +70,7 @@ fn files_are_read(rt: HostRuntime) -> Result<(), Fail> {
 #[test]
 fn other_words_are_refused(rt: HostRuntime) -> Result<(), Fail> {
     let alloc = rt.alloc();
-    let lists: [&[&str]; 20] = [
+    let lists: [&[&str]; 22] = [
         &[],
         &["strong", "f"],
         &["health", "f", "g", "--limit", "3"],
@@ -86,6 +90,8 @@ fn other_words_are_refused(rt: HostRuntime) -> Result<(), Fail> {
         &["outdated", "f"],
         &["challenged", "f", "g", "--size", "3"],
         &["outdated", "f", "g", "--limit", "0"],
+        &["steps", "f"],
+        &["steps", "f", "g", "--limit", "3"],
         &["--help"],
     ];
     for list in lists {

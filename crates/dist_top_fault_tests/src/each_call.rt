@@ -2,7 +2,7 @@
 use dist_app::Status;
 use dist_top_rows::{
     After, Ended, Failing, NOTHING, Row, SINK_STEP, carried_out, check_rows, classes_rows,
-    health_rows, strong_rows, wrong_in,
+    health_rows, steps_rows, strong_rows, wrong_in,
 };
 use std::alloc::AllocError;
 use std::process::Abort;
@@ -142,7 +142,7 @@ fn each_call(rt: &(impl Abort + AllocGlobal), walk: &Walk) -> Result<(), AllocEr
     Ok(())
 }
 
-const WALKS: [Walk; 12] = [
+const WALKS: [Walk; 14] = [
     // A start, eight reads of 56 bytes, and one that comes to the end.
     Walk {
         name: "strong, its desk",
@@ -184,6 +184,16 @@ const WALKS: [Walk; 12] = [
         name: "classes, out",
         device: Device::Out,
         row: classes_rows::CUT,
+    },
+    Walk {
+        name: "steps, its desk",
+        device: Device::Desk(u32::MAX),
+        row: steps_rows::MOVED,
+    },
+    Walk {
+        name: "steps, out",
+        device: Device::Out,
+        row: steps_rows::MOVED,
     },
     // A line that is cut changes no status.
     Walk {

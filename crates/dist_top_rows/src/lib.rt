@@ -7,6 +7,7 @@ pub mod classes_rows;
 pub mod health_rows;
 mod row;
 mod running;
+pub mod steps_rows;
 pub mod strong_rows;
 pub mod words_rows;
 

@@ -18,6 +18,8 @@ mod memory_rows;
 #[cfg(test)]
 mod status_rows;
 #[cfg(test)]
+mod steps_rows;
+#[cfg(test)]
 mod strong_rows;
 #[cfg(test)]
 mod trial_rows;

@@ -3,7 +3,7 @@ use dist_top_rows::words_rows::{COMMAND, NO_COMMAND};
 use dist_top_rows::{Row, Table, first_wrong};
 use std::test::Fail;
 
-const NO_COMMANDS: [Row; 9] = [
+const NO_COMMANDS: [Row; 11] = [
     Row {
         words: &[],
         ..NO_COMMAND
@@ -35,6 +35,14 @@ const NO_COMMANDS: [Row; 9] = [
     },
     Row {
         words: &["classes", "packages", "list"],
+        ..NO_COMMAND
+    },
+    Row {
+        words: &["steps", "packages"],
+        ..NO_COMMAND
+    },
+    Row {
+        words: &["steps", "packages", "list", "--essential"],
         ..NO_COMMAND
     },
 ];

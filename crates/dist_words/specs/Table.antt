@@ -8,6 +8,7 @@
 --   challenged    PACKAGES CERT     --limit, --essential
 --   check         PACKAGES CERT     none
 --   try           none              --size and --seed, both needed
+--   steps         PACKAGES LATER    none
 use Rattle.std.specs.Prelude.{◌≡◌, ℕ, ◌&&◌, Bool, not, List, [], ◌∷◌, Option, Some, None, is_some, if◌then◌else◌, codes}
 use Rattle.std.specs.Prelude.{unwrap_or}
 use Rattle.std.specs.Str.{bytes_eq}
@@ -17,7 +18,7 @@ use Rattle.dist_cert.specs.declared.records.CertKind.TheVariants.{Strong, Outdat
 use Rattle.clap.specs.Walk.{Text, is_empty}
 use Rattle.clap.specs.Faults.{fault_of}
 use Rattle.dist_words.specs.Clap.{Options, Taken, simple_command, taken}
-use Rattle.dist_words.specs.CommandLine.{CommandLine, Health, Classes, Sweep, Check, Try}
+use Rattle.dist_words.specs.CommandLine.{CommandLine, Health, Classes, Sweep, Check, Try, Steps}
 
 -- ---- options
 
@@ -81,7 +82,8 @@ in_table word files options =
     else (if bytes_eq word (codes "check") then where_allowed (has_no_option options) (with_two Check files)
     else (if bytes_eq word (codes "try") then where_allowed (has_no_limit options)
     (with_none (seeded options.size options.seed) files)
-    else None))))))
+    else (if bytes_eq word (codes "steps") then where_allowed (has_no_option options) (with_two Steps files)
+    else None)))))))
 
 -- the command that the table has for what was taken
 abbrev pub accepted : Taken → Option CommandLine

@@ -1,6 +1,6 @@
 -- Worked examples of the table.
 use Rattle.std.specs.Prelude.{◌≡◌, true, false, [], ◌∷◌, Some, None, codes, refl}
-use Rattle.dist_words.specs.CommandLine.{Sweep, Try}
+use Rattle.dist_words.specs.CommandLine.{Steps, Sweep, Try}
 use Rattle.dist_cert.specs.declared.records.CertKind.TheVariants.{Strong, Challenged}
 use Rattle.dist_words.specs.Table.{in_table}
 
@@ -36,3 +36,13 @@ try_is_seeded = refl
 try_needs_a_seed : in_table (codes "try") [] (record { limit = None; size = Some 3; seed = None; essential = false })
     ≡ None
 try_needs_a_seed = refl
+
+-- `steps f g`
+steps_takes_a_later_file : in_table (codes "steps") (codes "f" ∷ codes "g" ∷ [])
+    (record { limit = None; size = None; seed = None; essential = false }) ≡ Some (Steps (codes "f") (codes "g"))
+steps_takes_a_later_file = refl
+
+-- `steps f g --essential`
+steps_takes_no_option : in_table (codes "steps") (codes "f" ∷ codes "g" ∷ [])
+    (record { limit = None; size = None; seed = None; essential = true }) ≡ None
+steps_takes_no_option = refl

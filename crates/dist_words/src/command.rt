@@ -36,6 +36,13 @@ pub struct TryWords {
     pub seed: u32,
 }
 
+/// The two files of `steps PACKAGES LATER`.
+#[derive(Clone, Copy, Debug)]
+pub struct StepsFiles<'a> {
+    pub packages: &'a str,
+    pub later: &'a str,
+}
+
 /// A command with the names of its files and its options.
 #[derive(Clone, Copy, Debug)]
 pub enum Command<'a> {
@@ -44,4 +51,5 @@ pub enum Command<'a> {
     Sweep(SweepWords<'a>),
     Check(CertFiles<'a>),
     Try(TryWords),
+    Steps(StepsFiles<'a>),
 }

@@ -1,7 +1,8 @@
 use Rattle.dist_app.specs.Check.{CheckStages, Reports}
 use Rattle.dist_app.specs.Health.{HealthStages, Judges}
+use Rattle.dist_app.specs.Steps.{Compares, StepsStages}
 use Rattle.dist_app.specs.Try.{Tries, TryStages}
-use Rattle.dist_words.specs.CommandLine.{Check, Health, Try}
+use Rattle.dist_words.specs.CommandLine.{Check, Health, Steps, Try}
 use Rattle.dist_outside.specs.DeskView.{DeskView}
 use Rattle.dist_app.proofs.Due.{apart_stops, ok_more, err_more, read_answers, due_stops}
 use Rattle.dist_app.proofs.command.run_command.Goals as goal
@@ -38,3 +39,16 @@ returns-in-Try-clause-stops g c =
     (TryStages desk.files c.args.limits.now c.in-Try.words.size c.in-Try.words.seed (Tries desk.files c.args.limits.now c.in-Try.words.size)) desk why
     (λ ending decides. decides)
     (given desk.files)) c.run_try.ensures.stops)
+
+pub returns-in-Steps-clause-answers : goal.returns-in-Steps-clause-answers
+returns-in-Steps-clause-answers g c =
+    rw c.in-Steps.is (ok_more c.run_steps.result _ _ (λ answer. read_answers (Steps c.in-Steps.files.packages.now c.in-Steps.files.later.now)
+    c.args.limits.now (g.D.Desk.view c.args.desk.now)
+    _ answer.status answer.text.items c.run_steps.ensures.only_reads) c.run_steps.ensures.answers)
+
+pub returns-in-Steps-clause-stops : goal.returns-in-Steps-clause-stops
+returns-in-Steps-clause-stops g c =
+    let desk : DeskView = g.D.Desk.view c.args.desk.now in
+    rw c.in-Steps.is (err_more c.run_steps.result _ _ (λ why. due_stops (Steps c.in-Steps.files.packages.now c.in-Steps.files.later.now) c.args.limits.now
+    (StepsStages desk.files c.args.limits.now c.in-Steps.files.packages.now c.in-Steps.files.later.now (Compares desk.files))
+    desk (g.D.Desk.view c.run_steps.new.desk) why (λ ending decides. decides) (λ apart. apart) c.run_steps.ensures.only_reads) c.run_steps.ensures.due)

@@ -1,9 +1,9 @@
 use Rattle.std.proofs.Common.{map, string_bytes, subst, sym}
-use Rattle.dist_app.specs.Headline.{CheckIsProved, SweepIsProved}
+use Rattle.dist_app.specs.Headline.{CheckIsProved, StepsAreProved, SweepIsProved}
 use Rattle.dist_app.specs.Run.{Runs}
 use Rattle.dist_app.specs.declared.status.Status.{Status}
 use Rattle.dist_app.proofs.Completes.{run_completes}
-use Rattle.dist_app.proofs.Headlines.{check_proved, check_refused, sweep_proved, sweep_refused}
+use Rattle.dist_app.proofs.Headlines.{check_proved, check_refused, steps_proved, steps_refused, sweep_proved, sweep_refused}
 use Rattle.dist_app.proofs.Runs.{answered_runs, refused_runs}
 use Rattle.dist_app.proofs.top_call.run_with.Goals as goal
 
@@ -62,6 +62,20 @@ returns-in-Err-clause-check g c =
     (check_refused _ c.args.limits.now c.in-Err.refusal (g.D.Desk.view c.args.desk.now) (g.D.Desk.view c.carry_out.new.desk) (g.W.Sink.view c.args.out.now)
     (g.W.Sink.view c.carry_out.new.out))
 
+pub returns-in-Ok-clause-steps : goal.returns-in-Ok-clause-steps
+returns-in-Ok-clause-steps g c =
+    steps_proved _ c.args.limits.now c.in-Ok.status (g.D.Desk.view c.args.desk.now) (g.D.Desk.view c.carry_out.new.desk) (g.W.Sink.view c.args.out.now)
+    (g.W.Sink.view c.carry_out.new.out)
+    c.in-Ok.ensures.ends
+
+pub returns-in-Err-clause-steps : goal.returns-in-Err-clause-steps
+returns-in-Err-clause-steps g c =
+    subst (λ (s : Status). StepsAreProved (map string_bytes c.args.words.now) c.args.limits.now s (g.D.Desk.view c.args.desk.now)
+    (g.D.Desk.view c.carry_out.new.desk) (g.W.Sink.view c.args.out.now) (g.W.Sink.view c.carry_out.new.out))
+    (sym c.status-status.ensures)
+    (steps_refused _ c.args.limits.now c.in-Err.refusal (g.D.Desk.view c.args.desk.now) (g.D.Desk.view c.carry_out.new.desk) (g.W.Sink.view c.args.out.now)
+    (g.W.Sink.view c.carry_out.new.out))
+
 pub returns-in-Ok-clause-hard : goal.returns-in-Ok-clause-hard
 returns-in-Ok-clause-hard g c = λ r basis. c.undecided_questions_are_hard.ensures r basis c.args.limits.now
 
@@ -86,6 +100,7 @@ returns-in-Ok-clause-complete g c =
       };
       health = c.one_health.ensures;
       budgets = c.budgets_are_enough.ensures;
+      newest = c.latest_is_one.ensures.one;
     })
     _ c.args.limits.now c.in-Ok.status (g.D.Desk.view c.args.desk.now) (g.D.Desk.view c.carry_out.new.desk) (g.W.Sink.view c.args.out.now)
     (g.W.Sink.view c.carry_out.new.out)
@@ -103,6 +118,7 @@ returns-in-Err-clause-complete g c =
       };
       health = c.one_health.ensures;
       budgets = c.budgets_are_enough.ensures;
+      newest = c.latest_is_one.ensures.one;
     })
     _ c.args.limits.now c.status-status.result (g.D.Desk.view c.args.desk.now) (g.D.Desk.view c.carry_out.new.desk) (g.W.Sink.view c.args.out.now)
     (g.W.Sink.view c.carry_out.new.out)
