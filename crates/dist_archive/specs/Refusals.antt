@@ -38,6 +38,8 @@ pub record IsFirstFault (r : PackageList) (c : Package) (version : List ℕ) (pa
   pub before : (k : ℕ) → k < number → IsPackageAnd packages k (IsUploaded r c version)
   pub here : IsPackageAnd packages number (λ n. IsUploadFault r c version number n error)
 
+-- why an upload is refused: its block is for another architecture; else its version is not above all; else a package of
+-- its block is no new version at this one
 abbrev pub RefusesUpload : PackageList → (archive : List Package) → (c : Package) → (version : List ℕ)
     → (block : PackageList) → StepError → Type 0
 RefusesUpload r archive c version block OtherArchitecture = IsOfOtherArchitecture r block
@@ -48,6 +50,7 @@ RefusesUpload r archive c version block error = (¬ IsOfOtherArchitecture r bloc
 
 -- ---- removals
 
+-- why a removal is refused: no package of the name is held
 abbrev pub RefusesRemoval : (archive : List Package) → (name : List ℕ) → StepError → Type 0
 RefusesRemoval archive name NotHeld = ¬ IsHeld archive name
 RefusesRemoval archive name error = ⊥
@@ -62,6 +65,8 @@ IsNameFault r archive p HasProvides = (¬ IsTaken r p.name) × (¬ IsHeld archiv
     × (p.provides ≢ [])
 IsNameFault r archive p error = ⊥
 
+-- why a package of a new name is refused: the block is for another architecture; else it has not one package; else the
+-- package is none that may come
 abbrev pub RefusesName : PackageList → (archive : List Package) → (block : PackageList) → StepError → Type 0
 RefusesName r archive block OtherArchitecture = IsOfOtherArchitecture r block
 RefusesName r archive block NotOne = (¬ IsOfOtherArchitecture r block) × (length block.packages ≢ 1)
@@ -70,6 +75,7 @@ RefusesName r archive block error = (¬ IsOfOtherArchitecture r block)
 
 -- ---- all steps
 
+-- why a step is refused
 abbrev pub Refuses : SpaceView → (archive : List Package) → Step → StepError → Type 0
 Refuses s archive (Upload cluster version block) error =
     (c : Package) × IsOfCluster s cluster c × RefusesUpload s.repository archive c version block error
