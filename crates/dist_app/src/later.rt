@@ -1,5 +1,5 @@
 //! What `steps` tells of a later archive: the plan that leads to it, or the package that keeps it from being a future.
-ghost use Rattle.std.specs.Prelude.{◌≡◌, ◌↔◌, IfOk, IsTrue};
+ghost use Rattle.std.specs.Prelude.{◌≡◌, IfOk};
 ghost use Rattle.dist_repo.specs.Order.{IsFlat};
 ghost use Rattle.dist_archive.specs.Refusals.{IsOfOtherArchitecture};
 ghost use Rattle.dist_history.specs.PlanText.{misfit_text, plan_text};
@@ -7,22 +7,11 @@ ghost use Rattle.dist_app.specs.LaterPrivate.{HasSome, IsLaterTold};
 
 use crate::answer::Answer;
 use crate::status::Status;
-use dist_archive::{Plan, ReachError, futures_are_reached, reach};
+use dist_archive::{Plan, ReachError, futures_are_reached, has_other_architecture, reach};
 use dist_history::{misfit_text, plan_text};
 use dist_repo::{Package, Repository};
 use dist_space::Space;
 use std::alloc::{AllocError, Global};
-
-/// Whether a later archive is for another architecture.
-fn is_of_other_architecture(repo: &Repository, later: &Repository) -> bool
-    ensures { IsTrue result ↔ IsOfOtherArchitecture repo.now later.now }
-{
-    match (later.architecture(), repo.architecture()) {
-        (None, _) => false,
-        (Some(_), None) => true,
-        (Some(other), Some(own)) => other != own,
-    }
-}
 
 /// Tells a plan.
 fn tell_plan(alloc: Global, space: &Space, plan: &Plan) -> Result<Answer, AllocError>
@@ -72,7 +61,7 @@ pub(crate) fn tell_later(
     requires some { HasSome later.now }
     ensures { IfOk result (λ answer. IsLaterTold space.now later.now answer.status answer.text.items) }
 {
-    if is_of_other_architecture(space.repo(), later) {
+    if has_other_architecture(space.repo(), later) {
         tell_misfit(alloc, later.package(0))
     } else {
         tell_reached(alloc, space, later)

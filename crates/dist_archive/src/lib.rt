@@ -25,3 +25,4 @@ pub use laws::{challenges_hold_after_steps, futures_are_reached, steps_reach_fut
 pub use plan::{Plan, ReachError};
 pub use reaching::reach;
 pub use step::{Step, StepError};
+pub use uploads::has_other_architecture;

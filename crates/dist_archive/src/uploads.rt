@@ -18,8 +18,8 @@ use dist_space::Space;
 use dist_version::Version;
 use std::alloc::{AllocError, Global};
 
-/// Whether a block has an architecture that is not the repository's.
-pub(crate) fn has_other_architecture(repo: &Repository, block: &Repository) -> bool
+/// Whether a block, or a later archive, has an architecture that is not the repository's.
+pub fn has_other_architecture(repo: &Repository, block: &Repository) -> bool
     ensures { IsTrue result ↔ IsOfOtherArchitecture repo.now block.now }
 {
     match (block.architecture(), repo.architecture()) {
