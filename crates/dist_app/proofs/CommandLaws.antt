@@ -1,5 +1,5 @@
 -- Where the desk tells its files, a refusal that comes before anything is written is the only end of a command.
-use Rattle.std.proofs.Common.{◌≡◌, ◌≤◌, ◌<◌, ℕ, List, Bool, false, inl, inr, Option, Some, None, Result, Ok, Err, length, refl, ap, sym, ◌∙◌, subst, arith}
+use Rattle.std.proofs.Common.{◌≡◌, ◌≤◌, ◌<◌, ℕ, List, Bool, inl, inr, Option, Some, None, Result, Ok, Err, length, refl, ap, sym, ◌∙◌, subst, arith}
 use Rattle.std.specs.Prelude.{IsSome}
 use Rattle.std.proofs.lemmas.Bool.{false≢true}
 use Rattle.dist_outside.specs.Files.{Files, file_bytes}
@@ -35,7 +35,7 @@ use Rattle.dist_app.specs.Stages.{Ending, Goes, Ends, IsDetermined, Excludes, re
 use Rattle.dist_app.specs.Steps.{Compares, SpaceStage}
 use Rattle.dist_app.specs.Sweeps.{InputsStage, SweepStages, Sweeps}
 use Rattle.dist_app.specs.TextStage.{TextStage}
-use Rattle.dist_app.specs.Try.{ArchiveStage, Tries}
+use Rattle.dist_app.specs.Try.{ArchiveStage}
 use Rattle.dist_generate.specs.Generator.{generated}
 use Rattle.dist_app.specs.declared.refusal.Refusal.TheVariants as refusal
 use Rattle.dist_app.proofs.StageLaws.{apart, nothing_excludes, same_end as same_ending, same_value, then_excludes}

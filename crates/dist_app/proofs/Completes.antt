@@ -17,7 +17,6 @@ use Rattle.dist_history.specs.PlanText.{misfit_text, plan_text}
 use Rattle.dist_now.specs.Health.{IsHealth}
 use Rattle.dist_now.specs.declared.kinds.Health.{Health as Judgement}
 use Rattle.dist_now.specs.declared.kinds.Health.TheVariants as health
-use Rattle.dist_cert.specs.declared.records.Claim.{Claim}
 use Rattle.dist_budget.specs.Budget.{IsBelowBudget}
 use Rattle.dist_cert.specs.Part.{IsStoppedBy}
 use Rattle.dist_cert.specs.declared.records.CertKind.{CertKind}

@@ -1,5 +1,5 @@
 -- What is told of a later archive. One that is for an architecture has a package to tell.
-use Rattle.std.proofs.Common.{◌≡◌, ◌≢◌, ◌⊎◌, ℕ, ◌+◌, ◌-◌, ◌<◌, List, [], ◌∷◌, length, get_or, Option, Some, None, Result, Ok, Err, IfOk}
+use Rattle.std.proofs.Common.{◌≡◌, ◌≢◌, ℕ, ◌+◌, ◌-◌, ◌<◌, List, [], ◌∷◌, length, get_or, Option, Some, None, Result, Ok, Err, IfOk}
 use Rattle.std.proofs.Common.{refl, ap, sym, ◌∙◌, subst, inl, inr, arith, slice_get}
 use Rattle.std.specs.Prelude.{◌↔◌, Bool, Contains, IsOk, IsSome, IsSomeAnd, IsTrue, false, true}
 use Rattle.std.specs.Cmp.Lexicographic.{slice_cmp}
@@ -11,7 +11,6 @@ use Rattle.std.proofs.lemmas.Cmp.{lists_total, nat_cmp_total, tied_itself}
 use Rattle.std.proofs.lemmas.Option.{get_or_from_slice_get, slice_get_within}
 use Rattle.dist_base.specs.Answers.{IsExactly}
 use Rattle.dist_base.specs.ListLaws.{all-contained, contains-at, element-at, place-of, same-at, within-from}
-use Rattle.dist_outside.specs.Files.{Files}
 use Rattle.dist_version.specs.Order.{version_cmp}
 use Rattle.dist_version.specs.OrderLaws.{version_total}
 use Rattle.dist_repo.specs.Order.{IsInOrder, IsLatestOf, IsNewest, package_cmp}
@@ -23,7 +22,7 @@ use Rattle.dist_space.specs.Space.{SpaceView}
 use Rattle.dist_future.specs.Future.{IsFuture}
 use Rattle.dist_archive.specs.Reach.{AreTaken, Fits, IsFirstMisfit, IsPlan}
 use Rattle.dist_archive.specs.Refusals.{IsOfOtherArchitecture}
-use Rattle.dist_archive.specs.Steps.{IsReached, Lead}
+use Rattle.dist_archive.specs.Steps.{Lead}
 use Rattle.dist_archive.specs.declared.plan.ReachError.{ReachError}
 use Rattle.dist_archive.specs.declared.plan.ReachError.TheVariants.{NotAFuture as Misfit, NoMemory}
 use Rattle.dist_archive.specs.declared.step.Step.{Step}

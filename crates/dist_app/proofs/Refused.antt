@@ -1,5 +1,5 @@
 -- The ends of the stages are refusals, and the statuses of the ends that inputs decide.
-use Rattle.std.proofs.Common.{◌≡◌, ℕ, Bool, true, false, List, [], inl, inr, Option, Result, Ok, Err, refl, ap, sym, ◌∙◌, subst}
+use Rattle.std.proofs.Common.{◌≡◌, ℕ, Bool, true, false, List, [], inl, inr, Option, Result, Ok, Err, ap, sym, ◌∙◌, subst}
 use Rattle.std.specs.List.{list_any}
 use Rattle.dist_outside.specs.Files.{Files}
 use Rattle.dist_outside.specs.declared.limits.Limits.{Limits}
@@ -16,7 +16,6 @@ use Rattle.dist_space.specs.Space.{SpaceView}
 use Rattle.dist_history.specs.PlanText.{misfit_text, plan_text}
 use Rattle.dist_cert.specs.declared.records.CertKind.{CertKind}
 use Rattle.dist_cert.specs.declared.records.CertKind.TheVariants as kinds
-use Rattle.dist_cert.specs.declared.records.Claim.{Claim}
 use Rattle.dist_check.specs.declared.verdict.Verdict.{Verdict}
 use Rattle.dist_check.specs.declared.verdict.Verdict.TheVariants as verdict
 use Rattle.dist_trial.specs.Summary.{has_marks}
@@ -38,8 +37,8 @@ use Rattle.dist_app.specs.Try.{ArchiveStage}
 use Rattle.dist_app.specs.declared.refusal.Refusal.{Refusal}
 use Rattle.dist_app.specs.declared.refusal.Refusal.TheVariants as refusal
 use Rattle.dist_app.specs.declared.status.Status.{Status}
-use Rattle.dist_app.specs.declared.status.Status.TheVariants.{Done, BadWords, BadPackages, CertificateRefused, ReadFault, WriteFault, NoMemory, TooLarge}
-use Rattle.dist_app.specs.declared.status.Status.TheVariants.{BadList, NotAFuture}
+use Rattle.dist_app.specs.declared.status.Status.TheVariants.{Done, BadWords, ReadFault, WriteFault, NoMemory}
+use Rattle.dist_app.specs.declared.status.Status.TheVariants.{NotAFuture}
 
 -- the statuses that the files and the limits may decide
 abbrev pub IsOfFiles : Status → Type 0

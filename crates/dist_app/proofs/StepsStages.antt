@@ -14,7 +14,7 @@ use Rattle.dist_subject.specs.Limited.{OfSpace}
 use Rattle.dist_app.specs.DuePrivate.{IsDue}
 use Rattle.dist_app.specs.LaterPrivate.{HasNoSpace, HasSome, IsSpaceKept, IsLaterTold}
 use Rattle.dist_app.specs.PackagesStage.{PackagesStage}
-use Rattle.dist_app.specs.Stages.{Ending, Goes, Ends, Then, answered, refused}
+use Rattle.dist_app.specs.Stages.{Ending, Then, answered, refused}
 use Rattle.dist_app.specs.Steps.{Compares, IsNewestIn, IsSpaceOfFile, SpaceStages, StepsStages, TellsLater}
 use Rattle.dist_app.specs.declared.refusal.Refusal.{Refusal}
 use Rattle.dist_app.specs.declared.status.Status.{Status}

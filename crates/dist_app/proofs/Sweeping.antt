@@ -26,7 +26,7 @@ use Rattle.dist_app.specs.Command.{CommandDecides}
 use Rattle.dist_app.specs.DuePrivate.{LeavesCut, Stops, SweepStops}
 use Rattle.dist_app.specs.PackagesStage.{PackagesStage}
 use Rattle.dist_app.specs.Refusal.{refusal_of}
-use Rattle.dist_app.specs.Stages.{Ending, Goes, Ends, answered, refused}
+use Rattle.dist_app.specs.Stages.{Goes, Ends, answered, refused}
 use Rattle.dist_app.specs.Sweeps.{InputsStage, IsSweepGivenUp, IsSweepStopped, IsSwept}
 use Rattle.dist_app.specs.declared.refusal.Refusal.{Refusal}
 use Rattle.dist_app.specs.declared.refusal.Refusal.TheVariants as refusal

@@ -1,5 +1,5 @@
 -- What a run that sweeps, one of `check` and one of `steps` prove.
-use Rattle.std.specs.Prelude.{◌≡◌, ◌↔◌, ◌≤◌, ◌^◌, ℕ, Bool, false, List, [], Some, Contains, length, slice_get}
+use Rattle.std.specs.Prelude.{◌≡◌, ◌↔◌, ◌≤◌, ◌^◌, ℕ, Bool, false, List, Some, Contains, length, slice_get}
 use Rattle.dist_outside.specs.DeskView.{DeskView}
 use Rattle.dist_outside.specs.Files.{IsPresent, file_bytes, with_file}
 use Rattle.dist_outside.specs.SinkView.{SinkView, Grew}

@@ -1,6 +1,6 @@
 use Rattle.dist_app.specs.Health.{Judges, ListStages}
 use Rattle.dist_app.proofs.Due.{ok_more, err_more}
-use Rattle.dist_app.proofs.HealthStages.{packages_answers, packages_due, packages_unread}
+use Rattle.dist_app.proofs.HealthStages.{packages_answers, packages_due}
 use Rattle.dist_app.proofs.health_command.run_health.Goals as goal
 
 pub returns-in-Ok-clause-answers : goal.returns-in-Ok-clause-answers

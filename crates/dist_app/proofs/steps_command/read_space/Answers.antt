@@ -17,7 +17,7 @@ returns-in-Ok-clause-due g c =
     space-due c.args.limits.now c.args.packages.now c.in-Ok.newest (g.D.Desk.view c.args.desk.now) (g.D.Desk.view c.read_newest.new.desk) c.space_within.result
     c.in-Ok.ensures.goes c.space_within.ensures.given_up
 
-pub returns-clause-due : goal.returns-clause-due
-returns-clause-due g c =
+pub returns-in-Err-clause-due : goal.returns-in-Err-clause-due
+returns-in-Err-clause-due g c =
     packages_unread (λ files r. Then (SpaceStage files c.args.limits.now r) (λ _ ending. ⊥)) (g.D.Desk.view c.args.desk.now)
     (g.D.Desk.view c.read_newest.new.desk) c.args.limits.now c.args.packages.now c.in-Err.refusal c.in-Err.ensures.due

@@ -14,7 +14,7 @@ returns-in-Ok-clause-due g c =
     c.args.files.now.packages.now c.args.files.now.later.now c.in-Ok.space c.in-Ok.ensures.only_reads c.in-Ok.ensures.goes
     (g.D.Desk.view c.compare_later.new.desk) refusal c.compare_later.ensures.only_reads) c.compare_later.ensures.due
 
-pub returns-clause-due : goal.returns-clause-due
-returns-clause-due g c =
+pub returns-in-Err-clause-due : goal.returns-in-Err-clause-due
+returns-in-Err-clause-due g c =
     steps-unread (g.D.Desk.view c.args.desk.now) (g.D.Desk.view c.read_space.new.desk) c.args.limits.now c.args.files.now.packages.now
     c.args.files.now.later.now c.in-Err.refusal c.in-Err.ensures.due
